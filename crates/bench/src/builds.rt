@@ -6,9 +6,9 @@ ghost use Rattle.std.specs.Prelude.{◌≡◌, IfOk};
 use crate::lowers::program_text;
 use crate::statements::in_program;
 use anyhow::bail;
+use build_command::{BuildOpts, Built, build, build_one, build_plain};
 use c_front::read;
 use delay_filler::FilledOrder;
-use driver::{BuildOpts, Built, build, build_one, build_plain};
 use image::{Counts, read_image};
 use list_scheduler::ListOrder;
 use sched_phase::PhaseOpts;
@@ -22,17 +22,22 @@ use steal_pool::Open;
 /// For so many active calls at most.
 pub(crate) const DEPTH: u32 = 256;
 
+/// For so many workers, each with so many terms, in so many chains.
+pub(crate) fn phase_options(workers: u64, terms: u64, chains: u64) -> anyhow::Result<PhaseOpts> {
+    match PhaseOpts::new(workers, terms, chains) {
+        Some(options) => Ok(options),
+        None => bail!("{workers} workers are out of range"),
+    }
+}
+
 /// As `mcc build` builds by default, with so many workers.
 pub(crate) fn options(workers: u64) -> anyhow::Result<BuildOpts>
     ensures { IfOk result (λ o. o.depth ≡ 256) }
 {
-    match PhaseOpts::new(workers, 65_536, 1_024) {
-        Some(phase) => Ok(BuildOpts {
-            depth: DEPTH,
-            phase,
-        }),
-        None => bail!("{workers} workers are out of range"),
-    }
+    Ok(BuildOpts {
+        depth: DEPTH,
+        phase: phase_options(workers, 65_536, 1_024)?,
+    })
 }
 
 /// How a text is built.
@@ -90,7 +95,7 @@ fn measured<R: Threads + Wait + Sync + Clock + AllocGlobal>(
     })
 }
 
-fn print<R: Print>(rt: &R, way: Way, built: Figures, figures: bool) -> io::Result<()> {
+fn print<R: Print>(rt: &R, way: Way, built: &Figures, figures: bool) -> io::Result<()> {
     let (blocks, bytes) = (built.blocks, built.bytes);
     match way {
         Way::Plain => println!(rt; "plain: {blocks} blocks, {bytes} bytes")?,
@@ -101,10 +106,10 @@ fn print<R: Print>(rt: &R, way: Way, built: Figures, figures: bool) -> io::Resul
             )?;
         }
     }
-    if figures {
-        println!(rt; "  {} microseconds", built.microseconds)?;
+    if !figures {
+        return Ok(());
     }
-    Ok(())
+    println!(rt; "  {} microseconds", built.microseconds)
 }
 
 /// What each way of building comes to, and with figures how long it took.
@@ -116,7 +121,7 @@ pub(crate) fn show<R: Threads + Wait + Sync + Clock + Print + AllocGlobal>(
     let text = program_text(rt.alloc(), length)?;
     for &way in WAYS {
         let built = measured(rt, text.as_bytes(), way)?;
-        print(rt, way, built, figures)?;
+        print(rt, way, &built, figures)?;
     }
     Ok(())
 }

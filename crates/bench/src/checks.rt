@@ -1,12 +1,12 @@
-// How long `driver::check` takes for the longest legal texts, of 512 and 2,048 instructions, against those of an eighth of
+// How long `check_command::check` takes for the longest legal texts, of 512 and 2,048 instructions, against those of an eighth of
 // them, and how many terms they take in a table that none of them fills.
 
-ghost use Rattle.std.specs.Prelude.{◌≡◌, ◌≤◌, ◌%◌, IfSome};
+ghost use Rattle.std.specs.Prelude.{◌*◌, ◌<◌, ◌≤◌, IfSome};
 ghost use Rattle.term_table.specs.Passes.{IsOf};
 
 use block_validator::validate;
+use check_command::{CheckAnswer, check};
 use check_text::Text;
-use driver::{CheckAnswer, check};
 use std::alloc::{AllocError, Global};
 use std::io;
 use std::time::{Clock, Instant};
@@ -23,6 +23,14 @@ enum Kind {
     Downward,
 }
 
+/// A load or a store of a register, at an offset from the stack's pointer.
+#[derive(Clone, Copy)]
+struct Access {
+    name: &'static str,
+    register: u32,
+    offset: u32,
+}
+
 impl Kind {
     fn name(self) -> &'static str {
         match self {
@@ -30,45 +38,68 @@ impl Kind {
             Kind::Downward => "downward stores",
         }
     }
+
+    /// The instruction at `k` of a block of `count`.
+    fn in_block(self, count: u32, k: u32) -> Access
+        requires within { k < count }
+        requires most { count ≤ 512 }
+    {
+        match self {
+            Kind::Loads => Access {
+                name: "lw",
+                register: 8 + k % 2,
+                offset: k * 4,
+            },
+            Kind::Downward => Access {
+                name: "sw",
+                register: 8,
+                offset: (count - k) * 4,
+            },
+        }
+    }
+
+    /// The instruction at `k` of the order, which has four times as many.
+    fn in_order(self, count: u32, k: u32) -> Access
+        requires within { k < 4 * count }
+        requires some { 2 ≤ count }
+        requires most { count ≤ 512 }
+    {
+        match self {
+            Kind::Loads => Access {
+                name: "lw",
+                register: 8 + k % 2,
+                offset: (count - 2 + k % 2) * 4,
+            },
+            Kind::Downward => Access {
+                name: "sw",
+                register: 8,
+                offset: (4 * count - k) * 4,
+            },
+        }
+    }
 }
 
-/// A check text with `count` loads in its block, and four times as many in its order.
-fn loads(alloc: Global, count: u32) -> Result<String, AllocError>
-    requires even { count % 2 ≡ 0 }
+fn push_access(text: &mut String, access: Access) -> Result<(), AllocError> {
+    let Access {
+        name,
+        register,
+        offset,
+    } = access;
+    writeln!(text, "{name} ${register},{offset}($29)")
+}
+
+/// A check text with `count` instructions in its block, and four times as many in its order.
+fn text_of(alloc: Global, kind: Kind, count: u32) -> Result<String, AllocError>
     requires some { 2 ≤ count }
     requires most { count ≤ 512 }
 {
-    let mut text = String::new(alloc);
-    text.push_str("block\n")?;
+    let mut text = String::from_str(alloc, "block\n")?;
     for k in 0..count {
-        let offset = k * 4;
-        let register = 8 + k % 2;
-        writeln!(text, "lw ${register},{offset}($29)")?;
+        push_access(&mut text, kind.in_block(count, k))?;
     }
     text.push_str("return\norder\n")?;
     for k in 0..4 * count {
-        let offset = (count - 2 + k % 2) * 4;
-        let register = 8 + k % 2;
-        writeln!(text, "lw ${register},{offset}($29)")?;
-    }
-    text.push_str("return\nslot nop\n")?;
-    Ok(text)
-}
-
-/// A check text with `count` stores in its block, and four times as many in its order.
-fn stores(alloc: Global, count: u32) -> Result<String, AllocError>
-    requires most { count ≤ 512 }
-{
-    let mut text = String::new(alloc);
-    text.push_str("block\n")?;
-    for k in 0..count {
-        let offset = (count - k) * 4;
-        writeln!(text, "sw $8,{offset}($29)")?;
-    }
-    text.push_str("return\norder\n")?;
-    for k in 0..4 * count {
-        let offset = (4 * count - k) * 4;
-        writeln!(text, "sw $8,{offset}($29)")?;
+        push_access(&mut text, kind.in_order(count, k))?;
     }
     text.push_str("return\nslot nop\n")?;
     Ok(text)
@@ -141,39 +172,48 @@ fn show_figures(
 }
 
 /// The verdict on a text, with figures the fastest of five runs; how many nanoseconds it took.
+fn show_verdict(
+    rt: &HostRuntime,
+    name: &str,
+    text: &str,
+    count: u32,
+    figures: bool,
+    shorter: u128,
+) -> io::Result<u128>
+    requires most { count ≤ 512 }
+{
+    let runs = if figures { 5 } else { 1 };
+    let Some((answer, took)) = fastest(rt, rt.alloc(), text, runs)? else {
+        println!(rt; "{count} {name}: no verdict")?;
+        return Ok(shorter);
+    };
+    println!(rt; "{count} and {} {name}: {answer}", 4 * count)?;
+    if figures {
+        show_figures(rt, text, count, took, shorter)?;
+    }
+    Ok(took)
+}
+
+/// The verdict on a text of this kind.
 fn show_text(
     rt: &HostRuntime,
     kind: Kind,
     count: u32,
     figures: bool,
     shorter: u128,
-) -> anyhow::Result<u128>
-    requires even { count % 2 ≡ 0 }
+) -> io::Result<u128>
     requires some { 2 ≤ count }
     requires most { count ≤ 512 }
 {
-    let runs = if figures { 5 } else { 1 };
-    let name = kind.name();
-    let text = match kind {
-        Kind::Loads => loads(rt.alloc(), count)?,
-        Kind::Downward => stores(rt.alloc(), count)?,
-    };
-    let Some((answer, took)) = fastest(rt, rt.alloc(), text.as_str(), runs)? else {
-        println!(rt; "{count} {name}: no verdict")?;
-        return Ok(shorter);
-    };
-    println!(rt; "{count} and {} {name}: {answer}", 4 * count)?;
-    if figures {
-        show_figures(rt, text.as_str(), count, took, shorter)?;
-    }
-    Ok(took)
+    let text = text_of(rt.alloc(), kind, count)?;
+    show_verdict(rt, kind.name(), text.as_str(), count, figures, shorter)
 }
 
 /// The verdicts, and with figures the times and the terms.
-pub(crate) fn show(rt: &HostRuntime, figures: bool) -> anyhow::Result<()> {
-    for kind in [Kind::Loads, Kind::Downward] {
-        let shorter = show_text(rt, kind, 64, figures, 1)?;
-        show_text(rt, kind, 512, figures, shorter)?;
-    }
+pub(crate) fn show(rt: &HostRuntime, figures: bool) -> io::Result<()> {
+    let loads = show_text(rt, Kind::Loads, 64, figures, 1)?;
+    show_text(rt, Kind::Loads, 512, figures, loads)?;
+    let stores = show_text(rt, Kind::Downward, 64, figures, 1)?;
+    show_text(rt, Kind::Downward, 512, figures, stores)?;
     Ok(())
 }

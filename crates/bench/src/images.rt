@@ -2,9 +2,9 @@
 
 use crate::builds::{DEPTH, options};
 use anyhow::bail;
-use c_programs::{PROGRAMS, Program};
+use build_command::{Built, build_one, build_plain};
+use c_programs::{Program, programs};
 use delay_filler::FilledOrder;
-use driver::{Built, build_one, build_plain};
 use image::{Image, read_image};
 use list_scheduler::ListOrder;
 use mips_machine::{load, run};
@@ -96,7 +96,7 @@ fn scheduled(
 /// Each program with the words that its images run, the scheduled one against the plain one in percent, and how many of
 /// its blocks have the order that was proposed.
 pub(crate) fn show(rt: &HostRuntime, figures: bool) -> anyhow::Result<()> {
-    for program in PROGRAMS {
+    for program in programs() {
         let plain = plain(rt, program, figures)?;
         let (scheduled, same, blocks) = scheduled(rt, program, figures)?;
         println!(rt; "{}: {same} of {blocks} blocks accepted", program.name)?;

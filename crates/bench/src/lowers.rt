@@ -7,7 +7,6 @@ use mips_select::select;
 use rtl::{RBlock, RExit, RInst, Rtl};
 use rtl_lower::lower;
 use std::alloc::{AllocError, Global};
-use std::fmt::Write;
 use std::fs;
 use std::time::Instant;
 
@@ -21,13 +20,13 @@ const AROUND: usize = 50;
 /// A program of functions with loops, of at most so many bytes and not many less.
 pub(crate) fn program_text(alloc: Global, length: usize) -> Result<String, AllocError> {
     let turns = (length / FUNCTIONS).saturating_sub(AROUND) / TURN.len();
+    let body = TURN.repeat(alloc, turns)?;
     let mut text = String::from_str(alloc, "int a[64];int f(int n,unsigned m){return n+1;}\n")?;
     for number in 0..FUNCTIONS {
-        write!(text, "int f{number}(int n,unsigned m){{int r=n;")?;
-        for _ in 0..turns {
-            text.push_str(TURN)?;
-        }
-        text.push_str("return r;}\n")?;
+        writeln!(
+            text,
+            "int f{number}(int n,unsigned m){{int r=n;{body}return r;}}"
+        )?;
     }
     text.push_str("int main(void){int r=0;r=f0(1,0u);return r;}\n")?;
     Ok(text)

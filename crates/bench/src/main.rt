@@ -26,39 +26,59 @@ mod worker;
 
 use anyhow::bail;
 use std::env;
+use std::sync::Wait;
+use std::thread::Threads;
+use std::time::Clock;
+
+/// What is the same in every run; `threads` starts threads.
+fn show_all<R: Threads + Wait + Sync + Clock + Print + AllocGlobal>(
+    rt: &HostRuntime,
+    threads: &R,
+) -> anyhow::Result<()> {
+    checks::show(rt, false)?;
+    fronts::show(rt, false)?;
+    lowers::show(rt, false)?;
+    programs::show(rt, false)?;
+    builds::show(threads, false)?;
+    phases::show(threads, false)?;
+    images::show(rt, false)?;
+    Ok(tables::show(threads, false)?)
+}
+
+/// The reader's figures, or whether it reads a text of the shape and the depth that the words name.
+fn front(rt: &HostRuntime, words: &[String]) -> anyhow::Result<()> {
+    match (words.first(), words.get(1)) {
+        (Some(shape), Some(depth)) => Ok(fronts::nested(rt, shape.as_str(), depth.parse()?)?),
+        _ => Ok(fronts::show(rt, true)?),
+    }
+}
+
+/// The figures that a word names, with the words behind it; `threads` starts threads.
+fn measure<R: Threads + Wait + Sync + Clock + Print + AllocGlobal>(
+    rt: &HostRuntime,
+    threads: &R,
+    figure: &str,
+    words: &[String],
+) -> anyhow::Result<()> {
+    match figure {
+        "check" => Ok(checks::show(rt, true)?),
+        "front" => front(rt, words),
+        "lower" if words.is_empty() => lowers::show(rt, true),
+        "lower" => lowers::files(rt, words),
+        "run" => programs::show(rt, true),
+        "build" if words.is_empty() => builds::show(threads, true),
+        "build" => builds::files(rt, words),
+        "phase" => phases::show(threads, true),
+        "image" => images::show(rt, true),
+        "table" => Ok(tables::show(threads, true)?),
+        _ => bail!("the words are check, front, lower, run, build, phase, image and table"),
+    }
+}
 
 fn main(rt: HostRuntime) -> anyhow::Result<()> {
     let words = env::args(&rt)?.skip(1).collect::<Vec<String>>(rt.alloc())?;
-    let Some(figure) = words.first() else {
-        checks::show(&rt, false)?;
-        fronts::show(&rt, false)?;
-        lowers::show(&rt, false)?;
-        programs::show(&rt, false)?;
-        builds::show(&rt, false)?;
-        phases::show(&rt, false)?;
-        images::show(&rt, false)?;
-        return tables::show(&rt, false);
-    };
-    match figure.as_str() {
-        "check" => checks::show(&rt, true),
-        "front" => match (words.get(1), words.get(2)) {
-            (Some(shape), Some(depth)) => fronts::nested(&rt, shape.as_str(), depth.parse()?),
-            _ => fronts::show(&rt, true),
-        },
-        "lower" => match words.as_slice() {
-            [_] => lowers::show(&rt, true),
-            [_, names @ ..] => lowers::files(&rt, names),
-            [] => Ok(()),
-        },
-        "run" => programs::show(&rt, true),
-        "build" => match words.as_slice() {
-            [_] => builds::show(&rt, true),
-            [_, names @ ..] => builds::files(&rt, names),
-            [] => Ok(()),
-        },
-        "phase" => phases::show(&rt, true),
-        "image" => images::show(&rt, true),
-        "table" => tables::show(&rt, true),
-        _ => bail!("the words are check, front, lower, run, build, phase, image and table"),
+    match words.split_first() {
+        Some((figure, others)) => measure(&rt, &rt, figure.as_str(), others),
+        None => show_all(&rt, &rt),
     }
 }

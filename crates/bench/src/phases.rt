@@ -3,13 +3,14 @@
 
 ghost use Rattle.std.specs.Prelude.{◌<◌, ⊤};
 
+use crate::builds::phase_options;
 use anyhow::bail;
 use image::Counts;
 use list_scheduler::Reorder;
 use mblock::{Block, BlockNumber, Order, Unit, plain};
-use sched_phase::{PhaseOpts, schedule_all, schedule_plain};
+use sched_phase::{PhaseOpts, schedule_all};
 use std::alloc::{AllocError, Global};
-use std::fmt::Write;
+use std::io;
 use std::sync::Wait;
 use std::thread::Threads;
 use std::time::{Clock, Instant};
@@ -26,18 +27,24 @@ impl Reorder for Own {
     }
 }
 
-/// A block that adds words of the stack to its number and stores each sum, four instructions a turn.
-fn summing(alloc: Global, number: u32, turns: u32) -> anyhow::Result<Block> {
+/// The check text of a block that adds words of the stack to its number and stores each sum, four instructions a turn.
+fn summing_text(alloc: Global, number: u32, turns: u32) -> Result<String, AllocError> {
     let mut text = String::from_str(alloc, "block\n")?;
     let start = number % 32_768;
     for turn in 0..turns {
         let offset = turn % 128 * 4;
-        writeln!(text, "lw $8,{offset}($29)")?;
-        writeln!(text, "addiu $10,$9,{start}")?;
-        writeln!(text, "addu $9,$10,$8")?;
-        writeln!(text, "sw $9,{offset}($29)")?;
+        writeln!(
+            text,
+            "lw $8,{offset}($29)\naddiu $10,$9,{start}\naddu $9,$10,$8\nsw $9,{offset}($29)"
+        )?;
     }
     text.push_str("return\norder\nreturn\nslot nop\n")?;
+    Ok(text)
+}
+
+/// That block.
+fn summing(alloc: Global, number: u32, turns: u32) -> anyhow::Result<Block> {
+    let text = summing_text(alloc, number, turns)?;
     let bytes = text.as_bytes();
     if bytes.len() > 1_048_576 {
         bail!("a long text");
@@ -65,20 +72,30 @@ fn unit_of(alloc: Global, blocks: u32, turns: u32) -> anyhow::Result<Unit> {
     }
 }
 
-/// What a phase over the unit counts, and how many microseconds the fastest of so many took.
+/// What a phase over the unit counts, and how many microseconds it took.
+fn measured<R: Threads + Wait + Sync + Clock + AllocGlobal>(
+    rt: &R,
+    unit: &Unit,
+    options: PhaseOpts,
+) -> io::Result<(Counts, u128)> {
+    let start = Instant::now(rt)?;
+    let scheduled = schedule_all(rt, rt.alloc(), unit, options, &Own, &Open)?;
+    let microseconds = start.elapsed(rt)?.as_micros();
+    Ok((scheduled.report(), microseconds))
+}
+
+/// What each of so many phases counts, one at least, and how many microseconds the fastest took.
 fn fastest<R: Threads + Wait + Sync + Clock + AllocGlobal>(
     rt: &R,
     unit: &Unit,
     options: PhaseOpts,
     rounds: u32,
-) -> anyhow::Result<(Counts, u128)> {
-    let mut least = u128::MAX;
-    let mut counts = schedule_plain(rt.alloc(), unit)?.report();
-    for _ in 0..rounds {
-        let start = Instant::now(rt)?;
-        let scheduled = schedule_all(rt, rt.alloc(), unit, options, &Own, &Open)?;
-        least = least.min(start.elapsed(rt)?.as_micros());
-        counts = scheduled.report();
+) -> io::Result<(Counts, u128)> {
+    let (mut counts, mut least) = measured(rt, unit, options)?;
+    for _ in 1..rounds {
+        let (again, microseconds) = measured(rt, unit, options)?;
+        counts = again;
+        least = least.min(microseconds);
     }
     Ok((counts, least))
 }
@@ -94,9 +111,7 @@ fn show_phase<R: Threads + Wait + Sync + Clock + Print + AllocGlobal>(
     requires { 0 < workers }
 {
     let (nodes, rounds) = if figures { (1_048_576, 7) } else { (16_384, 1) };
-    let Some(options) = PhaseOpts::new(workers, nodes / workers, 65_536) else {
-        bail!("{workers} workers are out of range");
-    };
+    let options = phase_options(workers, nodes / workers, 65_536)?;
     let (counts, microseconds) = fastest(rt, unit, options, rounds)?;
     println!(rt; "blocks of {length} instructions, {workers} workers: {counts}")?;
     if figures {

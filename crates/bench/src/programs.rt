@@ -6,7 +6,6 @@ use c_types::{Typed, check};
 use rtl_lower::lower;
 use runs::{End, Ran};
 use std::alloc::{AllocError, Global};
-use std::fmt::Write;
 use std::io;
 use std::time::Instant;
 
@@ -79,23 +78,45 @@ fn both(rt: &HostRuntime, text: &[u8]) -> anyhow::Result<(Figures, Figures)> {
     Ok((first, lowered(rt, &typed)?))
 }
 
-fn print(rt: &HostRuntime, what: &str, ran: Figures, figures: bool) -> io::Result<()> {
-    println!(rt; "{what}: done {}, {} words out", ran.is_done, ran.words)?;
-    if figures {
-        println!(rt; "  {} microseconds", ran.microseconds)?;
+/// The runs of the program with so many functions and words of globals, and this statement in each of so many turns.
+fn runs_of(
+    rt: &HostRuntime,
+    functions: usize,
+    words: usize,
+    statement: &str,
+    turns: u32,
+) -> anyhow::Result<(Figures, Figures)> {
+    let text = program_text(rt.alloc(), functions, words, statement, turns)?;
+    both(rt, text.as_bytes())
+}
+
+fn print(rt: &HostRuntime, ran: &Figures, figures: bool) -> io::Result<()> {
+    println!(rt; "done {}, {} words out", ran.is_done, ran.words)?;
+    if !figures {
+        return Ok(());
     }
-    Ok(())
+    println!(rt; "  {} microseconds", ran.microseconds)
+}
+
+fn print_both(
+    rt: &HostRuntime,
+    number: usize,
+    ran: &Figures,
+    lowered: &Figures,
+    figures: bool,
+) -> io::Result<()> {
+    print!(rt; "program {number}: ")?;
+    print(rt, ran, figures)?;
+    print!(rt; "  lowered: ")?;
+    print(rt, lowered, figures)
 }
 
 /// What each program comes to, and with figures how long the run took.
 pub(crate) fn show(rt: &HostRuntime, figures: bool) -> anyhow::Result<()> {
     let turns = if figures { 2_000_000 } else { 20_000 };
     for (number, &(functions, words, statement)) in PROGRAMS.iter().enumerate() {
-        let text = program_text(rt.alloc(), functions, words, statement, turns)?;
-        let (ran, ran_lowered) = both(rt, text.as_bytes())?;
-        let name = format!(in rt.alloc(); "program {number}")?;
-        print(rt, name.as_str(), ran, figures)?;
-        print(rt, "  lowered", ran_lowered, figures)?;
+        let (ran, lowered) = runs_of(rt, functions, words, statement, turns)?;
+        print_both(rt, number, &ran, &lowered, figures)?;
     }
     Ok(())
 }

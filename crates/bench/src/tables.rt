@@ -257,10 +257,21 @@ fn print_row<R: Print>(rt: &R, row: &Row, figures: bool) -> io::Result<()> {
         return println!(rt; "{count} threads: no memory");
     };
     println!(rt; "{count} threads: {} terms linked", did.linked)?;
-    if figures {
-        let first = rate(did.answered, did.first);
-        let again = rate(did.answered, did.again);
-        println!(rt; "  {first:>12} a second at first {again:>12} a second again")?;
+    if !figures {
+        return Ok(());
+    }
+    let first = rate(did.answered, did.first);
+    let again = rate(did.answered, did.again);
+    println!(rt; "  {first:>12} a second at first {again:>12} a second again")
+}
+
+/// The rows, three of each plan, each three under their plan's title.
+fn print_rows<R: Print>(rt: &R, rows: &[Row], figures: bool) -> io::Result<()> {
+    for (at, row) in rows.iter().enumerate() {
+        if at % 3 == 0 {
+            println!(rt; "{}:", title(row.plan))?;
+        }
+        print_row(rt, row, figures)?;
     }
     Ok(())
 }
@@ -270,7 +281,7 @@ fn print_row<R: Print>(rt: &R, row: &Row, figures: bool) -> io::Result<()> {
 pub(crate) fn show<R: Threads + Sync + Clock + Print + AllocGlobal>(
     rt: &R,
     figures: bool,
-) -> anyhow::Result<()> {
+) -> io::Result<()> {
     let (terms, runs) = if figures { (200_000, 25) } else { (2_000, 1) };
     let mut rows = [
         Row::new(Plan::Divided, 1),
@@ -284,13 +295,7 @@ pub(crate) fn show<R: Threads + Sync + Clock + Print + AllocGlobal>(
         Row::new(Plan::Shared, 4),
     ];
     measure(rt, rt.alloc(), &mut rows, terms, runs)?;
-    for (at, row) in rows.iter().enumerate() {
-        if at % 3 == 0 {
-            println!(rt; "{}:", title(row.plan))?;
-        }
-        print_row(rt, row, figures)?;
-    }
-    Ok(())
+    print_rows(rt, &rows, figures)
 }
 
 fn title(plan: Plan) -> &'static str {

@@ -1,71 +1,89 @@
 // What words of the command line ask for.
 
-use driver::{AskedBuild, Command, words};
+use driver::{Command, words};
 use std::alloc::Global;
 
-// What words ask for, where it is one of these.
-#[derive(Clone, Copy, PartialEq, Eq)]
-enum Wanted {
-    // The verdict on the file `a text`, without reasons.
-    Verdict,
-    // A run of `x` of 1,000,000 steps.
-    Run,
-    // Assembler source of `x`.
-    Source,
-    // The terms of `f` in `x.c`.
-    Terms,
+// A command's name and its texts, and its numbers, where a flag that is set is 1; both in the order of its fields.
+type Values<'a> = ([&'a str; 4], [u64; 5]);
+
+// The values of a command, but those of several check texts, of which there is the name alone.
+fn values<'a>(command: &Command<'a>) -> Values<'a> {
+    match *command {
+        Command::Check { file, explain } => {
+            (["check", file, "", ""], [u64::from(explain), 0, 0, 0, 0])
+        }
+        Command::CheckEach { .. } => (["check each", "", "", ""], [0; 5]),
+        Command::Interp {
+            source,
+            depth,
+            steps,
+        } => (
+            ["interp", source, "", ""],
+            [u64::from(depth), steps, 0, 0, 0],
+        ),
+        Command::Build(asked) => (
+            ["build", asked.source, asked.image, ""],
+            [
+                u64::from(asked.plain),
+                u64::from(asked.depth),
+                u64::from(asked.workers),
+                u64::from(asked.nodes),
+                u64::from(asked.heads),
+            ],
+        ),
+        Command::Run { image, steps } => (["run", image, "", ""], [steps, 0, 0, 0, 0]),
+        Command::List { image, asm } => (["list", image, "", ""], [u64::from(asm), 0, 0, 0, 0]),
+        Command::Show {
+            source,
+            stage,
+            function,
+            dot,
+        } => (
+            ["show", source, stage.unwrap_or(""), function.unwrap_or("")],
+            [u64::from(dot), 0, 0, 0, 0],
+        ),
+    }
 }
 
-const WANTED: &[(&[&str], Wanted)] = &[
-    (&["mcc", "check", "a text"], Wanted::Verdict),
-    (&["mcc", "run", "x"], Wanted::Run),
-    (&["mcc", "list", "--asm", "x"], Wanted::Source),
+// Words, and the values of the command that they ask for.
+type Row = (&'static [&'static str], Values<'static>);
+
+// Whether the row's words ask for a command of its values.
+fn is_asked(alloc: Global, (line, (texts, numbers)): Row) -> bool {
+    let Ok(command) = words(alloc, line) else {
+        return false;
+    };
+    let values = values(&command);
+    values.0 == texts && values.1 == numbers
+}
+
+const COMMANDS: &[Row] = &[
+    (
+        &["mcc", "check", "a text"],
+        (["check", "a text", "", ""], [0; 5]),
+    ),
+    (
+        &["mcc", "run", "x"],
+        (["run", "x", "", ""], [1_000_000, 0, 0, 0, 0]),
+    ),
+    (
+        &["mcc", "list", "--asm", "x"],
+        (["list", "x", "", ""], [1, 0, 0, 0, 0]),
+    ),
     (
         &["mcc", "show", "x.c", "--function", "f", "--stage=terms"],
-        Wanted::Terms,
+        (["show", "x.c", "terms", "f"], [0; 5]),
     ),
 ];
 
-fn wanted_by(alloc: Global, line: &[&str]) -> Option<Wanted> {
-    match words(alloc, line) {
-        Ok(
-            Command::Check {
-                file: "a text",
-                explain: false,
-            },
-        ) => Some(Wanted::Verdict),
-        Ok(
-            Command::Run {
-                image: "x",
-                steps: 1_000_000,
-            },
-        ) => Some(Wanted::Run),
-        Ok(
-            Command::List {
-                image: "x",
-                asm: true,
-            },
-        ) => Some(Wanted::Source),
-        Ok(
-            Command::Show {
-                source: "x.c",
-                stage: Some("terms"),
-                function: Some("f"),
-                dot: false,
-            },
-        ) => Some(Wanted::Terms),
-        _ => None,
-    }
-}
-
 #[test]
 fn words_are_commands(rt: HostRuntime) {
-    for (k, &(line, want)) in WANTED.iter().enumerate() {
-        assert!(rt; wanted_by(rt.alloc(), line) == Some(want), "row {k}");
+    for (k, &row) in COMMANDS.iter().enumerate() {
+        assert!(rt; is_asked(rt.alloc(), row), "row {k}");
     }
 }
 
-const BOUNDS: &[(&[&str], (u32, u64))] = &[
+const BOUNDS: &[Row] = &[
     (
         &[
             "mcc",
@@ -76,74 +94,39 @@ const BOUNDS: &[(&[&str], (u32, u64))] = &[
             "--depth",
             "4096",
         ],
-        (4096, 4294967295),
+        (["interp", "a.c", "", ""], [4096, 4294967295, 0, 0, 0]),
     ),
-    (&["mcc", "interp", "a.c"], (256, 1000000)),
+    (
+        &["mcc", "interp", "a.c"],
+        (["interp", "a.c", "", ""], [256, 1000000, 0, 0, 0]),
+    ),
 ];
-
-// The depth and the steps that words ask for a run of `a.c`.
-fn bounds(alloc: Global, line: &[&str]) -> Option<(u32, u64)> {
-    match words(alloc, line) {
-        Ok(
-            Command::Interp {
-                source: "a.c",
-                depth,
-                steps,
-            },
-        ) => Some((depth, steps)),
-        _ => None,
-    }
-}
 
 #[test]
 fn words_give_the_bounds(rt: HostRuntime) {
-    for &(line, want) in BOUNDS {
-        assert!(rt; bounds(rt.alloc(), line) == Some(want));
+    for &row in BOUNDS {
+        assert!(rt; is_asked(rt.alloc(), row));
     }
 }
 
-// In each row whether the build is plain, and depth, workers, nodes and heads.
-const BUILDS: &[(&[&str], bool, [u32; 4])] = &[
+const BUILDS: &[Row] = &[
     (
         &["mcc", "build", "a", "b", "--plain"],
-        true,
-        [256, 4, 65536, 1024],
+        (["build", "a", "b", ""], [1, 256, 4, 65536, 1024]),
     ),
     (
         &["mcc", "build", "a", "b", "--workers=64", "--nodes=1"],
-        false,
-        [256, 64, 1, 1024],
+        (["build", "a", "b", ""], [0, 256, 64, 1, 1024]),
     ),
     (
         &["mcc", "build", "--depth", "4096", "a", "b", "--heads=65536"],
-        false,
-        [4096, 4, 65536, 65536],
+        (["build", "a", "b", ""], [0, 4096, 4, 65536, 65536]),
     ),
 ];
 
-// What the words ask for a build of `a` into `b`.
-fn asked(alloc: Global, line: &[&str]) -> Option<(bool, [u32; 4])> {
-    match words(alloc, line) {
-        Ok(
-            Command::Build(
-                AskedBuild {
-                    source: "a",
-                    image: "b",
-                    plain,
-                    depth,
-                    workers,
-                    nodes,
-                    heads,
-                },
-            ),
-        ) => Some((plain, [depth, workers, nodes, heads])),
-        _ => None,
-    }
-}
-
 #[test]
 fn words_give_a_build(rt: HostRuntime) {
-    for &(line, plain, numbers) in BUILDS {
-        assert!(rt; asked(rt.alloc(), line) == Some((plain, numbers)));
+    for &row in BUILDS {
+        assert!(rt; is_asked(rt.alloc(), row));
     }
 }

@@ -1,6 +1,8 @@
 //! Memory that is really refused to `check`, to the words of the command line, to builds by workers and to a machine's steps:
 //! each test is a process of its own, and takes all that it can get. With each block that it gives back the call comes further.
 use crate::builds::LOOP;
+use crate::memory::{Call, tells_refusals};
+use crate::scarce_memory::{AllMemory, Attempt};
 use clap::error::ErrorKind;
 use command_line::words;
 use delay_filler::FilledOrder;
@@ -12,7 +14,6 @@ use image::read_image;
 use list_scheduler::ListOrder;
 use mips_machine::{Machine, load};
 use mips_steps::Ending;
-use crate::scarce_memory::{AllMemory, Attempt, refusals};
 use sched_phase::PhaseOpts;
 use std::alloc::Global;
 use std::sync::Wait;
@@ -32,7 +33,8 @@ pub fn all_memory(alloc: Global) -> Option<AllMemory> {
     AllMemory::take(alloc, BLOCKS, LAST).ok()
 }
 
-fn check_once(alloc: Global) -> Attempt {
+/// How a check of MOVED ends.
+pub fn check_once(alloc: Global) -> Attempt {
     match check(alloc, MOVED.as_bytes()) {
         Ok(CheckAnswer::Same) => Attempt::Done,
         Err(CheckFault::NoMemory) => Attempt::Refused,
@@ -42,12 +44,11 @@ fn check_once(alloc: Global) -> Attempt {
 
 #[test]
 fn checks_tell_refused_memory_alone(rt: HostRuntime) {
-    let alloc = rt.alloc();
-    let refusals = refusals(alloc, BLOCKS, LAST, || check_once(alloc));
-    assert!(rt; matches!(refusals, Ok(Some(1..))) && check_once(alloc) == Attempt::Done);
+    assert!(rt; tells_refusals(rt.alloc(), &Call::Check, LAST));
 }
 
-fn read_words(alloc: Global) -> Attempt {
+/// How the reading of the words of a check ends.
+pub fn read_words(alloc: Global) -> Attempt {
     let args = ["mcc", "check", "x"];
     match words(alloc, args.as_slice()) {
         Ok(_command) => Attempt::Done,
@@ -58,9 +59,7 @@ fn read_words(alloc: Global) -> Attempt {
 
 #[test]
 fn words_tell_refused_memory_alone(rt: HostRuntime) {
-    let alloc = rt.alloc();
-    let refusals = refusals(alloc, BLOCKS, LAST, || read_words(alloc));
-    assert!(rt; matches!(refusals, Ok(Some(1..))) && read_words(alloc) == Attempt::Done);
+    assert!(rt; tells_refusals(rt.alloc(), &Call::ReadWords, LAST));
 }
 
 // Whether each block has a verdict or was missed, and none met a full table.
@@ -199,7 +198,8 @@ fn step_on(alloc: Global, machine: &mut Machine<'_>) -> Option<u32> {
     Some(refusals)
 }
 
-fn are_sevens(output: &[u32]) -> bool {
+/// Whether each word is 7.
+pub fn are_sevens(output: &[u32]) -> bool {
     for &word in output {
         if word != 7 {
             return false;

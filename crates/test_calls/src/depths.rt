@@ -1,43 +1,43 @@
 // The deepest nests that the sizes allow, each lowered and run on a thread with a large stack.
 
-use crate::lowered::lowered;
+use crate::lowered::run_of;
 use runs::End;
 use std::alloc::Global;
 use std::test::Fail;
 use std::thread::Builder;
 
-// So many times a statement and what stands behind it, all of that so many times.
-fn runs(
-    alloc: Global,
+// Adds so many times a statement and what stands behind it, all of that so many times.
+fn push_runs(
+    text: &mut String,
     statement: &str,
     count: usize,
     behind: &str,
     times: usize,
-) -> Option<String> {
-    let statements = statement.repeat(alloc, count).ok()?;
-    let run = format!(in alloc; "{statements}{behind}").ok()?;
-    run.repeat(alloc, times).ok()
+) -> Option<()> {
+    for _ in 0..times {
+        for _ in 0..count {
+            text.push_str(statement).ok()?;
+        }
+        text.push_str(behind).ok()?;
+    }
+    Some(())
 }
 
 // A run of tokens holds 255 times `if(1)`; each `for(;0;)` and each brace begins a new run.
 fn nest(alloc: Global, statement: &str, loops: usize) -> Option<String> {
-    let loops = runs(alloc, statement, 254, "for(;0;)", loops)?;
-    let braces = runs(alloc, statement, 255, "{", 127)?;
-    let last = runs(alloc, statement, 255, ";", 1)?;
-    let ends = "}".repeat(alloc, 128).ok()?;
-    format!(in alloc; "int main(void){{{loops}{braces}{last}{ends}").ok()
-}
-
-// The end of what a text is lowered to; None where it has a fault.
-fn end(alloc: Global, text: &str) -> Option<End> {
-    let lowered = lowered(alloc, text.as_bytes())?;
-    Some(rtl::run(alloc, &lowered, 1, 16_000_000).ok()?.end)
+    let mut text = String::new(alloc);
+    text.push_str("int main(void){").ok()?;
+    push_runs(&mut text, statement, 254, "for(;0;)", loops)?;
+    push_runs(&mut text, statement, 255, "{", 127)?;
+    push_runs(&mut text, statement, 255, ";", 1)?;
+    push_runs(&mut text, "}", 128, "", 1)?;
+    Some(text)
 }
 
 // The end of such a nest.
 fn end_of_nest(alloc: Global, statement: &str, loops: usize) -> Option<End> {
     let text = nest(alloc, statement, loops)?;
-    end(alloc, text.as_str())
+    Some(run_of(alloc, text.as_str(), 1, 16_000_000)?.end)
 }
 
 // A statement, and the most loops of a nest of it.
@@ -64,12 +64,19 @@ const EXPRESSIONS: &[(&str, usize, usize)] = &[
     ("0?1:", 250, 0),
 ];
 
-// The end of a text that returns such an expression.
+// A text that returns such an expression.
+fn expression(alloc: Global, part: &str, times: usize, closing: usize) -> Option<String> {
+    let mut text = String::new(alloc);
+    text.push_str("int main(void){return ").ok()?;
+    push_runs(&mut text, part, times, "0", 1)?;
+    push_runs(&mut text, ")", closing, ";}", 1)?;
+    Some(text)
+}
+
+// The end of that text.
 fn end_of(alloc: Global, part: &str, times: usize, closing: usize) -> Option<End> {
-    let parts = part.repeat(alloc, times).ok()?;
-    let closed = ")".repeat(alloc, closing).ok()?;
-    let text = format!(in alloc; "int main(void){{return {parts}0{closed};}}").ok()?;
-    end(alloc, text.as_str())
+    let text = expression(alloc, part, times, closing)?;
+    Some(run_of(alloc, text.as_str(), 1, 16_000_000)?.end)
 }
 
 #[test]

@@ -3,7 +3,7 @@
 ghost use Rattle.std.specs.Prelude.{⊤};
 
 use crate::builds::{LOOP, NODES, OWN, SCHEDULER, built, built_by_one, counted, prints};
-use c_programs::{PROGRAMS, Program};
+use c_programs::{Program, programs};
 use driver::Built;
 use list_scheduler::{Hostile, Reorder};
 use mblock::{Block, Order, plain};
@@ -51,7 +51,7 @@ fn images_by_one_worker_run_as_their_source(rt: HostRuntime) {
 
 // The programs of these tests, and those of `c_programs`.
 fn all_programs() -> [&'static [Program]; 2] {
-    [OWN, PROGRAMS]
+    [OWN, programs()]
 }
 
 // The first of the programs whose image by two workers doesn't run as its source.
@@ -107,7 +107,8 @@ fn first_ordered<T: Threads + Wait + Sync>(
 #[test]
 fn refused_memory_is_counted_as_that(rt: HostRuntime) {
     for &programs in all_programs().as_slice() {
-        assert_eq!(rt; first_ordered(&rt, rt.alloc(), programs), None);
+        let ordered = first_ordered(&rt, rt.alloc(), programs);
+        assert!(rt; ordered.is_none(), "{ordered:?}");
     }
 }
 
@@ -178,7 +179,8 @@ fn first_unequal<T: Threads + Wait + Sync>(
 #[test]
 fn images_are_equal_for_any_number_of_workers(rt: HostRuntime) {
     for &programs in all_programs().as_slice() {
-        assert_eq!(rt; first_unequal(&rt, rt.alloc(), programs), None);
+        let unequal = first_unequal(&rt, rt.alloc(), programs);
+        assert!(rt; unequal.is_none(), "{unequal:?}");
     }
 }
 
@@ -196,5 +198,5 @@ fn equal_builds<T: Threads + Wait + Sync>(threads: &T, alloc: Global, count: u32
 
 #[test]
 fn a_thousand_builds_give_one_image(rt: HostRuntime) {
-    assert_eq!(rt; equal_builds(&rt, rt.alloc(), 999), 999);
+    assert!(rt; equal_builds(&rt, rt.alloc(), 999) == 999);
 }

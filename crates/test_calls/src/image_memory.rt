@@ -3,8 +3,8 @@
 
 use crate::build_memory::{BLOCKS, all_memory, is_refusal, prints_three, scarce_builds_run};
 use crate::builds::LOOP;
-use driver::build_plain;
 use crate::written::Desk;
+use driver::build_plain;
 use std::alloc::Global;
 use std::sync::Wait;
 use std::thread::Threads;
@@ -75,8 +75,7 @@ pub fn told_before<T: Threads + Wait + Sync>(
     let placed = format!(in alloc; "fault 30 NoMemory at {}\n", bytes.len()).ok()?;
     let mut desk = Desk::of(alloc, bytes).ok()?;
     let told = refusals(threads, alloc, words, &mut desk, placed.as_str());
-    let is_printed = desk.out.as_slice() == printed.as_bytes() && desk.err.is_empty();
-    if is_printed && desk.files.written.as_slice() == written {
+    if desk.is_done(printed, written) {
         told
     } else {
         None
@@ -87,12 +86,13 @@ const PLAIN: &[&str] = &["mcc", "build", "x", "y", "--plain"];
 
 // The same of `mcc build`, which prints and writes what a plain build makes.
 fn told_by_build<T: Threads + Wait + Sync>(threads: &T, alloc: Global) -> Option<(bool, bool)> {
-    let ample = build_plain(alloc, LOOP.text.as_bytes(), 256).ok()?;
+    let text = LOOP.text.as_bytes();
+    let ample = build_plain(alloc, text, 256).ok()?;
     let printed = format!(in alloc; "blocks {} plain\n", ample.blocks).ok()?;
     told_before(
         threads,
         alloc,
-        LOOP.text.as_bytes(),
+        text,
         PLAIN,
         printed.as_str(),
         ample.image.as_slice(),

@@ -44,6 +44,9 @@ fn reads_again(alloc: Global, bytes: &[u8]) -> Option<bool> {
     Some(again.as_slice() == bytes)
 }
 
+// Each bit, and all.
+const MASKS: &[u8] = &[1, 2, 4, 8, 16, 32, 64, 128, 255];
+
 // Of each byte one bit is turned, or all are: how many of the rows so changed are written as they were read, and how many
 // otherwise.
 fn read_with_changes(alloc: Global, words: &[u32]) -> Option<(u32, u32)> {
@@ -51,7 +54,7 @@ fn read_with_changes(alloc: Global, words: &[u32]) -> Option<(u32, u32)> {
     let mut same: u32 = 0;
     let mut other: u32 = 0;
     for at in 0..bytes.len() {
-        for mask in [1u8, 2, 4, 8, 16, 32, 64, 128, 255] {
+        for &mask in MASKS {
             bytes[at] ^= mask;
             match reads_again(alloc, bytes.as_slice()) {
                 Some(true) => same = same.wrapping_add(1),

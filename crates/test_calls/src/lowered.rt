@@ -5,7 +5,7 @@ use c_front::read;
 use c_types::check;
 use rtl::Rtl;
 use rtl_lower::lower;
-use runs::End;
+use runs::{End, Ran};
 use std::alloc::Global;
 use std::fmt::Write;
 
@@ -338,11 +338,17 @@ const OPERATORS: &[(&str, u32)] = &[
     ("0 ? 1 / 0 : 7", 7),
 ];
 
-/// What a text is lowered to; None where it has a fault.
-pub fn lowered(alloc: Global, text: &[u8]) -> Option<Rtl> {
+// What a text is lowered to; None where it has a fault.
+fn lowered(alloc: Global, text: &[u8]) -> Option<Rtl> {
     let program = read(alloc, text).ok()?;
     let typed = check(alloc, program).ok()?;
     lower(alloc, &typed).ok()
+}
+
+/// A run of what a text is lowered to; None where it has a fault.
+pub fn run_of(alloc: Global, text: &str, depth: u32, steps: u64) -> Option<Ran> {
+    let lowered = lowered(alloc, text.as_bytes())?;
+    rtl::run(alloc, &lowered, depth, steps).ok()
 }
 
 // The words as a text, each with its end.
@@ -362,8 +368,7 @@ fn comes_as_far(
     end: End,
     output: &str,
 ) -> Option<bool> {
-    let lowered = lowered(alloc, text.as_bytes())?;
-    let ran = rtl::run(alloc, &lowered, depth, steps.saturating_mul(16)).ok()?;
+    let ran = run_of(alloc, text, depth, steps.saturating_mul(16))?;
     let written = spelled(alloc, ran.output.as_slice())?;
     Some(match end {
         End::Done(_) => ran.end == end && written.as_str() == output,
@@ -379,17 +384,17 @@ fn programs_come_as_far(rt: HostRuntime) {
     }
 }
 
+// Whether the program that prints an expression prints this word and ends with 0, in 16 steps for each of its two; None at a fault.
+fn prints(alloc: Global, expression: &str, word: u32) -> Option<bool> {
+    let text = format!(in alloc; "int main(void) {{ out({expression}); return 0; }}").ok()?;
+    let ran = run_of(alloc, text.as_str(), 1, 32)?;
+    Some(ran.end == End::Done(0) && ran.output.as_slice() == [word].as_slice())
+}
+
 #[test]
 fn operators_come_as_far(rt: HostRuntime) {
     for &(expression, word) in OPERATORS {
         let comes = prints(rt.alloc(), expression, word);
         assert!(rt; comes == Some(true), "{expression}");
     }
-}
-
-// The same of the program that prints an expression, which has this word.
-fn prints(alloc: Global, expression: &str, word: u32) -> Option<bool> {
-    let text = format!(in alloc; "int main(void) {{ out({expression}); return 0; }}").ok()?;
-    let output = spelled(alloc, [word].as_slice())?;
-    comes_as_far(alloc, text.as_str(), (1, 2), End::Done(0), output.as_str())
 }

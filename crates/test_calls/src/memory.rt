@@ -1,20 +1,19 @@
 // Memory that is really refused: each test is a process of its own, and takes all that it can get. With each block that it
 // gives back the call comes further.
 
+use crate::build_memory::{BLOCKS, are_sevens, check_once, read_words};
 use crate::limits::unit_of;
+use crate::scarce_memory::{AllMemory, Attempt, refusals};
 use crate::units::bytes_of;
 use c_front::read;
 use c_types::check;
 use image::{Image, ImageFault, read_image, write_image};
 use mips_asm::{AsmFault, assemble, list};
 use mips_machine::{Machine, load};
-use crate::scarce_memory::{AllMemory, Attempt, refusals};
 use sched_phase::{Scheduled, schedule_plain};
 use std::alloc::Global;
 
-// So many blocks of 4 KB are given back one by one.
-const BLOCKS: usize = 1000;
-
+// The size of the last of the blocks that are given back.
 const LAST: usize = 4096;
 
 // An image of version 1 with so many words of code, each `addiu $4,$0,7`, and one word of data.
@@ -24,9 +23,13 @@ fn long_image(alloc: Global, count: u32) -> Option<Vec<u8>> {
     bytes_of(alloc, &[&head, &code], &[1, 2, 3, 4])
 }
 
-// A call that may be refused memory, and what it has to give.
+/// A call that may be refused memory, and what it has to give.
 #[derive(Clone, Copy)]
-enum Call<'a> {
+pub enum Call<'a> {
+    // The verdict on a check text.
+    Check,
+    // Words of the command line.
+    ReadWords,
     // A C text that spells a program.
     ReadText(&'a [u8]),
     ReadImage(&'a [u8]),
@@ -62,6 +65,8 @@ fn reading(alloc: Global, text: &[u8]) -> Attempt {
 
 fn attempt(alloc: Global, call: &Call<'_>) -> Attempt {
     match *call {
+        Call::Check => check_once(alloc),
+        Call::ReadWords => read_words(alloc),
         Call::ReadText(text) => reading(alloc, text),
         Call::ReadImage(bytes) => match read_image(alloc, bytes) {
             Ok(_) => Attempt::Done,
@@ -84,9 +89,9 @@ fn attempt(alloc: Global, call: &Call<'_>) -> Attempt {
     }
 }
 
-// Whether the call is refused memory, and is done once it gets it.
-fn tells_refusals(alloc: Global, call: &Call<'_>) -> bool {
-    let refusals = refusals(alloc, BLOCKS, LAST, || attempt(alloc, call));
+/// Whether the call is refused memory, and is done once it gets it, from blocks of which the last has this size.
+pub fn tells_refusals(alloc: Global, call: &Call<'_>, last: usize) -> bool {
+    let refusals = refusals(alloc, BLOCKS, last, || attempt(alloc, call));
     matches!(refusals, Ok(Some(1..))) && attempt(alloc, call) == Attempt::Done
 }
 
@@ -94,14 +99,14 @@ fn tells_refusals(alloc: Global, call: &Call<'_>) -> bool {
 fn reading_a_text_tells_refused_memory_alone(rt: HostRuntime) {
     let text = "int f(int n){return n*2+1;}\n".repeat(rt.alloc(), 200).ok();
     let text = text.expect(&rt, "a text");
-    assert!(rt; tells_refusals(rt.alloc(), &Call::ReadText(text.as_bytes())));
+    assert!(rt; tells_refusals(rt.alloc(), &Call::ReadText(text.as_bytes()), LAST));
 }
 
 #[test]
 fn reading_an_image_tells_refused_memory_alone(rt: HostRuntime) {
     let alloc = rt.alloc();
     let bytes = long_image(alloc, 10_000).expect(&rt, "bytes");
-    assert!(rt; tells_refusals(alloc, &Call::ReadImage(&bytes)));
+    assert!(rt; tells_refusals(alloc, &Call::ReadImage(&bytes), LAST));
 }
 
 #[test]
@@ -109,7 +114,7 @@ fn writing_tells_refused_memory_alone(rt: HostRuntime) {
     let alloc = rt.alloc();
     let bytes = long_image(alloc, 10_000).expect(&rt, "bytes");
     let image = read_image(alloc, &bytes).ok().expect(&rt, "an image");
-    assert!(rt; tells_refusals(alloc, &Call::Write(&image, &bytes)));
+    assert!(rt; tells_refusals(alloc, &Call::Write(&image, &bytes), LAST));
 }
 
 #[test]
@@ -119,7 +124,8 @@ fn listing_tells_refused_memory_alone(rt: HostRuntime) {
     let image = read_image(alloc, &bytes).ok().expect(&rt, "an image");
     let ample = list(alloc, &image).ok().expect(&rt, "a listing");
     // 10,000 lines of code with 33 bytes each and their ends, and one of data
-    assert!(rt; ample.len() == 340_026 && tells_refusals(alloc, &Call::List(&image, &ample)));
+    let is_long = ample.len() == 340_026;
+    assert!(rt; is_long && tells_refusals(alloc, &Call::List(&image, &ample), LAST));
 }
 
 #[test]
@@ -127,7 +133,7 @@ fn assembling_tells_refused_memory_alone(rt: HostRuntime) {
     let alloc = rt.alloc();
     let unit = unit_of(alloc, 0, 32_000).expect(&rt, "a unit");
     let scheduled = schedule_plain(alloc, &unit).ok().expect(&rt, "orders");
-    assert!(rt; tells_refusals(alloc, &Call::Assemble(&scheduled, 32_000)));
+    assert!(rt; tells_refusals(alloc, &Call::Assemble(&scheduled, 32_000), LAST));
 }
 
 // Prints 7 for ever, five words a turn.
@@ -163,15 +169,6 @@ fn step_refusals(machine: &mut Machine<'_>, steps: u32, memory: &mut AllMemory) 
         }
     }
     None
-}
-
-fn are_sevens(output: &[u32]) -> bool {
-    for &word in output {
-        if word != 7 {
-            return false;
-        }
-    }
-    true
 }
 
 // Whether the machine takes 500,000 steps, some of which are refused memory and taken again, and prints 7 in each fifth.

@@ -61,18 +61,24 @@ fn long_blocks(alloc: Global, lengths: Lengths) -> Option<Vec<LongBlock>> {
     Some(blocks)
 }
 
-fn is_piece(piece: &Block, count: usize, exit: &str) -> bool {
+fn is_piece(piece: &Block, (count, exit): (usize, &str)) -> bool {
     piece.insts().len() == count && exit_of(exit.as_bytes()) == Some(piece.exit())
+}
+
+// Whether the pieces have these lengths.
+fn have_lengths(pieces: &[Block], lengths: Lengths) -> bool {
+    for (piece, &length) in pieces.iter().zip(lengths) {
+        if !is_piece(piece, length) {
+            return false;
+        }
+    }
+    pieces.len() == lengths.len()
 }
 
 // Whether the pieces of blocks of the first lengths have the second.
 fn are_pieces(alloc: Global, lengths: Lengths, wants: Lengths) -> Option<bool> {
     let pieces = split(alloc, long_blocks(alloc, lengths)?).ok()?;
-    let mut same = pieces.len() == wants.len();
-    for (piece, &(count, exit)) in pieces.iter().zip(wants) {
-        same = is_piece(piece, count, exit) && same;
-    }
-    Some(same)
+    Some(have_lengths(pieces.as_slice(), wants))
 }
 
 #[test]

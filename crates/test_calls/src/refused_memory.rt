@@ -3,9 +3,9 @@ ghost use Rattle.std.specs.Prelude.{IfSome};
 ghost use Rattle.term_table.specs.Passes.{IsOf};
 
 use crate::orders::text_of;
+use crate::scarce_memory::AllMemory;
 use block_validator::{Verdict, validate};
 use check_text::Text;
-use crate::scarce_memory::AllMemory;
 use std::alloc::Global;
 use term_table::{Pass, TermTable};
 
@@ -25,17 +25,31 @@ pub fn opened(alloc: Global) -> Option<(TermTable, Pass)>
     Some((table, pass))
 }
 
+// Whether the verdict is refused memory where all is taken, and the pass has linked nothing.
+fn is_refused(alloc: Global, table: &TermTable, pass: &mut Pass) -> Option<bool>
+    requires { IsOf table.now pass.old }
+    ensures { IsOf table.now pass.new }
+{
+    let Text { block, order } = text_of(alloc, PAIR)?;
+    let memory = AllMemory::take(alloc, 0, 0).ok()?;
+    let verdict = validate(alloc, table, pass, &block, order);
+    drop(memory);
+    Some(matches!(verdict, Verdict::NoMemory) && pass.linked() == 0)
+}
+
+// Whether the verdict is that the order does what the block does.
+fn is_same(alloc: Global, table: &TermTable, pass: &mut Pass) -> Option<bool>
+    requires { IsOf table.now pass.old }
+{
+    let Text { block, order } = text_of(alloc, PAIR)?;
+    let verdict = validate(alloc, table, pass, &block, order);
+    Some(matches!(verdict, Verdict::Same(_)))
+}
+
 // Whether a verdict is refused memory, and the pass then gives another; None where there is no table or no text.
 fn goes_on(alloc: Global) -> Option<bool> {
     let (table, mut pass) = opened(alloc)?;
-    let Text { block, order } = text_of(alloc, PAIR)?;
-    let given = text_of(alloc, PAIR)?;
-    let memory = AllMemory::take(alloc, 0, 0).ok()?;
-    let first = validate(alloc, &table, &mut pass, &block, order);
-    drop(memory);
-    let is_refused = matches!(first, Verdict::NoMemory) && pass.linked() == 0;
-    let second = validate(alloc, &table, &mut pass, &block, given.order);
-    Some(is_refused && matches!(second, Verdict::Same(_)))
+    Some(is_refused(alloc, &table, &mut pass)? && is_same(alloc, &table, &mut pass)?)
 }
 
 #[test]

@@ -165,16 +165,27 @@ fn array(alloc: Global, width: Width, length: u32) -> Option<RGlobal> {
     })
 }
 
+// Functions of so many blocks.
+fn functions(alloc: Global, counts: [usize; 2]) -> Option<Vec<RFunc>> {
+    let mut all = Vec::new(alloc);
+    for &count in counts.as_slice() {
+        all.push(long(alloc, count)?).ok()?;
+    }
+    Some(all)
+}
+
+// An array of so many words, and one of so many bytes.
+fn globals(alloc: Global, [words, bytes]: [u32; 2]) -> Option<Vec<RGlobal>> {
+    let mut all = Vec::new(alloc);
+    all.push(array(alloc, Width::Word, words)?).ok()?;
+    all.push(array(alloc, Width::Byte, bytes)?).ok()?;
+    Some(all)
+}
+
 // Whether these sizes are a program's; None where memory is refused.
 fn are_sizes(alloc: Global, blocks: [usize; 2], elements: [u32; 2]) -> Option<bool> {
-    let mut functions = Vec::new(alloc);
-    for count in blocks {
-        functions.push(long(alloc, count)?).ok()?;
-    }
-    let mut globals = Vec::new(alloc);
-    for (width, length) in [Width::Word, Width::Byte].into_iter().zip(elements) {
-        globals.push(array(alloc, width, length)?).ok()?;
-    }
+    let functions = functions(alloc, blocks)?;
+    let globals = globals(alloc, elements)?;
     Some(Rtl::new(functions, globals, 0).is_some())
 }
 

@@ -1,8 +1,8 @@
 // Files and streams that fail, also half way.
 
-use driver::{FileFault, mcc};
 use crate::files::OneFile;
-use crate::written::{Written, told_by, told_with_shut_err, told_with_shut_out};
+use crate::written::{told_by, told_with_shut_err, told_with_shut_out};
+use driver::{FileFault, mcc};
 use std::alloc::Global;
 use std::io::{self, Write};
 use std::sync::Wait;
@@ -54,26 +54,23 @@ const FILES: &[FileRow] = &[
     (LIST, Some(FileFault::NoMemory), None, NO_MEMORY),
 ];
 
-// What `mcc` with these words does where reads and writes have these faults, and how often it writes a file.
-fn told_by_failing<T: Threads + Wait + Sync>(
+// Whether `mcc` tells the row's line alone and writes no file, where reads and writes have the row's faults.
+fn tells_fault<T: Threads + Wait + Sync>(
     threads: &T,
     alloc: Global,
-    read_fault: Option<FileFault>,
-    write_fault: Option<FileFault>,
-    words: &[&str],
-) -> (Written, u32) {
+    (words, read_fault, write_fault, line): FileRow,
+) -> bool {
     let mut files = OneFile::of(alloc, THREE);
     files.read_fault = read_fault;
     files.write_fault = write_fault;
     let told = told_by(threads, alloc, &mut files, words);
-    (told, files.writes)
+    told.is(1, "", line) && files.writes == 0
 }
 
 #[test]
 fn files_that_fail_are_told(rt: HostRuntime) {
-    for &(words, read, written, line) in FILES {
-        let (got, writes) = told_by_failing(&rt, rt.alloc(), read, written, words);
-        assert!(rt; got.is(1, "", line) && writes == 0, "{got}, not {line}");
+    for (k, &row) in FILES.iter().enumerate() {
+        assert!(rt; tells_fault(&rt, rt.alloc(), row), "row {k}");
     }
 }
 
@@ -84,16 +81,18 @@ fn image_of<T: Threads + Wait + Sync>(threads: &T, alloc: Global) -> (Vec<u8>, V
     (file.written, built.out)
 }
 
-// What `mcc` with these words does over these bytes where standard output takes nothing, and how often it writes a file.
-fn told_by_shut<T: Threads + Wait + Sync>(
+// Whether `mcc` with these words over these bytes tells that it can't write where standard output takes nothing, and has written a
+// file so many times.
+fn tells_shut_out<T: Threads + Wait + Sync>(
     threads: &T,
     alloc: Global,
     bytes: &[u8],
     words: &[&str],
-) -> (Written, u32) {
+    writes: u32,
+) -> bool {
     let mut files = OneFile::of(alloc, bytes);
     let told = told_with_shut_out(threads, alloc, &mut files, words);
-    (told, files.writes)
+    told.is(1, "", CANNOT_WRITE) && files.writes == writes
 }
 
 // The file of a command.
@@ -128,10 +127,10 @@ const SHUT: &[(&[&str], Read, u32)] = &[
 #[test]
 fn standard_output_that_takes_nothing_is_a_fault(rt: HostRuntime) {
     let (image, _) = image_of(&rt, rt.alloc());
-    for &(words, read, writes) in SHUT {
+    for (k, &(words, read, writes)) in SHUT.iter().enumerate() {
         let bytes = bytes_of(read, image.as_slice());
-        let (got, count) = told_by_shut(&rt, rt.alloc(), bytes, words);
-        assert!(rt; got.is(1, "", CANNOT_WRITE) && count == writes, "{got}");
+        let is_told = tells_shut_out(&rt, rt.alloc(), bytes, words, writes);
+        assert!(rt; is_told, "row {k}");
     }
 }
 
@@ -142,7 +141,7 @@ fn standard_error_that_takes_nothing_keeps_the_status(rt: HostRuntime) {
     for &(args, status) in COMPLAINING {
         let files = &mut OneFile::of(rt.alloc(), &[]);
         let got = told_with_shut_err(&rt, rt.alloc(), files, args);
-        assert!(rt; got.is(status, "", ""), "{got}");
+        assert!(rt; got.is(status, "", ""), "not status {status}");
     }
 }
 
@@ -237,10 +236,7 @@ fn output_that_breaks_off_is_told(rt: HostRuntime) {
         let printing = Printing {
             words,
             bytes: bytes_of(read, image.as_slice()),
-            printed: match printed {
-                Some(printed) => printed,
-                None => line.as_slice(),
-            },
+            printed: printed.unwrap_or(line.as_slice()),
         };
         let untold = first_untold(&rt, rt.alloc(), &printing);
         assert!(rt; is_line && untold.is_none(), "after {untold:?} bytes");

@@ -10,7 +10,6 @@ ghost use Rattle.test_calls.specs.Files.{Answers};
 use crate::files::{OneFile, Shut};
 use driver::mcc;
 use std::alloc::{AllocError, Global};
-use std::fmt;
 use std::sync::Wait;
 use std::thread::Threads;
 
@@ -28,17 +27,6 @@ impl Written {
         self.status == status
             && self.out.as_slice() == out.as_bytes()
             && self.err.as_slice() == err.as_bytes()
-    }
-}
-
-fn text_of(bytes: &[u8]) -> &str {
-    str::from_utf8(bytes).unwrap_or("no text")
-}
-
-impl fmt::Display for Written {
-    fn fmt<W: fmt::Write>(&self, f: &mut fmt::Formatter<W>) -> fmt::Result {
-        let (out, err) = (text_of(&self.out), text_of(&self.err));
-        write!(f, "status {}, out {out:?}, err {err:?}", self.status)
     }
 }
 
@@ -125,6 +113,13 @@ impl<'a> Desk<'a> {
             &mut self.out,
             &mut self.err,
         )
+    }
+
+    /// Whether this was printed, this was written to the file, and nothing was told.
+    pub fn is_done(&self, printed: &str, written: &[u8]) -> bool {
+        self.err.is_empty()
+            && self.out.as_slice() == printed.as_bytes()
+            && self.files.written.as_slice() == written
     }
 
     /// Whether standard error has just this line, and nothing was printed or written.

@@ -52,15 +52,29 @@ fn has_room(rt: &impl Abort, alloc: Global, table: &TermTable, pass: &mut Pass, 
     run_block(table, pass, &block, room).is_ok()
 }
 
+// Whether the verdict on the block's order is that the pass is full.
+fn is_told_full(
+    rt: &impl Abort,
+    alloc: Global,
+    table: &TermTable,
+    pass: &mut Pass,
+    count: i16,
+) -> bool
+    requires { IsOf table.now pass.old }
+{
+    let block = block_of(rt, alloc, count);
+    let order = order_of(rt, alloc, count);
+    let verdict = validate(alloc, table, pass, &block, order);
+    matches!(verdict, Verdict::Full)
+}
+
 #[test]
 fn a_block_of_too_many_terms_is_full(rt: HostRuntime) {
     let (table, mut pass) = alone(&rt, rt.alloc(), 40, 1);
     let is_run = has_room(&rt, rt.alloc(), &table, &mut pass, 5);
-    assert!(rt; !is_run && pass.linked() == 40);
-    let block = block_of(&rt, rt.alloc(), 5);
-    let order = order_of(&rt, rt.alloc(), 5);
-    let verdict = validate(rt.alloc(), &table, &mut pass, &block, order);
-    assert!(rt; matches!(verdict, Verdict::Full), "another verdict");
+    let linked = pass.linked();
+    let is_told = is_told_full(&rt, rt.alloc(), &table, &mut pass, 5);
+    assert!(rt; !is_run && linked == 40 && is_told);
 }
 
 #[test]

@@ -32,21 +32,20 @@ fn one_pass_interns_and_finds(rt: HostRuntime) {
     );
 }
 
-// The second pass of a table finds the term of the first under its ticket.
-fn meet_and_find(rt: &impl Abort, alloc: Global, heads: u64) {
-    let one = init(rt, 1);
+// Whether the second pass of a table finds the term of the first under its ticket.
+fn meet_and_find(rt: &impl Abort, alloc: Global, heads: u64) -> bool {
     let (table, mut first, mut second) = pair(rt, alloc, 4, heads);
-    let made = interned(rt, &table, &mut first, one);
+    let made = interned(rt, &table, &mut first, init(rt, 1));
     table.meet(&mut first, &mut second);
-    let found = table.find(&mut second, one, &[]);
-    assert!(rt; found.ticket == Some(made.ticket) && second.linked() == 0);
+    let found = table.find(&mut second, init(rt, 1), &[]);
+    found.ticket == Some(made.ticket) && second.linked() == 0
 }
 
 #[test]
 fn passes_that_met_find_each_others_terms(rt: HostRuntime) {
-    for heads in [1, 16] {
-        meet_and_find(&rt, rt.alloc(), heads);
-    }
+    let in_one_chain = meet_and_find(&rt, rt.alloc(), 1);
+    let in_many = meet_and_find(&rt, rt.alloc(), 16);
+    assert!(rt; in_one_chain && in_many);
 }
 
 #[test]
@@ -115,8 +114,8 @@ fn a_term_of_another_pass_is_read(rt: HostRuntime) {
     read_of_another(&rt, &table, &mut first, &mut second);
 }
 
-// Two threads intern the constants below 1,000, one of them downward.
-fn two_share(rt: &(impl Abort + Threads), alloc: Global, heads: u64) {
+// Whether two threads intern the constants below 1,000, one of them downward, and each is linked once.
+fn two_share(rt: &(impl Abort + Threads), alloc: Global, heads: u64) -> bool {
     let (table, first, second) = pair(rt, alloc, 1000, heads);
     let shared = &table;
     let ((mut first, up), (mut second, down)) = thread::join(
@@ -127,13 +126,14 @@ fn two_share(rt: &(impl Abort + Threads), alloc: Global, heads: u64) {
     table.meet(&mut first, &mut second);
     let are_found = find_constants(&table, &mut first, &mut second, 1000);
     let linked = first.linked().saturating_add(second.linked());
-    assert!(rt; up && down && are_found && linked == 1000);
+    up && down && are_found && linked == 1000
 }
 
 #[test]
 fn two_threads_intern_the_same_constants(rt: HostRuntime) {
-    two_share(&rt, rt.alloc(), 1);
-    two_share(&rt, rt.alloc(), 64);
+    let in_one_chain = two_share(&rt, rt.alloc(), 1);
+    let in_many = two_share(&rt, rt.alloc(), 64);
+    assert!(rt; in_one_chain && in_many);
 }
 
 // Two threads intern 500 constants each, from `from` and from 250 further on, the second downward.
@@ -207,18 +207,20 @@ fn last_two(rt: &impl Abort, table: &TermTable, passes: &mut Vec<Pass>) -> (Pass
     (first, second)
 }
 
-fn four_share(rt: &(impl Abort + Threads + Sync), alloc: Global, heads: u64) {
+// Whether four threads intern constants that overlap, in a table of so many chains, and each is linked once.
+fn four_share(rt: &(impl Abort + Threads + Sync), alloc: Global, heads: u64) -> bool {
     let (table, mut passes) = TermTable::open(alloc, 4, 500, heads).expect(rt, "a table");
     let front = last_two(rt, &table, &mut passes);
     let back = last_two(rt, &table, &mut passes);
     let ((mut a, mut b), (mut c, mut d)) = four_intern(rt, &table, front, back);
-    assert!(rt; four_find(&table, &mut a, &mut b, &mut c, &mut d));
+    four_find(&table, &mut a, &mut b, &mut c, &mut d)
 }
 
 #[test]
 fn four_threads_intern_overlapping_constants(rt: HostRuntime) {
-    four_share(&rt, rt.alloc(), 1);
-    four_share(&rt, rt.alloc(), 64);
+    let in_one_chain = four_share(&rt, rt.alloc(), 1);
+    let in_many = four_share(&rt, rt.alloc(), 64);
+    assert!(rt; in_one_chain && in_many);
 }
 
 // How many links are loaded to intern the constants below 4096.
@@ -231,8 +233,8 @@ fn constants_in(rt: &impl Abort, alloc: Global, heads: u64, shift: u32) -> u64
 
 #[test]
 fn chains_of_constants_are_short(rt: HostRuntime) {
-    assert_eq!(rt; constants_in(&rt, rt.alloc(), 1, 0), 8390656);
-    for shift in [0, 8, 16] {
+    assert!(rt; constants_in(&rt, rt.alloc(), 1, 0) == 8390656);
+    for &shift in [0, 8, 16].as_slice() {
         assert!(rt;
             constants_in(&rt, rt.alloc(), 1024, shift) <= 16384,
             "{shift}"
@@ -252,12 +254,15 @@ fn chains_of_sums_are_short(rt: HostRuntime) {
     assert!(rt; sums_in(&rt, rt.alloc()) <= 163840);
 }
 
+// How many passes a table is opened with; None where it isn't.
+fn opened_passes(alloc: Global, workers: u64) -> Option<usize> {
+    let (_, passes) = TermTable::open(alloc, workers, 4, 65536).ok()?;
+    Some(passes.len())
+}
+
 #[test]
 fn sixty_four_passes_are_opened(rt: HostRuntime) {
-    let Ok((_, passes)) = TermTable::open(rt.alloc(), 64, 4, 65536) else {
-        panic!(rt; "not opened")
-    };
-    assert_eq!(rt; passes.len(), 64);
+    assert!(rt; opened_passes(rt.alloc(), 64) == Some(64));
 }
 
 const LABELS: [(Label, u64); 10] = [

@@ -1,6 +1,7 @@
 use Rattle.std.proofs.Common.{◌≡◌, [], ◌∷◌, length, sym, ap, ap₂, subst, ◌∙◌, arith}
 use Rattle.std.specs.Prelude.{IfSome}
 use Rattle.std.proofs.lemmas.List.{get_or_default}
+use Rattle.term_table.proofs.Callers.{extends_more}
 use Rattle.term_table.proofs.TermCallers.{still_term, term_seen, terms_of}
 use Rattle.example_terms.specs.Labels.{op_coding}
 use Rattle.example_terms.specs.Meaning.{Environment, Value, just, made, values_of}
@@ -29,3 +30,12 @@ returns-clause-word c = λ xs have.
     let words : (e : Environment) → just e c.in_ok-first.field-0 ∷ just e c.in_ok-second.field-0 ∷ [] ≡ values_of xs e
     = λ e. sym (ap (λ l. values_of l e) both.2 ∙ ap₂ (λ v w. v ∷ w ∷ []) (x e) (y e)) in
     subst (λ (f : Environment → Value). IfSome c.word.result (λ n. (e : Environment) → f e ≡ just e n)) (λ i. λ e. made c.args.op e (words e i)) c.word.ensures
+
+pub returns-clause-extends : goal.returns-clause-extends
+returns-clause-extends c = extends_more c.known-first.ensures.extends c.known-second.ensures.extends
+
+pub returns-in_err-first-clause-extends : goal.returns-in_err-first-clause-extends
+returns-in_err-first-clause-extends c = extends_more c.known-first.ensures.extends c.known-second.ensures.extends
+
+pub returns-in_err-second-clause-extends : goal.returns-in_err-second-clause-extends
+returns-in_err-second-clause-extends c = extends_more c.known-first.ensures.extends c.known-second.ensures.extends

@@ -1,5 +1,5 @@
-use Rattle.std.proofs.Common.{refl, sym, subst, ◌∙◌}
-use Rattle.std.proofs.lemmas.List.{take_all}
+use Rattle.std.proofs.Common.{◌≡◌, [], ◌∷◌, ◌++◌, ◌+◌, take, refl, sym, ap, subst, ◌∙◌}
+use Rattle.std.proofs.lemmas.List.{take_all, take_more}
 use Rattle.term_labels.specs.Trees.{none}
 use Rattle.example_terms.specs.Standing.{HaveTrees, StandsFor}
 use Rattle.example_terms.proofs.Standing.{value_there}
@@ -10,6 +10,19 @@ loop-i-init c = (
   c.requires,
   record { terms = none; have = subst (λ ts. HaveTrees c.args.pass ts none) (sym c.new-values.ensures.items) tt; values = λ e. refl },
 )
+
+pub loop-i-preserved : goal.loop-i-preserved
+loop-i-preserved c =
+    let q = c.step.new.pass in
+    let code = c.as_slice-code.result.now in
+    let i = c.loop-i.i in
+    let done = c.index-code-i.result in
+    let value = c.in_ok-value.value in
+    let next : take i code ++ done ∷ [] ≡ take (i + 1) code
+    = ap (λ x. take i code ++ x ∷ []) c.index-code-i.is ∙ sym (take_more code i done c.loop-i-test.true) in
+    let there = subst (λ ts. StandsFor q (ts ++ value ∷ []) (take i code ++ done ∷ [])) c.as_slice.ensures.value c.in_ok-value.ensures.stands in
+    let more = subst (StandsFor q (c.loop-i.values.items ++ value ∷ [])) next there in
+    (c.step.ensures.own, subst (λ ts. StandsFor q ts (take (i + 1) code)) (sym c.in-Ok.ensures.items) more)
 
 pub returns : goal.returns
 returns c =
