@@ -1,11 +1,14 @@
-// Answers the words of mcc's command line by the module of a page: node serve.mjs PAGE FILE. It writes to FILE the number of the
-// port at which it listens. Beside it `mcc` stands for the program, and hands its words on; so tests/run runs its cases on the module.
+// Answers the words of mcc's command line by the module of a page: node serve.mjs PAGE FILE. It writes to FILE the port at which it
+// listens, and a key, without which it answers nobody. Beside it `mcc` stands for the program, and hands its words on; so tests/run
+// runs its cases on the module.
+import crypto from 'node:crypto';
 import fs from 'node:fs';
 import net from 'node:net';
 import path from 'node:path';
 import { mccOf } from './module.mjs';
 
 const [, , page, file] = process.argv;
+const key = crypto.randomUUID();
 const mcc = mccOf(page);
 const STEPS = 100_000_000;
 
@@ -56,8 +59,9 @@ const server = net.createServer(stream => {
   let asked = '';
   stream.setEncoding('utf8').on('data', text => {
     asked += text;
-    if (!asked.endsWith('\n')) return;
-    const [folder, ...words] = asked.slice(0, -2).split('\0');
+    if (!asked.endsWith('\0\n')) return;
+    const [said, folder, ...words] = asked.slice(0, -2).split('\0');
+    if (said !== key) return stream.destroy();
     try {
       send(stream, told(answer(words, folder), words, folder));
     } catch (error) {
@@ -65,4 +69,4 @@ const server = net.createServer(stream => {
     }
   });
 });
-server.listen(0, '127.0.0.1', () => fs.writeFileSync(file, `${server.address().port}\n`));
+server.listen(0, '127.0.0.1', () => fs.writeFileSync(file, `${server.address().port} ${key}\n`));
