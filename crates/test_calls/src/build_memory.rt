@@ -1,15 +1,9 @@
-//! Memory that is really refused to `check`, to the words of the command line, to builds by workers and to a machine's steps:
-//! each test is a process of its own, and takes all that it can get. With each block that it gives back the call comes further.
+//! Memory that is really refused to builds by workers and to a machine's steps: each test is a process of its own, and takes
+//! all that it can get. With each block that it gives back the call comes further.
 use crate::builds::LOOP;
-use crate::memory::{Call, tells_refusals};
-use crate::scarce_memory::{AllMemory, Attempt};
-use clap::error::ErrorKind;
-use command_line::words;
+use crate::scarce_memory::{AllMemory, BLOCKS};
 use delay_filler::FilledOrder;
-use driver::{
-    BuildFault, BuildOpts, Built, CheckAnswer, CheckFault, SourceFault, build, build_one,
-    build_plain, check, run_image,
-};
+use driver::{BuildFault, BuildOpts, Built, SourceFault, build, build_one, build_plain, run_image};
 use image::read_image;
 use list_scheduler::ListOrder;
 use mips_machine::{Machine, load};
@@ -20,46 +14,12 @@ use std::sync::Wait;
 use std::thread::Threads;
 use steal_pool::Open;
 
-const MOVED: &str = "block\nlw $8,0($29)\naddu $9,$8,$8\naddiu $10,$10,1\nreturn\n\
-                     order\nlw $8,0($29)\naddiu $10,$10,1\naddu $9,$8,$8\nreturn\nslot nop\n";
-
-/// How many blocks are given back: of 4 KB, and last one of 64 MB.
-pub const BLOCKS: usize = 1000;
-
-const LAST: usize = 0x400_0000;
+/// The size of the block that is given back last: 64 MB.
+pub const LARGE: usize = 0x400_0000;
 
 /// All memory that can be had, with these blocks to give back.
 pub fn all_memory(alloc: Global) -> Option<AllMemory> {
-    AllMemory::take(alloc, BLOCKS, LAST).ok()
-}
-
-/// How a check of MOVED ends.
-pub fn check_once(alloc: Global) -> Attempt {
-    match check(alloc, MOVED.as_bytes()) {
-        Ok(CheckAnswer::Same) => Attempt::Done,
-        Err(CheckFault::NoMemory) => Attempt::Refused,
-        _ => Attempt::Wrong,
-    }
-}
-
-#[test]
-fn checks_tell_refused_memory_alone(rt: HostRuntime) {
-    assert!(rt; tells_refusals(rt.alloc(), &Call::Check, LAST));
-}
-
-/// How the reading of the words of a check ends.
-pub fn read_words(alloc: Global) -> Attempt {
-    let args = ["mcc", "check", "x"];
-    match words(alloc, args.as_slice()) {
-        Ok(_command) => Attempt::Done,
-        Err(error) if error.kind() == ErrorKind::OutOfMemory => Attempt::Refused,
-        Err(_) => Attempt::Wrong,
-    }
-}
-
-#[test]
-fn words_tell_refused_memory_alone(rt: HostRuntime) {
-    assert!(rt; tells_refusals(rt.alloc(), &Call::ReadWords, LAST));
+    AllMemory::take(alloc, BLOCKS, LARGE).ok()
 }
 
 // Whether each block has a verdict or was missed, and none met a full table.

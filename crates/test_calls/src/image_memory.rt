@@ -1,8 +1,9 @@
 // Memory that is really refused to builds, runs and listings: each test is a process of its own, and takes all that it can
 // get. With each block that it gives back the program comes further.
 
-use crate::build_memory::{BLOCKS, all_memory, is_refusal, prints_three, scarce_builds_run};
+use crate::build_memory::{all_memory, is_refusal, prints_three, scarce_builds_run};
 use crate::builds::LOOP;
+use crate::scarce_memory::BLOCKS;
 use crate::written::Desk;
 use driver::build_plain;
 use std::alloc::Global;

@@ -1,8 +1,9 @@
 // Memory that is really refused to `mcc interp`: each test is a process of its own, and takes all that
 // it can get. With each block that it gives back the program comes further.
 
-use crate::build_memory::{BLOCKS, all_memory};
+use crate::build_memory::all_memory;
 use crate::image_memory::told_before;
+use crate::scarce_memory::BLOCKS;
 use driver::{InterpFault, SourceFault, interp};
 use runs::End;
 use std::alloc::{AllocError, Global};

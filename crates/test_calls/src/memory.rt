@@ -1,12 +1,15 @@
 // Memory that is really refused: each test is a process of its own, and takes all that it can get. With each block that it
 // gives back the call comes further.
 
-use crate::build_memory::{BLOCKS, are_sevens, check_once, read_words};
+use crate::build_memory::{LARGE, are_sevens};
 use crate::limits::unit_of;
-use crate::scarce_memory::{AllMemory, Attempt, refusals};
+use crate::scarce_memory::{AllMemory, Attempt, BLOCKS, refusals};
 use crate::units::bytes_of;
 use c_front::read;
 use c_types::check;
+use clap::error::ErrorKind;
+use command_line::words;
+use driver::{CheckAnswer, CheckFault};
 use image::{Image, ImageFault, read_image, write_image};
 use mips_asm::{AsmFault, assemble, list};
 use mips_machine::{Machine, load};
@@ -16,6 +19,9 @@ use std::alloc::Global;
 // The size of the last of the blocks that are given back.
 const LAST: usize = 4096;
 
+const MOVED: &str = "block\nlw $8,0($29)\naddu $9,$8,$8\naddiu $10,$10,1\nreturn\n\
+                     order\nlw $8,0($29)\naddiu $10,$10,1\naddu $9,$8,$8\nreturn\nslot nop\n";
+
 // An image of version 1 with so many words of code, each `addiu $4,$0,7`, and one word of data.
 fn long_image(alloc: Global, count: u32) -> Option<Vec<u8>> {
     let head = [0x4d43_4349, 1, count, 0x0040_0000, 1];
@@ -23,10 +29,10 @@ fn long_image(alloc: Global, count: u32) -> Option<Vec<u8>> {
     bytes_of(alloc, &[&head, &code], &[1, 2, 3, 4])
 }
 
-/// A call that may be refused memory, and what it has to give.
+// A call that may be refused memory, and what it has to give.
 #[derive(Clone, Copy)]
-pub enum Call<'a> {
-    // The verdict on a check text.
+enum Call<'a> {
+    // The verdict on MOVED.
     Check,
     // Words of the command line.
     ReadWords,
@@ -63,6 +69,23 @@ fn reading(alloc: Global, text: &[u8]) -> Attempt {
     }
 }
 
+fn check_once(alloc: Global) -> Attempt {
+    match driver::check(alloc, MOVED.as_bytes()) {
+        Ok(CheckAnswer::Same) => Attempt::Done,
+        Err(CheckFault::NoMemory) => Attempt::Refused,
+        _ => Attempt::Wrong,
+    }
+}
+
+fn read_words(alloc: Global) -> Attempt {
+    let args = ["mcc", "check", "x"];
+    match words(alloc, args.as_slice()) {
+        Ok(_command) => Attempt::Done,
+        Err(error) if error.kind() == ErrorKind::OutOfMemory => Attempt::Refused,
+        Err(_) => Attempt::Wrong,
+    }
+}
+
 fn attempt(alloc: Global, call: &Call<'_>) -> Attempt {
     match *call {
         Call::Check => check_once(alloc),
@@ -89,10 +112,20 @@ fn attempt(alloc: Global, call: &Call<'_>) -> Attempt {
     }
 }
 
-/// Whether the call is refused memory, and is done once it gets it, from blocks of which the last has this size.
-pub fn tells_refusals(alloc: Global, call: &Call<'_>, last: usize) -> bool {
+// Whether the call is refused memory, and is done once it gets it, from blocks of which the last has this size.
+fn tells_refusals(alloc: Global, call: &Call<'_>, last: usize) -> bool {
     let refusals = refusals(alloc, BLOCKS, last, || attempt(alloc, call));
     matches!(refusals, Ok(Some(1..))) && attempt(alloc, call) == Attempt::Done
+}
+
+#[test]
+fn checks_tell_refused_memory_alone(rt: HostRuntime) {
+    assert!(rt; tells_refusals(rt.alloc(), &Call::Check, LARGE));
+}
+
+#[test]
+fn words_tell_refused_memory_alone(rt: HostRuntime) {
+    assert!(rt; tells_refusals(rt.alloc(), &Call::ReadWords, LARGE));
 }
 
 #[test]

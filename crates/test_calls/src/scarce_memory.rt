@@ -8,6 +8,9 @@ ghost use Rattle.std.specs.Prelude.{◌≡◌, ◌-◌, ◌≤◌, IfOk, IfSome,
 
 use std::alloc::{AllocError, Global};
 
+/// How many blocks the tests have given back.
+pub const BLOCKS: usize = 1000;
+
 /// All memory that could be had, and to which nothing is written: blocks to give back one by one, and the rest.
 #[derive(Drop)]
 pub struct AllMemory {
