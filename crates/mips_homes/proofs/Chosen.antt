@@ -7,7 +7,7 @@ use Rattle.std.specs.Prelude.{if◌then◌else◌, slice_get}
 use Rattle.std.proofs.lemmas.Bool.{cases_lt, ltb-false}
 use Rattle.std.proofs.lemmas.Option.{slice_get_within, same_Some}
 use Rattle.rtl.specs.Names.{bound, blocks_names, how_many, uses_of}
-use Rattle.mips_homes.specs.HomedRun.{is_in, is_lasting}
+use Rattle.mips_homes.specs.HomedRun.{is_in, is_lasting, homed_run}
 use Rattle.mips_homes.specs.Homes.{HasHome, HaveHomes, Serves, AreAllHomes}
 use Rattle.mips_homes.specs.Laws.{KeepsRtlRuns}
 use Rattle.mips_homes.specs.Choice.{count_below, rank, is_register_home, IsChoice, AreChoices}
@@ -232,5 +232,5 @@ all_serve h is = record {
       (there.0, there.1, serves func there.0 (is.by i func there.0 got there.1)));
 }
 
-pub choice_keeps_runs : (h : Homed) → AreChoices h → KeepsRtlRuns h
+pub choice_keeps_runs : (h : Homed) → AreChoices h → KeepsRtlRuns homed_run h
 choice_keeps_runs h is = each_homed_run h (all_serve h is)

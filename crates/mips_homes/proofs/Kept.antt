@@ -1,6 +1,6 @@
--- Over homes in registers 16 to 23 and in slots, the end of a block forgets nothing.
+-- Over homes in registers 16 to 23 and in slots, the end of a block forgets nothing: the run that forgets is the one that doesn't.
 use Rattle.std.proofs.Common.{◌≡◌, ℕ, zero, suc, Bool, true, false, ◌&&◌, List, [], ◌∷◌, ◌++◌, Option, Some, None, refl}
-use Rattle.std.proofs.Common.{◌∙◌, ap, length, nat_eq, nat_lt, eqb-true}
+use Rattle.std.proofs.Common.{sym, ◌∙◌, ap, length, nat_eq, nat_lt, eqb-true}
 use mathlib.Core.Path.{fun_ext}
 use Rattle.std.specs.Prelude.{slice_get, if◌then◌else◌, ◌==◌, map}
 use Rattle.runs.specs.Stores.{Places, unset_places, places_with, Arrays, element_at, arrays_with}
@@ -11,11 +11,13 @@ use Rattle.rtl.specs.Meaning.{code_of, kept_in, first_values}
 use Rattle.mips_homes.specs.HomedRun.{is_lasting, lasting, Activation, new_activation, Run, Running, Ended, Failed, with_value, read_home, read_homes}
 use Rattle.mips_homes.specs.HomedRun.{write_at, write_home, write_homes, is_in, registers_at_entry, registers_at_return, with_inst, at_code}
 use Rattle.mips_homes.specs.HomedRun.{state_at_block, with_result, state_after_return, state_after_call, state_after_exit, step_at}
-use Rattle.mips_homes.specs.HomedRun.{homed_step, homed_steps, homed_start}
+use Rattle.mips_homes.specs.HomedRun.{exit_keeping, code_keeping, step_keeping, steps_keeping, remembering_run, homed_step, homed_steps, homed_start}
+use Rattle.mips_homes.specs.HomedRun.{homed_run, outcome}
 use Rattle.mips_homes.specs.Forgetting.{ForgetsNothing, EachChoiceNeverForgets}
 use Rattle.mips_homes.specs.Choice.{AreChoices}
+use Rattle.mips_homes.specs.Laws.{KeepsRtlRuns}
 use Rattle.mips_homes.proofs.Lockstep.{lasting_twice}
-use Rattle.mips_homes.proofs.Chosen.{home_lasts}
+use Rattle.mips_homes.proofs.Chosen.{home_lasts, choice_keeps_runs}
 use Rattle.mips_homes.proofs.Located.{Lasting}
 use Rattle.mips_homes.specs.declared.homed.Home.{Home}
 use Rattle.mips_homes.specs.declared.homed.Home.TheVariants.{Reg, Slot}
@@ -213,3 +215,46 @@ forgets_nothing (Failed out) k = tt
 
 pub never_forgets : EachChoiceNeverForgets
 never_forgets h is depth n = forgets_nothing (homed_steps h depth n (homed_start h)) (steps_keep h is depth n (homed_start h) (start_keeps h is))
+
+-- ---- the run that forgets nothing
+
+-- of what an exit keeps only the registers count that it leaves here
+same_exit : (keep keep' : Places → Places) (h : Homed) (depth : ℕ) (x : RExit) (a : Activation) (r : Places) (ws : List Activation) (g : Arrays)
+    (out : List ℕ) → keep r ≡ keep' r → exit_keeping keep h depth x a r ws g out ≡ exit_keeping keep' h depth x a r ws g out
+same_exit keep keep' h depth (Goto b) a r ws g out e = ap (λ (p : Places). state_at_block b a p a.slots ws g out) e
+same_exit keep keep' h depth (Branch c t f) a r ws g out e = ap
+    (λ (p : Places).
+    with_value (read_home a.frame.homes.items r a.slots c) out (λ v. state_at_block (if v == 0 then f else t) a p a.slots ws g out)) e
+same_exit keep keep' h depth (Call f xs dest next) a r ws g out e = ap
+    (λ (p : Places).
+    with_value (read_homes a.frame.homes.items r a.slots xs.items) out (λ vs. with_value (slice_get a.blocks next) out (λ block.
+    state_after_call h depth f vs dest p (at_code a a.slots (code_of block) ∷ ws) g out))) e
+same_exit keep keep' h depth (Return None) a r ws g out e = ap (λ (p : Places). state_after_return None a p ws g out) e
+same_exit keep keep' h depth (Return (Some x)) a r ws g out e =
+    ap (λ (p : Places). with_value (read_home a.frame.homes.items r a.slots x) out (λ v. state_after_return (Some v) a p ws g out)) e
+same_exit keep keep' h depth (Out x next) a r ws g out e = ap
+    (λ (p : Places).
+    with_value (read_home a.frame.homes.items r a.slots x) out (λ v. state_at_block next a p a.slots ws g (out ++ v ∷ []))) e
+
+same_step : (h : Homed) (depth : ℕ) (run : Run) → RunKeeps run → step_keeping (λ r. r) h depth run ≡ homed_step h depth run
+same_step h depth (Running r [] g out) k = refl
+same_step h depth (Running r (a ∷ ws) g out) k = code a.code.insts
+  where
+    code : (insts : List RInst)
+        → code_keeping (λ r. r) h depth insts a.code.exit a r ws g out ≡ code_keeping lasting h depth insts a.code.exit a r ws g out
+    code [] = same_exit (λ r. r) lasting h depth a.code.exit a r ws g out (sym k.0)
+    code (i ∷ insts) = refl
+same_step h depth (Ended v out) k = refl
+same_step h depth (Failed out) k = refl
+
+same_steps : (h : Homed) → AreChoices h → (depth n : ℕ) (run : Run) → RunKeeps run → steps_keeping (λ r. r) h depth n run ≡ homed_steps h depth n run
+same_steps h is depth zero run k = refl
+same_steps h is depth (suc n) run k =
+    ap (steps_keeping (λ r. r) h depth n) (same_step h depth run k)
+    ∙ same_steps h is depth n (homed_step h depth run) (step_keeps h is depth run k)
+
+remembers_as_forgets : (h : Homed) → AreChoices h → (depth n : ℕ) → remembering_run h depth n ≡ homed_run h depth n
+remembers_as_forgets h is depth n = ap outcome (same_steps h is depth n (homed_start h) (start_keeps h is))
+
+pub choice_remembers_runs : (h : Homed) → AreChoices h → KeepsRtlRuns remembering_run h
+choice_remembers_runs h is depth n = remembers_as_forgets h is depth n ∙ choice_keeps_runs h is depth n

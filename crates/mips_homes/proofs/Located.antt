@@ -6,7 +6,7 @@ use Rattle.std.proofs.lemmas.Bool.{and_parts, ltb-false}
 use Rattle.std.proofs.lemmas.List.{append_assoc}
 use Rattle.std.proofs.lemmas.Option.{slice_get_within, same_Some, none-some}
 use Rattle.rtl.specs.Names.{blocks_names, how_many, optional}
-use Rattle.mips_homes.specs.HomedRun.{is_in, is_lasting}
+use Rattle.mips_homes.specs.HomedRun.{is_in, is_lasting, homed_run}
 use Rattle.mips_homes.specs.Homes.{Serves}
 use Rattle.mips_homes.specs.Laws.{KeepsRtlRuns}
 use Rattle.mips_homes.specs.Choice.{IsChoice}
@@ -463,7 +463,7 @@ module _ (func : RFunc) (c f : Frame) (ok : IsChoice func c) (p : IsPlaced func.
           by (inl home) = absurd (true≢false (sym (choice_lasts x r home) ∙ passes))
           by (inr q) = local_to func.blocks.items x q.local b block there goes
 
-pub places_keep_runs : (h : Homed) → ArePlaced h → KeepsRtlRuns h
+pub places_keep_runs : (h : Homed) → ArePlaced h → KeepsRtlRuns homed_run h
 places_keep_runs h is = each_homed_run h (record {
   by = λ i func got.
       (let inside = slice_get_within (h.rtl.now).functions i func got in

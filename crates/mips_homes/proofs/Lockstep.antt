@@ -16,7 +16,7 @@ use Rattle.mips_homes.specs.Locals.{inst_reads, inst_writes, exit_reads, reads_f
 use Rattle.mips_homes.specs.HomedRun.{is_lasting, lasting, Activation, Run, Running, Ended, Failed, with_value, in_home, read_home, read_homes, write_at}
 use Rattle.mips_homes.specs.HomedRun.{write_home, write_homes, is_in, registers_at_entry, registers_at_return, with_inst, at_code}
 use Rattle.mips_homes.specs.HomedRun.{state_at_block, with_result, state_after_return, state_after_call, state_after_exit, step_at}
-use Rattle.mips_homes.specs.HomedRun.{homed_step, homed_steps, homed_start, outcome}
+use Rattle.mips_homes.specs.HomedRun.{homed_step, homed_steps, homed_start, homed_run, outcome}
 use Rattle.mips_homes.specs.Homes.{HasHome, HaveHomes, AreHomes, Serves, AreAllHomes}
 use Rattle.mips_homes.specs.Laws.{KeepsRtlRuns}
 use Rattle.mips_homes.specs.declared.homed.Home.{Home}
@@ -630,5 +630,5 @@ starts_alike h all =
         at None = refl
         at (Some h) = empty h
 
-pub each_homed_run : (h : Homed) → AreAllHomes h → KeepsRtlRuns h
+pub each_homed_run : (h : Homed) → AreAllHomes h → KeepsRtlRuns homed_run h
 each_homed_run h all depth n = runs_alike h all depth n (homed_start h) (rtl_start (h.rtl.now)) (starts_alike h all)

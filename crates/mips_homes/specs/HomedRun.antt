@@ -136,36 +136,36 @@ state_after_call h depth f vs dest r ws g out =
     state_at_block 0 (new_activation func.blocks.items frame s' r dest) r' s' ws g out)
     else Failed out))
 
--- how a block is left: what it reads it reads first, and then registers other than 16 to 23 are unset
-abbrev pub state_after_exit : Homed → (depth : ℕ) → RExit → Activation → Places → List Activation → Arrays → List ℕ → Run
-state_after_exit h depth (Goto b) a r ws g out = state_at_block b a (lasting r) a.slots ws g out
-state_after_exit h depth (Branch c t e) a r ws g out =
+-- how a block is left: what it reads it reads first, and then the registers hold what an exit keeps of them
+abbrev pub exit_keeping : (keep : Places → Places) → Homed → (depth : ℕ) → RExit → Activation → Places → List Activation → Arrays → List ℕ → Run
+exit_keeping keep h depth (Goto b) a r ws g out = state_at_block b a (keep r) a.slots ws g out
+exit_keeping keep h depth (Branch c t e) a r ws g out =
     with_value (read_home a.frame.homes.items r a.slots c) out
-    (λ v. state_at_block (if v == 0 then e else t) a (lasting r) a.slots ws g out)
-state_after_exit h depth (Call f xs dest next) a r ws g out =
+    (λ v. state_at_block (if v == 0 then e else t) a (keep r) a.slots ws g out)
+exit_keeping keep h depth (Call f xs dest next) a r ws g out =
     with_value (read_homes a.frame.homes.items r a.slots xs.items) out (λ vs. with_value (slice_get a.blocks next) out (λ block.
-    state_after_call h depth f vs dest (lasting r) (at_code a a.slots (code_of block) ∷ ws) g out))
-state_after_exit h depth (Return None) a r ws g out = state_after_return None a (lasting r) ws g out
-state_after_exit h depth (Return (Some x)) a r ws g out =
-    with_value (read_home a.frame.homes.items r a.slots x) out (λ v. state_after_return (Some v) a (lasting r) ws g out)
-state_after_exit h depth (Out x next) a r ws g out =
-    with_value (read_home a.frame.homes.items r a.slots x) out (λ v. state_at_block next a (lasting r) a.slots ws g (out ++ v ∷ []))
+    state_after_call h depth f vs dest (keep r) (at_code a a.slots (code_of block) ∷ ws) g out))
+exit_keeping keep h depth (Return None) a r ws g out = state_after_return None a (keep r) ws g out
+exit_keeping keep h depth (Return (Some x)) a r ws g out =
+    with_value (read_home a.frame.homes.items r a.slots x) out (λ v. state_after_return (Some v) a (keep r) ws g out)
+exit_keeping keep h depth (Out x next) a r ws g out =
+    with_value (read_home a.frame.homes.items r a.slots x) out (λ v. state_at_block next a (keep r) a.slots ws g (out ++ v ∷ []))
 
 -- one instruction, or the exit where none is left
-abbrev pub step_at : Homed → (depth : ℕ) → List RInst → RExit → Activation → Places → List Activation → Arrays → List ℕ → Run
-step_at h depth [] exit a r ws g out = state_after_exit h depth exit a r ws g out
-step_at h depth (i ∷ is) exit a r ws g out =
+abbrev pub code_keeping : (keep : Places → Places) → Homed → (depth : ℕ) → List RInst → RExit → Activation → Places → List Activation → Arrays → List ℕ → Run
+code_keeping keep h depth [] exit a r ws g out = exit_keeping keep h depth exit a r ws g out
+code_keeping keep h depth (i ∷ is) exit a r ws g out =
     with_inst (h.rtl.now).globals i a.frame.homes.items r a.slots g out (λ r' s' g'.
     Running r' (at_code a s' (record { insts = is; exit = exit }) ∷ ws) g' out)
 
-abbrev pub homed_step : Homed → ℕ → Run → Run
-homed_step h depth (Running r [] g out) = Failed out
-homed_step h depth (Running r (a ∷ ws) g out) = step_at h depth a.code.insts a.code.exit a r ws g out
-homed_step h depth (Ended v out) = Ended v out
-homed_step h depth (Failed out) = Failed out
+abbrev pub step_keeping : (keep : Places → Places) → Homed → ℕ → Run → Run
+step_keeping keep h depth (Running r [] g out) = Failed out
+step_keeping keep h depth (Running r (a ∷ ws) g out) = code_keeping keep h depth a.code.insts a.code.exit a r ws g out
+step_keeping keep h depth (Ended v out) = Ended v out
+step_keeping keep h depth (Failed out) = Failed out
 
-abbrev pub homed_steps : Homed → (depth n : ℕ) → Run → Run
-homed_steps h depth n s = steps (homed_step h depth) n s
+abbrev pub steps_keeping : (keep : Places → Places) → Homed → (depth n : ℕ) → Run → Run
+steps_keeping keep h depth n run = steps (step_keeping keep h depth) n run
 
 -- what a run that goes no further comes to
 abbrev pub outcome : Run → Outcome
@@ -182,5 +182,25 @@ homed_start h =
     (map first_values (h.rtl.now).globals) []))
 
 -- n steps of a program over its homes, with at most so many activations
+abbrev pub run_keeping : (keep : Places → Places) → Homed → (depth n : ℕ) → Outcome
+run_keeping keep h depth n = outcome (steps_keeping keep h depth n (homed_start h))
+
+-- the run that forgets nothing: an exit keeps all registers
+abbrev pub remembering_run : Homed → (depth n : ℕ) → Outcome
+remembering_run h depth n = run_keeping (λ r. r) h depth n
+
+-- the run that forgets at each exit what isn't in 16 to 23 or in a slot, and its parts
+abbrev pub state_after_exit : Homed → (depth : ℕ) → RExit → Activation → Places → List Activation → Arrays → List ℕ → Run
+state_after_exit h depth exit a r ws g out = exit_keeping lasting h depth exit a r ws g out
+
+abbrev pub step_at : Homed → (depth : ℕ) → List RInst → RExit → Activation → Places → List Activation → Arrays → List ℕ → Run
+step_at h depth is exit a r ws g out = code_keeping lasting h depth is exit a r ws g out
+
+abbrev pub homed_step : Homed → ℕ → Run → Run
+homed_step h depth run = step_keeping lasting h depth run
+
+abbrev pub homed_steps : Homed → (depth n : ℕ) → Run → Run
+homed_steps h depth n run = steps_keeping lasting h depth n run
+
 abbrev pub homed_run : Homed → (depth n : ℕ) → Outcome
-homed_run h depth n = outcome (homed_steps h depth n (homed_start h))
+homed_run h depth n = run_keeping lasting h depth n

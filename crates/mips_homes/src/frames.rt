@@ -2,6 +2,7 @@
 
 ghost use Rattle.std.specs.Prelude.{◌≡◌, ℕ, ◌≤◌, ◌^◌, length, IfOk, Some};
 ghost use Rattle.mips_homes.specs.Choice.{IsChoice, AreChoices};
+ghost use Rattle.mips_homes.specs.HomedRun.{remembering_run, homed_run};
 ghost use Rattle.mips_homes.specs.Laws.{KeepsRtlRuns};
 ghost use Rattle.mips_homes.specs.Best.{IsPlace, AreHomesOf, AreFirst};
 
@@ -75,7 +76,8 @@ pub fn frame_of(alloc: Global, func: &RFunc) -> Result<Frame, AllocError>
 pub fn homes<'a>(alloc: Global, rtl: &'a Rtl) -> Result<Homed<'a>, AllocError>
     ensures lent { IfOk result (λ h. h.rtl.now ≡ rtl.now) }
     ensures choices { IfOk result (λ h. AreChoices h) }
-    ensures runs { IfOk result (λ h. KeepsRtlRuns h) }
+    ensures runs { IfOk result (λ h. KeepsRtlRuns remembering_run h) }
+    ensures forgetting { IfOk result (λ h. KeepsRtlRuns homed_run h) }
 {
     let mut frames = Vec::new(alloc);
     for func in rtl.functions() {

@@ -2,7 +2,7 @@
 
 ghost use Rattle.std.specs.Prelude.{◌≡◌, ◌≤◌, ◌^◌, List, None, [], length, if◌then◌else◌, IfOk, OnOk};
 ghost use Rattle.rtl.specs.declared.block.RBlock.{RBlock};
-ghost use Rattle.mips_homes.specs.HomedRun.{is_in};
+ghost use Rattle.mips_homes.specs.HomedRun.{is_in, homed_run};
 ghost use Rattle.mips_homes.specs.Hints.{hint};
 ghost use Rattle.mips_homes.specs.Laws.{KeepsRtlRuns};
 ghost use Rattle.mips_homes.specs.Locals.{is_local};
@@ -221,7 +221,7 @@ fn placed_frame(alloc: Global, func: &RFunc) -> Result<Frame, AllocError>
 pub fn place<'a>(alloc: Global, rtl: &'a Rtl) -> Result<Homed<'a>, AllocError>
     ensures lent { IfOk result (λ h. h.rtl.now ≡ rtl.now) }
     ensures places { IfOk result (λ h. ArePlaced h) }
-    ensures runs { IfOk result (λ h. KeepsRtlRuns h) }
+    ensures runs { IfOk result (λ h. KeepsRtlRuns homed_run h) }
 {
     let mut frames = Vec::new(alloc);
     for func in rtl.functions() {
