@@ -16,12 +16,13 @@ use Rattle.words.specs.Words.{wrap}
 use Rattle.rtl.specs.Meaning.{Code}
 use Rattle.rtl.specs.declared.limits.TheConstants.{MAX_REGISTERS, MAX_BLOCKS}
 use Rattle.rtl_emit.specs.Blocks.{open_code, exit_code, goto, first, line_of, Spot, Line, Grows, At, Lands}
-use Rattle.rtl_emit.specs.Emits.{Size, Emits, value_size, condition_size, test_size, values_size, both_size, left_targets}
+use Rattle.rtl_emit.specs.Emits.{Size, Covers, Emits, value_size, condition_size, test_size, values_size, both_size, left_targets}
 use Rattle.rtl_emit.specs.Emits.{EmitsValue, EmitsOperand, EmitsBranch, EmitsOperands, EmitsBoth, EmitsBlock, EmitsValueBlock, EmitsBranchBlock}
 use Rattle.rtl_emit.specs.Expressions.{IsPlace, ArePlaces, IsTruth, Decides, Evaluates, Fetches, Combines}
 use Rattle.rtl_emit.specs.Operations.{IsPrefix, ComputesContrary, Computes, inst_of}
 use Rattle.rtl_emit.specs.Sizes.{logical_of, joint, Beyond, by_branches, is_logical, place_registers, next_free, value_registers, value_blocks, globals_named}
 use Rattle.rtl_emit.specs.Sizes.{condition_registers, condition_blocks, combined_registers, test_registers, has_contrary, arguments_blocks, values_registers, globals_named_in}
+use Rattle.rtl_emit.specs.Sizes.{places_registers, operands_registers}
 use Rattle.rtl_emit.specs.Sound.{Scope, IsSound, IsSoundSpot, KeepsSound}
 use Rattle.rtl_emit.specs.declared.block.OpenBlock.{OpenBlock}
 use Rattle.rtl_emit.specs.declared.fault.LowerFault.{LowerFault}
@@ -123,6 +124,14 @@ test_beyond : (b : Bool) (free p n v blocks globals : ℕ) → MAX_REGISTERS < t
 test_beyond true free p n v blocks globals more = omega (arith, more)
 test_beyond false free p n v blocks globals more = omega (arith, more)
 
+pub test_names : (b : Bool) (free p n v m : ℕ) → test_registers b free p n v ≤ m → (p ≤ m) × ((v ≤ m) × (test_registers b free p n 0 ≤ m))
+test_names true free p n v m le = (omega (arith, le), (omega (arith, le), omega (arith, le)))
+test_names false free p n v m le = (omega (arith, le), (omega (arith, le), omega (arith, le)))
+
+pub contrary_test_names : (b : Bool) (free p n m : ℕ) → b ≡ false → test_registers b free p n 0 ≤ m → (free < m) × (max p (n + 1) ≤ m)
+contrary_test_names true free p n m is le = absurd (cc)
+contrary_test_names false free p n m is le = (omega (arith, le), omega (arith, le))
+
 contrary_ends : (likely : Bool) → likely ≡ false → (o : BinaryOp) (k : IntegerType) (l r : TypedExpression) (free next : ℕ) → is_logical o ≡ false
     → has_contrary o ≡ true → next ≡ next_free l free
     → max (free + 1) (max (place_registers l free) (place_registers r (next_free l free))) ≤ MAX_REGISTERS
@@ -135,6 +144,27 @@ contrary_ends false it o k l r free next plain has is room =
       room = λ le. rw (plain, has) (omega (arith, le, room));
       globals = omega arith;
     })
+
+held_names : (l r : TypedExpression) (free p next q last n : ℕ) → IsPlace l free p next → IsPlace r next q last
+    → operands_registers (place_registers l free) (place_registers r (next_free l free)) (value_registers l free) (value_registers r (next_free l free)) ≤ n
+    → (p < n) × ((q < n) × ((max (value_registers r next) (value_registers l free) ≤ n)
+    × (max (place_registers l free) (place_registers r (next_free l free)) ≤ n)))
+held_names l r free p next q last n pl pr le =
+    let pw = pl.counted in
+    let qw = pr.counted in
+    let qe = ap (place_registers r) pl.next_is in
+    let ve = ap (value_registers r) pl.next_is in
+    (omega (arith, pw, le), (omega (arith, qw, qe, le), (omega (arith, ve, le), omega (arith, le))))
+
+-- of the registers of a contrary comparison, the one that is tested and those of its operands
+contrary_names : (likely : Bool) → likely ≡ false → (o : BinaryOp) (k : IntegerType) (l r : TypedExpression) (free n : ℕ) → is_logical o ≡ false
+    → has_contrary o ≡ true → condition_registers (binary o k l r) likely free ≤ n → max (free + 1) (operands_registers (place_registers l free)
+    (place_registers r (next_free l free)) (value_registers l free) (value_registers r (next_free l free))) ≤ n
+contrary_names true it o k l r free n plain has le = absurd (cc)
+contrary_names false it o k l r free n plain has le =
+    let is : condition_registers (binary o k l r) false free ≡ max (free + 1) (operands_registers (place_registers l free)
+    (place_registers r (next_free l free)) (value_registers l free) (value_registers r (next_free l free))) = rw (plain, has) refl in
+    subst (λ m. m ≤ n) is le
 
 contrary_beyond : (likely : Bool) → likely ≡ false → (o : BinaryOp) (k : IntegerType) (l r : TypedExpression) (free b : ℕ) → is_logical o ≡ false
     → has_contrary o ≡ true → MAX_REGISTERS < max (free + 1) (max (place_registers l free) (place_registers r (next_free l free)))
@@ -189,7 +219,9 @@ local_emits old e x x' k d free from after is ix lt fe =
       count = omega arith;
       room = omega (arith, lt);
       limit = tt;
-      sound = λ s n g h. (g, sound_first _ fe (h.0, lt) (sound_line _ h.1.1));
+      sound = λ s n g h.
+          let named : x' < s.registers = omega (arith, h.1.0.0) in
+          (g, sound_first _ fe (h.0, named) (sound_line _ h.1.1));
       does = λ bs h. gives_from fe (local_value bs x' k d free (line_of after));
     })
 
@@ -202,8 +234,9 @@ global_emits old a a' k d free z load from after ia iz lt fl fe = record {
   room = omega (arith, iz, lt);
   limit = tt;
   sound = λ s n g h.
-      let there : a' < s.globals = omega (arith, ia, h.1.0) in
-      (g, sound_first _ fe lt (sound_first _ fl (h.0, (there, lt)) (sound_line _ h.1.1)));
+      let there : a' < s.globals = omega (arith, ia, h.1.0.1) in
+      let spare : z < s.registers = omega (arith, iz, h.1.0.0) in
+      (g, sound_first _ fe spare (sound_first _ fl (h.0, (there, spare)) (sound_line _ h.1.1)));
   does = λ bs h.
       subst (λ a. Evaluates bs (global a k) free d (open_code from) (line_of after)) ia (gives_from (fe ∙ ap (first (I.Const z 0)) fl)
       (global_value bs a' k d z free (line_of after) (omega (arith, iz))));
@@ -219,9 +252,11 @@ element_emits old new a k i d free after (Ok w) r pl fe room limit o err =
     (record { blocks = omega arith; registers = omega arith; room = λ le. omega (arith, le, room); globals = omega arith })
     (grows_same old) (omega arith)
     (λ from keeps s n g h.
-    let there : a < s.globals = omega (arith, h.1.0) in
-    let named : globals_named i ≤ s.globals = omega (arith, h.1.0) in
-    keeps s n g (named, sound_first _ fe (h.0, (there, pl.within)) (sound_line _ h.1.1)))
+    let there : a < s.globals = omega (arith, h.1.0.1) in
+    let named : globals_named i ≤ s.globals = omega (arith, h.1.0.1) in
+    let few : value_registers i free ≤ s.registers = omega (arith, h.1.0.0) in
+    let held : w.place.register < s.registers = (let p = pl.counted in omega (arith, p, h.1.0.0)) in
+    keeps s n g (held, ((few, named), sound_first _ fe (h.0, (there, held)) (sound_line _ h.1.1))))
     (λ from does bs h. element_value bs a k i d free w.place.register w.place.free (open_code from) (line_of after) pl (finds_to fe (does bs h))) o
 element_emits old new a k i d free after (Err f) r pl fe room limit o err =
     refused (value_size (element a k i) free (joint after)) old new _ _ f r err.0 err.1
@@ -246,36 +281,43 @@ prefix_size U.Not k a free n ne plain = rw (plain refl)
 pub prefix_emits : (old new : List RBlock) (o : UnaryOp) (with : Combination) (k : IntegerType) (a : TypedExpression)
     (b : Bool) (d free : ℕ) (opened : OpenBlock) (after : Spot) (w : Result Waiting LowerFault) (x : Result OpenBlock LowerFault)
     → IsPrefix o b (P.Combined with) → b ≡ by_branches a → open_code opened ≡ line_of after
+    → IfOk w (λ w. IsPlace a free w.place.register w.place.free)
     → OnOk w (max (place_registers a free) (next_free a free + 1) ≤ MAX_REGISTERS)
     → IfOk w (λ w. (bs : List RBlock) (from : Code) → Fetches bs a free w.place.register from (open_code w.code)
     → Combines bs with.operation a with.word free d from (open_code opened))
-    → IfOk w (λ w. (s : Scope) → d < MAX_REGISTERS → IsSound s (open_code opened) → IsSound s (open_code w.code))
+    → IfOk w (λ w. (s : Scope) → d < s.registers → max (place_registers a free) (next_free a free + 1) ≤ s.registers
+    → IsSound s (open_code opened) → IsSound s (open_code w.code))
     → IfErr w (λ f. f ≡ Limit → MAX_REGISTERS < max (place_registers a free) (next_free a free + 1))
     → IfOk w (λ w. EmitsOperand a w.place.register free w.code old new x) → IfErr w (λ f. (x ≡ Err f) × (new ≡ old))
     → EmitsValue (unary o k a) d free after old new x
-prefix_emits old new o with k a b d free opened after w x prefix ib fe room does sound limit v err =
-    subst (λ size. Emits size old new (λ from. KeepsSound old new (λ s. (d < MAX_REGISTERS)
-    × ((globals_named a ≤ s.globals) × IsSoundSpot s after)) (λ s. IsSound s (open_code from)))
+prefix_emits old new o with k a b d free opened after w x prefix ib fe pl room does sound limit v err =
+    subst (λ size. Emits size old new (λ from. KeepsSound old new (λ s. (d < s.registers)
+    × (Covers size s × IsSoundSpot s after)) (λ s. IsSound s (open_code from)))
     (λ from bs. Evaluates bs (unary o k a) free d (open_code from) (line_of after)) x)
-    (sym (prefix_size o k a free (joint after) prefix.0 (λ io. sym ib ∙ prefix.1.0 io))) (sized w room does sound limit v err)
+    (sym (prefix_size o k a free (joint after) prefix.0 (λ io. sym ib ∙ prefix.1.0 io))) (sized w pl room does sound limit v err)
   where
-    sized : (w : Result Waiting LowerFault) → OnOk w (max (place_registers a free) (next_free a free + 1) ≤ MAX_REGISTERS)
+    sized : (w : Result Waiting LowerFault) → IfOk w (λ w. IsPlace a free w.place.register w.place.free) → OnOk w (max (place_registers a free) (next_free a free + 1) ≤ MAX_REGISTERS)
         → IfOk w (λ w. (bs : List RBlock) (from : Code) → Fetches bs a free w.place.register from (open_code w.code)
         → Combines bs with.operation a with.word free d from (open_code opened))
-        → IfOk w (λ w. (s : Scope) → d < MAX_REGISTERS → IsSound s (open_code opened) → IsSound s (open_code w.code))
+        → IfOk w (λ w. (s : Scope) → d < s.registers → max (place_registers a free) (next_free a free + 1) ≤ s.registers
+        → IsSound s (open_code opened) → IsSound s (open_code w.code))
         → IfErr w (λ f. f ≡ Limit → MAX_REGISTERS < max (place_registers a free) (next_free a free + 1))
         → IfOk w (λ w. EmitsOperand a w.place.register free w.code old new x) → IfErr w (λ f. (x ≡ Err f) × (new ≡ old))
-        → Emits (combined_size a free) old new (λ from. KeepsSound old new (λ s. (d < MAX_REGISTERS)
-        × ((globals_named a ≤ s.globals) × IsSoundSpot s after)) (λ s. IsSound s (open_code from)))
+        → Emits (combined_size a free) old new (λ from. KeepsSound old new (λ s. (d < s.registers)
+        × (Covers (combined_size a free) s × IsSoundSpot s after)) (λ s. IsSound s (open_code from)))
         (λ from bs. Evaluates bs (unary o k a) free d (open_code from) (line_of after)) x
-    sized (Ok w) room does sound limit v err =
+    sized (Ok w) pl room does sound limit v err =
         ended (value_size a free 1) (combined_size a free) 0 old old new _ _ _ _ x
         (record { blocks = omega arith; registers = omega arith; room = λ le. omega (arith, le, room); globals = omega arith })
         (grows_same old) (omega arith)
-        (λ from keeps s n g h. keeps s n g (h.1.0, sound s h.0 (sound_along fe (sound_line _ h.1.1))))
+        (λ from keeps s n g h.
+        let few : value_registers a free ≤ s.registers = omega (arith, h.1.0.0) in
+        let spare : max (place_registers a free) (next_free a free + 1) ≤ s.registers = omega (arith, h.1.0.0) in
+        let held : w.place.register < s.registers = (let p = pl.counted in omega (arith, p, spare)) in
+        keeps s n g (held, ((few, h.1.0.1), sound s h.0 spare (sound_along fe (sound_line _ h.1.1)))))
         (λ from made bs h. prefix_value bs o k with a d free (open_code from) (line_of after) prefix.1.1
         (subst (λ c. Combines bs with.operation a with.word free d (open_code from) c) fe (does bs (open_code from) (made bs h)))) v
-    sized (Err f) room does sound limit v err =
+    sized (Err f) pl room does sound limit v err =
         refused (combined_size a free) old new _ _ f x err.0 err.1 (λ is. let more = limit is in omega (arith, more))
 
 pub identity_emits : (old new : List RBlock) (o : UnaryOp) (k : IntegerType) (a : TypedExpression) (d free : ℕ) (after : Spot)
@@ -291,7 +333,7 @@ identity_emits old new o k a d free after x io v =
 pub record Truth (old new : List RBlock) (d : ℕ) (t : Targets) (after : Spot) : Type 0 where
   pub grows : Grows old new
   pub count : length new ≡ length old + (joint after + 2)
-  pub sound : KeepsSound old new (λ s. (d < MAX_REGISTERS) × IsSoundSpot s after) (λ s. (t.yes < s.blocks) × (t.no < s.blocks))
+  pub sound : KeepsSound old new (λ s. (d < s.registers) × IsSoundSpot s after) (λ s. (t.yes < s.blocks) × (t.no < s.blocks))
   pub likely : t.likely ≡ true
   pub truth : Over old new (λ bs. IsTruth bs d t.yes t.no after)
 
@@ -307,7 +349,8 @@ not_emits old mid new o k a b d free tr t after r prefix ib it truth last =
     truth.grows truth.count
     (λ from keeps s l gs h.
     let m = truth.sound s (within last'.grows l) gs (h.0, h.1.1) in
-    keeps s l m.0 (h.1.0, (m.1.1, m.1.0)))
+    let is : value_registers (unary U.Not k a) free ≡ condition_registers a true free = rw by refl in
+    keeps s l m.0 ((subst (λ n. n ≤ s.registers) is h.1.0.0, h.1.0.1), (m.1.1, m.1.0)))
     (λ from does bs h.
     let p = split2 bs old mid new truth.grows last'.grows h in
     told bs (unary U.Not k a) d tr.yes tr.no free (open_code from) after (not_tests k a) (truth.truth bs p.0)
@@ -321,6 +364,13 @@ logical_ends true k l r t free block room =
     record { blocks = omega arith; registers = omega arith; room = λ le. omega (arith, le, room); globals = omega arith }
 logical_ends false k l r t free block room =
     record { blocks = omega arith; registers = omega arith; room = λ le. omega (arith, le, room); globals = omega arith }
+
+-- of the registers and globals of the whole, those of its operands
+logical_covers : (both : Bool) (k : IntegerType) (l r : TypedExpression) (t : Targets) (free block : ℕ) (s : Scope)
+    → Covers (condition_size (binary (logical_of both) k l r) t.likely free) s
+    → Covers (condition_size l (left_targets both t block).likely free) s × Covers (condition_size r t.likely free) s
+logical_covers true k l r t free block s h = ((omega (arith, h.0), omega (arith, h.1)), (omega (arith, h.0), omega (arith, h.1)))
+logical_covers false k l r t free block s h = ((omega (arith, h.0), omega (arith, h.1)), (omega (arith, h.0), omega (arith, h.1)))
 
 left_within : (both : Bool) (t : Targets) (block blocks : ℕ) → block < blocks → (t.yes < blocks) × (t.no < blocks)
     → ((left_targets both t block).yes < blocks) × ((left_targets both t block).no < blocks)
@@ -344,10 +394,9 @@ logical_branches both b0 b1 new k l r t t' free block x it second last' =
     ended (condition_size l (left_targets both t block).likely free) (condition_size (binary (logical_of both) k l r) t.likely free)
     ((condition_size r t.likely free).blocks + 1) b0 b1 new _ _ _ _ x (logical_ends both k l r t free block second.room) second.grows c1
     (λ from keeps s n g h.
-    let right : globals_named r ≤ s.globals = omega (arith, h.0) in
-    let left : globals_named l ≤ s.globals = omega (arith, h.0) in
-    let b = second.sound s (within last.grows n) g (right, h.1) in
-    keeps s n b.0 (left, left_within both t block s.blocks b.1 h.1))
+    let parts = logical_covers both k l r t free block s h.0 in
+    let b = second.sound s (within last.grows n) g (parts.1, h.1) in
+    keeps s n b.0 (parts.0, left_within both t block s.blocks b.1 h.1))
     (λ from does bs h.
     let p = split2 bs b0 b1 new second.grows last.grows h in
     let d = second.does bs p.0 in
@@ -385,7 +434,7 @@ told_value old b0 new e t d free after x tr tests size last =
     tr.grows tr.count
     (λ from keeps s n g h.
     let m = tr.sound s (within last.grows n) g (h.0, h.1.1) in
-    keeps s n m.0 (h.1.0, m.1))
+    keeps s n m.0 ((subst (λ n. n ≤ s.registers) (ap (λ s. s.registers) size) h.1.0.0, h.1.0.1), m.1))
     (λ from does bs h.
     let p = split2 bs old b0 new tr.grows last.grows h in
     told bs e d t.yes t.no free (open_code from) after tests (tr.truth bs p.0) (does bs p.1)) last'
@@ -413,13 +462,6 @@ told_emits true old b0 new k l r t d free after x tr last =
 told_emits false old b0 new k l r t d free after x tr last =
     told_value old b0 new (binary B.LogicalOr k l r) t d free after x tr (or_tests k l r) (told_size false k l r free (joint after)) last
 
--- two parts one behind the other, of which each names so many globals
-keeps_both : (old mid new : List RBlock) (Needs Middle Gives : Scope → Type 0) (a b : ℕ) → KeepsSound old mid (λ s. (b ≤ s.globals) × Needs s) Middle
-    → Grows mid new → KeepsSound mid new (λ s. (a ≤ s.globals) × Middle s) Gives → KeepsSound old new (λ s. (max a b ≤ s.globals) × Needs s) Gives
-keeps_both old mid new Needs Middle Gives a b first grows second s n g h =
-    let m = first s (within grows n) g (omega (arith, h.0), h.1) in
-    second s n m.0 (omega (arith, h.0), m.1)
-
 -- two operands
 pub both_emits : (old mid new : List RBlock) (l r : TypedExpression) (free p next q : ℕ) (waiting middle : OpenBlock) (x : Result OpenBlock LowerFault)
     → EmitsOperand r q next waiting old mid (Ok middle) → EmitsOperand l p free middle mid new x → EmitsBoth l r free p next q waiting old new x
@@ -428,7 +470,13 @@ both_emits old mid new l r free p next q waiting middle x second left =
     let room : value_registers r next ≤ MAX_REGISTERS = second.room in
     ended (value_size l free 1) (both_size l r free next) (value_blocks r 1) old mid new _ _ _ _ x
     (record { blocks = omega arith; registers = omega arith; room = λ le. omega (arith, le, room); globals = omega arith }) second.grows c1
-    (λ from keeps. keeps_both old mid new _ _ _ (globals_named l) (globals_named r) second.sound left.grows keeps)
+    (λ from keeps s n g h.
+    let in_right : value_registers r next ≤ s.registers = omega (arith, h.1.1.0.0) in
+    let in_left : value_registers l free ≤ s.registers = omega (arith, h.1.1.0.0) in
+    let of_right : globals_named r ≤ s.globals = omega (arith, h.1.1.0.1) in
+    let of_left : globals_named l ≤ s.globals = omega (arith, h.1.1.0.1) in
+    let m = second.sound s (within left.grows n) g (h.1.0, ((in_right, of_right), h.1.1.1)) in
+    keeps s n m.0 (h.0, ((in_left, of_left), m.1)))
     (λ from does bs h.
     let parts = split2 bs old mid new second.grows left.grows h in
     (open_code middle, does bs parts.1, second.does bs parts.0)) left
@@ -454,12 +502,23 @@ operator_beyond : (o : BinaryOp) (k : IntegerType) (l r : TypedExpression) (free
     → Beyond (value_size (binary o k l r) free n).registers b (globals_named (binary o k l r))
 operator_beyond o k l r free n b plain more = rw plain (omega (arith, more))
 
+-- of the registers of an operator, those of its places, of its operands, and of the operation
+operator_names : (o : BinaryOp) (k : IntegerType) (l r : TypedExpression) (free p next q last n : ℕ) → is_logical o ≡ false → IsPlace l free p next
+    → IsPlace r next q last → value_registers (binary o k l r) free ≤ n → (p < n) × ((q < n) × ((max (value_registers r next) (value_registers l free) ≤ n)
+    × (max (place_registers l free) (place_registers r (next_free l free)) ≤ n)))
+operator_names o k l r free p next q last n plain pl pr le =
+    let is : value_registers (binary o k l r) free ≡ operands_registers (place_registers l free) (place_registers r (next_free l free))
+    (value_registers l free) (value_registers r (next_free l free)) = rw plain refl in
+    let all = subst (λ m. m ≤ n) is le in
+    held_names l r free p next q last n pl pr all
+
 pub operator_emits : (old new : List RBlock) (o : BinaryOp) (k : IntegerType) (op : Operation) (l r : TypedExpression)
     (d free : ℕ) (code : OpenBlock) (after : Spot) (w : Result WaitingForTwo LowerFault) (x : Result OpenBlock LowerFault)
     → Computes o (sign_of k) op → is_logical o ≡ false → open_code code ≡ line_of after
     → IfOk w (λ w. IsPlace l free w.first.register w.first.free) → IfOk w (λ w. IsPlace r w.first.free w.second.register w.second.free)
     → IfOk w (λ w. open_code w.code ≡ first (inst_of op d w.first.register w.second.register) (open_code code))
-    → IfOk w (λ w. (s : Scope) → d < MAX_REGISTERS → IsSound s (open_code code) → IsSound s (open_code w.code))
+    → IfOk w (λ w. (s : Scope) → d < s.registers → max (place_registers l free) (place_registers r (next_free l free)) ≤ s.registers
+    → IsSound s (open_code code) → IsSound s (open_code w.code))
     → OnOk w (max (place_registers l free) (place_registers r (next_free l free)) ≤ MAX_REGISTERS)
     → IfErr w (λ f. f ≡ Limit → MAX_REGISTERS < max (place_registers l free) (place_registers r (next_free l free)))
     → IfOk w (λ w. EmitsBoth l r free w.first.register w.first.free w.second.register w.code old new x)
@@ -467,7 +526,9 @@ pub operator_emits : (old new : List RBlock) (o : BinaryOp) (k : IntegerType) (o
 operator_emits old new o k op l r d free code after (Ok w) x computes plain fe pl pr fw sound room limit two err =
     ended (both_size l r free w.first.free) (value_size (binary o k l r) free (joint after)) 0 old old new _ _ _ _ x
     (operator_ends o k l r free w.first.free (joint after) plain pl.next_is room) (grows_same old) (omega arith)
-    (λ from keeps s n g h. keeps s n g (h.1.0, sound s h.0 (sound_along fe (sound_line _ h.1.1))))
+    (λ from keeps s n g h.
+    let few = operator_names o k l r free _ _ _ _ s.registers plain pl pr h.1.0.0 in
+    keeps s n g (few.0, (few.1.0, ((few.1.1.0, h.1.0.1), sound s h.0 few.1.1.1 (sound_along fe (sound_line _ h.1.1))))))
     (λ from does bs h.
     let m = does bs h in
     operator_value bs o k op l r d free (open_code from) (line_of after) computes
@@ -494,7 +555,7 @@ not_stops old new o k a b d free after f x is prefix ib g limit =
 -- code as a block of its own
 pub block_emits : (old mid new : List RBlock) (size : Size) (Needs Needs' : Scope → Type 0) (Is : List RBlock → Code → Type 0) (code : OpenBlock)
     (x : Result ℕ LowerFault) → Emits size old mid (λ from. KeepsSound old mid Needs' (λ s. IsSound s (open_code from)))
-    (λ from bs. Is bs (open_code from)) (Ok code) → ((s : Scope) → size.globals ≤ s.globals → Needs s → Needs' s)
+    (λ from bs. Is bs (open_code from)) (Ok code) → ((s : Scope) → Covers size s → Needs s → Needs' s)
     → Grows mid new → OnOk x (length new ≡ length mid + 1) → IfErr x (λ f. f ≡ Limit → MAX_BLOCKS < length mid + 1)
     → IfOk x (λ b. KeepsSound mid new (λ s. IsSound s (open_code code)) (λ s. b < s.blocks))
     → IfOk x (λ b. Over mid new (λ bs. At bs b (open_code code))) → EmitsBlock size Needs Is old new x
@@ -537,7 +598,7 @@ pub record Sides (b0 b2 : List RBlock) (registers blocks globals : ℕ) (Needs :
   pub grows : Grows b0 b2
   pub count : length b2 ≡ length b0 + (blocks + 2)
   pub room : registers ≤ MAX_REGISTERS
-  pub sound : KeepsSound b0 b2 (λ s. (globals ≤ s.globals) × Needs s) (λ s. (yes_block < s.blocks) × (no_block < s.blocks))
+  pub sound : KeepsSound b0 b2 (λ s. ((registers ≤ s.registers) × (globals ≤ s.globals)) × Needs s) (λ s. (yes_block < s.blocks) × (no_block < s.blocks))
   pub does : Over b0 b2 (λ bs. ((from : Code) × At bs yes_block from × IsYes bs from) × ((from : Code) × At bs no_block from × IsNo bs from))
 
 pub sides : (b0 b1 b2 : List RBlock) (s1 s2 : Size) (Needs : Scope → Type 0) (IsYes IsNo : List RBlock → Code → Type 0) (yes_block no_block : ℕ)
@@ -553,8 +614,8 @@ sides b0 b1 b2 s1 s2 Needs IsYes IsNo yes_block no_block e1 e2 =
       count = omega (arith, c1, c2);
       room = omega (arith, r1, r2);
       sound = λ s n g h.
-          let left : s1.globals ≤ s.globals = omega (arith, h.0) in
-          let right : s2.globals ≤ s.globals = omega (arith, h.0) in
+          let left : Covers s1 s = (omega (arith, h.0.0), omega (arith, h.0.1)) in
+          let right : Covers s2 s = (omega (arith, h.0.0), omega (arith, h.0.1)) in
           let a = e1.sound s (within e2.grows n) g (left, h.1) in
           let b = e2.sound s n a.0 (right, h.1) in
           (b.0, (a.1, b.1));
@@ -577,10 +638,12 @@ conditional_branches b0 b2 new k c a b t t' free yes_block no_block x it two las
     (record { blocks = omega arith; registers = omega arith; room = λ le. omega (arith, le, two.room); globals = omega arith })
     two.grows two.count
     (λ from keeps s n g h.
-    let sides : max (globals_named a) (globals_named b) ≤ s.globals = omega (arith, h.0) in
-    let test : globals_named c ≤ s.globals = omega (arith, h.0) in
-    let m = two.sound s (within last'.grows n) g (sides, h.1) in
-    keeps s n m.0 (test, m.1))
+    let sides : max (globals_named a) (globals_named b) ≤ s.globals = omega (arith, h.0.1) in
+    let test : globals_named c ≤ s.globals = omega (arith, h.0.1) in
+    let in_sides : max (condition_registers a t.likely free) (condition_registers b t.likely free) ≤ s.registers = omega (arith, h.0.0) in
+    let in_test : condition_registers c true free ≤ s.registers = omega (arith, h.0.0) in
+    let m = two.sound s (within last'.grows n) g ((in_sides, sides), h.1) in
+    keeps s n m.0 ((in_test, test), m.1))
     (λ from does bs h.
     let p = split2 bs b0 b2 new two.grows last'.grows h in
     let d = two.does bs p.0 in
@@ -615,7 +678,7 @@ pub conditional_emits : (old b0 b1 b2 new : List RBlock) (k : IntegerType) (c a 
     → EmitsValueBlock a d free join b0 b1 (Ok yes_block) → EmitsValueBlock b d free join b1 b2 (Ok no_block)
     → EmitsBranch (condition_size c t'.likely free) c t' free b2 new x → EmitsValue (conditional k c a b) d free after old new x
 conditional_emits old b0 b1 b2 new k c a b t' d free join yes_block no_block after x it j yes_side no_side last =
-    let two = sides b0 b1 b2 (value_size a free 0) (value_size b free 0) (λ s. (d < MAX_REGISTERS) × (join < s.blocks))
+    let two = sides b0 b1 b2 (value_size a free 0) (value_size b free 0) (λ s. (d < s.registers) × (join < s.blocks))
     (λ bs from. Evaluates bs a free d from (goto join)) (λ bs from. Evaluates bs b free d from (goto join)) yes_block no_block yes_side no_side in
     let c2 : length b2 ≡ length b0 + (value_blocks a 0 + value_blocks b 0 + 2) = two.count in
     let room : max (value_registers a free) (value_registers b free) ≤ MAX_REGISTERS = two.room in
@@ -625,12 +688,14 @@ conditional_emits old b0 b1 b2 new k c a b t' d free join yes_block no_block aft
     (record { blocks = omega arith; registers = omega arith; room = λ le. omega (arith, le, room); globals = omega arith })
     (grows_then old b0 b2 j.grows two.grows) (omega (arith, j.count, c2))
     (λ from keeps s n g h.
-    let sides : max (globals_named a) (globals_named b) ≤ s.globals = omega (arith, h.1.0) in
-    let test : globals_named c ≤ s.globals = omega (arith, h.1.0) in
+    let sides : max (globals_named a) (globals_named b) ≤ s.globals = omega (arith, h.1.0.1) in
+    let test : globals_named c ≤ s.globals = omega (arith, h.1.0.1) in
+    let in_sides : max (value_registers a free) (value_registers b free) ≤ s.registers = omega (arith, h.1.0.0) in
+    let in_test : condition_registers c true free ≤ s.registers = omega (arith, h.1.0.0) in
     let n2 = within last'.grows n in
     let at = j.sound s (within two.grows n2) g h.1.1 in
-    let m = two.sound s n2 at.0 (sides, (h.0, at.1)) in
-    keeps s n m.0 (test, m.1))
+    let m = two.sound s n2 at.0 ((in_sides, sides), (h.0, at.1)) in
+    keeps s n m.0 ((in_test, test), m.1))
     (λ from does bs h.
     let p = split3 bs old b0 b2 new j.grows two.grows last'.grows h in
     let m = two.does bs p.1 in
@@ -697,7 +762,8 @@ pub contrary_emits : (old new : List RBlock) (o : BinaryOp) (k : IntegerType) (o
     → ComputesContrary o (sign_of k) op → is_logical o ≡ false → has_contrary o ≡ true → t.likely ≡ false
     → IfOk w (λ w. IsPlace l free w.first.register w.first.free) → IfOk w (λ w. IsPlace r w.first.free w.second.register w.second.free)
     → IfOk w (λ w. open_code w.code ≡ first (inst_of op free w.first.register w.second.register) (exit_code (X.Branch free t.no t.yes)))
-    → IfOk w (λ w. (s : Scope) → t.yes < s.blocks → t.no < s.blocks → IsSound s (open_code w.code))
+    → IfOk w (λ w. (s : Scope) → max (free + 1) (max (place_registers l free) (place_registers r (next_free l free))) ≤ s.registers
+    → t.yes < s.blocks → t.no < s.blocks → IsSound s (open_code w.code))
     → OnOk w (max (free + 1) (max (place_registers l free) (place_registers r (next_free l free))) ≤ MAX_REGISTERS)
     → IfErr w (λ f. f ≡ Limit → MAX_REGISTERS < max (free + 1) (max (place_registers l free) (place_registers r (next_free l free))))
     → IfOk w (λ w. EmitsBoth l r free w.first.register w.first.free w.second.register w.code old new x)
@@ -705,7 +771,12 @@ pub contrary_emits : (old new : List RBlock) (o : BinaryOp) (k : IntegerType) (o
 contrary_emits old new o k op l r t free (Ok w) x tests plain has unlikely pl pr fw sound room limit two err =
     ended (both_size l r free w.first.free) (condition_size (binary o k l r) t.likely free) 0 old old new _ _ _ _ x
     (contrary_ends t.likely unlikely o k l r free w.first.free plain has pl.next_is room) (grows_same old) (omega arith)
-    (λ from keeps s n g h. keeps s n g (h.0, sound s h.1.0 h.1.1))
+    (λ from keeps s n g h.
+    let all = contrary_names t.likely unlikely o k l r free s.registers plain has h.0.0 in
+    let few = held_names l r free _ _ _ _ s.registers pl pr (omega (arith, all)) in
+    let places = few.1.1.1 in
+    let tested : max (free + 1) (max (place_registers l free) (place_registers r (next_free l free))) ≤ s.registers = omega (arith, all, places) in
+    keeps s n g (few.0, (few.1.0, ((few.1.1.0, h.0.1), sound s tested h.1.0 h.1.1))))
     (λ from does bs h.
     let m = does bs h in
     contrary_decides bs o k op l r free t.yes t.no free (open_code from) tests (omega arith)
@@ -715,13 +786,15 @@ contrary_emits old new o k op l r t free (Err f) x tests plain has unlikely pl p
     (λ is. contrary_beyond t.likely unlikely o k l r free (length old + condition_blocks (binary o k l r)) plain has (limit is))
 
 pub test_emits : (old new : List RBlock) (e : TypedExpression) (t : Targets) (free : ℕ) (w : Result Waiting LowerFault) (x : Result OpenBlock LowerFault)
+    → IfOk w (λ w. IsPlace e free w.place.register w.place.free)
     → OnOk w (test_registers t.likely free (place_registers e free) (next_free e free) 0 ≤ MAX_REGISTERS)
     → IfOk w (λ w. (bs : List RBlock) (from : Code) → Fetches bs e free w.place.register from (open_code w.code) → Decides bs e free t.yes t.no from)
-    → IfOk w (λ w. (s : Scope) → t.yes < s.blocks → t.no < s.blocks → IsSound s (open_code w.code))
+    → IfOk w (λ w. (s : Scope) → test_registers t.likely free (place_registers e free) (next_free e free) 0 ≤ s.registers
+    → t.yes < s.blocks → t.no < s.blocks → IsSound s (open_code w.code))
     → IfErr w (λ f. f ≡ Limit → MAX_REGISTERS < test_registers t.likely free (place_registers e free) (next_free e free) 0)
     → IfOk w (λ w. EmitsOperand e w.place.register free w.code old new x) → IfErr w (λ f. (x ≡ Err f) × (new ≡ old))
     → EmitsBranch (test_size e t.likely free) e t free old new x
-test_emits old new e t free (Ok w) x room does sound limit v err =
+test_emits old new e t free (Ok w) x pl room does sound limit v err =
     ended (value_size e free 1) (test_size e t.likely free) 0 old old new _ _ _ _ x
     (record {
       blocks = omega arith;
@@ -730,19 +803,22 @@ test_emits old new e t free (Ok w) x room does sound limit v err =
       globals = omega arith;
     })
     (grows_same old) (omega arith)
-    (λ from keeps s n g h. keeps s n g (h.0, sound s h.1.0 h.1.1))
+    (λ from keeps s n g h.
+    let few = test_names t.likely free (place_registers e free) (next_free e free) (value_registers e free) s.registers h.0.0 in
+    let held : w.place.register < s.registers = (let p = pl.counted in let q = few.0 in omega (arith, p, q)) in
+    keeps s n g (held, ((few.1.0, h.0.1), sound s few.1.1 h.1.0 h.1.1)))
     (λ from made bs h. does bs (open_code from) (made bs h)) v
-test_emits old new e t free (Err f) x room does sound limit v err =
+test_emits old new e t free (Err f) x pl room does sound limit v err =
     refused (test_size e t.likely free) old new _ _ f x err.0 err.1
     (λ is. test_beyond t.likely free (place_registers e free) (next_free e free) (value_registers e free) (length old + value_blocks e 1) (globals_named e) (limit is))
 
 pub operand_emits : (old new : List RBlock) (e : TypedExpression) (p free : ℕ) (after : OpenBlock) (x : Result OpenBlock LowerFault)
-    → p < MAX_REGISTERS → EmitsValue e p free (Line (open_code after)) old new x → EmitsOperand e p free after old new x
-operand_emits old new e p free after x lt v =
+    → EmitsValue e p free (Line (open_code after)) old new x → EmitsOperand e p free after old new x
+operand_emits old new e p free after x v =
     ended (value_size e free 1) (value_size e free 1) 0 old old new _ _ _ _ x
     (record { blocks = omega arith; registers = omega arith; room = λ le. le; globals = omega arith })
     (grows_same old) (omega arith)
-    (λ from keeps s n g h. keeps s n g (lt, h))
+    (λ from keeps. keeps)
     (λ from does bs h. fetched bs e free p (open_code from) (open_code after) (does bs h)) v
 
 -- the operands of a list
@@ -758,7 +834,18 @@ operands_emits old mid new all es e ps ps2 p free after middle x ia ip are rest 
     (ended (value_size e free 1) (values_size (e ∷ es) free) (arguments_blocks es) old mid new _ _ _ _ x
     (record { blocks = omega arith; registers = omega arith; room = λ le. omega (arith, le, room); globals = omega arith })
     rest.grows c1
-    (λ from keeps. keeps_both old mid new _ _ _ (globals_named e) (globals_named_in es) rest.sound one.grows keeps)
+    (λ from keeps s n g h.
+    let pw = both.0.counted in
+    let pe = ap (places_registers es) both.0.next_is in
+    let ve = ap (values_registers es) both.0.next_is in
+    let held : p.register < s.registers = omega (arith, pw, h.0) in
+    let places : places_registers es p.free ≤ s.registers = omega (arith, pe, h.0) in
+    let in_rest : values_registers es p.free ≤ s.registers = omega (arith, ve, h.1.0.0) in
+    let in_one : value_registers e free ≤ s.registers = omega (arith, h.1.0.0) in
+    let of_rest : globals_named_in es ≤ s.globals = omega (arith, h.1.0.1) in
+    let of_one : globals_named e ≤ s.globals = omega (arith, h.1.0.1) in
+    let m = rest.sound s (within one.grows n) g (places, ((in_rest, of_rest), h.1.1)) in
+    keeps s n m.0 (held, ((in_one, of_one), m.1)))
     (λ from does bs h.
     let t = split2 bs old mid new rest.grows one.grows h in
     (open_code middle, does bs t.1, rest.does bs t.0)) one))

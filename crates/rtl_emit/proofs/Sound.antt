@@ -1,8 +1,7 @@
 -- Sound code of sound parts.
-use Rattle.std.proofs.Common.{◌≡◌, ℕ, zero, suc, Bool, true, false, List, [], ◌∷◌, ◌++◌, sym, subst}
+use Rattle.std.proofs.Common.{◌≡◌, ◌<◌, ℕ, zero, suc, Bool, true, false, List, [], ◌∷◌, ◌++◌, sym, subst}
 use Rattle.std.specs.Prelude.{if◌then◌else◌, slice_set}
 use Rattle.std.proofs.lemmas.List.Elements.{All-nil, All-cons}
-use Rattle.rtl.specs.Programs.{IsRegister, IsInst, IsExit}
 use Rattle.rtl.specs.Meaning.{Code, code_of}
 use Rattle.rtl.specs.declared.instruction.RInst.{RInst}
 use Rattle.rtl.specs.declared.instruction.RInst.TheVariants.{Bin}
@@ -10,7 +9,7 @@ use Rattle.rtl.specs.declared.instruction.RExit.{RExit}
 use Rattle.rtl.specs.declared.block.RBlock.{RBlock}
 use Rattle.rtl_emit.specs.Blocks.{exit_code, first, Spot, Block, Line, line_of}
 use Rattle.rtl_emit.specs.Operations.{inst_of}
-use Rattle.rtl_emit.specs.Sound.{Scope, IsSound, IsSoundSpot, AreSound}
+use Rattle.rtl_emit.specs.Sound.{Scope, IsSoundInst, IsSoundExit, IsSound, IsSoundSpot, AreSound}
 use Rattle.rtl_emit.specs.declared.operation.Operation.{Operation}
 
 -- code
@@ -18,22 +17,22 @@ use Rattle.rtl_emit.specs.declared.operation.Operation.{Operation}
 pub sound_along : {s : Scope} {c c' : Code} → c ≡ c' → IsSound s c' → IsSound s c
 sound_along {s} e h = subst (λ c. IsSound s c) (sym e) h
 
-pub sound_first : {s : Scope} {c c' : Code} (i : RInst) → c ≡ first i c' → IsInst s.globals i → IsSound s c' → IsSound s c
+pub sound_first : {s : Scope} {c c' : Code} (i : RInst) → c ≡ first i c' → IsSoundInst s i → IsSound s c' → IsSound s c
 sound_first {s} {c} {c'} i e hi h =
-    sound_along e (record { insts = All-cons (IsInst s.globals) i c'.insts hi h.insts; exit = h.exit })
+    sound_along e (record { insts = All-cons (IsSoundInst s) i c'.insts hi h.insts; exit = h.exit })
 
-pub sound_exit : {s : Scope} {c : Code} (x : RExit) → c ≡ exit_code x → IsExit s.functions s.blocks x → IsSound s c
-sound_exit {s} x e h = sound_along e (record { insts = All-nil (IsInst s.globals); exit = h })
+pub sound_exit : {s : Scope} {c : Code} (x : RExit) → c ≡ exit_code x → IsSoundExit s x → IsSound s c
+sound_exit {s} x e h = sound_along e (record { insts = All-nil (IsSoundInst s); exit = h })
 
 pub sound_line : {s : Scope} (at : Spot) → IsSoundSpot s at → IsSound s (line_of at)
-sound_line {s} (Block b) h = record { insts = All-nil (IsInst s.globals); exit = h }
+sound_line {s} (Block b) h = record { insts = All-nil (IsSoundInst s); exit = h }
 sound_line {s} (Line c) h = h
 
-pub sound_operation : (g : ℕ) (inst : RInst) (op : Operation) (d p q : ℕ) → inst ≡ inst_of op d p q → IsRegister d → IsRegister p → IsRegister q
-    → IsInst g inst
-sound_operation g inst op d p q e hd hp hq = subst (λ i. IsInst g i) (sym e) (by op.turned)
+pub sound_operation : (s : Scope) (inst : RInst) (op : Operation) (d p q : ℕ) → inst ≡ inst_of op d p q → d < s.registers → p < s.registers
+    → q < s.registers → IsSoundInst s inst
+sound_operation s inst op d p q e hd hp hq = subst (λ i. IsSoundInst s i) (sym e) (by op.turned)
   where
-    by : (b : Bool) → IsInst g (if b then Bin op.op d q p else Bin op.op d p q)
+    by : (b : Bool) → IsSoundInst s (if b then Bin op.op d q p else Bin op.op d p q)
     by true = (hd, (hq, hp))
     by false = (hd, (hp, hq))
 

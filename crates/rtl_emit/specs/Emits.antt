@@ -7,7 +7,7 @@ use Rattle.rtl.specs.Meaning.{Code}
 use Rattle.rtl_emit.specs.Blocks.{open_code, goto, line_of, Spot, Grows, Has, At}
 use Rattle.rtl_emit.specs.Expressions.{Evaluates, Fetches, Decides, FetchAll}
 use Rattle.rtl_emit.specs.Sizes.{joint, Beyond, value_registers, value_blocks, condition_registers, condition_blocks, globals_named}
-use Rattle.rtl_emit.specs.Sizes.{values_registers, arguments_blocks, globals_named_in, test_registers, place_registers, next_free}
+use Rattle.rtl_emit.specs.Sizes.{values_registers, places_registers, arguments_blocks, globals_named_in, test_registers, place_registers, next_free}
 use Rattle.rtl_emit.specs.Sound.{Scope, IsSound, IsSoundSpot, KeepsSound}
 use Rattle.rtl_emit.specs.declared.block.OpenBlock.{OpenBlock}
 use Rattle.rtl_emit.specs.declared.fault.LowerFault.{LowerFault}
@@ -15,11 +15,16 @@ use Rattle.rtl_emit.specs.declared.fault.LowerFault.TheVariants.{Limit}
 use Rattle.rtl_emit.specs.declared.place.Place.{Place}
 use Rattle.rtl_emit.specs.declared.targets.Targets.{Targets}
 
--- how many blocks code adds, and one more than the greatest number of a register, and of a global, that it names
+-- how many blocks code adds, and one more than the greatest number of a register, and of a global, that it names beside
+-- those that it is given
 pub record Size : Type 0 where
   pub registers : ℕ
   pub blocks : ℕ
   pub globals : ℕ
+
+-- so many registers and globals are in scope
+abbrev pub Covers : Size → Scope → Type 0
+Covers size s = (size.registers ≤ s.registers) × (size.globals ≤ s.globals)
 
 -- the blocks that were there stay, whatever is answered; an Ok adds so many, is within the limits, keeps what is sound, and does
 -- its work in every list of blocks that has those which were added; a Limit comes only where one of the sizes is beyond one
@@ -56,20 +61,21 @@ values_size es free = record { registers = values_registers es free; blocks = ar
 -- code that puts the value of an expression into the register `to`
 abbrev pub EmitsValue : TypedExpression → (to free : ℕ) → Spot → (old new : List RBlock) → Result OpenBlock LowerFault → Type 0
 EmitsValue e to free after old new r = Emits (value_size e free (joint after)) old new
-    (λ from. KeepsSound old new (λ s. (to < MAX_REGISTERS)
-    × ((globals_named e ≤ s.globals) × IsSoundSpot s after)) (λ s. IsSound s (open_code from)))
+    (λ from. KeepsSound old new (λ s. (to < s.registers)
+    × (Covers (value_size e free (joint after)) s × IsSoundSpot s after)) (λ s. IsSound s (open_code from)))
     (λ from bs. Evaluates bs e free to (open_code from) (line_of after)) r
 
 -- code that puts it into the operand's place, where it isn't there
 abbrev pub EmitsOperand : TypedExpression → (register free : ℕ) → OpenBlock → (old new : List RBlock) → Result OpenBlock LowerFault → Type 0
 EmitsOperand e register free after old new r = Emits (value_size e free 1) old new
-    (λ from. KeepsSound old new (λ s. (globals_named e ≤ s.globals) × IsSound s (open_code after)) (λ s. IsSound s (open_code from)))
+    (λ from. KeepsSound old new (λ s. (register < s.registers)
+    × (Covers (value_size e free 1) s × IsSound s (open_code after))) (λ s. IsSound s (open_code from)))
     (λ from bs. Fetches bs e free register (open_code from) (open_code after)) r
 
 -- code that leads to one of two blocks
 abbrev pub EmitsBranch : Size → TypedExpression → Targets → (free : ℕ) → (old new : List RBlock) → Result OpenBlock LowerFault → Type 0
 EmitsBranch size e targets free old new r = Emits size old new
-    (λ from. KeepsSound old new (λ s. (globals_named e ≤ s.globals)
+    (λ from. KeepsSound old new (λ s. Covers size s
     × ((targets.yes < s.blocks) × (targets.no < s.blocks))) (λ s. IsSound s (open_code from)))
     (λ from bs. Decides bs e free targets.yes targets.no (open_code from)) r
 
@@ -77,7 +83,8 @@ EmitsBranch size e targets free old new r = Emits size old new
 abbrev pub EmitsOperands : List TypedExpression → List Place → (free : ℕ) → OpenBlock → (old new : List RBlock)
     → Result OpenBlock LowerFault → Type 0
 EmitsOperands es places free after old new r = Emits (values_size es free) old new
-    (λ from. KeepsSound old new (λ s. (globals_named_in es ≤ s.globals) × IsSound s (open_code after)) (λ s. IsSound s (open_code from)))
+    (λ from. KeepsSound old new (λ s. (places_registers es free ≤ s.registers)
+    × (Covers (values_size es free) s × IsSound s (open_code after))) (λ s. IsSound s (open_code from)))
     (λ from bs. FetchAll bs es free places (open_code from) (open_code after)) r
 
 -- code that puts the values of two operands into their places, the second of which is found while the first is held
@@ -91,8 +98,8 @@ both_size l r free next = record {
 abbrev pub EmitsBoth : (left right : TypedExpression) (free p next q : ℕ) → OpenBlock → (old new : List RBlock)
     → Result OpenBlock LowerFault → Type 0
 EmitsBoth l r free p next q after old new x = Emits (both_size l r free next) old new
-    (λ from. KeepsSound old new (λ s. (max (globals_named l) (globals_named r) ≤ s.globals) × IsSound s (open_code after))
-    (λ s. IsSound s (open_code from)))
+    (λ from. KeepsSound old new (λ s. (p < s.registers) × ((q < s.registers)
+    × (Covers (both_size l r free next) s × IsSound s (open_code after)))) (λ s. IsSound s (open_code from)))
     (λ from bs. (middle : Code) × Fetches bs l free p (open_code from) middle × Fetches bs r next q middle (open_code after)) x
 
 -- code in a block of its own
@@ -100,11 +107,11 @@ abbrev pub EmitsBlock : Size → (Needs : Scope → Type 0) (Is : List RBlock �
     → Result ℕ LowerFault → Type 0
 EmitsBlock size Needs Is old new r =
     Emits (record { registers = size.registers; blocks = size.blocks + 1; globals = size.globals }) old new
-    (λ b. KeepsSound old new (λ s. (size.globals ≤ s.globals) × Needs s) (λ s. b < s.blocks))
+    (λ b. KeepsSound old new (λ s. Covers size s × Needs s) (λ s. b < s.blocks))
     (λ b bs. (from : Code) × At bs b from × Is bs from) r
 
 abbrev pub EmitsValueBlock : TypedExpression → (to free join : ℕ) → (old new : List RBlock) → Result ℕ LowerFault → Type 0
-EmitsValueBlock e to free join old new r = EmitsBlock (value_size e free 0) (λ s. (to < MAX_REGISTERS) × (join < s.blocks))
+EmitsValueBlock e to free join old new r = EmitsBlock (value_size e free 0) (λ s. (to < s.registers) × (join < s.blocks))
     (λ bs from. Evaluates bs e free to from (goto join)) old new r
 
 abbrev pub EmitsBranchBlock : TypedExpression → Targets → (free : ℕ) → (old new : List RBlock) → Result ℕ LowerFault → Type 0

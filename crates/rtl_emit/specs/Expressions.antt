@@ -10,7 +10,7 @@ use Rattle.rtl.specs.declared.instruction.RInst.TheVariants as I
 use Rattle.rtl.specs.declared.block.RBlock.{RBlock}
 use Rattle.rtl.specs.declared.limits.TheConstants.{MAX_REGISTERS}
 use Rattle.rtl_emit.specs.Operations.{result_of}
-use Rattle.rtl_emit.specs.Sizes.{next_free}
+use Rattle.rtl_emit.specs.Sizes.{place_registers, next_free}
 use Rattle.rtl_emit.specs.Blocks.{goto, first, Spot, Lands, At}
 use Rattle.rtl_emit.specs.Runs.{Surroundings, Holds, Yields, Takes, Arrives}
 use Rattle.rtl_emit.specs.declared.operation.Operation.{Operation}
@@ -25,6 +25,7 @@ pub record IsPlace (e : TypedExpression) (free p next : ℕ) : Type 0 where
   pub rooms : free ≤ next
   pub next_is : next ≡ next_free e free
   pub within : p < MAX_REGISTERS
+  pub counted : p < place_registers e free
   pub is : Reads e p ⊎ ((free ≤ p) × (p < next))
 
 -- the code from here on puts the value of e into the register d, and goes on there

@@ -19,7 +19,8 @@
 //! typed expressions (`value_of`), wherever the locals are in their registers and locals and globals hold words.
 //! `specs/Sizes.antt` counts the blocks and the pseudo-registers that the code takes: so many blocks are added, the registers
 //! are below the limit, and a Limit comes only where a count is beyond one.
-//! `specs/Sound.antt` says when code names only what is there, and each call keeps that of code and blocks (`KeepsSound`).
+//! `specs/Sound.antt` says when code names only what is there, and each call keeps that of code and blocks (`KeepsSound`), in
+//! every scope that has as many registers and globals as are counted (`Covers`): so it names none above.
 //! `specs/Blocks.antt` has the words on code and blocks, `specs/Runs.antt` those on steps, `specs/Operations.antt` which
 //! operator of RTL computes which of C.
 //!
@@ -27,6 +28,7 @@
 //! - The code of an expression leaves its value in the register that is asked for (`value_into`, `Evaluates`) or in the
 //!   operand's own (`operand_into`, `Fetches`), that of a condition comes to one of two blocks (`condition`,
 //!   `Decides`), and the registers of the locals stay: whatever other blocks there are.
+//! - The code names no register above those that `specs/Sizes.antt` counts, but the one that is asked for.
 //! - After an Err `block_of` and `reserve` have left the blocks as they were, the other calls have at most added some behind
 //!   them, and `places_of` at most places behind those that were there.
 #![tactic(auto)]

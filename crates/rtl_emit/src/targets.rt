@@ -1,7 +1,7 @@
 // The blocks that a branch leads to.
 ghost use Rattle.std.specs.Prelude.{◌≡◌, ◌==◌, ◌+◌, ◌<◌, true, not, List, IfOk, IfErr, OnOk, length, if◌then◌else◌};
 ghost use Rattle.rtl.specs.declared.block.RBlock.{RBlock};
-ghost use Rattle.rtl.specs.declared.limits.TheConstants.{MAX_REGISTERS, MAX_BLOCKS};
+ghost use Rattle.rtl.specs.declared.limits.TheConstants.{MAX_BLOCKS};
 ghost use Rattle.rtl_emit.specs.Blocks.{open_code, goto, spot, Grows, Has};
 ghost use Rattle.rtl_emit.specs.Expressions.{IsTruth};
 ghost use Rattle.rtl_emit.specs.Sizes.{joint};
@@ -84,7 +84,7 @@ pub(crate) fn truth_blocks(
     ensures grows { Grows blocks.old.items blocks.new.items }
     ensures count { OnOk result (length blocks.new.items ≡ length blocks.old.items + (joint (spot after) + 2)) }
     ensures limit { IfErr result (λ f. f ≡ LowerFault.Limit → MAX_BLOCKS < length blocks.old.items + (joint (spot after) + 2)) }
-    ensures sound { IfOk result (λ t. KeepsSound blocks.old.items blocks.new.items (λ s. (to < MAX_REGISTERS) × IsSoundSpot s (spot after))
+    ensures sound { IfOk result (λ t. KeepsSound blocks.old.items blocks.new.items (λ s. (to < s.registers) × IsSoundSpot s (spot after))
         (λ s. (t.yes < s.blocks) × (t.no < s.blocks))) }
     ensures is_likely { IfOk result (λ t. t.likely ≡ true) }
     ensures truth { IfOk result (λ t. (bs : List RBlock) → Has bs blocks.old.items blocks.new.items

@@ -68,7 +68,9 @@ pub(crate) fn combination_at(
     ensures does { IfOk result (λ w. (bs : List RBlock) (from : Code)
         → Fetches bs (typed_expression_of e.now) free w.place.register from (open_code w.code)
         → Combines bs with.operation (typed_expression_of e.now) with.word free to from (open_code after)) }
-    ensures sound { IfOk result (λ w. (s : Scope) → to < MAX_REGISTERS → IsSound s (open_code after) → IsSound s (open_code w.code)) }
+    ensures sound { IfOk result (λ w. (s : Scope) → to < s.registers
+        → max (place_registers (typed_expression_of e.now) free) (next_free (typed_expression_of e.now) free + 1) ≤ s.registers
+        → IsSound s (open_code after) → IsSound s (open_code w.code)) }
     ensures room { OnOk result (max (place_registers (typed_expression_of e.now) free) (next_free (typed_expression_of e.now) free + 1)
         ≤ MAX_REGISTERS) }
     ensures limit { IfErr result (λ f. f ≡ LowerFault.Limit
@@ -92,7 +94,9 @@ pub(crate) fn test_at(
     ensures does { IfOk result (λ w. (bs : List RBlock) (from : Code)
         → Fetches bs (typed_expression_of e.now) free w.place.register from (open_code w.code)
         → Decides bs (typed_expression_of e.now) free targets.yes targets.no from) }
-    ensures sound { IfOk result (λ w. (s : Scope) → targets.yes < s.blocks → targets.no < s.blocks → IsSound s (open_code w.code)) }
+    ensures sound { IfOk result (λ w. (s : Scope) → test_registers targets.likely free (place_registers (typed_expression_of e.now) free)
+        (next_free (typed_expression_of e.now) free) 0 ≤ s.registers
+        → targets.yes < s.blocks → targets.no < s.blocks → IsSound s (open_code w.code)) }
     ensures room { OnOk result (test_registers targets.likely free (place_registers (typed_expression_of e.now) free)
         (next_free (typed_expression_of e.now) free) 0 ≤ MAX_REGISTERS) }
     ensures limit { IfErr result (λ f. f ≡ LowerFault.Limit → MAX_REGISTERS < test_registers targets.likely free
@@ -128,7 +132,9 @@ pub(crate) fn operation_at(
     ensures first { IfOk result (λ w. IsPlace (typed_expression_of left.now) free w.first.register w.first.free) }
     ensures second { IfOk result (λ w. IsPlace (typed_expression_of right.now) w.first.free w.second.register w.second.free) }
     ensures is { IfOk result (λ w. open_code w.code ≡ first (inst_of operation to w.first.register w.second.register) (open_code after)) }
-    ensures sound { IfOk result (λ w. (s : Scope) → to < MAX_REGISTERS → IsSound s (open_code after) → IsSound s (open_code w.code)) }
+    ensures sound { IfOk result (λ w. (s : Scope) → to < s.registers → max (place_registers (typed_expression_of left.now) free)
+        (place_registers (typed_expression_of right.now) (next_free (typed_expression_of left.now) free)) ≤ s.registers
+        → IsSound s (open_code after) → IsSound s (open_code w.code)) }
     ensures room { OnOk result (max (place_registers (typed_expression_of left.now) free)
         (place_registers (typed_expression_of right.now) (next_free (typed_expression_of left.now) free)) ≤ MAX_REGISTERS) }
     ensures limit { IfErr result (λ f. f ≡ LowerFault.Limit → MAX_REGISTERS < max (place_registers (typed_expression_of left.now) free)
@@ -160,7 +166,9 @@ pub(crate) fn contrary_at(
     ensures second { IfOk result (λ w. IsPlace (typed_expression_of right.now) w.first.free w.second.register w.second.free) }
     ensures is { IfOk result (λ w. open_code w.code
         ≡ first (inst_of operation free w.first.register w.second.register) (exit_code (Branch free targets.no targets.yes))) }
-    ensures sound { IfOk result (λ w. (s : Scope) → targets.yes < s.blocks → targets.no < s.blocks → IsSound s (open_code w.code)) }
+    ensures sound { IfOk result (λ w. (s : Scope) → max (free + 1) (max (place_registers (typed_expression_of left.now) free)
+        (place_registers (typed_expression_of right.now) (next_free (typed_expression_of left.now) free))) ≤ s.registers
+        → targets.yes < s.blocks → targets.no < s.blocks → IsSound s (open_code w.code)) }
     ensures room { OnOk result (max (free + 1) (max (place_registers (typed_expression_of left.now) free)
         (place_registers (typed_expression_of right.now) (next_free (typed_expression_of left.now) free))) ≤ MAX_REGISTERS) }
     ensures limit { IfErr result (λ f. f ≡ LowerFault.Limit → MAX_REGISTERS < max (free + 1) (max

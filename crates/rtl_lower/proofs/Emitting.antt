@@ -17,6 +17,7 @@ use Rattle.rtl_emit.specs.Blocks.{Spot, Block, Line, Lands, Grows, Has, Reserves
 use Rattle.rtl_emit.specs.Emits.{Size, Emits, value_size, condition_size, values_size, EmitsValue, EmitsOperand, EmitsBranch, EmitsOperands}
 use Rattle.rtl_emit.specs.Expressions.{IsPlace, Fetches, AddPlaces}
 use Rattle.rtl_emit.specs.Sizes.{joint, place_registers, places_registers, next_free, value_registers, value_blocks, condition_blocks}
+use Rattle.rtl_emit.specs.Sizes.{values_registers, condition_registers}
 use Rattle.rtl_emit.specs.Sound.{Scope, IsSound, IsSoundSpot, AreSound, KeepsSound}
 use Rattle.rtl_emit.specs.declared.block.OpenBlock.{OpenBlock}
 use Rattle.rtl_emit.specs.declared.block.Continuation.{Continuation}
@@ -38,7 +39,7 @@ use Rattle.rtl_lower.specs.declared.context.Context.{Context}
 use Rattle.rtl_lower.specs.declared.simple.Receiver.{Receiver}
 use Rattle.rtl_lower.specs.declared.statement.Turn.{Turn}
 use Rattle.rtl_lower.proofs.Sizes.{rest_blocks, rest_registers, rest_numbers}
-use Rattle.rtl_lower.proofs.Sound.{named, named_all, in_scope, callee_sound, place_registers_sound, within_filled, reserved_within}
+use Rattle.rtl_lower.proofs.Sound.{fewer, named, named_all, in_scope, callee_sound, place_registers_sound, within_filled, reserved_within}
 use Rattle.rtl_lower.proofs.Statements.{store_code, call_code, turn_block, has_before, has_past, at_filled}
 use Rattle.rtl_lower.proofs.Spots.{comes_equal}
 
@@ -116,7 +117,11 @@ local_emits old new to x local e free after r it il lt v =
     (ended (value_size e free (joint after)) (statement_size (assign (Local local) e) free (joint after)) 0 old old new _ _ _ _ r
     (record { blocks = omega arith; registers = omega arith; room = λ le. omega (arith, le, lt); globals = omega arith })
     (grows_same old) (omega arith)
-    (λ from keeps p n gives inside f s l g h. keeps s l g (lt, (named p s n e h.0 f.1, h.1)))
+    (λ from keeps p n gives inside f s l g h.
+    let le = h.0.registers_fit in
+    let to_it : local < s.registers = omega (arith, le) in
+    let few : value_registers e free ≤ s.registers = omega (arith, le) in
+    keeps s l g (to_it, ((few, named p s n e h.0 f.1), h.1)))
     (λ from does bs h leave next. record { code = open_code from; is = refl; value = does bs h }) v)
 
 pub variable_emits : (old new : List RBlock) (to : Destination) (x g : ℕ) (e : TypedExpression) (free p next z : ℕ) (last middle : OpenBlock)
@@ -132,7 +137,12 @@ variable_emits old new to x g e free p next z last middle after r it ig pl room 
     (grows_same old) (omega arith)
     (λ from keeps p' n gives inside f s l g' h.
     let there = in_scope p' s _ _ h.0 refl f.0 in
-    keeps s l g' (named p' s n e h.0 f.1, sound_first _ fm lt (sound_first _ fl (there, (lt, pl.within)) (sound_line _ h.1))))
+    let le = h.0.registers_fit in
+    let pw = pl.counted in
+    let held : p < s.registers = omega (arith, le, pw) in
+    let spare : z < s.registers = omega (arith, le, next_is) in
+    let few : value_registers e free ≤ s.registers = omega (arith, le) in
+    keeps s l g' (held, ((few, named p' s n e h.0 f.1), sound_first _ fm spare (sound_first _ fl (there, (spare, held)) (sound_line _ h.1)))))
     (λ from does bs h leave next'. record { z = z; fetches = fetches_first from pl (finds_to code (does bs h)); spare = omega (arith, iz) }) o)
 
 pub store_emits : (old mid new : List RBlock) (a a' : ℕ) (i e : TypedExpression) (free p next q last : ℕ) (code middle : OpenBlock) (after : Spot)
@@ -148,9 +158,18 @@ store_emits old mid new a a' i e free p next q last code middle after r ia pi ri
     second.grows c1
     (λ from keeps p' n gives inside f s l g h.
     let there = in_scope p' s _ _ h.0 ia f.0 in
-    let end = sound_first _ fe (there, (pi.within, pe.within)) (sound_line _ h.1) in
-    let m = second.sound s (within one.grows l) g (named p' s n e h.0 f.1.1, end) in
-    keeps s l m.0 (named p' s n i h.0 f.1.0, m.1))
+    let le = h.0.registers_fit in
+    let pw = pi.counted in
+    let qw = pe.counted in
+    let qe = ap (place_registers e) pi.next_is in
+    let ve = ap (value_registers e) pi.next_is in
+    let at_index : p < s.registers = omega (arith, le, pw) in
+    let at_value : q < s.registers = omega (arith, le, qw, qe) in
+    let in_value : value_registers e next ≤ s.registers = omega (arith, le, ve) in
+    let in_index : value_registers i free ≤ s.registers = omega (arith, le) in
+    let end = sound_first _ fe (there, (at_index, at_value)) (sound_line _ h.1) in
+    let m = second.sound s (within one.grows l) g (at_value, ((in_value, named p' s n e h.0 f.1.1), end)) in
+    keeps s l m.0 (at_index, ((in_index, named p' s n i h.0 f.1.0), m.1)))
     (λ from does bs h leave next'. store_code old mid new free a a' i e p next q last (open_code from) (open_code middle) (open_code code) after
     ia fe pi pe second.grows one.grows second.does does leave next' bs h) one
 
@@ -163,7 +182,11 @@ output_emits old mid new e free b p next end after r sealing pl room fe o =
     sealing.grows sealing.count
     (λ from keeps p' n gives inside f s l g h.
     let j = sealing.sound s (within o.grows l) g h.1 in
-    keeps s l j.0 (named p' s n e h.0 f, sound_exit _ fe (pl.within, j.1)))
+    let le = h.0.registers_fit in
+    let pw = pl.counted in
+    let held : p < s.registers = omega (arith, le, pw) in
+    let few : value_registers e free ≤ s.registers = omega (arith, le) in
+    keeps s l j.0 (held, ((few, named p' s n e h.0 f), sound_exit _ fe (held, j.1))))
     (λ from does bs h leave next'.
     let sp = split2 bs old mid new sealing.grows o.grows h in
     record {
@@ -195,7 +218,11 @@ to_local_emits old new to x local free b after it il lt sealing =
       count = sealing.count;
       room = omega (arith, lt);
       limit = tt;
-      sound = λ p n f s l g h. let j = sealing.sound s l g h.1 in (j.0, (lt, j.1));
+      sound = λ p n f s l g h.
+          let le = h.0.registers_fit in
+          let to_it : local < s.registers = omega (arith, le) in
+          let j = sealing.sound s l g h.1 in
+          (j.0, (to_it, j.1));
       does = λ bs h. (refl, sealing.lands bs h);
     })
 
@@ -214,8 +241,11 @@ to_variable_emits old new to x g free t z b last code after it ig ift lt iz ltz 
       limit = tt;
       sound = λ p n f s l g' h.
           let there = in_scope p s _ _ h.0 refl f in
-          let j = sealing.sound s l g' (sound_first _ fc ltz (sound_first _ fl (there, (ltz, lt)) (sound_line _ h.1))) in
-          (j.0, (lt, j.1));
+          let le = h.0.registers_fit in
+          let of_result : t < s.registers = omega (arith, le, ift) in
+          let of_index : z < s.registers = omega (arith, le, ift, iz) in
+          let j = sealing.sound s l g' (sound_first _ fc of_index (sound_first _ fl (there, (of_index, of_result)) (sound_line _ h.1))) in
+          (j.0, (of_result, j.1));
       does = λ bs h. record {
         t = t;
         z = z;
@@ -236,13 +266,16 @@ call_emits old mid new to f f' es free x places0 places ps1 ps2 args end after r
     (record { blocks = omega arith; registers = omega arith; room = λ le. omega (arith, le, room, receiver.room); globals = omega arith })
     receiver.grows receiver.count
     (λ from keeps p n gives inside fits s l g h.
-    let j = receiver.sound p n fits.0 s (within values.grows l) g h in
+    let j = receiver.sound p n fits.0 s (within values.grows l) g (fewer h.0 (omega arith), h.1) in
+    let le = h.0.registers_fit in
+    let in_places : places_registers es free ≤ s.registers = omega (arith, le) in
+    let few : values_registers es free ≤ s.registers = omega (arith, le) in
     let all : places ≡ add.0 = add.1 ∙ ap (λ l. l ++ add.0) i0 in
     let registers = ia ∙ ap (map (λ p. p.register)) (i1 ∙ all) in
     let named_call = fits.1.0 in
     let callee = callee_sound p s _ _ named_call.callee _ _ _ _ h.0 ig named_call.there named_call.count registers add.2 in
-    let exit = sound_exit _ fe (callee, (place_registers_sound _ _ _ _ registers add.2, j.1)) in
-    keeps s l j.0 (named_all p s n es h.0 fits.1.1, exit))
+    let exit = sound_exit _ fe (callee, (place_registers_sound s.registers _ _ _ _ registers add.2 in_places, j.1)) in
+    keeps s l j.0 (in_places, ((few, named_all p s n es h.0 fits.1.1), exit)))
     (λ from does bs h leave next. call_code old mid new free to f f' x.to es places0 places ps1 ps2 args (open_code from) (open_code end) after x.block
     ig i0 add i1 i2 ia fe receiver.grows values.grows receiver.does does leave next bs h) values
 
@@ -261,7 +294,12 @@ value_returned old new given e free p next end after r ig pl room fe o =
     (ended (value_size e free 1) (statement_size (return_with (Some e)) free (joint after)) 0 old old new _ _ _ _ r
     (record { blocks = omega arith; registers = omega arith; room = λ le. omega (arith, le, room); globals = omega arith })
     (grows_same old) (omega arith)
-    (λ from keeps p' n gives inside f s l g h. keeps s l g (named p' s n e h.0 f.1, sound_exit _ fe pl.within))
+    (λ from keeps p' n gives inside f s l g h.
+    let le = h.0.registers_fit in
+    let pw = pl.counted in
+    let held : p < s.registers = omega (arith, le, pw) in
+    let few : value_registers e free ≤ s.registers = omega (arith, le) in
+    keeps s l g (held, ((few, named p' s n e h.0 f.1), sound_exit _ fe held)))
     (λ from does bs h leave next'. fetches_first from pl (finds_to fe (does bs h))) o)
 
 -- statements that are no code of their own
@@ -316,8 +354,8 @@ more_emits old mid new all s rest c after middle r is others one =
     (λ from keeps. (
       keeps.0 ∙ ap (statement_joint s) same,
       λ p n gives inside f s' l g h.
-          let m = others.sound.1 p n gives inside f.1 s' (within one.grows l) g h in
-          keeps.1 p n gives inside f.0 s' l m.0 (h.0, (h.1.0, (h.1.1.0, m.1))),
+          let m = others.sound.1 p n gives inside f.1 s' (within one.grows l) g (fewer h.0 (omega arith), h.1) in
+          keeps.1 p n gives inside f.0 s' l m.0 (fewer h.0 (omega arith), (h.1.0, (h.1.1.0, m.1))),
     ))
     (λ from does bs h.
     let sp = split2 bs old mid new others.grows one.grows h in
@@ -397,9 +435,11 @@ if_emits b0 b1 b2 b3 b4 e a b c join y n likely after r il sealing one other tes
           let l3 = within test'.grows l in
           let l2 = within other.grows l3 in
           let j = sealing.sound s (within one.grows l2) g h.1.1.1 in
-          let x = one.sound p k gives inside f.1.0 s l2 j.0 (h.0, (h.1.0, (h.1.1.0, j.1))) in
-          let z = other.sound p k gives inside f.1.1 s l3 x.0 (h.0, (h.1.0, (h.1.1.0, j.1))) in
-          keeps s l z.0 (named p s k e h.0 f.0, (x.1, z.1)),
+          let x = one.sound p k gives inside f.1.0 s l2 j.0 (fewer h.0 (omega arith), (h.1.0, (h.1.1.0, j.1))) in
+          let z = other.sound p k gives inside f.1.1 s l3 x.0 (fewer h.0 (omega arith), (h.1.0, (h.1.1.0, j.1))) in
+          let le = h.0.registers_fit in
+          let few : condition_registers e (stays a && not (is_equality e)) c.free ≤ s.registers = omega (arith, le) in
+          keeps s l z.0 ((few, named p s k e h.0 f.0), (x.1, z.1)),
     ))
     (λ from does bs h.
     let sp = split4 bs b0 b1 b2 b3 b4 sealing.grows one.grows other.grows test'.grows h in
@@ -498,8 +538,10 @@ turn_emits b0 b1 b2 b3 e last c many again bottom code r test part end =
       subst (λ n. IsEnd many t n) same keeps.0,
       λ p n gives fe fl s l g h.
           let l2 = within end.grows l in
-          let x = test.sound s (within part.grows l2) g (named p s n e h.0 fe, h.1.1.1) in
-          let y = part.sound.1 p n gives false fl s l2 x.0 (h.0, (h.1.0, (h.1.1.0, x.1))) in
+          let le = h.0.registers_fit in
+          let few : condition_registers e again.likely c.free ≤ s.registers = omega (arith, le) in
+          let x = test.sound s (within part.grows l2) g ((few, named p s n e h.0 fe), h.1.1.1) in
+          let y = part.sound.1 p n gives false fl s l2 x.0 (fewer h.0 (omega arith), (h.1.0, (h.1.1.0, x.1))) in
           keeps.1 s l y.0 y.1,
     ))
     (λ t does bs h.
@@ -551,9 +593,11 @@ loop_emits b0 b1 b2 b3 b4 b5 b6 e last body c inner many left head turn code top
             let l2 = within turn_emits'.grows l3 in
             let j = sealing.sound s (within res.grows l2) g h.1.1.1 in
             let at : head < s.blocks = reserved_within res l2 in
-            let x = turn_emits'.sound.1 p n gives f'.0 f'.1.0 s l3 (kept s j.0) (h.0, (h.1.0, (h.1.1.0, (at, j.1)))) in
-            let y = body_emits.sound.1 p n gives true f'.1.1 s l4 x.0 (h.0, (j.1, x.1)) in
-            let z = test.sound s l5 y.0 (named p s n e h.0 f'.0, (at, j.1)) in
+            let x = turn_emits'.sound.1 p n gives f'.0 f'.1.0 s l3 (kept s j.0) (fewer h.0 (omega arith), (h.1.0, (h.1.1.0, (at, j.1)))) in
+            let y = body_emits.sound.1 p n gives true f'.1.1 s l4 x.0 (fewer h.0 (omega arith), (j.1, x.1)) in
+            let le = h.0.registers_fit in
+            let few : condition_registers e true c.free ≤ s.registers = omega (arith, le) in
+            let z = test.sound s l5 y.0 ((few, named p s n e h.0 f'.0), (at, j.1)) in
             (sound s z.0 (sound_along ie (sound_line _ y.1)), z.1),
       );
       does = λ bs h.

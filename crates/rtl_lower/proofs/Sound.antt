@@ -1,10 +1,11 @@
 -- What a well-formed program's statements name is there.
-use Rattle.std.proofs.Common.{◌≡◌, ℕ, suc, zero, ◌+◌, ◌*◌, ◌<◌, ◌≤◌, ◌^◌, List, [], ◌∷◌, Some, refl, sym, ◌∙◌, ap, subst}
-use Rattle.std.proofs.Common.{arith, length, get_or, Bool}
-use Rattle.std.specs.Prelude.{All, slice_get, sum_by, map}
+use Rattle.std.proofs.Common.{◌≡◌, ℕ, suc, zero, ◌+◌, ◌*◌, ◌<◌, ◌≤◌, ◌^◌, List, [], ◌∷◌, ◌++◌, Option, Some, None, refl, sym, ◌∙◌, ap, subst}
+use Rattle.std.proofs.Common.{arith, length, get_or, Bool, true, false}
+use Rattle.std.specs.Prelude.{All, slice_get, sum_by, map, nat_lt, if◌then◌else◌}
+use Rattle.std.specs.List.{AllByRecursion}
 use Rattle.std.proofs.lemmas.List.Sums.{sum_by-cons}
 use Rattle.std.proofs.lemmas.Option.{slice_get_within}
-use Rattle.std.proofs.lemmas.List.Elements.{All-nil, All-cons, All-head, All-tail}
+use Rattle.std.proofs.lemmas.List.Elements.{All-nil, All-cons, All-head, All-tail, All-weaker, recursion_from_All}
 use Rattle.words.specs.Widths.{words_of_elements}
 use Rattle.words.specs.declared.width.Width.{Width}
 use Rattle.words.specs.declared.width.Width.TheVariants.{Word, Byte}
@@ -16,44 +17,60 @@ use Rattle.c_typed.specs.Shape.{functions_of}
 use Rattle.c_typed.specs.Trees.{TypedExpression, TypedStatement, TypedFunction, TypedProgram}
 use Rattle.c_typed.specs.WellFormed.{FitsExpression, FitsAll, FitsStatement, FitsFunction, IsWellFormed, words_in}
 use Rattle.rtl.specs.Programs as Programs
-use Rattle.rtl.specs.Programs.{IsRegister, IsCallee, IsBlock, IsFunction, IsGlobal, IsProgram, block_count, word_count}
+use Rattle.rtl.specs.Programs.{IsRegister, IsMaybeRegister, IsInst, IsExit, IsCallee, IsBlock, IsFunction, IsGlobal, IsProgram, block_count, word_count}
+use Rattle.rtl.specs.Names.{inst_names, optional, exit_names, insts_names, blocks_names, bound}
 use Rattle.rtl.specs.Meaning.{Code}
+use Rattle.rtl.specs.declared.limits.TheConstants.{MAX_REGISTERS}
+use Rattle.rtl.specs.declared.instruction.RInst.{RInst}
+use Rattle.rtl.specs.declared.instruction.RInst.TheVariants.{Const, Move, Bin, Load, Store}
+use Rattle.rtl.specs.declared.instruction.RExit.{RExit}
+use Rattle.rtl.specs.declared.instruction.RExit.TheVariants.{Goto, Branch, Call, Return, Out}
 use Rattle.rtl.specs.declared.block.RBlock.{RBlock}
 use Rattle.rtl.specs.declared.block.RFunc.{RFunc}
 use Rattle.rtl.specs.declared.block.RGlobal.{RGlobal}
-use Rattle.rtl_emit.specs.Sizes.{globals_named, globals_named_in}
+use Rattle.rtl_emit.specs.Sizes.{globals_named, globals_named_in, places_registers}
 use Rattle.rtl_emit.specs.Blocks.{Reserves, Fills}
-use Rattle.rtl_emit.specs.Sound.{Scope, AreSound}
+use Rattle.rtl_emit.specs.Sound.{Scope, IsSoundInst, IsSoundMaybe, IsSoundExit, AreSound}
 use Rattle.rtl_emit.specs.Expressions.{ArePlaces}
 use Rattle.rtl_emit.specs.declared.place.Place.{Place}
 use Rattle.rtl_lower.specs.Coded.{IsCodeOf, AreCodesOf, AreGlobalsOf}
-use Rattle.rtl_lower.specs.Sizes.{HaveRoom, function_blocks}
+use Rattle.rtl_lower.specs.Laws.{IsOfSize, AreOfSizes}
+use Rattle.rtl_lower.specs.Sizes.{HaveRoom, function_blocks, function_registers}
 use Rattle.rtl_lower.specs.Sound.{Suits}
 use Rattle.rtl_lower.proofs.Fitted.{expression_numbers, list_numbers}
 use Rattle.rtl_lower.proofs.Functions.{pairs_at}
 
 -- expressions
 
-pub named : (p : TypedProgram) (s : Scope) (n : ℕ) (e : TypedExpression) → Suits p s → FitsExpression p n e → globals_named e ≤ s.globals
+pub named : {r : ℕ} (p : TypedProgram) (s : Scope) (n : ℕ) (e : TypedExpression) → Suits p r s → FitsExpression p n e → globals_named e ≤ s.globals
 named p s n e su f = let a = expression_numbers p n e f in let b = su.globals in omega (arith, a, b)
 
-pub named_all : (p : TypedProgram) (s : Scope) (n : ℕ) (es : List TypedExpression) → Suits p s → FitsAll p n es → globals_named_in es ≤ s.globals
+pub named_all : {r : ℕ} (p : TypedProgram) (s : Scope) (n : ℕ) (es : List TypedExpression) → Suits p r s → FitsAll p n es
+    → globals_named_in es ≤ s.globals
 named_all p s n es su f = let a = list_numbers p n es f in let b = su.globals in omega (arith, a, b)
 
-pub in_scope : (p : TypedProgram) (s : Scope) (g g' : ℕ) → Suits p s → g' ≡ g → g < length p.globals → g' < s.globals
+pub in_scope : {r : ℕ} (p : TypedProgram) (s : Scope) (g g' : ℕ) → Suits p r s → g' ≡ g → g < length p.globals → g' < s.globals
 in_scope p s g g' su e lt = let b = su.globals in omega (arith, e, lt, b)
+
+-- fewer registers
+pub fewer : {p : TypedProgram} {n m : ℕ} {s : Scope} → Suits p n s → m ≤ n → Suits p m s
+fewer su le = record { registers_fit = (let r = su.registers_fit in omega (arith, r, le)); functions = su.functions; globals = su.globals }
 
 -- calls
 
-callee_registers : (es : List TypedExpression) (free : ℕ) (ps : List Place) → ArePlaces es free ps → All IsRegister (map (λ p. p.register) ps)
-callee_registers [] free [] a = All-nil IsRegister
-callee_registers [] free (p ∷ ps) a = absurd a
-callee_registers (e ∷ es) free [] a = absurd a
-callee_registers (e ∷ es) free (p ∷ ps) a = All-cons IsRegister p.register (map (λ p. p.register) ps) a.0.within (callee_registers es p.free ps a.1)
+callee_registers : (n : ℕ) (es : List TypedExpression) (free : ℕ) (ps : List Place) → ArePlaces es free ps → places_registers es free ≤ n
+    → All (λ x. x < n) (map (λ p. p.register) ps)
+callee_registers n [] free [] a le = All-nil (λ x. x < n)
+callee_registers n [] free (p ∷ ps) a le = absurd a
+callee_registers n (e ∷ es) free [] a le = absurd a
+callee_registers n (e ∷ es) free (p ∷ ps) a le =
+    let w = a.0.counted in
+    let is = ap (places_registers es) a.0.next_is in
+    All-cons (λ x. x < n) p.register (map (λ p. p.register) ps) (omega (arith, w, le)) (callee_registers n es p.free ps a.1 (omega (arith, is, le)))
 
-pub place_registers_sound : (es : List TypedExpression) (free : ℕ) (ps : List Place) (rs : List ℕ) → rs ≡ map (λ p. p.register) ps → ArePlaces es free ps
-    → All IsRegister rs
-place_registers_sound es free ps rs e a = subst (λ rs. All IsRegister rs) (sym e) (callee_registers es free ps a)
+pub place_registers_sound : (n : ℕ) (es : List TypedExpression) (free : ℕ) (ps : List Place) (rs : List ℕ) → rs ≡ map (λ p. p.register) ps
+    → ArePlaces es free ps → places_registers es free ≤ n → All (λ x. x < n) rs
+place_registers_sound n es free ps rs e a le = subst (λ rs. All (λ x. x < n) rs) (sym e) (callee_registers n es free ps a le)
 
 places_length : (es : List TypedExpression) (free : ℕ) (ps : List Place) → ArePlaces es free ps → length (map (λ p. p.register) ps) ≡ length es
 places_length [] free [] a = refl
@@ -61,8 +78,8 @@ places_length [] free (p ∷ ps) a = absurd a
 places_length (e ∷ es) free [] a = absurd a
 places_length (e ∷ es) free (p ∷ ps) a = ap suc (places_length es p.free ps a.1)
 
-pub callee_sound : (p : TypedProgram) (s : Scope) (f f' : ℕ) (callee : TypedFunction) (es : List TypedExpression) (free : ℕ) (ps : List Place)
-    (rs : List ℕ) → Suits p s → f' ≡ f → slice_get p.functions f ≡ Some callee → length es ≡ callee.parameters → rs ≡ map (λ p. p.register) ps
+pub callee_sound : {r : ℕ} (p : TypedProgram) (s : Scope) (f f' : ℕ) (callee : TypedFunction) (es : List TypedExpression) (free : ℕ) (ps : List Place)
+    (rs : List ℕ) → Suits p r s → f' ≡ f → slice_get p.functions f ≡ Some callee → length es ≡ callee.parameters → rs ≡ map (λ p. p.register) ps
     → ArePlaces es free ps
     → IsCallee s.functions f' (length rs)
 callee_sound p s f f' callee es free ps rs su ef there count e a =
@@ -109,38 +126,145 @@ same_words (g ∷ gs) [] m = absurd m
 
 -- functions
 
-blocks_are : (s : Scope) (bs : List RBlock) → AreSound s bs → All (IsBlock s.functions s.globals s.blocks) bs
-blocks_are s [] a = All-nil (IsBlock s.functions s.globals s.blocks)
-blocks_are s (b ∷ bs) a =
-    All-cons (IsBlock s.functions s.globals s.blocks) b bs (record { insts = a.0.insts; exit = a.0.exit }) (blocks_are s bs a.1)
+inst_is : (s : Scope) (i : RInst) → s.registers ≤ MAX_REGISTERS → IsSoundInst s i → IsInst s.globals i
+inst_is s (Const d w) le h = omega (arith, le, h)
+inst_is s (Move d a) le h = (omega (arith, le, h.0), omega (arith, le, h.1))
+inst_is s (Bin op d a b) le h = (omega (arith, le, h.0), (omega (arith, le, h.1.0), omega (arith, le, h.1.1)))
+inst_is s (Load d g i) le h = (omega (arith, le, h.0), (h.1.0, omega (arith, le, h.1.1)))
+inst_is s (Store g i a) le h = (h.0, (omega (arith, le, h.1.0), omega (arith, le, h.1.1)))
+
+maybe_is : (s : Scope) (o : Option ℕ) → s.registers ≤ MAX_REGISTERS → IsSoundMaybe s o → IsMaybeRegister o
+maybe_is s None le h = tt
+maybe_is s (Some x) le h = omega (arith, le, h)
+
+exit_is : (s : Scope) (x : RExit) → s.registers ≤ MAX_REGISTERS → IsSoundExit s x → IsExit s.functions s.blocks x
+exit_is s (Goto b) le h = h
+exit_is s (Branch a t e) le h = (omega (arith, le, h.0), h.1)
+exit_is s (Call f args d next) le h =
+    (h.0, (All-weaker (λ x. x < s.registers) IsRegister (λ x lt. omega (arith, le, lt)) args.items h.1.0, (maybe_is s d le h.1.1.0, h.1.1.1)))
+exit_is s (Return a) le h = maybe_is s a le h
+exit_is s (Out a next) le h = (omega (arith, le, h.0), h.1)
+
+blocks_are : (s : Scope) (bs : List RBlock) → s.registers ≤ MAX_REGISTERS → AreSound s bs → All (IsBlock s.functions s.globals s.blocks) bs
+blocks_are s [] le a = All-nil (IsBlock s.functions s.globals s.blocks)
+blocks_are s (b ∷ bs) le a =
+    All-cons (IsBlock s.functions s.globals s.blocks) b bs
+    (record {
+      insts = All-weaker (IsSoundInst s) (IsInst s.globals) (λ i h. inst_is s i le h) b.insts.items a.0.insts;
+      exit = exit_is s b.exit le a.0.exit;
+    }) (blocks_are s bs le a.1)
+
+-- the names of sound code, and how many registers they number
+
+all_names : (n : ℕ) (xs ys : List ℕ) → AllByRecursion (λ x. x < n) xs → AllByRecursion (λ x. x < n) ys → AllByRecursion (λ x. x < n) (xs ++ ys)
+all_names n [] ys a b = b
+all_names n (x ∷ xs) ys a b = (a.0, all_names n xs ys a.1 b)
+
+inst_below : (s : Scope) (i : RInst) → IsSoundInst s i → AllByRecursion (λ x. x < s.registers) (inst_names i)
+inst_below s (Const d w) h = (h, tt)
+inst_below s (Move d a) h = (h.0, (h.1, tt))
+inst_below s (Bin op d a b) h = (h.0, (h.1.0, (h.1.1, tt)))
+inst_below s (Load d g i) h = (h.0, (h.1.1, tt))
+inst_below s (Store g i a) h = (h.1.0, (h.1.1, tt))
+
+insts_below : (s : Scope) (is : List RInst) → AllByRecursion (IsSoundInst s) is → AllByRecursion (λ x. x < s.registers) (insts_names is)
+insts_below s [] a = tt
+insts_below s (i ∷ is) a = all_names s.registers (inst_names i) (insts_names is) (inst_below s i a.0) (insts_below s is a.1)
+
+maybe_below : (s : Scope) (o : Option ℕ) → IsSoundMaybe s o → AllByRecursion (λ x. x < s.registers) (optional o)
+maybe_below s None h = tt
+maybe_below s (Some x) h = (h, tt)
+
+exit_below : (s : Scope) (x : RExit) → IsSoundExit s x → AllByRecursion (λ x. x < s.registers) (exit_names x)
+exit_below s (Goto b) h = tt
+exit_below s (Branch a t e) h = (h.0, tt)
+exit_below s (Call f args d next) h =
+    all_names s.registers args.items (optional d) (recursion_from_All (λ x. x < s.registers) args.items h.1.0) (maybe_below s d h.1.1.0)
+exit_below s (Return a) h = maybe_below s a h
+exit_below s (Out a next) h = (h.0, tt)
+
+blocks_below : (s : Scope) (bs : List RBlock) → AreSound s bs → AllByRecursion (λ x. x < s.registers) (blocks_names bs)
+blocks_below s [] a = tt
+blocks_below s (b ∷ bs) a =
+    all_names s.registers (insts_names b.insts.items) (exit_names b.exit ++ blocks_names bs)
+    (insts_below s b.insts.items (recursion_from_All (IsSoundInst s) b.insts.items a.0.insts))
+    (all_names s.registers (exit_names b.exit) (blocks_names bs) (exit_below s b.exit a.0.exit) (blocks_below s bs a.1))
+
+bound_within : (n m : ℕ) (xs : List ℕ) → n ≤ m → AllByRecursion (λ x. x < m) xs → bound n xs ≤ m
+bound_within n m [] le a = le
+bound_within n m (x ∷ xs) le a = bound_within (if nat_lt x n then n else suc x) m xs (one (nat_lt x n)) a.1
+  where
+    one : (b : Bool) → (if b then n else suc x) ≤ m
+    one true = le
+    one false = (let lt = a.0 in omega (arith, lt))
+
+-- what there is to name in a function
+abbrev scope_of : TypedFunction → (rs : List RFunc) (globals : ℕ) → RFunc → Scope
+scope_of f rs globals r = record { registers = function_registers f; functions = rs; globals = globals; blocks = length r.blocks.items }
+
+sound_function : (p : TypedProgram) (rs : List RFunc) (globals : ℕ) (f : TypedFunction) (r : RFunc)
+    → ((i : ℕ) (f : TypedFunction) → slice_get p.functions i ≡ Some f → IsCallee rs i f.parameters) → length p.globals ≤ globals → FitsFunction p f
+    → IsCodeOf f r → AreSound (scope_of f rs globals r) r.blocks.items
+sound_function p rs globals f r callees gs fits c =
+    c.sound p (scope_of f rs globals r) (record { registers_fit = omega arith; functions = callees; globals = gs }) fits (omega arith)
+
+size_is : (p : TypedProgram) (rs : List RFunc) (f : TypedFunction) (r : RFunc)
+    → ((i : ℕ) (f : TypedFunction) → slice_get p.functions i ≡ Some f → IsCallee rs i f.parameters) → FitsFunction p f
+    → IsCodeOf f r → IsOfSize f r
+size_is p rs f r callees fits c =
+    let s = scope_of f rs (length p.globals) r in
+    let q = c.parameters in
+    let m = fits.first in
+    record {
+      registers = bound_within r.parameters (function_registers f) (blocks_names r.blocks.items) (omega (arith, q, m))
+          (blocks_below s r.blocks.items (sound_function p rs (length p.globals) f r callees (omega arith) fits c));
+      blocks = c.count;
+    }
 
 function_is : (p : TypedProgram) (rs : List RFunc) (globals : ℕ) (f : TypedFunction) (r : RFunc)
     → ((i : ℕ) (f : TypedFunction) → slice_get p.functions i ≡ Some f → IsCallee rs i f.parameters) → length p.globals ≤ globals → FitsFunction p f
-    → IsCodeOf f r → IsFunction rs globals r
-function_is p rs globals f r callees gs fits c =
-    let s : Scope = record { functions = rs; globals = globals; blocks = length r.blocks.items } in
+    → function_registers f ≤ MAX_REGISTERS → IsCodeOf f r → IsFunction rs globals r
+function_is p rs globals f r callees gs fits few c =
+    let s = scope_of f rs globals r in
     let at = c.entry_at in
     let q = c.parameters in
     let m = fits.parameters in
     record {
       parameters = omega (arith, q, m);
       entry = slice_get_within r.blocks.items 0 at.block at.there;
-      blocks = blocks_are s r.blocks.items (c.sound p s (record { functions = callees; globals = gs }) fits (omega arith));
+      blocks = blocks_are s r.blocks.items few (sound_function p rs globals f r callees gs fits c);
     }
 
 functions_are : (p : TypedProgram) (rs : List RFunc) (globals : ℕ)
     → ((i : ℕ) (f : TypedFunction) → slice_get p.functions i ≡ Some f → IsCallee rs i f.parameters) → length p.globals ≤ globals
-    → (fs : List TypedFunction) (some : List RFunc) → AreCodesOf fs some → All (FitsFunction p) fs → All (IsFunction rs globals) some
-functions_are p rs globals callees gs [] [] m a = All-nil (IsFunction rs globals)
-functions_are p rs globals callees gs (f ∷ fs) (r ∷ some) m a =
-    All-cons (IsFunction rs globals) r some (function_is p rs globals f r callees gs (All-head (FitsFunction p) f fs a) m.0)
-    (functions_are p rs globals callees gs fs some m.1 (All-tail (FitsFunction p) f fs a))
-functions_are p rs globals callees gs [] (r ∷ some) m a = absurd m
-functions_are p rs globals callees gs (f ∷ fs) [] m a = absurd m
+    → (fs : List TypedFunction) (some : List RFunc) → AreCodesOf fs some → All (FitsFunction p) fs
+    → All (λ f. function_registers f ≤ MAX_REGISTERS) fs → All (IsFunction rs globals) some
+functions_are p rs globals callees gs [] [] m a few = All-nil (IsFunction rs globals)
+functions_are p rs globals callees gs (f ∷ fs) (r ∷ some) m a few =
+    All-cons (IsFunction rs globals) r some (function_is p rs globals f r callees gs (All-head (FitsFunction p) f fs a)
+    (All-head (λ f. function_registers f ≤ MAX_REGISTERS) f fs few) m.0)
+    (functions_are p rs globals callees gs fs some m.1 (All-tail (FitsFunction p) f fs a) (All-tail (λ f. function_registers f ≤ MAX_REGISTERS) f fs few))
+functions_are p rs globals callees gs [] (r ∷ some) m a few = absurd m
+functions_are p rs globals callees gs (f ∷ fs) [] m a few = absurd m
+
+sizes_of : (p : TypedProgram) (rs : List RFunc) → ((i : ℕ) (f : TypedFunction) → slice_get p.functions i ≡ Some f → IsCallee rs i f.parameters)
+    → (fs : List TypedFunction) (some : List RFunc) → AreCodesOf fs some → All (FitsFunction p) fs → AreOfSizes fs some
+sizes_of p rs callees [] [] m a = tt
+sizes_of p rs callees (f ∷ fs) (r ∷ some) m a =
+    (size_is p rs f r callees (All-head (FitsFunction p) f fs a) m.0, sizes_of p rs callees fs some m.1 (All-tail (FitsFunction p) f fs a))
+sizes_of p rs callees [] (r ∷ some) m a = absurd m
+sizes_of p rs callees (f ∷ fs) [] m a = absurd m
 
 callee_of : (fs : List TypedFunction) (rs : List RFunc) → AreCodesOf fs rs → (i : ℕ) (f : TypedFunction) → slice_get fs i ≡ Some f
     → IsCallee rs i f.parameters
 callee_of fs rs m i f e = let r = pairs_at IsCodeOf fs rs m i f e in record { callee = r.0; there = r.1; takes = r.2.parameters }
+
+pub sizes_are : (parts : TypedParts) (fs : List Function) (rs all : List RFunc) → fs ≡ parts.functions → all ≡ rs → AreCodesOf (functions_of fs) rs
+    → IsWellFormed (program_of parts) → AreOfSizes (functions_of parts.functions) all
+sizes_are parts fs rs all ifs ia codes well =
+    let p = program_of parts in
+    let m = subst (λ fs. AreCodesOf (functions_of fs) rs) ifs codes in
+    subst (λ l. AreOfSizes p.functions l) (sym ia) (sizes_of p rs (callee_of p.functions rs m) p.functions rs m well.functions)
 
 -- a program of RTL
 
@@ -155,7 +279,7 @@ is_program p rs gs main well room codes globals sum em =
     let b = room.blocks in
     let m = callees p.main well.main well.entry in
     record {
-      functions = functions_are p rs (length gs) callees (omega (arith, n)) p.functions rs codes well.functions;
+      functions = functions_are p rs (length gs) callees (omega (arith, n)) p.functions rs codes well.functions room.registers;
       globals = globals_are p.globals gs globals well.globals;
       main = record { callee = m.callee; there = ap (λ i. slice_get rs i) em ∙ m.there; takes = m.takes ∙ well.alone };
       blocks_fit = omega (arith, sum, b);

@@ -24,6 +24,7 @@ use Rattle.rtl_emit.specs.Runs.{at_code, Goes}
 use Rattle.rtl_emit.specs.Expressions.{IsPlace, Evaluates, Fetches, Decides, ArePlaces, FetchAll}
 use Rattle.rtl_emit.specs.Sound.{Scope, AreSound}
 use Rattle.rtl_emit.specs.declared.place.Place.{Place}
+use Rattle.rtl_lower.specs.Sizes.{function_blocks, function_registers}
 use Rattle.rtl_lower.specs.Sound.{Suits}
 
 -- code that is at a spot, or that has jumped there already
@@ -194,14 +195,16 @@ abbrev mutual
   CodedAll bs free (more_statements s rest) leave next from after =
       (middle : Spot) × Coded bs free s leave next from middle × CodedAll bs free rest leave next middle after
 
--- the blocks of a function
+-- the blocks of a function, which name no more registers than are counted on it
 pub record IsCodeOf (f : TypedFunction) (r : RFunc) : Type 0 where
   pub parameters : r.parameters ≡ f.parameters
   pub entry : Spot
   pub entry_at : At r.blocks.items 0 (line_of entry)
   pub after : Code
   pub body : CodedAll r.blocks.items f.locals f.body 0 None entry (Line after)
-  pub sound : (p : TypedProgram) (s : Scope) → Suits p s → FitsFunction p f → length r.blocks.items ≤ s.blocks → AreSound s r.blocks.items
+  pub count : length r.blocks.items ≡ function_blocks f
+  pub sound : (p : TypedProgram) (s : Scope) → Suits p (function_registers f) s → FitsFunction p f → length r.blocks.items ≤ s.blocks
+      → AreSound s r.blocks.items
 
 -- a global of the same width and length, with as many first values, and the same ones
 pub record IsGlobalOf (g : Global) (r : RGlobal) : Type 0 where

@@ -3,14 +3,13 @@ use Rattle.std.specs.Prelude.{◌≡◌, ℕ, ◌+◌, ◌<◌, max, Bool, false
 use Rattle.c_typed.specs.declared.tree.Destination.{Destination}
 use Rattle.c_typed.specs.Trees.{TypedExpression, TypedStatement, TypedStatements, TypedProgram}
 use Rattle.c_typed.specs.WellFormed.{FitsTarget, FitsExpression, FitsStatement}
-use Rattle.rtl.specs.Programs.{IsMaybeRegister}
 use Rattle.rtl.specs.Meaning.{Code}
 use Rattle.rtl.specs.declared.block.RBlock.{RBlock}
 use Rattle.rtl_emit.specs.Blocks.{Spot, Block, Line, Lands, open_code, spot}
 use Rattle.rtl_emit.specs.Emits.{Size, Emits}
 use Rattle.rtl_emit.specs.Expressions.{Decides}
 use Rattle.rtl_emit.specs.Sizes.{joint, condition_registers, condition_blocks, globals_named}
-use Rattle.rtl_emit.specs.Sound.{Scope, IsSound, IsSoundSpot, KeepsSound}
+use Rattle.rtl_emit.specs.Sound.{Scope, IsSoundMaybe, IsSound, IsSoundSpot, KeepsSound}
 use Rattle.rtl_emit.specs.declared.block.OpenBlock.{OpenBlock}
 use Rattle.rtl_emit.specs.declared.block.Continuation.{Continuation}
 use Rattle.rtl_emit.specs.declared.block.Continuation.TheVariants.{Made}
@@ -37,7 +36,7 @@ statements_size all free n = record {
 -- code of a statement that goes on behind it alone, wherever `break` and `continue` lead
 abbrev pub EmitsCode : TypedStatement → (free : ℕ) → Spot → (old new : List RBlock) → Result OpenBlock LowerFault → Type 0
 EmitsCode s free after old new r = Emits (statement_size s free (joint after)) old new
-    (λ from. KeepsFit s old new (λ s. IsSoundSpot s after) (λ s. IsSound s (open_code from)))
+    (λ from. KeepsFit s (statement_registers s free) old new (λ s. IsSoundSpot s after) (λ s. IsSound s (open_code from)))
     (λ from bs. (leave : ℕ) (next : Option ℕ) → Coded bs free s leave next (Line (open_code from)) after) r
 
 -- the places where a statement leads are there
@@ -47,14 +46,15 @@ Leads c after s = (c.leave < s.blocks) × (IfSome c.next (λ b. b < s.blocks) ×
 -- code of a statement, which takes so many blocks to jump to
 abbrev pub EmitsStatement : TypedStatement → Context → Spot → (old new : List RBlock) → Result Continuation LowerFault → Type 0
 EmitsStatement s c after old new r = Emits (statement_size s c.free (joint after)) old new
-    (λ from. (joint (spot from) ≡ statement_joint s (joint after)) × KeepsFit s old new (Leads c after) (λ s. IsSoundSpot s (spot from)))
+    (λ from. (joint (spot from) ≡ statement_joint s (joint after))
+    × KeepsFit s (statement_registers s c.free) old new (Leads c after) (λ s. IsSoundSpot s (spot from)))
     (λ from bs. Coded bs c.free s c.leave c.next (spot from) after) r
 
 -- of statements one after another
 abbrev pub EmitsStatements : TypedStatements → Context → Spot → (old new : List RBlock) → Result Continuation LowerFault → Type 0
 EmitsStatements all c after old new r = Emits (statements_size all c.free (joint after)) old new
     (λ from. (joint (spot from) ≡ statements_joint all (joint after))
-    × KeepsFitAll all old new (Leads c after) (λ s. IsSoundSpot s (spot from)))
+    × KeepsFitAll all (statements_registers all c.free) old new (Leads c after) (λ s. IsSoundSpot s (spot from)))
     (λ from bs. CodedAll bs c.free all c.leave c.next (spot from) after) r
 
 -- code in a block of its own, as what goes on there
@@ -72,7 +72,7 @@ side_size s free = record {
 
 abbrev pub EmitsSide : TypedStatement → Context → (join : ℕ) → (old new : List RBlock) → Result ℕ LowerFault → Type 0
 EmitsSide s c join old new r = Emits (side_size s c.free) old new
-    (λ b. KeepsFit s old new (Leads c (Block join)) (λ s. b < s.blocks))
+    (λ b. KeepsFit s (statement_registers s c.free) old new (Leads c (Block join)) (λ s. b < s.blocks))
     (λ b bs. (from : Spot) × Lands bs b from × Coded bs c.free s c.leave c.next from (Block join)) r
 
 -- where a call's result goes, and the block where its caller goes on
@@ -82,7 +82,7 @@ receiver_size to free n = record { registers = receiver_registers to free; block
 abbrev pub EmitsReceiver : Option Destination → (free : ℕ) → Spot → (old new : List RBlock) → Result Receiver LowerFault → Type 0
 EmitsReceiver to free after old new r = Emits (receiver_size to free (joint after)) old new
     (λ x. (p : TypedProgram) (n : ℕ) → FitsTarget p n to
-    → KeepsSound old new (λ s. Suits p s × IsSoundSpot s after) (λ s. IsMaybeRegister x.to × (x.block < s.blocks)))
+    → KeepsSound old new (λ s. Suits p (receiver_registers to free) s × IsSoundSpot s after) (λ s. IsSoundMaybe s x.to × (x.block < s.blocks)))
     (λ x bs. Receives bs free to x.to x.block after) r
 
 -- the end of a turn: a block of its own where there is a `continue`
@@ -119,12 +119,14 @@ pub record IsLast (bs : List RBlock) (e : TypedExpression) (last : TypedStatemen
 abbrev pub LeadsAgain : Context → Targets → Scope → Type 0
 LeadsAgain c again s = (c.leave < s.blocks) × (IfSome c.next (λ b. b < s.blocks) × ((again.yes < s.blocks) × (again.no < s.blocks)))
 
-abbrev pub KeepsTurn : TypedExpression → TypedStatement → (old new : List RBlock) → (Needs Gives : Scope → Type 0) → Type 0
-KeepsTurn e last old new Needs Gives = (p : TypedProgram) (n : ℕ) (gives : Bool) → FitsExpression p n e → FitsStatement p n gives false last
-    → KeepsSound old new (λ s. Suits p s × Needs s) Gives
+abbrev pub KeepsTurn : TypedExpression → TypedStatement → (registers : ℕ) → (old new : List RBlock) → (Needs Gives : Scope → Type 0) → Type 0
+KeepsTurn e last registers old new Needs Gives =
+    (p : TypedProgram) (n : ℕ) (gives : Bool) → FitsExpression p n e → FitsStatement p n gives false last
+    → KeepsSound old new (λ s. Suits p registers s × Needs s) Gives
 
 abbrev pub EmitsTurn : TypedExpression → TypedStatement → Context → (many : Bool) → Targets → (old new : List RBlock)
     → Result Turn LowerFault → Type 0
 EmitsTurn e last c many again old new r = Emits (turn_size e last many again.likely c.free) old new
-    (λ t. IsEnd many t (statement_joint last 1) × KeepsTurn e last old new (LeadsAgain c again) (IsSoundTurn t))
+    (λ t. IsEnd many t (statement_joint last 1) × KeepsTurn e last (turn_size e last many again.likely c.free).registers old new
+    (LeadsAgain c again) (IsSoundTurn t))
     (λ t bs. IsLast bs e last c again t) r

@@ -12,7 +12,8 @@
 //!   least 1 and every bound on steps at which the source isn't wrong, there is a bound that is no less at which RTL
 //!   has the same end and output. Ok comes only where each function takes at most 8,000 pseudo-registers and the
 //!   program at most 1,048,575 blocks, counted on the typed program (`HaveRoom`), and Limit only where one takes more;
-//!   what is emitted for a typed program is always a program of RTL, memory aside.
+//!   what is emitted for a typed program is always a program of RTL, memory aside. Each function has no more
+//!   pseudo-registers than are counted on the typed one, and as many blocks (`AreOfSizes`); the globals are the source's.
 //! - Only tested: each program whose run ends comes to the same by `lower` and `rtl::run`, in at most sixteen steps for
 //!   each of the source; so do the deepest texts of `if`, of loops and of expressions.
 #![tactic(auto)]

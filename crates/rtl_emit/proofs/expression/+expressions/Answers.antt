@@ -72,7 +72,7 @@ pub unary_into-returns-in-Combined : goal.unary_into-returns-in-Combined
 unary_into-returns-in-Combined t c = λ k.
     let value = c.combination_at-value.ensures in
     prefix_emits _ _ _ _ k _ _ c.args.aim.to c.args.aim.free c.open_block.result (spot c.args.aim.after) c.combination_at-value.result _ c.in-Combined.ensures
-    c.is_logical.ensures c.open_block.ensures value.room value.does value.sound value.limit c.await_operand.ensures.ok c.await_operand.ensures.err
+    c.is_logical.ensures c.open_block.ensures value.place value.room value.does value.sound value.limit c.await_operand.ensures.ok c.await_operand.ensures.err
 
 pub binary_into-returns-in-Logical : goal.binary_into-returns-in-Logical
 binary_into-returns-in-Logical t c =
@@ -133,7 +133,7 @@ value_block-returns t c =
     (λ s named h. (h.0, (named, h.1))) made.grows made.count made.limit made.sound made.at
 
 pub operand_into-returns : goal.operand_into-returns
-operand_into-returns t c = operand_emits _ _ _ _ _ c.args.after _ c.requires.within c.value_into.ensures
+operand_into-returns t c = operand_emits _ _ _ _ _ c.args.after _ c.value_into.ensures
 
 pub await_both-returns-in_err-middle : goal.await_both-returns-in_err-middle
 await_both-returns-in_err-middle t c = record {
@@ -150,7 +150,7 @@ await_both-returns t c = record {
 pub test-returns : goal.test-returns
 test-returns t c =
     let value = c.test_at.ensures in
-    test_emits _ _ _ c.args.targets _ c.test_at.result _ value.room value.does value.sound value.limit c.await_operand.ensures.ok c.await_operand.ensures.err
+    test_emits _ _ _ c.args.targets _ c.test_at.result _ value.place value.room value.does value.sound value.limit c.await_operand.ensures.ok c.await_operand.ensures.err
 
 pub condition-returns-in-Constant : goal.condition-returns-in-Constant
 condition-returns-in-Constant t c =

@@ -1,3 +1,4 @@
+use Rattle.std.proofs.Common.{◌<◌, arith}
 use Rattle.rtl_emit.proofs.Emitted.{combine_from}
 use Rattle.rtl_emit.proofs.Sound.{sound_first, sound_operation}
 use Rattle.rtl_emit.proofs.waiting.combination_at.Goals as goal
@@ -8,8 +9,13 @@ returns-clause-does c = λ bs from f.
     c.in_ok-other.ensures.is f
 
 pub returns-clause-sound : goal.returns-clause-sound
-returns-clause-sound c = λ s to after.
-    let other = c.in_ok-other.ensures.within in
+returns-clause-sound c = λ s to few after.
+    let place = c.in_ok-place.ensures.place in
+    let pw = place.counted in
+    let pn = place.next_is in
+    let is = c.in_ok-other.ensures.is in
+    let held : c.in_ok-place.place.register < s.registers = omega (arith, pw, few) in
+    let other : c.in_ok-other.other < s.registers = omega (arith, is, pn, few) in
     let last = sound_first _ c.in_ok-last.ensures
-    (sound_operation s.globals _ _ _ _ _ c.instruction.ensures to c.in_ok-place.ensures.place.within other) after in
+    (sound_operation s _ _ _ _ _ c.instruction.ensures to held other) after in
     sound_first _ c.in_ok-code.ensures other last

@@ -1,5 +1,7 @@
+use Rattle.std.proofs.Common.{◌<◌, arith}
 use Rattle.std.proofs.lemmas.Result.{IfOk-weaker}
 use Rattle.rtl_emit.proofs.Emitted.{plain_from, negated_from}
+use Rattle.rtl_emit.proofs.Emitting.{test_names, contrary_test_names}
 use Rattle.rtl_emit.proofs.Sound.{sound_exit}
 use Rattle.rtl_emit.proofs.waiting.test_at.Goals as goal
 
@@ -14,9 +16,20 @@ returns-in_ok-contrary-clause-does c =
     (h bs from f))
     c.combination_at.ensures.does
 
+pub returns-in_ok-place-clause-sound : goal.returns-in_ok-place-clause-sound
+returns-in_ok-place-clause-sound c = λ s few yes no.
+    let pw = c.in_ok-place.ensures.place.counted in
+    let le = (test_names c.args.targets.likely _ _ _ _ s.registers few).0 in
+    let held : c.in_ok-place.place.register < s.registers = omega (arith, pw, le) in
+    sound_exit _ c.exit_block-code.ensures (held, (yes, no))
+
 pub returns-in_ok-contrary-clause-sound : goal.returns-in_ok-contrary-clause-sound
 returns-in_ok-contrary-clause-sound c =
-    let to = c.in_ok-contrary.ensures.within in
     IfOk-weaker c.combination_at.result _ _
-    (λ w h s yes no. h s to (sound_exit _ c.exit_block-end.ensures (to, (no, yes))))
+    (λ w h s few yes no.
+    let names = contrary_test_names c.args.targets.likely _ _ _ s.registers c.if-targets.false few in
+    let is = c.in_ok-contrary.ensures.is in
+    let low = names.0 in
+    let to : c.in_ok-contrary.contrary < s.registers = omega (arith, is, low) in
+    h s to names.1 (sound_exit _ c.exit_block-end.ensures (to, (no, yes))))
     c.combination_at.ensures.sound

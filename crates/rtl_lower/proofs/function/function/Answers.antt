@@ -1,13 +1,14 @@
-use Rattle.std.proofs.Common.{ap, subst, sym}
+use Rattle.std.proofs.Common.{ap, arith, subst, sym}
 use Rattle.std.specs.Prelude.{false, is_some, None}
-use Rattle.c_typed.specs.Shape.{statements_of}
+use Rattle.c_typed.specs.Shape.{function_of, statements_of}
 use Rattle.c_typed.specs.Trees.{TypedStatements}
 use Rattle.c_typed.specs.WellFormed.{FitsStatements}
 use Rattle.rtl.specs.declared.instruction.RExit.TheVariants as X
 use Rattle.rtl_emit.specs.Sound.{AreSound}
 use Rattle.rtl_emit.proofs.Sound.{sound_along, sound_exit, sound_line}
 use Rattle.rtl_emit.proofs.Blocks.{within}
-use Rattle.rtl_lower.proofs.Sound.{some_within, within_filled}
+use Rattle.rtl_lower.specs.Sizes.{statements_registers}
+use Rattle.rtl_lower.proofs.Sound.{fewer, some_within, within_filled}
 use Rattle.rtl_lower.proofs.Functions.{function_code}
 use Rattle.rtl_lower.proofs.function.function.Goals as goal
 
@@ -15,7 +16,7 @@ pub returns-clause-code : goal.returns-clause-code
 returns-clause-code c =
     function_code _ _ _ _ _ _ _ _ _ _ _ c.in_ok-free.ensures.is c.in_ok-parameters.ensures.is (ap statements_of c.as_slice.ensures.value)
     c.new-blocks.ensures.items
-    c.in_ok-entry.ensures.reserves c.in_ok-code.ensures.does c.open_block.ensures c.fill.ensures.fills
+    c.in_ok-entry.ensures.reserves c.in_ok-code.ensures.does c.open_block.ensures c.fill.ensures.fills c.in_ok-code.ensures.count
     (λ p s su fits le.
     let n = within_filled c.fill.ensures.fills le in
     let some = some_within c.in_ok-entry.ensures.reserves (within c.in_ok-code.ensures.grows n) in
@@ -23,6 +24,8 @@ returns-clause-code c =
     let body = subst (λ (b : TypedStatements). FitsStatements p c.args.f.now.locals (is_some c.args.f.now.result) false b)
     (sym (ap statements_of c.as_slice.ensures.value))
     fits.body in
+    let same = ap (λ b. statements_registers b c.in_ok-free.free) (ap statements_of c.as_slice.ensures.value) in
+    let low = ap (statements_registers (function_of c.args.f.now).body) c.in_ok-free.ensures.is in
     let m = c.in_ok-code.ensures.sound.1 p c.args.f.now.locals (is_some c.args.f.now.result) false body s n g
-    (su, (some, (tt, sound_exit (X.Return None) c.exit_block.ensures tt))) in
+    (fewer su (omega (arith, same, low)), (some, (tt, sound_exit (X.Return None) c.exit_block.ensures tt))) in
     c.fill.ensures.sound s m.0 (sound_along c.open_block.ensures (sound_line _ m.1)))

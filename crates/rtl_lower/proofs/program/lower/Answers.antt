@@ -1,13 +1,14 @@
-use Rattle.std.proofs.Common.{◌∙◌, refl, sym, subst}
+use Rattle.std.proofs.Common.{◌∙◌, ap, refl, sym, subst}
 use Rattle.std.specs.Prelude.{All}
 use Rattle.c_types.specs.Shape.{program_of}
 use Rattle.c_typed.specs.Shape.{functions_of}
 use Rattle.rtl.specs.Programs as Programs
 use Rattle.rtl.specs.Programs.{IsProgram, Program}
+use Rattle.rtl_lower.specs.Coded.{AreGlobalsOf}
 use Rattle.rtl_lower.specs.Sizes.{IsPlain, HaveRoom}
 use Rattle.rtl_lower.proofs.Functions.{program_made}
 use Rattle.rtl_lower.proofs.Fitted.{have_room, plain_functions}
-use Rattle.rtl_lower.proofs.Sound.{parts_program}
+use Rattle.rtl_lower.proofs.Sound.{parts_program, sizes_are}
 use Rattle.rtl_lower.proofs.program.lower.Goals as goal
 
 pub returns-clause-runs : goal.returns-clause-runs
@@ -15,6 +16,16 @@ returns-clause-runs c =
     program_made c.args.program.now c.functions.result.now c.globals.result.now c.in_ok-functions.functions.items c.in_ok-globals.globals.items
     c.in_ok-main.main c.in-Some.lowered c.in-Some.ensures.1 (c.in_ok-main.ensures.is ∙ c.main.ensures.value) c.functions.ensures.value c.globals.ensures
     c.in_ok-functions.ensures.codes c.in_ok-globals.ensures.are c.functions.ensures.fits
+
+pub returns-clause-sizes : goal.returns-clause-sizes
+returns-clause-sizes c =
+    sizes_are c.args.program.now c.functions.result.now c.in_ok-functions.functions.items _ c.functions.ensures.value
+    (ap (λ (p : Program). p.functions) c.in-Some.ensures.1) c.in_ok-functions.ensures.codes c.functions.ensures.fits
+
+pub returns-clause-variables : goal.returns-clause-variables
+returns-clause-variables c =
+    subst (λ gs. AreGlobalsOf gs c.in-Some.lowered.globals) c.globals.ensures
+    (subst (λ rs. AreGlobalsOf c.globals.result.now rs) (sym (ap (λ (p : Program). p.globals) c.in-Some.ensures.1)) c.in_ok-globals.ensures.are)
 
 pub returns-clause-within : goal.returns-clause-within
 returns-clause-within c =
