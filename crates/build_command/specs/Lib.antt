@@ -4,5 +4,6 @@ pub mod Builds
 pub mod SourceFaults
 pub mod BuildFaults
 pub mod Commands
+pub mod OneBuild
 -- words of private functions
 pub mod Halves

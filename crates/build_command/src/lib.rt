@@ -21,16 +21,20 @@
 //!   what was read, and nothing else was asked; the line is that of the build, and nothing was told (`Builds`). Else the line
 //!   of a fault was told, IMAGE is asked to be nothing but the bytes of such an image, and SOURCE is only read
 //!   (`StopsBuild`).
+//! - Builds of one unit that decided each block make the same image, where the scheduler may propose one order for a block
+//!   (`one_build`); that two builds of a text have one unit stands in no contract.
 //! - `Display` of a build's fault is exact.
 #![tactic(auto)]
 
 mod build_commands;
 mod builds;
+mod laws;
 mod places;
 mod scheduled_builds;
 mod texts;
 
 pub use build_commands::{build_file, print_built, tell_build};
 pub use builds::{BuildFault, Built, Limit, build_plain, typed_of, unit_of};
+pub use laws::one_build;
 pub use places::source_place;
 pub use scheduled_builds::{BuildOpts, build, build_one};

@@ -10,7 +10,8 @@ use Rattle.image.specs.Images.{total}
 use Rattle.image.specs.Views.{counts_of}
 use Rattle.block_validator.specs.declared.verdict.Verdict.{Verdict}
 use Rattle.block_validator.specs.declared.verdict.Verdict.TheVariants as verdicts
-use Rattle.sched_phase.specs.Phases.{Kind, same, unclean, differs, full, no_memory, missed, Proposals, AreSettled, count_of}
+use Rattle.steal_pool.specs.Places.{EachPlace}
+use Rattle.sched_phase.specs.Phases.{Kind, same, unclean, differs, full, no_memory, missed, Proposals, AreSettled, IsRightFor, count_of}
 use Rattle.sched_phase.specs.declared.settle.Progress.{Progress}
 
 -- what the block is counted under that has this verdict, or none
@@ -43,3 +44,7 @@ pub record AreDone (proposes : Proposals) (blocks : List BlockParts) (p : Progre
   pub settled : AreSettled proposes blocks p.orders.items (counts_of p.report)
   pub serve : (i : ℕ) (b : BlockParts) (o : OrderParts) → slice_get blocks i ≡ Some b → slice_get p.orders.items i ≡ Some o → Serves b o
   pub sum : total (counts_of p.report) ≡ length p.orders.items
+
+-- the verdicts of a batch: each that stands in the list is one for the block whose number is that of its place behind the first
+abbrev pub AreRightFrom : Proposals → List BlockParts → ℕ → List (Option Verdict) → Type 0
+AreRightFrom proposes blocks first verdicts = EachPlace (λ i v. IsRightFor proposes blocks (first + i) v) verdicts

@@ -1,15 +1,15 @@
-//! All blocks of a unit, by workers that share a table, or one after another.
-ghost use Rattle.std.specs.Prelude.{◌≡◌, ◌≢◌, ℕ, ◌<◌, ◌≤◌, All, IfOk, IfErr, IfSome, Some, vec_len, length, slice_get};
+//! All blocks of a unit, a batch after another, each by workers that share a table, or one after another.
+ghost use Rattle.std.specs.Prelude.{◌≡◌, ℕ, ◌+◌, ◌<◌, ◌≤◌, IfOk, OnOk, IfSome, length};
 ghost use Rattle.image.specs.Images.{total};
-ghost use Rattle.steal_pool.specs.Places.{EachPlace};
-ghost use Rattle.term_table.specs.declared.limits.TheConstants.{MAX_PASSES};
 ghost use Rattle.term_table.specs.Passes.{IsOf};
 ghost use Rattle.sched_phase.specs.Phases.{IsPhase, IsRightFor};
+ghost use Rattle.sched_phase.specs.Settling.{AreDone, AreRightFrom};
 
+use crate::batch::{batch_from, workers_for};
 use crate::options::PhaseOpts;
 use crate::scheduled::Scheduled;
 use crate::settle::Progress;
-use crate::work::{BlockJob, proposal_verdict};
+use crate::work::{BatchGate, BlockJob, last_verdict, open_table};
 use block_validator::Verdict;
 use list_scheduler::Reorder;
 use mblock::Unit;
@@ -18,29 +18,12 @@ use std::mem;
 use std::sync::Wait;
 use std::thread::Threads;
 use steal_pool::{Gate, run};
-use term_table::{OpenFault, Pass, TermTable};
-
-// A table by the options, for so many workers.
-fn open_table(
-    alloc: Global,
-    workers: u64,
-    options: PhaseOpts,
-) -> Result<(TermTable, Vec<Pass>), AllocError>
-    requires { (0 < workers) × (workers ≤ MAX_PASSES) }
-    ensures count { IfOk result (λ t. vec_len t.1 ≡ workers) }
-    ensures own { IfOk result (λ t. All (IsOf t.0) t.1.items) }
-{
-    match TermTable::open(alloc, workers, options.nodes(), options.heads()) {
-        Ok(opened) => Ok(opened),
-        Err(OpenFault::NoMemory) => Err(AllocError),
-        Err(OpenFault::Range) => unreachable!(),
-    }
-}
+use term_table::{Pass, TermTable};
 
 /// An order for each block of a unit: the one that the scheduler proposes, where the validator finds that it means its
-/// block, else the plain one. The options' workers do so at once, over one table; the gate is told of each block's number
-/// just before its work begins. A block whose scheduler or validator was refused memory is counted as that, one that no worker
-/// came to as missed. An Err is refused memory.
+/// block, else the plain one. The options' workers do so at once, over one table for each batch of blocks; the gate is told of
+/// each block's number just before its work begins. A block whose scheduler or validator was refused memory is counted as
+/// that, one that no worker came to as missed. An Err is refused memory.
 pub fn schedule_all<'a, T: Threads + Wait + Sync, R: Reorder + Sync, G: Gate + Sync>(
     rt: &T,
     alloc: Global,
@@ -53,51 +36,86 @@ pub fn schedule_all<'a, T: Threads + Wait + Sync, R: Reorder + Sync, G: Gate + S
     ensures phase { IfOk result (IsPhase (R.proposes reorder.now)) }
     ensures sum { IfOk result (λ s. total s.report ≡ length unit.now.blocks) }
 {
-    let (table, passes) = open_table(alloc, options.workers(), options)?;
-    let job = BlockJob {
-        alloc,
-        unit,
-        table: &table,
-        reorder,
-    };
-    let verdicts = run(rt, alloc, unit.blocks().len(), passes, &job, gate);
-    settle_all(alloc, reorder, unit, verdicts)
-}
-
-// An order for each block by the verdict at its place.
-fn settle_all<'a, R: Reorder>(
-    alloc: Global,
-    reorder: &R,
-    unit: &'a Unit,
-    mut verdicts: Vec<Option<Verdict<'a>>>,
-) -> Result<Scheduled<'a>, AllocError>
-    requires { EachPlace (IsRightFor (R.proposes reorder.now) unit.now.blocks) verdicts.items }
-    ensures unit { IfOk result (λ s. s.unit ≡ unit.now) }
-    ensures phase { IfOk result (IsPhase (R.proposes reorder.now)) }
-    ensures sum { IfOk result (λ s. total s.report ≡ length unit.now.blocks) }
-{
     let blocks = unit.blocks();
     let mut progress = Progress::new(alloc, reorder, unit);
-    for i in 0..blocks.len() {
-        let verdict = verdict_at(reorder, unit, &mut verdicts, i);
-        progress.settle(alloc, reorder, unit, &blocks[i], verdict)?;
+    'batches: while progress.orders.len() < blocks.len() {
+        schedule_batch(rt, alloc, unit, options, reorder, gate, &mut progress)?;
     }
     Ok(progress.finish(reorder, unit))
 }
 
-// Takes out the verdict at a place; None where there is none.
+// An order for each block of the next batch, by workers.
+fn schedule_batch<T: Threads + Wait + Sync, R: Reorder + Sync, G: Gate + Sync>(
+    rt: &T,
+    alloc: Global,
+    unit: &Unit,
+    options: PhaseOpts,
+    reorder: &R,
+    gate: &G,
+    progress: &mut Progress,
+) -> Result<(), AllocError>
+    requires some { length progress.old.orders.items < length unit.now.blocks }
+    requires done { AreDone (R.proposes reorder.now) unit.now.blocks progress.old }
+    ensures more { OnOk result (length progress.old.orders.items < length progress.new.orders.items) }
+    ensures within { OnOk result (length progress.new.orders.items ≤ length unit.now.blocks) }
+    ensures done { OnOk result (AreDone (R.proposes reorder.now) unit.now.blocks progress.new) }
+{
+    let first = progress.orders.len();
+    let (end, terms) = batch_from(unit.blocks(), first);
+    let count = end - first;
+    let (table, passes) = open_table(alloc, workers_for(options, count), options, terms)?;
+    let job = BlockJob {
+        alloc,
+        unit,
+        first,
+        options,
+        table: &table,
+        reorder,
+    };
+    let gate = BatchGate { first, gate };
+    let verdicts = run(rt, alloc, count, passes, &job, &gate);
+    settle_batch(alloc, reorder, unit, count, verdicts, progress)
+}
+
+// An order for each of the next blocks by the verdict at its place.
+fn settle_batch<'a, R: Reorder>(
+    alloc: Global,
+    reorder: &R,
+    unit: &Unit,
+    count: usize,
+    mut verdicts: Vec<Option<Verdict<'a>>>,
+    progress: &mut Progress,
+) -> Result<(), AllocError>
+    requires room { length progress.old.orders.items + count ≤ length unit.now.blocks }
+    requires right { AreRightFrom (R.proposes reorder.now) unit.now.blocks (length progress.old.orders.items) verdicts.items }
+    requires done { AreDone (R.proposes reorder.now) unit.now.blocks progress.old }
+    ensures more { OnOk result (length progress.new.orders.items ≡ length progress.old.orders.items + count) }
+    ensures done { OnOk result (AreDone (R.proposes reorder.now) unit.now.blocks progress.new) }
+{
+    let first = progress.orders.len();
+    let blocks = unit.blocks();
+    for i in 0..count {
+        let verdict = verdict_at(reorder, unit, first, &mut verdicts, i);
+        progress.settle(alloc, reorder, unit, &blocks[first + i], verdict)?;
+    }
+    Ok(())
+}
+
+// Takes out the verdict at a place of a batch; None where there is none.
 fn verdict_at<'a, R: Reorder>(
     reorder: &R,
     unit: &Unit,
+    first: usize,
     verdicts: &mut Vec<Option<Verdict<'a>>>,
     i: usize,
 ) -> Option<Verdict<'a>>
-    requires { EachPlace (IsRightFor (R.proposes reorder.now) unit.now.blocks) verdicts.old.items }
-    ensures rest { EachPlace (IsRightFor (R.proposes reorder.now) unit.now.blocks) verdicts.new.items }
-    ensures right { IfSome result (IsRightFor (R.proposes reorder.now) unit.now.blocks i) }
+    requires { AreRightFrom (R.proposes reorder.now) unit.now.blocks first verdicts.old.items }
+    ensures rest { AreRightFrom (R.proposes reorder.now) unit.now.blocks first verdicts.new.items }
+    ensures right { IfSome result (IsRightFor (R.proposes reorder.now) unit.now.blocks (first + i)) }
 {
     let _ = reorder;
     let _ = unit;
+    let _ = first;
     if i < verdicts.len() {
         mem::replace(&mut verdicts[i], None)
     } else {
@@ -105,7 +123,7 @@ fn verdict_at<'a, R: Reorder>(
     }
 }
 
-/// The same by one worker without threads, whose table has room for one: no block is missed.
+/// The same by one worker without threads, whose tables have room for one: no block is missed.
 pub fn schedule_one<'a, R: Reorder>(
     alloc: Global,
     unit: &'a Unit,
@@ -117,33 +135,71 @@ pub fn schedule_one<'a, R: Reorder>(
     ensures sum { IfOk result (λ s. total s.report ≡ length unit.now.blocks) }
     ensures asked { IfOk result (λ s. s.report.missed ≡ 0) }
 {
-    let (table, mut passes) = open_table(alloc, 1, options)?;
+    let blocks = unit.blocks();
+    let mut progress = Progress::new(alloc, reorder, unit);
+    'batches: while progress.orders.len() < blocks.len() {
+        batch_by_one(alloc, unit, options, reorder, &mut progress)?;
+    }
+    Ok(progress.finish(reorder, unit))
+}
+
+// An order for each block of the next batch, by one worker.
+fn batch_by_one<R: Reorder>(
+    alloc: Global,
+    unit: &Unit,
+    options: PhaseOpts,
+    reorder: &R,
+    progress: &mut Progress,
+) -> Result<(), AllocError>
+    requires some { length progress.old.orders.items < length unit.now.blocks }
+    requires done { AreDone (R.proposes reorder.now) unit.now.blocks progress.old }
+    ensures more { OnOk result (length progress.old.orders.items < length progress.new.orders.items) }
+    ensures within { OnOk result (length progress.new.orders.items ≤ length unit.now.blocks) }
+    ensures done { OnOk result (AreDone (R.proposes reorder.now) unit.now.blocks progress.new) }
+    ensures asked { OnOk result (progress.new.report.missed ≡ progress.old.report.missed) }
+{
+    let first = progress.orders.len();
+    let (end, terms) = batch_from(unit.blocks(), first);
+    let (table, mut passes) = open_table(alloc, 1, options, terms)?;
     let Some(mut pass) = passes.pop() else {
         unreachable!()
     };
-    one_by_one(alloc, unit, &table, &mut pass, reorder)
+    one_by_one(
+        alloc,
+        unit,
+        options,
+        &table,
+        &mut pass,
+        reorder,
+        end - first,
+        progress,
+    )
 }
 
-// An order for each block, one after another.
-fn one_by_one<'a, R: Reorder>(
+// An order for each of the next blocks, one after another.
+fn one_by_one<R: Reorder>(
     alloc: Global,
-    unit: &'a Unit,
+    unit: &Unit,
+    options: PhaseOpts,
     table: &TermTable,
     pass: &mut Pass,
     reorder: &R,
-) -> Result<Scheduled<'a>, AllocError>
-    requires { IsOf table.now pass.old }
-    ensures unit { IfOk result (λ s. s.unit ≡ unit.now) }
-    ensures phase { IfOk result (IsPhase (R.proposes reorder.now)) }
-    ensures sum { IfOk result (λ s. total s.report ≡ length unit.now.blocks) }
-    ensures asked { IfOk result (λ s. s.report.missed ≡ 0) }
+    count: usize,
+    progress: &mut Progress,
+) -> Result<(), AllocError>
+    requires pass { IsOf table.now pass.old }
+    requires room { length progress.old.orders.items + count ≤ length unit.now.blocks }
+    requires done { AreDone (R.proposes reorder.now) unit.now.blocks progress.old }
+    ensures more { OnOk result (length progress.new.orders.items ≡ length progress.old.orders.items + count) }
+    ensures done { OnOk result (AreDone (R.proposes reorder.now) unit.now.blocks progress.new) }
+    ensures asked { OnOk result (progress.new.report.missed ≡ progress.old.report.missed) }
 {
+    let first = progress.orders.len();
     let blocks = unit.blocks();
-    let mut progress = Progress::new(alloc, reorder, unit);
-    for i in 0..blocks.len() {
-        let block = &blocks[i];
-        let verdict = proposal_verdict(alloc, table, pass, reorder, block);
+    for i in 0..count {
+        let block = &blocks[first + i];
+        let verdict = last_verdict(alloc, options, table, pass, reorder, block);
         progress.settle(alloc, reorder, unit, block, Some(verdict))?;
     }
-    Ok(progress.finish(reorder, unit))
+    Ok(())
 }

@@ -1,4 +1,4 @@
-use Rattle.std.proofs.Common.{◌≡◌, length}
+use Rattle.std.proofs.Common.{◌≡◌, ◌+◌, length}
 use Rattle.term_table.specs.Passes.{IsOf}
 use Rattle.sched_phase.specs.Settling.{AreDone}
 use Rattle.sched_phase.proofs.phase.one_by_one.Given as goal
@@ -7,6 +7,7 @@ abbrev pub invariant-loop-i : goal.invariant-loop-i
 invariant-loop-i g l =
     IsOf l.table l.pass
     × AreDone (g.R.Reorder.proposes l.reorder) l.unit.blocks l.progress
-    × (length l.progress.orders.items ≡ l.i)
-    × (l.progress.report.missed ≡ 0)
+    × (length l.progress.orders.items ≡ l.first + l.i)
+    × (l.progress.report.missed ≡ l.fn.progress.report.missed)
     × (l.blocks ≡ l.unit.blocks)
+    × (l.first ≡ length l.fn.progress.orders.items)

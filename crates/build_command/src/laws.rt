@@ -1,0 +1,12 @@
+//! What follows of two builds of one unit.
+ghost use Rattle.build_command.specs.OneBuild.{OneBuild};
+
+use list_scheduler::Reorder;
+
+/// Where a scheduler may propose one order for a block, builds of one unit that decided each block make the same image, by
+/// however many workers. A law: it computes nothing.
+pub fn one_build<R: Reorder>(reorder: &R)
+    ensures { OneBuild (R.proposes reorder.now) }
+{
+    let _ = reorder;
+}
