@@ -3,6 +3,7 @@
 ghost use Rattle.std.specs.Prelude.{All, IfOk};
 ghost use Rattle.block_text.specs.Shown.{IsShown};
 
+use crate::witness::put_found;
 use block_text::{
     ExitLine, ReadFault, WIDTH, Writer, block_place_text, order_place_text, page_of, put_insts,
 };
@@ -212,7 +213,10 @@ pub(crate) fn explanation_lines(
             CheckAnswer::Same => {}
             CheckAnswer::Full => out.text("the table has no room for more than 16384 terms\n"),
             CheckAnswer::Unclean(rule) => put_unclean(&mut out, *rule, &spelled.order),
-            CheckAnswer::Differs(place) => put_differing(alloc, &mut out, place, &spelled)?,
+            CheckAnswer::Differs(place) => {
+                put_differing(alloc, &mut out, place, &spelled)?;
+                put_found(alloc, &mut out, &spelled.block, &spelled.order)?;
+            }
         }
     }
     page_of(alloc, out.end()?.as_bytes(), WIDTH)

@@ -19,6 +19,7 @@ mod explain;
 mod readings;
 mod said;
 mod several;
+mod witness;
 
 pub use command::{ExplainedAnswer, print_explained};
 pub use several::check_files;

@@ -1,0 +1,162 @@
+// A start that refutes an order, as lines.
+
+use block_text::Writer;
+use counterexample::{Departs, Difference, Left, Start, Witness, find_start, run_block, run_order};
+use mblock::{Block, Exit, Order};
+use mips_isa::{NonzeroReg, Plain, WordDigits};
+use std::alloc::{AllocError, Global};
+
+/// Whether an instruction reads what the register holds at the start.
+fn insts_read(insts: &[Plain], register: NonzeroReg) -> bool {
+    for inst in insts {
+        if inst.reads(register.reg()) {
+            return true;
+        }
+        if inst.writes(register.reg()) {
+            return false;
+        }
+    }
+    false
+}
+
+/// Whether the exit reads the register.
+fn exit_reads(exit: &Exit, register: NonzeroReg) -> bool {
+    let q = register.index();
+    match *exit {
+        Exit::BranchPair { rs, rt, .. } => rs.index() == q || rt.index() == q,
+        Exit::BranchZero { rs, .. } => rs.index() == q,
+        Exit::Return => q == 31,
+        Exit::Out(_) | Exit::Halt => q == 4,
+        _ => false,
+    }
+}
+
+/// Whether block or order read it.
+fn is_read(block: &Block, order: &Order, register: NonzeroReg) -> bool {
+    insts_read(block.insts(), register)
+        || insts_read(order.insts(), register)
+        || exit_reads(&block.exit(), register)
+}
+
+fn put_word(out: &mut Writer, word: u32) {
+    out.text("0x");
+    out.put(&WordDigits(word));
+}
+
+/// The registers that are read, with their words at the start.
+fn put_start(out: &mut Writer, block: &Block, order: &Order, start: &Start) {
+    for r in 1..32u8 {
+        if let Some(register) = NonzeroReg::new(r)
+            && is_read(block, order, register)
+        {
+            out.text("  ");
+            out.put(&register.reg());
+            out.text(" = ");
+            put_word(out, start.regs[r as usize]);
+            out.text("\n");
+        }
+    }
+}
+
+/// Where a side goes on.
+fn put_departs(out: &mut Writer, departs: &Departs) {
+    match *departs {
+        Departs::To(t) => {
+            out.text("goes to ");
+            out.put(&t.number());
+        }
+        Departs::Calls { function, next: _ } => {
+            out.text("calls ");
+            out.put(&function.number());
+        }
+        Departs::Back(link) => {
+            out.text("returns to ");
+            put_word(out, link);
+        }
+        Departs::Prints { word, next: _ } => {
+            out.text("prints ");
+            put_word(out, word);
+        }
+        Departs::Halts(word) => {
+            out.text("ends with ");
+            put_word(out, word);
+        }
+    }
+}
+
+/// What one side leaves where the two differ.
+fn put_side(out: &mut Writer, side: &str, left: &Left, difference: &Difference) {
+    out.text("  ");
+    out.text(side);
+    out.text(": ");
+    match *difference {
+        Difference::Register(r) => {
+            out.put(&r);
+            out.text(" = ");
+            put_word(out, left.registers.regs[r.index() as usize]);
+        }
+        Difference::Hi => {
+            out.text("hi = ");
+            put_word(out, left.registers.hi);
+        }
+        Difference::Lo => {
+            out.text("lo = ");
+            put_word(out, left.registers.lo);
+        }
+        Difference::Memory(a) => {
+            out.text("the byte at ");
+            put_word(out, a);
+            out.text(" = ");
+            put_word(out, u32::from(left.registers.memory.byte(a)));
+        }
+        Difference::Exit => put_departs(out, &left.goes),
+        Difference::Stuck => out.text("isn't stuck"),
+    }
+    out.text("\n");
+}
+
+fn put_witness(
+    alloc: Global,
+    out: &mut Writer,
+    block: &Block,
+    order: &Order,
+    start: &Start,
+    link: u32,
+    difference: &Difference,
+) -> Result<(), AllocError> {
+    out.text("the order is wrong: it does otherwise from a start with\n");
+    put_start(out, block, order, start);
+    if let Some(left) = run_block(alloc, block, start, link)? {
+        put_side(out, "block", &left, difference);
+    }
+    match run_order(alloc, order, start, link)? {
+        Some(left) => put_side(out, "order", &left, difference),
+        None => out.text("  order: is stuck\n"),
+    }
+    Ok(())
+}
+
+/// A start from which the order does otherwise than the block, or that none was found.
+pub(crate) fn put_found(
+    alloc: Global,
+    out: &mut Writer,
+    block: &Block,
+    order: &Order,
+) -> Result<(), AllocError> {
+    match find_start(alloc, block, order) {
+        Ok(
+            Some(
+                Witness {
+                    start,
+                    link,
+                    difference,
+                },
+            ),
+        ) => put_witness(alloc, out, block, order, &start, link, &difference),
+        Ok(None) => {
+            out.text("no start that was tried tells them apart: the terms may tell too little\n");
+            Ok(())
+        }
+        Err(error) => Err(error),
+    }
+}

@@ -1,0 +1,5 @@
+pub mod Exits
+pub mod Filled
+pub mod Memories
+pub mod Refuting
+pub mod Same

@@ -1,0 +1,4 @@
+pub mod Fillings
+pub mod Memories
+pub mod Refuting
+pub mod Views

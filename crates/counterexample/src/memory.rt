@@ -1,0 +1,150 @@
+// Memory: what fills it at the start, and the stores since.
+ghost use Rattle.std.specs.Prelude.{◌≡◌, ◌+◌, ◌*◌, ◌<◌, ◌^◌, ◌%◌, IfOk, IfSome, is_some, true, ◌&&◌};
+ghost use Rattle.mips_isa.specs.States.{is_aligned, is_open, is_inside, load_at, store_at};
+ghost use Rattle.counterexample.specs.Fillings.{filled_byte};
+ghost use Rattle.counterexample.specs.Memories.{everywhere, bytes_of, byte_behind};
+
+use crate::filling::{Filling, byte_at_place};
+use std::alloc::{AllocError, Global};
+use words::Width;
+
+/// A store that was made.
+#[derive(Clone, Copy)]
+pub struct Stored {
+    pub width: Width,
+    pub address: u32,
+    pub word: u32,
+}
+
+/// Memory: what fills it, and the stores since, the first one first.
+#[derive(Drop)]
+pub struct Memory {
+    pub filling: Filling,
+    pub stores: Vec<Stored>,
+}
+
+// Whether a word or a byte may stand at the address.
+fn is_aligned(width: Width, a: u32) -> bool
+    ensures { result ≡ is_open width everywhere a }
+{
+    match width {
+        Width::Word => a % 4 == 0,
+        Width::Byte => true,
+    }
+}
+
+// Whether an address is in the word at another.
+fn is_inside(a: u32, b: u32) -> bool
+    ensures { result ≡ is_inside a b }
+{
+    a <= b && u64::from(b) < u64::from(a) + 4
+}
+
+impl Stored {
+    // The byte at an address behind a store of a word.
+    #[tactic(auto, unfolding(mips_isa::specs::States::store_word))]
+    fn byte_behind_word(&self, a: u32, before: u8) -> u8
+        ensures { result ≡ store_at Width.Word everywhere (λ b. before) self.now.address self.now.word a }
+    {
+        if is_aligned(Width::Word, self.address) && is_inside(self.address, a) {
+            byte_at_place(self.word, (a - self.address) as usize)
+        } else {
+            before
+        }
+    }
+
+    // The byte at an address behind a store of a byte.
+    #[tactic(auto, unfolding(mips_isa::specs::States::store_byte))]
+    fn byte_behind_byte(&self, a: u32, before: u8) -> u8
+        ensures { result ≡ store_at Width.Byte everywhere (λ b. before) self.now.address self.now.word a }
+    {
+        if a == self.address {
+            (self.word % 256) as u8
+        } else {
+            before
+        }
+    }
+
+    /// The byte at an address behind the store, where this one stands before.
+    pub fn byte_behind(&self, a: u32, before: u8) -> u8
+        ensures { result ≡ byte_behind self.now a before }
+    {
+        match self.width {
+            Width::Word => self.byte_behind_word(a, before),
+            Width::Byte => self.byte_behind_byte(a, before),
+        }
+    }
+}
+
+impl Memory {
+    /// The byte at an address.
+    pub fn byte(&self, a: u32) -> u8
+        ensures { result ≡ bytes_of self.now a }
+    {
+        let mut byte = self.filling.byte(a);
+        for stored in self.stores.as_slice() {
+            byte = stored.byte_behind(a, byte);
+        }
+        byte
+    }
+
+    // The byte at an address, as a word.
+    fn small(&self, a: u32) -> u32
+        ensures value { result ≡ bytes_of self.now a }
+        ensures small { result < 2 ^ 8 }
+    {
+        u32::from(self.byte(a))
+    }
+
+    // The four bytes from an address on.
+    fn word(&self, a: u32) -> u32
+        requires { a % 4 ≡ 0 }
+        ensures { result ≡ bytes_of self.now a * 2 ^ 24 + bytes_of self.now (a + 1) * 2 ^ 16 + bytes_of self.now (a + 2) * 2 ^ 8
+            + bytes_of self.now (a + 3) }
+    {
+        (self.small(a) << 24)
+            + (self.small(a + 1) << 16)
+            + (self.small(a + 2) << 8)
+            + self.small(a + 3)
+    }
+
+    /// The word at an address, or the byte, extended with zeros; None where no word may stand there.
+    #[tactic(auto, unfolding(mips_isa::specs::States::load_word, mips_isa::specs::States::load_byte))]
+    pub fn load(&self, width: Width, a: u32) -> Option<u32>
+        ensures open { is_some result ≡ is_open width everywhere a }
+        ensures word { IfSome result (λ w. w ≡ load_at width everywhere (bytes_of self.now) a) }
+    {
+        match width {
+            Width::Word => if a % 4 == 0 { Some(self.word(a)) } else { None },
+            Width::Byte => Some(self.small(a)),
+        }
+    }
+
+    /// Writes the word at an address, or its low eight bits as the byte there; false where no word may stand there.
+    pub fn store(&mut self, width: Width, address: u32, word: u32) -> Result<bool, AllocError>
+        ensures open { IfOk result (λ b. b ≡ is_open width everywhere address) }
+        ensures bytes { IfOk result (λ b. b ≡ true → bytes_of self.new ≡ store_at width everywhere (bytes_of self.old) address word) }
+        ensures filling { self.new.filling ≡ self.old.filling }
+    {
+        if !is_aligned(width, address) {
+            return Ok(false);
+        }
+        self.stores.push(Stored {
+            width,
+            address,
+            word,
+        })?;
+        Ok(true)
+    }
+}
+
+/// Memory as a filling has it.
+pub fn memory_of(alloc: Global, filling: Filling) -> Memory
+    ensures filling { result.filling ≡ filling }
+    ensures bytes { bytes_of result ≡ filled_byte filling }
+{
+    Memory {
+        filling,
+        stores: Vec::new(alloc),
+    }
+}

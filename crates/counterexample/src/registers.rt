@@ -1,0 +1,194 @@
+// Registers, HI, LO and memory, and what one action does to them.
+ghost use Rattle.std.specs.Prelude.{◌≡◌, true, IfOk, IfSome, is_some};
+ghost use Rattle.words.specs.Operators.{op_value};
+ghost use Rattle.mips_isa.specs.States.{read, put};
+ghost use Rattle.mips_isa.specs.declared.action.Action.TheVariants.{Loads, Stores, Multiplies, Divides};
+ghost use Rattle.mips_isa.specs.Actions.{operand, address, is_safe, state_after};
+ghost use Rattle.mips_isa.specs.Flows.{shown_state, pending_of, state_with_pending};
+ghost use Rattle.counterexample.specs.Views.{state_of, pending_in};
+
+use crate::memory::Memory;
+use mips_isa::{
+    Action, NonzeroReg, Operand, Reg, product_high, product_low, quotient_operator,
+    remainder_operator,
+};
+use std::alloc::AllocError;
+use words::{Operator, Sign, Width};
+
+/// What a word loads.
+#[derive(Clone, Copy)]
+pub enum Load {
+    Nothing,
+    Loaded { register: NonzeroReg, word: u32 },
+}
+
+/// The registers, HI, LO and the memory.
+#[derive(Drop)]
+pub struct Registers {
+    pub regs: [u32; 32],
+    pub hi: u32,
+    pub lo: u32,
+    pub memory: Memory,
+}
+
+// The value of an operator, 0 where it has none.
+#[tactic(auto, unfolding(words::specs::Operators::op_value))]
+fn value(op: Operator, a: u32, b: u32) -> u32
+    ensures { result ≡ op_value op a b }
+{
+    match op.value(a, b) {
+        Some(word) => word,
+        None => 0,
+    }
+}
+
+impl Registers {
+    /// What a register holds.
+    pub fn read(&self, r: Reg) -> u32
+        ensures { result ≡ read 0 (state_of self.now).regs r }
+    {
+        let index = r.index() as usize;
+        if index == 0 { 0 } else { self.regs[index] }
+    }
+
+    /// A register is written; register 0 loses the word.
+    pub fn put(&mut self, r: Reg, word: u32)
+        ensures state { state_of self.new ≡ record (state_of self.old) { regs = put (state_of self.old).regs r word } }
+        ensures filling { self.new.memory.filling ≡ self.old.memory.filling }
+    {
+        let index = r.index() as usize;
+        if index != 0 {
+            self.regs[index] = word;
+        }
+    }
+
+    fn operand(&self, o: Operand) -> u32
+        ensures { result ≡ operand (state_of self.now) o }
+    {
+        match o {
+            Operand::Held(r) => self.read(r),
+            Operand::Fixed(word) => word,
+        }
+    }
+
+    /// The address of a load or a store.
+    #[tactic(auto, unfolding(words::specs::Operators::op_value))]
+    fn address(&self, base: Reg, offset: u32) -> u32
+        ensures { result ≡ address (state_of self.now) base offset }
+    {
+        self.read(base).wrapping_add(offset)
+    }
+
+    // What a load loads, if it may.
+    fn load(&self, width: Width, register: NonzeroReg, base: Reg, offset: u32) -> Option<Load>
+        ensures safe { is_some result ≡ is_safe (Loads width register base offset) (state_of self.now) }
+        ensures load { IfSome result (λ l. pending_in l ≡ pending_of (Loads width register base offset) (state_of self.now)) }
+    {
+        match self.memory.load(width, self.address(base, offset)) {
+            None => None,
+            Some(word) => Some(Load::Loaded { register, word }),
+        }
+    }
+
+    // Does a store, if it may.
+    fn store(&mut self, width: Width, r: Reg, base: Reg, offset: u32) -> Result<bool, AllocError>
+        ensures safe { IfOk result (λ b. b ≡ is_safe (Stores width r base offset) (state_of self.old)) }
+        ensures state { IfOk result (λ b. b ≡ true → state_of self.new ≡ state_after (Stores width r base offset) (state_of self.old)) }
+        ensures filling { self.new.memory.filling ≡ self.old.memory.filling }
+    {
+        let at = self.address(base, offset);
+        let word = self.read(r);
+        self.memory.store(width, at, word)
+    }
+
+    fn multiply(&mut self, sign: Sign, a: Reg, b: Reg)
+        ensures state { state_of self.new ≡ state_after (Multiplies sign a b) (state_of self.old) }
+        ensures filling { self.new.memory.filling ≡ self.old.memory.filling }
+    {
+        let (a, b) = (self.read(a), self.read(b));
+        self.hi = value(product_high(sign), a, b);
+        self.lo = value(product_low(sign), a, b);
+    }
+
+    // Does a division, if it has a value.
+    fn divide(&mut self, sign: Sign, a: Reg, b: Reg) -> bool
+        ensures safe { result ≡ is_safe (Divides sign a b) (state_of self.old) }
+        ensures state { result ≡ true → state_of self.new ≡ state_after (Divides sign a b) (state_of self.old) }
+        ensures filling { self.new.memory.filling ≡ self.old.memory.filling }
+    {
+        let (a, b) = (self.read(a), self.read(b));
+        if !sign.has_quotient(a, b) {
+            return false;
+        }
+        self.hi = value(remainder_operator(sign), a, b);
+        self.lo = value(quotient_operator(sign), a, b);
+        true
+    }
+
+    /// Does an action, and gives what it loads; None where it isn't safe.
+    pub fn perform(&mut self, action: Action) -> Result<Option<Load>, AllocError>
+        ensures safe { IfOk result (λ r. is_some r ≡ is_safe action (state_of self.old)) }
+        ensures state { IfOk result (λ r. IfSome r (λ load. state_of self.new ≡ shown_state action (state_of self.old))) }
+        ensures load { IfOk result (λ r. IfSome r (λ load. pending_in load ≡ pending_of action (state_of self.old))) }
+        ensures filling { self.new.memory.filling ≡ self.old.memory.filling }
+    {
+        match action {
+            Action::Computes { d, op, a, b } => {
+                let word = value(op, self.read(a), self.operand(b));
+                self.put(d, word);
+            }
+            Action::Sets { d, word } => self.put(d, word),
+            Action::Loads {
+                width,
+                d,
+                base,
+                offset,
+            } => return Ok(self.load(width, d, base, offset)),
+            Action::Stores {
+                width,
+                r,
+                base,
+                offset,
+            } => {
+                if !self.store(width, r, base, offset)? {
+                    return Ok(None);
+                }
+            }
+            Action::Multiplies { sign, a, b } => self.multiply(sign, a, b),
+            Action::Divides { sign, a, b } => {
+                if !self.divide(sign, a, b) {
+                    return Ok(None);
+                }
+            }
+            Action::MovesHigh { d } => self.put(d, self.hi),
+            Action::MovesLow { d } => self.put(d, self.lo),
+        }
+        Ok(Some(Load::Nothing))
+    }
+
+    /// What was loaded shows.
+    pub fn settle(&mut self, load: Load)
+        ensures state { state_of self.new ≡ state_with_pending (pending_in load) (state_of self.old) }
+        ensures filling { self.new.memory.filling ≡ self.old.memory.filling }
+    {
+        match load {
+            Load::Nothing => {}
+            Load::Loaded { register, word } => self.put(register.reg(), word),
+        }
+    }
+
+    /// Does an action, a load showing at once; false where it isn't safe.
+    pub fn act(&mut self, action: Action) -> Result<bool, AllocError>
+        ensures safe { IfOk result (λ b. b ≡ is_safe action (state_of self.old)) }
+        ensures state { IfOk result (λ b. b ≡ true → state_of self.new ≡ state_after action (state_of self.old)) }
+        ensures filling { self.new.memory.filling ≡ self.old.memory.filling }
+    {
+        match self.perform(action)? {
+            None => Ok(false),
+            Some(load) => {
+                self.settle(load);
+                Ok(true)
+            }
+        }
+    }
+}

@@ -1,0 +1,71 @@
+// Whether a start refutes that an order means its block.
+ghost use Rattle.std.specs.Prelude.{◌≡◌, IfOk, IfSome, IfNone, Some};
+ghost use Rattle.mblock.specs.Orders.{Means};
+ghost use Rattle.counterexample.specs.Views.{start_of, effect_of, effect_in};
+ghost use Rattle.counterexample.specs.Refuting.{DiffersIn, Agrees, Refutes, RefutedOrdersDoNotMeanTheirBlocks, NoRefutingStateAgrees};
+
+use crate::block::run_block;
+use crate::difference::{Difference, difference_of};
+use crate::flow::run_order;
+use crate::left::Left;
+use crate::start::{Start, has_words};
+use mblock::{Block, Order};
+use std::alloc::{AllocError, Global};
+
+// What an order that came to this does otherwise than a block that left that.
+fn found(left: &Left, ordered: &Option<Left>) -> Option<Difference>
+    requires { IfSome ordered.now (λ l. left.now.registers.memory.filling ≡ l.registers.memory.filling) }
+    ensures some { IfSome result (λ d. DiffersIn d (effect_of left.now) (effect_in ordered.now)) }
+    ensures none { IfNone result (effect_in ordered.now ≡ Some (effect_of left.now)) }
+{
+    match ordered {
+        None => Some(Difference::Stuck),
+        Some(other) => difference_of(left, other),
+    }
+}
+
+// The same of a block and an order, from a start.
+fn tried(
+    alloc: Global,
+    block: &Block,
+    order: &Order,
+    start: &Start,
+    link: u32,
+) -> Result<Option<Difference>, AllocError>
+    ensures refutes { IfOk result (λ r. IfSome r (λ d. Refutes block.now order.now (start_of start.now) link d)) }
+    ensures agrees { IfOk result (λ r. IfNone r (Agrees block.now order.now (start_of start.now) link)) }
+{
+    has_words(start);
+    let Some(left) = run_block(alloc, block, start, link)? else {
+        return Ok(None);
+    };
+    let ordered = run_order(alloc, order, start, link)?;
+    Ok(found(&left, &ordered))
+}
+
+/// Whether this start and link refute that the order means the block, and by what: from there the block isn't stuck, and the order
+/// is stuck or leaves another register, HI, LO, byte of memory or exit. None where the block is stuck from there or the order does
+/// what the block does. `Err` only where memory is refused.
+pub fn refute(
+    alloc: Global,
+    block: &Block,
+    order: &Order,
+    start: &Start,
+    link: u32,
+) -> Result<Option<Difference>, AllocError>
+    ensures refutes { IfOk result (λ r. IfSome r (λ d. Refutes block.now order.now (start_of start.now) link d)) }
+    ensures agrees { IfOk result (λ r. IfNone r (Agrees block.now order.now (start_of start.now) link)) }
+    ensures means { IfOk result (λ r. IfSome r (λ d. Means block.now order.now → ⊥)) }
+{
+    tried(alloc, block, order, start, link)
+}
+
+/// An order that some state refutes doesn't mean its block. A law: it computes nothing.
+pub fn refuted_orders_do_not_mean_their_blocks()
+    ensures { RefutedOrdersDoNotMeanTheirBlocks }
+{}
+
+/// A state that refutes an order is none from which it does what the block does. A law: it computes nothing.
+pub fn no_refuting_state_agrees()
+    ensures { NoRefutingStateAgrees }
+{}
