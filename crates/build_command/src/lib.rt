@@ -3,7 +3,7 @@
 //! `build` is the whole path of `mcc build`, and `build_plain` with `--plain`: the bytes of an image that follows the program
 //! (`specs/Follows.antt`), and the report of its scheduled unit (`specs/Builds.antt`), or why the text has none (`specs/SourceFaults.antt`,
 //! `specs/BuildFaults.antt`). `build_file` is the command over files and streams: all that it asks of them, prints, tells and ends by
-//! (`specs/Commands.antt`); `driver::mcc` and the program mcc_build call it. How faults print stands in `specs/Texts.antt`.
+//! (`specs/Commands.antt`); `driver::mcc` calls it. How faults print stands in `specs/Texts.antt`.
 //! `print_built` and `tell_build` are the command's ends, over a stream alone, for hosts without files.
 //!
 //! What is promised:

@@ -18,8 +18,7 @@
 //!   that fails.
 //! - `Display` of answers and faults is exact. The status of a verdict that could be printed is `exit_status` of it,
 //!   and that of a run is that of its end (`end_status`). The status of `driver::mcc` is at most 4, and never 2 (wrong
-//!   words) where clap takes the words; that of `mcc_check` is at most 3, and never 2 where clap takes the words as
-//!   those of `check FILE` without `--explain`, and that of `mcc_build` never where it takes them as those of `build` or `run`.
+//!   words) where clap takes the words.
 //! - `driver::mcc`, over any files and any standard error, where clap takes the words: unless the status is 1, the
 //!   words are a command, all that was asked of the files, what standard output took and the status are those of an
 //!   answer that the command's own call may give, with the words' depth, steps and `--plain` (`answered`: `IsAnswered` over
@@ -45,13 +44,13 @@
 //!   command does where a read or a write fails, standard output at any byte, and memory that is really refused to
 //!   `build` with two workers, `build_one`, `build_plain`, `check`, the words of the command line, a machine's steps,
 //!   and to `mcc build --plain`, `run`, `list` and `interp`. `.ci/refuse` refuses each growth of each command of the
-//!   built program in turn, by number (not a part of the gate; docs/GATE.md has its last run).
+//!   built program in turn, by number; of `check` and `build --plain` in the gate.
 //! - Only tested: that the reasons of `wrong` and `stuck` are those of the run (tests/c/reasons, tests/images/reasons); the lines below
 //!   a fault, as the place (`FILE:LINE:COLUMN: error:`, the line of the text, cut where it
 //!   is long, and the caret), what is wrong there and the hint (tests/messages); files that can't be read or written;
 //!   `mcc interp` at each limit of a text's sizes; check texts, their verdicts, and the line of what spells nothing;
 //!   wrong words, and the text of help; and (tests/examples) what each file of crates/example_files/data prints, and its
-//!   status. `mcc_check` and `mcc_build` have the same answers to their words.
+//!   status.
 #![tactic(auto)]
 
 mod image_commands;

@@ -1,7 +1,7 @@
 //! The command `mcc run`.
 //!
 //! `run_image` is the run of an image's bytes (`specs/ImageRuns.antt`), and `run_file` the command over files and streams: all that it
-//! asks of them, prints, tells and ends by (`specs/Command.antt`); `driver::mcc` and the program mcc_build call it. How the ends of a
+//! asks of them, prints, tells and ends by (`specs/Command.antt`); `driver::mcc` calls it. How the ends of a
 //! run print stands in `specs/Texts.antt`. `print_run` is the command's end, over a stream alone, for hosts without files.
 //!
 //! What is promised:
