@@ -1,13 +1,15 @@
 //! What a program has of its host (`Host`): the files (`Disk`), the words of the command line, and the standard streams. `run` gives
-//! them to a `Program`, as mcc is, on a thread of 1 GiB of stack. No contract says that, nor what the host
-//! gives; that a fault tells refused memory from all else is all that the layer above uses.
+//! them to a `Program`, as mcc is, on a thread of its own. No contract says that, nor what the host gives. Callers rely on one
+//! thing: that refused memory is reported apart from other faults.
 //!
-//! - Only tested (tests/c/deepest.case): that this stack holds the deepest texts that the sizes of `c_front` allow, nests of `if`,
-//!   of `while` and of expressions.
+//! Only tested (tests/c/deepest.case, .ci/limits): that the thread's stack holds the deepest texts, and that it is fault 30 if
+//! the stack can't be had; that no more of a file is read than is legal; that IMAGE is written beside its place and renamed.
 #![tactic(auto)]
 
 mod files;
 mod program;
+mod stack;
+mod streams;
 mod words;
 
 pub use files::Disk;

@@ -3,6 +3,8 @@
 ghost use Rattle.std.specs.Thread.{IsSync};
 
 use crate::files::Disk;
+use crate::stack::{longest_text, stack_for};
+use crate::streams::UntilRefused;
 use crate::words::{named_words, owned_words, tell_no_words};
 use commands::{Complaints, Files, HostFault, Output, tell};
 use std::alloc::Global;
@@ -34,19 +36,17 @@ pub trait Program {
         requires { IsSync T.row };
 }
 
-/// The address space that the working thread's stack takes; memory is had as the stack grows.
-const STACK: usize = 0x4000_0000;
-
+/// Has the program answer on this thread, whose stack holds texts of `longest` bytes.
 fn work<
     P: Program,
     T: Threads + Wait + Sync,
     R: HostFiles + AllocGlobal + Input,
     W: Write + Drop,
     E: Write + Drop,
->(program: &P, threads: &T, rt: &R, words: &[&str], out: W, mut err: E) -> u8 {
+>(program: &P, threads: &T, rt: &R, words: &[&str], longest: usize, out: W, mut err: E) -> u8 {
     let alloc = rt.alloc();
-    let files = Disk { rt };
-    match BufWriter::new(alloc, out) {
+    let files = Disk { rt, longest };
+    match BufWriter::new(alloc, UntilRefused::new(out)) {
         Ok(out) => program.answer(&mut Host {
             threads,
             alloc,
@@ -59,27 +59,37 @@ fn work<
     }
 }
 
-/// The work on a thread with a large stack; None where no such thread can be had.
+/// Has the program answer on a thread whose stack is as large as the texts ask that its words name. If no such thread can be
+/// had, memory was refused.
 fn work_apart<P: Program + Sync>(
     program: &P,
     threads: &(impl Threads + Wait + Sync),
     rt: &HostRuntime,
     words: &[&str],
-) -> Option<u8> {
+) -> u8 {
+    let longest = longest_text(rt, words);
     thread::scope(thread::scope_env(), threads, |scope| {
-        let started = Builder::new().stack_size(STACK).spawn_scoped(
+        let started = Builder::new().stack_size(stack_for(longest)).spawn_scoped(
             scope,
-            move || work(program, threads, rt, words, rt.stdout(), rt.stderr()),
+            move || work(
+                program,
+                threads,
+                rt,
+                words,
+                longest,
+                rt.stdout(),
+                rt.stderr(),
+            ),
         );
         match started {
-            Ok(worker) => Some(worker.join(threads)),
-            Err(_) => None,
+            Ok(worker) => worker.join(threads),
+            Err(_) => tell(&mut rt.stderr(), &HostFault::NoMemory),
         }
     })
 }
 
-/// The program over the words of the command line, the host's files and the standard streams, on a thread of 1 GiB of stack; where
-/// no such thread can be had, on its own. Both `threads` and `rt` are the host, which hands on its threads in `main` alone.
+/// Runs the program over the words of the command line, the host's files and the standard streams, on a thread of its own. Both
+/// `threads` and `rt` are the host, which hands on its threads in `main` alone.
 pub fn run<P: Program + Sync>(
     program: &P,
     threads: &(impl Threads + Wait + Sync),
@@ -94,9 +104,5 @@ pub fn run<P: Program + Sync>(
         Ok(words) => words,
         Err(e) => return ExitCode::from(tell_no_words(&mut err, &io::Error::from(e))),
     };
-    let words = words.as_slice();
-    match work_apart(program, threads, rt, words) {
-        Some(status) => ExitCode::from(status),
-        None => ExitCode::from(work(program, threads, rt, words, rt.stdout(), rt.stderr())),
-    }
+    ExitCode::from(work_apart(program, threads, rt, words.as_slice()))
 }

@@ -1,0 +1,39 @@
+// Standard output.
+
+use std::io;
+use std::io::{ErrorKind, Write};
+
+/// A stream that takes nothing after a write that it refused. A buffer before it writes again when it is dropped.
+#[derive(Drop)]
+pub(crate) struct UntilRefused<W> {
+    inner: W,
+    is_refused: bool,
+}
+
+impl<W: Write> UntilRefused<W> {
+    pub(crate) fn new(inner: W) -> UntilRefused<W> {
+        UntilRefused {
+            inner,
+            is_refused: false,
+        }
+    }
+}
+
+impl<W: Write> Write for UntilRefused<W> {
+    fn write(&mut self, buf: &[u8]) -> io::Result<usize> {
+        if self.is_refused {
+            return Err(io::Error::from(ErrorKind::BrokenPipe));
+        }
+        match self.inner.write(buf) {
+            Ok(count) => Ok(count),
+            Err(e) => {
+                self.is_refused = e.kind() != ErrorKind::Interrupted;
+                Err(e)
+            }
+        }
+    }
+
+    fn flush(&mut self) -> io::Result<()> {
+        self.inner.flush()
+    }
+}
