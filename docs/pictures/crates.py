@@ -41,7 +41,8 @@ def picture():
         parts += [box(LEFT - 10, y, ROW * (WIDE + GAP) + 12, high, "plain"), text(LEFT - 18, y + high / 2 + 5, group, "bold", "end")]
         for n, crate in enumerate(crates):
             x, top = LEFT + (n % ROW) * (WIDE + GAP), y + GAP + (n // ROW) * (HIGH + GAP)
-            parts += [box(x, top, WIDE, HIGH, "box", 3, f"{crate}: {', '.join(direct[crate]) or 'nothing'}"), text(x + WIDE / 2, top + 17, crate, "small", "middle")]
+            parts += [box(x, top, WIDE, HIGH, "box", 3, f"{crate}: {', '.join(direct[crate]) or 'nothing'}"),
+                      text(x + WIDE / 2, top + 17, crate, "small", "middle")]
         y += high + 18
     right = LEFT - 10 + ROW * (WIDE + GAP) + 12
     lane = 0
@@ -53,9 +54,9 @@ def picture():
                 parts.append(arrow([(x, top + high), (x, low)]))
             else:
                 lane += 1
-                x = right + 12 + 12 * lane
-                parts.append(arrow([(right, top + high / 2), (x, top + high / 2), (x, low + deep / 2 + 4 - 3 * lane), (right, low + deep / 2 + 4 - 3 * lane)]))
-    return svg(right + 24 + 12 * lane, y, "The crates in their layers", [*parts, ])
+                x, end = right + 12 + 12 * lane, low + deep / 2 + 4 - 3 * lane
+                parts.append(arrow([(right, top + high / 2), (x, top + high / 2), (x, end), (right, end)]))
+    return svg(right + 24 + 12 * lane, y, "The crates in their layers", parts)
 
 
 if __name__ == "__main__":

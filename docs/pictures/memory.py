@@ -48,7 +48,8 @@ def picture():
     for name, address, kind, wide, words in [
             ("", None, "plain", 70, ""), ("code", at["code_base"], "box", 150, "only fetched"), ("", None, "plain", 60, ""),
             ("data", at["data_base"], "green", 150, "at most 1 MiB"), ("", None, "plain", 130, ""),
-            ("stack", at["stack_base"], "warm", 170, f"{(at['stack_end'] - at['stack_base']) >> 20} MiB, grows down"), ("", at["stack_end"], "plain", 80, "")]:
+            ("stack", at["stack_base"], "warm", 170, f"{(at['stack_end'] - at['stack_base']) >> 20} MiB, grows down"),
+            ("", at["stack_end"], "plain", 80, "")]:
         parts.append(box(x, y, wide, HIGH, kind if name else "plain dash", 2))
         if name:
             parts += [text(x + wide / 2, y + 15, name, "bold", "middle"), text(x + wide / 2, y + 28, words, "small dim", "middle")]
