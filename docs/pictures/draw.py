@@ -15,7 +15,8 @@ STYLE = """<style>
 text { font: 13px system-ui, sans-serif; fill: #1f2937; } .mono { font-family: ui-monospace, monospace; } .dim { fill: #6b7280; }
 .bold { font-weight: 600; } .small { font-size: 11px; } .box { fill: #dfe9fb; stroke: #5b84d6; }
 .plain { fill: #f9fafb; stroke: #9ca3af; }
-.warm { fill: #fde9d3; stroke: #d9822b; } .green { fill: #d9f2e3; stroke: #2e9e6b; } .line { stroke: #6b7280; fill: none; stroke-width: 1.4; }
+.warm { fill: #fde9d3; stroke: #d9822b; } .green { fill: #d9f2e3; stroke: #2e9e6b; }
+.line { stroke: #6b7280; fill: none; stroke-width: 1.4; }
 .blue { stroke: #2f6fdf; fill: none; stroke-width: 1.6; } .red { stroke: #d9482b; fill: none; stroke-width: 1.6; } .head { fill: #6b7280; }
 .dash { stroke-dasharray: 5 4; } .ink0 { fill: #8a8f98; } .ink1 { fill: #2f6fdf; } .ink2 { fill: #d9822b; } .ink3 { fill: #2e9e6b; }
 .line0 { stroke: #8a8f98; } .line1 { stroke: #2f6fdf; } .line2 { stroke: #d9822b; } .line3 { stroke: #2e9e6b; }

@@ -48,8 +48,8 @@ def draw(x, name, blocks, edges):
             parts += [arrow([(x + WIDE / 2, top + high), (x + WIDE / 2, low)]), text(x + WIDE / 2 + 6, top + high + 18, label, "small dim")]
         elif low > top:
             left += 1
-            lane = x - 12 * left
-            parts += [arrow([(x, top + high - 12), (lane, top + high - 12), (lane, low + 4 + 8 * left), (x, low + 4 + 8 * left)], "line dash"),
+            lane, end = x - 12 * left, low + 4 + 8 * left
+            parts += [arrow([(x, top + high - 12), (lane, top + high - 12), (lane, end), (x, end)], "line dash"),
                       text(lane - 4, top + high - 2, label, "small dim", "end")]
         else:
             right += 1

@@ -56,7 +56,8 @@ def picture():
         if address is not None:
             parts.append(text(x, y + HIGH + 15, f"0x{address:08x}", "mono small"))
         x += wide
-    parts += [arrow([(712, y + 74), (750, y + 74), (750, y + HIGH + 20)]), text(706, y + 78, "register 29 at the start", "small dim", "end")]
+    parts += [arrow([(712, y + 74), (750, y + 74), (750, y + HIGH + 20)]),
+              text(706, y + 78, "register 29 at the start", "small dim", "end")]
     return svg(860, 286, "The bytes of an image, and where its parts are in memory", parts)
 
 

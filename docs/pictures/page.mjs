@@ -14,10 +14,12 @@ const wait = async (what, expression) => {
 };
 await wait('page', `document.querySelectorAll('#graph .node').length > 0 && ${text('verdict')} !== ''`);
 await page.value(`(() => { const s = document.getElementById('examples'); s.value = 'primes.c'; s.onchange(); })()`);
-await wait('primes', `document.getElementById('source').value.includes('composite') && document.querySelectorAll('#graph .node').length > 5`);
+await wait('primes', `document.getElementById('source').value.includes('composite')`);
+await wait('graph', `document.querySelectorAll('#graph .node').length > 5`);
 await wait('block', `document.querySelector('#graph .node') && ${text('verdict')}.startsWith('same')`);
 // The block with a store in a loop, by its text in the graph.
-await page.value(`[...document.querySelectorAll('#graph .node')].find(it => it.textContent.startsWith('6')).dispatchEvent(new MouseEvent('click', { bubbles: true }))`);
+await page.value(`[...document.querySelectorAll('#graph .node')].find(it => it.textContent.startsWith('6'))
+  .dispatchEvent(new MouseEvent('click', { bubbles: true }))`);
 await wait('block 6', `${text('block-title')}.startsWith('Block 6')`);
 await page.value(`document.querySelector('#order li').focus()`);
 await page.key('ArrowDown', { alt: true });

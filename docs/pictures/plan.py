@@ -30,7 +30,8 @@ def picture():
             high = max(16, round(size * 0.32))
             if y + high > 640:
                 x, y, column = x + WIDE + 6, 46, column + 1
-            parts += [box(x, y, WIDE, high, kind, 2), text(x + 6, y + 12, file, "small"), text(x + WIDE - 6, y + 12, size, "small dim", "end")]
+            parts += [box(x, y, WIDE, high, kind, 2), text(x + 6, y + 12, file, "small"),
+                      text(x + WIDE - 6, y + 12, size, "small dim", "end")]
             y += high + 3
             deepest = max(deepest, y)
         x += WIDE + GAP

@@ -13,42 +13,46 @@ def rows(name):
 
 
 def legend(names, x, y, step=150):
-    return [it for n, name in enumerate(names) for it in (box(x + step * n, y - 10, 12, 12, f"ink{n}", 2), text(x + step * n + 18, y, name, "small"))]
+    return [it for n, name in enumerate(names)
+            for it in (box(x + step * n, y - 10, 12, 12, f"ink{n}", 2), text(x + step * n + 18, y, name, "small"))]
 
 
-def bars(title, groups, names, unit, left=150, wide=420, most=None, step=150):
+def bars(title, groups, names, left=150, wide=420):
     """Horizontal bars: groups of (label, values), a bar for each name."""
-    most = most or max(value for _, values in groups for value in values)
-    parts, y = [text(20, 20, title, "bold"), *(legend(names, 20, 40, step) if len(names) > 1 else [])], 58 if len(names) > 1 else 34
+    most = max(value for _, values in groups for value in values)
+    parts, y = [text(20, 20, title, "bold"), *(legend(names, 20, 40) if len(names) > 1 else [])], 58 if len(names) > 1 else 34
     for label, values in groups:
         parts.append(text(left - 8, y + 6.5 * len(values) + 4, label, "small", "end"))
         for n, value in enumerate(values):
             size = round(wide * value / most, 1)
             ink = n if len(names) > 1 else int(label.startswith("mcc"))
-            parts += [box(left, y + 13 * n, size, 11, f"ink{ink}", 1), text(left + size + 6, y + 13 * n + 10, f"{value:g}{unit}", "small dim")]
+            parts += [box(left, y + 13 * n, size, 11, f"ink{ink}", 1), text(left + size + 6, y + 13 * n + 10, f"{value:g}", "small dim")]
         y += 13 * len(values) + 12
     return svg(left + wide + 90, y + 2, title, parts)
 
 
 def words():
     said = (TOP / "crates/bench/stdout").read_text()
-    found = re.findall(r"^(\w+): \d+ of \d+ blocks accepted\n  plain: \d+ code words, (\d+) run\n  scheduled: \d+ code words, (\d+) run", said, re.M)
-    sums = [("mcc, plain order", sum(int(it[1]) for it in found)), ("mcc, scheduled", sum(int(it[2]) for it in found))]
+    counts = {name: re.findall(rf"^  {name}: \d+ code words, (\d+) run", said, re.M) for name in ("plain", "scheduled")}
+    sums = [(f"mcc, {name}", sum(map(int, found))) for name, found in counts.items()]
     sums += [(it["compiler"], int(it["words run"])) for it in rows("gcc")]
-    return bars("Words that eight programs run, in millions (fewer is better)", [(name, [round(count / 1e6, 2)]) for name, count in sums], ["words"], "")
+    groups = [(name, [round(count / 1e6, 2)]) for name, count in sums]
+    return bars("Words that eight programs run, in millions (fewer is better)", groups, ["words"])
 
 
 def builds():
     found = rows("builds")
     sizes = [it for it in found[0] if it != "compiler"]
     largest = sizes[-1]
-    return bars(f"Time of a build of {largest} of C, CPU ms (less is better)", [(it["compiler"], [float(it[largest])]) for it in found], ["ms"], "", left=230)
+    groups = [(it["compiler"], [float(it[largest])]) for it in found]
+    return bars(f"Time of a build of {largest} of C, CPU ms (less is better)", groups, ["ms"], left=230)
 
 
 def table():
     found = rows("table")
     names = [it for it in found[0] if it != "table"]
-    return bars("Millions of interns a second, one thread (more is better)", [(it["table"], [float(it[name]) for name in names]) for it in found], names, "", left=190)
+    groups = [(it["table"], [float(it[name]) for name in names]) for it in found]
+    return bars("Millions of interns a second, one thread (more is better)", groups, names, left=190)
 
 
 def workers():
@@ -59,7 +63,8 @@ def workers():
     parts += [text(72, up(v) + 4, v, "small dim", "end") for v in range(0, most, 50)]
     for n, it in enumerate(found):
         parts.append(line([(x, up(float(it[w]))) for w, x in at.items()], f"line{n}"))
-    return svg(640, 285, "Checking 262,144 instructions by 1, 2 and 4 workers", [*parts, *legend([f"blocks of {it['instructions']}" for it in found], 20, 42, 125)])
+    parts += legend([f"blocks of {it['instructions']}" for it in found], 20, 42, 125)
+    return svg(640, 285, "Checking 262,144 instructions by 1, 2 and 4 workers", parts)
 
 
 if __name__ == "__main__":

@@ -19,14 +19,15 @@ STEPS = [
 
 
 def kinds():
-    said = " ".join(line.removeprefix("--").strip() for line in (TOP / "crates/term_core/specs/World.antt").read_text().split("\nuse ")[0].splitlines())
-    return re.findall(r"(S\d) ([^,.]*)", said)
+    head = (TOP / "crates/term_core/specs/World.antt").read_text().split("\nuse ")[0]
+    return re.findall(r"(S\d) ([^,.]*)", " ".join(it.removeprefix("--").strip() for it in head.splitlines()))
 
 
 def picture():
     parts = []
     for x, name in ((A, "worker A"), (CHAIN, "shared words of one chain"), (B, "worker B")):
-        parts += [box(x - 105, 14, 210, 28, "plain" if x == CHAIN else "box"), text(x, 33, name, "bold", "middle"), line([(x, 42), (x, 370)], "line dash")]
+        parts += [box(x - 105, 14, 210, 28, "plain" if x == CHAIN else "box"), text(x, 33, name, "bold", "middle"),
+                  line([(x, 42), (x, 370)], "line dash")]
     y = 72
     for by, kind, does, becomes in STEPS:
         parts += [arrow([(by, y), (CHAIN, y)]), text((by + CHAIN) / 2, y - 6, f"{kind} {does}", "small", "middle"),
