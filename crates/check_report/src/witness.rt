@@ -143,6 +143,7 @@ pub(crate) fn put_found(
     block: &Block,
     order: &Order,
 ) -> Result<(), AllocError> {
+    // (rattle 13f: the parts are named here, or it "was not told which modules hold the type": CONTRIBUTING.md)
     match find_start(alloc, block, order) {
         Ok(
             Some(

@@ -108,6 +108,7 @@ impl Departs {
         ensures same { result ≡ true → departure_in self.now ≡ departure_in other.now }
     {
         match *self {
+            // (rattle 13f: matching a pair that holds a BlockNumber ends in "cites the_type": CONTRIBUTING.md)
             Departs::To(a) => match *other {
                 Departs::To(b) => a.number() == b.number(),
                 _ => false,

@@ -283,6 +283,7 @@ fn is_passing(place: Option<Location>) -> bool
 {
     match place {
         None => false,
+        // (rattle 13f: a nested pattern through another crate's type ends in "a bug in rattle": CONTRIBUTING.md)
         Some(location) => match location {
             Location::Held(r) => !is_lasting(r),
             Location::InSlot(_) => false,

@@ -103,6 +103,7 @@ fn lazy_at(table: &[Option<u32>], place: Option<Location>) -> Option<u32>
 {
     match place {
         None => None,
+        // (rattle 13f: a nested pattern through another crate's type ends in "a bug in rattle": CONTRIBUTING.md)
         Some(location) => match location {
             Location::Held(r) => lazy_in(table, r),
             Location::InSlot(_) => None,
@@ -130,6 +131,7 @@ fn tell_lazy(table: &mut [Option<u32>; 32], place: Option<Location>, word: u32)
 {
     match place {
         None => {}
+        // (rattle 13f: a nested pattern through another crate's type ends in "a bug in rattle": CONTRIBUTING.md)
         Some(location) => match location {
             Location::Held(r) => {
                 let told = if is_lasting(r) { None } else { Some(word) };
@@ -146,6 +148,7 @@ fn clear_lazy(table: &mut [Option<u32>; 32], place: Option<Location>)
 {
     match place {
         None => {}
+        // (rattle 13f: a nested pattern through another crate's type ends in "a bug in rattle": CONTRIBUTING.md)
         Some(location) => match location {
             Location::Held(r) => put_lazy(table, r, None),
             Location::InSlot(_) => {}

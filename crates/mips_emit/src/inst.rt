@@ -51,6 +51,7 @@ fn emit_const(
 {
     match locate(frame, d) {
         None => Ok(()),
+        // (rattle 13f: a nested pattern through another crate's type ends in "a bug in rattle": CONTRIBUTING.md)
         Some(location) => match location {
             Location::Held(r) => emit_held(code, r, word),
             Location::InSlot(_) => emit_put(code, Some(location), &word_source(word)),

@@ -73,6 +73,7 @@ pub(crate) fn inner_of(place: Option<Location>) -> NonzeroReg
 {
     match place {
         None => register(1),
+        // (rattle 13f: a nested pattern through another crate's type ends in "a bug in rattle": CONTRIBUTING.md)
         Some(location) => match location {
             Location::Held(r) => register(3 - 2 * (r.index() % 2)),
             Location::InSlot(k) => register(1 + 2 * (k % 2) as u8),
@@ -88,6 +89,7 @@ fn known_source(word: u32, place: Option<Location>) -> Source
 {
     match place {
         None => Source::Word(word),
+        // (rattle 13f: a nested pattern through another crate's type ends in "a bug in rattle": CONTRIBUTING.md)
         Some(location) => match location {
             Location::Held(_) => Source::From(location),
             Location::InSlot(_) => Source::Word(word),

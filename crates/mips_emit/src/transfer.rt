@@ -87,6 +87,7 @@ pub(crate) fn into_of(place: Option<Location>) -> NonzeroReg
 {
     match place {
         None => inner_of(None),
+        // (rattle 13f: a nested pattern through another crate's type ends in "a bug in rattle": CONTRIBUTING.md)
         Some(location) => match location {
             Location::Held(r) => r,
             Location::InSlot(_) => inner_of(Some(location)),
@@ -101,6 +102,7 @@ pub(crate) fn emit_finish(code: &mut Vec<Plain>, place: Option<Location>) -> Res
 {
     match place {
         None => Ok(()),
+        // (rattle 13f: a nested pattern through another crate's type ends in "a bug in rattle": CONTRIBUTING.md)
         Some(location) => match location {
             Location::Held(_) => Ok(()),
             Location::InSlot(k) => emit_store_word(code, inner_of(Some(location)).reg(), 4 * k),
@@ -120,6 +122,7 @@ pub(crate) fn emit_put(
 {
     match place {
         None => Ok(()),
+        // (rattle 13f: a nested pattern through another crate's type ends in "a bug in rattle": CONTRIBUTING.md)
         Some(location) => match location {
             Location::Held(r) => emit_bring(code, r, x),
             Location::InSlot(k) => {
@@ -142,6 +145,7 @@ pub(crate) fn emit_arrive(
 {
     match place {
         None => Ok(()),
+        // (rattle 13f: a nested pattern through another crate's type ends in "a bug in rattle": CONTRIBUTING.md)
         Some(location) => match location {
             Location::Held(r) => emit_carry(code, r, &Source::From(Location::Held(t))),
             Location::InSlot(k) => emit_store_word(code, t.reg(), 4 * k),

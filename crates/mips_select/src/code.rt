@@ -77,6 +77,7 @@ fn emit_own(
         asked_of(&block.exit),
         block.insts.as_slice(),
     )?;
+    // (rattle 13f: handing on `last` itself ends in "it was not told which modules hold the type": CONTRIBUTING.md)
     let fresh = last.fresh;
     let comparison: Option<Comparison> = last.comparison;
     let last = Last { fresh, comparison };
