@@ -1,5 +1,5 @@
 -- What a command did, as what the program did with its words.
-use Rattle.std.proofs.Common.{◌≡◌, ℕ, List, [], Option, sym, refl, inl, inr, true, rules}
+use Rattle.std.proofs.Common.{◌≡◌, ◌≤◌, ℕ, zero, suc, List, [], Option, sym, refl, inl, inr, true, arith, rules}
 use Rattle.clap.specs.Words.{HasKind, IsAmong, Kinds, Text, fault_of, kind_of, takes}
 use Rattle.clap.specs.declared.error.Error.{Error}
 use Rattle.clap.specs.declared.error.kind.ErrorKind.{ErrorKind}
@@ -9,7 +9,7 @@ use Rattle.commands.specs.Texts.{host_fault_text}
 use Rattle.commands.specs.declared.fault.HostFault.{HostFault}
 use Rattle.commands.specs.WrongWords.{IsFaultOfWords, IsHelp, IsMistake}
 use Rattle.command_line.specs.Commands.{IsCommand, mcc_app}
-use Rattle.command_line.specs.Programs.{HasHelp, HasMistake, IsAnswered, IsFaultBefore, IsRemark, IsStopped}
+use Rattle.command_line.specs.Programs.{EndsUntaken, HasHelp, HasMistake, IsAnswered, IsFaultBefore, IsRemark, IsStopped}
 use Rattle.command_line.specs.declared.command.Command.{Command}
 
 -- nothing was told beside its answer
@@ -55,6 +55,14 @@ help_of kinds e help has = (kind_of e, among kinds e (not_memory (kind_of e) hel
 
 pub mistake_of : (kinds : Kinds) (e : Error) → IsMistake (kind_of e) → HasKind kinds e → HasMistake kinds
 mistake_of kinds e mistake has = (kind_of e, among kinds e mistake.0 has, mistake)
+
+-- the status that comes of an error
+pub ends_untaken : (kinds : Kinds) (e : Error) (status : ℕ) → status ≤ 2 → HasKind kinds e → (status ≡ 0 → IsHelp (kind_of e))
+    → (status ≡ 2 → IsMistake (kind_of e)) → EndsUntaken kinds status
+ends_untaken kinds e zero most has help mistake = inl (refl, help_of kinds e (help refl) has)
+ends_untaken kinds e (suc zero) most has help mistake = inr (inl refl)
+ends_untaken kinds e (suc (suc zero)) most has help mistake = inr (inr (refl, mistake_of kinds e (mistake refl) has))
+ends_untaken kinds e (suc (suc (suc n))) most has help mistake = let no : ⊥ = omega (arith, most) in absurd no
 
 fault_before : (words : List Text) (e : Error) (fault : HostFault) → (takes mcc_app words ≡ true → kind_of e ≡ OutOfMemory)
     → HasKind (fault_of mcc_app words) e → IsFaultOfWords (kind_of e) fault → IsFaultBefore words fault
