@@ -21,5 +21,5 @@ abbrev pub IsUnprinted : HostFault → Type 0
 IsUnprinted fault = fault ≢ CannotRead
 
 -- where it ended by a fault, with `--explain` too
-abbrev pub StopsCheck : (file : List ℕ) → List Request → List ℕ → Type 0
+abbrev pub StopsCheck : (file : List ℕ) → (silent refused : Type 0) → List Request → List ℕ → Type 0
 StopsCheck = StopsFile IsAnswerTo IsCheckFault check_fault_text IsUnprinted

@@ -1,13 +1,13 @@
 // The command over a file and streams.
 
-ghost use Rattle.std.specs.Prelude.{◌≡◌, ◌≢◌, ◌≤◌, ℕ, List, [], ◌∷◌, ◌++◌, IfOk, IfErr, OnOk};
+ghost use Rattle.std.specs.Prelude.{◌≡◌, ◌≢◌, ◌≤◌, ℕ, List, [], ◌∷◌, ◌++◌, IfOk, IfErr, OnErr, OnOk};
 ghost use Rattle.std.specs.Io.KnownBytes.{Appends};
 ghost use Rattle.check_command.specs.Checks.{IsAnswerTo, IsCheckFault};
 ghost use Rattle.check_command.specs.Command.{Checks, IsUnprinted, PrintsAnswer, StopsCheck};
 ghost use Rattle.check_command.specs.Texts.{IsCheckStatus, answer_text, check_fault_text, exit_status};
 ghost use Rattle.check_command.specs.declared.verdicts.CheckAnswer.{CheckAnswer};
 ghost use Rattle.commands.specs.OneFile.{AnswersFile, TookPrint};
-ghost use Rattle.commands.specs.Requests.{Asks, Does, IsNothing, IsSent, TellsLine};
+ghost use Rattle.commands.specs.Requests.{Asks, Does, IsNothing, IsSent, LeavesOutput, TellsLine, WasRefused};
 ghost use Rattle.commands.specs.declared.fault.HostFault.TheVariants.{CannotWrite};
 
 use crate::lines::explain_line;
@@ -21,9 +21,10 @@ use std::io;
 
 fn print<W: Output>(out: &mut W, line: &CheckAnswer) -> io::Result<()>
     ensures sent { OnOk result (IsSent W.sends out.new) }
+    ensures refused { OnErr result (WasRefused W.refuses out.new) }
     ensures line { OnOk result (Appends (W.contents out.old) (W.contents out.new) (answer_text line.now ++ 10 ∷ [])) }
 {
-    writeln!(out, "{line}")?;
+    out.put_line(line)?;
     out.send()
 }
 
@@ -38,13 +39,14 @@ pub fn status_of(answer: &CheckAnswer) -> u8
     }
 }
 
-/// The answer, printed; its status.
+/// Prints the answer; the result is its status.
 pub fn print_answer<W: Output>(out: &mut W, answer: &CheckAnswer) -> Result<u8, HostFault>
     ensures line { OnOk result (Appends (W.contents out.old) (W.contents out.new) (answer_text answer.now ++ 10 ∷ [])) }
     ensures sent { OnOk result (IsSent W.sends out.new) }
     ensures status { IfOk result (λ s. s ≡ exit_status answer.now) }
     ensures possible { IfOk result IsCheckStatus }
     ensures fault { IfErr result (λ e. e ≡ CannotWrite) }
+    ensures refused { OnErr result (WasRefused W.refuses out.new) }
 {
     match print(out, answer) {
         Ok(()) => Ok(status_of(answer)),
@@ -68,7 +70,7 @@ fn explanation_of(alloc: Global, text: &[u8], fault: CheckFault) -> Option<Expla
     }
 }
 
-/// The line of a fault of a text, and below it where it lies and what is said of it.
+/// Tells the line of a fault of a text, and below it where it lies and what is said of it.
 pub fn tell_check<E: Complaints>(
     alloc: Global,
     err: &mut E,
@@ -103,7 +105,8 @@ pub trait AnswerPrinter {
         ensures took { OnOk result (TookPrint (W.contents out.old) (W.contents out.new) (prints answer.now)) }
         ensures sent { OnOk result (IsSent W.sends out.new) }
         ensures status { IfOk result (λ s. s ≡ exit_status answer.now) }
-        ensures fault { IfErr result IsUnprinted };
+        ensures fault { IfErr result IsUnprinted }
+        ensures left { IfErr result (λ e. LeavesOutput e (out.new ≡ out.old) (WasRefused W.refuses out.new)) };
 }
 
 /// `mcc check` over one file, with its printer.
@@ -163,7 +166,7 @@ impl<'a, P: AnswerPrinter> FileCommand for CheckCommand<'a, P> {
     }
 }
 
-/// The verdict on the text of a file, printed by this printer; the answer is the exit status.
+/// Prints the verdict on the text of a file by this printer; the answer is the exit status.
 pub fn answer_check<P: AnswerPrinter, F: Files, W: Output, E: Complaints>(
     alloc: Global,
     printer: &P,
@@ -177,7 +180,7 @@ pub fn answer_check<P: AnswerPrinter, F: Files, W: Output, E: Complaints>(
         (AnswersFile IsAnswerTo P.prints exit_status file.now result) }
     ensures sent { result ≢ 1 → IsSent W.sends out.new }
     ensures quiet { result ≢ 1 → err.new ≡ err.old }
-    ensures stopped { result ≡ 1 → Asks F.answers files.old files.new E.tells err.old err.new (StopsCheck file.now) }
+    ensures stopped { result ≡ 1 → Asks F.answers files.old files.new W.refuses out.old out.new E.tells err.old err.new (StopsCheck file.now) }
 {
     answer_file(alloc, &CheckCommand { printer }, file, files, out, err)
 }
@@ -200,7 +203,7 @@ impl AnswerPrinter for AnswerLine {
     }
 }
 
-/// The verdict on the text of a file, printed; the answer is the exit status.
+/// Prints the verdict on the text of a file; the answer is the exit status.
 pub fn check_file<F: Files, W: Output, E: Complaints>(
     alloc: Global,
     file: &str,
@@ -213,7 +216,7 @@ pub fn check_file<F: Files, W: Output, E: Complaints>(
         → Does F.answers files.old files.new (W.contents out.old) (W.contents out.new) (Checks file.now result) }
     ensures sent { result ≢ 1 → IsSent W.sends out.new }
     ensures quiet { result ≢ 1 → err.new ≡ err.old }
-    ensures stopped { result ≡ 1 → Asks F.answers files.old files.new E.tells err.old err.new (StopsCheck file.now) }
+    ensures stopped { result ≡ 1 → Asks F.answers files.old files.new W.refuses out.old out.new E.tells err.old err.new (StopsCheck file.now) }
 {
     answer_check(alloc, &AnswerLine, file, files, out, err)
 }

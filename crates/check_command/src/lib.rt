@@ -14,7 +14,9 @@
 //!   stores, in rising and in falling order, have a verdict (tested). Faults: size first, then the line; 30 where memory
 //!   was refused, and never for a text that is too long (more than `LONGEST` bytes).
 //! - `check_command::check_file`: it asks its files for the text alone, prints the answer's line and ends by its status
-//!   (`Checks`), or it ends by 1 and tells the fault's line (`StopsCheck`).
+//!   (`Checks`), or it ends by 1 and tells the fault's line (`StopsCheck`). Then standard output is as it was, or it refused
+//!   the answer, which is `CannotWrite`.
+//! - `check_command::print_answer`: `CannotWrite` comes only where standard output refused what it was asked last.
 #![tactic(auto)]
 
 mod command;

@@ -1,17 +1,19 @@
 -- Files that are checked one after another.
-use Rattle.std.proofs.Common.{◌≡◌, ℕ, zero, suc, ◌+◌, ◌<◌, ◌≤◌, List, [], ◌∷◌, ◌++◌, Bool, Option, None, map, fold, refl, sym, ◌∙◌, ap, subst, append-nil, append_assoc, codes, length, length-drop, take, drop, set, get_or, Bor, arith}
+use Rattle.std.proofs.Common.{◌≡◌, ℕ, zero, suc, ◌+◌, ◌<◌, ◌≤◌, List, [], ◌∷◌, ◌++◌, All, Bool, Option, None, map, fold, refl, sym, ◌∙◌, ap, subst, append-nil, append_assoc, codes, length, length-drop, take, drop, set, get_or, Bor, arith}
 use Rattle.std.specs.List.{AllZip, FoldsTo, flat_map}
 use Rattle.std.specs.Io.KnownBytes.{Appends}
 use Rattle.std.proofs.KnownBytes.{Appends-nil, Appends-trans}
 use Rattle.std.proofs.lemmas.List.{get_or-map, length-map, map-append, take-append-drop, take_all, take_more, take_more_set}
 use Rattle.std.proofs.lemmas.List.Concat.{flat_map-append}
-use Rattle.std.proofs.lemmas.List.Elements.{All-append, All-cons, All-nil}
+use Rattle.std.proofs.lemmas.List.Elements.{All-append, All-cons, All-nil, All-tail}
 use Rattle.std.proofs.lemmas.List.Sums.{fold-append}
-use Rattle.commands.specs.Requests.{Request, TellsLine, Asks}
+use Rattle.commands.specs.Requests.{Request, TellsLine, Asks, WasRefused}
 use Rattle.commands.specs.Requests.Request.{Read}
-use Rattle.commands.specs.Texts.{host_fault_text, shown_name}
+use Rattle.commands.specs.Texts.{IsShown, host_fault_text, shown_name}
 use Rattle.commands.specs.declared.fault.HostFault.TheVariants.{CannotWrite}
 use Rattle.commands.proofs.Told.{folds_on, line_on, lines_on}
+use Rattle.commands.proofs.Shown.{host_fault}
+use Rattle.check_report.proofs.FaultsShown.{of_files}
 use Rattle.check_report.specs.Line.{AreRead, IsChecked, IsReading, line_text, said_status, said_text}
 use Rattle.check_report.specs.Several.{BreaksOff, IsRight, Reads, faults_of, first_told, lines_of, name_of, request_of, said_of, status_of, worse}
 use Rattle.check_report.specs.Several.BreaksOff.{breaks}
@@ -21,10 +23,11 @@ use Rattle.check_report.specs.declared.readings.Reading.TheVariants as reads
 use Rattle.check_report.specs.declared.said.FileLine.{FileLine}
 
 -- the first of the lines, the last of which was just told
-pub first_line : {E : Type 0} (tells : E → List ℕ → E → Type 0) (p q r : E) (lines : List (List ℕ)) → FoldsTo (TellsLine tells) p lines q
-    → TellsLine tells q (host_fault_text CannotWrite) r → TellsLine tells p (first_told lines) r
-first_line {E} tells p q r [] a b = subst (λ (z : E). TellsLine tells z (host_fault_text CannotWrite) r) (sym a) b
-first_line tells p q r (line ∷ lines) a b = line_on tells p a.0 r line a.1 (lines_on tells a.0 q r lines (host_fault_text CannotWrite) a.2 b)
+pub first_line : {E : Type 0} (tells : E → List ℕ → E → Type 0) (p q r : E) (lines : List (List ℕ)) → All (All IsShown) lines
+    → FoldsTo (TellsLine tells) p lines q → TellsLine tells q (host_fault_text CannotWrite) r → TellsLine tells p (first_told lines) r
+first_line {E} tells p q r [] shown a b = subst (λ (z : E). TellsLine tells z (host_fault_text CannotWrite) r) (sym a) b
+first_line tells p q r (line ∷ lines) shown a b = line_on tells p a.0 r line a.1
+    (lines_on tells a.0 q r lines (host_fault_text CannotWrite) (All-tail (All IsShown) line lines shown) (host_fault CannotWrite) a.2 b)
 
 -- ---- what was read
 
@@ -224,14 +227,16 @@ module _ {F E : Type 0} (answers : F → Request → F → Type 0) (tells : E �
     subst (λ (s : ℕ). AreChecked (a.0 ++ b.0) o q tells c e explain (ns ++ ms) s) (sym is) (joined tells explain a.0 b.0 o p q c d e ns ms i j a.2 b.2),
   )
 
+module _ {F W E : Type 0} (answers : F → Request → F → Type 0) (refuses : W → W → Type 0) (tells : E → List ℕ → E → Type 0) (explain : Bool) where
   -- standard output was refused within a stretch
-  pub broken : (f g h : F) (o p : Option (List ℕ)) (c d e r : E) (ns ms rest all : List (List ℕ)) (i : ℕ) → ns ++ (ms ++ rest) ≡ all
-      → ShowsStretch answers f g o p tells c d explain ns i → BreaksStretch answers g h tells d e explain ms
-      → TellsLine tells e (host_fault_text CannotWrite) r → Asks answers f h tells c r (BreaksOff explain all)
-  broken f g h o p c d e r ns ms rest all i same before cut told =
+  pub broken : (f g h : F) (v w : W) (o p : Option (List ℕ)) (c d e r : E) (ns ms rest all : List (List ℕ)) (i : ℕ) → ns ++ (ms ++ rest) ≡ all
+      → ShowsStretch answers f g o p tells c d explain ns i → BreaksStretch answers g h tells d e explain ms → WasRefused refuses w
+      → TellsLine tells e (host_fault_text CannotWrite) r → Asks answers f h refuses v w tells c r (BreaksOff explain all)
+  broken f g h v w o p c d e r ns ms rest all i same before cut refused told =
       let these = before.2 in
       let those = cut.2 in
       let files = these.files ++ those.files in
+      let right = All-append (IsRight explain) these.files those.files these.right those.right in
       let faults = subst (λ (ts : List (List ℕ)). FoldsTo (TellsLine tells) c ts e) (sym (flat_map-append faults_of these.files those.files))
       (folds_on (TellsLine tells) c d e (flat_map faults_of these.files) (flat_map faults_of those.files) these.told those.told) in
       let requests : map request_of files ++ those.behind ≡ before.0 ++ cut.0 =
@@ -249,9 +254,8 @@ module _ {F E : Type 0} (answers : F → Request → F → Type 0) (tells : E �
         requests = map request_of files ++ those.behind;
         text = first_told (flat_map faults_of files);
         asked = subst (λ (rs : List Request). FoldsTo answers f rs h) (sym requests) (folds_on answers f g h before.0 cut.0 before.1 cut.1);
-        told = first_line tells c e r (flat_map faults_of files) faults told;
-        means = breaks files those.ahead rest those.behind (All-append (IsRight explain) these.files those.files these.right those.right) names
-            those.read those.few;
+        told = first_line tells c e r (flat_map faults_of files) (of_files explain files right) faults told;
+        means = breaks files those.ahead rest those.behind right names those.read those.few refused;
       }
 
   nothing_cut : (d : E) → AreCutOff [] tells d d explain []
@@ -268,8 +272,8 @@ module _ {F E : Type 0} (answers : F → Request → F → Type 0) (tells : E �
   }
 
   -- or behind them all
-  pub broken_behind : (f g : F) (o p : Option (List ℕ)) (c d r : E) (ns all : List (List ℕ)) (i : ℕ) → ns ≡ all
-      → ShowsStretch answers f g o p tells c d explain ns i → TellsLine tells d (host_fault_text CannotWrite) r
-      → Asks answers f g tells c r (BreaksOff explain all)
-  broken_behind f g o p c d r ns all i same before told =
-      broken f g g o p c d d r ns [] [] all i (append-nil ns ∙ same) before ([], refl, nothing_cut d) told
+  pub broken_behind : (f g : F) (v w : W) (o p : Option (List ℕ)) (c d r : E) (ns all : List (List ℕ)) (i : ℕ) → ns ≡ all
+      → ShowsStretch answers f g o p tells c d explain ns i → WasRefused refuses w → TellsLine tells d (host_fault_text CannotWrite) r
+      → Asks answers f g refuses v w tells c r (BreaksOff explain all)
+  broken_behind f g v w o p c d r ns all i same before refused told =
+      broken f g g v w o p c d d r ns [] [] all i (append-nil ns ∙ same) before ([], refl, nothing_cut d) refused told

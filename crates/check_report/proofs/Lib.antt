@@ -1,2 +1,3 @@
+pub mod FaultsShown
 pub mod OneReading
 pub mod EachFile

@@ -103,9 +103,9 @@ Reads name (NotRead file fault) = file ≡ name
 Reads name (Written file text) = ⊥
 Reads name (NotWritten file text fault) = ⊥
 
--- standard output was refused behind some of the files: these were read, and perhaps up to 63 more behind them, of which nothing
--- was told; the first line that was told is that of the first fault of these files, or of that refusal
-pub data BreaksOff (explain : Bool) (names : List (List ℕ)) : List Request → List ℕ → Type 0 where
+-- standard output refused the lines of one of the files, or to send them on: the files up to it were read, and perhaps up to 63 more
+-- after them, of which nothing was told; the first line that was told is that of the first fault of these files, or of that refusal
+pub data BreaksOff (explain : Bool) (names : List (List ℕ)) (silent refused : Type 0) : List Request → List ℕ → Type 0 where
   breaks : (files : List CheckedFile) (ahead rest : List (List ℕ)) (behind : List Request) → All (IsRight explain) files
-      → map name_of files ++ (ahead ++ rest) ≡ names → AllZip Reads ahead behind → length ahead ≤ 63
-      → BreaksOff explain names (map request_of files ++ behind) (first_told (flat_map faults_of files))
+      → map name_of files ++ (ahead ++ rest) ≡ names → AllZip Reads ahead behind → length ahead ≤ 63 → refused
+      → BreaksOff explain names silent refused (map request_of files ++ behind) (first_told (flat_map faults_of files))

@@ -1,10 +1,10 @@
 // How an answer is printed with `--explain`.
 
-ghost use Rattle.std.specs.Prelude.{◌≡◌, ◌≢◌, [], ◌∷◌, ◌++◌, IfOk, IfErr, OnOk};
+ghost use Rattle.std.specs.Prelude.{◌≡◌, ◌≢◌, [], ◌∷◌, ◌++◌, IfOk, IfErr, OnErr, OnOk};
 ghost use Rattle.std.specs.Io.KnownBytes.{Appends};
 ghost use Rattle.check_command.specs.Texts.{IsCheckStatus, answer_text, exit_status};
 ghost use Rattle.check_report.specs.Command.{TookExplained};
-ghost use Rattle.commands.specs.Requests.{IsSent};
+ghost use Rattle.commands.specs.Requests.{IsSent, LeavesOutput, WasRefused};
 ghost use Rattle.commands.specs.declared.fault.HostFault.TheVariants.{CannotRead};
 
 use crate::explain::explanation_lines;
@@ -16,14 +16,15 @@ use std::io;
 /// The answer, and lines behind it.
 fn print_more<W: Output>(out: &mut W, answer: &CheckAnswer, more: &[u8]) -> io::Result<()>
     ensures sent { OnOk result (IsSent W.sends out.new) }
+    ensures refused { OnErr result (WasRefused W.refuses out.new) }
     ensures lines { OnOk result (Appends (W.contents out.old) (W.contents out.new) ((answer_text answer.now ++ 10 ∷ []) ++ more.now)) }
 {
-    writeln!(out, "{answer}")?;
-    out.write_all(more)?;
+    out.put_line(answer)?;
+    out.put_bytes(more)?;
     out.send()
 }
 
-/// The answer and why it isn't `same`, printed; its status.
+/// Prints the answer and why it isn't `same`; the result is its status.
 pub fn print_explained<W: Output>(
     alloc: Global,
     out: &mut W,
@@ -35,6 +36,7 @@ pub fn print_explained<W: Output>(
     ensures status { IfOk result (λ s. s ≡ exit_status answer.now) }
     ensures possible { IfOk result IsCheckStatus }
     ensures fault { IfErr result (λ e. e ≢ CannotRead) }
+    ensures left { IfErr result (λ e. LeavesOutput e (out.new ≡ out.old) (WasRefused W.refuses out.new)) }
 {
     let Ok(more) = explanation_lines(alloc, text, answer) else {
         return Err(HostFault::NoMemory);

@@ -10,8 +10,9 @@
 //!   it lines of printable ASCII, of which nothing else is stated (`Explains`).
 //! - `check_report::check_files`: each of the files is read, in order, and has its lines, with its answer or its fault; its
 //!   fault is told too, and the status is the worst (`ChecksAll`), unless standard output was refused, by which it ends
-//!   (`BreaksOff`): at most 63 files were read behind the one whose lines were refused. So it is for any number of workers,
-//!   in whatever schedule of threads.
+//!   (`BreaksOff`): at most 63 files were read behind the one whose lines were refused. Unless it broke off, standard
+//!   output was asked to send all on (`IsSent`), and below each fault's line stands printable ASCII alone (`TellsLine`). So
+//!   it is for any number of workers, in whatever schedule of threads.
 #![tactic(auto)]
 
 mod command;

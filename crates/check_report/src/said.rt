@@ -1,21 +1,20 @@
 // The line of one of several files: what it says, and the lines behind that.
 
-ghost use Rattle.std.specs.Prelude.{◌≡◌, ◌≢◌, ◌<◌, ◌≤◌, [], ◌∷◌, ◌++◌, length, true, Some, IfErr, IfOk, OnOk};
+ghost use Rattle.std.specs.Prelude.{◌≡◌, ◌≢◌, ◌<◌, ◌≤◌, [], ◌∷◌, ◌++◌, length, true, Some, IfErr, IfOk, OnErr, OnOk};
 ghost use Rattle.std.specs.Io.KnownBytes.{Appends};
 ghost use Rattle.check_command.specs.Texts.{IsCheckStatus};
 ghost use Rattle.check_report.specs.Command.{IsMore};
 ghost use Rattle.check_report.specs.Line.{AreSaid, IsAnswerLine, IsChecked, IsReading, IsSaid, IsSaidAt};
 ghost use Rattle.check_report.specs.Line.{line_text, said_status, said_text};
-ghost use Rattle.commands.specs.Requests.{Request};
+ghost use Rattle.commands.specs.Requests.{Request, WasRefused};
 
 use crate::explain::explanation_lines;
 use crate::readings::Reading;
 use check_command::{CheckAnswer, CheckFault, check, status_of, tell_check};
-use commands::{Complaints, HostFault, print_name, tell};
+use commands::{Complaints, HostFault, Output, print_name, tell};
 use std::alloc::{AllocError, Global};
-use std::io::{self, Write};
 use std::thread::{Threads, available_parallelism};
-use std::{fmt, thread};
+use std::{fmt, io, thread};
 
 /// What the line of a file says behind its name.
 #[derive(Clone, Copy)]
@@ -179,11 +178,12 @@ pub(crate) fn line_of<E: Complaints>(
     }
 }
 
-pub(crate) fn print_line<W: Write>(out: &mut W, name: &str, line: &FileLine) -> io::Result<()>
-    ensures { OnOk result (Appends (W.contents out.old) (W.contents out.new) (line_text name.now line.now)) }
+pub(crate) fn print_line<W: Output>(out: &mut W, name: &str, line: &FileLine) -> io::Result<()>
+    ensures line { OnOk result (Appends (W.contents out.old) (W.contents out.new) (line_text name.now line.now)) }
+    ensures refused { OnErr result (WasRefused W.refuses out.new) }
 {
     print_name(out, name)?;
-    let said = line.said;
-    writeln!(out, ": {said}")?;
-    out.write_all(line.more.as_slice())
+    out.put_bytes(b": ")?;
+    out.put_line(&line.said)?;
+    out.put_bytes(line.more.as_slice())
 }

@@ -1,12 +1,12 @@
 // The command over several files: a line each, in their order.
 
-ghost use Rattle.std.specs.Prelude.{◌≡◌, ◌≢◌, ◌<◌, ◌≤◌, ◌⊎◌, List, map, length, MatchOption, IfSome};
+ghost use Rattle.std.specs.Prelude.{◌≡◌, ◌≢◌, ◌<◌, ◌≤◌, ◌⊎◌, List, map, length, MatchOption, IfNone, IfSome};
 ghost use Rattle.std.specs.List.{FoldsTo};
 ghost use Rattle.check_command.specs.Texts.{IsCheckStatus};
 ghost use Rattle.check_report.specs.Line.{AreRead, AreSaid};
 ghost use Rattle.check_report.specs.Several.{BreaksOff, ChecksAll, worse};
 ghost use Rattle.check_report.specs.Stretch.{AreChecked, AreCutOff, BreaksStretch, ShowsStretch};
-ghost use Rattle.commands.specs.Requests.{Asks, IsSent, Request};
+ghost use Rattle.commands.specs.Requests.{Asks, IsSent, Request, WasRefused};
 
 use crate::readings::{Reading, read_each};
 use crate::said::{Said, judge_each, line_of, print_line};
@@ -42,6 +42,7 @@ fn show_each<W: Output, E: Complaints>(
     requires readings { length readings.now ≡ length names.now }
     requires said { (length said.now ≡ length names.now) × AreSaid readings.now said.now }
     ensures status { IfSome result IsCheckStatus }
+    ensures refused { IfNone result (WasRefused W.refuses out.new) }
     ensures lines { (rs : List Request) → AreRead (map (λ s. s.now) names.now) readings.now rs → MatchOption result
         (AreCutOff rs E.tells err.old err.new explain (map (λ s. s.now) names.now))
         (AreChecked rs (W.contents out.old) (W.contents out.new) E.tells err.old err.new explain (map (λ s. s.now) names.now)) }
@@ -70,6 +71,7 @@ fn check_stretch<T: Threads + Sync, F: Files, W: Output, E: Complaints>(
 ) -> Option<u8>
     requires { length names.now ≤ STRETCH }
     ensures status { IfSome result IsCheckStatus }
+    ensures refused { IfNone result (WasRefused W.refuses out.new) }
     ensures each { MatchOption result
         (BreaksStretch F.answers files.old files.new E.tells err.old err.new explain (map (λ s. s.now) names.now))
         (ShowsStretch F.answers files.old files.new (W.contents out.old) (W.contents out.new) E.tells err.old err.new explain
@@ -87,7 +89,7 @@ fn check_stretch<T: Threads + Sync, F: Files, W: Output, E: Complaints>(
     show_each(alloc, names, explain, readings, said, out, err)
 }
 
-/// The verdicts on the texts of files, each on a line behind the file's name, and, to explain them, lines behind that. A file with
+/// Prints the verdicts on the texts of files, each on a line after the file's name, and, to explain them, lines after that. A file with
 /// a fault has the fault's line there, and standard error is told of it as of one file; the others go on. The answer is the exit
 /// status, the worst: 1 where a file has a fault, else 3 where an answer isn't `same`, else 0. It ends early where standard output
 /// is refused. The texts are checked by as many workers as there are processors, stretch by stretch of the files; what is asked,
@@ -104,7 +106,8 @@ pub fn check_files<T: Threads + Sync, F: Files, W: Output, E: Complaints>(
     ensures possible { IsCheckStatus result }
     ensures each { (ChecksAll F.answers files.old files.new (W.contents out.old) (W.contents out.new) E.tells err.old err.new
         explain (map (λ s. s.now) names.now) result × IsSent W.sends out.new)
-        ⊎ ((result ≡ 1) × Asks F.answers files.old files.new E.tells err.old err.new (BreaksOff explain (map (λ s. s.now) names.now))) }
+        ⊎ ((result ≡ 1) × Asks F.answers files.old files.new W.refuses out.old out.new E.tells err.old err.new
+        (BreaksOff explain (map (λ s. s.now) names.now))) }
 {
     let mut status = 0;
     for stretch in names.chunks(STRETCH) {

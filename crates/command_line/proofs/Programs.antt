@@ -1,12 +1,15 @@
 -- What a command did, as what the program did with its words.
-use Rattle.std.proofs.Common.{◌≡◌, ℕ, List, [], Option, sym, refl, inl, inr, true}
-use Rattle.clap.specs.Words.{Text, takes}
-use Rattle.commands.specs.Requests.{Request, Asks, Does, TellsBeside, TellsLine}
+use Rattle.std.proofs.Common.{◌≡◌, ◌≤◌, ℕ, zero, suc, List, [], Option, sym, refl, inl, inr, true, arith, rules}
+use Rattle.clap.specs.Words.{HasKind, IsAmong, Kinds, Text, fault_of, kind_of, takes}
+use Rattle.clap.specs.declared.error.Error.{Error}
+use Rattle.clap.specs.declared.error.kind.ErrorKind.{ErrorKind}
+use Rattle.clap.specs.declared.error.kind.ErrorKind.TheVariants.{OutOfMemory}
+use Rattle.commands.specs.Requests.{Request, Asks, Does, LeavesOutput, TellsBeside, TellsLine, WasRefused}
 use Rattle.commands.specs.Texts.{host_fault_text}
 use Rattle.commands.specs.declared.fault.HostFault.{HostFault}
-use Rattle.commands.specs.declared.fault.HostFault.TheVariants.{NoMemory}
+use Rattle.commands.specs.WrongWords.{IsFaultOfWords, IsHelp, IsMistake}
 use Rattle.command_line.specs.Commands.{IsCommand, mcc_app}
-use Rattle.command_line.specs.Programs.{IsAnswered, IsRemark, IsStopped}
+use Rattle.command_line.specs.Programs.{EndsUntaken, HasHelp, HasMistake, IsAnswered, IsFaultBefore, IsRemark, IsStopped}
 use Rattle.command_line.specs.declared.command.Command.{Command}
 
 -- nothing was told beside its answer
@@ -27,10 +30,11 @@ answered_by Answers answers words status command entered f g o r does = record {
 }
 
 -- it ended by a fault
-pub stopped_by : {F E : Type 0} (Stops : Command → List Request → List ℕ → Type 0) (answers : F → Request → F → Type 0) (tells : E → List ℕ → E → Type 0)
-    (words : List Text) (command : Command) → IsCommand words command → (f g : F) (p q : E) → Asks answers f g tells p q (Stops command)
-    → Asks answers f g tells p q (IsStopped Stops words)
-stopped_by Stops answers tells words command entered f g p q asks = record {
+pub stopped_by : {F W E : Type 0} (Stops : Command → (silent refused : Type 0) → List Request → List ℕ → Type 0) (answers : F → Request → F → Type 0)
+    (refuses : W → W → Type 0) (tells : E → List ℕ → E → Type 0) (words : List Text) (command : Command) → IsCommand words command
+    → (f g : F) (o n : W) (p q : E) → Asks answers f g refuses o n tells p q (Stops command)
+    → Asks answers f g refuses o n tells p q (IsStopped Stops words)
+stopped_by Stops answers refuses tells words command entered f g o n p q asks = record {
   requests = asks.requests;
   text = asks.text;
   asked = asks.asked;
@@ -38,14 +42,44 @@ stopped_by Stops answers tells words command entered f g p q asks = record {
   means = inr (command, entered, asks.means);
 }
 
+-- an error of clap's that isn't refused memory has one of the kinds of the words
+among : (kinds : Kinds) (e : Error) → (kind_of e ≡ OutOfMemory → ⊥) → HasKind kinds e → IsAmong (kind_of e) kinds
+among kinds e other (inl memory) = absurd (other memory)
+among kinds e other (inr kind) = kind
+
+not_memory : (kind : ErrorKind) → IsHelp kind → kind ≡ OutOfMemory → ⊥
+not_memory kind help memory = search rules
+
+pub help_of : (kinds : Kinds) (e : Error) → IsHelp (kind_of e) → HasKind kinds e → HasHelp kinds
+help_of kinds e help has = (kind_of e, among kinds e (not_memory (kind_of e) help) has, help)
+
+pub mistake_of : (kinds : Kinds) (e : Error) → IsMistake (kind_of e) → HasKind kinds e → HasMistake kinds
+mistake_of kinds e mistake has = (kind_of e, among kinds e mistake.0 has, mistake)
+
+-- the status that comes of an error
+pub ends_untaken : (kinds : Kinds) (e : Error) (status : ℕ) → status ≤ 2 → HasKind kinds e → (status ≡ 0 → IsHelp (kind_of e))
+    → (status ≡ 2 → IsMistake (kind_of e)) → EndsUntaken kinds status
+ends_untaken kinds e zero most has help mistake = inl (refl, help_of kinds e (help refl) has)
+ends_untaken kinds e (suc zero) most has help mistake = inr (inl refl)
+ends_untaken kinds e (suc (suc zero)) most has help mistake = inr (inr (refl, mistake_of kinds e (mistake refl) has))
+ends_untaken kinds e (suc (suc (suc n))) most has help mistake = let no : ⊥ = omega (arith, most) in absurd no
+
+fault_before : (words : List Text) (e : Error) (fault : HostFault) → (takes mcc_app words ≡ true → kind_of e ≡ OutOfMemory)
+    → HasKind (fault_of mcc_app words) e → IsFaultOfWords (kind_of e) fault → IsFaultBefore words fault
+fault_before words e fault taken has (inl memory) = (λ is. memory.1, inl memory.1)
+fault_before words e fault taken has (inr help) =
+    (λ is. absurd (not_memory (kind_of e) help.0 (taken is)), inr (help.1, help_of (fault_of mcc_app words) e help.0 has))
+
 -- there was no command: the fault of a host is told
-pub stopped_before : {F E : Type 0} (Stops : Command → List Request → List ℕ → Type 0) (answers : F → Request → F → Type 0) (tells : E → List ℕ → E → Type 0)
-    (words : List Text) (f : F) (p q : E) (fault : HostFault) → TellsLine tells p (host_fault_text fault) q
-    → (takes mcc_app words ≡ true → fault ≡ NoMemory) → Asks answers f f tells p q (IsStopped Stops words)
-stopped_before Stops answers tells words f p q fault told why = record {
+pub stopped_before : {F W E : Type 0} (Stops : Command → (silent refused : Type 0) → List Request → List ℕ → Type 0)
+    (answers : F → Request → F → Type 0) (refuses : W → W → Type 0) (tells : E → List ℕ → E → Type 0) (words : List Text) (f : F) (o n : W) (p q : E)
+    (e : Error) (fault : HostFault) → TellsLine tells p (host_fault_text fault) q → LeavesOutput fault (n ≡ o) (WasRefused refuses n)
+    → IsFaultOfWords (kind_of e) fault → (takes mcc_app words ≡ true → kind_of e ≡ OutOfMemory) → HasKind (fault_of mcc_app words) e
+    → Asks answers f f refuses o n tells p q (IsStopped Stops words)
+stopped_before Stops answers refuses tells words f o n p q e fault told left why taken has = record {
   requests = [];
   text = host_fault_text fault;
   asked = refl;
   told = told;
-  means = inl (refl, (fault, refl, why));
+  means = inl (refl, (fault, refl, left, fault_before words e fault taken has why));
 }

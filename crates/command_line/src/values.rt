@@ -2,7 +2,7 @@
 
 ghost use Rattle.std.specs.Prelude.{◌≡◌, ℕ, ◌≤◌, true, Some, IfOk, IfErr, IfSome, map, codes};
 ghost use Rattle.clap.specs.declared.error.ErrorKind.TheVariants.{OutOfMemory};
-ghost use Rattle.clap.specs.Words.{HasMatchesOf, found_of, kind_of, one_of, rows_of, subcommand_rows_of, takes};
+ghost use Rattle.clap.specs.Words.{FailsBy, HasMatchesOf, fault_of, found_of, kind_of, one_of, rows_of, subcommand_rows_of, takes};
 ghost use Rattle.command_line.specs.Commands.{mcc_app, HasValues, IsBounded, IsCommand, IsFlag, IsNumber};
 
 use crate::command::{AskedBuild, Command};
@@ -164,6 +164,7 @@ fn entered_command<'a>(alloc: Global, matches: &ArgMatches<'a>) -> Option<Comman
 
 /// clap's matches of the words.
 fn matches_of<'a>(alloc: Global, words: &'a [&'a str]) -> Result<ArgMatches<'a>, Error>
+    ensures kinds { FailsBy (fault_of mcc_app (map (λ s. s.now) words.entry.now)) result }
     ensures matches { IfOk result (HasMatchesOf mcc_app (map (λ s. s.now) words.entry.now)) }
     ensures refused { IfErr result (λ e. takes mcc_app (map (λ s. s.now) words.entry.now) ≡ true → kind_of e ≡ OutOfMemory) }
 {
@@ -171,9 +172,10 @@ fn matches_of<'a>(alloc: Global, words: &'a [&'a str]) -> Result<ArgMatches<'a>,
     command.try_get_matches_from(words)
 }
 
-/// What the words ask for; the first is the program's name. An error is clap's: help, wrong words, or
-/// out of memory, which is all that it can be where clap takes the words.
+/// Finds what the words ask for; the first is the program's name. An error is clap's, of the first kind of fault that
+/// its grammar has for them: help, wrong words, or out of memory, which is all that it can be where clap takes the words.
 pub fn words<'a>(alloc: Global, words: &'a [&'a str]) -> Result<Command<'a>, Error>
+    ensures kinds { FailsBy (fault_of mcc_app (map (λ s. s.now) words.entry.now)) result }
     ensures command { IfOk result (IsCommand (map (λ s. s.now) words.entry.now)) }
     ensures refused { IfErr result (λ e. takes mcc_app (map (λ s. s.now) words.entry.now) ≡ true → kind_of e ≡ OutOfMemory) }
 {

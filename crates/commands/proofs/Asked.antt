@@ -1,7 +1,7 @@
 -- What was asked, along equations of the bytes, and what a command did that ended by a fault.
 use Rattle.std.proofs.Common.{◌≡◌, ℕ, List, [], ◌∷◌, refl, sym, subst}
 use Rattle.std.specs.List.{FoldsTo}
-use Rattle.commands.specs.Requests.{Asks, Request, TellsLine}
+use Rattle.commands.specs.Requests.{Asks, Request, TellsLine, WasRefused}
 use Rattle.commands.specs.Requests.Request.{Read, Written, NotWritten}
 use Rattle.commands.specs.declared.files.FileFault.{FileFault}
 
@@ -22,11 +22,12 @@ module _ {F : Type 0} (answers : F → Request → F → Type 0) where
       → answers old (NotWritten name items fault) new
   not_written_as old new name bytes items fault e h = subst (λ (t : List ℕ). answers old (NotWritten name t fault) new) e h
 
-module _ {F E : Type 0} (answers : F → Request → F → Type 0) (tells : E → List ℕ → E → Type 0) where
+module _ {F W E : Type 0} (answers : F → Request → F → Type 0) (refuses : W → W → Type 0) (tells : E → List ℕ → E → Type 0) where
   -- it asked once, and told a line
-  pub asks_once : (old new : F) (p q : E) (r : Request) (text : List ℕ) (Means : List Request → List ℕ → Type 0) → answers old r new
-      → TellsLine tells p text q → Means (r ∷ []) text → Asks answers old new tells p q Means
-  asks_once old new p q r text Means h told means = record {
+  pub asks_once : (old new : F) (o n : W) (p q : E) (r : Request) (text : List ℕ)
+      (Means : (silent refused : Type 0) → List Request → List ℕ → Type 0) → answers old r new → TellsLine tells p text q
+      → Means (n ≡ o) (WasRefused refuses n) (r ∷ []) text → Asks answers old new refuses o n tells p q Means
+  asks_once old new o n p q r text Means h told means = record {
     requests = r ∷ [];
     text = text;
     asked = asked_once answers old new r h;

@@ -1,9 +1,12 @@
 -- Bytes that steer no terminal.
-use Rattle.std.proofs.Common.{ℕ, ◌+◌, ◌%◌, ◌^◌, ◌<◌, List, [], ◌∷◌, ◌++◌, All, codes, decimal, refl, arith, inl, inr}
+use Rattle.std.proofs.Common.{◌≡◌, ℕ, ◌+◌, ◌%◌, ◌^◌, ◌<◌, ◌&&◌, leb, Bool, true, List, [], ◌∷◌, ◌++◌, All, codes, decimal, refl, arith, inl, inr}
 use Rattle.std.proofs.lemmas.Fmt.{decimal_by_steps}
-use Rattle.std.proofs.lemmas.List.Elements.{All-append, All-push}
+use Rattle.std.proofs.lemmas.List.Elements.{All-append, All-cons, All-push}
+use Rattle.std.proofs.lemmas.Bool.{and_parts, leb-true}
 use Rattle.commands.specs.Requests.{TellsBeside}
-use Rattle.commands.specs.Texts.{IsPrintable, IsShown}
+use Rattle.commands.specs.Texts.{IsPrintable, IsShown, host_fault_text}
+use Rattle.commands.specs.declared.fault.HostFault.{HostFault}
+use Rattle.commands.specs.declared.fault.HostFault.TheVariants as faults
 use Rattle.commands.proofs.Told.{folds_on}
 
 none : All IsShown []
@@ -15,6 +18,31 @@ one byte printable = All-push IsShown [] byte none (inl printable)
 pub decimals : (n : ℕ) → n < 2 ^ 64 → All IsShown (decimal n)
 decimals = decimal_by_steps (λ m ds. All IsShown ds) (λ m l. one (48 + m) (omega (arith, l), omega (arith, l)))
     (λ m ds l h. All-push IsShown ds (48 + m % 10) h (inl (omega arith, omega arith)))
+
+abbrev pub is_printable : ℕ → Bool
+is_printable byte = leb 32 byte && leb byte 126
+
+abbrev pub are_printable : List ℕ → Bool
+are_printable [] = true
+are_printable (x ∷ xs) = is_printable x && are_printable xs
+
+printable_of : (byte : ℕ) → is_printable byte ≡ true → IsPrintable byte
+printable_of byte h =
+    let both = and_parts (leb 32 byte) (leb byte 126) h in
+    (leb-true 32 byte both.0, leb-true byte 126 both.1)
+
+-- the bytes of a literal
+pub literal : (xs : List ℕ) → are_printable xs ≡ true → All IsShown xs
+literal [] h = none
+literal (x ∷ xs) h =
+    let both = and_parts (is_printable x) (are_printable xs) h in
+    All-cons IsShown x xs (inl (printable_of x both.0)) (literal xs both.1)
+
+-- the line of a fault of the host
+pub host_fault : (fault : HostFault) → All IsShown (host_fault_text fault)
+host_fault faults.CannotRead = literal (codes "fault 60 CannotRead") refl
+host_fault faults.CannotWrite = literal (codes "fault 61 CannotWrite") refl
+host_fault faults.NoMemory = literal (codes "fault 30 NoMemory") refl
 
 -- where a fault lies
 place : (line column : ℕ) → line < 2 ^ 64 → column < 2 ^ 64

@@ -1,3 +1,4 @@
 pub mod Texts
 pub mod Requests
 pub mod OneFile
+pub mod WrongWords

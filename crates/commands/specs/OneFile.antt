@@ -2,7 +2,7 @@
 -- may have, what is printed of an answer, its status, and the line of a fault.
 use Rattle.std.specs.Prelude.{◌≡◌, ℕ, List, [], ◌∷◌, Option}
 use Rattle.std.specs.Io.KnownBytes.{Appends}
-use Rattle.commands.specs.Requests.{Request, reading_fault}
+use Rattle.commands.specs.Requests.{LeavesOutput, Request, reading_fault}
 use Rattle.commands.specs.Requests.Request.{Read, NotRead}
 use Rattle.commands.specs.Texts.{host_fault_text}
 use Rattle.commands.specs.declared.files.FileFault.{FileFault}
@@ -22,12 +22,13 @@ pub record AnswersFile {A : Type 0} (Answers : List ℕ → A → Type 0) (Print
   pub prints : Prints answer printed
   pub ends : status ≡ status_of answer
 
--- the same where it ended by a fault, with the text that was told: of the file, of its bytes, or of what an answer was printed on
+-- the same where it ended by a fault, with the text that was told: of the file or of its bytes, and standard output is as it was; or
+-- of what an answer was printed on
 pub data StopsFile {A B : Type 0} (Answers : List ℕ → A → Type 0) (Faults : List ℕ → B → Type 0) (line : B → List ℕ)
-    (Unprinted : HostFault → Type 0) (file : List ℕ) : List Request → List ℕ → Type 0 where
-  unread : (fault : FileFault)
-      → StopsFile Answers Faults line Unprinted file (NotRead file fault ∷ []) (host_fault_text (reading_fault fault))
-  faulty : (bytes : List ℕ) (fault : B) → Faults bytes fault
-      → StopsFile Answers Faults line Unprinted file (Read file bytes ∷ []) (line fault)
-  untold : (bytes : List ℕ) (answer : A) → Answers bytes answer → (fault : HostFault) → Unprinted fault
-      → StopsFile Answers Faults line Unprinted file (Read file bytes ∷ []) (host_fault_text fault)
+    (Unprinted : HostFault → Type 0) (file : List ℕ) (silent refused : Type 0) : List Request → List ℕ → Type 0 where
+  unread : (fault : FileFault) → silent
+      → StopsFile Answers Faults line Unprinted file silent refused (NotRead file fault ∷ []) (host_fault_text (reading_fault fault))
+  faulty : (bytes : List ℕ) (fault : B) → Faults bytes fault → silent
+      → StopsFile Answers Faults line Unprinted file silent refused (Read file bytes ∷ []) (line fault)
+  untold : (bytes : List ℕ) (answer : A) → Answers bytes answer → (fault : HostFault) → Unprinted fault → LeavesOutput fault silent refused
+      → StopsFile Answers Faults line Unprinted file silent refused (Read file bytes ∷ []) (host_fault_text fault)

@@ -34,21 +34,23 @@ pub record Does {F : Type 0} (answers : F → Request → F → Type 0) (old new
   pub took : Appends out_old out_new printed
   pub means : Means requests printed
 
--- standard output was asked to send on what it had taken, and nothing was written behind that
+-- standard output was asked to send on what it had taken, and nothing was written after that
 abbrev pub IsSent : {W : Type 0} → (W → W → Type 0) → W → Type 0
 IsSent {W} sends out = (kept : W) × sends kept out
 
--- a line was told, and maybe more behind it
+-- standard output refused what it was asked last
+abbrev pub WasRefused : {W : Type 0} → (W → W → Type 0) → W → Type 0
+WasRefused {W} refuses out = (kept : W) × refuses kept out
+
+-- what a fault of the host says of standard output: 61 comes only where it refused, and any other leaves it as it was
+abbrev pub LeavesOutput : HostFault → (silent refused : Type 0) → Type 0
+LeavesOutput host_faults.CannotRead silent refused = silent
+LeavesOutput host_faults.CannotWrite silent refused = refused
+LeavesOutput host_faults.NoMemory silent refused = silent
+
+-- a line was told, and maybe more below it, which steers no terminal
 abbrev pub TellsLine : {E : Type 0} → (E → List ℕ → E → Type 0) → E → List ℕ → E → Type 0
-TellsLine tells old text new = (more : List (List ℕ)) × FoldsTo tells old ((text ++ 10 ∷ []) ∷ more) new
-
--- a line was told, and maybe more behind it that steers no terminal
-abbrev pub TellsPlaced : {E : Type 0} → (E → List ℕ → E → Type 0) → E → List ℕ → E → Type 0
-TellsPlaced tells old text new = (more : List (List ℕ)) × FoldsTo tells old ((text ++ 10 ∷ []) ∷ more) new × All (All IsShown) more
-
--- something was told, or nothing
-abbrev pub TellsOn : {E : Type 0} → (E → List ℕ → E → Type 0) → E → E → Type 0
-TellsOn tells old new = (more : List (List ℕ)) × FoldsTo tells old more new
+TellsLine tells old text new = (more : List (List ℕ)) × FoldsTo tells old ((text ++ 10 ∷ []) ∷ more) new × All (All IsShown) more
 
 -- what was told, piece by piece, is so
 abbrev pub TellsBeside : {E : Type 0} → (E → List ℕ → E → Type 0) → E → (List (List ℕ) → Type 0) → E → Type 0
@@ -58,11 +60,12 @@ TellsBeside tells old Remarks new = (told : List (List ℕ)) × FoldsTo tells ol
 abbrev pub IsNothing : List (List ℕ) → Type 0
 IsNothing told = told ≡ []
 
--- what a command did that ended by a fault: all that it asked of its files, and the line that it told
-pub record Asks {F E : Type 0} (answers : F → Request → F → Type 0) (old new : F) (tells : E → List ℕ → E → Type 0) (err_old err_new : E)
-    (Means : List Request → List ℕ → Type 0) : Type 0 where
+-- what a command did that ended by a fault: all that it asked of its files, and the line that it told, which are as Means says. That
+-- also says whether standard output is as it was, or refused what it was asked last
+pub record Asks {F W E : Type 0} (answers : F → Request → F → Type 0) (old new : F) (refuses : W → W → Type 0) (out_old out_new : W)
+    (tells : E → List ℕ → E → Type 0) (err_old err_new : E) (Means : (silent refused : Type 0) → List Request → List ℕ → Type 0) : Type 0 where
   pub requests : List Request
   pub text : List ℕ
   pub asked : FoldsTo answers old requests new
   pub told : TellsLine tells err_old text err_new
-  pub means : Means requests text
+  pub means : Means (out_new ≡ out_old) (WasRefused refuses out_new) requests text

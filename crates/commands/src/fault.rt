@@ -62,7 +62,7 @@ impl<W: Write> Complaints for W {
     }
 }
 
-/// The fault's line, which standard error may lose; the status stays.
+/// Tells the fault's line, which standard error may lose; the status stays.
 pub fn tell<E: Complaints, F: fmt::Display>(err: &mut E, fault: &F) -> u8
     ensures status { result ≡ 1 }
     ensures told { IfSome (F.output fault.now) (λ text. TellsLine E.tells err.old text err.new) }

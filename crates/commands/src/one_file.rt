@@ -3,7 +3,7 @@
 ghost use Rattle.std.specs.Prelude.{◌≡◌, ◌≢◌, ◌≤◌, ℕ, List, max, IfErr, IfOk, OnOk};
 ghost use Rattle.commands.specs.declared.fault.HostFault.{HostFault};
 ghost use Rattle.commands.specs.OneFile.{AnswersFile, StopsFile, TookPrint};
-ghost use Rattle.commands.specs.Requests.{Asks, Does, IsSent, TellsBeside, TellsLine};
+ghost use Rattle.commands.specs.Requests.{Asks, Does, IsSent, LeavesOutput, TellsBeside, TellsLine, WasRefused};
 
 use crate::fault::{Complaints, HostFault, tell};
 use crate::files::{Files, read_file};
@@ -64,7 +64,8 @@ pub trait FileCommand {
         ensures status { IfOk result (λ s. s ≡ status answer.now) }
         ensures most { IfOk result (λ s. s ≤ most) }
         ensures neither { IfOk result (λ s. (s ≢ 1) × (s ≢ 2)) }
-        ensures fault { IfErr result unprinted };
+        ensures fault { IfErr result unprinted }
+        ensures left { IfErr result (λ e. LeavesOutput e (out.new ≡ out.old) (WasRefused W.refuses out.new)) };
 
     /// What is told beside an answer that was printed.
     fn remark<E: Complaints>(&self, alloc: Global, bytes: &[u8], answer: &Self::Answer, err: &mut E)
@@ -91,7 +92,7 @@ pub fn answer_file<C: FileCommand, F: Files, W: Output, E: Complaints>(
         (AnswersFile (C.answers command.now) (C.prints command.now) C.status file.now result) }
     ensures sent { result ≢ 1 → IsSent W.sends out.new }
     ensures beside { result ≢ 1 → TellsBeside E.tells err.old (C.remarks result) err.new }
-    ensures stopped { result ≡ 1 → Asks F.answers files.old files.new E.tells err.old err.new
+    ensures stopped { result ≡ 1 → Asks F.answers files.old files.new W.refuses out.old out.new E.tells err.old err.new
         (StopsFile (C.answers command.now) (C.faults command.now) C.line C.unprinted file.now) }
 {
     let text = match read_file(alloc, file, files) {

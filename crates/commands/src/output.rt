@@ -1,22 +1,56 @@
 // Where answers go.
-ghost use Rattle.std.specs.Prelude.{OnOk, ⊤};
-ghost use Rattle.std.specs.Io.KnownBytes.{Keeps};
+ghost use Rattle.std.specs.Prelude.{[], ◌∷◌, ◌++◌, IfSome, OnErr, OnOk, ⊤};
+ghost use Rattle.std.specs.Io.KnownBytes.{Appends, Keeps};
 
+use std::fmt;
 use std::io::{self, Write};
 
-/// Where answers go. It may keep what is written until it is asked to send that on. `sends` is its own and relates it before that
-/// and after it, so that a contract over any such place says that nothing was kept.
+/// Where answers go. It may keep what is written until it is asked to send that on. `sends` and `refuses` are its own and relate it
+/// before such a call and after it, so that a contract over any such place says that nothing was kept, or that it refused.
 pub trait Output: Write {
     ghost sends: { Self → Self → Type 0 };
+
+    ghost refuses: { Self → Self → Type 0 };
+
+    /// Writes the text.
+    fn put_text<F: fmt::Display>(&mut self, text: &F) -> io::Result<()>
+        ensures text { OnOk result (IfSome (F.output text.now) (Appends (Self.contents self.old) (Self.contents self.new))) }
+        ensures refused { OnErr result (refuses self.old self.new) };
+
+    /// Writes the text and a line feed.
+    fn put_line<F: fmt::Display>(&mut self, text: &F) -> io::Result<()>
+        ensures line { OnOk result (IfSome (F.output text.now)
+            (λ bytes. Appends (Self.contents self.old) (Self.contents self.new) (bytes ++ 10 ∷ []))) }
+        ensures refused { OnErr result (refuses self.old self.new) };
+
+    /// Writes the bytes.
+    fn put_bytes(&mut self, bytes: &[u8]) -> io::Result<()>
+        ensures bytes { OnOk result (Appends (Self.contents self.old) (Self.contents self.new) bytes.now) }
+        ensures refused { OnErr result (refuses self.old self.new) };
 
     /// Sends on all that was written.
     fn send(&mut self) -> io::Result<()>
         ensures bytes { Keeps (Self.contents self.old) (Self.contents self.new) }
-        ensures sent { OnOk result (sends self.old self.new) };
+        ensures sent { OnOk result (sends self.old self.new) }
+        ensures refused { OnErr result (refuses self.old self.new) };
 }
 
 impl<W: Write> Output for W {
     ghost sends = { λ old new. ⊤ };
+
+    ghost refuses = { λ old new. ⊤ };
+
+    fn put_text<F: fmt::Display>(&mut self, text: &F) -> io::Result<()> {
+        write!(self, "{text}")
+    }
+
+    fn put_line<F: fmt::Display>(&mut self, text: &F) -> io::Result<()> {
+        writeln!(self, "{text}")
+    }
+
+    fn put_bytes(&mut self, bytes: &[u8]) -> io::Result<()> {
+        self.write_all(bytes)
+    }
 
     fn send(&mut self) -> io::Result<()> {
         self.flush()

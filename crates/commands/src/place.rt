@@ -2,7 +2,7 @@
 // line of the text around the place with a caret, and a line with a hint.
 
 ghost use Rattle.std.specs.Prelude.{◌≡◌, ◌<◌, ◌^◌, ◌≤◌, length, ◌++◌, All, IfOk, IfSome, OnOk, Some, codes, decimal};
-ghost use Rattle.commands.specs.Requests.{TellsBeside, TellsLine, TellsPlaced};
+ghost use Rattle.commands.specs.Requests.{TellsBeside, TellsLine};
 ghost use Rattle.commands.specs.Texts.{IsShown};
 
 use crate::explanation::{Explanation, printable_byte};
@@ -236,7 +236,7 @@ fn lines_below(alloc: Global, place: &Place<'_>, at: usize) -> Result<Vec<u8>, A
     lines.end()
 }
 
-/// The line of a fault of a text, and below it where it lies and what is said of it, if it has a place.
+/// Tells the line of a fault of a text, and below it where it lies and what is said of it, if it has a place.
 pub fn tell_placed<E: Complaints, F: fmt::Display>(
     alloc: Global,
     err: &mut E,
@@ -245,7 +245,6 @@ pub fn tell_placed<E: Complaints, F: fmt::Display>(
 ) -> u8
     ensures status { result ≡ 1 }
     ensures told { IfSome (F.output fault.now) (λ text. TellsLine E.tells err.old text err.new) }
-    ensures below { IfSome (F.output fault.now) (λ text. TellsPlaced E.tells err.old text err.new) }
 {
     err.line(fault);
     if let Some(at) = place.at {

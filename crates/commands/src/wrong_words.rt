@@ -1,35 +1,56 @@
 // What is told of wrong words, and the help.
-ghost use Rattle.std.specs.Prelude.{◌≡◌, ◌≤◌};
+ghost use Rattle.std.specs.Prelude.{◌≡◌, ◌≤◌, OnErr, OnOk};
 ghost use Rattle.clap.specs.declared.error.ErrorKind.TheVariants.{OutOfMemory};
 ghost use Rattle.clap.specs.Words.{kind_of};
 ghost use Rattle.commands.specs.declared.fault.HostFault.{HostFault};
-ghost use Rattle.commands.specs.declared.fault.HostFault.TheVariants.{NoMemory};
-ghost use Rattle.commands.specs.Requests.{IsSent, TellsLine};
+ghost use Rattle.commands.specs.declared.fault.HostFault.TheVariants.{CannotWrite, NoMemory};
+ghost use Rattle.commands.specs.Requests.{IsSent, LeavesOutput, TellsLine, WasRefused};
 ghost use Rattle.commands.specs.Texts.{host_fault_text};
+ghost use Rattle.commands.specs.WrongWords.{IsFaultOfWords, IsHelp, IsMistake};
 
 use crate::fault::{Complaints, HostFault, tell};
 use crate::output::Output;
 use clap::Error;
 use clap::error::ErrorKind;
+use std::io;
 
-/// clap's text: help on standard output, wrong words on standard error.
+/// Prints clap's text.
+fn print_help<W: Output>(out: &mut W, error: &Error) -> io::Result<()>
+    ensures sent { OnOk result (IsSent W.sends out.new) }
+    ensures refused { OnErr result (WasRefused W.refuses out.new) }
+{
+    out.put_text(error)?;
+    out.send()
+}
+
+/// The help or the version, printed.
+fn show_help<W: Output, E: Complaints>(error: &Error, out: &mut W, err: &mut E) -> u8
+    ensures most { result ≤ 1 }
+    ensures sent { result ≡ 0 → IsSent W.sends out.new }
+    ensures told { result ≡ 1 → TellsLine E.tells err.old (host_fault_text CannotWrite) err.new × WasRefused W.refuses out.new }
+{
+    match print_help(out, error) {
+        Ok(()) => 0,
+        Err(_) => tell(err, &HostFault::CannotWrite),
+    }
+}
+
+/// Tells clap's text: help on standard output, wrong words on standard error. The answer is the exit status.
 pub fn tell_words<W: Output, E: Complaints>(error: &Error, out: &mut W, err: &mut E) -> u8
     ensures most { result ≤ 2 }
+    ensures help { result ≡ 0 → IsHelp (kind_of error.now) }
     ensures sent { result ≡ 0 → IsSent W.sends out.new }
+    ensures wrong { result ≡ 2 → IsMistake (kind_of error.now) × (out.new ≡ out.old) }
     ensures refused { kind_of error.now ≡ OutOfMemory → result ≡ 1 }
     ensures told { result ≡ 1 → (fault : HostFault) × TellsLine E.tells err.old (host_fault_text fault) err.new
-        × (kind_of error.now ≡ OutOfMemory → fault ≡ NoMemory) }
+        × LeavesOutput fault (out.new ≡ out.old) (WasRefused W.refuses out.new) × IsFaultOfWords (kind_of error.now) fault }
 {
-    if error.kind() == ErrorKind::OutOfMemory {
-        return tell(err, &HostFault::NoMemory);
+    match error.kind() {
+        ErrorKind::OutOfMemory => tell(err, &HostFault::NoMemory),
+        ErrorKind::DisplayHelp | ErrorKind::DisplayVersion => show_help(error, out, err),
+        _ => {
+            err.text(error);
+            2
+        }
     }
-    if error.use_stderr() {
-        err.text(error);
-        return 2;
-    }
-    let written = write!(out, "{error}");
-    if written.is_err() || out.send().is_err() {
-        return tell(err, &HostFault::CannotWrite);
-    }
-    0
 }

@@ -31,7 +31,7 @@ Runs image steps =
     AnswersFile (λ bytes ran. IsImageRun bytes steps (outcome_of ran)) PrintsMachine (λ ran. ending_status ran.end) image
 
 -- the same where it ended by a fault
-abbrev pub StopsRun : (image : List ℕ) → (steps : ℕ) → List Request → List ℕ → Type 0
+abbrev pub StopsRun : (image : List ℕ) → (steps : ℕ) → (silent refused : Type 0) → List Request → List ℕ → Type 0
 StopsRun image steps =
     StopsFile (λ bytes ran. IsImageRun bytes steps (outcome_of ran)) IsImageFault image_fault_text IsRefused image
 

@@ -105,7 +105,7 @@ pub fn run_file<F: Files, W: Output, E: Complaints>(
         (Runs image.now steps result) }
     ensures sent { result ≢ 1 → IsSent W.sends out.new }
     ensures beside { result ≢ 1 → TellsBeside E.tells err.old (IsReason result) err.new }
-    ensures stopped { result ≡ 1 → Asks F.answers files.old files.new E.tells err.old err.new (StopsRun image.now steps) }
+    ensures stopped { result ≡ 1 → Asks F.answers files.old files.new W.refuses out.old out.new E.tells err.old err.new (StopsRun image.now steps) }
 {
     answer_file(alloc, &RunCommand { steps }, image, files, out, err)
 }

@@ -9,7 +9,8 @@
 //!   test that fails.
 //! - `run_command::run_file`: unless the status is 1, IMAGE was read and nothing else asked, and what was printed and the
 //!   status are those of its run (`Runs`); beside a run that is stuck lines of printable ASCII were told, which say why, and
-//!   beside any other nothing (`IsReason`). Else the line of a fault was told (`StopsRun`).
+//!   beside any other nothing (`IsReason`). Else the line of a fault was told, and standard output is as it was, or it
+//!   refused what was printed, which is `CannotWrite` (`StopsRun`).
 //! - `Display` of a machine's end is exact.
 #![tactic(auto)]
 

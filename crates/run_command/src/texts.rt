@@ -1,8 +1,8 @@
 // How a run's answers print.
 
-ghost use Rattle.std.specs.Prelude.{Some, [], ◌∷◌, ◌++◌, IfSome, OnOk};
+ghost use Rattle.std.specs.Prelude.{Some, [], ◌∷◌, ◌++◌, IfSome, OnErr, OnOk};
 ghost use Rattle.std.specs.Io.KnownBytes.{Appends};
-ghost use Rattle.commands.specs.Requests.{IsSent};
+ghost use Rattle.commands.specs.Requests.{IsSent, WasRefused};
 ghost use Rattle.run_command.specs.Command.{words_text};
 ghost use Rattle.run_command.specs.Texts.{ending_text};
 
@@ -26,15 +26,16 @@ impl fmt::Display for EndingLine {
     }
 }
 
-/// Each word of output in unsigned decimal, and how the run ended, each on a line.
+/// Prints each word of output in unsigned decimal, and how the run ended, each on a line.
 pub fn print_run<W: Output, L: fmt::Display>(out: &mut W, output: &[u32], end: &L) -> io::Result<()>
     ensures sent { OnOk result (IsSent W.sends out.new) }
+    ensures refused { OnErr result (WasRefused W.refuses out.new) }
     ensures lines { OnOk result (IfSome (L.output end.now)
         (λ last. Appends (W.contents out.old) (W.contents out.new) (words_text output.now ++ (last ++ 10 ∷ [])))) }
 {
     for word in output {
-        writeln!(out, "{word}")?;
+        out.put_line(word)?;
     }
-    writeln!(out, "{end}")?;
+    out.put_line(end)?;
     out.send()
 }

@@ -21,7 +21,7 @@ loop-i-preserved g c = (
       next g.E.Complaints.tells c.args.explain (map (λ s. s.now) xs) c.args.readings.now rs c.loop-i.i c.index-readings-i.result _ _ _ _ _ _ _
       c.loop-i.status c.status.result c.worse-status.result c.line_of-line.result read (omega (arith, c.loop-i-test.true))
       (sym (get_or-map (λ (s : Bor (List ℕ)). s.now) xs c.loop-i.i _ _ c.loop-i-test.true)) c.index-readings-i.is
-      c.worse-status.ensures.worse c.status.ensures.status (c.loop-i.invariant.1 rs read) c.line_of-line.ensures c.in-Ok.ensures,
+      c.worse-status.ensures.worse c.status.ensures.status (c.loop-i.invariant.1 rs read) c.line_of-line.ensures c.in-Ok.ensures.line,
 )
 
 pub returns-clause-lines : goal.returns-clause-lines
