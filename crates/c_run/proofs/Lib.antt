@@ -2,3 +2,4 @@ pub mod Acts
 pub mod Calls
 pub mod Sizes
 pub mod Turns
+pub mod Explained

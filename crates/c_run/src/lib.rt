@@ -13,8 +13,9 @@
 //! What is promised:
 //! - `c_run::run(alloc, &typed, depth, steps)` is exactly what so many steps of the program come to, with at most
 //!   `depth` calls active at once (`source_run`); an Err comes from refused memory alone, which no contract can say.
-//! - `c_run::reason_of`: what it tells of values is so (`IsReason`): the index is outside its array, or the operator has no
-//!   value at these words. That it tells what the run ended by is tested (tests/c/reasons.case).
+//! - `c_run::reason_of` gives a reason exactly where the run ends wrong, and what it tells of values is so (`IsReason`): the
+//!   index is outside its array, or the operator has no value at these words. That it is what the run ended by is tested
+//!   (tests/c/reasons.case).
 //! - Only tested: that the definitions are C's, by each operator at its edges, what isn't evaluated, and steps of
 //!   loops, calls and returns counted by hand.
 #![tactic(auto)]

@@ -1,5 +1,11 @@
 // Why a run is wrong: the part of the statement at which it ended that has no value.
-ghost use Rattle.std.specs.Prelude.{IfOk, IfSome};
+ghost use Rattle.std.specs.Prelude.{◌≡◌, ◌↔◌, IfOk, IfSome, IsSome};
+ghost use Rattle.runs.specs.declared.ran.End.TheVariants.{Wrong};
+ghost use Rattle.runs.specs.declared.reached.Reached.TheVariants.{Failed};
+ghost use Rattle.runs.specs.Calls.{state_by, reached_by};
+ghost use Rattle.c_types.specs.Shape.{program_of};
+ghost use Rattle.c_typed.specs.Meaning.{source_step, source_run};
+ghost use Rattle.c_run.specs.Interpreter.{frame_of};
 ghost use Rattle.c_run.specs.Reasons.{IsReason};
 
 use crate::interpreter::{Interpreter, act};
@@ -189,28 +195,49 @@ fn missing_of_statement(interpreter: &Interpreter, s: &TypedStatement) -> Option
     }
 }
 
-/// Why so many steps of a program end wrong, with at most `depth` calls active at once; None where they don't. The steps are
-/// done anew, so that a run needn't keep what only a wrong one is asked for. `Err` only where memory is refused.
+/// One step of the program and, exactly where it fails, why. `Err` only where memory is refused.
+fn explained_step<'a>(
+    alloc: Global,
+    program: &'a Typed,
+    depth: u32,
+    interpreter: &mut Interpreter<'a>,
+) -> Result<(Reached, Option<Reason>), AllocError>
+    ensures step { IfOk result (λ r. source_step (program_of program.now) depth (state_by frame_of interpreter.old)
+        ≡ reached_by frame_of r.0 interpreter.new) }
+    ensures failed { IfOk result (λ r. IsSome r.1 ↔ (r.0 ≡ Failed)) }
+    ensures reason { IfOk result (λ r. IfSome r.1 IsReason) }
+{
+    let frame = &mut interpreter.frame;
+    let head = settle(&mut frame.todo, &mut frame.locals)?;
+    let Head::Statement(s) = head else {
+        return Ok((Reached::Failed, Some(Reason::NoResult)));
+    };
+    let reached = act(alloc, program, depth, interpreter, s)?;
+    match reached {
+        Reached::Going | Reached::Ended(_) => Ok((reached, None)),
+        Reached::Failed => match missing_of_statement(interpreter, s) {
+            Some(reason) => Ok((Reached::Failed, Some(reason))),
+            None => Ok((Reached::Failed, Some(Reason::NoResult))),
+        },
+    }
+}
+
+/// Finds why so many steps of a program end wrong, with at most `depth` calls active at once; None exactly where they don't.
+/// The steps are done anew, so that a run needn't keep what only a wrong one is asked for. `Err` only where memory is refused.
 pub fn reason_of(
     alloc: Global,
     program: &Typed,
     depth: u32,
     steps: u64,
 ) -> Result<Option<Reason>, AllocError>
-    ensures { IfOk result (λ reason. IfSome reason IsReason) }
+    ensures wrong { IfOk result (λ reason. IsSome reason ↔ ((source_run (program_of program.now) depth steps).end ≡ Wrong)) }
+    ensures reason { IfOk result (λ reason. IfSome reason IsReason) }
 {
     let mut interpreter = start(alloc, program)?;
     for _ in 0..steps {
-        let frame = &mut interpreter.frame;
-        let head = settle(&mut frame.todo, &mut frame.locals)?;
-        let Head::Statement(s) = head else {
-            return Ok(Some(Reason::NoResult));
-        };
-        let reached = act(alloc, program, depth, &mut interpreter, s)?;
-        match reached {
-            Reached::Going => {}
-            Reached::Ended(_) => return Ok(None),
-            Reached::Failed => return Ok(missing_of_statement(&interpreter, s)),
+        let (reached, reason) = explained_step(alloc, program, depth, &mut interpreter)?;
+        if let Some(_) = reached.end() {
+            return Ok(reason);
         }
     }
     Ok(None)

@@ -1,5 +1,5 @@
 // The names in sight, scope by scope (C99 6.2.1).
-ghost use Rattle.std.specs.Prelude.{◌≡◌, OnOk, is_some};
+ghost use Rattle.std.specs.Prelude.{◌≡◌, OnOk, OnErr, is_some};
 ghost use Rattle.c_statements.specs.Shape.{scopes_of};
 ghost use Rattle.c_statements.specs.Names.{Scopes, named_in, environment_in, with_spelling, no_scopes, within};
 ghost use Rattle.c_statements.specs.Names.{outside, with_declared, with_local, without_locals, spelling_in};
@@ -80,45 +80,53 @@ impl<'a> Scopes<'a> {
         self.locals.len()
     }
 
-    /// Puts a spelling into the innermost scope.
+    /// Puts a spelling into the innermost scope. `Err` only where memory is refused, and then all is as before.
     pub fn declare_spelling(&mut self, spelling: &'a [u8], named: Named) -> Result<(), AllocError>
-        ensures { OnOk result (scopes_of self.new ≡ with_spelling (scopes_of self.old) spelling.now named) }
+        ensures scopes { OnOk result (scopes_of self.new ≡ with_spelling (scopes_of self.old) spelling.now named) }
+        ensures left { OnErr result (scopes_of self.new ≡ scopes_of self.old) }
     {
         self.inner.insert(spelling, named)?;
         Ok(())
     }
 
-    /// Puts a name into the innermost scope.
+    /// Puts a name into the innermost scope, as `declare_spelling` does.
     pub fn declare(
         &mut self,
         program: &'a Program,
         name: Identifier,
         named: Named,
     ) -> Result<(), AllocError>
-        ensures { OnOk result (scopes_of self.new ≡ with_declared program.now.text.items (scopes_of self.old) name named) }
+        ensures scopes { OnOk result (scopes_of self.new ≡ with_declared program.now.text.items (scopes_of self.old) name named) }
+        ensures left { OnErr result (scopes_of self.new ≡ scopes_of self.old) }
     {
         self.declare_spelling(program.spelling(name), named)
     }
 
-    /// Puts a local into the innermost scope; it has the next number.
+    /// Puts a local into the innermost scope, as `declare_spelling` does; it has the next number.
     pub fn declare_local(
         &mut self,
         program: &'a Program,
         integer_type: IntegerType,
         name: Identifier,
     ) -> Result<(), AllocError>
-        ensures { OnOk result (scopes_of self.new ≡ with_local program.now.text.items (scopes_of self.old) integer_type name) }
+        ensures scopes { OnOk result (scopes_of self.new ≡ with_local program.now.text.items (scopes_of self.old) integer_type name) }
+        ensures left { OnErr result (scopes_of self.new ≡ scopes_of self.old) }
     {
         let number = self.locals();
-        self.declare(program, name, Named::Local(number, integer_type))?;
         self.locals.push(integer_type)?;
-        Ok(())
+        let declared = self.declare(program, name, Named::Local(number, integer_type));
+        if declared.is_err() {
+            self.locals.pop();
+        }
+        declared
     }
 
-    /// Opens a scope.
+    /// Opens a scope. `Err` only where memory is refused, and then all is as before.
     pub fn enter(&mut self, alloc: Global) -> Result<(), AllocError>
-        ensures { OnOk result (scopes_of self.new ≡ within (scopes_of self.old)) }
+        ensures scopes { OnOk result (scopes_of self.new ≡ within (scopes_of self.old)) }
+        ensures left { OnErr result (scopes_of self.new ≡ scopes_of self.old) }
     {
+        self.around.reserve(1)?;
         let outer = replace(&mut self.inner, HashMap::new(alloc));
         self.around.push(outer)?;
         Ok(())

@@ -1,5 +1,5 @@
 // A program under way, with its calls, its globals and its output.
-ghost use Rattle.std.specs.Prelude.{◌≡◌, ◌∷◌, [], length, nat_lt, IfSome, OnOk, None};
+ghost use Rattle.std.specs.Prelude.{◌≡◌, ◌∷◌, [], length, nat_lt, IfSome, OnOk, OnErr, None};
 
 use std::alloc::{AllocError, Global};
 use std::mem;
@@ -38,12 +38,14 @@ impl<F: Drop> Interpreter<F> {
         self.waiting.len() < depth.saturating_sub(1) as usize
     }
 
-    /// A call begins, and the one that ran waits for it. `Err` only where memory is refused.
+    /// A call begins, and the one that ran waits for it. `Err` only where memory is refused, and then all is as before.
     pub fn enter(&mut self, frame: F) -> Result<(), AllocError>
         ensures calls { OnOk result (calls_of self.new ≡ frame ∷ calls_of self.old) }
-        ensures globals { OnOk result (self.new.globals ≡ self.old.globals) }
-        ensures output { OnOk result (self.new.output ≡ self.old.output) }
+        ensures left { OnErr result (calls_of self.new ≡ calls_of self.old) }
+        ensures globals { self.new.globals ≡ self.old.globals }
+        ensures output { self.new.output ≡ self.old.output }
     {
+        self.waiting.reserve(1)?;
         let caller = mem::replace(&mut self.frame, frame);
         self.waiting.push(caller)?;
         Ok(())

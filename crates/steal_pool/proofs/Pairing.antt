@@ -1,5 +1,5 @@
 -- Deques and ways are paired, a member a step. The ways of the first place stand last.
-use Rattle.std.proofs.Common.{◌≡◌, ◌≢◌, ℕ, zero, suc, ◌+◌, ◌%◌, ◌<◌, ◌≤◌, List, [], ◌∷◌, ◌++◌, All, Some, Vec, length, length-append, map, slice_get, sym, ap, refl, ◌∙◌, subst, append_assoc, append-nil, mod-eq_of_lt, arith}
+use Rattle.std.proofs.Common.{◌≡◌, ◌≢◌, ℕ, zero, suc, ◌+◌, ◌%◌, ◌<◌, List, [], ◌∷◌, ◌++◌, All, Some, Vec, length, length-append, map, slice_get, sym, ap, refl, ◌∙◌, subst, append_assoc, append-nil, mod-eq_of_lt, arith}
 use Rattle.std.proofs.lemmas.Bool.Decides.{nat_tests}
 use Rattle.std.proofs.lemmas.List.{map-append}
 use Rattle.std.proofs.lemmas.Option.{slice_get_within, slice_get-get_or}
@@ -90,14 +90,14 @@ module _ {K : Type 0} where
     each = λ w m at. absurd (cc at);
   }
 
-  pub done : (count n : ℕ) (ms : List (Member K)) (ways : List (Vec (Victim K) Global)) → count ≤ n → Pairs count n ms [] ways → Start count n ms
-  done count n ms ways few was =
+  pub done : (count n : ℕ) (ms : List (Member K)) (ways : List (Vec (Victim K) Global)) → Pairs count n ms [] ways → Start count n ms
+  done count n ms ways was =
       let same : all_deques ms [] ≡ own_deques ms = append-nil (own_deques ms) in
       let len : length ms ≡ count = omega (arith, was.len) in
       record {
         len = len;
         each = λ w m at. subst (λ l. StartsAt count n l w m) same (was.each w m at);
-        apart = λ i j a b at at' other.
+        apart = λ i j a b at at' more other.
             let below : i < count = subst (λ c. i < c) len (slice_get_within ms i a at) in
-            shares_apart count n i j (worker_view a.own) (worker_view b.own) below (omega (arith, below, few)) other (was.each i a at).share (was.each j b at').share;
+            shares_apart count n i j (worker_view a.own) (worker_view b.own) below more other (was.each i a at).share (was.each j b at').share;
       }

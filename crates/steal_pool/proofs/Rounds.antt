@@ -38,8 +38,8 @@ abbrev pub SharesOf : ℕ → List (RowsId × Global) → ℕ → List View → 
 SharesOf n deques w views = (k : ℕ) (v : View) → slice_get views k ≡ Some v → IsShare ((w + k) % length deques) (length deques) n v.put
 
 module _ {K : Type 0} where
-  pub start_round : (count n : ℕ) (ms : List (Member K)) → count ≤ n → Start count n ms → (w : ℕ) (m : Member K) → slice_get ms w ≡ Some m → GoesRound n (own_deques ms) w m
-  start_round count n ms few start w m at-w =
+  pub start_round : (count n : ℕ) (ms : List (Member K)) → Start count n ms → (w : ℕ) (m : Member K) → slice_get ms w ≡ Some m → GoesRound n (own_deques ms) w m
+  start_round count n ms start w m at-w =
       let ds = own_deques ms in
       let ways = (start.each w m at-w).ways in
       let deque : Victim K → RowsId × Global = λ l. stealer_deque l.stealer in
@@ -49,7 +49,6 @@ module _ {K : Type 0} where
       let others : length (map deque victims) ≡ length victims = length-map victims deque in
       record {
         place = low;
-        tasks = subst (λ c. c ≤ n) (sym long) few;
         all = omega (arith, others, ways.others);
         turn = λ k below.
             elim k as (λ i. i < length ds → slice_get (deques_of m) i ≡ slice_get ds ((w + i) % length ds)) [
@@ -92,7 +91,6 @@ module _ {K : Type 0} where
       → GoesRound n deques w old → GoesRound n deques w new
   round_same n deques w old new same shares round = record {
     place = round.place;
-    tasks = round.tasks;
     all = ap length same ∙ round.all;
     turn = λ k below. ap (λ l. slice_get l k) same ∙ round.turn k below;
     shares = shares;

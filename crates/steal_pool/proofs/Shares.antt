@@ -1,5 +1,5 @@
 -- A share as the tasks are gone through.
-use Rattle.std.proofs.Common.{◌≡◌, ◌≢◌, ℕ, zero, suc, ◌+◌, ◌%◌, ◌<◌, ◌≤◌, cond, eqb, List, [], ◌∷◌, ◌++◌, refl, sym, ap, ◌∙◌, subst, Some, slice_get, length, set, mod-eq_of_lt, arith, inl, inr, ⊎_elim, ◌⊎◌}
+use Rattle.std.proofs.Common.{◌≡◌, ◌≢◌, ℕ, zero, suc, ◌+◌, ◌%◌, ◌<◌, cond, eqb, List, [], ◌∷◌, ◌++◌, refl, sym, ap, ◌∙◌, subst, Some, slice_get, length, set, mod-eq_of_lt, arith, inl, inr, ⊎_elim, ◌⊎◌}
 use Rattle.std.proofs.lemmas.Option.{slice_get_within}
 use Rattle.std.proofs.lemmas.Bool.Decides.{nat_tests}
 use Rattle.std.proofs.lemmas.List.Sums.{sum_by-append}
@@ -71,12 +71,11 @@ pub visits : (w count n : ℕ) (v : View) → Begins w count n v → Visits w co
 visits w count n v h = (refl, h.1, refl, h.3)
 
 -- two places have no share in common
-pub shares_differ : (count n i j : ℕ) (xs ys : List ℕ) → i < count → count ≤ n → i ≢ j → IsShare i count n xs → IsShare j count n ys → xs ≢ ys
-shares_differ count n i j xs ys below few other a b same =
+pub shares_differ : (count n i j : ℕ) (xs ys : List ℕ) → i < count → i < n → i ≢ j → IsShare i count n xs → IsShare j count n ys → xs ≢ ys
+shares_differ count n i j xs ys below more other a b same =
     let same_times : times i xs ≡ times i ys = ap (times i) same in
     let mine = a i in
     let theirs = b i in
-    let low : i < n = omega (arith, below, few) in
     let is : i % count ≡ i = mod-eq_of_lt below in
     grind (arith, nat_tests)
 

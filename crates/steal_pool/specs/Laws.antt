@@ -1,5 +1,5 @@
 -- What callers ask of a fact and a note is met by the rule of a deque itself.
-use Rattle.std.specs.Prelude.{◌≢◌, ℕ, ◌<◌, ◌≤◌, [], ◌∷◌}
+use Rattle.std.specs.Prelude.{◌≢◌, ℕ, ◌<◌, [], ◌∷◌}
 use Rattle.steal_pool.specs.declared.view.View.{View}
 use Rattle.steal_pool.specs.Shares.{IsShare}
 use Rattle.steal_pool.specs.Rule.{Dealt, maker, KeptByPutting, KeptByTaking, KeptBySharing, Notes, all_taken}
@@ -12,6 +12,6 @@ pub record EachDequeKeepsItsTasks : Type 0 where
   pub shares : KeptBySharing Dealt
   pub empty : Notes Dealt all_taken
 
--- with a task for each place, passes that know the shares of two places have two views
+-- passes that know the shares of two places, one of them with a task, have two views
 abbrev pub ViewsTellPlaces : Type 0
-ViewsTellPlaces = (count n i j : ℕ) (v u : View) → i < count → count ≤ n → i ≢ j → IsShare i count n v.put → IsShare j count n u.put → v ≢ u
+ViewsTellPlaces = (count n i j : ℕ) (v u : View) → i < count → i < n → i ≢ j → IsShare i count n v.put → IsShare j count n u.put → v ≢ u

@@ -1,5 +1,5 @@
 -- The turn of a member: each deque of the pool, its own first.
-use Rattle.std.specs.Prelude.{◌≡◌, ℕ, ◌+◌, ◌%◌, ◌<◌, ◌≤◌, List, Some, length, slice_get}
+use Rattle.std.specs.Prelude.{◌≡◌, ℕ, ◌+◌, ◌%◌, ◌<◌, List, Some, length, slice_get}
 use Rattle.std.specs.List.{sum_by}
 use Rattle.std.specs.declared.alloc.Global.{Global}
 use Rattle.atomic_blocks.specs.Lent.{RowsId}
@@ -15,10 +15,9 @@ times_taken x views = sum_by (λ (v : View). times x v.taken) views
 
 module _ {K : Type 0} where
   -- The member takes from all of these deques and no others, first from the one at place w. Each of its passes knows that
-  -- the share of its place was put there; each place has a share of its own, so no two passes know the same
+  -- the share of its place was put there. The share of a place below n has a task, so no other pass knows the same
   pub record GoesRound (n : ℕ) (deques : List (RowsId × Global)) (w : ℕ) (m : Member K) : Type 0 where
     pub place : w < length deques
-    pub tasks : length deques ≤ n
     pub all : length (deques_of m) ≡ length deques
     pub turn : (k : ℕ) → k < length deques → slice_get (deques_of m) k ≡ slice_get deques ((w + k) % length deques)
     pub shares : (k : ℕ) (v : View) → slice_get (views_of m) k ≡ Some v → IsShare ((w + k) % length deques) (length deques) n v.put

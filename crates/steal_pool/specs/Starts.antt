@@ -1,5 +1,5 @@
 -- The members of a pool before any of them takes a task.
-use Rattle.std.specs.Prelude.{◌≡◌, ◌≢◌, ℕ, ◌+◌, ◌%◌, List, All, Some, length, map, slice_get}
+use Rattle.std.specs.Prelude.{◌≡◌, ◌≢◌, ℕ, ◌+◌, ◌%◌, ◌<◌, List, All, Some, length, map, slice_get}
 use mathlib.Core.Option.{some}
 use lib.ListN.{get_elem?}
 use Rattle.crossbeam_deque.specs.Handles.{view, worker_view, worker_deque, worker_flavor, stealer_deque}
@@ -47,6 +47,6 @@ module _ {K : Type 0} where
   pub record Start (count n : ℕ) (ms : List (Member K)) : Type 0 where
     pub len : length ms ≡ count
     pub each : (w : ℕ) (m : Member K) → slice_get ms w ≡ Some m → StartsAt count n (own_deques ms) w m
-    -- two of the deques are never one
-    pub apart : (i j : ℕ) (a b : Member K) → slice_get ms i ≡ Some a → slice_get ms j ≡ Some b → i ≢ j
+    -- a deque with a task is none of the others
+    pub apart : (i j : ℕ) (a b : Member K) → slice_get ms i ≡ Some a → slice_get ms j ≡ Some b → i < n → i ≢ j
         → Apart (worker_view a.own) (worker_view b.own)

@@ -19,8 +19,8 @@
 //!   as often. `Member::take` adds the task that it answers to one of that member's takings alone, and None changes
 //!   none and tells that the deque of each place was found empty during the call (`FoundEmpty`), by a note that an
 //!   empty deque alone gives (`Fact` and `Note` are the caller's own: docs/DECISIONS.md). Each of a member's passes
-//!   knows which tasks were put on its deque, so what is noted of one deque says nothing of another
-//!   (`views_tell_places`). The rule itself meets what is asked of a fact (`each_deque_keeps_its_tasks`).
+//!   knows which tasks were put on its deque, so what is noted of a deque with a task says nothing of another
+//!   (`views_tell_places`). A pool may have more members than tasks; a deque without a task is empty for good. The rule itself meets what is asked of a fact (`each_deque_keeps_its_tasks`).
 //! - Only tested: that a task is stolen from a worker that waits, and that each of 100 tasks is done once by 1, 3 and
 //!   64 workers.
 #![tactic(auto)]

@@ -62,9 +62,9 @@ fn all_ways<K: Fact>(
 }
 
 /// The members of a pool, each with a deque of its own and a way to all others. Task i below n lies on the deque of the
-/// member i % count; an Err is refused memory. Each deque begins with a task.
+/// member i % count; an Err is refused memory. Where there are more members than tasks, the last deques stay empty.
 pub fn members<K: Fact>(alloc: Global, count: usize, n: usize) -> Result<Vec<Member<K>>, AllocError>
-    requires count { (0 < count) × (count ≤ MAX_PASSES) × (count ≤ n) }
+    requires count { (0 < count) × (count ≤ MAX_PASSES) }
     requires begins { K.real [] (maker ∷ []) }
     requires puts { KeptByPutting K.real }
     requires shares { KeptBySharing K.real }

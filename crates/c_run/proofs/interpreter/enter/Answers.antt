@@ -27,4 +27,4 @@ returns c vs is =
     let there = found c.args.program.now.functions c.args.function c.get.result c.in-Some.function
     (rw (sym c.functions.ensures.value) c.get.ensures.lookup.0) (rw (sym c.functions.ensures.value) c.get.ensures.lookup.1) c.in-Some.is in
     entered c.args.program.now c.args.depth c.args.function vs c.args.to c.args.interpreter.now x c.enter.new.self _ there
-    (sym c.has_room.ensures ∙ c.if-not-has_room.false) c.in_ok-enter.ensures.calls c.in_ok-enter.ensures.globals c.in_ok-enter.ensures.output f
+    (sym c.has_room.ensures ∙ c.if-not-has_room.false) c.in_ok-enter.ensures.calls c.enter.ensures.globals c.enter.ensures.output f

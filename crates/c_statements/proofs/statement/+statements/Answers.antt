@@ -30,7 +30,7 @@ block-returns-in_err-typed t c = record {
   scopes = let refused : Result Typed TypeStop = Err NoMemory in
       let lasts : c.items-typed.result ≡ Err NoMemory → c.from_residual-in_err-typed.result ≡ refused = search rules in
       λ n. behind-block c.args.context.now.program.now.text.items (scopes_of c.args.scopes.now) (scopes_of c.enter.new.self)
-      (scopes_of c.items-typed.new.scopes) (scopes_of c.leave.new.self) (items_of c.args.all.now) c.in_ok-enter.ensures
+      (scopes_of c.items-typed.new.scopes) (scopes_of c.leave.new.self) (items_of c.args.all.now) c.in_ok-enter.ensures.scopes
       (c.items-typed.ensures.scopes (λ e. n (lasts e))) c.leave.ensures;
 }
 
@@ -42,13 +42,13 @@ block-returns t c = record {
       → Type 0 = λ u. TypesStatement c.args.context.now.program.now.text.items (scopes_of c.args.scopes.now) (block (items_of c.args.all.now)) u in
       record {
         ok =
-            subst P (sym (block-is c.in_ok-typed.field-0)) (block_typed (subst Q c.in_ok-enter.ensures c.in_ok-typed.ensures.typed.ok));
+            subst P (sym (block-is c.in_ok-typed.field-0)) (block_typed (subst Q c.in_ok-enter.ensures.scopes c.in_ok-typed.ensures.typed.ok));
         none =
             search rules;
         err = tt;
       };
   scopes = λ n. behind-block c.args.context.now.program.now.text.items (scopes_of c.args.scopes.now) (scopes_of c.enter.new.self)
-      (scopes_of c.items-typed.new.scopes) (scopes_of c.leave.new.self) (items_of c.args.all.now) c.in_ok-enter.ensures
+      (scopes_of c.items-typed.new.scopes) (scopes_of c.leave.new.self) (items_of c.args.all.now) c.in_ok-enter.ensures.scopes
       (c.items-typed.ensures.scopes (λ e. let f = sym c.in_ok-typed.was ∙ e in cc)) c.leave.ensures;
 }
 

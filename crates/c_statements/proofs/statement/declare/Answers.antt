@@ -21,7 +21,7 @@ returns-clause-typed c =
     answers
     (subst R c.locals-number.ensures
     (second-ok (λ t. TypesFirst (environment_in text behind) c.locals-number.result given (statement_of t)) c.declarator-refused.result
-    c.first_value.result c.second.result (subst P c.in_ok-declare_local.ensures c.first_value.ensures.ok) c.second.ensures.ok))
+    c.first_value.result c.second.result (subst P c.in_ok-declare_local.ensures.scopes c.first_value.ensures.ok) c.second.ensures.ok))
     (tells-second (FaultyDeclarator text before c.args.name) (FaultyFirst (environment_in text behind) given)
     c.declarator-refused.result c.first_value.result c.second.result (c.declarator-refused.ensures.none, c.declarator-refused.ensures.err)
-    (subst Q c.in_ok-declare_local.ensures (tells c.first_value.ensures)) c.second.ensures.ok c.second.ensures.err)
+    (subst Q c.in_ok-declare_local.ensures.scopes (tells c.first_value.ensures)) c.second.ensures.ok c.second.ensures.err)

@@ -14,7 +14,7 @@ loop-parameter-preserved c =
     let d : Parameter = record { integer_type = SignedInt; name = record { at = 0; length = 0 } } in
     let p : Parameter = get_or c.args.all.now c.loop-parameter.parameter-index d in
     rw (take_more c.args.all.now c.loop-parameter.parameter-index d c.loop-parameter-test.true) (
-      c.in_ok-declare_local.ensures ∙ ap (λ (s : Scopes). with_local c.args.program.now.text.items s p.integer_type p.name) c.loop-parameter.invariant.0
+      c.in_ok-declare_local.ensures.scopes ∙ ap (λ (s : Scopes). with_local c.args.program.now.text.items s p.integer_type p.name) c.loop-parameter.invariant.0
           ∙ sym (behind-more c.args.program.now.text.items (scopes_of c.args.scopes.now) (take c.loop-parameter.parameter-index c.args.all.now) p),
       one-more c.args.program.now.text.items (scopes_of c.args.scopes.now) (scopes_of c.loop-parameter.scopes)
           (take c.loop-parameter.parameter-index c.args.all.now) p c.loop-parameter.fault c.parameter_fault.result c.either-fault.result

@@ -23,7 +23,7 @@ returns-in_err-typed-2-clause-typed c =
           declaration-stop c.args.program.now.text.items (file_of c.args.scopes.now c.args.tally.now)
           (declaration_of c.args.d.now) c.declared_name.result c.next_named.result (scopes_of c.args.scopes.now)
           (scopes_of c.declare.new.self) c.name_fault-fault.result c.body.result
-          c.in_err-typed-2.field-0.0 refl c.in_ok-declare.ensures c.declared_name.ensures c.next_named.ensures c.name_fault-fault.ensures.none
+          c.in_err-typed-2.field-0.0 refl c.in_ok-declare.ensures.scopes c.declared_name.ensures c.next_named.ensures c.name_fault-fault.ensures.none
           c.name_fault-fault.ensures.err c.body.ensures.typed.none c.body.ensures.typed.err t
           in
           search rules;

@@ -16,7 +16,7 @@ returns c vs is =
     let count : length vs ≡ x.parameters = omega (arith, same, c.if-len-function.false, c.len.ensures, c.args.registers.ok.0) in
     entered c.args.program.now c.args.depth c.args.callee.function vs c.args.callee.result_to x entry c.args.interpreter.now c.enter.new.self
     c.first_frame-frame.result there (sym c.has_room.ensures ∙ c.if-not-has_room.false) count first c.in_ok-enter.ensures.calls
-    c.in_ok-enter.ensures.globals c.in_ok-enter.ensures.output
+    c.enter.ensures.globals c.enter.ensures.output
     (new-frame c.first_frame-frame.result c.as_slice-blocks.result.now c.args.registers.items x entry c.args.callee.result_to vs
     c.first_frame-frame.ensures is c.as_slice-blocks.ensures.value)
 

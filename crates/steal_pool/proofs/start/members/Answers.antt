@@ -51,9 +51,9 @@ returns g c =
     let P = Pairs {K = g.row.K.Denot} c.args.count c.args.n in
     let last : P c.loop-own.members.items [] c.loop-own.ways.items = subst (λ (l : List X). P c.loop-own.members.items l c.loop-own.ways.items) none c.loop-own.invariant in
     let ms = c.loop-own.members.items in
-    let start : Start c.args.count c.args.n ms = done c.args.count c.args.n ms c.loop-own.ways.items c.requires.count.2 last in
+    let start : Start c.args.count c.args.n ms = done c.args.count c.args.n ms c.loop-own.ways.items last in
     record {
       start = start;
-      round = start_round c.args.count c.args.n ms c.requires.count.2 start;
+      round = start_round c.args.count c.args.n ms start;
       each = all_at IsMember ms (λ w m at. (start.each w m at).member);
     }

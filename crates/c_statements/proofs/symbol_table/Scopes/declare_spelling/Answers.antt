@@ -5,8 +5,8 @@ use Rattle.c_statements.specs.Shape.{bindings_of}
 use Rattle.c_statements.specs.Names.{Bindings, Scopes}
 use Rattle.c_statements.proofs.symbol_table.Scopes.declare_spelling.Goals as goal
 
-pub returns : goal.returns
-returns c =
+pub returns-clause-scopes : goal.returns-clause-scopes
+returns-clause-scopes c =
     let f : Bindings
     → Scopes = λ i.
     record { inner = i; around = map bindings_of (reverse c.args.self.now.around.items); locals = length c.args.self.now.locals.items } in
