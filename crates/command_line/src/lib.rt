@@ -1,12 +1,8 @@
-//! The command line of `mcc`.
+//! The command line of `mcc`, as tables of parts.
 //!
-//! For the layer above there is one contract: where `words` is Ok, the command and its values are clap's matches of the
-//! words, in their range (`IsCommand` of `specs/Commands.antt`), and where clap takes the words an error is want of
-//! memory alone.
-//!
-//! What is promised:
-//! - `command_line::words`: where it is Ok, the files (of `check` one or more) and numbers are those that clap's matches
-//!   of the words have, in their range, or their defaults; the table's ranges are those of term_table.
+//! Definitions: `specs/Commands.antt`, `specs/Programs.antt`.
+//! Proved: If `words` is Ok, files and numbers are those of clap's matches of the arguments, in their ranges.
+//! Contract: `words`
 #![tactic(auto)]
 
 mod command;

@@ -1,9 +1,8 @@
-//! What a program has of its host (`Host`): the files (`Disk`), the words of the command line, and the standard streams. `run` gives
-//! them to a `Program`, as mcc, mcc_build and mcc_check are, on a thread of 1 GiB of stack. No contract says that, nor what the host
-//! gives; that a fault tells refused memory from all else is all that the layer above uses.
+//! What a program has of its host: files, arguments and streams.
 //!
-//! - Only tested (tests/c/deepest.case): that this stack holds the deepest texts that the sizes of `c_front` allow, nests of `if`,
-//!   of `while` and of expressions.
+//! Proved: A program gets the host's files, arguments and streams, on a thread with 1 GiB of stack. No contract says so.
+//! Contract: none
+//! Tested: this stack holds the deepest sources (tests/c/deepest.case)
 #![tactic(auto)]
 
 mod files;
