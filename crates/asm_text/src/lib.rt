@@ -1,13 +1,8 @@
 //! Images as assembler source, for GNU as and for SPIM.
 //!
-//! `source` writes the code words as instructions, with labels where branches and jumps lead, and the data behind them. Assembled for
-//! MIPS I, big-endian, and linked with code at 0x00400000 and data at 0x10000000 the source has the image's words. A word that is
-//! no instruction, one that leads out of the code, and a division, which the two assemblers write in two ways, are `.word`. The word 0
-//! is `sll $0,$0,0`.
-//!
-//! What is promised:
-//! - `asm_text::source` answers in printable ASCII and line ends (`IsShown` of block_text). Only tested: that the source has the
-//!   image's words (tests/images, and .ci/machines with GNU as and SPIM).
+//! Proved: `source` gives printable ASCII and line ends.
+//! Contract: `source`
+//! Tested: the source has the image's words (tests/images/assembler.case, `.ci/machines`)
 #![tactic(auto)]
 
 ghost use Rattle.std.specs.Prelude.{All, IfOk};

@@ -1,29 +1,11 @@
 //! The command `mcc build`.
 //!
-//! `build` is the whole path of `mcc build`, and `build_plain` with `--plain`: the bytes of an image that follows the program
-//! (`specs/Follows.antt`), and the report of its scheduled unit (`specs/Builds.antt`), or why the text has none (`specs/SourceFaults.antt`,
-//! `specs/BuildFaults.antt`). `build_file` is the command over files and streams: all that it asks of them, prints, tells and ends by
-//! (`specs/Commands.antt`); `driver::mcc` calls it. How faults print stands in `specs/Texts.antt`.
-//! `print_built` and `tell_build` are the command's ends, over a stream alone, for hosts without files.
-//!
-//! What is promised:
-//! - `build_command::build` and `build_one` (without threads), for every scheduler, and `build_plain`, which `driver` exports
-//!   too: where they are Ok, the text spells a program without fault and the bytes are those of an image that follows it
-//!   (`follows`: `FollowsText`): for every number of steps after which the source isn't wrong there is a number of words
-//!   after which the machine has the same output, isn't stuck, and has halted with a word exactly where the source is done
-//!   with it; a word stands for at most 513 steps, in a plain image for one. Image, report and number of blocks are
-//!   those of one scheduled unit (`scheduled`: `IsScheduledBuild`), and bytes are those of one image at most
-//!   (`one_image`). A fault is the text's own, or the first of the program that it spells (`IsBuildFault`). A Limit of
-//!   lowering comes only where the program has too many pseudo-registers or blocks for RTL (`IsTooLongForRtl`). Of those
-//!   of selection and of assembly the contract says no more than that the text spells a program without faults; that
-//!   they aren't told too early is tested. 30 behind the types comes only of such a text too.
-//! - `build_command::build_file`: unless the status is 1, SOURCE was read, then IMAGE became the bytes of such an image of
-//!   what was read, and nothing else was asked; the line is that of the build, and nothing was told (`Builds`). Else the line
-//!   of a fault was told, IMAGE is asked to be nothing but the bytes of such an image, and SOURCE is only read
-//!   (`StopsBuild`).
-//! - Builds of one unit that decided each block make the same image, where the scheduler may propose one order for a block
-//!   (`one_build`); that two builds of a text have one unit stands in no contract.
-//! - `Display` of a build's fault is exact.
+//! Definitions: `specs/Follows.antt`, `specs/Builds.antt`, `specs/BuildFaults.antt`, `specs/Commands.antt`.
+//! Proved: The headline: if `build` is Ok, the source spells a program without errors and the bytes are those of an image that follows it
+//! (`follows`). Image and report are those of one scheduled unit (`scheduled`). An error is the source's own, or a limit (`fault`). If the
+//! scheduler may propose one order for a block, two builds that decided each block of one unit make one image.
+//! Contract: `build`, `build_one`, `build_plain`, `build_file`, `one_build`
+//! Tested: limits of selection and assembly don't come too early; 1, 2, 4 and 64 workers give equal images (tests/builds)
 #![tactic(auto)]
 
 mod build_commands;

@@ -1,15 +1,9 @@
-//! The tokens of a C text, by longest match (C99 6.4), where they stand, and the sizes that they keep within.
+//! The tokens of a C text, by longest match (C99 6.4), where they are, and the sizes that they keep within.
 //!
-//! For the layer above: `lex` answers a text's tokens with their offsets, or the first refusal. Its contract speaks of
-//! `Lexes` and `LexStops` of `specs/Texts.antt`; which pieces there are and what each of them is stands in
-//! `specs/Pieces.antt`, with the constants of `specs/Constants.antt` and the tables of operators and keywords of
-//! `specs/Lexing.antt`. `specs/Fronts.antt` and `specs/Digits.antt` are words of the private functions that find the
-//! longest piece and the value of a constant; `specs/Messages.antt` is what a refusal prints.
-//!
-//! What is promised:
-//! - `c_tokens::lex`: the tokens of the longest pieces with their offsets, or the first refusal; a text has one list of
-//!   tokens at most (`one_lexing`).
-//! - Each limit is the number that `specs/Numbers.antt` tells (`limits_are_these_numbers`).
+//! Definitions: `specs/Pieces.antt`, `specs/Texts.antt`.
+//! Proved: `lex` gives the tokens of the longest pieces with their offsets, or the first rejection. A source has one list of tokens at
+//! most.
+//! Contract: `lex`, `one_lexing`
 #![tactic(auto)]
 
 mod constants;

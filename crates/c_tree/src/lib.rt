@@ -1,12 +1,8 @@
-//! The syntax trees of C texts (C99 6.5 to 6.9, the integer subset that `c_front` reads).
+//! The syntax trees of C texts (C99 6.5 to 6.9): a language, so it has no pass.
 //!
-//! A language, so it has no pass: `c_front` makes trees of texts, `c_statements` and `c_types` give them types. For the layers
-//! above there is one contract: `Program::spelling` is the bytes of a name in the program's text (`specs/Texts.antt`).
-//! `specs/Tree.antt` has the trees without the places where a program keeps them, and `specs/Shape.antt` the tree that a
-//! Rust value stands for.
-//!
-//! What is promised:
-//! - `c_tree` has the trees; `Program::spelling` is the bytes of a name in the program's text.
+//! Definitions: `specs/Tree.antt`, `specs/Shape.antt`, `specs/Texts.antt`.
+//! Proved: The trees of C. A name's spelling is its bytes in the source.
+//! Contract: `Program::spelling`
 #![tactic(auto)]
 
 mod tree;

@@ -1,15 +1,9 @@
 //! The check text: a block and an order for it, as lines.
 //!
-//! `read` gives the block and the order exactly where the text spells them, and else the first line
-//! that can't stand in its place; that is what the layer above uses. The definitions:
-//! `specs/Lines.antt` (bytes as lines), `specs/Spelling.antt` (instructions and exits as lines),
-//! `specs/Whole.antt` (the whole text, `SpellsPair`, and where it goes wrong, `FailsAt`). The texts of
-//! instructions themselves are those of mips_isa, `specs/Texts.antt`.
-//!
-//! What is promised:
-//! - `check_text::read` is exact: Ok comes with the block and the order that the text spells, and where the text spells
-//!   a pair, that pair is the answer, unless memory was refused. A fault's line is the first with which no legal text
-//!   can begin, or the number of lines plus 1; what it prints is exact.
+//! Definitions: `specs/Whole.antt`.
+//! Proved: `read` gives the block and the order exactly if the check text spells them, memory aside, and else the first line that can't be
+//! in its place.
+//! Contract: `read`
 #![tactic(auto)]
 
 mod cuts;

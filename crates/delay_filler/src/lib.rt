@@ -1,9 +1,7 @@
-//! Delay slots filled with an instruction of the block. Nothing here is trusted: who takes an order checks it against its
-//! block.
+//! Delay slots filled with an instruction of the block (Gross and Hennessy, 1982). Not trusted: a caller checks each order.
 //!
-//! `fill` moves an instruction from before the exit into its slot; `FilledOrder` does so with what another scheduler answers,
-//! and is a scheduler itself. The idea is that of assemblers for MIPS (Gross and Hennessy, Optimizing Delayed Branches,
-//! 1982).
+//! Proved: The same, with the slot filled.
+//! Contract: `FilledOrder`
 #![tactic(auto)]
 
 mod filled;

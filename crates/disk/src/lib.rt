@@ -1,9 +1,10 @@
-//! What a program has of its host (`Host`): the files (`Disk`), the words of the command line, and the standard streams. `run` gives
-//! them to a `Program`, as mcc is, on a thread of its own. No contract says that, nor what the host gives. Callers rely on one
-//! thing: that refused memory is reported apart from other faults.
+//! What a program has of its host: files, arguments and streams.
 //!
-//! Only tested (tests/c/deepest.case, .ci/limits): that the thread's stack holds the deepest texts, and that it is fault 30 if
-//! the stack can't be had; that no more of a file is read than is legal; that IMAGE is written beside its place and renamed.
+//! Proved: Nothing but safety. A program gets the host's files, arguments and streams, on a thread whose stack is as large as its sources
+//! ask. No contract says so.
+//! Contract: none
+//! Tested: the stack holds the deepest sources (tests/c/deepest.case); scarce stack, memory and disk, endless files, refused writes
+//! (`.ci/limits`)
 #![tactic(auto)]
 
 mod files;

@@ -1,56 +1,11 @@
-//! The program's commands over bytes, files and writers.
+//! The program's commands over bytes, files and writers: `mcc` is the whole program.
 //!
-//! `interp` is the whole path of `mcc interp`: the run of the program that the text spells, or its first fault
-//! (`specs/Interps.antt`), and `list_image` that of `mcc list` (`specs/Listings.antt`). `mcc build` is the crate build_command,
-//! `mcc run` run_command, `mcc check` the crates check_command (one file) and check_report (several files, and `--explain`),
-//! `mcc show` the crate show, and what commands share is the crate commands. `mcc` is the whole program, which `main` calls
-//! with the real files and streams: all that it asks of them, prints and ends by is what the command of its words does
-//! (`specs/Program.antt`), and it takes these by the crate command_line. How ends and faults of a text's runs print stands in
-//! `specs/Texts.antt`; `tell_interp` and `tell_stages` tell faults, over a stream alone, for hosts without files; `stages` is
-//! what `mcc show` prints. `build`, `run_image`, `check` and their like are exported here too.
-//!
-//! What is promised:
-//! - `driver::interp`: where it is Ok, the text spells a program, the program has no fault, and the answer is what so
-//!   many steps of its one typed program come to within the depth (`IsRun`); else the fault is the text's own, or the
-//!   first of the program that it spells (`IsInterpFault`). A text spells one program at most and a program has one
-//!   typing at most, so there is no other answer; nor has a text two faults (`one_reading`).
-//! - `driver::list_image` is exactly the image's listing (`IsListing`), where the bytes are an image's, else the first test
-//!   that fails.
-//! - `Display` of answers and faults is exact. The status of a verdict that could be printed is `exit_status` of it,
-//!   and that of a run is that of its end (`end_status`). The status of `driver::mcc` is at most 4, and never 2 (wrong
-//!   words) where clap takes the words.
-//! - `driver::mcc`, over any files and any standard error, where clap takes the words: unless the status is 1, the
-//!   words are a command, all that was asked of the files, what standard output took and the status are those of an
-//!   answer that the command's own call may give, with the words' depth, steps and `--plain` (`answered`: `IsAnswered` over
-//!   `Answers` of specs/Program.antt), and nothing was told, but beside a run that is wrong or stuck lines of printable ASCII, which
-//!   say why (`quiet`: `IsRemark`). A status of 1 comes with the line of a fault that the command's own contract allows,
-//!   or, of several check texts, where one has a fault and each has its line (`HasFaultyFile`); IMAGE is asked to be
-//!   nothing but the bytes of an image of what was read from SOURCE, and SOURCE is only read (`stopped`: `IsStopped`).
-//!   `check_command::check_file` promises the same of `check`. Of what `show`, `list --asm` and (behind the answer)
-//!   `check --explain` print no more is promised than that the source has no fault, or the file is an image, and that it
-//!   is printable ASCII in lines (`Shows`, `IsImagePage`, `Explains`). Not promised: that refused memory, which is told by
-//!   status 1 before any file is read, was really refused; what stands below a fault's line, but that it steers no
-//!   terminal (`tell_placed` of commands), and clap's texts.
-//! - Only tested: that ten programs print what they should (the eight of crates/c_programs what gcc's builds of them
-//!   print), built plainly and scheduled; that interpreter and images print the same, worked by hand, where up to forty
-//!   locals live in a loop, locals and constants live over calls and a recursion, parameters are passed on in another
-//!   order, results are arguments, and bytes are written in an inner loop; that each block of all these gets the order
-//!   that was proposed, and so does each of three texts whose loads and stores meet; that 1, 2, 4 and 64 workers give
-//!   equal images; builds whose table is full; `mcc build` by its words; and (tests/images) images that are cut or
-//!   changed. And (test_calls): the same programs under each kind of `Hostile`, that `build_one` and many workers
-//!   give equal images, and 1,000 builds one image.
-//! - Only tested: that every image prints what the interpreter prints, wherever that isn't `wrong`; 1 MiB of C and the
-//!   deepest texts built and run, the deepest nest of statements refused for its size. And (test_calls): what each
-//!   command does where a read or a write fails, standard output at any byte, and memory that is really refused to
-//!   `build` with two workers, `build_one`, `build_plain`, `check`, the words of the command line, a machine's steps,
-//!   and to `mcc build --plain`, `run`, `list` and `interp`. `.ci/refuse` refuses each growth of each command of the
-//!   built program in turn, by number; of `check` and `build --plain` in the gate.
-//! - Only tested: that the reasons of `wrong` and `stuck` are those of the run (tests/c/reasons, tests/images/reasons); the lines below
-//!   a fault, as the place (`FILE:LINE:COLUMN: error:`, the line of the text, cut where it
-//!   is long, and the caret), what is wrong there and the hint (tests/messages); files that can't be read or written;
-//!   `mcc interp` at each limit of a text's sizes; check texts, their verdicts, and the line of what spells nothing;
-//!   wrong words, and the text of help; and (tests/examples) what each file of crates/example_files/data prints, and its
-//!   status.
+//! Definitions: `specs/Interps.antt`, `specs/Listings.antt`, `specs/Program.antt`.
+//! Proved: `interp` gives exactly the run of the source's one typed program, or its error. `list_image` gives exactly the listing. For
+//! arguments that clap accepts, `mcc` asks of its files, prints and ends as the command's own call may (`answered`, `quiet`, `stopped`).
+//! Contract: `interp`, `list_image`, `mcc`
+//! Tested: images print what the interpreter prints, eight programs also what gcc's builds print (tests/builds); failing files and streams
+//! (test_calls); each refused allocation (`.ci/refuse`)
 #![tactic(auto)]
 
 mod image_commands;

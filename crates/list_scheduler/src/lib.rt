@@ -1,21 +1,8 @@
-//! Orders of blocks, as schedulers propose them. Nothing here is trusted: who takes an order checks it against its block.
+//! A list scheduler (Gibbons and Muchnick, 1986), not trusted: a caller checks each order against its block. `Hostile` proposes wrong ones.
 //!
-//! A scheduler is a `Reorder`. It has to be total, and nothing else: whatever order it answers, the validator decides what
-//! becomes of it. Its relation `proposes` says which orders it may answer for a block; for the schedulers here that is any.
-//!
-//! `ListOrder` is a list scheduler (Gibbons and Muchnick, Efficient Instruction Scheduling for a Pipelined Architecture,
-//! 1986): it leaves out what the block doesn't need (`needs.rt`), makes the graph of what has to stay before what and by how
-//! many words (`graph.rt`), and takes the instructions by the longest way to the end (`list.rt`). It is a function of the
-//! block alone, and takes at most quadratic time in the block's length. `Resources` are what instructions read and write.
-//!
-//! `Hostile` proposes wrong orders, for those who test a validator.
-//!
-//! What is promised:
-//! - A `Reorder` is total, and its answers are those that its relation `proposes` allows; that of `ListOrder` and
-//!   `FilledOrder` allows every order. So nothing is promised of their orders but that they come.
-//! - Only tested: the orders of seventeen worked blocks, each of which the validator accepts: where a Nop stands and
-//!   where none does, what is left out, which loads pass which stores, which slots are filled; and the orders and
-//!   verdicts of `Hostile`, a scheduler that proposes wrong orders in eight ways, for those who test a validator.
+//! Proved: A `Reorder` returns, and its answer is one that its `proposes` allows. For the schedulers here that is any order.
+//! Contract: `Reorder`, `ListOrder`
+//! Tested: the orders of seventeen worked blocks; the eight ways of `Hostile` (test_calls)
 #![tactic(auto)]
 
 mod access;

@@ -1,4 +1,8 @@
 //! The program `mcc`: `driver::mcc` over the real files and streams (`disk::run`).
+//!
+//! Proved: The program: `main` calls `driver::mcc` over the real files and streams. No contract says so.
+//! Contract: none
+//! Tested: all of tests/
 #![tactic(auto)]
 
 use commands::{Complaints, Files, Output};

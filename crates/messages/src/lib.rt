@@ -1,13 +1,8 @@
-//! What is said of the faults of a C text: what is wrong, in plain words, and what to write in its place.
+//! What is said of the errors of a C text: what is wrong, in plain words, and what to write instead.
 //!
-//! `explain` works on the text alone, with the fault's kind and its offset: the names are those of the tokens, and which
-//! tokens can stand at a fault of syntax is tried by `c_front::read`. How a fault prints stands in `specs/Texts.antt`.
-//!
-//! What is promised:
-//! - `messages::explain` answers in printable ASCII alone (`IsPrintableExplanation` of the crate commands), for each text
-//!   and each fault, also one that the text doesn't have.
-//! - `Display` of a fault is exact (`source_fault_text`).
-//! - Only tested (tests/messages): each message and each hint, by a text that has it.
+//! Proved: `explain` gives printable ASCII for each source and each error. The line of an error is exact.
+//! Contract: `explain`
+//! Tested: nearly each message and hint (tests/messages)
 #![tactic(auto)]
 
 mod constants;

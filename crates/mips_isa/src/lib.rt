@@ -1,26 +1,10 @@
 //! The instructions of MIPS I in use, their text, and what they do (Kane, MIPS RISC Architecture).
 //!
-//! `Plain::action` turns each of the 31 instructions that compute, load or store into one of eight
-//! actions, exactly `action_of`; blocks, orders, cleanliness, terms and the machine are defined over
-//! actions alone.
-//! The definitions: `specs/Ranges.antt` (each field's range), `specs/Texts.antt` (the text),
-//! `specs/Actions.antt` (what an instruction does), `specs/States.antt` (registers and memory),
-//! `specs/MemoryMap.antt` (where code, data and stack lie), `specs/Starting.antt` (the state in which a program starts),
-//! `specs/Flows.antt` (the machine between two words), `specs/Controls.antt` (branches, jumps and calls
-//! to the system), `specs/Rules.antt` (the rules M1 to M9 that make it stuck), `specs/Steps.antt` (one word).
-//!
-//! What is promised:
-//! - `Plain::action` is exactly `action_of`, the table of the instruction set in eight kinds of action. `Display` and
-//!   `Debug` write exactly `instruction_text`, and `Display` of a branch or jump at an address (`ListedControl`)
-//!   exactly `control_text`; that of `WordDigits` and `ByteDigits` exactly the hexadecimal digits. `reads` and `writes` are exact.
-//! - `Reg::new`, `NonzeroReg::new`, `Amount::new` and `JumpTarget::new` are Some exactly within their range.
-//! - The rules M1 to M9 are one table (`action_breaks`, `control_breaks` of `specs/Rules.antt`); laws: an action is
-//!   stuck exactly where it breaks a rule (`safe_actions_keep_their_rules`, `stuck_actions_break_a_rule`), the rule
-//!   that is told is the least (`each_broken_rule_is_least`), what an action reads and writes is what it touches
-//!   (`reads_and_writes_are_touched`).
-//! - Memory is bytes, which `lw`, `sw`, `lbu` and `sb` reach. Where two accesses, of words or bytes, share no byte, a
-//!   load doesn't see the store (`loads_pass_stores`) and two stores may be exchanged (`stores_commute`).
-//! - Code, data and stack lie where `specs/MemoryMap.antt` says (`addresses_are_the_memory_map`).
+//! Definitions: `specs/Actions.antt`, `specs/Rules.antt`, `specs/Steps.antt`, `specs/MemoryMap.antt`.
+//! Proved: `Plain::action` is exactly the table of 31 instructions. Their texts, reads and writes are exact. An action is stuck exactly if
+//! it breaks one of M1 to M9. Accesses that share no byte don't meet.
+//! Contract: `Plain::action`, `safe_actions_keep_their_rules`, `stuck_actions_break_a_rule`, `each_broken_rule_is_least`,
+//! `loads_pass_stores`, `stores_commute`, `addresses_are_the_memory_map`
 #![tactic(auto)]
 
 mod action;

@@ -1,13 +1,8 @@
-//! Blocks of any length, cut into pieces of at most 512 instructions: chained by Goto, with new numbers, each piece with the
-//! owner of its block.
+//! Blocks of any length, cut into pieces of at most 512 instructions: chained by Goto, each with the owner of its block.
 //!
-//! `split_unit` makes exactly the unit that `specs/Split.antt` says, and whatever the long blocks come to, that unit comes to
-//! (`EachSplitUnitComesTo` of `specs/Laws.antt`).
-//!
-//! What is promised:
-//! - `mips_split::split_unit` cuts blocks at 512 instructions exactly as `specs/Split.antt` says, Limit only above
-//!   1,048,576 pieces; whatever the long blocks come to, the unit comes to (`each_split_unit_comes_to`).
-//!   `first_pieces` gives the number of each block's first piece.
+//! Definitions: `specs/Split.antt`, `specs/Laws.antt`.
+//! Proved: `split_unit` cuts blocks at 512 instructions exactly as defined. The unit does what the long blocks do.
+//! Contract: `split_unit`, `first_pieces`, `each_split_unit_comes_to`
 #![tactic(auto)]
 
 mod fault;

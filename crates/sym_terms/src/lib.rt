@@ -1,14 +1,8 @@
-//! The labels of terms, with a word of 64 bits for each, and the trees that carry them.
+//! The labels of terms of MIPS, with a word of 64 bits for each, and the trees that carry them.
 //!
-//! For the crates above: `word_of` and `label_of` are inverse, and `Label` is a type of labels for the
-//! table of terms. Symbolic execution speaks of trees of these labels (`specs/Trees.antt`). The words
-//! of labels stand in `specs/Labels.antt`.
-//!
-//! What is promised:
-//! - `word_of` and `label_of` are inverse on the table of labels. The terms of operations, loads and stores, in normal
-//!   form, have the values that the machine computes (`trees_keep_values`): the constants of a sum are gathered (N1,
-//!   N2), a load passes the stores that it doesn't meet (N3), and such stores over one base stand in the order of their
-//!   offsets (N4), words and bytes alike.
+//! Definitions: `specs/Trees.antt`, `specs/Values.antt`, `specs/NormalForms.antt`, `specs/Laws.antt`.
+//! Proved: Label and word are inverse. Terms in normal form (N1 to N4) have the values that the machine computes.
+//! Contract: `Label`, `trees_keep_values`
 #![tactic(auto)]
 
 mod label;

@@ -1,19 +1,9 @@
-//! The pure world of the shared table of terms: passes, words, and their single steps. Everything
-//! here exists for proofs alone, and no value of these types is made in a running program.
+//! The pure world of the shared table of terms: passes, words, and their single steps. It exists for proofs alone.
 //!
-//! For the crate above, the running table: `any_schedule`, whose contract is the theorem for every
-//! list of items, an item being one single step of one pass. The definitions: `specs/Terms.antt`
-//! (the table of terms of one thread, its answers and its legal histories), `specs/World.antt`
-//! (passes, words, the four kinds of step), `specs/Law.antt` (what holds in each reached world),
-//! `specs/Items.antt` (what each item does).
-//!
-//! What is promised:
-//! - `term_core::any_schedule` is the theorem for every list of single steps: one legal history; an item ends one call
-//!   with one entry or goes on; no other pass changes; a link that names a node and the content of a linked node never
-//!   change. Each step is on a word that its kind may be on: a load of a link or an exchange at the head of a chain or
-//!   the link of a linked node, a load of content at a content word of a linked node, a store at one of the pass's next
-//!   node. Each step that the running table makes on content, each store and each exchange, and each load of a link
-//!   that a call makes, is one of the world's; that it makes no other load is by privacy (below).
+//! Definitions: `specs/Terms.antt`, `specs/World.antt`.
+//! Proved: Every list of single steps of any handles leads to one legal history. Each step is of one of four kinds, on a word that this
+//! kind may touch.
+//! Contract: `any_schedule`
 #![tactic(auto)]
 
 ghost use Rattle.std.specs.Prelude.{◌≡◌, ℕ, List};

@@ -1,14 +1,8 @@
-//! Labels of terms, and the trees that carry them.
+//! Labels of terms, and the trees that carry them: for tables of anyone's terms.
 //!
-//! For the crates above: a type is a type of labels where it has a `Label` impl, which gives each label a
-//! word of its own. The table of terms holds the words alone. Where a label is a kind with a content, as a
-//! variant with its number, `word_of` and `parts_of` make and read its word, and `by_kinds`
-//! (`proofs/ByKinds.antt`) proves the law of its impl.
-//!
-//! What is promised:
-//! - A type is one of labels where it has an impl of `Label`: a word of 64 bits for each label, from which the label is
-//!   read back (`back`, the impl's law), so no two labels have one word, and no two trees of labels have one tree of
-//!   words. `word_of` and `parts_of` make and read words that are a kind with a content.
+//! Definitions: `specs/Trees.antt`, `specs/Codings.antt`, `specs/Kinds.antt`.
+//! Proved: A type of labels gives each label a word, from which it is read back, so no two labels share one.
+//! Contract: `Label`, `word_of`, `parts_of`
 #![tactic(auto)]
 
 mod parts;
