@@ -19,8 +19,9 @@
 //!   they aren't told too early is tested. 30 behind the types comes only of such a text too.
 //! - `build_command::build_file`: unless the status is 1, SOURCE was read, then IMAGE became the bytes of such an image of
 //!   what was read, and nothing else was asked; the line is that of the build, and nothing was told (`Builds`). Else the line
-//!   of a fault was told, IMAGE is asked to be nothing but the bytes of such an image, and SOURCE is only read
-//!   (`StopsBuild`).
+//!   of a fault was told, IMAGE is asked to be nothing but the bytes of such an image, and SOURCE is only read. Standard
+//!   output is as it was then, unless it refused the line, once IMAGE was written (`StopsBuild`). Below a fault's line
+//!   stands printable ASCII alone.
 //! - Builds of one unit that decided each block make the same image, where the scheduler may propose one order for a block
 //!   (`one_build`); that two builds of a text have one unit stands in no contract.
 //! - `Display` of a build's fault is exact.
