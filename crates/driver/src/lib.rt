@@ -25,13 +25,18 @@
 //!   answer that the command's own call may give, with the words' depth, steps and `--plain` (`answered`: `IsAnswered` over
 //!   `Answers` of specs/Program.antt), and nothing was told, but beside a run that is wrong or stuck lines of printable ASCII, which
 //!   say why (`quiet`: `IsRemark`). A status of 1 comes with the line of a fault that the command's own contract allows,
-//!   or, of several check texts, where one has a fault and each has its line (`HasFaultyFile`); IMAGE is asked to be
-//!   nothing but the bytes of an image of what was read from SOURCE, and SOURCE is only read (`stopped`: `IsStopped`).
+//!   or, of several check texts, where one has a fault and each has its line, and all were sent on (`HasFaultyFile`); IMAGE
+//!   is asked to be nothing but the bytes of an image of what was read from SOURCE, and SOURCE is only read (`stopped`:
+//!   `IsStopped`). Then standard output is as it was, unless it refused what it was asked last, which is `CannotWrite`, and
+//!   below the fault's line stands printable ASCII alone (`TellsLine` of commands).
 //!   `check_command::check_file` promises the same of `check`. Of what `show`, `list --asm` and (behind the answer)
 //!   `check --explain` print no more is promised than that the source has no fault, or the file is an image, and that it
 //!   is printable ASCII in lines (`Shows`, `IsImagePage`, `Explains`). Not promised: that refused memory, which is told by
 //!   status 1 before any file is read, was really refused; what stands below a fault's line, but that it steers no
-//!   terminal (`tell_placed` of commands), and clap's texts.
+//!   terminal, and clap's texts.
+//! - `driver::mcc`, where clap's grammar has a fault for the words: no file is touched, and the status is 0 for the help and the
+//!   version, 2 for wrong words, or 1 with a fault's line (`untaken`: `EndsUntaken`). With 2 standard output is as it was too,
+//!   and it comes of nothing else (`wrong`).
 //! - Only tested: that ten programs print what they should (the eight of crates/c_programs what gcc's builds of them
 //!   print), built plainly and scheduled; that interpreter and images print the same, worked by hand, where up to forty
 //!   locals live in a loop, locals and constants live over calls and a recursion, parameters are passed on in another
