@@ -49,13 +49,16 @@ pub record Builds (source image : List ℕ) (depth : ℕ) (plain : Bool) (status
   pub line : printed ≡ built_text plain built
   pub ends : status ≡ 0
 
--- the same where it ended by a fault: IMAGE isn't touched but by the bytes of an image of the text
-pub data StopsBuild (source image : List ℕ) (depth : ℕ) (plain : Bool) : List Request → List ℕ → Type 0 where
-  unread : (fault : FileFault) → StopsBuild source image depth plain (NotRead source fault ∷ []) (host_fault_text (reading_fault fault))
-  faulty : (text : List ℕ) (fault : BuildFault) → IsBuildFault text fault
-      → StopsBuild source image depth plain (Read source text ∷ []) (build_fault_text fault)
-  unwritten : (text : List ℕ) (built : Built) → IsBuiltAs text depth plain built → (fault : FileFault)
-      → StopsBuild source image depth plain (Read source text ∷ (NotWritten image built.image.items fault ∷ []))
+-- the same where it ended by a fault: IMAGE isn't touched but by the bytes of an image of the text, and nothing is printed before it
+-- was written
+pub data StopsBuild (source image : List ℕ) (depth : ℕ) (plain : Bool) (silent refused : Type 0) : List Request → List ℕ → Type 0 where
+  unread : (fault : FileFault) → silent
+      → StopsBuild source image depth plain silent refused (NotRead source fault ∷ []) (host_fault_text (reading_fault fault))
+  faulty : (text : List ℕ) (fault : BuildFault) → IsBuildFault text fault → silent
+      → StopsBuild source image depth plain silent refused (Read source text ∷ []) (build_fault_text fault)
+  unwritten : (text : List ℕ) (built : Built) → IsBuiltAs text depth plain built → (fault : FileFault) → silent
+      → StopsBuild source image depth plain silent refused (Read source text ∷ (NotWritten image built.image.items fault ∷ []))
       (host_fault_text (writing_fault fault))
-  untold : (text : List ℕ) (built : Built) → IsBuiltAs text depth plain built
-      → StopsBuild source image depth plain (Read source text ∷ (Written image built.image.items ∷ [])) (host_fault_text CannotWrite)
+  untold : (text : List ℕ) (built : Built) → IsBuiltAs text depth plain built → refused
+      → StopsBuild source image depth plain silent refused (Read source text ∷ (Written image built.image.items ∷ []))
+      (host_fault_text CannotWrite)

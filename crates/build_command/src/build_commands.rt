@@ -1,8 +1,9 @@
 // The command that makes an image.
 
-ghost use Rattle.std.specs.Prelude.{◌≡◌, ◌≢◌, ◌≤◌, IfErr, IfOk, OnOk};
+ghost use Rattle.std.specs.Prelude.{◌≡◌, ◌≢◌, ◌≤◌, All, IfErr, IfOk, OnErr, OnOk};
 ghost use Rattle.std.specs.Io.KnownBytes.{Appends};
-ghost use Rattle.commands.specs.Requests.{Asks, Does, IsSent, TellsLine};
+ghost use Rattle.commands.specs.Requests.{Asks, Does, IsSent, TellsLine, WasRefused};
+ghost use Rattle.commands.specs.Texts.{IsShown};
 ghost use Rattle.build_command.specs.Texts.{build_fault_text};
 ghost use Rattle.build_command.specs.BuildFaults.{IsBuildFault};
 ghost use Rattle.build_command.specs.Commands.{Builds, IsBuiltAs, StopsBuild, built_text};
@@ -10,6 +11,7 @@ ghost use Rattle.build_command.specs.Commands.{Builds, IsBuiltAs, StopsBuild, bu
 use crate::builds::{BuildFault, Built, Limit, build_plain};
 use crate::places::source_place;
 use crate::scheduled_builds::{BuildOpts, build, phase_of};
+use crate::texts::BuiltLine;
 use command_line::AskedBuild;
 use commands::{Complaints, Files, HostFault, Output, read_file, tell, tell_placed, write_file};
 use delay_filler::FilledOrder;
@@ -22,7 +24,9 @@ use std::thread::Threads;
 use steal_pool::Open;
 
 /// What a limit is about, for the line below its fault.
-fn limit_text(limit: Limit) -> &'static str {
+fn limit_text(limit: Limit) -> &'static str
+    ensures { All IsShown result.now }
+{
     match limit {
         Limit::Lowering => {
             "a function has more than 8000 values, or the program more than 1048575 branches and calls"
@@ -45,7 +49,7 @@ fn source_fault(fault: BuildFault) -> Option<SourceFault> {
     }
 }
 
-/// The line of a build's fault, and below it where it lies and what is said of it, or what the limit is about.
+/// Tells the line of a build's fault, and below it where it lies and what is said of it, or what the limit is about.
 pub fn tell_build<E: Complaints>(
     alloc: Global,
     err: &mut E,
@@ -67,18 +71,13 @@ pub fn tell_build<E: Complaints>(
     status
 }
 
-/// The line of a build: how many blocks there are, and how many of them had which verdict.
+/// Prints the line of a build: how many blocks there are, and how many of them had which verdict.
 pub fn print_built<W: Output>(out: &mut W, plain: bool, built: &Built) -> io::Result<()>
     ensures sent { OnOk result (IsSent W.sends out.new) }
+    ensures refused { OnErr result (WasRefused W.refuses out.new) }
     ensures line { OnOk result (Appends (W.contents out.old) (W.contents out.new) (built_text plain built.now)) }
 {
-    let blocks = built.blocks;
-    if plain {
-        writeln!(out, "blocks {blocks} plain")?;
-    } else {
-        let report = built.report;
-        writeln!(out, "blocks {blocks} {report}")?;
-    }
+    out.put_text(&BuiltLine { plain, built })?;
     out.send()
 }
 
@@ -117,7 +116,7 @@ pub fn build_file<T: Threads + Wait + Sync, F: Files, W: Output, E: Complaints>(
         (Builds asked.now.source.now asked.now.image.now asked.now.depth asked.now.plain result) }
     ensures sent { result ≢ 1 → IsSent W.sends out.new }
     ensures quiet { result ≢ 1 → err.new ≡ err.old }
-    ensures stopped { result ≡ 1 → Asks F.answers files.old files.new E.tells err.old err.new
+    ensures stopped { result ≡ 1 → Asks F.answers files.old files.new W.refuses out.old out.new E.tells err.old err.new
         (StopsBuild asked.now.source.now asked.now.image.now asked.now.depth asked.now.plain) }
 {
     let text = match read_file(alloc, asked.source, files) {

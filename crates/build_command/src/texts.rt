@@ -1,9 +1,10 @@
 // How the faults of a build print.
 
 ghost use Rattle.std.specs.Prelude.{Some};
+ghost use Rattle.build_command.specs.Commands.{built_text};
 ghost use Rattle.build_command.specs.Texts.{build_fault_text};
 
-use crate::builds::BuildFault;
+use crate::builds::{BuildFault, Built};
 use std::error::Error;
 use std::fmt;
 
@@ -20,3 +21,24 @@ impl fmt::Display for BuildFault {
 }
 
 impl Error for BuildFault {}
+
+/// The line of a build, with its line feed.
+#[derive(Clone, Copy)]
+pub(crate) struct BuiltLine<'a> {
+    pub(crate) plain: bool,
+    pub(crate) built: &'a Built,
+}
+
+impl<'a> fmt::Display for BuiltLine<'a> {
+    ghost output = { λ line. Some (built_text line.plain line.built.now) };
+
+    fn fmt<W: fmt::Write>(&self, f: &mut fmt::Formatter<W>) -> fmt::Result {
+        let blocks = self.built.blocks;
+        if self.plain {
+            writeln!(f, "blocks {blocks} plain")
+        } else {
+            let report = self.built.report;
+            writeln!(f, "blocks {blocks} {report}")
+        }
+    }
+}

@@ -1,10 +1,10 @@
 -- What a command did, as what the program did with its words: what it told beside its answer, and checks of several files.
-use Rattle.std.proofs.Common.{◌≡◌, ◌≢◌, ◌⊎◌, ℕ, List, [], ◌∷◌, ◌==◌, ◌||◌, if◌then◌else◌, Bool, true, false, Option, map, fold, max, refl, sym, subst, inl, inr}
+use Rattle.std.proofs.Common.{◌≡◌, ◌≢◌, ◌⊎◌, All, get_or, ℕ, List, [], ◌∷◌, ◌==◌, ◌||◌, if◌then◌else◌, Bool, true, false, Option, map, fold, max, refl, sym, subst, inl, inr}
 use Rattle.std.specs.declared.vec.Vec.{Vec}
 use Rattle.std.specs.declared.alloc.Global.{Global}
 use Rattle.std.specs.Borrow.{Bor}
 use Rattle.std.specs.List.{FoldsTo, flat_map}
-use Rattle.commands.specs.Requests.{Request, Asks, Does, TellsBeside, TellsLine}
+use Rattle.commands.specs.Requests.{Request, Asks, Does, IsSent, TellsBeside, TellsLine}
 use Rattle.check_report.specs.Several.{BreaksOff, CheckedFile, ChecksAll, ChecksEach, worse, status_of, faults_of, lines_of, request_of}
 use Rattle.check_report.specs.Several.CheckedFile.{Answered, Unexplained, Faulty, Unread}
 use Rattle.command_line.specs.Commands.{IsCommand}
@@ -13,6 +13,16 @@ use Rattle.command_line.specs.declared.command.Command.{Command}
 use Rattle.command_line.specs.declared.command.Command.TheVariants.{CheckEach}
 use Rattle.command_line.proofs.Programs.{stopped_by}
 use Rattle.driver.specs.Program.{HasFaultyFile, Remarks, Stops}
+use Rattle.run_command.specs.Command.{IsShown as IsPageByte}
+use Rattle.commands.specs.Texts.{IsShown}
+
+shown_of : (byte : ℕ) → IsPageByte byte → IsShown byte
+shown_of byte (inl feed) = inr (inr feed)
+shown_of byte (inr printable) = inl printable
+
+-- a page of printable lines steers no terminal
+pub page_shown : (pieces : List (List ℕ)) → All (All IsPageByte) pieces → All (All IsShown) pieces
+page_shown pieces h k d inside i e within = shown_of (get_or (get_or pieces k d) i e) (h k d inside i e within)
 
 -- what a command told beside its answer, as what the program did
 pub remarked : {E : Type 0} (tells : E → List ℕ → E → Type 0) (words : List (List ℕ)) (status : ℕ) (command : Command) → IsCommand words command
@@ -61,11 +71,11 @@ module _ {F E : Type 0} (answers : F → Request → F → Type 0) (tells : E �
       sym (subst (λ (lines : List (List ℕ)). FoldsTo (TellsLine tells) p lines q) none all.told)
 
 -- several files, which all have their lines, or which broke off
-module _ {F E : Type 0} (answers : F → Request → F → Type 0) (tells : E → List ℕ → E → Type 0) (explain : Bool) (status : ℕ)
-    (f g : F) (o r : Option (List ℕ)) (p q : E) (Sent : Type 0) where
+module _ {F W E : Type 0} (answers : F → Request → F → Type 0) (sends refuses : W → W → Type 0) (tells : E → List ℕ → E → Type 0)
+    (explain : Bool) (status : ℕ) (f g : F) (o r : Option (List ℕ)) (v w : W) (p q : E) where
   abbrev pub Each : List (Bor (List ℕ)) → Type 0
-  Each ns = (ChecksAll answers f g o r tells p q explain (map (λ s. s.now) ns) status × Sent)
-      ⊎ ((status ≡ 1) × Asks answers f g tells p q (BreaksOff explain (map (λ s. s.now) ns)))
+  Each ns = (ChecksAll answers f g o r tells p q explain (map (λ s. s.now) ns) status × IsSent sends w)
+      ⊎ ((status ≡ 1) × Asks answers f g refuses v w tells p q (BreaksOff explain (map (λ s. s.now) ns)))
 
   module _ (files : Vec (Bor (List ℕ)) Global) (ns : List (Bor (List ℕ))) (same : ns ≡ files.items) where
     answered_of : Each files.items → status ≢ 1 → Does answers f g o r (ChecksEach explain (map (λ s. s.now) files.items) status)
@@ -77,14 +87,16 @@ module _ {F E : Type 0} (answers : F → Request → F → Type 0) (tells : E �
     silent_of (inr stop) other = absurd (other stop.0)
 
     stopped_of : (words : List (List ℕ)) → IsCommand words (CheckEach files explain) → Each files.items → status ≡ 1
-        → Asks answers f g tells p q (IsStopped Stops words) ⊎ HasFaultyFile answers f g o r tells p q words
+        → Asks answers f g refuses v w tells p q (IsStopped Stops words) ⊎ HasFaultyFile answers f g o r sends w tells p q words
     stopped_of words entered (inl all) one = inr (record {
       files = files;
       explain = explain;
       entered = entered;
       checked = subst (λ (s : ℕ). ChecksAll answers f g o r tells p q explain (map (λ t. t.now) files.items) s) one all.0;
+      sent = all.1;
     })
-    stopped_of words entered (inr stop) one = inl (stopped_by Stops answers tells words (CheckEach files explain) entered f g p q stop.1)
+    stopped_of words entered (inr stop) one =
+        inl (stopped_by Stops answers refuses tells words (CheckEach files explain) entered f g v w p q stop.1)
 
     pub all_answered : Each ns → status ≢ 1 → Does answers f g o r (ChecksEach explain (map (λ s. s.now) files.items) status)
     all_answered each = answered_of (subst Each same each)
@@ -93,5 +105,5 @@ module _ {F E : Type 0} (answers : F → Request → F → Type 0) (tells : E �
     all_silent each = silent_of (subst Each same each)
 
     pub all_stopped : (words : List (List ℕ)) → IsCommand words (CheckEach files explain) → Each ns → status ≡ 1
-        → Asks answers f g tells p q (IsStopped Stops words) ⊎ HasFaultyFile answers f g o r tells p q words
+        → Asks answers f g refuses v w tells p q (IsStopped Stops words) ⊎ HasFaultyFile answers f g o r sends w tells p q words
     all_stopped words entered each = stopped_of words entered (subst Each same each)

@@ -8,7 +8,7 @@ use Rattle.runs.specs.Runs.{outcome_of}
 use Rattle.runs.specs.declared.ran.Ran.{Ran}
 use Rattle.image.specs.Texts.{image_fault_text}
 use Rattle.image.specs.Images.{IsImageFault}
-use Rattle.commands.specs.Requests.{Request}
+use Rattle.commands.specs.Requests.{IsSent, Request}
 use Rattle.commands.specs.OneFile.{AnswersFile, StopsFile}
 use Rattle.block_text.specs.Shown.{IsShown}
 use Rattle.check_command.specs.Command.{Checks, StopsCheck}
@@ -57,14 +57,14 @@ abbrev pub Shows : (source : List ℕ) → (status : ℕ) → List Request → L
 Shows source = AnswersFile (λ text page. IsFaultless text × IsPage page) PrintsPage (λ _. 0) source
 
 -- these where they ended by a fault
-abbrev pub StopsInterp : (source : List ℕ) → (depth steps : ℕ) → List Request → List ℕ → Type 0
+abbrev pub StopsInterp : (source : List ℕ) → (depth steps : ℕ) → (silent refused : Type 0) → List Request → List ℕ → Type 0
 StopsInterp source depth steps =
     StopsFile (λ text ran. IsRun text depth steps (outcome_of ran)) IsInterpFault interp_fault_text IsRefused source
 
-abbrev pub StopsList : (image : List ℕ) → (asm : Bool) → List Request → List ℕ → Type 0
+abbrev pub StopsList : (image : List ℕ) → (asm : Bool) → (silent refused : Type 0) → List Request → List ℕ → Type 0
 StopsList image asm = StopsFile (IsImagePage asm) IsImageFault image_fault_text IsRefused image
 
-abbrev pub StopsShow : (source : List ℕ) → List Request → List ℕ → Type 0
+abbrev pub StopsShow : (source : List ℕ) → (silent refused : Type 0) → List Request → List ℕ → Type 0
 StopsShow source = StopsFile (λ text page. IsFaultless text × IsPage page) IsStagesFault stages_fault_text IsRefused source
 
 -- a command that has its answer
@@ -79,14 +79,14 @@ Answers (Listing image asm) status requests printed = Lists image.now asm status
 Answers (Show source stage function dot) status requests printed = Shows source.now status requests printed
 
 -- a command that ended by a fault
-abbrev pub Stops : Command → List Request → List ℕ → Type 0
-Stops (Check file explain) requests told = StopsCheck file.now requests told
-Stops (CheckEach files explain) requests told = BreaksOff explain (map (λ s. s.now) files.items) requests told
-Stops (Interp source depth steps) requests told = StopsInterp source.now depth steps requests told
-Stops (Build b) requests told = StopsBuild b.source.now b.image.now b.depth b.plain requests told
-Stops (Run image steps) requests told = StopsRun image.now steps requests told
-Stops (Listing image asm) requests told = StopsList image.now asm requests told
-Stops (Show source stage function dot) requests told = StopsShow source.now requests told
+abbrev pub Stops : Command → (silent refused : Type 0) → List Request → List ℕ → Type 0
+Stops (Check file explain) silent refused requests told = StopsCheck file.now silent refused requests told
+Stops (CheckEach files explain) silent refused requests told = BreaksOff explain (map (λ s. s.now) files.items) silent refused requests told
+Stops (Interp source depth steps) silent refused requests told = StopsInterp source.now depth steps silent refused requests told
+Stops (Build b) silent refused requests told = StopsBuild b.source.now b.image.now b.depth b.plain silent refused requests told
+Stops (Run image steps) silent refused requests told = StopsRun image.now steps silent refused requests told
+Stops (Listing image asm) silent refused requests told = StopsList image.now asm silent refused requests told
+Stops (Show source stage function dot) silent refused requests told = StopsShow source.now silent refused requests told
 
 -- what a command tells beside its answer
 abbrev pub Remarks : Command → (status : ℕ) → List (List ℕ) → Type 0
@@ -94,10 +94,11 @@ Remarks (Interp source depth steps) status told = IsReason status told
 Remarks (Run image steps) status told = IsReason status told
 Remarks _ status told = told ≡ []
 
--- the program: its words ask for a check of several files, of which one had a fault, and all have their lines
-pub record HasFaultyFile {F E : Type 0} (answers : F → Request → F → Type 0) (old new : F) (out_old out_new : Option (List ℕ))
-    (tells : E → List ℕ → E → Type 0) (err_old err_new : E) (words : List (List ℕ)) : Type 0 where
+-- the program: its words ask for a check of several files, of which one had a fault, and all have their lines, which were sent on
+pub record HasFaultyFile {F W E : Type 0} (answers : F → Request → F → Type 0) (old new : F) (out_old out_new : Option (List ℕ))
+    (sends : W → W → Type 0) (out : W) (tells : E → List ℕ → E → Type 0) (err_old err_new : E) (words : List (List ℕ)) : Type 0 where
   pub files : Vec (Bor (List ℕ)) Global
   pub explain : Bool
   pub entered : IsCommand words (CheckEach files explain)
   pub checked : ChecksAll answers old new out_old out_new tells err_old err_new explain (map (λ s. s.now) files.items) 1
+  pub sent : IsSent sends out

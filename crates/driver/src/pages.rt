@@ -1,11 +1,11 @@
 // The commands whose answer is a page: text that is printed as it is, with nothing beside it.
 
-ghost use Rattle.std.specs.Prelude.{◌≡◌, ℕ, List, IfErr, IfOk, OnOk};
+ghost use Rattle.std.specs.Prelude.{◌≡◌, ℕ, List, IfErr, IfOk, OnErr, OnOk};
 ghost use Rattle.std.specs.Io.KnownBytes.{Appends};
 ghost use Rattle.std.specs.declared.alloc.Global.{Global};
 ghost use Rattle.std.specs.declared.vec.Vec.{Vec};
 ghost use Rattle.run_command.specs.Command.{IsRefused};
-ghost use Rattle.commands.specs.Requests.{IsNothing, IsSent, TellsLine};
+ghost use Rattle.commands.specs.Requests.{IsNothing, IsSent, TellsLine, WasRefused};
 ghost use Rattle.driver.specs.Program.{PrintsPage};
 
 use commands::{BadFile, Complaints, FileCommand, HostFault, Output};
@@ -38,9 +38,10 @@ pub(crate) trait PageCommand {
 /// Text that may be printed.
 fn print_page<W: Output>(out: &mut W, page: &[u8]) -> io::Result<()>
     ensures sent { OnOk result (IsSent W.sends out.new) }
+    ensures refused { OnErr result (WasRefused W.refuses out.new) }
     ensures page { OnOk result (Appends (W.contents out.old) (W.contents out.new) page.now) }
 {
-    out.write_all(page)?;
+    out.put_bytes(page)?;
     out.send()
 }
 

@@ -1,9 +1,9 @@
 // The whole program: its words, its files and its streams.
-ghost use Rattle.std.specs.Prelude.{◌≡◌, ◌≢◌, ◌≤◌, ◌⊎◌, map, true};
-ghost use Rattle.clap.specs.Words.{takes};
+ghost use Rattle.std.specs.Prelude.{◌≡◌, ◌≢◌, ◌≤◌, ◌⊎◌, [], map, true};
+ghost use Rattle.clap.specs.Words.{fault_of, takes};
 ghost use Rattle.command_line.specs.Commands.{mcc_app};
 ghost use Rattle.commands.specs.Requests.{Asks, Does, IsNothing, IsSent, TellsBeside, TellsLine};
-ghost use Rattle.command_line.specs.Programs.{IsAnswered, IsRemark, IsStopped};
+ghost use Rattle.command_line.specs.Programs.{EndsUntaken, HasMistake, IsAnswered, IsRemark, IsStopped};
 ghost use Rattle.check_command.specs.Command.{StopsCheck};
 ghost use Rattle.check_command.specs.Texts.{IsCheckStatus};
 ghost use Rattle.command_line.specs.declared.command.Command.TheVariants.{Check};
@@ -45,7 +45,7 @@ pub fn end_status(end: End) -> u8
     }
 }
 
-/// The line of a run's fault, and below it where it lies and what is said of it.
+/// Tells the line of a run's fault, and below it where it lies and what is said of it.
 pub fn tell_interp<E: Complaints>(
     alloc: Global,
     err: &mut E,
@@ -140,7 +140,8 @@ fn check_one<F: Files, W: Output, E: Complaints>(
     ensures possible { IsCheckStatus result }
     ensures sent { result ≢ 1 → IsSent W.sends out.new }
     ensures quiet { result ≢ 1 → err.new ≡ err.old }
-    ensures stopped { result ≡ 1 → Asks F.answers files.old files.new E.tells err.old err.new (StopsCheck file.now) }
+    ensures stopped { result ≡ 1 → Asks F.answers files.old files.new W.refuses out.old out.new E.tells err.old err.new
+        (StopsCheck file.now) }
 {
     if explain {
         answer_check(alloc, &ExplainedAnswer, file, files, out, err)
@@ -163,13 +164,14 @@ fn show_source<F: Files, W: Output, E: Complaints>(
     ensures most { result ≤ 1 }
     ensures sent { result ≢ 1 → IsSent W.sends out.new }
     ensures beside { result ≢ 1 → TellsBeside E.tells err.old IsNothing err.new }
-    ensures stopped { result ≡ 1 → Asks F.answers files.old files.new E.tells err.old err.new (StopsShow source.now) }
+    ensures stopped { result ≡ 1 → Asks F.answers files.old files.new W.refuses out.old out.new E.tells err.old err.new
+        (StopsShow source.now) }
 {
     let command = Paged(ShowCommand { asked });
     answer_file(alloc, &command, source, files, out, err)
 }
 
-/// The whole program over its words (the first is its name), its files and two writers; a build and a check of several files
+/// Does what the words ask for (the first is the program's name), over its files and two writers; a build and a check of several files
 /// start threads. The answer is the exit status: 0 for `same`, `done`, a build, a listing, stages and help, 1 for a fault, 2 for
 /// wrong words, 4 for `more`, 3 for any other answer; of several check texts the worst.
 pub fn mcc<T: Threads + Wait + Sync, F: Files, W: Output, E: Complaints>(
@@ -189,9 +191,14 @@ pub fn mcc<T: Threads + Wait + Sync, F: Files, W: Output, E: Complaints>(
     ensures quiet { takes mcc_app (map (λ s. s.now) args.entry.now) ≡ true → result ≢ 1
         → TellsBeside E.tells err.old (IsRemark Remarks (map (λ s. s.now) args.entry.now) result) err.new }
     ensures stopped { result ≡ 1
-        → Asks F.answers files.old files.new E.tells err.old err.new (IsStopped Stops (map (λ s. s.now) args.entry.now))
-        ⊎ HasFaultyFile F.answers files.old files.new (W.contents out.old) (W.contents out.new) E.tells err.old err.new
+        → Asks F.answers files.old files.new W.refuses out.old out.new E.tells err.old err.new
+        (IsStopped Stops (map (λ s. s.now) args.entry.now))
+        ⊎ HasFaultyFile F.answers files.old files.new (W.contents out.old) (W.contents out.new) W.sends out.new E.tells err.old err.new
         (map (λ s. s.now) args.entry.now) }
+    ensures wrong { result ≡ 2
+        → (files.new ≡ files.old) × (out.new ≡ out.old) × HasMistake (fault_of mcc_app (map (λ s. s.now) args.entry.now)) }
+    ensures untaken { fault_of mcc_app (map (λ s. s.now) args.entry.now) ≢ []
+        → (files.new ≡ files.old) × EndsUntaken (fault_of mcc_app (map (λ s. s.now) args.entry.now)) result }
 {
     match words(alloc, args) {
         Ok(Command::Check { file, explain }) => check_one(alloc, file, explain, files, out, err),

@@ -195,7 +195,7 @@ fn tell_asked<E: Complaints>(
     }
 }
 
-/// The fault's line, and below it what is known of it.
+/// Tells the fault's line, and below it what is known of it.
 pub fn tell_stages<E: Complaints>(
     alloc: Global,
     err: &mut E,

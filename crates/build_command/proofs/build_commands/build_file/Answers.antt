@@ -13,18 +13,18 @@ use Rattle.build_command.proofs.build_commands.build_file.Goals as goal
 pub returns-in-Err-clause-stopped : goal.returns-in-Err-clause-stopped
 returns-in-Err-clause-stopped g c = λ one.
     let fault = c.in-Err.ensures.asked.0 in
-    asks_once g.F.Files.answers g.E.Complaints.tells _ _ _ _ (NotRead c.args.asked.now.source.now fault)
+    asks_once g.F.Files.answers g.W.Output.refuses g.E.Complaints.tells _ _ _ _ _ _ (NotRead c.args.asked.now.source.now fault)
     (host_fault_text (reading_fault fault)) _ c.in-Err.ensures.asked.2
-    (told_as _ _ _ _ _ c.in-Err.ensures.asked.1 c.tell.ensures.told) (unread fault)
+    (told_as _ _ _ _ _ c.in-Err.ensures.asked.1 c.tell.ensures.told) (unread fault refl)
 
 pub returns-in-Err-built_as_asked-clause-stopped : goal.returns-in-Err-built_as_asked-clause-stopped
 returns-in-Err-built_as_asked-clause-stopped g c = λ one.
     let answers = g.F.Files.answers in
     let text = c.as_slice.result.now in
-    asks_once answers g.E.Complaints.tells _ _ _ _ (Read c.args.asked.now.source.now text)
+    asks_once answers g.W.Output.refuses g.E.Complaints.tells _ _ _ _ _ _ (Read c.args.asked.now.source.now text)
     (build_fault_text c.in-Err-built_as_asked.fault) _
     (read_as answers _ _ _ _ text c.as_slice.ensures.value c.in-Ok.ensures.asked) c.tell_build.ensures.told
-    (faulty text c.in-Err-built_as_asked.fault c.in-Err-built_as_asked.ensures.fault)
+    (faulty text c.in-Err-built_as_asked.fault c.in-Err-built_as_asked.ensures.fault refl)
 
 pub returns-in-Err-write_file-clause-stopped : goal.returns-in-Err-write_file-clause-stopped
 returns-in-Err-write_file-clause-stopped g c = λ one.
@@ -39,7 +39,7 @@ returns-in-Err-write_file-clause-stopped g c = λ one.
           (not_written_as answers _ _ _ _ built.image.items fault c.as_slice-2.ensures.value c.in-Err-write_file.ensures.asked.2);
       text = host_fault_text (writing_fault fault);
       told = told_as _ _ _ _ _ c.in-Err-write_file.ensures.asked.1 c.tell-in-Err-write_file.ensures.told;
-      means = unwritten text built c.in-Ok-built_as_asked.ensures.built fault;
+      means = unwritten text built c.in-Ok-built_as_asked.ensures.built fault refl;
     }
 
 pub returns-in-Ok-print_built-clause-answered : goal.returns-in-Ok-print_built-clause-answered
@@ -76,5 +76,5 @@ returns-clause-stopped g c = λ one.
           (written_as answers _ _ _ _ built.image.items c.as_slice-2.ensures.value c.in_default.ensures.asked);
       text = host_fault_text CannotWrite;
       told = c.tell-in-Err-print_built.ensures.told;
-      means = untold text built c.in-Ok-built_as_asked.ensures.built;
+      means = untold text built c.in-Ok-built_as_asked.ensures.built c.in-Err-print_built.ensures.refused;
     }
