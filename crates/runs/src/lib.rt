@@ -14,8 +14,8 @@
 //! - `word_at` and `element` read exactly what is there, and None where it isn't set or outside; `set_word` and `store` leave the
 //!   same with that one word written; an `Err` of `set_word` is refused memory, and leaves all as it was.
 //! - `Reached::end` is Some exactly where the run is over.
-//! - `enter` and `leave` put a call before those that are active and take it off again; `has_room` tells exactly whether fewer
-//!   than so many are active.
+//! - `enter` and `leave` put a call before those that are active and take it off again; an `Err` of `enter` is refused memory, and
+//!   leaves all as it was. `has_room` tells exactly whether fewer than so many are active.
 //! - `run_steps` is what so many steps come to, whatever each of them does (`IsRunBy`).
 #![tactic(auto)]
 
