@@ -7,8 +7,9 @@
 //!
 //! What is promised:
 //! - `validate` answers exactly `IsVerdict`: the least rule that is broken; else the first place that differs; else
-//!   `Same`; a block and an order have one decision (`one_verdict`). Full and NoMemory come only on a clean order, Full
-//!   only where the pass has linked all it may, and where memory is refused the pass is as it was. Whatever the
+//!   `Same`; a block and an order have one decision (`one_verdict`). Full and NoMemory come only on a clean order. Full
+//!   comes only where the pass has linked all it may and one of the terms that block and order ask for isn't in the table
+//!   (`block_asked`, `order_asked`), and where memory is refused the pass is as it was. Whatever the
 //!   verdict, the terms that were linked stay and the history is legal.
 //! - `Checked::order`: from every start state of words and with every link, where the block isn't stuck the order
 //!   isn't, and leaves equal registers, HI, LO, memory and exit (`means`). It is clean, has its block's trees, and its

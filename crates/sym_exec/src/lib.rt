@@ -7,8 +7,8 @@
 //!
 //! What is promised:
 //! - `run_block` and `run_order` answer the tickets of `block_trees` and `order_trees` (`StandsFor`). The memory for
-//!   guards and stores is taken first (`RunRoom`), so their only error is `TableFull`, which comes only where the pass
-//!   has linked all it may. The stores that memory is made of are kept in a list, so a load or a store walks them once,
+//!   guards and stores is taken first (`RunRoom`), so their only error is `TableFull`. It comes only where the pass has
+//!   linked all it may, and one of the trees that the code asks for (`specs/Asked.antt`) isn't in the table. The stores that memory is made of are kept in a list, so a load or a store walks them once,
 //!   without recursion, and terms of memory are made only where a load or the end needs them.
 #![tactic(auto)]
 
