@@ -1,6 +1,7 @@
 // How long a text of 1 MiB takes to be lowered, and its code to be selected, against one of 64 KiB, and what programs become.
 
 use crate::builds::DEPTH;
+use anyhow::bail;
 use c_front::read;
 use c_types::check;
 use mips_select::select;
@@ -102,9 +103,13 @@ fn outcome_of(rt: &HostRuntime, text: &[u8]) -> anyhow::Result<Outcome> {
     let start = Instant::now(rt)?;
     let typed = check(alloc, read(alloc, text)?)?;
     let front = start.elapsed(rt)?.as_micros();
-    let lowered = lower(alloc, &typed)?;
+    let Ok(lowered) = lower(alloc, &typed) else {
+        bail!("no RTL")
+    };
     let behind_lowering = start.elapsed(rt)?.as_micros();
-    let unit = select(alloc, &lowered, DEPTH)?;
+    let Ok(unit) = select(alloc, &lowered, DEPTH) else {
+        bail!("no unit")
+    };
     let behind_selection = start.elapsed(rt)?.as_micros();
     Ok(Outcome {
         sizes: measured(&lowered),

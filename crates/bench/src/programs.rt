@@ -1,5 +1,6 @@
 // How long C texts of some million steps run: three steps a turn, and four in the last.
 
+use anyhow::bail;
 use c_front::read;
 use c_run::run;
 use c_types::{Typed, check};
@@ -65,7 +66,9 @@ fn interpreted(rt: &HostRuntime, typed: &Typed) -> anyhow::Result<Figures> {
 
 /// The run of the program lowered to RTL.
 fn lowered(rt: &HostRuntime, typed: &Typed) -> anyhow::Result<Figures> {
-    let program = lower(rt.alloc(), typed)?;
+    let Ok(program) = lower(rt.alloc(), typed) else {
+        bail!("no RTL")
+    };
     let start = Instant::now(rt)?;
     let ran = rtl::run(rt.alloc(), &program, 2, u64::MAX)?;
     Ok(figures_of(&ran, start.elapsed(rt)?.as_micros()))

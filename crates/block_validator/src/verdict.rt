@@ -1,5 +1,5 @@
 //! The verdict on an order for a block, and the orders that were checked.
-ghost use Rattle.std.specs.Prelude.{◌≡◌, IfOk, MatchOption};
+ghost use Rattle.std.specs.Prelude.{◌≡◌, ◌++◌, IfOk, OnErr, MatchOption};
 ghost use Rattle.mblock.specs.Parts.{BlockParts, OrderParts};
 ghost use Rattle.mblock.specs.Clean.{IsClean};
 ghost use Rattle.mblock.specs.BlockMeaning.{exit_shape};
@@ -7,6 +7,7 @@ ghost use Rattle.term_table.specs.Passes.{IsOf, linked};
 ghost use Rattle.term_table.specs.Trees.{HasLegalHistory};
 ghost use Rattle.sym_exec.specs.Symbolic.{block_trees, order_trees};
 ghost use Rattle.sym_exec.specs.Standing.{Later, AfterInterns};
+ghost use Rattle.sym_exec.specs.Asked.{LacksOne, block_asked, order_asked};
 ghost use Rattle.mblock.specs.Orders.{Means};
 ghost use Rattle.block_validator.specs.Same.{SameTrees, DiffersFirst, EachCheckedOrderMeansItsBlock};
 ghost use Rattle.block_validator.specs.Verdicts.{IsVerdict, OneDecision};
@@ -104,6 +105,7 @@ fn compare(
     requires table { IsOf table.now pass.old }
     ensures exact { IfOk result (λ r. MatchOption r (SameTrees (block_trees block.now) (order_trees order.now))
         (DiffersFirst (block_trees block.now) (order_trees order.now))) }
+    ensures absent { OnErr result (LacksOne pass.new (block_asked block.now ++ order_asked order.now)) }
     ensures pass { AfterInterns table.now pass.old result pass.new }
     ensures legal { HasLegalHistory pass.new }
 {
@@ -136,8 +138,8 @@ fn verdict_of<'a>(
 /// terms differ, else that it means the block.
 ///
 /// Memory is taken before any term is linked: where it is refused, the pass is as it was. `Full` comes only
-/// where the pass has linked as many terms as it may. Whatever the verdict, the terms that were linked stay,
-/// and the pass is the table's.
+/// where the pass has linked as many terms as it may, and one of those that block and order ask for isn't in
+/// the table. Whatever the verdict, the terms that were linked stay, and the pass is the table's.
 pub fn validate<'a>(
     alloc: Global,
     table: &TermTable,
@@ -151,6 +153,7 @@ pub fn validate<'a>(
     ensures later { Later pass.old pass.new }
     ensures legal { HasLegalHistory pass.new }
     ensures full { result ≡ Verdict.Full → linked pass.new ≡ pass.new.nodes }
+    ensures absent { result ≡ Verdict.Full → LacksOne pass.new (block_asked block.now ++ order_asked order) }
     ensures memory { result ≡ Verdict.NoMemory → pass.new ≡ pass.old }
 {
     // Tells the check that the history is legal, for the verdicts before the first term.

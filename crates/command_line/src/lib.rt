@@ -2,7 +2,8 @@
 //!
 //! Definitions: `specs/Commands.antt`, `specs/Programs.antt`.
 //! Proved: If `words` is Ok, files and numbers are those of clap's matches of the arguments, in their ranges.
-//! Contract: `words`
+//! An error is of the first kind that clap's grammar has for them.
+//! Contract: `words`, `some_words_are_taken`, `words_have_their_faults`
 #![tactic(auto)]
 
 mod command;

@@ -3,16 +3,13 @@ ghost use Rattle.std.specs.Prelude.{◌≡◌};
 ghost use Rattle.mips_asm.specs.declared.fault.AsmFault.TheVariants as faults;
 
 use std::alloc::{AllocError, AllocFailed};
-use thiserror::Error;
 
 /// Why there is no code.
-#[derive(Clone, Copy, Debug, PartialEq, Eq, Error)]
+#[derive(Clone, Copy, Debug, PartialEq, Eq)]
 pub enum AsmFault {
     /// A function has more than 32,000 words, or the code more than 1,048,576.
-    #[error("fault 20 Limit")]
     Limit,
     /// Memory was refused.
-    #[error("fault 30 NoMemory")]
     NoMemory,
 }
 

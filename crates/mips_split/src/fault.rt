@@ -1,15 +1,12 @@
 // Why there is no unit: a limit, or memory.
 use std::alloc::AllocError;
-use thiserror::Error;
 
 /// Why a program has no unit.
-#[derive(Clone, Copy, Debug, PartialEq, Eq, Error)]
+#[derive(Clone, Copy, Debug, PartialEq, Eq)]
 pub enum SelectFault {
     /// 20: more than 1,048,576 blocks, a frame beyond 32,000 bytes, or more frames than the stack has room for.
-    #[error("fault 20 Limit")]
     Limit,
     /// 30: memory was refused.
-    #[error("fault 30 NoMemory")]
     NoMemory,
 }
 

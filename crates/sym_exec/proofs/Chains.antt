@@ -66,7 +66,7 @@ leads-join p t (s ∷ rest) ys u v h k = (h.0, h.1, leads-join p h.0 rest ys u v
 pub memory-join : (p : PassState) (u v : Tree) (xs ys : List Stored) → MakeMemory p xs u → LeadsTo p u ys v → MakeMemory p (xs ++ ys) v
 memory-join p u v xs ys h k = leads-join p (leaf Mem0) xs ys u v h k
 
-leads-split : (p : PassState) (t : Tree) (xs ys : List Stored) (v : Tree) → LeadsTo p t (xs ++ ys) v → (u : Tree) × LeadsTo p t xs u × LeadsTo p u ys v
+pub leads-split : (p : PassState) (t : Tree) (xs ys : List Stored) (v : Tree) → LeadsTo p t (xs ++ ys) v → (u : Tree) × LeadsTo p t xs u × LeadsTo p u ys v
 leads-split p t [] ys v h = (t, refl, h)
 leads-split p t (s ∷ rest) ys v h =
     let l = leads-split p h.0 rest ys v h.2 in

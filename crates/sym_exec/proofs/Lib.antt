@@ -4,3 +4,5 @@ pub mod Chains
 mod Tracking
 pub mod Values
 pub mod MipsTerms
+pub mod Parts
+pub mod Asked

@@ -1,4 +1,5 @@
 pub mod Symbolic
+pub mod Asked
 pub mod Standing
 pub mod Stores
 pub mod MipsTerms

@@ -15,6 +15,10 @@ HaveTrees = terms.HaveTerms label_coding
 abbrev pub HasSeen : PassState → ℕ → Type 0
 HasSeen = terms.HasSeenTerm label_coding
 
+-- no ticket has the tree in what the pass has seen
+abbrev pub Lacks : PassState → Tree → Type 0
+Lacks = terms.LacksTerm label_coding
+
 abbrev pub IsNode : PassState → Label → List ℕ → Tree → Type 0
 IsNode = terms.IsTermNode label_coding
 

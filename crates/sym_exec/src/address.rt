@@ -1,9 +1,9 @@
 //! Addresses by tickets: the constant that a term is, and the base and the constant of a sum.
-ghost use Rattle.std.specs.Prelude.{◌≡◌, IfOk, IfSome, IfNone};
+ghost use Rattle.std.specs.Prelude.{◌≡◌, IfOk, OnErr, IfSome, IfNone};
 ghost use Rattle.sym_terms.specs.Trees.{Tree};
 ghost use Rattle.sym_terms.specs.NormalForms.{label_constant, constant_of, is_sum, at_base, address_of, tree_plus};
 ghost use Rattle.term_table.specs.Trees.{HasLegalHistory};
-ghost use Rattle.sym_exec.specs.MipsTerms.{HasSeen, HasTree};
+ghost use Rattle.sym_exec.specs.MipsTerms.{HasSeen, HasTree, Lacks};
 ghost use Rattle.sym_exec.specs.Standing.{IsAddress, AreSummands};
 ghost use Rattle.sym_exec.specs.Interners.{GoesOn, Interns};
 
@@ -101,6 +101,7 @@ pub(crate) fn plus_term(
     requires { HasSeen terms.old.pass.now base }
     ensures seen { IfOk result (λ t. HasSeen terms.new.pass.now t) }
     ensures tree { (x : Tree) → HasTree terms.old.pass.now base x → IfOk result (λ t. HasTree terms.new.pass.now t (tree_plus x offset)) }
+    ensures absent { (x : Tree) → HasTree terms.old.pass.now base x → OnErr result (Lacks terms.new.pass.now (tree_plus x offset)) }
     ensures pass { Interns terms.old result terms.new }
 {
     if offset == 0 {

@@ -14,10 +14,10 @@ pub(crate) struct Interner<'t> {
 }
 
 impl<'t> Interner<'t> {
-    ghost use Rattle.std.specs.Prelude.{◌≡◌, IfOk};
+    ghost use Rattle.std.specs.Prelude.{◌≡◌, IfOk, OnErr};
     ghost use Rattle.sym_terms.specs.Trees.{Tree, leaf, binary, ternary};
     ghost use Rattle.term_table.specs.Trees.{HasLegalHistory};
-    ghost use Rattle.sym_exec.specs.MipsTerms.{HasSeen, HasTree, HaveSeen, IsNode};
+    ghost use Rattle.sym_exec.specs.MipsTerms.{HasSeen, HasTree, HaveSeen, IsNode, Lacks};
     ghost use Rattle.sym_exec.specs.Interners.{GoesOn, Interns};
 
     pub(crate) fn new(table: &'t TermTable, pass: &'t mut Pass) -> Interner<'t>
@@ -31,6 +31,7 @@ impl<'t> Interner<'t> {
     /// The term of a label without children.
     pub(crate) fn leaf(&mut self, label: Label) -> Result<Ticket, TableFull>
         ensures tree { IfOk result (λ t. HasTree self.new.pass.now t (leaf label)) }
+        ensures absent { OnErr result (Lacks self.new.pass.now (leaf label)) }
         ensures legal { HasLegalHistory self.new.pass.now }
         ensures pass { Interns self.old result self.new }
     {
@@ -44,6 +45,8 @@ impl<'t> Interner<'t> {
         ensures seen { IfOk result (λ t. HasSeen self.new.pass.now t) }
         ensures tree { (x y : Tree) → HasTree self.old.pass.now a x → HasTree self.old.pass.now b y
             → IfOk result (λ t. HasTree self.new.pass.now t (binary label x y)) }
+        ensures absent { (x y : Tree) → HasTree self.old.pass.now a x → HasTree self.old.pass.now b y
+            → OnErr result (Lacks self.new.pass.now (binary label x y)) }
         ensures pass { Interns self.old result self.new }
     {
         let interned = self.table.intern(self.pass, label, &[a, b])?;
@@ -63,6 +66,8 @@ impl<'t> Interner<'t> {
         ensures seen { IfOk result (λ t. HasSeen self.new.pass.now t) }
         ensures tree { (x y z : Tree) → HasTree self.old.pass.now a x → HasTree self.old.pass.now b y → HasTree self.old.pass.now c z
             → IfOk result (λ t. HasTree self.new.pass.now t (ternary label x y z)) }
+        ensures absent { (x y z : Tree) → HasTree self.old.pass.now a x → HasTree self.old.pass.now b y → HasTree self.old.pass.now c z
+            → OnErr result (Lacks self.new.pass.now (ternary label x y z)) }
         ensures pass { Interns self.old result self.new }
     {
         let interned = self.table.intern(self.pass, label, &[a, b, c])?;

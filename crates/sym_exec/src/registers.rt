@@ -1,9 +1,10 @@
 //! The terms of registers, HI and LO, and what one action does to them, done to their tickets.
-ghost use Rattle.std.specs.Prelude.{◌≡◌, ℕ, ◌<◌, ◌+◌, OnOk, IfOk, slice_index, vec_len};
+ghost use Rattle.std.specs.Prelude.{◌≡◌, ℕ, ◌<◌, ◌+◌, ◌∷◌, [], OnOk, OnErr, IfOk, slice_index, vec_len};
 ghost use Rattle.mips_isa.specs.declared.action.Action.TheVariants.{Computes, Loads, Stores};
 ghost use Rattle.mips_isa.specs.States.{put};
 ghost use Rattle.sym_terms.specs.Trees.{Tree, leaf};
-ghost use Rattle.sym_exec.specs.MipsTerms.{HasSeen, HasTree};
+ghost use Rattle.sym_exec.specs.MipsTerms.{HasSeen, HasTree, Lacks};
+ghost use Rattle.sym_exec.specs.Asked.{asked_by, LacksOne};
 ghost use Rattle.sym_exec.specs.Symbolic.{TreeState, register_tree, operand_tree, address_tree, trees_after};
 ghost use Rattle.sym_exec.specs.Standing.{Known, Hold, with_reg, with_halves};
 ghost use Rattle.sym_exec.specs.Interners.{Interns};
@@ -34,9 +35,10 @@ pub(crate) struct TermRegisters {
 }
 
 impl TermRegisters {
-    ghost use Rattle.std.specs.Prelude.{◌≡◌, ℕ, ◌<◌, ◌≤◌, ◌+◌, OnOk, IfOk, slice_index, length, vec_len};
+    ghost use Rattle.std.specs.Prelude.{◌≡◌, ℕ, ◌<◌, ◌≤◌, ◌+◌, ◌∷◌, [], OnOk, OnErr, IfOk, slice_index, length, vec_len};
     ghost use Rattle.mblock.specs.declared.limits.TheConstants.{ORDER_INSTS};
-    ghost use Rattle.sym_exec.specs.MipsTerms.{HasTree};
+    ghost use Rattle.sym_exec.specs.MipsTerms.{HasTree, Lacks};
+    ghost use Rattle.sym_exec.specs.Asked.{asked_by, LacksOne};
     ghost use Rattle.sym_exec.specs.Standing.{Known, Hold, with_reg, with_halves};
     ghost use Rattle.sym_exec.specs.Interners.{Interns};
     ghost use Rattle.sym_exec.specs.Stores.{MakeMemory, IsChain, HasStoreRoom};
@@ -65,6 +67,8 @@ impl TermRegisters {
         ensures seen { IfOk result (λ x. HasSeen terms.new.pass.now x) }
         ensures tree { (t : TreeState) → Hold terms.old.pass.now self.now t
             → IfOk result (λ x. HasTree terms.new.pass.now x (operand_tree t operand.now)) }
+        ensures absent { (t : TreeState) → Hold terms.old.pass.now self.now t
+            → OnErr result (Lacks terms.new.pass.now (operand_tree t operand.now)) }
         ensures pass { Interns terms.old result terms.new }
     {
         match *operand {
@@ -78,6 +82,8 @@ impl TermRegisters {
         ensures seen { IfOk result (λ x. HasSeen terms.new.pass.now x) }
         ensures tree { (t : TreeState) → Hold terms.old.pass.now self.now t
             → IfOk result (λ x. HasTree terms.new.pass.now x (address_tree t base offset)) }
+        ensures absent { (t : TreeState) → Hold terms.old.pass.now self.now t
+            → OnErr result (Lacks terms.new.pass.now (address_tree t base offset)) }
         ensures pass { Interns terms.old result terms.new }
     {
         let at = address_at(terms, self.get(base));
@@ -96,6 +102,8 @@ impl TermRegisters {
         ensures known { OnOk result (Known terms.new.pass.now self.new) }
         ensures hold { (t : TreeState) → Hold terms.old.pass.now self.old t
             → OnOk result (Hold terms.new.pass.now self.new (trees_after (Computes d op a b.now) t)) }
+        ensures absent { (t : TreeState) → Hold terms.old.pass.now self.old t
+            → OnErr result (LacksOne terms.new.pass.now (asked_by (Computes d op a b.now) t)) }
         ensures pass { Interns terms.old result terms.new }
     {
         let y = self.operand(terms, b)?;
@@ -115,6 +123,7 @@ impl TermRegisters {
         ensures known { OnOk result (Known terms.new.pass.now self.new) }
         ensures hold { (t : TreeState) → Hold terms.old.pass.now self.old t
             → OnOk result (Hold terms.new.pass.now self.new (record t { regs = put t.regs d (leaf label) })) }
+        ensures absent { OnErr result (Lacks terms.new.pass.now (leaf label)) }
         ensures pass { Interns terms.old result terms.new }
     {
         let value = terms.leaf(label)?;
@@ -139,6 +148,9 @@ impl TermRegisters {
             → OnOk result (Hold terms.new.pass.now self.new (trees_after (Loads access.width d access.base access.offset) t)) }
         ensures address { (t : TreeState) → Hold terms.old.pass.now self.old t
             → IfOk result (λ x. HasTree terms.new.pass.now x (address_tree t access.base access.offset)) }
+        ensures absent { (t : TreeState) → Hold terms.old.pass.now self.old t
+            → MakeMemory terms.old.pass.now chain.old.stores.items t.memory
+            → OnErr result (LacksOne terms.new.pass.now (asked_by (Loads access.width d access.base access.offset) t)) }
         ensures chain { OnOk result (IsChain terms.new.pass.now chain.new) }
         ensures stores { OnOk result (chain.new.stores ≡ chain.old.stores) }
         ensures room { OnOk result (HasStoreRoom chain.new) }
@@ -169,6 +181,8 @@ impl TermRegisters {
             (trees_after (Stores access.width r access.base access.offset) t).memory) }
         ensures address { (t : TreeState) → Hold terms.old.pass.now self.now t
             → IfOk result (λ x. HasTree terms.new.pass.now x (address_tree t access.base access.offset)) }
+        ensures absent { (t : TreeState) → Hold terms.old.pass.now self.now t
+            → OnErr result (Lacks terms.new.pass.now (address_tree t access.base access.offset)) }
         ensures chain { OnOk result (IsChain terms.new.pass.now chain.new) }
         ensures room { OnOk result (HasStoreRoom chain.new) }
         ensures count { OnOk result (vec_len chain.new.stores ≡ vec_len chain.old.stores + 1) }
@@ -200,6 +214,8 @@ impl TermRegisters {
         ensures known { OnOk result (Known terms.new.pass.now self.new) }
         ensures hold { (t : TreeState) → Hold terms.old.pass.now self.old t
             → OnOk result (Hold terms.new.pass.now self.new (with_halves high low a b t)) }
+        ensures absent { (t : TreeState) → Hold terms.old.pass.now self.old t
+            → OnErr result (LacksOne terms.new.pass.now ((with_halves high low a b t).hi ∷ (with_halves high low a b t).lo ∷ [])) }
         ensures pass { Interns terms.old result terms.new }
     {
         let (x, y) = (self.get(a), self.get(b));

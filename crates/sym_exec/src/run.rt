@@ -1,5 +1,5 @@
 //! Blocks and orders, instruction by instruction.
-ghost use Rattle.std.specs.Prelude.{◌≡◌, ℕ, ◌+◌, ◌<◌, ◌≤◌, OnOk, IfOk, map, length, vec_len};
+ghost use Rattle.std.specs.Prelude.{◌≡◌, ℕ, ◌+◌, ◌<◌, ◌≤◌, OnOk, OnErr, IfOk, map, length, vec_len};
 ghost use Rattle.mips_isa.specs.declared.action.Action.{Action as AnAction};
 ghost use Rattle.mips_isa.specs.Actions.{action_of};
 ghost use Rattle.mblock.specs.BlockMeaning.{exit_shape};
@@ -10,7 +10,9 @@ ghost use Rattle.sym_terms.specs.declared.label.Label.TheVariants.{Init};
 ghost use Rattle.sym_terms.specs.Trees.{leaf};
 ghost use Rattle.term_table.specs.Passes.{PassState, IsOf};
 ghost use Rattle.term_table.specs.Trees.{HasLegalHistory};
-ghost use Rattle.sym_exec.specs.MipsTerms.{HasTree};
+ghost use Rattle.sym_exec.specs.MipsTerms.{HasTree, Lacks};
+ghost use Rattle.sym_exec.specs.Asked.{asked_by, asked_by_all, asked_first, asked_by_shape, code_asked};
+ghost use Rattle.sym_exec.specs.Asked.{block_asked, order_asked, LacksOne};
 ghost use Rattle.sym_exec.specs.Symbolic.{TreeState, GuardTree, start_trees, trees_after, all_trees, exit_trees, exit_operands, code_trees};
 ghost use Rattle.sym_exec.specs.Symbolic.{block_trees, order_trees};
 ghost use Rattle.sym_exec.specs.Standing.{AfterInterns, Known, Hold, LeavesBy, StandsFor};
@@ -59,6 +61,8 @@ fn step(
     ensures chain { OnOk result (IsChain terms.new.pass.now lists.new.chain) }
     ensures tracks { (t : TreeState) → Tracks terms.old.pass.now registers.old lists.old t
         → OnOk result (Tracks terms.new.pass.now registers.new lists.new (trees_after action.now t)) }
+    ensures absent { (t : TreeState) → Tracks terms.old.pass.now registers.old lists.old t
+        → OnErr result (LacksOne terms.new.pass.now (asked_by action.now t)) }
     ensures pass { Interns terms.old result terms.new }
     ensures room { OnOk result (HasRoom lists.new) }
     ensures count { OnOk result (vec_len lists.new.guards ≤ vec_len lists.old.guards + 1) }
@@ -141,6 +145,8 @@ fn steps(
     ensures chain { OnOk result (IsChain terms.new.pass.now lists.new.chain) }
     ensures tracks { (t : TreeState) → Tracks terms.old.pass.now registers.old lists.old t
         → OnOk result (Tracks terms.new.pass.now registers.new lists.new (all_trees (map action_of insts.now) t)) }
+    ensures absent { (t : TreeState) → Tracks terms.old.pass.now registers.old lists.old t
+        → OnErr result (LacksOne terms.new.pass.now (asked_by_all (map action_of insts.now) t)) }
     ensures pass { Interns terms.old result terms.new }
     ensures room { OnOk result (HasRoom lists.new) }
     ensures count { OnOk result (vec_len lists.new.guards ≤ vec_len lists.old.guards + length insts.now) }
@@ -156,6 +162,7 @@ fn start_reg(terms: &mut Interner, r: u8) -> Result<Ticket, TableFull>
     requires nonzero { 0 < r }
     requires low { r < 32 }
     ensures tree { IfOk result (λ t. HasTree terms.new.pass.now t (leaf (Init (Register r)))) }
+    ensures absent { OnErr result (Lacks terms.new.pass.now (leaf (Init (Register r)))) }
     ensures legal { HasLegalHistory terms.new.pass.now }
     ensures pass { Interns terms.old result terms.new }
 {
@@ -169,6 +176,7 @@ fn start_reg(terms: &mut Interner, r: u8) -> Result<Ticket, TableFull>
 fn start_registers(terms: &mut Interner) -> Result<TermRegisters, TableFull>
     ensures known { IfOk result (Known terms.new.pass.now) }
     ensures hold { IfOk result (λ s. Hold terms.new.pass.now s start_trees) }
+    ensures absent { OnErr result (LacksOne terms.new.pass.now asked_first) }
     ensures legal { HasLegalHistory terms.new.pass.now }
     ensures pass { Interns terms.old result terms.new }
 {
@@ -191,6 +199,7 @@ fn start(terms: &mut Interner, lists: &mut RunLists) -> Result<TermRegisters, Ta
     ensures room { HasRoom lists.new }
     ensures none { vec_len lists.new.guards ≡ 0 }
     ensures tracks { IfOk result (λ s. Tracks terms.new.pass.now s lists.new start_trees) }
+    ensures absent { OnErr result (LacksOne terms.new.pass.now asked_first) }
     ensures legal { HasLegalHistory terms.new.pass.now }
     ensures pass { Interns terms.old result terms.new }
 {
@@ -251,6 +260,7 @@ fn put_own(
     ensures known { OnOk result (Known terms.new.pass.now registers.new) }
     ensures hold { (t : TreeState) → Hold terms.old.pass.now registers.old t
         → OnOk result (Hold terms.new.pass.now registers.new (exit_trees exit.now t)) }
+    ensures absent { OnErr result (LacksOne terms.new.pass.now (asked_by_shape (exit_shape exit.now))) }
     ensures pass { Interns terms.old result terms.new }
 {
     match *exit {
@@ -280,6 +290,8 @@ fn run_slot(
     ensures count { OnOk result (vec_len lists.new.guards ≤ vec_len lists.old.guards + 1) }
     ensures tracks { (t : TreeState) → Tracks terms.old.pass.now registers.old lists.old t
         → OnOk result (Tracks terms.new.pass.now registers.new lists.new (all_trees (slot_actions slot.now) t)) }
+    ensures absent { (t : TreeState) → Tracks terms.old.pass.now registers.old lists.old t
+        → OnErr result (LacksOne terms.new.pass.now (asked_by_all (slot_actions slot.now) t)) }
     ensures pass { Interns terms.old result terms.new }
 {
     match slot {
@@ -300,6 +312,7 @@ fn run_code(
     requires few { length insts.now ≤ ORDER_INSTS }
     ensures trees { IfOk result (λ s. StandsFor terms.new.pass.now s.places s.exit s.guards.items
         (code_trees (map action_of insts.now) exit.now (slot_actions slot.now))) }
+    ensures absent { OnErr result (LacksOne terms.new.pass.now (code_asked (map action_of insts.now) exit.now (slot_actions slot.now))) }
     ensures legal { HasLegalHistory terms.new.pass.now }
     ensures pass { Interns terms.old result terms.new }
 {
@@ -324,8 +337,8 @@ fn run_code(
 
 /// The tickets of what a block leaves: those of its trees. The guards and stores go into `room`, so nothing is allocated.
 ///
-/// `TableFull` comes only where the pass has linked as many terms as it may. The terms that were linked
-/// stay.
+/// `TableFull` comes only where the pass has linked as many terms as it may, and one of those that the block asks for isn't
+/// in the table. The terms that were linked stay.
 pub fn run_block(
     table: &TermTable,
     pass: &mut Pass,
@@ -334,6 +347,7 @@ pub fn run_block(
 ) -> Result<SymState, TableFull>
     requires table { IsOf table.now pass.old }
     ensures trees { IfOk result (λ s. StandsFor pass.new s.places s.exit s.guards.items (block_trees block.now)) }
+    ensures absent { OnErr result (LacksOne pass.new (block_asked block.now)) }
     ensures legal { HasLegalHistory pass.new }
     ensures pass { AfterInterns table.now pass.old result pass.new }
 {
@@ -356,6 +370,7 @@ pub fn run_order(
 ) -> Result<SymState, TableFull>
     requires table { IsOf table.now pass.old }
     ensures trees { IfOk result (λ s. StandsFor pass.new s.places s.exit s.guards.items (order_trees order.now)) }
+    ensures absent { OnErr result (LacksOne pass.new (order_asked order.now)) }
     ensures legal { HasLegalHistory pass.new }
     ensures pass { AfterInterns table.now pass.old result pass.new }
 {

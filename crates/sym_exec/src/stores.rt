@@ -1,13 +1,13 @@
 //! The stores that a run's memory is made of. They are kept in the order of the term of memory, so that a load finds the
 //! memory that it sees, and a store its place among them, by one walk from the last store inward. Terms of memory are made
 //! where a load or the end of the run needs them: a store that goes inside others makes none of theirs anew.
-ghost use Rattle.std.specs.Prelude.{◌≡◌, ℕ, ◌<◌, ◌≤◌, ◌+◌, ◌&&◌, [], IfOk, length, take, drop, vec_len};
+ghost use Rattle.std.specs.Prelude.{◌≡◌, ℕ, ◌<◌, ◌≤◌, ◌+◌, ◌&&◌, [], IfOk, OnErr, length, take, drop, vec_len};
 ghost use Rattle.mblock.specs.declared.limits.TheConstants.{ORDER_INSTS};
 ghost use Rattle.sym_terms.specs.declared.label.Label.TheVariants.{Load, Store};
 ghost use Rattle.sym_terms.specs.Trees.{Tree, binary, ternary};
 ghost use Rattle.sym_terms.specs.NormalForms.{address_of, are_disjoint, load_tree, store_tree};
 ghost use Rattle.term_table.specs.Passes.{PassState};
-ghost use Rattle.sym_exec.specs.MipsTerms.{HasSeen, HasTree};
+ghost use Rattle.sym_exec.specs.MipsTerms.{HasSeen, HasTree, Lacks};
 ghost use Rattle.term_table.specs.Trees.{HasLegalHistory};
 ghost use Rattle.sym_exec.specs.Standing.{IsAddress};
 ghost use Rattle.sym_exec.specs.Interners.{Interns};
@@ -113,12 +113,12 @@ fn stores_inside(stores: &[Stored], width: Width, at: &TermAddress) -> usize
 }
 
 impl StoreChain {
-    ghost use Rattle.std.specs.Prelude.{◌≡◌, ℕ, ◌<◌, ◌≤◌, ◌+◌, IfOk, take, vec_len};
+    ghost use Rattle.std.specs.Prelude.{◌≡◌, ℕ, ◌<◌, ◌≤◌, ◌+◌, IfOk, OnErr, take, vec_len};
     ghost use Rattle.mblock.specs.declared.limits.TheConstants.{ORDER_INSTS};
     ghost use Rattle.sym_terms.specs.Trees.{Tree};
     ghost use Rattle.sym_terms.specs.NormalForms.{address_of, load_tree, store_tree};
     ghost use Rattle.term_table.specs.Passes.{PassState};
-    ghost use Rattle.sym_exec.specs.MipsTerms.{HasSeen, HasTree};
+    ghost use Rattle.sym_exec.specs.MipsTerms.{HasSeen, HasTree, Lacks};
     ghost use Rattle.term_table.specs.Trees.{HasLegalHistory};
     ghost use Rattle.sym_exec.specs.Standing.{IsAddress};
     ghost use Rattle.sym_exec.specs.Interners.{Interns};
@@ -135,6 +135,8 @@ impl StoreChain {
         ensures room { HasStoreRoom self.new }
         ensures tree { (t : Tree) → MakeMemory terms.old.pass.now (take count self.old.stores.items) t
             → IfOk result (λ k. HasTree terms.new.pass.now k t) }
+        ensures absent { (t : Tree) → MakeMemory terms.old.pass.now (take count self.old.stores.items) t
+            → OnErr result (Lacks terms.new.pass.now t) }
         ensures pass { Interns terms.old result terms.new }
     {
         while self.memories.len() <= count {
@@ -155,6 +157,8 @@ impl StoreChain {
         requires few { vec_len self.old.stores ≤ ORDER_INSTS + 1 }
         ensures tree { (t : Tree) → MakeMemory terms.old.pass.now self.old.stores.items t
             → IfOk result (λ k. HasTree terms.new.pass.now k t) }
+        ensures absent { (t : Tree) → MakeMemory terms.old.pass.now self.old.stores.items t
+            → OnErr result (Lacks terms.new.pass.now t) }
         ensures pass { Interns terms.old result terms.new }
     {
         let count = self.stores.len();
@@ -181,6 +185,8 @@ impl StoreChain {
         ensures seen { IfOk result (λ t. HasSeen terms.new.pass.now t) }
         ensures tree { (m b : Tree) → MakeMemory terms.old.pass.now self.old.stores.items m → HasTree terms.old.pass.now address b
             → IfOk result (λ t. HasTree terms.new.pass.now t (load_tree width m b)) }
+        ensures absent { (m b : Tree) → MakeMemory terms.old.pass.now self.old.stores.items m → HasTree terms.old.pass.now address b
+            → OnErr result (Lacks terms.new.pass.now (load_tree width m b)) }
         ensures pass { Interns terms.old result terms.new }
     {
         let count = stores_seen(self.stores.as_slice(), width, at);

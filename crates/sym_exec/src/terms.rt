@@ -1,8 +1,8 @@
 //! Terms of operations.
-ghost use Rattle.std.specs.Prelude.{◌≡◌, IfOk};
+ghost use Rattle.std.specs.Prelude.{◌≡◌, IfOk, OnErr};
 ghost use Rattle.sym_terms.specs.Trees.{Tree};
 ghost use Rattle.sym_terms.specs.NormalForms.{constant_of, is_addition, sum_tree, op_tree};
-ghost use Rattle.sym_exec.specs.MipsTerms.{HasSeen, HasTree};
+ghost use Rattle.sym_exec.specs.MipsTerms.{HasSeen, HasTree, Lacks};
 ghost use Rattle.sym_exec.specs.Interners.{Interns};
 
 use crate::address::{address_at, constant_at, plus_term};
@@ -27,6 +27,8 @@ fn sum_term(terms: &mut Interner, a: Ticket, b: Ticket) -> Result<Ticket, TableF
     ensures seen { IfOk result (λ t. HasSeen terms.new.pass.now t) }
     ensures tree { (x y : Tree) → HasTree terms.old.pass.now a x → HasTree terms.old.pass.now b y
         → IfOk result (λ t. HasTree terms.new.pass.now t (sum_tree x y (constant_of y))) }
+    ensures absent { (x y : Tree) → HasTree terms.old.pass.now a x → HasTree terms.old.pass.now b y
+        → OnErr result (Lacks terms.new.pass.now (sum_tree x y (constant_of y))) }
     ensures pass { Interns terms.old result terms.new }
 {
     match constant_at(terms, b) {
@@ -50,6 +52,8 @@ pub(crate) fn op_term(
     ensures seen { IfOk result (λ t. HasSeen terms.new.pass.now t) }
     ensures tree { (x y : Tree) → HasTree terms.old.pass.now a x → HasTree terms.old.pass.now b y
         → IfOk result (λ t. HasTree terms.new.pass.now t (op_tree op x y)) }
+    ensures absent { (x y : Tree) → HasTree terms.old.pass.now a x → HasTree terms.old.pass.now b y
+        → OnErr result (Lacks terms.new.pass.now (op_tree op x y)) }
     ensures pass { Interns terms.old result terms.new }
 {
     if is_addition(op) {

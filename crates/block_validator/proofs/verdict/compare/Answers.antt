@@ -2,6 +2,8 @@ use Rattle.std.proofs.Common.{rules}
 use Rattle.sym_exec.specs.Symbolic.{block_trees, order_trees}
 use Rattle.sym_exec.proofs.Tickets.{later_more, stands_for_on}
 use Rattle.block_validator.proofs.Comparing.{by_trees}
+use Rattle.sym_exec.specs.Asked.{block_asked, order_asked}
+use Rattle.sym_exec.proofs.Asked.{err_always, lacks_left, lacks_right}
 use Rattle.block_validator.proofs.verdict.compare.Goals as goal
 
 pub returns-clause-exact : goal.returns-clause-exact
@@ -24,3 +26,9 @@ returns-in_err-second-clause-pass c = record {
   later = later_more c.in_ok-first.ensures.pass.later c.in_err-second.ensures.pass.later;
   full = search rules;
 }
+
+pub returns-in_err-first-clause-absent : goal.returns-in_err-first-clause-absent
+returns-in_err-first-clause-absent c = err_always _ (lacks_left (order_asked c.args.order.now) c.in_err-first.ensures.absent)
+
+pub returns-in_err-second-clause-absent : goal.returns-in_err-second-clause-absent
+returns-in_err-second-clause-absent c = err_always _ (lacks_right (block_asked c.args.block.now) c.in_err-second.ensures.absent)

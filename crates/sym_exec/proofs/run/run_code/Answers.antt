@@ -5,6 +5,9 @@ use Rattle.sym_exec.specs.Symbolic.{start_trees, all_trees, exit_trees, exit_ope
 use Rattle.sym_exec.proofs.Chains.{chain-on}
 use Rattle.sym_exec.proofs.Tickets.{later_more, goes_on, goes_more, interns_by, hold_on, guards_on, leaves_on, stands_with}
 use Rattle.sym_exec.proofs.Tracking.{tracks_on}
+use Rattle.sym_exec.specs.Asked.{asked_by_all, asked_first, asked_by_shape}
+use Rattle.mblock.specs.Clean.{slot_actions}
+use Rattle.sym_exec.proofs.Asked.{err_always, lacks_here, lacks_left, lacks_right}
 use Rattle.sym_exec.proofs.run.run_code.Goals as goal
 
 pub returns-clause-trees : goal.returns-clause-trees
@@ -72,3 +75,35 @@ pub returns-clause-legal : goal.returns-clause-legal
 returns-clause-legal c =
     let left = later_more c.in_ok-steps.ensures.pass.later c.in_ok-put_own.ensures.pass.later in
     (later_more left (later_more c.in_ok-run_slot.ensures.pass.later c.in_ok-memory.ensures.pass.later)).legal c.in_ok-registers.ensures.legal
+
+pub returns-in_err-registers-clause-absent : goal.returns-in_err-registers-clause-absent
+returns-in_err-registers-clause-absent c = err_always _ (lacks_left _ c.in_err-registers.ensures.absent)
+
+pub returns-in_err-steps-clause-absent : goal.returns-in_err-steps-clause-absent
+returns-in_err-steps-clause-absent c =
+    err_always _ (lacks_right asked_first (lacks_left _ (c.in_err-steps.ensures.absent start_trees c.in_ok-registers.ensures.tracks)))
+
+pub returns-in_err-put_own-clause-absent : goal.returns-in_err-put_own-clause-absent
+returns-in_err-put_own-clause-absent c =
+    err_always _ (lacks_right asked_first (lacks_right (asked_by_all (map action_of c.args.insts.now) start_trees)
+    (lacks_left _ c.in_err-put_own.ensures.absent)))
+
+pub returns-in_err-run_slot-clause-absent : goal.returns-in_err-run_slot-clause-absent
+returns-in_err-run_slot-clause-absent c =
+    let t = all_trees (map action_of c.args.insts.now) start_trees in
+    let u = exit_trees c.args.exit.now t in
+    let run = c.in_ok-steps.ensures.tracks start_trees c.in_ok-registers.ensures.tracks in
+    let put = tracks_on c.in_ok-put_own.ensures.pass.later run (c.in_ok-put_own.ensures.hold t run.hold) refl refl in
+    err_always _ (lacks_right asked_first (lacks_right (asked_by_all (map action_of c.args.insts.now) start_trees)
+    (lacks_right (asked_by_shape (exit_shape c.args.exit.now)) (lacks_left _ (c.in_err-run_slot.ensures.absent u put)))))
+
+pub returns-in_err-memory-clause-absent : goal.returns-in_err-memory-clause-absent
+returns-in_err-memory-clause-absent c =
+    let t = all_trees (map action_of c.args.insts.now) start_trees in
+    let u = exit_trees c.args.exit.now t in
+    let run = c.in_ok-steps.ensures.tracks start_trees c.in_ok-registers.ensures.tracks in
+    let put = tracks_on c.in_ok-put_own.ensures.pass.later run (c.in_ok-put_own.ensures.hold t run.hold) refl refl in
+    let last = c.in_ok-run_slot.ensures.tracks u put in
+    err_always _ (lacks_right asked_first (lacks_right (asked_by_all (map action_of c.args.insts.now) start_trees)
+    (lacks_right (asked_by_shape (exit_shape c.args.exit.now)) (lacks_right (asked_by_all (slot_actions c.args.slot.now) u)
+    (lacks_here (c.in_err-memory.ensures.absent _ last.memory))))))

@@ -4,6 +4,7 @@ use Rattle.sym_exec.specs.MipsTerms.{HasTree}
 use Rattle.sym_exec.proofs.MipsTerms.{still_tree, tree_seen}
 use Rattle.sym_exec.specs.Symbolic.{register_tree, start_trees}
 use Rattle.sym_exec.proofs.Tickets.{later_more, goes_on, goes_more, interns_by, set_tree, length_set}
+use Rattle.sym_exec.proofs.Asked.{err_always, lacks_high, lacks_low, lacks_start, lacks_start_of}
 use Rattle.sym_exec.proofs.run.start_registers.Goals as goal
 
 pub loop-r-init : goal.loop-r-init
@@ -58,3 +59,16 @@ returns-in_err-hi-clause-pass c = interns_by (goes_more c.loop-r.invariant.goes 
 
 pub returns-in_err-lo-clause-pass : goal.returns-in_err-lo-clause-pass
 returns-in_err-lo-clause-pass c = interns_by (goes_more (goes_more c.loop-r.invariant.goes (goes_on c.in_ok-hi.ensures.pass)) (goes_on c.in_err-lo.ensures.pass)) (search rules)
+
+pub returns-in_err-zero-clause-absent : goal.returns-in_err-zero-clause-absent
+returns-in_err-zero-clause-absent c = err_always _ (lacks_start 0 (omega arith) c.in_err-zero.ensures.absent)
+
+pub returns-in_err-regs-clause-absent : goal.returns-in_err-regs-clause-absent
+returns-in_err-regs-clause-absent c =
+    err_always _ (lacks_start c.loop-r.r c.loop-r-test.true (lacks_start_of c.start_reg.new.terms.pass.now c.loop-r.r c.loop-r.auto.r c.in_err-regs.ensures.absent))
+
+pub returns-in_err-hi-clause-absent : goal.returns-in_err-hi-clause-absent
+returns-in_err-hi-clause-absent c = err_always _ (lacks_high c.in_err-hi.ensures.absent)
+
+pub returns-in_err-lo-clause-absent : goal.returns-in_err-lo-clause-absent
+returns-in_err-lo-clause-absent c = err_always _ (lacks_low c.in_err-lo.ensures.absent)

@@ -1,5 +1,5 @@
 use Rattle.std.proofs.Common.{refl, sym, ap, ap₂, subst, arith}
-use Rattle.std.specs.Prelude.{OnOk, vec_len}
+use Rattle.std.specs.Prelude.{OnOk, vec_len, OnErr, [], ◌∷◌}
 use Rattle.mips_isa.specs.declared.action.Action.{Action}
 use Rattle.sym_terms.specs.NormalForms.{store_tree}
 use Rattle.sym_exec.proofs.MipsTerms.{still_tree}
@@ -10,6 +10,8 @@ use Rattle.sym_exec.specs.Stores.{MakeMemory, IsChain, Tracks}
 use Rattle.sym_exec.proofs.Tickets.{later_self, goes_none, goes_on, interns_by, get_tree, known_on, known_put, hold_on, hold_put, hold_same, on_ok, ok_always}
 use Rattle.sym_exec.proofs.Chains.{chain-on, memory-on}
 use Rattle.sym_exec.proofs.Tracking.{tracks_on, tracks_guard, room_guard}
+use Rattle.sym_exec.specs.Asked.{LacksOne, asked_by}
+use Rattle.sym_exec.proofs.Asked.{err_always, on_err, lacks_here}
 use Rattle.sym_exec.proofs.run.step.Goals as goal
 
 pub returns-in-Computes-clause-tracks : goal.returns-in-Computes-clause-tracks
@@ -165,3 +167,38 @@ returns-in-Sets-clause-room c = ok_always c.put_leaf.result c.requires.room
 
 pub returns-in-Multiplies-clause-room : goal.returns-in-Multiplies-clause-room
 returns-in-Multiplies-clause-room c = ok_always c.put_halves.result c.requires.room
+
+pub returns-in_err-address-in-Loads-clause-absent : goal.returns-in_err-address-in-Loads-clause-absent
+returns-in_err-address-in-Loads-clause-absent c = λ t h.
+    err_always _ (subst (λ a. LacksOne c.loads.new.terms.pass.now (asked_by a t)) (sym c.in-Loads.is)
+    (c.in_err-address-in-Loads.ensures.absent t h.hold h.memory))
+
+pub returns-in_err-address-in-Stores-clause-absent : goal.returns-in_err-address-in-Stores-clause-absent
+returns-in_err-address-in-Stores-clause-absent c = λ t h.
+    err_always _ (subst (λ a. LacksOne c.stores.new.terms.pass.now (asked_by a t)) (sym c.in-Stores.is)
+    (lacks_here (c.in_err-address-in-Stores.ensures.absent t h.hold)))
+
+pub returns-in_err-put_halves-in-Divides-clause-absent : goal.returns-in_err-put_halves-in-Divides-clause-absent
+returns-in_err-put_halves-in-Divides-clause-absent c = λ t h.
+    let p = c.put_halves-in-Divides.new.terms.pass.now in
+    let same = ap₂ (λ high low. with_halves high low c.in-Divides.a c.in-Divides.b t) c.remainder_operator.ensures c.quotient_operator.ensures in
+    err_always _ (subst (λ a. LacksOne p (asked_by a t)) (sym c.in-Divides.is)
+    (subst (λ u. LacksOne p (u.hi ∷ u.lo ∷ [])) same (c.in_err-put_halves-in-Divides.ensures.absent t h.hold)))
+
+pub returns-in-Computes-clause-absent : goal.returns-in-Computes-clause-absent
+returns-in-Computes-clause-absent c = λ t h.
+    let P : Action → Type 0 = λ a. OnErr c.computes.result (LacksOne c.computes.new.terms.pass.now (asked_by a t)) in
+    subst P (sym c.in-Computes.is) (c.computes.ensures.absent t h.hold)
+
+pub returns-in-Sets-clause-absent : goal.returns-in-Sets-clause-absent
+returns-in-Sets-clause-absent c = λ t h.
+    let P : Action → Type 0 = λ a. OnErr c.put_leaf.result (LacksOne c.put_leaf.new.terms.pass.now (asked_by a t)) in
+    subst P (sym c.in-Sets.is) (on_err c.put_leaf.result c.put_leaf.ensures.absent (λ lacks. lacks_here lacks))
+
+pub returns-in-Multiplies-clause-absent : goal.returns-in-Multiplies-clause-absent
+returns-in-Multiplies-clause-absent c = λ t h.
+    let p = c.put_halves.new.terms.pass.now in
+    let same = ap₂ (λ high low. with_halves high low c.in-Multiplies.a c.in-Multiplies.b t) c.product_high.ensures c.product_low.ensures in
+    let P : Action → Type 0 = λ a. OnErr c.put_halves.result (LacksOne p (asked_by a t)) in
+    subst P (sym c.in-Multiplies.is)
+    (subst (λ u. OnErr c.put_halves.result (LacksOne p (u.hi ∷ u.lo ∷ []))) same (c.put_halves.ensures.absent t h.hold))

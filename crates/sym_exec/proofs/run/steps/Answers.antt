@@ -1,7 +1,9 @@
-use Rattle.std.proofs.Common.{◌∙◌, rules, arith}
+use Rattle.std.proofs.Common.{◌∙◌, rules, arith, sym, subst}
 use Rattle.sym_exec.specs.Symbolic.{trees_after}
 use Rattle.sym_exec.proofs.Tickets.{goes_on, goes_more, interns_by}
 use Rattle.sym_exec.proofs.Tracking.{trees_step}
+use Rattle.sym_exec.specs.Asked.{LacksOne, asked_by}
+use Rattle.sym_exec.proofs.Asked.{err_always, lacks_left, lacks_right, asked_step}
 use Rattle.sym_exec.proofs.run.steps.Goals as goal
 
 pub loop-inst-preserved : goal.loop-inst-preserved
@@ -14,8 +16,20 @@ loop-inst-preserved c = record {
   tracks = λ t h.
       let was = c.loop-inst.invariant.tracks t h in
       let more = trees_step c.args.insts.now c.loop-inst.inst-index _ c.action.result was.0 c.loop-inst-test.true c.inst-item.is c.action.ensures in
-      (trees_after c.action.result was.0, c.in_ok-step.ensures.tracks was.0 was.1, more ∙ was.2);
+      let split = asked_step c.args.insts.now c.loop-inst.inst-index _ c.action.result was.0 c.loop-inst-test.true c.inst-item.is c.action.ensures in (
+        trees_after c.action.result was.0,
+        c.in_ok-step.ensures.tracks was.0 was.1,
+        more ∙ was.2,
+        λ p lacks. was.3 p (subst (LacksOne p) (sym split) (lacks_right (asked_by c.action.result was.0) lacks)),
+      );
 }
 
 pub returns-in_err-step-clause-pass : goal.returns-in_err-step-clause-pass
 returns-in_err-step-clause-pass c = interns_by (goes_more c.loop-inst.invariant.goes (goes_on c.in_err-step.ensures.pass)) (search rules)
+
+pub returns-in_err-step-clause-absent : goal.returns-in_err-step-clause-absent
+returns-in_err-step-clause-absent c = λ t h.
+    let p = c.step.new.terms.pass.now in
+    let was = c.loop-inst.invariant.tracks t h in
+    let split = asked_step c.args.insts.now c.loop-inst.inst-index _ c.action.result was.0 c.loop-inst-test.true c.inst-item.is c.action.ensures in
+    err_always _ (was.3 p (subst (LacksOne p) (sym split) (lacks_left _ (c.in_err-step.ensures.absent was.0 was.1))))

@@ -2,6 +2,8 @@ use Rattle.std.proofs.Common.{◌≡◌, ◌+◌, ◌≤◌, map, drop, vec_len}
 use Rattle.mips_isa.specs.Actions.{action_of}
 use Rattle.sym_exec.specs.Symbolic.{TreeState, all_trees}
 use Rattle.sym_exec.specs.Standing.{Known}
+use Rattle.sym_exec.specs.Asked.{asked_by_all, LacksOne}
+use Rattle.term_table.specs.Passes.{PassState}
 use Rattle.sym_exec.specs.Interners.{GoesOn}
 use Rattle.sym_exec.specs.Stores.{IsChain, HasRoom, Tracks}
 use Rattle.sym_exec.proofs.run.steps.Given as goal
@@ -15,5 +17,7 @@ invariant-loop-inst l = record {
   count : vec_len l.lists.guards ≤ vec_len l.fn.lists.guards + l.inst-index;
   tracks : (t : TreeState) → Tracks l.fn.terms.pass.now l.fn.registers l.fn.lists t
       → (u : TreeState) × Tracks l.terms.pass.now l.registers l.lists u
-      × (all_trees (map action_of (drop l.inst-index l.insts)) u ≡ all_trees (map action_of l.insts) t);
+      × (all_trees (map action_of (drop l.inst-index l.insts)) u ≡ all_trees (map action_of l.insts) t)
+      × ((p : PassState) → LacksOne p (asked_by_all (map action_of (drop l.inst-index l.insts)) u)
+      → LacksOne p (asked_by_all (map action_of l.insts) t));
 }

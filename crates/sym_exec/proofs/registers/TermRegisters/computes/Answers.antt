@@ -1,6 +1,8 @@
 use Rattle.std.proofs.Common.{rules}
 use Rattle.sym_exec.proofs.MipsTerms.{still_seen, still_tree}
 use Rattle.sym_exec.proofs.Tickets.{later_more, goes_on, goes_more, interns_by, hold_on, known_on, get_seen, get_tree, known_put, hold_put}
+use Rattle.sym_exec.specs.Symbolic.{operand_tree}
+use Rattle.sym_exec.proofs.Asked.{err_always, lacks_here, lacks_next}
 use Rattle.sym_exec.proofs.registers.TermRegisters.computes.Goals as goal
 
 pub op_term-requires-clause-a : goal.op_term-requires-clause-a
@@ -24,3 +26,11 @@ returns-clause-pass c = interns_by (goes_more (goes_on c.in_ok-y.ensures.pass) (
 
 pub returns-in_err-value-clause-pass : goal.returns-in_err-value-clause-pass
 returns-in_err-value-clause-pass c = interns_by (goes_more (goes_on c.in_ok-y.ensures.pass) (goes_on c.in_err-value.ensures.pass)) (search rules)
+
+pub returns-in_err-y-clause-absent : goal.returns-in_err-y-clause-absent
+returns-in_err-y-clause-absent c = λ t h. err_always _ (lacks_here (c.in_err-y.ensures.absent t h))
+
+pub returns-in_err-value-clause-absent : goal.returns-in_err-value-clause-absent
+returns-in_err-value-clause-absent c = λ t h.
+    err_always _ (lacks_next (operand_tree t c.args.b.now) (lacks_here (c.in_err-value.ensures.absent _ _
+    (still_tree c.in_ok-y.ensures.pass.later.extends (get_tree {t = t} h c.get.ensures.value c.get.ensures.range)) (c.in_ok-y.ensures.tree t h))))

@@ -7,6 +7,7 @@ use Rattle.sym_exec.specs.Standing.{Hold}
 use Rattle.sym_exec.proofs.Tickets.{later_more, goes_on, goes_more, interns_by, hold_on, known_on, known_put, hold_put, hold_same}
 use Rattle.sym_exec.proofs.Reading.{address-later}
 use Rattle.sym_exec.proofs.Chains.{chain-on, memory-on}
+use Rattle.sym_exec.proofs.Asked.{err_always, lacks_here, lacks_next}
 use Rattle.sym_exec.proofs.registers.TermRegisters.loads.Goals as goal
 
 pub load_term-requires-clause-chain : goal.load_term-requires-clause-chain
@@ -49,3 +50,14 @@ pub returns-clause-pass : goal.returns-clause-pass
 returns-clause-pass c =
     let before = goes_more (goes_on c.in_ok-address.ensures.pass) c.address_at-at.ensures.pass in
     interns_by (goes_more before (goes_on c.in_ok-value.ensures.pass)) tt
+
+pub returns-in_err-address-clause-absent : goal.returns-in_err-address-clause-absent
+returns-in_err-address-clause-absent c = λ t h m. err_always _ (lacks_here (c.in_err-address.ensures.absent t h))
+
+pub returns-in_err-value-clause-absent : goal.returns-in_err-value-clause-absent
+returns-in_err-value-clause-absent c = λ t h m.
+    let before = later_more c.in_ok-address.ensures.pass.later c.address_at-at.ensures.pass.later in
+    let address = address_tree t c.args.access.base c.args.access.offset in
+    err_always _ (lacks_next address (lacks_here (c.in_err-value.ensures.absent t.memory address
+    (memory-on c.args.chain.now.stores.items t.memory before m)
+    (still_tree c.address_at-at.ensures.pass.later.extends (c.in_ok-address.ensures.tree t h)))))

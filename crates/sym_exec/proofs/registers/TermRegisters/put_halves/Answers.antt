@@ -1,7 +1,8 @@
 use Rattle.std.proofs.Common.{rules}
 use Rattle.sym_exec.proofs.MipsTerms.{still_seen, still_tree}
-use Rattle.sym_exec.specs.Standing.{Hold, Known}
+use Rattle.sym_exec.specs.Standing.{Hold, Known, with_halves}
 use Rattle.sym_exec.proofs.Tickets.{later_more, goes_on, goes_more, interns_by, hold_on, known_on, get_seen, get_tree}
+use Rattle.sym_exec.proofs.Asked.{err_always, lacks_here, lacks_next}
 use Rattle.sym_exec.proofs.registers.TermRegisters.put_halves.Goals as goal
 
 pub op_term-requires-2-clause-a : goal.op_term-requires-2-clause-a
@@ -36,3 +37,17 @@ returns-clause-pass c = interns_by (goes_more (goes_on c.in_ok-hi.ensures.pass) 
 
 pub returns-in_err-lo-clause-pass : goal.returns-in_err-lo-clause-pass
 returns-in_err-lo-clause-pass c = interns_by (goes_more (goes_on c.in_ok-hi.ensures.pass) (goes_on c.in_err-lo.ensures.pass)) (search rules)
+
+pub returns-in_err-hi-clause-absent : goal.returns-in_err-hi-clause-absent
+returns-in_err-hi-clause-absent c = λ t h.
+    let x = get_tree {t = t} h c.get-x.ensures.value c.get-x.ensures.range in
+    let y = get_tree {t = t} h c.get-y.ensures.value c.get-y.ensures.range in
+    err_always _ (lacks_here (c.in_err-hi.ensures.absent _ _ x y))
+
+pub returns-in_err-lo-clause-absent : goal.returns-in_err-lo-clause-absent
+returns-in_err-lo-clause-absent c = λ t h.
+    let x = get_tree {t = t} h c.get-x.ensures.value c.get-x.ensures.range in
+    let y = get_tree {t = t} h c.get-y.ensures.value c.get-y.ensures.range in
+    let on = c.in_ok-hi.ensures.pass.later.extends in
+    err_always _ (lacks_next (with_halves c.args.high c.args.low c.args.a c.args.b t).hi
+    (lacks_here (c.in_err-lo.ensures.absent _ _ (still_tree on x) (still_tree on y))))

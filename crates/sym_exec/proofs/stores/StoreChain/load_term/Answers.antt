@@ -1,10 +1,14 @@
 use Rattle.std.proofs.Common.{sym, subst, take}
-use Rattle.std.specs.Prelude.{IfOk}
-use Rattle.sym_exec.specs.MipsTerms.{HasTree}
+use Rattle.std.specs.Prelude.{IfOk, OnErr}
+use Rattle.sym_terms.specs.declared.label.Label.TheVariants.{Load}
+use Rattle.sym_terms.specs.Trees.{none, more}
+use Rattle.sym_exec.specs.MipsTerms.{HasTree, Lacks}
 use Rattle.sym_exec.proofs.MipsTerms.{still_tree, still_seen}
 use Rattle.sym_exec.specs.Stores.{MakeMemory}
 use Rattle.sym_exec.proofs.Chains.{chain-on}
 use Rattle.sym_exec.proofs.Tickets.{goes_on, goes_more, interns_by}
+use Rattle.sym_exec.proofs.Asked.{err_always}
+use Rattle.sym_exec.proofs.Parts.{lacks_first}
 use Rattle.sym_exec.proofs.stores.StoreChain.load_term.Goals as goal
 
 pub returns-clause-tree : goal.returns-clause-tree
@@ -24,3 +28,19 @@ returns-clause-chain c = chain-on c.binary.ensures.pass.later c.in_ok-memory.ens
 pub returns-clause-pass : goal.returns-clause-pass
 returns-clause-pass c =
     interns_by (goes_more (goes_on c.in_ok-memory.ensures.pass) (goes_on c.binary.ensures.pass)) c.binary.ensures.pass.full
+
+pub returns-in_err-memory-clause-absent : goal.returns-in_err-memory-clause-absent
+returns-in_err-memory-clause-absent c = λ m b h k.
+    let n = c.stores_seen-count.ensures.tree c.args.terms.now.pass.now m b c.requires.legal
+    (subst (λ xs. MakeMemory c.args.terms.now.pass.now xs m) (sym c.as_slice.ensures.value) h) (c.requires.at b k) in
+    let made = subst (λ xs. MakeMemory c.args.terms.now.pass.now (take c.stores_seen-count.result xs) n.0) c.as_slice.ensures.value n.1 in
+    err_always _ (subst (Lacks c.memory_behind.new.terms.pass.now) (sym n.2)
+    (lacks_first c.memory_behind.new.terms.pass.now (Load c.args.width) n.0 (more b none) (c.in_err-memory.ensures.absent n.0 made)))
+
+pub returns-clause-absent : goal.returns-clause-absent
+returns-clause-absent c = λ m b h k.
+    let n = c.stores_seen-count.ensures.tree c.args.terms.now.pass.now m b c.requires.legal
+    (subst (λ xs. MakeMemory c.args.terms.now.pass.now xs m) (sym c.as_slice.ensures.value) h) (c.requires.at b k) in
+    let made = subst (λ xs. MakeMemory c.args.terms.now.pass.now (take c.stores_seen-count.result xs) n.0) c.as_slice.ensures.value n.1 in
+    subst (λ t. OnErr c.binary.result (Lacks c.binary.new.self.pass.now t)) (sym n.2)
+    (c.binary.ensures.absent n.0 b (c.in_ok-memory.ensures.tree n.0 made) (still_tree c.in_ok-memory.ensures.pass.later.extends k))

@@ -1,10 +1,11 @@
 use Rattle.std.proofs.Common.{◌∙◌, ◌-◌, ◌<◌, take, length, refl, sym, subst, rules}
 use Rattle.std.proofs.lemmas.List.{get_or_default}
-use Rattle.sym_exec.specs.MipsTerms.{HasTree}
+use Rattle.sym_exec.specs.MipsTerms.{HasTree, Lacks}
 use Rattle.sym_exec.specs.Stores.{MakeMemory}
 use Rattle.sym_exec.proofs.MipsTerms.{tree_seen}
 use Rattle.sym_exec.proofs.Tickets.{goes_on, goes_more, interns_by}
-use Rattle.sym_exec.proofs.Chains.{chain-on, chain-memory, chain-store, chain-push, memory-on}
+use Rattle.sym_exec.proofs.Chains.{chain-on, chain-memory, chain-store, chain-push, memory-on, memory-one}
+use Rattle.sym_exec.proofs.Asked.{err_always, lacks_behind}
 use Rattle.sym_exec.proofs.stores.StoreChain.memory_behind.Goals as goal
 
 pub ternary-requires-clause-a : goal.ternary-requires-clause-a
@@ -44,3 +45,20 @@ returns-clause-tree c = λ t made.
 
 pub returns-in_err-memory-clause-pass : goal.returns-in_err-memory-clause-pass
 returns-in_err-memory-clause-pass c = interns_by (goes_more c.loop-self.invariant.goes (goes_on c.in_err-memory.ensures.pass)) (search rules)
+
+pub returns-in_err-memory-clause-absent : goal.returns-in_err-memory-clause-absent
+returns-in_err-memory-clause-absent c = λ t made.
+    let i = c.loop-self.invariant in
+    let k = c.len-made.result - 1 in
+    let p = c.loop-self.terms.pass.now in
+    let xs = c.loop-self.self.stores.items in
+    let before = chain-memory k i.chain (search rules) c.index-before.ensures in
+    let store = chain-store k i.chain (search rules) c.index-stored.ensures in
+    let same = memory-one p (take k xs) before.made store.2 in
+    let lacks = c.in_err-memory.ensures.absent store.0 store.3.address store.3.value (subst (HasTree p c.index-before.result.now) same before.has)
+    store.3.has_address store.3.has_value in
+    let here = memory-on (take c.args.count c.args.self.now.stores.items) t i.goes.later made in
+    let there = subst (λ v. MakeMemory p (take c.args.count v.items) t) (sym i.stores) here in
+    let low : k < c.args.count = search rules in
+    err_always _ (lacks_behind p c.ternary.new.self.pass.now k c.args.count xs t low (search rules) c.index-stored.ensures store.2 store.3
+    (subst (Lacks c.ternary.new.self.pass.now) (sym store.3.tree) lacks) there)
