@@ -20,8 +20,9 @@
 //! - `mcc_web_explain`: the same as of `mcc_web_check`, with lines of printable ASCII behind the verdict (`SaysExplained`).
 //!   `mcc_web_show`: unless the status is 1, the text spells a program without faults, and what is given is lines of
 //!   printable ASCII (`SaysStages`). No more is stated of such lines than driver and check_report state of them.
-//! - `mcc_web_machine`: what it shows is what the machine of the image holds behind so many words (`Shows`); none of these
-//!   ended the run.
+//! - `mcc_web_machine`: what it shows is what the machine of the image holds after so many words, and its memory from the
+//!   address on (`Shows`); none of these words ended the run, and it goes on to the first at `stop`, or for `most` words after
+//!   the first `from`. Where the status is 1 the view is as it was.
 //! - `mcc_web_orders`: unless the status is 1, 2 or `REFUSED`, each block and order that it lists is one of a unit of the
 //!   program and of orders of its blocks, as they spell (`SaysOrders`).
 //! - Only tested (web/test): that the module made of it answers as the program does, lines below a fault included.
