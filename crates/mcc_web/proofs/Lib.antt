@@ -1,3 +1,4 @@
+pub mod Views
 pub mod Fronts
 pub mod Pairs
 pub mod Words

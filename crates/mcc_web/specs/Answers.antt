@@ -1,5 +1,5 @@
 -- What the exports give their host.
-use Rattle.std.specs.Prelude.{◌≡◌, ◌≤◌, ℕ, List, [], ◌∷◌, ◌++◌, Bool, true, false, All, length, take}
+use Rattle.std.specs.Prelude.{◌≡◌, ◌<◌, ◌≤◌, ℕ, List, [], ◌∷◌, ◌++◌, Bool, true, false, All, length, take}
 use Rattle.runs.specs.Runs.{Outcome}
 use Rattle.mips_steps.specs.Machines.{MachineOutcome}
 use Rattle.image.specs.Images.{IsImageFault}
@@ -24,9 +24,10 @@ use Rattle.driver.specs.Interps.{IsInterpFault, IsRun}
 use Rattle.driver.specs.Listings.{IsListing}
 use Rattle.driver.specs.Stages.{IsStagesFault, stages_fault_text}
 
--- a text of this length, at the front of what the host lent, where it fits
+-- a text of this length, at the front of what the host lent, where it fits; else that is as it was
 abbrev pub Gives : (text : List ℕ) → (said : ℕ) → (old new : List ℕ) → Type 0
 Gives text said old new = (said ≡ length text) × (length new ≡ length old) × (said ≤ length old → take said new ≡ text)
+    × (length old < said → new ≡ old)
 
 -- a line of a fault, and maybe more behind it
 abbrev pub GivesLine : (line : List ℕ) → (said : ℕ) → (old new : List ℕ) → Type 0

@@ -2,7 +2,8 @@
 //!
 //! Definitions: `specs/Answers.antt`, `specs/Orders.antt`, `specs/Machines.antt`.
 //! Proved: Each export gives the text of an answer that driver's call may give, or the line of an error that it may report.
-//! `mcc_web_machine` shows what the machine holds after n words.
+//! `mcc_web_machine` shows what the machine holds after n words, and no word before the last was at its stop. A text that doesn't fit
+//! leaves `out` as it was.
 //! Contract: `mcc_web_check`, `mcc_web_interp`, `mcc_web_build`, `mcc_web_run`, `mcc_web_list`, `mcc_web_explain`, `mcc_web_show`,
 //! `mcc_web_orders`, `mcc_web_machine`
 //! Tested: the WebAssembly module answers as the program does (`web/test`)

@@ -1,9 +1,9 @@
 // The export that shows the machine between two words.
 
-ghost use Rattle.std.specs.Prelude.{◌≡◌, ◌≤◌, IfOk, Some};
+ghost use Rattle.std.specs.Prelude.{◌≡◌, ◌≢◌, ◌≤◌, ◌+◌, IfOk, Some, false, true};
 ghost use Rattle.mips_steps.specs.Machines.{words_code};
 ghost use Rattle.mips_machine.specs.Views.{machine_of};
-ghost use Rattle.mcc_web.specs.Machines.{IsFar, Shows, ShowsMachine, behind};
+ghost use Rattle.mcc_web.specs.Machines.{IsFar, Shows, ShowsMachine, ShowsMemory, WasNotAt, behind};
 
 use image::read_image;
 use mips_machine::{Load, Machine, load};
@@ -45,15 +45,26 @@ struct Stretch {
     stop: u32,
 }
 
-/// Runs words, and tells how many ran; none of them ended the run.
+/// Whether the machine is at the address at which it stops, after so many words.
+fn is_stopped(machine: &Machine<'_>, k: u64, stretch: Stretch) -> bool
+    ensures stopped { result ≡ true → (stretch.from ≤ k) × ((machine_of machine.now).pc ≡ stretch.stop) }
+    ensures passed { result ≡ false → stretch.from ≤ k → (machine_of machine.now).pc ≢ stretch.stop }
+{
+    k >= stretch.from && machine.pc() == stretch.stop
+}
+
+/// Runs words, and reports how many ran; none of them ended the run.
 fn advance(machine: &mut Machine<'_>, stretch: Stretch) -> Result<u64, AllocError>
     ensures ran { let code = words_code machine.old.code.words.now in
         IfOk result (λ k. behind code k (machine_of machine.old) ≡ Some (machine_of machine.new)) }
-    ensures far { IfOk result (λ k. IsFar (words_code machine.old.code.words.now) stretch.from k (machine_of machine.new)) }
+    ensures within { IfOk result (λ k. k ≤ stretch.from + stretch.most) }
+    ensures far { IfOk result (λ k. IsFar (words_code machine.old.code.words.now) stretch.from stretch.most stretch.stop k
+        (machine_of machine.new)) }
+    ensures passed { IfOk result (WasNotAt (words_code machine.old.code.words.now) (machine_of machine.old) stretch.from stretch.stop) }
 {
     let end = stretch.from.saturating_add(stretch.most);
     for k in 0..end {
-        if k >= stretch.from && machine.pc() == stretch.stop {
+        if is_stopped(machine, k, stretch) {
             return Ok(k);
         }
         if machine.step()?.is_some() {
@@ -64,7 +75,9 @@ fn advance(machine: &mut Machine<'_>, stretch: Stretch) -> Result<u64, AllocErro
 }
 
 /// The words of memory from an address on, up to the first that isn't mapped, and how many there are.
-fn words_from(machine: &Machine<'_>, address: u32) -> (u8, [u32; 32]) {
+fn words_from(machine: &Machine<'_>, address: u32) -> (u8, [u32; 32])
+    ensures { ShowsMemory (machine_of machine.now) address result.0 result.1 }
+{
     let mut words = [0; SHOWN];
     for k in 0..SHOWN {
         match machine.word_at(address.wrapping_add(4 * k as u32)) {
@@ -79,6 +92,7 @@ fn words_from(machine: &Machine<'_>, address: u32) -> (u8, [u32; 32]) {
 fn view_of(machine: &Machine<'_>, words: u64, address: u32) -> View
     ensures words { result.words ≡ words }
     ensures shows { ShowsMachine (machine_of machine.now) result }
+    ensures memory { ShowsMemory (machine_of machine.now) address result.mapped result.memory }
 {
     let (in_slot, target) = match machine.target() {
         Some(target) => (true, target),
@@ -106,7 +120,7 @@ fn view_of(machine: &Machine<'_>, words: u64, address: u32) -> View
     }
 }
 
-/// Shows the machine of an image behind `from` words, or behind at most `most` more, up to the first at the address
+/// Shows the machine of an image after `from` words, or after at most `most` more, up to the first at the address
 /// `stop`; or before the word that ends its run. The memory is that from `address` on. The answer is a status: 1 where the
 /// bytes are no image, or memory was refused; the view is as it was then.
 #[unsafe(no_mangle)]
@@ -119,7 +133,8 @@ pub extern "C" fn mcc_web_machine(
     address: u32,
     view: &mut View,
 ) -> u8
-    ensures shows { result ≡ 0 → Shows image.now from view.new }
+    ensures shows { result ≡ 0 → Shows image.now from most stop address view.new }
+    ensures kept { result ≡ 1 → view.new ≡ view.old }
     ensures status { result ≤ 1 }
 {
     let Ok(image) = read_image(alloc, image) else {
