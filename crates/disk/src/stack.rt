@@ -8,8 +8,11 @@ pub(crate) const LONGEST_TEXT: usize = 1_048_576;
 /// What a command needs whatever its text is, in bytes.
 const LEAST: usize = 0x100_0000;
 
-/// What one byte of text may need, in bytes: a statement in another takes some 1,400 of stack, and five of text (`if(1)`).
-const FOR_A_BYTE: usize = 400;
+/// What one byte of text may need, in bytes: a statement in another takes up to 6,600 of stack, and five of text (`if(1)`).
+const FOR_A_BYTE: usize = 1_400;
+
+/// What holds the deepest text that the sizes allow, in bytes (tests/c/deepest.case).
+const MOST: usize = 0x4000_0000;
 
 /// Returns a bound of the bytes of text that the words name: the length of the longest of these files.
 pub(crate) fn longest_text<R: HostFiles>(rt: &R, words: &[&str]) -> usize {
@@ -32,5 +35,5 @@ fn length_of<R: HostFiles>(rt: &R, name: &str) -> usize {
 /// Returns how much stack a command asks for whose text has at most so many bytes, in bytes of address space: memory is had as
 /// the stack grows.
 pub(crate) fn stack_for(longest: usize) -> usize {
-    LEAST + FOR_A_BYTE * longest.min(LONGEST_TEXT)
+    MOST.min(LEAST + FOR_A_BYTE * longest.min(LONGEST_TEXT))
 }
