@@ -28,29 +28,43 @@ class Client {
   constructor(script, wasm) {
     this.script = URL.createObjectURL(new Blob([script], { type: 'text/javascript' }));
     this.wasm = wasm;
-  }
-
-  start() {
-    this.worker = new Worker(this.script);
-    this.waiting = new Map();
     this.count = 0;
-    this.worker.onmessage = ({ data: { id, answer, error } }) => {
-      const { resolve, reject } = this.waiting.get(id);
-      this.waiting.delete(id);
-      if (error === undefined) resolve(answer);
-      else reject(new Error(error));
-    };
-    return this.ask('start', { wasm: this.wasm });
   }
 
-  ask(name, work) {
+  // A worker of its own, with what waits for it: what an ended one still sends reaches nobody.
+  start() {
+    const worker = new Worker(this.script);
+    const waiting = new Map();
+    worker.onmessage = ({ data: { id, answer, error } }) => {
+      const asked = waiting.get(id);
+      if (worker !== this.worker || !asked) return;
+      waiting.delete(id);
+      if (error === undefined) asked.resolve(answer);
+      else asked.reject(new Error(error));
+    };
+    Object.assign(this, { worker, waiting });
+    this.ready = this.send('start', { wasm: this.wasm });
+    return this.ready;
+  }
+
+  send(name, work) {
     return new Promise((resolve, reject) => {
-      this.waiting.set(++this.count, { resolve, reject });
-      this.worker.postMessage({ id: this.count, name, work });
+      const id = ++this.count;
+      this.waiting.set(id, { resolve, reject });
+      this.worker.postMessage({ id, name, work });
     });
   }
 
-  // Ends what is running, and begins anew.
+  // Asks a worker that has its module.
+  async ask(name, work) {
+    for (let ready = null; ready !== this.ready;) {
+      ready = this.ready;
+      await ready.catch(() => null);
+    }
+    return this.send(name, work);
+  }
+
+  // Ends what is running, and starts a new worker.
   stop() {
     this.worker.terminate();
     for (const { reject } of this.waiting.values()) reject(new Error('stopped'));
@@ -61,7 +75,7 @@ class Client {
 let client = null;
 const page = {
   text: '', lines: [], marks: {}, scroll: { top: 0, left: 0 }, told: null, image: null, blocks: [], groups: [], group: null,
-  chosen: null, order: null, at: 0, said: '', stages: new Map(),
+  chosen: null, order: null, at: 0, said: '', stages: new Map(), tried: null, isRunning: false, isOther: false,
   listing: [], view: null, before: null, breakpoint: null, cursor: null, touched: null, isBusy: false, isStale: false,
 };
 
@@ -123,6 +137,7 @@ async function refresh() {
   do {
     page.isStale = false;
     const { text } = page;
+    page.tried = text;
     const plain = $('plain').checked;
     const late = setTimeout(() => { $('stop').hidden = false; }, 700);
     const started = performance.now();
@@ -131,6 +146,7 @@ async function refresh() {
       if (text === page.text) showProgram(answer, plain, performance.now() - started);
     } catch (error) {
       say('state', error.message);
+      if (text === page.text) showRuns({ status: 1, text: error.message }, null);
     }
     clearTimeout(late);
     $('stop').hidden = true;
@@ -202,12 +218,13 @@ async function showParts() {
 // ---- the graph of a function
 
 function showFunctions() {
-  const was = page.group?.name;
+  const was = page.isOther ? null : page.group?.name;
   const select = $('functions');
   select.replaceChildren(...page.groups.map((g, k) => new Option(`${g.name} (${g.blocks.length})`, k)));
   const wanted = page.groups.findIndex(g => g.name === was);
   const main = page.groups.findIndex(g => g.name === 'main');
-  chooseGroup(wanted >= 0 ? wanted : Math.max(main, 0), page.chosen?.number);
+  chooseGroup(wanted >= 0 ? wanted : Math.max(main, 0), wanted >= 0 ? page.chosen?.number : null);
+  page.isOther = false;
 }
 
 function chooseGroup(k, number) {
@@ -616,17 +633,54 @@ function machineKey(event) {
 
 // ---- examples, links, themes, tabs
 
+// A text in place of the one that is there, so that the browser's undo brings that back; a long one is put in without.
+function putText(text) {
+  const source = $('source');
+  const focused = document.activeElement;
+  source.focus();
+  source.select();
+  const isPut = text && text.length <= SHORT_TEXT && source.value.length <= SHORT_TEXT && document.execCommand('insertText', false, text);
+  if (!isPut) {
+    source.value = text;
+    typed();
+  }
+  source.setSelectionRange(0, 0);
+  source.scrollTop = 0;
+  focused?.focus();
+}
+
 function openText(text) {
-  $('source').value = text;
-  typed();
+  page.isOther = true;
+  putText(text);
 }
 
 function typed() {
   page.text = $('source').value;
-  page.view = page.before = null;
+  page.view = page.before = page.touched = null;
+  page.last = undefined;
+  if (page.isRunning) stop();
   showGutter();
+  keep();
   clearTimeout(typed.later);
   typed.later = setTimeout(refresh, 120);
+}
+
+// The text outlives a reload, together with the link from which it came.
+function keep() {
+  try {
+    sessionStorage.setItem('mcc', JSON.stringify({ hash: location.hash, text: page.text }));
+  } catch {
+    sessionStorage.removeItem('mcc');
+  }
+}
+
+function kept() {
+  try {
+    const { hash, text } = JSON.parse(sessionStorage.getItem('mcc'));
+    return hash === location.hash ? text : null;
+  } catch {
+    return null;
+  }
 }
 
 function openPair(text) {
@@ -647,6 +701,7 @@ function listExamples(texts) {
   select.replaceChildren(new Option('choose', ''), ...groups);
   select.onchange = () => {
     const name = select.value;
+    select.value = '';
     if (name.endsWith('.c')) openText(texts[name]);
     else if (name) openPair(texts[name]);
   };
@@ -662,6 +717,7 @@ function textOfAddress() {
 
 async function copyLink() {
   history.replaceState(null, '', '#' + encodeURIComponent(page.text));
+  keep();
   const isCopied = await navigator.clipboard?.writeText(location.href).then(() => true, () => false);
   say('state', isCopied ? 'link copied' : 'the address has the text now');
 }
@@ -706,6 +762,7 @@ function followCaret() {
 
 async function runOn() {
   if (!page.image) return;
+  page.isRunning = true;
   $('run-on').hidden = true;
   $('stop').hidden = false;
   say('agree', 'running ..');
@@ -715,13 +772,16 @@ async function runOn() {
   } catch (error) {
     say('agree', error.message);
   }
+  page.isRunning = false;
   $('stop').hidden = true;
 }
 
+// What was typed while something ran is answered after it.
 async function stop() {
   $('stop').hidden = true;
-  await client.stop();
   say('state', 'stopped');
+  await client.stop();
+  if (page.tried !== page.text) refresh();
 }
 
 async function main() {
@@ -760,7 +820,7 @@ async function main() {
     return;
   }
   document.documentElement.dataset.ready = (performance.now() - started).toFixed(0);
-  openText(textOfAddress() || texts['squares.c']);
+  openText(kept() ?? (textOfAddress() || texts['squares.c']));
 }
 
 main();

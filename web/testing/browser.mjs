@@ -111,6 +111,10 @@ class Page extends Waiting {
     await this.send('Input.dispatchKeyEvent', { type: 'keyUp', ...words, text: undefined });
   }
 
+  async reload() {
+    await this.send('Page.reload');
+  }
+
   async mouse(type, x, y) {
     await this.send('Input.dispatchMouseEvent', { type, x, y, button: 'left', buttons: type === 'mouseReleased' ? 0 : 1, clickCount: 1 });
   }

@@ -114,6 +114,10 @@ class Page extends Waiting {
     await this.browser.send('WebDriver:PerformActions', { actions: [{ type: 'key', id: 'keys', actions }] });
   }
 
+  async reload() {
+    await this.browser.send('WebDriver:Refresh', {});
+  }
+
   // Marionette's mouse starts no dragging, so the events are the script's.
   async drag(from, to) {
     await this.value(`(() => {

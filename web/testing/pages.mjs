@@ -11,6 +11,8 @@ const text = id => `document.getElementById('${id}').textContent`;
 const click = id => `document.getElementById('${id}').click()`;
 const typed = value => `(() => { const s = document.getElementById('source'); s.value = ${JSON.stringify(value)};
   s.dispatchEvent(new Event('input')); })()`;
+const choose = example => `(() => { const s = document.getElementById('examples'); s.value = '${example}'; s.onchange(); })()`;
+const sleep = time => new Promise(resolve => setTimeout(resolve, time));
 const READY = `document.querySelectorAll('#graph .node').length > 0 && ${text('verdict')} !== ''`;
 let passed = 0, failed = 0;
 
@@ -113,6 +115,43 @@ async function byKeys(page) {
   judge('Home leads back to the start', await page.until(`${text('count')}.startsWith('0 words')`));
 }
 
+// An edit while a text runs, and Stop; a reload; an example over a text, and the way back.
+async function losesNothing(page) {
+  const good = 'int main(void) { out(41); return 3; }';
+  const slow = `int a; int main(void) { while (1) { a = (a+1)*3%7${'+a*3%7'.repeat(150)}&7; } }`;
+  for (const wait of [300, 0]) {
+    await page.value(typed(slow));
+    await page.until(`!document.getElementById('stop').hidden`, 30);
+    await page.value(typed(good + ' '.repeat(wait)));
+    await sleep(wait);
+    await page.value(click('stop'));
+    judge(`an edit ${wait} ms before Stop is answered`, await page.until(`${text('interp')}.includes('done 3')`), await page.value(text('state')));
+  }
+  for (const wait of [0, 100, 200]) {
+    await page.value(typed(ENDLESS + ' '.repeat(wait)));
+    await page.until(`!document.getElementById('run-on').hidden`, 60);
+    await page.value(click('run-on'));
+    await sleep(500);
+    await page.value(click('stop'));
+    await sleep(wait);
+    await page.value(typed(good + ' '.repeat(wait)));
+    judge(`an edit ${wait} ms after Stop is answered`, await page.until(`${text('interp')}.includes('done 3')`), await page.value(text('state')));
+  }
+  await page.value(typed(ENDLESS));
+  await page.until(`!document.getElementById('run-on').hidden`, 60);
+  await page.value(click('run-on'));
+  await page.value(typed(good));
+  judge('an edit ends a long run', await page.until(`${text('interp')}.includes('done 3')`));
+  await page.value(choose('primes.c'));
+  judge('an example', await page.until(`${text('interp')}.includes('29\\ndone 0')`));
+  await page.value(`document.getElementById('source').focus(), document.execCommand('undo')`);
+  judge('undo brings the text back', await page.until(`document.getElementById('source').value === ${JSON.stringify(good)}`),
+    await page.value(`document.getElementById('source').value`));
+  await page.until(`${text('interp')}.includes('done 3')`);
+  await page.reload();
+  judge('a reload keeps the text', await page.until(`${text('interp')}.includes('done 3')`));
+}
+
 async function main() {
   const browser = name === 'firefox' ? new Firefox() : new Browser();
   const late = new Promise(resolve => setTimeout(resolve, 120_000, null).unref());
@@ -137,7 +176,7 @@ async function main() {
   judge('Alt+Down moves a line', await page.until(`document.activeElement.dataset.place === '1'`));
   await page.value(click('to-build'));
   judge('and back', await page.until(`${text('verdict')}.startsWith('same')`));
-  await page.value(`(() => { const s = document.getElementById('examples'); s.value = 'load-moved-apart.check'; s.onchange(); })()`);
+  await page.value(choose('load-moved-apart.check'));
   judge('an order of the examples', await page.until(`${text('block-title')} === 'A block of a check text' && ${text('verdict')} !== ''`));
   const before = await page.value(text('verdict'));
   for (const to of ['up', 'up', 'up', 'to-slot']) await page.value(click(to));
@@ -148,7 +187,7 @@ async function main() {
     await page.value(text('order')));
   judge('with both terms', /^block: .*\norder: /.test(await page.value(text('why'))), await page.value(text('why')));
   if (pictures) await page.picture(path.join(pictures, 'differs.png'));
-  await page.value(`(() => { const s = document.getElementById('examples'); s.value = 'load-used-too-soon.check'; s.onchange(); })()`);
+  await page.value(choose('load-used-too-soon.check'));
   judge('an unclean order', await page.until(`${text('verdict')} === 'unclean U1'`));
   judge('with its rule in words', (await page.value(text('why'))).startsWith('an instruction reads or writes'));
   judge('and its two words marked', await page.until(`document.querySelectorAll('#order .broken').length === 2`));
@@ -192,6 +231,8 @@ async function main() {
   judge('and is stopped', await page.until(`${text('state')} === 'stopped'`));
   await page.value(typed('int main(void) {\n    out(5);\n    return 0;\n}\n'));
   judge('the page works on', await page.until(`${text('interp')}.startsWith('5\\ndone 0')`));
+
+  await losesNothing(page);
 
   // long texts, and texts that are too much
   await page.value(typed(long()));
