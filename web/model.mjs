@@ -186,7 +186,12 @@ export function move(order, from, to) {
 }
 
 export const addNop = (order, at) => ({ ...order, insts: order.insts.toSpliced(at, 0, 'nop') });
-export const removeNop = (order, at) => ({ ...order, insts: order.insts.toSpliced(at, 1) });
+// An order with another line at a place, or without it where the line is empty.
+export function withLine(order, place, line) {
+  if (place === 'slot') return { ...order, slot: line.replace(/^slot /, '') || 'nop' };
+  if (place === 'exit') return { ...order, exit: line || order.exit, slot: hasSlot(line || order.exit) ? order.slot ?? 'nop' : null };
+  return { ...order, insts: line ? order.insts.with(place, line) : order.insts.toSpliced(place, 1) };
+}
 
 // ---- the graph of a function: blocks in layers, and its edges
 

@@ -1,8 +1,9 @@
 // The page: what is typed goes to the worker, and what it answers is shown.
 import {
   RULES, addNop, blockAt, blockOf, codeLines, exitLines, functionsOf, graphOf, groupBlocks, hex, marked, move, orderWords, pairText,
-  parseOrders, parsePair, parseTold, plainOrder, reached, removeNop,
+  parseOrders, parsePair, parseTold, plainOrder, reached, withLine,
 } from './model.mjs';
+import { chooseStart, differences, parseStart, readFirst, runBlock, runOrder } from './runs.mjs';
 
 const $ = id => document.getElementById(id);
 const SHORT_RUN = 1_000_000;
@@ -76,12 +77,13 @@ let client = null;
 const page = {
   text: '', lines: [], marks: {}, scroll: { top: 0, left: 0 }, told: null, image: null, blocks: [], groups: [], group: null,
   chosen: null, order: null, at: 0, said: '', stages: new Map(), tried: null, isRunning: false, isOther: false,
+  mine: new Map(), past: [], badLine: null,
   listing: [], view: null, before: null, breakpoint: null, cursor: null, touched: null, isBusy: false, isStale: false,
 };
 
 // ---- the C text
 
-const LINE = 13 * 1.45;
+const lineHeight = () => parseFloat(getComputedStyle($('numbers')).lineHeight);
 
 // The lines that are marked: that of a fault, else those of the function that is shown and of the chosen block's exit.
 function showGutter() {
@@ -95,7 +97,7 @@ function showGutter() {
   if (bad !== null) {
     const line = page.lines[bad - 1] ?? '';
     const start = told.column - 1;
-    const length = /^(\w+|.)/.exec(line.slice(start))?.[0].length ?? 0;
+    const length = /^(\w+|[-+*\/%&|^<>=!]+|.)/.exec(line.slice(start))?.[0].length ?? 0;
     behind.style.top = `${bad - 1}lh`;
     behind.append(line.slice(0, start), element('mark', line.slice(start, start + length) || ' '), line.slice(start + length));
   }
@@ -106,7 +108,7 @@ function showGutter() {
 function follow() {
   const { top, left } = page.scroll;
   const { bad, held, left: exits } = page.marks;
-  const first = Math.max(1, Math.floor(top / LINE) - 10);
+  const first = Math.max(1, Math.floor(top / lineHeight()) - 10);
   const count = Math.max(0, Math.min(120, page.lines.length - first + 1));
   $('numbers').replaceChildren(...Array.from({ length: count }, (_, k) => {
     const line = first + k;
@@ -122,10 +124,18 @@ function showFault(told) {
   $('fault').hidden = told === null;
   if (told) {
     const place = told.line === null ? '' : `Line ${told.line}, column ${told.column}: `;
-    $('fault').replaceChildren(element('b', told.fault), element('div', place + (told.message ?? '')));
+    $('fault').replaceChildren(element('b', place + (told.message ?? told.fault)));
     if (told.hint) $('fault').append(element('div', 'Hint: ' + told.hint));
+    $('fault').append(element('small', told.fault));
   }
   showGutter();
+}
+
+// What stands on the right isn't of the text on the left: it is dimmed, and says why.
+function setStale(why) {
+  $('stale').hidden = why === null;
+  say('stale', why ?? '');
+  $('right').classList.toggle('stale', why !== null);
 }
 
 async function refresh() {
@@ -142,11 +152,17 @@ async function refresh() {
     const late = setTimeout(() => { $('stop').hidden = false; }, 700);
     const started = performance.now();
     try {
-      const answer = await client.ask('program', { text, steps: SHORT_RUN, plain });
-      if (text === page.text) showProgram(answer, plain, performance.now() - started);
+      if (isPair(text)) await showPair(text);
+      else {
+        const answer = await client.ask('program', { text, steps: SHORT_RUN, plain });
+        if (text === page.text) showProgram(answer, plain, performance.now() - started);
+      }
     } catch (error) {
       say('state', error.message);
-      if (text === page.text) showRuns({ status: 1, text: error.message }, null);
+      if (text === page.text) {
+        showRuns({ status: 1, text: error.message }, null);
+        setStale('The text has no answer yet. Below is the last program that was built.');
+      }
     }
     clearTimeout(late);
     $('stop').hidden = true;
@@ -165,11 +181,36 @@ function showRuns(interp, run) {
   else say('agree', interp.text === run.text ? 'Both print the same.' : 'They differ: this must not be.');
 }
 
+const isPair = text => text.startsWith('block\n');
+
+// A check text of one's own: its order is judged as it is typed.
+async function showPair(text) {
+  const { status, text: said } = await client.ask('explain', { text });
+  if (text !== page.text) return;
+  const pair = status === 1 ? null : parsePair(text);
+  Object.assign(page, { image: null, blocks: [], groups: [], group: null, listing: [] });
+  showRuns({ status: 1, text: '' }, null);
+  showFault(pair ? null : parseTold(said));
+  setStale(pair ? null : 'The check text has a fault. Below is the last one that had none.');
+  say('state', said.split('\n')[0]);
+  if (!pair) return;
+  setOwn(true);
+  $('functions').replaceChildren();
+  chooseBlock({ number: null, owner: null, address: 0, ...pair });
+}
+
+// A check text has neither a graph nor RTL, and nothing runs.
+function setOwn(isOwn) {
+  document.body.classList.toggle('own', isOwn);
+  if (isOwn) chooseTab('orders');
+}
+
 function showProgram({ interp, build, run, list, orders }, isPlain, time) {
   showRuns(interp.status === 1 ? { status: 1, text: '' } : interp, run);
   if (build.image === null) {
     page.image = null;
     showFault(parseTold(build.text));
+    setStale(page.listing.length ? 'The text has a fault. Below is the last program that was built.' : 'The text has a fault: there is no program yet.');
     say('state', 'fault');
     return;
   }
@@ -180,6 +221,8 @@ function showProgram({ interp, build, run, list, orders }, isPlain, time) {
   page.listing = codeLines(list.text);
   page.stages.clear();
   showFault(null);
+  setStale(null);
+  setOwn(false);
   say('state', `${build.text.trim().split(' ').slice(0, 4).join(' ')} · ${time.toFixed(0)} ms`);
   showFunctions();
   page.breakpoint = null;
@@ -237,7 +280,7 @@ function chooseGroup(k, number) {
   showStage();
 }
 
-const NODE = { width: 92, height: 34, across: 116, down: 62, pad: 30 };
+const NODE = { width: 78, height: 34, across: 100, down: 62, pad: 10 };
 const svg = (tag, attributes, text = null) => {
   const made = document.createElementNS('http://www.w3.org/2000/svg', tag);
   for (const [name, value] of Object.entries(attributes)) made.setAttribute(name, value);
@@ -257,16 +300,22 @@ function showGraph() {
   const middle = k => NODE.pad + NODE.width / 2 + (rank[k] - least) * NODE.across;
   const top = k => NODE.pad + layer[k] * NODE.down;
   const right = NODE.pad + NODE.width + widest * NODE.across;
-  const width = right + 26 + 12 * back;
+  const width = right + 8 + 10 * back;
   const height = NODE.pad * 2 + NODE.height + Math.max(...layer) * NODE.down;
   $('graph').setAttribute('viewBox', `0 0 ${width} ${height}`);
-  Object.assign($('graph').style, { width: width + 'px', height: height + 'px', minWidth: width + 'px' });
+  const scale = parseFloat(getComputedStyle($('rtl')).fontSize) / 13;
+  Object.assign($('graph').style, { width: width * scale + 'px', height: height * scale + 'px' });
   const graph = $('shapes');
   graph.replaceChildren();
-  let lane = right + 8;
-  for (const { from, to, by, kind, isBack } of edges) {
+  let lane = right + 6;
+  const entered = new Set(edges.filter(e => e.isBack).map(e => e.to));
+  const labels = [];
+  // Short ways back are nearer than long ones.
+  const length = e => (e.isBack ? layer[e.from] - layer[e.to] : 0);
+  for (const { from, to, by, kind, isBack } of [...edges].sort((e, f) => length(e) - length(f))) {
     const side = kind === 'yes' ? -14 : kind === 'no' ? 14 : 0;
-    const [x, y, u, v] = [middle(from) + side, top(from) + NODE.height, middle(to), top(to)];
+    const enter = !entered.has(to) ? 0 : isBack ? 10 : -10;
+    const [x, y, u, v] = [middle(from) + side, top(from) + NODE.height, middle(to) + enter, top(to)];
     const bend = NODE.down - NODE.height;
     const curve = (a, b, c, d) => `C ${a} ${b + bend}, ${c} ${d - bend}, ${c} ${d}`;
     const past = by.map(k => [middle(k), top(k)]);
@@ -278,12 +327,13 @@ function showGraph() {
     });
     const line = isBack
       ? `M ${x} ${y} C ${x} ${y + 16}, ${lane} ${y + 16}, ${lane} ${y - 6} L ${lane} ${v + 6} `
-        + `C ${lane} ${v - 18}, ${u + 8} ${v - 18}, ${u + 8} ${v}`
+        + `C ${lane} ${v - 18}, ${u} ${v - 18}, ${u} ${v}`
       : `M ${x} ${y} ` + down.join(' ');
-    if (isBack) lane += 12;
+    if (isBack) lane += 10;
     graph.append(svg('path', { d: line, class: isBack ? 'back' : '', 'marker-end': isBack ? 'url(#arrow-back)' : 'url(#arrow)' }));
-    if (kind) graph.append(svg('text', { x: x + (side < 0 ? -26 : 10), y: y + 12, class: 'kind' }, kind));
+    if (kind) labels.push(svg('text', { x: x + (side < 0 ? -5 : 5), y: y + 13, class: 'kind way', 'text-anchor': side < 0 ? 'end' : 'start' }, kind));
   }
+  graph.append(...labels);
   blocks.forEach((b, k) => {
     const node = svg('g', { class: 'node', tabindex: -1, role: 'button', 'data-block': b.number, 'aria-label': `block ${b.number}` });
     node.append(svg('rect', { x: middle(k) - NODE.width / 2, y: top(k), width: NODE.width, height: NODE.height }));
@@ -303,6 +353,16 @@ function markNodes() {
     node.classList.toggle('pointed', number === here?.number);
     node.setAttribute('tabindex', number === page.chosen?.number ? 0 : -1);
   }
+  seeNode();
+}
+
+// Brings the chosen block into view, with what is around it.
+function seeNode() {
+  const box = document.querySelector('.drawing');
+  const node = document.querySelector('#graph .node.chosen')?.getBoundingClientRect();
+  const { left, top, right, bottom } = box.getBoundingClientRect();
+  if (!node || (node.left >= left && node.right <= right && node.top >= top && node.bottom <= bottom)) return;
+  box.scrollBy((node.left + node.right - left - right) / 2, (node.top + node.bottom - top - bottom) / 2);
 }
 
 // Tab reaches the chosen block alone; arrows lead to the others, Enter chooses one.
@@ -319,9 +379,12 @@ function graphKey(event) {
 
 // ---- a block and its order
 
+// One's order of a block is kept while one looks at others.
+const keyOf = ({ block }) => [...block.insts, block.exit].join('\n');
+
 function chooseBlock(block) {
   page.chosen = block;
-  page.order = block.order;
+  page.order = page.mine.get(keyOf(block)) ?? block.order;
   page.at = 0;
   const where = block.number === null ? 'A block of a check text' : `Block ${block.number}, ${hex(block.address)}`;
   say('block-title', where);
@@ -355,8 +418,8 @@ const placesOf = order => [...order.insts.keys(), 'exit', ...(order.slot === nul
 
 function showOrder() {
   const { order } = page;
-  const broken = marked(order, page.said);
   const places = placesOf(order);
+  const broken = page.badLine === null ? marked(order, page.said) : [places[page.badLine]];
   if (!places.includes(page.at)) page.at = places.includes(page.at - 1) ? page.at - 1 : places[0];
   $('order').replaceChildren(...places.map(place => {
     const line = place === 'exit' ? order.exit : place === 'slot' ? 'slot ' + order.slot : order.insts[place];
@@ -376,27 +439,121 @@ let asked = 0;
 async function judge() {
   const mine = ++asked;
   page.said = '';
-  const pair = pairText(page.chosen.block, page.order);
-  const { text } = await client.ask('explain', { text: pair }).catch(error => ({ text: error.message }));
+  const { block } = page.chosen;
+  const { status, text } = await client.ask('explain', { text: pairText(block, page.order) }).catch(error => ({ text: error.message }));
   if (mine !== asked) return;
-  page.said = text;
-  const [verdict, ...why] = text.trimEnd().split('\n');
+  const told = status === 1 ? parseTold(text) : null;
+  page.said = told ? '' : text;
+  page.badLine = told?.line ? told.line - block.insts.length - 4 : null;
+  const [verdict, ...why] = told ? ['no order', told.message, told.hint ?? ''] : text.split(/\nthe order is wrong/)[0].trimEnd().split('\n');
   const isSame = verdict === 'same';
   $('verdict').className = isSame ? 'same' : 'other';
   say('verdict', verdict);
+  $('why').classList.toggle('prose', isSame || told !== null);
   say('why', isSame ? 'The order means the block: it may stand for it.' : why.join('\n'));
+  showStart(told === null);
+  if ($('order').querySelector('input')) return;
   const hadFocus = $('order').contains(document.activeElement);
   showOrder();
   if (hadFocus) focusOrder();
 }
 
+// A start from which block and order do otherwise, with what each leaves; and both runs from it.
+function showStart(isOrder) {
+  const { chosen: { block }, order, said } = page;
+  const isWrong = said.startsWith('differs') && !said.includes('no start');
+  $('both').disabled = !isOrder;
+  $('witness').hidden = !isWrong;
+  if (!isOrder) return;
+  const named = parseStart(said);
+  const start = chooseStart(block, order, said);
+  const sides = [runBlock(block, start), runOrder(order, start)];
+  const found = named ? [['', named.block, named.order]] : differences(...sides);
+  const read = readFirst([...block.insts, block.exit], [...order.insts, order.exit, order.slot]);
+  const from = (named?.registers ?? read.map(r => [r, start.regs[r]])).map(([r, word]) => `$${r} = ${hex(word)}`).join(', ') || 'any state';
+  const by = named ? 'The order is wrong from' : "This page's own script finds the order wrong from";
+  $('start').replaceChildren(...(found.length ? [by + ' ', element('code', from)] : ["This page's own script finds no start from which they differ."]));
+  $('leaves').replaceChildren(...(found.length ? [row('th', '', 'the block leaves', 'the order leaves')] : []), ...found.slice(0, 3).map(cells => row('td', ...cells)));
+  const [a, b] = sides.map(side => side.rows);
+  const both = Array.from({ length: Math.max(a.length, b.length) }, (_, k) => row('td', k + 1, a[k] ?? '', b[k] ?? ''));
+  $('rows').replaceChildren(row('th', '', 'the block, whose loads show at once', 'your order'), ...both);
+  say('from', `Both from ${isWrong ? 'that start' : from}, word by word. This page's own script runs them, and no proof covers it.`);
+}
+
+// A row of a table; a cell is a text, or the line of a run with what it shows.
+function row(tag, ...cells) {
+  const made = element('tr', null);
+  for (const cell of cells) {
+    const { line, shows } = cell.line ? cell : { line: String(cell), shows: null };
+    const put = element(tag, line);
+    if (shows !== null) put.append(element('div', shows, shows.startsWith('stuck') && 'stuck'));
+    made.append(put);
+  }
+  return made;
+}
+
+function showBoth(isShown) {
+  $('both').setAttribute('aria-expanded', String(isShown));
+  $('runs').hidden = !isShown;
+  if (isShown) $('runs').scrollIntoView({ block: 'nearest' });
+}
+
 function change(order, at) {
-  page.order = order;
-  page.at = at;
-  page.said = '';
+  const { chosen } = page;
+  page.past.push([chosen, page.order, page.at]);
+  setOrder(order, at);
+}
+
+// The order that was before the last change.
+function undoOrder() {
+  const last = page.past.findLastIndex(([chosen]) => chosen === page.chosen);
+  if (last >= 0) setOrder(...page.past.splice(last, 1)[0].slice(1));
+}
+
+// A check text follows its order, which follows it.
+function setOrder(order, at) {
+  Object.assign(page, { order, at, said: '', badLine: null });
+  page.mine.set(keyOf(page.chosen), order);
+  if (page.chosen.number === null) {
+    page.mine.clear();
+    page.text = pairText(page.chosen.block, order);
+    putText(page.text);
+    showGutter();
+  }
+  keep();
   showOrder();
   focusOrder();
   judge();
+}
+
+// The line on which one stands becomes a field: Enter puts it in, Escape leaves it as it was, an empty one is taken out.
+function editLine() {
+  const item = $('order').querySelector('[tabindex="0"]');
+  const { at } = page;
+  const field = element('input', null);
+  field.value = item.textContent;
+  field.spellcheck = false;
+  field.setAttribute('aria-label', 'Line of the order');
+  item.draggable = false;
+  item.replaceChildren(field);
+  field.focus();
+  field.select();
+  const end = isKept => {
+    if (!field.isConnected) return;
+    const line = field.value.trim().replace(/ +/g, ' ');
+    field.onblur = null;
+    field.remove();
+    if (isKept) change(withLine(page.order, at, line), at);
+    else {
+      showOrder();
+      focusOrder();
+    }
+  };
+  field.onblur = () => end(true);
+  field.onkeydown = event => {
+    event.stopPropagation();
+    if (event.key === 'Enter' || event.key === 'Escape') end(event.key === 'Enter');
+  };
 }
 
 const CHANGES = {
@@ -414,13 +571,16 @@ const CHANGES = {
     const place = typeof at === 'number' ? at : insts.length;
     return [addNop(page.order, place), place];
   },
-  'remove-nop': ({ insts, slot }, at) => (insts[at] === 'nop' ? [removeNop(page.order, at), Math.min(at, insts.length - 2)] : null),
+  remove: ({ insts }, at) => (insts[at] === undefined ? null : [withLine(page.order, at, ''), Math.min(at, insts.length - 2)]),
   'to-plain': () => [plainOrder(page.chosen.block), 0],
   'to-build': () => [page.chosen.order, 0],
 };
+const KEYS = { s: 'to-slot', n: 'add-nop', Delete: 'remove', Backspace: 'remove', Enter: 'edit', F2: 'edit' };
 
 function apply(name) {
   if (!page.chosen) return;
+  if (name === 'edit') return editLine();
+  if (name === 'undo') return undoOrder();
   const changed = CHANGES[name](page.order, page.at);
   if (changed) change(...changed);
 }
@@ -428,7 +588,7 @@ function apply(name) {
 function orderKey(event) {
   const name = event.altKey
     ? { ArrowUp: 'up', ArrowDown: 'down' }[event.key]
-    : { s: 'to-slot', n: 'add-nop', Delete: 'remove-nop', Backspace: 'remove-nop' }[event.key];
+    : event.ctrlKey || event.metaKey ? { z: 'undo' }[event.key] : KEYS[event.key];
   if (name) {
     event.preventDefault();
     apply(name);
@@ -453,6 +613,7 @@ function listenToOrder() {
   let from = null;
   list.onkeydown = orderKey;
   list.onclick = event => { if (event.target.dataset.place) stand(placeOf(event.target)); };
+  list.ondblclick = event => { if (event.target.dataset.place) editLine(); };
   list.ondragstart = event => {
     from = placeOf(event.target);
     event.dataTransfer.setData('text/plain', event.target.textContent);
@@ -473,7 +634,9 @@ function listenToOrder() {
     from = null;
   };
   list.ondragend = showOrder;
-  for (const name of Object.keys(CHANGES)) $(name).onclick = () => apply(name);
+  for (const name of [...Object.keys(CHANGES), 'edit', 'undo']) $(name).onclick = () => apply(name);
+  $('both').onclick = () => showBoth($('runs').hidden);
+  $('as-text').onclick = () => openText(pairText(page.chosen.block, page.order));
 }
 
 // ---- the machine
@@ -586,7 +749,7 @@ function showMemory(id, address, words) {
 
 function showSpecial(view, before) {
   const changed = name => before !== null && before[name] !== view[name] && 'changed';
-  const row = (...cells) => {
+  const line = (...cells) => {
     const made = element('tr', null);
     for (const [name, text, ...classes] of cells) made.append(element('th', name), element('td', text, ...classes));
     return made;
@@ -595,9 +758,9 @@ function showSpecial(view, before) {
   const load = view.loads ? `$${view.loads} gets ${hex(view.loaded)}` : 'none';
   const wait = view.hold ? `wait ${view.hold} word${view.hold > 1 ? 's' : ''}` : 'ready';
   $('special').replaceChildren(
-    row(['pc', hex(view.pc), changed('pc')], ['HI', hex(view.high), changed('high')]),
-    row(['then', after], ['LO', hex(view.low), changed('low')]),
-    row(['load', load, view.loads > 0 && 'loading'], ['mult, div', wait, view.hold > 0 && 'loading']),
+    line(['pc', hex(view.pc), changed('pc')], ['HI', hex(view.high), changed('high')]),
+    line(['then', after], ['LO', hex(view.low), changed('low')]),
+    line(['load', load, view.loads > 0 && 'loading'], ['mult, div', wait, view.hold > 0 && 'loading']),
   );
 }
 
@@ -655,6 +818,7 @@ function openText(text) {
 }
 
 function typed() {
+  if ($('source').value === page.text && page.tried !== null) return;
   page.text = $('source').value;
   page.view = page.before = page.touched = null;
   page.last = undefined;
@@ -683,13 +847,6 @@ function kept() {
   }
 }
 
-function openPair(text) {
-  const pair = parsePair(text);
-  if (!pair) return;
-  chooseTab('orders');
-  chooseBlock({ number: null, owner: null, address: 0, ...pair });
-}
-
 function listExamples(texts) {
   const select = $('examples');
   const groups = [['C programs', /\.c$/], ['Orders', /\.check$/]].map(([label, pattern]) => {
@@ -702,8 +859,7 @@ function listExamples(texts) {
   select.onchange = () => {
     const name = select.value;
     select.value = '';
-    if (name.endsWith('.c')) openText(texts[name]);
-    else if (name) openPair(texts[name]);
+    if (name) openText(texts[name]);
   };
 }
 
@@ -728,6 +884,15 @@ function setTheme(theme) {
   $('theme').setAttribute('aria-pressed', String(theme === 'dark'));
 }
 
+function setPresent(isOn) {
+  document.documentElement.classList.toggle('present', isOn);
+  $('present').setAttribute('aria-pressed', String(isOn));
+  if (page.group) showGraph();
+  markNodes();
+  showListing();
+  follow();
+}
+
 const TABS = ['orders', 'steps', 'stages'];
 
 function chooseTab(name) {
@@ -738,6 +903,7 @@ function chooseTab(name) {
   }
   showListing();
   showStage();
+  seeNode();
 }
 
 function listenToTabs() {
@@ -788,6 +954,8 @@ async function main() {
   const dark = matchMedia('(prefers-color-scheme: dark)').matches;
   setTheme(dark ? 'dark' : 'light');
   $('theme').onclick = () => setTheme(document.documentElement.dataset.theme === 'dark' ? 'light' : 'dark');
+  $('present').onclick = () => setPresent(!document.documentElement.classList.contains('present'));
+  onresize = seeNode;
   listenToTabs();
   listenToOrder();
   listenToMachine();

@@ -3,6 +3,8 @@ import path from 'node:path';
 import { pathToFileURL } from 'node:url';
 import { Browser } from './browser.mjs';
 import { Firefox } from './firefox.mjs';
+import { parsePair } from '../model.mjs';
+import { chooseStart, differences, parseStart, runBlock, runOrder } from '../runs.mjs';
 
 const [, , name, file, pictures] = process.argv;
 const address = pathToFileURL(path.resolve(file)).href;
@@ -113,6 +115,94 @@ async function byKeys(page) {
   judge('R runs to it', await page.until(`document.querySelector('#listing .here.breakpoint') !== null`));
   await page.key('Home');
   judge('Home leads back to the start', await page.until(`${text('count')}.startsWith('0 words')`));
+}
+
+// A function of 30 blocks.
+const WIDE = `int a[40];\nint main(void) {\n    int i;\n    int s;\n    s = 0;\n    for (i = 0; i < 20; i = i + 1) {\n${
+  Array.from({ length: 8 }, (_, k) => `        if (a[i + ${k}] < s) { s = s + ${k}; } else { a[i] = s - ${k}; }\n`).join('')
+}        while (s > 100) { s = s - 50; }\n    }\n    out(s);\n    return 0;\n}\n`;
+const isInside = (inner, outer) => `(() => { const [a, b] = [document.querySelector('${inner}'), ${outer}].map(e => e.getBoundingClientRect());
+  return a.width > 0 && a.left >= b.left - 1 && a.right <= b.right + 1 && a.top >= b.top - 1 && a.bottom <= b.bottom + 1; })()`;
+const inPage = selector => isInside(selector, `({ getBoundingClientRect: () => ({ left: 0, top: 0, right: innerWidth, bottom: innerHeight }) })`);
+const isCut = selector => `[...document.querySelectorAll('${selector}')].some(e => e.scrollWidth > e.clientWidth + 1)`;
+
+// At three zooms, and for a class: nothing is cut, the verdict and the chosen block are in sight.
+async function zooms(page) {
+  await page.value(typed(WIDE));
+  judge('a function of 30 blocks', await page.until(`document.querySelectorAll('#graph .node').length === 30`));
+  judge('without a label that an edge crosses last', await page.value(`[...document.querySelectorAll('#graph .way')].every(e => !e.nextElementSibling?.matches('path')
+    && getComputedStyle(e).paintOrder.startsWith('stroke'))`));
+  judge('with an edge back, dashed', await page.value(`getComputedStyle(document.querySelector('#graph path.back')).strokeDasharray !== 'none'`));
+  for (const zoom of [1, 1.25, 1.5]) {
+    await page.zoom(zoom);
+    for (const isPresent of [false, true]) {
+      const how = `${zoom * 100} %${isPresent ? ', present' : ''}`;
+      if (isPresent) await page.value(click('present'));
+      for (const k of [0, 17, 29]) {
+        await page.value(`document.querySelectorAll('#graph .node')[${k}].dispatchEvent(new Event('click'))`);
+        await page.until(`${text('verdict')} === 'same'`);
+        judge(`${how}: block ${k} in view`, await page.value(isInside('#graph .node.chosen', `document.querySelector('.drawing')`)));
+      }
+      judge(`${how}: the graph is readable`, await page.value(`document.querySelector('#graph .node.chosen text').getBoundingClientRect().height >= 12`));
+      judge(`${how}: no instruction is cut`, !(await page.value(isCut('ol.words'))));
+      judge(`${how}: verdict and tabs in sight`, (await page.value(inPage('#verdict'))) && (await page.value(inPage('#tab-stages'))));
+      judge(`${how}: nothing runs out of the page`, await page.value('document.documentElement.scrollWidth <= innerWidth && document.documentElement.scrollHeight <= innerHeight'));
+      judge(`${how}: all buttons of the head`, await page.value(inPage('#theme')));
+      if (isPresent) judge(`${how}: code of 18 px`, await page.value(`getComputedStyle(document.querySelector('#order li')).fontSize === '18px' && !document.getElementById('left').checkVisibility()`));
+    }
+    await page.value(click('present'));
+  }
+  await page.zoom(1);
+}
+
+// A check text of one's own, lines that are edited, and a start that refutes an order.
+async function ownOrders(page) {
+  const own = (order, b) => `block\nlw $8,0($29)\n${b}\nlw $10,8($29)\nreturn\norder\n${order.join('\n')}\nreturn\nslot nop\n`;
+  for (const b of ['sw $9,4($29)', 'sw $9,0($30)']) {
+    const [a, c] = ['lw $8,0($29)', 'lw $10,8($29)'];
+    for (const order of [[a, b, c], [a, c, b], [b, a, c], [b, c, a], [c, a, b], [c, b, a]]) {
+      await page.value(`document.getElementById('verdict').textContent = ''`);
+      await page.value(typed(own(order, b)));
+      judge('a check text of one\'s own', await page.until(`${text('order')} === ${JSON.stringify([...order, 'return', 'slot nop'].join(''))}
+        && ${text('verdict')} !== ''`), order);
+      const isSame = b.endsWith('($29)') || order[1] === b && order[0] === a;
+      judge('with its verdict', isSame === ((await page.value(text('verdict'))) === 'same'), [order, await page.value(text('verdict'))]);
+    }
+  }
+  judge('without a graph', !(await page.value(`document.querySelector('.graph').checkVisibility()`)));
+  await page.value(`document.querySelector('#order li[data-place="0"]').click()`);
+  await page.key('Enter');
+  await page.value(`document.querySelector('#order input').value = 'lw $8,4($29)'`);
+  await page.key('Enter');
+  judge('a line is edited', await page.until(`${text('verdict')}.startsWith('differs')`), await page.value(text('verdict')));
+  judge('and the text follows', (await page.value(`document.getElementById('source').value`)).includes('order\nlw $8,4($29)\n'));
+  await page.value(click('undo'));
+  judge('undo brings the line back', await page.until(`document.querySelector('#order li').textContent !== 'lw $8,4($29)'`));
+  await page.value(typed('block\naddu $8,$8,1\nreturn\norder\nreturn\nslot nop\n'));
+  judge('a fault of a check text at its line', await page.until(`document.querySelector('#gutter .bad')?.textContent === '2' && !document.getElementById('fault').hidden`));
+  judge('the message is bold', (await page.value(`document.querySelector('#fault b').textContent`)).includes('expected addu'));
+  judge('what is on the right is dimmed, and says so', await page.value(`document.getElementById('right').matches('.stale') && document.getElementById('stale').checkVisibility()`));
+  await page.value(typed('block\naddiu $8,$8,1\nreturn\norder\naddiu $8,$8,2\nreturn\nslot nop\n'));
+  judge('a wrong order', await page.until(`${text('verdict')} === 'differs $8'`));
+  judge('shows its start', (await page.until(`${text('start')}.includes('from $8 = 0x')`)) && (await page.value(text('leaves'))).includes('0x'), await page.value(text('start')));
+  await page.value(click('both'));
+  judge('and both runs', await page.until(`document.getElementById('rows').checkVisibility() && document.querySelectorAll('#rows tr').length === 4 && ${text('from')}.includes('no proof')`));
+  await page.value(click('both'));
+}
+
+// What explains a verdict, as `mcc check --explain` prints it.
+function starts() {
+  const pair = parsePair('block\naddiu $8,$8,1\nreturn\norder\naddiu $8,$8,2\nreturn\nslot nop\n');
+  const said = 'differs $8\nblock: ($8 + 1)\norder: ($8 + 2)\nthe order is wrong: it does otherwise from a start with\n  $8 = 0x1000003c\n  $31 = 0x1000001c\n'
+    + '  block: $8 = 0x1000003d\n  order: $8 = 0x1000003e\n';
+  const named = parseStart(said);
+  judge('a start of an answer', JSON.stringify(named) === JSON.stringify({ registers: [[8, 0x1000003c], [31, 0x1000001c]], block: '$8 = 0x1000003d', order: '$8 = 0x1000003e' }), JSON.stringify(named));
+  const start = chooseStart(pair.block, pair.order, said);
+  const found = differences(runBlock(pair.block, start), runOrder(pair.order, start));
+  judge('gives what the answer says', found.length === 1 && `${found[0][0]} = ${found[0][1]}` === named.block && `${found[0][0]} = ${found[0][2]}` === named.order, found);
+  const early = parsePair('block\nlw $8,0($29)\naddu $9,$8,$8\nreturn\norder\nlw $8,0($29)\naddu $9,$8,$8\nreturn\nslot nop\n');
+  judge('an early word is stuck', runOrder(early.order, chooseStart(early.block, early.order, '')).rows.at(-1).isStuck);
+  judge('no start, no table', parseStart('no start that was tried tells them apart: the terms may tell too little') === null);
 }
 
 // An edit while a text runs, and Stop; a reload; an example over a text, and the way back.
@@ -232,6 +322,9 @@ async function main() {
   await page.value(typed('int main(void) {\n    out(5);\n    return 0;\n}\n'));
   judge('the page works on', await page.until(`${text('interp')}.startsWith('5\\ndone 0')`));
 
+  starts();
+  await ownOrders(page);
+  await zooms(page);
   await losesNothing(page);
 
   // long texts, and texts that are too much
