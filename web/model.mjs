@@ -118,6 +118,42 @@ export function functionsOf(text) {
   return found;
 }
 
+const COLOURED = /(\/\*[\s\S]*?(?:\*\/|$)|\/\/.*)|\b(int|unsigned|char|void|if|else|while|for|break|continue|return|out)\b|\b(\d\w*)/g;
+
+// The parts of each line that have a colour: comments, the words of C, numbers.
+export function coloursOf(text) {
+  const lines = text.split('\n').map(() => []);
+  let line = 0, start = 0;
+  for (const { 0: found, index, 1: comment, 2: word } of text.matchAll(COLOURED)) {
+    for (let end = text.indexOf('\n', start); end >= 0 && end < index; end = text.indexOf('\n', start)) [line, start] = [line + 1, end + 1];
+    found.split('\n').forEach((part, k) => {
+      const from = k ? 0 : index - start;
+      lines[line + k].push([from, from + part.length, comment ? 'comment' : word ? 'keyword' : 'number']);
+    });
+  }
+  return lines;
+}
+
+// The globals of a C text, with their addresses and places: one word each, or as many as an array has; four bytes share one.
+export function globalsOf(text) {
+  let depth = 0, address = 0x10000000;
+  const outside = [...codeOf(text)].filter(c => (c === '}' ? depth-- : c === '{' ? depth++ : depth) === 0 && c !== '}').join('');
+  return [...outside.matchAll(/\b(int|unsigned|char)\s+(\w+)\s*(?:\[\s*(\w+?)[uU]?\s*\]|=[^;]*)?\s*;/g)].map(([, type, name, count]) => {
+    const found = { name, address, count: count === undefined ? null : Number(count), size: type === 'char' ? 1 : 4 };
+    address += 4 * Math.ceil(((found.count ?? 1) * found.size) / 4);
+    return found;
+  });
+}
+
+// The name of the word at an address: `a[3]`, and `line[4..7]` where it has four bytes.
+export function nameAt(globals, address) {
+  const held = globals.findLast(g => g.address <= address);
+  if (!held || address >= held.address + 4 * Math.ceil(((held.count ?? 1) * held.size) / 4)) return '';
+  const first = (address - held.address) / held.size;
+  if (held.count === null) return held.name;
+  return held.size === 4 ? `${held.name}[${first}]` : `${held.name}[${first}..${Math.min(first + 3, held.count - 1)}]`;
+}
+
 // The functions of a build: the start, and those of the text in their order; each with the numbers of its blocks.
 export function groupBlocks(blocks, functions) {
   return [...Map.groupBy(blocks, b => b.owner)].map(([owner, own], k) => ({
@@ -290,6 +326,20 @@ function ranks(count, edges, layer) {
 export function codeLines(text) {
   const start = text.indexOf('00400000  ');
   return start < 0 ? [] : text.slice(start).split(/\n(?!00)/, 1)[0].split('\n');
+}
+
+export const NAMES = ['zero', 'at', 'v0', 'v1', ...[0, 1, 2, 3].map(k => 'a' + k), ...[0, 1, 2, 3, 4, 5, 6, 7].map(k => 't' + k),
+  ...[0, 1, 2, 3, 4, 5, 6, 7].map(k => 's' + k), 't8', 't9', 'k0', 'k1', 'gp', 'sp', 'fp', 'ra'];
+
+// What a word did, by the machine before it and after it: what it does, what shows then, and where its slot leads.
+export function deed(line, before, after, wordText) {
+  const at = reached(line, before.registers);
+  const does = after.loads ? `$${after.loads} gets ${wordText(after.loaded)}`
+    : after.target !== null ? `goes to ${hex(after.target).slice(2)}`
+      : at !== null && line[0] === 's' ? `[${hex(at).slice(2)}] gets ${line.slice(3).split(',')[0]}` : '';
+  const own = /^(?!sw|sb|b|lw|lbu|mult|div|jr|syscall)\w+ \$(\d+),/.exec(line)?.[1] ?? (line.startsWith('jal ') ? 31 : 0);
+  const shows = [...new Set([before.loads, Number(own)])].filter(r => r > 0).map(r => `$${r} = ${wordText(after.registers[r])}`).join(', ');
+  return { does, shows, isLate: before.loads > 0, leap: before.target === before.pc + 4 ? null : before.target };
 }
 
 // The address that a load or store reaches, by the registers before it.

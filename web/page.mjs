@@ -1,7 +1,7 @@
 // The page: what is typed goes to the worker, and what it answers is shown.
 import {
-  RULES, addNop, blockAt, blockOf, codeLines, exitLines, functionsOf, graphOf, groupBlocks, hex, marked, move, orderWords, pairText,
-  parseOrders, parsePair, parseTold, plainOrder, reached, withLine,
+  NAMES, RULES, addNop, blockAt, blockOf, codeLines, coloursOf, deed, exitLines, functionsOf, globalsOf, graphOf, groupBlocks, hex, marked, move,
+  nameAt, orderWords, pairText, parseOrders, parsePair, parseTold, plainOrder, reached, withLine,
 } from './model.mjs';
 import { chooseStart, differences, parseStart, readFirst, runBlock, runOrder } from './runs.mjs';
 
@@ -77,7 +77,7 @@ let client = null;
 const page = {
   text: '', lines: [], marks: {}, scroll: { top: 0, left: 0 }, told: null, image: null, blocks: [], groups: [], group: null,
   chosen: null, order: null, at: 0, said: '', stages: new Map(), tried: null, isRunning: false, isOther: false,
-  mine: new Map(), past: [], badLine: null,
+  mine: new Map(), past: [], badLine: null, globals: [], isPlaying: false, goal: null, wanted: {}, colours: null,
   listing: [], view: null, before: null, breakpoint: null, cursor: null, touched: null, isBusy: false, isStale: false,
 };
 
@@ -92,15 +92,8 @@ function showGutter() {
   const held = bad === null && chosen?.number != null ? group?.lines : null;
   page.lines = page.text.split('\n');
   page.marks = { bad, held, left: held ? exitLines(page.text, group, chosen, page.groups) : [] };
-  const behind = $('behind');
-  behind.replaceChildren();
-  if (bad !== null) {
-    const line = page.lines[bad - 1] ?? '';
-    const start = told.column - 1;
-    const length = /^(\w+|[-+*\/%&|^<>=!]+|.)/.exec(line.slice(start))?.[0].length ?? 0;
-    behind.style.top = `${bad - 1}lh`;
-    behind.append(line.slice(0, start), element('mark', line.slice(start, start + length) || ' '), line.slice(start + length));
-  }
+  page.colours = page.text.length <= SHORT_TEXT ? coloursOf(page.text) : null;
+  $('source').classList.toggle('uncoloured', !page.colours);
   follow();
 }
 
@@ -115,8 +108,38 @@ function follow() {
     const isHeld = held && held.from <= line && line <= held.to;
     return element('div', String(line), line === bad ? 'bad' : exits.includes(line) ? 'left' : isHeld && 'held');
   }));
+  drawText(first, count);
   $('numbers').style.transform = `translateY(calc(${first - 1}lh - ${top}px))`;
-  $('behind').style.transform = `translate(${-left}px, ${-top}px)`;
+  $('behind').style.transform = `translate(${-left}px, calc(${first - 1}lh - ${top}px))`;
+}
+
+// The text of the lines that are seen, in colours, with the place of a fault.
+function drawText(first, count) {
+  const { told, colours, lines } = page;
+  const parts = [];
+  for (let k = first - 1; k < first - 1 + count; k++) {
+    const line = lines[k];
+    const start = told?.line === k + 1 ? told.column - 1 : -1;
+    const end = start < 0 ? -1 : start + Math.max(1, /^(\w+|[-+*\/%&|^<>=!]+|.)/.exec(line.slice(start))?.[0].length ?? 1);
+    const spans = start < 0 ? colours?.[k] ?? [] : [[0, start, null], [start, end, 'bad']];
+    let at = 0;
+    for (const [from, to, kind] of spans) {
+      const shown = line.slice(from, to) || (kind === 'bad' ? ' ' : '');
+      parts.push(line.slice(at, from), kind === null ? shown : element(kind === 'bad' ? 'mark' : 'span', shown, kind));
+      at = to;
+    }
+    parts.push((colours || start >= 0 ? line.slice(at) : '') + '\n');
+  }
+  $('behind').replaceChildren(...parts);
+}
+
+// Enter keeps the indentation, and adds to it after a brace.
+function sourceKey(event) {
+  const { value, selectionStart } = event.target;
+  if (event.key !== 'Enter' || event.isComposing || event.ctrlKey || event.altKey || value.length > SHORT_TEXT) return;
+  const line = value.slice(value.lastIndexOf('\n', selectionStart - 1) + 1, selectionStart);
+  event.preventDefault();
+  document.execCommand('insertText', false, '\n' + /^ */.exec(line)[0] + (/\{\s*$/.test(line) ? '    ' : ''));
 }
 
 function showFault(told) {
@@ -173,12 +196,32 @@ async function refresh() {
 function showRuns(interp, run) {
   say('interp', cut(interp.text));
   say('machine', run ? cut(run.text) : '');
+  const isOne = !run || interp.text === run.text;
+  $('machine').parentElement.hidden = isOne;
+  say('whose', run && isOne ? 'Output of interpreter and machine' : 'Interpreter');
+  say('reason', '');
   const isMore = interp.status === 4 || run?.status === 4;
   $('run-on').hidden = !isMore || !run;
   if (!run) say('agree', '');
-  else if (interp.status === 3) say('agree', 'C gives the text no meaning from there on, so nothing is promised of the machine.');
+  else if (interp.status === 3) say('agree', 'C gives the text no meaning from there on, so nothing is promised of the machine. The command mcc interp prints why.');
   else if (isMore) say('agree', 'Not at the end after these steps.');
-  else say('agree', interp.text === run.text ? 'Both print the same.' : 'They differ: this must not be.');
+  else say('agree', isOne ? 'Both print the same.' : 'They differ: this must not be.');
+  if (run?.status === 3) showPlace(run.text.trimEnd().split('\n').at(-1).slice(6));
+}
+
+// Why the machine is stuck, and at which word of which block.
+async function showPlace(rule) {
+  const { image } = page;
+  const view = await client.ask('machine', { image, from: 0, most: SHORT_RUN, stop: 0, address: 0x10000000 }).catch(() => null);
+  if (!view || image !== page.image) return;
+  const block = blockAt(page.blocks, view.pc);
+  const name = page.groups.find(g => g.owner === block?.owner)?.name;
+  const there = element('button', 'Show the word');
+  there.onclick = () => {
+    chooseTab('steps');
+    goTo(view.words);
+  };
+  $('reason').replaceChildren(`The machine is stuck by ${RULES[rule] ?? rule} `, element('b', `${hex(view.pc)}: ${lineAt(view.pc)}`), `, block ${block?.number} of ${name}. `, there);
 }
 
 const isPair = text => text.startsWith('block\n');
@@ -206,9 +249,9 @@ function setOwn(isOwn) {
 }
 
 function showProgram({ interp, build, run, list, orders }, isPlain, time) {
-  showRuns(interp.status === 1 ? { status: 1, text: '' } : interp, run);
   if (build.image === null) {
     page.image = null;
+    showRuns({ status: 1, text: '' }, null);
     showFault(parseTold(build.text));
     setStale(page.listing.length ? 'The text has a fault. Below is the last program that was built.' : 'The text has a fault: there is no program yet.');
     say('state', 'fault');
@@ -219,10 +262,12 @@ function showProgram({ interp, build, run, list, orders }, isPlain, time) {
   page.blocks = blocks;
   page.groups = groupBlocks(blocks, functionsOf(page.text));
   page.listing = codeLines(list.text);
+  page.globals = globalsOf(page.text);
   page.stages.clear();
   showFault(null);
   setStale(null);
   setOwn(false);
+  showRuns(interp, run);
   say('state', `${build.text.trim().split(' ').slice(0, 4).join(' ')} · ${time.toFixed(0)} ms`);
   showFunctions();
   page.breakpoint = null;
@@ -264,10 +309,11 @@ function showFunctions() {
   const was = page.isOther ? null : page.group?.name;
   const select = $('functions');
   select.replaceChildren(...page.groups.map((g, k) => new Option(`${g.name} (${g.blocks.length})`, k)));
-  const wanted = page.groups.findIndex(g => g.name === was);
+  const wanted = page.groups.findIndex(g => g.name === (page.wanted.name ?? was));
   const main = page.groups.findIndex(g => g.name === 'main');
-  chooseGroup(wanted >= 0 ? wanted : Math.max(main, 0), wanted >= 0 ? page.chosen?.number : null);
+  chooseGroup(wanted >= 0 ? wanted : Math.max(main, 0), page.wanted.number ?? (wanted >= 0 ? page.chosen?.number : null));
   page.isOther = false;
+  page.wanted = {};
 }
 
 function chooseGroup(k, number) {
@@ -452,6 +498,7 @@ async function judge() {
   $('why').classList.toggle('prose', isSame || told !== null);
   say('why', isSame ? 'The order means the block: it may stand for it.' : why.join('\n'));
   showStart(told === null);
+  showGoal();
   if ($('order').querySelector('input')) return;
   const hadFocus = $('order').contains(document.activeElement);
   showOrder();
@@ -608,8 +655,30 @@ function stand(place) {
 
 const placeOf = item => (/^\d+$/.test(item.dataset.place) ? Number(item.dataset.place) : item.dataset.place);
 
+// A ribbon from an instruction of the block to the same one of the order.
+function showRibbon(item) {
+  const lists = ['block', 'order'].map(id => [...$(id).children]);
+  const textOf = it => it.textContent.replace('slot ', '');
+  const alike = items => items.filter(it => textOf(it) === textOf(item));
+  const isShown = item !== null && lists.some(items => items.includes(item)) && textOf(item) !== 'nop';
+  const ends = isShown ? lists.map(items => alike(items)[alike(item.parentElement === $('block') ? lists[0] : lists[1]).indexOf(item)]) : [];
+  for (const it of lists.flat()) it.classList.toggle('tied', ends.includes(it) && ends.every(Boolean));
+  $('ribbon').replaceChildren();
+  if (!isShown || !ends.every(Boolean)) return;
+  const { left, top } = $('ribbon').getBoundingClientRect();
+  const [a, b] = ends.map(it => it.getBoundingClientRect());
+  const [x, u] = [a.right - left, b.left - left];
+  const [y, z, v, w] = [a.top, a.bottom, b.top, b.bottom].map(at => at - top);
+  const middle = (x + u) / 2;
+  $('ribbon').append(svg('path', { d: `M ${x} ${y} C ${middle} ${y}, ${middle} ${v}, ${u} ${v} L ${u} ${w} C ${middle} ${w}, ${middle} ${z}, ${x} ${z} Z` }));
+}
+
 function listenToOrder() {
   const list = $('order');
+  for (const id of ['block', 'order']) {
+    $(id).onmouseover = $(id).onfocusin = event => showRibbon(event.target.closest('li'));
+    $(id).onmouseleave = () => showRibbon(null);
+  }
   let from = null;
   list.onkeydown = orderKey;
   list.onclick = event => { if (event.target.dataset.place) stand(placeOf(event.target)); };
@@ -650,16 +719,29 @@ async function goTo(from, { most = 0, stop = 0 } = {}) {
   page.before = page.view && view.words === page.view.words + 1 ? page.view : null;
   page.view = view;
   page.cursor = null;
+  if (!$('steps').hidden) chooseAt(view.pc);
   showMachine();
 }
 
 function step() {
   const { view } = page;
-  if (!view || view.next.status !== 4) return;
+  if (!view || view.next.status !== 4) return null;
   const at = reached(lineAt(view.pc), view.registers);
   if (at !== null && at < 0x6f000000) page.touched = at - (at % 4) - Math.min(16, at - (at % 4) - 0x10000000);
   if (at !== null) page.last = at;
-  goTo(view.words + 1);
+  return goTo(view.words + 1);
+}
+
+// Steps at a speed, up to the end or the breakpoint.
+async function play() {
+  page.isPlaying = !page.isPlaying;
+  say('play', page.isPlaying ? 'Pause' : 'Play');
+  while (page.isPlaying) {
+    await new Promise(resolve => setTimeout(resolve, 1000 / Number($('speed').value)));
+    if (page.isPlaying) await step();
+    page.isPlaying &&= page.view?.next.status === 4 && page.view.pc !== page.breakpoint;
+  }
+  say('play', 'Play');
 }
 
 const lineAt = pc => page.listing[(pc - 0x00400000) / 4]?.slice(20) ?? '';
@@ -678,7 +760,7 @@ function showListing() {
   list.replaceChildren(...page.listing.slice(near, upTo).map((_, k) => {
     const address = 0x00400000 + 4 * (near + k);
     const number = begins.get(address);
-    const label = [String(number ?? '').padStart(4), address.toString(16).padStart(8, '0'), lineAt(address)].join('  ');
+    const label = [String(number ?? '').padStart(4), address.toString(16).padStart(8, '0'), lineAt(address)].join(' ');
     const item = element('li', label, number !== undefined && 'block', address === view?.pc && 'here', isIn(address) && 'chosen',
       address === after && 'next', address === page.breakpoint && 'breakpoint');
     item.dataset.address = address;
@@ -731,37 +813,52 @@ function showMachine() {
     const isLoading = view.loads === r && r > 0;
     const isChanged = before !== null && before.registers[r] !== word;
     const item = element('div', null, isChanged && 'changed', isLoading && 'loading');
-    item.append(element('span', '$' + r), word.toString(16).padStart(8, '0'));
-    item.title = isLoading ? `${word | 0}; a load is under way: ${view.loaded | 0} shows behind the next word` : `${word | 0}`;
+    item.append(element('span', `$${r} ${NAMES[r]}`), wordText(word));
+    item.title = isLoading ? `${word | 0}; a load is under way: ${view.loaded | 0} shows after the next word` : `${word | 0}`;
     return item;
   }));
-  showMemory('stack', view.registers[29], view.stack.slice(0, 16));
+  $('registers').classList.toggle('decimal', $('base').value !== 'hex');
+  showPast(view);
+  showMemory('stack', view.registers[29], view.stack.slice(0, 16), () => '');
   say('data-title', 'Data from ' + hex(view.address));
-  showMemory('data', view.address, view.memory.slice(0, 16));
+  showMemory('data', view.address, view.memory.slice(0, 16), at => nameAt(page.globals, at));
 }
 
-function showMemory(id, address, words) {
-  const digits = word => word.toString(16).padStart(8, '0');
-  const lines = words.map((word, k) => [`${digits(address + 4 * k)}  ${digits(word)}\n`, address + 4 * k]);
+const wordText = word => ($('base').value === 'hex' ? word.toString(16).padStart(8, '0') : String(word | 0).padStart(11));
+
+// The last words, one below the other: what a load gets shows one row later, and a branch leads away from below its slot.
+function showPast(view) {
+  const states = [...view.past, view];
+  const rows = view.past.flatMap((before, k) => {
+    const { does, shows, isLate, leap } = deed(lineAt(before.pc), before, states[k + 1], word => wordText(word).trim());
+    const made = row('td', lineAt(before.pc), does, shows);
+    made.cells[1].classList.toggle('loading', states[k + 1].loads > 0);
+    made.cells[2].classList.toggle('loading', isLate);
+    if (leap === null) return [made];
+    const way = row('td', `└─▶ ${hex(leap).slice(2)}`, '', '');
+    way.className = 'leap';
+    return [made, way];
+  });
+  $('past').replaceChildren(row('th', 'fetches', 'does', 'shows'), ...rows);
+}
+
+function showMemory(id, address, words, nameOf) {
+  const line = (word, at) => `${at.toString(16).padStart(8, '0')}  ${wordText(word)}  ${nameOf(at)}`.trimEnd() + '\n';
   const isLast = at => page.last !== undefined && at <= page.last && page.last < at + 4;
-  $(id).replaceChildren(...lines.map(([line, at]) => (isLast(at) ? element('mark', line) : line)));
+  $(id).replaceChildren(...words.map((word, k) => (isLast(address + 4 * k) ? element('mark', line(word, address + 4 * k)) : line(word, address + 4 * k))));
 }
 
 function showSpecial(view, before) {
   const changed = name => before !== null && before[name] !== view[name] && 'changed';
-  const line = (...cells) => {
-    const made = element('tr', null);
-    for (const [name, text, ...classes] of cells) made.append(element('th', name), element('td', text, ...classes));
-    return made;
-  };
-  const after = view.target === null ? hex((view.pc + 4) >>> 0) : `${hex(view.target)} (pc is a slot)`;
+  const after = view.target === null ? hex((view.pc + 4) >>> 0) : `${hex(view.target)} (in a slot)`;
   const load = view.loads ? `$${view.loads} gets ${hex(view.loaded)}` : 'none';
-  const wait = view.hold ? `wait ${view.hold} word${view.hold > 1 ? 's' : ''}` : 'ready';
-  $('special').replaceChildren(
-    line(['pc', hex(view.pc), changed('pc')], ['HI', hex(view.high), changed('high')]),
-    line(['then', after], ['LO', hex(view.low), changed('low')]),
-    line(['load', load, view.loads > 0 && 'loading'], ['mult, div', wait, view.hold > 0 && 'loading']),
-  );
+  const cells = [['pc', hex(view.pc)], ['HI', hex(view.high), changed('high')], ['then', after], ['LO', hex(view.low), changed('low')],
+    ['load', load, view.loads > 0 && 'loading'], ['mult, div', view.hold ? `wait ${view.hold}` : 'ready', view.hold > 0 && 'loading']];
+  $('special').replaceChildren(...cells.map(([name, text, ...classes]) => {
+    const item = element('div', null, ...classes);
+    item.append(element('span', name), text);
+    return item;
+  }));
 }
 
 function setBreakpoint(address) {
@@ -772,6 +869,8 @@ function setBreakpoint(address) {
 function listenToMachine() {
   $('step').onclick = step;
   $('back').onclick = () => goTo(Math.max(0, (page.view?.words ?? 0) - 1));
+  $('play').onclick = play;
+  $('base').onchange = () => page.view && showMachine();
   $('reset').onclick = () => { page.last = undefined; page.touched = null; goTo(0); };
   $('run').onclick = () => goTo((page.view?.words ?? 0) + 1, { most: SHORT_RUN, stop: page.breakpoint ?? 0 });
   $('listing').onclick = event => {
@@ -785,7 +884,7 @@ function listenToMachine() {
 
 function machineKey(event) {
   if (event.target.closest('button, select, input') || event.altKey || event.ctrlKey || event.metaKey) return;
-  const name = { ArrowRight: 'step', ' ': 'step', ArrowLeft: 'back', Home: 'reset', r: 'run' }[event.key];
+  const name = { ArrowRight: 'step', ' ': 'step', ArrowLeft: 'back', Home: 'reset', r: 'run', p: 'play' }[event.key];
   const by = event.target === $('listing') ? { ArrowUp: -4, ArrowDown: 4 }[event.key] : undefined;
   if (!name && !by && event.key !== 'Enter') return;
   event.preventDefault();
@@ -822,6 +921,7 @@ function typed() {
   page.text = $('source').value;
   page.view = page.before = page.touched = null;
   page.last = undefined;
+  page.isPlaying = false;
   if (page.isRunning) stop();
   showGutter();
   keep();
@@ -832,7 +932,7 @@ function typed() {
 // The text outlives a reload, together with the link from which it came.
 function keep() {
   try {
-    sessionStorage.setItem('mcc', JSON.stringify({ hash: location.hash, text: page.text }));
+    sessionStorage.setItem('mcc', JSON.stringify({ hash: location.hash, state: stateOf() }));
   } catch {
     sessionStorage.removeItem('mcc');
   }
@@ -840,8 +940,8 @@ function keep() {
 
 function kept() {
   try {
-    const { hash, text } = JSON.parse(sessionStorage.getItem('mcc'));
-    return hash === location.hash ? text : null;
+    const { hash, state } = JSON.parse(sessionStorage.getItem('mcc'));
+    return hash === location.hash ? state : null;
   } catch {
     return null;
   }
@@ -863,19 +963,59 @@ function listExamples(texts) {
   };
 }
 
-function textOfAddress() {
+// What a link carries: the text, the view, the function, the block, one's order of it, and a goal.
+function stateOf() {
+  const { chosen, group, order, goal, text } = page;
+  const state = { c: text, v: TABS.find(tab => !$(tab).hidden) };
+  if (group && chosen?.number != null) Object.assign(state, { f: group.name, b: chosen.number });
+  if (chosen && order && order !== chosen.order && chosen.number !== null) state.o = pairText(chosen.block, order);
+  if (goal !== null) state.g = `at most ${goal} words and same`;
+  return state;
+}
+
+const hashOf = state => '#' + Object.entries(state).map(([name, value]) => `${name}=${encodeURIComponent(value)}`).join('&');
+
+// The state of an address; an old one has a text alone.
+function stateOfAddress() {
   try {
-    return decodeURIComponent(location.hash.slice(1));
+    const hash = location.hash.slice(1);
+    if (!/^[a-z]=/.test(hash)) return { c: decodeURIComponent(hash) };
+    return Object.fromEntries(hash.split('&').map(part => [part[0], decodeURIComponent(part.slice(2))]));
   } catch {
-    return '';
+    return {};
   }
 }
 
+function openState({ c, v, f, b, o, g }) {
+  const pair = o && parsePair(o);
+  if (pair) page.mine.set(keyOf(pair), pair.order);
+  page.wanted = { name: f, number: Number(b) };
+  setGoal(/\d+/.exec(g ?? '')?.[0] ?? null);
+  openText(c);
+  if (TABS.includes(v)) chooseTab(v);
+}
+
+// An exercise: an order of at most so many words that means its block.
+function setGoal(words) {
+  page.goal = words === null || words === '' ? null : Number(words);
+  $('goal-words').value = page.goal ?? '';
+  showGoal();
+}
+
+function showGoal() {
+  const { goal, order, said } = page;
+  $('goal').hidden = goal === null;
+  if (goal === null || !order) return;
+  const isReached = said.trim() === 'same' && orderWords(order) <= goal;
+  $('goal').className = isReached ? 'same' : '';
+  say('goal', `Goal: at most ${goal} words and same. ${isReached ? 'Reached!' : `Now: ${orderWords(order)} words, ${said.split('\n')[0] || 'no order'}.`}`);
+}
+
 async function copyLink() {
-  history.replaceState(null, '', '#' + encodeURIComponent(page.text));
+  history.replaceState(null, '', hashOf(stateOf()));
   keep();
   const isCopied = await navigator.clipboard?.writeText(location.href).then(() => true, () => false);
-  say('state', isCopied ? 'link copied' : 'the address has the text now');
+  say('state', isCopied ? 'link copied' : 'the address has it now');
 }
 
 function setTheme(theme) {
@@ -904,6 +1044,7 @@ function chooseTab(name) {
   showListing();
   showStage();
   seeNode();
+  if (client) keep();
 }
 
 function listenToTabs() {
@@ -969,13 +1110,15 @@ async function main() {
     follow();
   };
   source.onkeyup = source.onclick = followCaret;
+  source.onkeydown = sourceKey;
   $('plain').onchange = refresh;
   $('functions').onchange = () => chooseGroup(Number($('functions').value));
   $('stage').onchange = $('whole').onchange = showStage;
   $('link').onclick = copyLink;
   $('run-on').onclick = runOn;
   $('stop').onclick = stop;
-  onhashchange = () => openText(textOfAddress());
+  onhashchange = () => openState(stateOfAddress());
+  $('goal-words').oninput = () => setGoal($('goal-words').value);
   const wasm = Uint8Array.from(atob($('wasm').textContent.trim()), c => c.charCodeAt(0));
   client = new Client($('worker').textContent, wasm);
   const started = performance.now();
@@ -988,7 +1131,8 @@ async function main() {
     return;
   }
   document.documentElement.dataset.ready = (performance.now() - started).toFixed(0);
-  openText(kept() ?? (textOfAddress() || texts['squares.c']));
+  const state = kept() ?? stateOfAddress();
+  openState({ ...state, c: state.c || texts['squares.c'] });
 }
 
 main();

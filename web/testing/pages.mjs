@@ -1,4 +1,5 @@
 // The page in a headless browser, from its file: node pages.mjs chromium|firefox PAGE [FOLDER for pictures]
+import fs from 'node:fs';
 import path from 'node:path';
 import { pathToFileURL } from 'node:url';
 import { Browser } from './browser.mjs';
@@ -190,6 +191,88 @@ async function ownOrders(page) {
   await page.value(click('both'));
 }
 
+// The machine: names of registers and globals, numbers, the last words, a speed, and the block at pc.
+async function machine(page) {
+  await page.value(typed('int first;\nunsigned char line[6];\nint a[4];\n\nint main(void) {\n    int i;\n    i = 0;\n    while (i < 3) {\n        a[i] = a[i + 1] + 7;\n'
+    + '        i = i + 1;\n    }\n    first = 0 - a[0];\n    line[5] = 9;\n    out(first);\n    return 0;\n}\n'));
+  await page.until(`${text('interp')}.startsWith('4294967289\\ndone 0')`);
+  await page.value(click('tab-steps'));
+  judge('a load under way', await stepTo(page, `document.querySelectorAll('#registers .loading').length === 1`));
+  const late = `document.querySelector('#past tr:last-child td:nth-child(2)').textContent`;
+  judge('is in the last words', /^\$\d+ gets /.test(await page.value(late)), await page.value(late));
+  const register = /\$\d+/.exec(await page.value(late))[0];
+  const count = await page.value(text('count'));
+  await page.value(click('step'));
+  await page.until(`${text('count')} !== '${count}'`);
+  judge('and its value shows one row later', await page.value(`document.querySelector('#past tr:last-child td.loading:nth-child(3)').textContent.includes('${register} = ')`));
+  judge('a branch leaves from below its slot', await stepTo(page, `document.querySelector('#past tr.leap:last-child') !== null`));
+  judge('the chosen block follows', await page.value(`document.querySelector('#listing .here').matches('.chosen')`));
+  judge('both names of a register', (await page.value(text('registers'))).includes('$29 sp'));
+  judge('eight words at most', await page.value(`document.querySelectorAll('#past tr:not(.leap)').length <= 9`));
+  for (const zoom of [1, 1.25, 1.5]) {
+    await page.zoom(zoom);
+    judge(`${zoom * 100} %: no word of the listing is cut`, !(await page.value(isCut('#listing'))) && !(await page.value(isCut('.values'))));
+    judge(`${zoom * 100} %: the next word is in sight`, (await page.value(inPage('#listing .here'))) && (await page.value(inPage('#tab-stages'))));
+  }
+  await page.zoom(1);
+  await page.value(click('run'));
+  judge('runs to the end', await page.until(`${text('ending')}.startsWith('The next word halts')`));
+  await page.value(`(() => { const s = document.getElementById('base'); s.value = 'decimal'; s.onchange(); })()`);
+  judge('the globals by name, in decimal', await page.until(`/10000000\\s+-7\\s+first\\n10000004.*line\\[0\\.\\.3\\]\\n10000008.*line\\[4\\.\\.5\\]\\n1000000c\\s+7\\s+a\\[0\\]/.test(${text('data')})`),
+    await page.value(text('data')));
+  await page.value(`(() => { const s = document.getElementById('base'); s.value = 'hex'; s.onchange(); document.getElementById('speed').value = '40'; })()`);
+  await page.value(click('reset'));
+  await page.until(`${text('count')}.startsWith('0 words')`);
+  await page.value(click('play'));
+  judge('plays by itself', await page.until(`parseInt(${text('count')}) > 5`));
+  await page.value(click('play'));
+  judge('and pauses', await page.until(`${text('play')} === 'Play'`));
+  await page.value(typed('int a[4];\nint main(void) {\n    int i;\n    i = 7;\n    a[i * 100000] = 7;\n    return 0;\n}\n'));
+  judge('stuck says why', await page.until(`${text('reason')}.includes("an address that isn't mapped") && ${text('reason')}.includes('sw ')`), await page.value(text('reason')));
+  judge('beside wrong, in two outputs', (await page.value(text('interp'))).startsWith('wrong') && (await page.value(`document.getElementById('machine').checkVisibility()`)));
+  await page.value(`document.querySelector('#reason button').click()`);
+  judge('and leads to the word', await page.until(`document.querySelector('#listing .here')?.textContent.includes('sw ') && ${text('ending')}.includes('stuck')`));
+  await page.value(click('tab-orders'));
+  await page.value(typed('int main(void) {\n    out(1);\n    return 0;\n}\n'));
+  judge('one output where both agree', await page.until(`${text('whose')} === 'Output of interpreter and machine' && !document.getElementById('machine').checkVisibility()`));
+  judge('with colours', await page.value(`document.querySelectorAll('#behind .keyword').length === 4 && document.querySelector('#behind').textContent.startsWith('int main(void) {\\n')`));
+  await page.value(`(() => { const s = document.getElementById('source'); s.focus(); s.setSelectionRange(16, 16); })()`);
+  await page.key('Enter');
+  judge('Enter indents', (await page.value(`document.getElementById('source').value`)).startsWith('int main(void) {\n    \n    out(1);'));
+}
+
+// A link carries the text, the function, the block, one's order of it, the view and a goal, which the page judges.
+async function links(page, browser) {
+  await page.value(choose('primes.c'));
+  await page.until(`${text('interp')}.includes('29\\ndone 0') && document.querySelectorAll('#graph .node').length === 7`);
+  await page.value(`document.querySelector('#graph [data-block="6"]').dispatchEvent(new Event('click'))`);
+  await page.until(`${text('block-title')}.startsWith('Block 6') && ${text('verdict')} === 'same'`);
+  await page.value(`document.querySelector('#order li').focus()`);
+  await page.key('ArrowDown', { alt: true });
+  await page.until(`${text('verdict')}.startsWith('differs')`);
+  await page.value(`(() => { const g = document.getElementById('goal-words'); g.value = 9; g.oninput(); })()`);
+  judge('a goal that isn\'t reached', await page.until(`/^Goal: at most 9 words and same\\. Now: 9 words, differs/.test(${text('goal')})`), await page.value(text('goal')));
+  const order = await page.value(text('order'));
+  await page.value(click('link'));
+  const hash = await page.value('location.hash');
+  const linked = await browser.open(address + hash);
+  judge('a link carries block, order and goal', await linked.until(`${text('block-title')}.startsWith('Block 6') && ${text('verdict')}.startsWith('differs')
+    && ${text('order')} === ${JSON.stringify(order)} && ${text('goal')}.startsWith('Goal: at most 9 words')`), hash);
+  await linked.value(click('to-build'));
+  judge('the page judges the goal', await linked.until(`${text('goal')}.endsWith('Reached!')`), await linked.value(text('goal')));
+  await linked.reload();
+  judge('a reload keeps all of it', await linked.until(`${text('block-title')}.startsWith('Block 6') && ${text('goal')}.endsWith('Reached!')`));
+  const stages = await browser.open(`${address}#c=${encodeURIComponent('int main(void) {\n    out(42);\n    return 0;\n}\n')}&v=stages`);
+  judge('a link carries its view', await stages.until(`document.getElementById('stage-text').checkVisibility() && ${text('stage-text')}.startsWith('function main')`));
+  const lesson = fs.readFileSync(new URL('../../docs/TEACHING.md', import.meta.url), 'utf8');
+  const exercises = [...lesson.matchAll(/mcc\.html(#[^)\s]*)/g)].map(([, found]) => found);
+  judge('six exercises of the lesson', exercises.length === 6, exercises.length);
+  for (const exercise of exercises) {
+    const opened = await browser.open(address + exercise);
+    judge('an exercise opens, and is to do', await opened.until(`${text('goal')}.includes('Now: ')`), exercise);
+  }
+}
+
 // What explains a verdict, as `mcc check --explain` prints it.
 function starts() {
   const pair = parsePair('block\naddiu $8,$8,1\nreturn\norder\naddiu $8,$8,2\nreturn\nslot nop\n');
@@ -325,7 +408,9 @@ async function main() {
   starts();
   await ownOrders(page);
   await zooms(page);
+  await machine(page);
   await losesNothing(page);
+  await links(page, browser);
 
   // long texts, and texts that are too much
   await page.value(typed(long()));
