@@ -6,12 +6,8 @@ import {
 import { chooseStart, differences, parseStart, readFirst, runBlock, runOrder } from './runs.mjs';
 
 const $ = id => document.getElementById(id);
-const SHORT_RUN = 1_000_000;
-const LONG_RUN = 1_000_000_000_000;
-const LINES = 400;
-const SHOWN = 100_000;
-const DRAWN = 300;
-const SHORT_TEXT = 200_000;
+const [SHORT_RUN, LONG_RUN] = [1_000_000, 1_000_000_000_000];
+const [LINES, SHOWN, DRAWN, SHORT_TEXT] = [400, 100_000, 300, 200_000];
 const NO_MEMORY64 = 'This browser lacks WebAssembly with 64-bit memories. Chromium or Chrome from 133 on has it, and Firefox from 134 on.';
 
 const element = (tag, text, ...classes) => {
@@ -44,8 +40,7 @@ class Client {
       else asked.reject(new Error(error));
     };
     Object.assign(this, { worker, waiting });
-    this.ready = this.send('start', { wasm: this.wasm });
-    return this.ready;
+    return (this.ready = this.send('start', { wasm: this.wasm }));
   }
 
   send(name, work) {
@@ -58,10 +53,7 @@ class Client {
 
   // Asks a worker that has its module.
   async ask(name, work) {
-    for (let ready = null; ready !== this.ready;) {
-      ready = this.ready;
-      await ready.catch(() => null);
-    }
+    for (let ready = null; ready !== this.ready;) await (ready = this.ready).catch(() => null);
     return this.send(name, work);
   }
 
@@ -75,7 +67,7 @@ class Client {
 
 let client = null;
 const page = {
-  text: '', lines: [], marks: {}, scroll: { top: 0, left: 0 }, told: null, image: null, blocks: [], groups: [], group: null,
+  text: '', lines: [], marks: {}, told: null, image: null, blocks: [], groups: [], group: null,
   chosen: null, order: null, at: 0, said: '', stages: new Map(), tried: null, isRunning: false, isOther: false,
   mine: new Map(), past: [], badLine: null, globals: [], isPlaying: false, goal: null, wanted: {}, colours: null,
   listing: [], view: null, before: null, breakpoint: null, cursor: null, touched: null, isBusy: false, isStale: false,
@@ -99,7 +91,7 @@ function showGutter() {
 
 // The numbers of the lines that are seen, and the marked place, where the text stands.
 function follow() {
-  const { top, left } = page.scroll;
+  const { scrollTop: top, scrollLeft: left } = $('source');
   const { bad, held, left: exits } = page.marks;
   const first = Math.max(1, Math.floor(top / lineHeight()) - 10);
   const count = Math.max(0, Math.min(120, page.lines.length - first + 1));
@@ -121,14 +113,11 @@ function drawText(first, count) {
     const line = lines[k];
     const start = told?.line === k + 1 ? told.column - 1 : -1;
     const end = start < 0 ? -1 : start + Math.max(1, /^(\w+|[-+*\/%&|^<>=!]+|.)/.exec(line.slice(start))?.[0].length ?? 1);
-    const spans = start < 0 ? colours?.[k] ?? [] : [[0, start, null], [start, end, 'bad']];
-    let at = 0;
-    for (const [from, to, kind] of spans) {
-      const shown = line.slice(from, to) || (kind === 'bad' ? ' ' : '');
-      parts.push(line.slice(at, from), kind === null ? shown : element(kind === 'bad' ? 'mark' : 'span', shown, kind));
-      at = to;
-    }
-    parts.push((colours || start >= 0 ? line.slice(at) : '') + '\n');
+    const spans = start < 0 ? colours?.[k] ?? [] : [[start, end, 'bad']];
+    spans.forEach(([from, to, kind], n) => {
+      parts.push(line.slice(spans[n - 1]?.[1] ?? 0, from), element(kind === 'bad' ? 'mark' : 'span', line.slice(from, to) || ' ', kind));
+    });
+    parts.push((colours || start >= 0 ? line.slice(spans.at(-1)?.[1] ?? 0) : '') + '\n');
   }
   $('behind').replaceChildren(...parts);
 }
@@ -162,10 +151,8 @@ function setStale(why) {
 }
 
 async function refresh() {
-  if (page.isBusy) {
-    page.isStale = true;
-    return;
-  }
+  page.isStale = page.isBusy;
+  if (page.isBusy) return;
   page.isBusy = true;
   do {
     page.isStale = false;
@@ -217,11 +204,9 @@ async function showPlace(rule) {
   const block = blockAt(page.blocks, view.pc);
   const name = page.groups.find(g => g.owner === block?.owner)?.name;
   const there = element('button', 'Show the word');
-  there.onclick = () => {
-    chooseTab('steps');
-    goTo(view.words);
-  };
-  $('reason').replaceChildren(`The machine is stuck by ${RULES[rule] ?? rule} `, element('b', `${hex(view.pc)}: ${lineAt(view.pc)}`), `, block ${block?.number} of ${name}. `, there);
+  there.onclick = () => { chooseTab('steps'); goTo(view.words); };
+  const place = element('b', `${hex(view.pc)}: ${lineAt(view.pc)}`);
+  $('reason').replaceChildren(`The machine is stuck by ${RULES[rule] ?? rule} `, place, `, block ${block?.number} of ${name}. `, there);
 }
 
 const isPair = text => text.startsWith('block\n');
@@ -237,15 +222,10 @@ async function showPair(text) {
   setStale(pair ? null : 'The check text has a fault. Below is the last one that had none.');
   say('state', said.split('\n')[0]);
   if (!pair) return;
-  setOwn(true);
-  $('functions').replaceChildren();
+  // It has neither a graph nor RTL, and nothing runs.
+  document.body.classList.add('own');
+  chooseTab('orders');
   chooseBlock({ number: null, owner: null, address: 0, ...pair });
-}
-
-// A check text has neither a graph nor RTL, and nothing runs.
-function setOwn(isOwn) {
-  document.body.classList.toggle('own', isOwn);
-  if (isOwn) chooseTab('orders');
 }
 
 function showProgram({ interp, build, run, list, orders }, isPlain, time) {
@@ -253,24 +233,20 @@ function showProgram({ interp, build, run, list, orders }, isPlain, time) {
     page.image = null;
     showRuns({ status: 1, text: '' }, null);
     showFault(parseTold(build.text));
-    setStale(page.listing.length ? 'The text has a fault. Below is the last program that was built.' : 'The text has a fault: there is no program yet.');
+    setStale(`The text has a fault. ${page.chosen ? 'Below is the last program that was built.' : 'There is no program yet.'}`);
     say('state', 'fault');
     return;
   }
-  page.image = build.image;
   const blocks = orders.status === 0 ? parseOrders(orders.text, isPlain) : [];
-  page.blocks = blocks;
-  page.groups = groupBlocks(blocks, functionsOf(page.text));
-  page.listing = codeLines(list.text);
-  page.globals = globalsOf(page.text);
+  const groups = groupBlocks(blocks, functionsOf(page.text));
+  Object.assign(page, { image: build.image, blocks, groups, listing: codeLines(list.text), globals: globalsOf(page.text), breakpoint: null });
   page.stages.clear();
+  document.body.classList.remove('own');
   showFault(null);
   setStale(null);
-  setOwn(false);
   showRuns(interp, run);
   say('state', `${build.text.trim().split(' ').slice(0, 4).join(' ')} · ${time.toFixed(0)} ms`);
   showFunctions();
-  page.breakpoint = null;
   goTo(0);
 }
 
@@ -278,10 +254,8 @@ function showProgram({ interp, build, run, list, orders }, isPlain, time) {
 function stageOf(stage, group) {
   const name = group && group !== page.groups[0] ? group.name : '';
   const key = `${stage} ${name}`;
-  if (!page.stages.has(key)) {
-    const asked = client.ask('show', { text: page.text, stage, name }).then(shown => shown.text, error => error.message + '\n');
-    page.stages.set(key, asked);
-  }
+  const ask = () => client.ask('show', { text: page.text, stage, name }).then(shown => shown.text, error => error.message + '\n');
+  if (!page.stages.has(key)) page.stages.set(key, ask());
   return page.stages.get(key);
 }
 
@@ -307,8 +281,7 @@ async function showParts() {
 
 function showFunctions() {
   const was = page.isOther ? null : page.group?.name;
-  const select = $('functions');
-  select.replaceChildren(...page.groups.map((g, k) => new Option(`${g.name} (${g.blocks.length})`, k)));
+  $('functions').replaceChildren(...page.groups.map((g, k) => new Option(`${g.name} (${g.blocks.length})`, k)));
   const wanted = page.groups.findIndex(g => g.name === (page.wanted.name ?? was));
   const main = page.groups.findIndex(g => g.name === 'main');
   chooseGroup(wanted >= 0 ? wanted : Math.max(main, 0), page.wanted.number ?? (wanted >= 0 ? page.chosen?.number : null));
@@ -336,8 +309,8 @@ const svg = (tag, attributes, text = null) => {
 
 function showGraph() {
   const all = page.group.blocks;
-  const first = Math.max(0, Math.min(all.indexOf(page.chosen) - DRAWN / 2, all.length - DRAWN));
-  const blocks = all.slice(first, first + DRAWN);
+  const start = Math.max(0, Math.min(all.indexOf(page.chosen) - DRAWN / 2, all.length - DRAWN));
+  const blocks = all.slice(start, start + DRAWN);
   say('drawn', blocks.length < all.length ? `${DRAWN} of ${all.length} blocks are drawn` : '');
   const { edges, layer, rank } = graphOf(blocks);
   const least = Math.min(...rank);
@@ -365,19 +338,14 @@ function showGraph() {
     const bend = NODE.down - NODE.height;
     const curve = (a, b, c, d) => `C ${a} ${b + bend}, ${c} ${d - bend}, ${c} ${d}`;
     const past = by.map(k => [middle(k), top(k)]);
-    let [a, b] = [x, y];
-    const down = [...past, [u, v]].map(([c, d], k) => {
-      const drawn = curve(a, b, c, d) + (k < past.length ? ` L ${c} ${d + NODE.height}` : '');
-      [a, b] = [c, d + NODE.height];
-      return drawn;
-    });
-    const line = isBack
-      ? `M ${x} ${y} C ${x} ${y + 16}, ${lane} ${y + 16}, ${lane} ${y - 6} L ${lane} ${v + 6} `
-        + `C ${lane} ${v - 18}, ${u} ${v - 18}, ${u} ${v}`
-      : `M ${x} ${y} ` + down.join(' ');
+    const ends = [[x, y], ...past.map(([c, d]) => [c, d + NODE.height])];
+    const down = [...past, [u, v]].map(([c, d], k) => curve(...ends[k], c, d) + (k < past.length ? ` L ${c} ${d + NODE.height}` : ''));
+    const line = isBack ? `M ${x} ${y} C ${x} ${y + 16}, ${lane} ${y + 16}, ${lane} ${y - 6} L ${lane} ${v + 6} `
+      + `C ${lane} ${v - 18}, ${u} ${v - 18}, ${u} ${v}` : `M ${x} ${y} ` + down.join(' ');
     if (isBack) lane += 10;
     graph.append(svg('path', { d: line, class: isBack ? 'back' : '', 'marker-end': isBack ? 'url(#arrow-back)' : 'url(#arrow)' }));
-    if (kind) labels.push(svg('text', { x: x + (side < 0 ? -5 : 5), y: y + 13, class: 'kind way', 'text-anchor': side < 0 ? 'end' : 'start' }, kind));
+    const [near, anchor] = side < 0 ? [x - 5, 'end'] : [x + 5, 'start'];
+    if (kind) labels.push(svg('text', { x: near, y: y + 13, class: 'kind way', 'text-anchor': anchor }, kind));
   }
   graph.append(...labels);
   blocks.forEach((b, k) => {
@@ -432,9 +400,10 @@ function chooseBlock(block) {
   page.chosen = block;
   page.order = page.mine.get(keyOf(block)) ?? block.order;
   page.at = 0;
-  const where = block.number === null ? 'A block of a check text' : `Block ${block.number}, ${hex(block.address)}`;
-  say('block-title', where);
-  showBlock();
+  say('block-title', block.number === null ? 'A block of a check text' : `Block ${block.number}, ${hex(block.address)}`);
+  const { insts, exit } = block.block;
+  $('block').replaceChildren(...insts.map(line => element('li', line, classOf(line))), element('li', exit, 'exit'));
+  showOrder();
   markNodes();
   showListing();
   showGutter();
@@ -452,12 +421,6 @@ function chooseAt(address) {
 }
 
 const classOf = line => (line === 'nop' ? 'nop' : null);
-
-function showBlock() {
-  const { block } = page.chosen;
-  $('block').replaceChildren(...block.insts.map(line => element('li', line, classOf(line))), element('li', block.exit, 'exit'));
-  showOrder();
-}
 
 // The places of the order, in the order of their words: 0.., 'exit', 'slot'.
 const placesOf = order => [...order.insts.keys(), 'exit', ...(order.slot === null ? [] : ['slot'])];
@@ -493,8 +456,7 @@ async function judge() {
   page.badLine = told?.line ? told.line - block.insts.length - 4 : null;
   const [verdict, ...why] = told ? ['no order', told.message, told.hint ?? ''] : text.split(/\nthe order is wrong/)[0].trimEnd().split('\n');
   const isSame = verdict === 'same';
-  $('verdict').className = isSame ? 'same' : 'other';
-  say('verdict', verdict);
+  Object.assign($('verdict'), { className: isSame ? 'same' : 'other', textContent: verdict });
   $('why').classList.toggle('prose', isSame || told !== null);
   say('why', isSame ? 'The order means the block: it may stand for it.' : why.join('\n'));
   showStart(told === null);
@@ -518,9 +480,10 @@ function showStart(isOrder) {
   const found = named ? [['', named.block, named.order]] : differences(...sides);
   const read = readFirst([...block.insts, block.exit], [...order.insts, order.exit, order.slot]);
   const from = (named?.registers ?? read.map(r => [r, start.regs[r]])).map(([r, word]) => `$${r} = ${hex(word)}`).join(', ') || 'any state';
-  const by = named ? 'The order is wrong from' : "This page's own script finds the order wrong from";
-  $('start').replaceChildren(...(found.length ? [by + ' ', element('code', from)] : ["This page's own script finds no start from which they differ."]));
-  $('leaves').replaceChildren(...(found.length ? [row('th', '', 'the block leaves', 'the order leaves')] : []), ...found.slice(0, 3).map(cells => row('td', ...cells)));
+  const by = named ? 'The order is wrong from ' : "This page's own script finds the order wrong from ";
+  $('start').replaceChildren(...(found.length ? [by, element('code', from)] : ["This page's own script finds no start from which they differ."]));
+  const leaves = [['th', '', 'the block leaves', 'the order leaves'], ...found.slice(0, 3).map(cells => ['td', ...cells])];
+  $('leaves').replaceChildren(...(found.length ? leaves.map(cells => row(...cells)) : []));
   const [a, b] = sides.map(side => side.rows);
   const both = Array.from({ length: Math.max(a.length, b.length) }, (_, k) => row('td', k + 1, a[k] ?? '', b[k] ?? ''));
   $('rows').replaceChildren(row('th', '', 'the block, whose loads show at once', 'your order'), ...both);
@@ -539,34 +502,34 @@ function row(tag, ...cells) {
   return made;
 }
 
-function showBoth(isShown) {
+function showBoth() {
+  const isShown = $('runs').hidden;
   $('both').setAttribute('aria-expanded', String(isShown));
   $('runs').hidden = !isShown;
   if (isShown) $('runs').scrollIntoView({ block: 'nearest' });
 }
 
 function change(order, at) {
-  const { chosen } = page;
-  page.past.push([chosen, page.order, page.at]);
+  page.past.push([keyOf(page.chosen), page.order, page.at]);
   setOrder(order, at);
 }
 
 // The order that was before the last change.
 function undoOrder() {
-  const last = page.past.findLastIndex(([chosen]) => chosen === page.chosen);
+  const last = page.past.findLastIndex(([key]) => key === keyOf(page.chosen));
   if (last >= 0) setOrder(...page.past.splice(last, 1)[0].slice(1));
 }
 
 // A check text follows its order, which follows it.
 function setOrder(order, at) {
+  const { chosen, mine } = page;
   Object.assign(page, { order, at, said: '', badLine: null });
-  page.mine.set(keyOf(page.chosen), order);
-  if (page.chosen.number === null) {
-    page.mine.clear();
-    page.text = pairText(page.chosen.block, order);
+  if (chosen.number === null) {
+    page.text = pairText(chosen.block, order);
     putText(page.text);
     showGutter();
-  }
+  } else if (order === chosen.order) mine.delete(keyOf(chosen));
+  else mine.set(keyOf(chosen), order);
   keep();
   showOrder();
   focusOrder();
@@ -577,10 +540,7 @@ function setOrder(order, at) {
 function editLine() {
   const item = $('order').querySelector('[tabindex="0"]');
   const { at } = page;
-  const field = element('input', null);
-  field.value = item.textContent;
-  field.spellcheck = false;
-  field.setAttribute('aria-label', 'Line of the order');
+  const field = Object.assign(element('input', null), { value: item.textContent, spellcheck: false, ariaLabel: 'Line of the order' });
   item.draggable = false;
   item.replaceChildren(field);
   field.focus();
@@ -590,11 +550,8 @@ function editLine() {
     const line = field.value.trim().replace(/ +/g, ' ');
     field.onblur = null;
     field.remove();
+    setOrder(page.order, at);
     if (isKept) change(withLine(page.order, at, line), at);
-    else {
-      showOrder();
-      focusOrder();
-    }
   };
   field.onblur = () => end(true);
   field.onkeydown = event => {
@@ -681,8 +638,8 @@ function listenToOrder() {
   }
   let from = null;
   list.onkeydown = orderKey;
-  list.onclick = event => { if (event.target.dataset.place) stand(placeOf(event.target)); };
-  list.ondblclick = event => { if (event.target.dataset.place) editLine(); };
+  list.onclick = event => event.target.dataset.place && stand(placeOf(event.target));
+  list.ondblclick = event => event.target.dataset.place && editLine();
   list.ondragstart = event => {
     from = placeOf(event.target);
     event.dataTransfer.setData('text/plain', event.target.textContent);
@@ -704,7 +661,7 @@ function listenToOrder() {
   };
   list.ondragend = showOrder;
   for (const name of [...Object.keys(CHANGES), 'edit', 'undo']) $(name).onclick = () => apply(name);
-  $('both').onclick = () => showBoth($('runs').hidden);
+  $('both').onclick = showBoth;
   $('as-text').onclick = () => openText(pairText(page.chosen.block, page.order));
 }
 
@@ -716,9 +673,7 @@ async function goTo(from, { most = 0, stop = 0 } = {}) {
   const address = page.touched ?? 0x10000000;
   const view = await client.ask('machine', { image, from, most, stop, address }).catch(() => null);
   if (image !== page.image || !view || view.status !== 0) return;
-  page.before = page.view && view.words === page.view.words + 1 ? page.view : null;
-  page.view = view;
-  page.cursor = null;
+  Object.assign(page, { before: page.view && view.words === page.view.words + 1 ? page.view : null, view, cursor: null });
   if (!$('steps').hidden) chooseAt(view.pc);
   showMachine();
 }
@@ -764,9 +719,7 @@ function showListing() {
     const item = element('li', label, number !== undefined && 'block', address === view?.pc && 'here', isIn(address) && 'chosen',
       address === after && 'next', address === page.breakpoint && 'breakpoint');
     item.dataset.address = address;
-    item.id = 'word-' + address;
-    item.role = 'option';
-    return item;
+    return Object.assign(item, { id: 'word-' + address, role: 'option' });
   }));
   list.querySelector('.here')?.scrollIntoView({ block: 'nearest' });
   pointAt(page.cursor ?? view?.pc ?? null);
@@ -791,8 +744,10 @@ function moveCursor(by) {
 }
 
 function clickWord(address) {
+  page.cursor = address;
   chooseAt(address);
-  setBreakpoint(address);
+  page.breakpoint = page.breakpoint === address ? null : address;
+  showMachine();
 }
 
 function showMachine() {
@@ -805,9 +760,8 @@ function showMachine() {
   say('written', cut(lines.join('\n')));
   say('count', `${view.words} words ran` + (page.breakpoint === null ? '' : `; breakpoint ${hex(page.breakpoint)}`));
   $('ending').className = next.status === 3 ? 'stuck' : '';
-  if (next.status === 0) say('ending', `The next word halts the machine: ${end}.`);
-  else if (next.status === 3) say('ending', `The machine is stuck. ${RULES[end.slice(6)] ?? end}`);
-  else say('ending', '');
+  const endings = { 0: `The next word halts the machine: ${end}.`, 3: `The machine is stuck. ${RULES[end.slice(6)] ?? end}` };
+  say('ending', endings[next.status] ?? '');
   showSpecial(view, before);
   $('registers').replaceChildren(...view.registers.map((word, r) => {
     const isLoading = view.loads === r && r > 0;
@@ -845,7 +799,8 @@ function showPast(view) {
 function showMemory(id, address, words, nameOf) {
   const line = (word, at) => `${at.toString(16).padStart(8, '0')}  ${wordText(word)}  ${nameOf(at)}`.trimEnd() + '\n';
   const isLast = at => page.last !== undefined && at <= page.last && page.last < at + 4;
-  $(id).replaceChildren(...words.map((word, k) => (isLast(address + 4 * k) ? element('mark', line(word, address + 4 * k)) : line(word, address + 4 * k))));
+  const shown = words.map((word, k) => [line(word, address + 4 * k), address + 4 * k]);
+  $(id).replaceChildren(...shown.map(([text, at]) => (isLast(at) ? element('mark', text) : text)));
 }
 
 function showSpecial(view, before) {
@@ -861,11 +816,6 @@ function showSpecial(view, before) {
   }));
 }
 
-function setBreakpoint(address) {
-  page.breakpoint = page.breakpoint === address ? null : address;
-  showMachine();
-}
-
 function listenToMachine() {
   $('step').onclick = step;
   $('back').onclick = () => goTo(Math.max(0, (page.view?.words ?? 0) - 1));
@@ -873,12 +823,7 @@ function listenToMachine() {
   $('base').onchange = () => page.view && showMachine();
   $('reset').onclick = () => { page.last = undefined; page.touched = null; goTo(0); };
   $('run').onclick = () => goTo((page.view?.words ?? 0) + 1, { most: SHORT_RUN, stop: page.breakpoint ?? 0 });
-  $('listing').onclick = event => {
-    const { address } = event.target.dataset;
-    if (!address) return;
-    page.cursor = Number(address);
-    clickWord(page.cursor);
-  };
+  $('listing').onclick = ({ target: { dataset: { address } } }) => address && clickWord(Number(address));
   $('steps').onkeydown = machineKey;
 }
 
@@ -902,10 +847,8 @@ function putText(text) {
   source.focus();
   source.select();
   const isPut = text && text.length <= SHORT_TEXT && source.value.length <= SHORT_TEXT && document.execCommand('insertText', false, text);
-  if (!isPut) {
-    source.value = text;
-    typed();
-  }
+  if (!isPut) source.value = text;
+  if (!isPut) typed();
   source.setSelectionRange(0, 0);
   source.scrollTop = 0;
   focused?.focus();
@@ -919,9 +862,7 @@ function openText(text) {
 function typed() {
   if ($('source').value === page.text && page.tried !== null) return;
   page.text = $('source').value;
-  page.view = page.before = page.touched = null;
-  page.last = undefined;
-  page.isPlaying = false;
+  Object.assign(page, { view: null, before: null, touched: null, last: undefined, isPlaying: false });
   if (page.isRunning) stop();
   showGutter();
   keep();
@@ -950,8 +891,7 @@ function kept() {
 function listExamples(texts) {
   const select = $('examples');
   const groups = [['C programs', /\.c$/], ['Orders', /\.check$/]].map(([label, pattern]) => {
-    const group = document.createElement('optgroup');
-    group.label = label;
+    const group = Object.assign(element('optgroup', null), { label });
     group.append(...Object.keys(texts).filter(name => pattern.test(name)).map(name => new Option(name.replace(/\.\w+$/, ''), name)));
     return group;
   });
@@ -959,7 +899,7 @@ function listExamples(texts) {
   select.onchange = () => {
     const name = select.value;
     select.value = '';
-    if (name) openText(texts[name]);
+    if (name) openState({ c: texts[name] });
   };
 }
 
@@ -991,7 +931,8 @@ function openState({ c, v, f, b, o, g }) {
   if (pair) page.mine.set(keyOf(pair), pair.order);
   page.wanted = { name: f, number: Number(b) };
   setGoal(/\d+/.exec(g ?? '')?.[0] ?? null);
-  openText(c);
+  if (c === page.text && page.groups.length) showFunctions();
+  else if (c) openText(c);
   if (TABS.includes(v)) chooseTab(v);
 }
 
@@ -1024,9 +965,8 @@ function setTheme(theme) {
   $('theme').setAttribute('aria-pressed', String(theme === 'dark'));
 }
 
-function setPresent(isOn) {
-  document.documentElement.classList.toggle('present', isOn);
-  $('present').setAttribute('aria-pressed', String(isOn));
+function setPresent() {
+  $('present').setAttribute('aria-pressed', String(document.documentElement.classList.toggle('present')));
   if (page.group) showGraph();
   markNodes();
   showListing();
@@ -1092,10 +1032,9 @@ async function stop() {
 }
 
 async function main() {
-  const dark = matchMedia('(prefers-color-scheme: dark)').matches;
-  setTheme(dark ? 'dark' : 'light');
+  setTheme(matchMedia('(prefers-color-scheme: dark)').matches ? 'dark' : 'light');
   $('theme').onclick = () => setTheme(document.documentElement.dataset.theme === 'dark' ? 'light' : 'dark');
-  $('present').onclick = () => setPresent(!document.documentElement.classList.contains('present'));
+  $('present').onclick = setPresent;
   onresize = seeNode;
   listenToTabs();
   listenToOrder();
@@ -1105,10 +1044,7 @@ async function main() {
   listExamples(texts);
   const source = $('source');
   source.oninput = typed;
-  source.onscroll = () => {
-    page.scroll = { top: source.scrollTop, left: source.scrollLeft };
-    follow();
-  };
+  source.onscroll = follow;
   source.onkeyup = source.onclick = followCaret;
   source.onkeydown = sourceKey;
   $('plain').onchange = refresh;
@@ -1127,8 +1063,7 @@ async function main() {
   } catch (error) {
     say('state', NO_MEMORY64);
     $('fault').hidden = false;
-    $('fault').textContent = `${NO_MEMORY64} (${error.message})`;
-    return;
+    return say('fault', `${NO_MEMORY64} (${error.message})`);
   }
   document.documentElement.dataset.ready = (performance.now() - started).toFixed(0);
   const state = kept() ?? stateOfAddress();
