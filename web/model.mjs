@@ -44,9 +44,8 @@ export function parsePair(text) {
 }
 
 export function pairText(block, order) {
-  const lines = ['block', ...block.insts, block.exit, 'order', ...order.insts, order.exit];
-  if (order.slot !== null) lines.push('slot ' + order.slot);
-  return lines.join('\n') + '\n';
+  const slot = order.slot === null ? [] : ['slot ' + order.slot];
+  return ['block', ...block.insts, block.exit, 'order', ...order.insts, order.exit, ...slot, ''].join('\n');
 }
 
 export const orderWords = order => order.insts.length + exitWords(order.exit);
@@ -69,9 +68,8 @@ export const blockAt = (blocks, pc) => blocks.findLast(b => b.address <= pc && p
 // The plain order: a Nop behind each load, two behind each mfhi and mflo, one in the slot.
 export function plainOrder(block) {
   const insts = block.insts.flatMap(i => {
-    const word = mnemonic(i);
-    if (word === 'lw' || word === 'lbu') return [i, 'nop'];
-    return word === 'mfhi' || word === 'mflo' ? [i, 'nop', 'nop'] : [i];
+    const count = { lw: 1, lbu: 1, mfhi: 2, mflo: 2 }[mnemonic(i)] ?? 0;
+    return [i, ...Array(count).fill('nop')];
   });
   return { insts, exit: block.exit, slot: hasSlot(block.exit) ? 'nop' : null };
 }
@@ -108,11 +106,8 @@ export function functionsOf(text) {
       if (found.length) found.at(-1).to = Math.max(found.at(-1).to, line);
       head = '';
     } else if (depth === 0) {
-      if (c === ';') head = '';
-      else {
-        if (head.trim() === '' && c.trim() !== '') start = line;
-        head += c;
-      }
+      if (head.trim() === '' && c.trim() !== '') start = line;
+      head = c === ';' ? '' : head + c;
     }
   }
   return found;
@@ -156,16 +151,12 @@ export function nameAt(globals, address) {
 
 // The functions of a build: the start, and those of the text in their order; each with the numbers of its blocks.
 export function groupBlocks(blocks, functions) {
-  return [...Map.groupBy(blocks, b => b.owner)].map(([owner, own], k) => ({
-    owner,
-    name: k === 0 ? 'start' : functions[k - 1]?.name ?? 'block ' + owner,
-    lines: k === 0 ? null : functions[k - 1] ?? null,
-    blocks: own,
-  }));
+  const named = [{ name: 'start' }, ...functions];
+  return [...Map.groupBy(blocks, b => b.owner)].map(([owner, own], k) => (
+    { owner, name: named[k]?.name ?? 'block ' + owner, lines: functions[k - 1] ?? null, blocks: own }));
 }
 
 // ---- faults
-
 // The line of a fault, and its place and what is said of it, where the program tells them.
 export function parseTold(text) {
   const lines = text.split('\n');
@@ -180,19 +171,15 @@ export function parseTold(text) {
 }
 
 // ---- what is said of a verdict
-
 // The places of an order (0.., 'exit', 'slot') of the two words that `mcc check --explain` names behind a rule.
 export function marked(order, said) {
   const [verdict, , ...named] = said.split('\n').map(line => line.trim());
   if (!verdict.startsWith('unclean ')) return [];
   const words = [...order.insts, order.exit, order.slot];
   const places = [...order.insts.keys(), 'exit', 'slot'];
-  for (const k of places.keys()) {
-    for (const n of verdict === 'unclean U2' ? [k + 1, k + 2] : [k + 1]) {
-      if (words[k] === named[0] && words[n] === named[1]) return [places[k], places[n]];
-    }
-  }
-  return [];
+  const pairs = [...places.keys()].flatMap(k => [[k, k + 1], ...(verdict === 'unclean U2' ? [[k, k + 2]] : [])]);
+  const found = pairs.find(([k, n]) => words[k] === named[0] && words[n] === named[1]);
+  return found ? found.map(k => places[k]) : [];
 }
 
 // What a stage of `mcc show` has of a block, without its margin.
@@ -202,26 +189,20 @@ export function blockOf(stage, number) {
 }
 
 // ---- changes of an order; each gives a new one
-
-const copy = order => ({ ...order, insts: [...order.insts] });
-
 // Moves what stands at a place (a number or 'slot') to another one; what was in the slot and is no Nop goes to the end.
 export function move(order, from, to) {
-  const next = copy(order);
+  const next = { ...order, insts: [...order.insts] };
   if (from === to) return next;
   let inst = next.slot;
   if (from === 'slot') next.slot = 'nop';
   else [inst] = next.insts.splice(from, 1);
-  if (to !== 'slot') {
-    next.insts.splice(to, 0, inst);
-    return next;
-  }
+  if (to !== 'slot') return { ...next, insts: next.insts.toSpliced(to, 0, inst) };
   if (next.slot !== null && next.slot !== 'nop') next.insts.push(next.slot);
-  next.slot = inst;
-  return next;
+  return { ...next, slot: inst };
 }
 
 export const addNop = (order, at) => ({ ...order, insts: order.insts.toSpliced(at, 0, 'nop') });
+
 // An order with another line at a place, or without it where the line is empty.
 export function withLine(order, place, line) {
   if (place === 'slot') return { ...order, slot: line.replace(/^slot /, '') || 'nop' };
@@ -230,16 +211,10 @@ export function withLine(order, place, line) {
 }
 
 // ---- the graph of a function: blocks in layers, and its edges
-
 export function graphOf(blocks) {
   const numbers = new Map(blocks.map((b, k) => [b.number, k]));
-  const edges = [];
-  for (const [from, b] of blocks.entries()) {
-    const all = targets(b.block.exit);
-    all.forEach((t, k) => {
-      if (numbers.has(t)) edges.push({ from, to: numbers.get(t), kind: all.length < 2 ? '' : k === 0 ? 'yes' : 'no', isBack: false });
-    });
-  }
+  const edges = blocks.flatMap((b, from) => targets(b.block.exit).map((t, k, all) => (
+    { from, to: numbers.get(t), kind: all.length < 2 ? '' : k === 0 ? 'yes' : 'no', isBack: false })).filter(e => e.to !== undefined));
   const layer = layers(blocks.length, edges);
   const steps = stepsOf(edges, layer);
   return { edges, layer, rank: ranks(layer.length, steps, layer) };
@@ -247,20 +222,13 @@ export function graphOf(blocks) {
 
 // Where an edge goes past layers, it has a place in each of them, behind those of the blocks (`by`).
 function stepsOf(edges, layer) {
-  const steps = [];
-  for (const edge of edges) {
+  return edges.flatMap(edge => {
     edge.by = [];
-    if (edge.isBack) continue;
-    let from = edge.from;
-    while (layer[from] + 1 < layer[edge.to]) {
-      const place = layer.push(layer[from] + 1) - 1;
-      steps.push({ from, to: place });
-      edge.by.push(place);
-      from = place;
-    }
-    steps.push({ from, to: edge.to });
-  }
-  return steps;
+    if (edge.isBack) return [];
+    for (let at = layer[edge.from] + 1; at < layer[edge.to]; at++) edge.by.push(layer.push(at) - 1);
+    const way = [edge.from, ...edge.by, edge.to];
+    return way.slice(1).map((to, k) => ({ from: way[k], to }));
+  });
 }
 
 // The layer of each block, below all from which an edge comes down; marks the edges that go back.
@@ -269,19 +237,16 @@ function layers(count, edges) {
   for (const edge of edges) out[edge.from].push(edge);
   const state = new Array(count).fill(0);
   const ended = [];
-  for (let root = 0; root < count; root++) {
-    const stack = state[root] ? [] : [[root, 0]];
-    while (stack.length) {
-      const top = stack.at(-1);
-      state[top[0]] = 1;
-      const edge = out[top[0]][top[1]++];
-      if (!edge) {
-        state[top[0]] = 2;
-        ended.push(stack.pop()[0]);
-      } else if (state[edge.to] === 1) edge.isBack = true;
-      else if (state[edge.to] === 0) stack.push([edge.to, 0]);
+  const visit = from => {
+    state[from] = 1;
+    for (const edge of out[from]) {
+      if (state[edge.to] === 1) edge.isBack = true;
+      else if (state[edge.to] === 0) visit(edge.to);
     }
-  }
+    state[from] = 2;
+    ended.push(from);
+  };
+  for (let root = 0; root < count; root++) if (state[root] === 0) visit(root);
   const layer = new Array(count).fill(0);
   for (const from of ended.reverse()) {
     for (const { to, isBack } of out[from]) if (!isBack) layer[to] = Math.max(layer[to], layer[from] + 1);
@@ -298,30 +263,25 @@ function ranks(count, edges, layer) {
   rows.forEach(settle);
   const sweep = (order, near) => {
     for (const row of order) {
-      const middle = k => {
-        const others = near(k);
-        return others.length ? others.reduce((sum, n) => sum + rank[n], 0) / others.length : rank[k];
-      };
-      const by = new Map(row.map(k => [k, middle(k)]));
+      const middle = (k, others) => (others.length ? others.reduce((sum, n) => sum + rank[n], 0) / others.length : rank[k]);
+      const by = new Map(row.map(k => [k, middle(k, near[k])]));
       row.sort((a, b) => by.get(a) - by.get(b) || a - b);
       settle(row);
     }
   };
-  const above = Array.from({ length: count }, () => []);
-  const below = Array.from({ length: count }, () => []);
+  const [above, below] = [0, 1].map(() => Array.from({ length: count }, () => []));
   for (const { from, to } of edges) {
     above[to].push(from);
     below[from].push(to);
   }
   for (let round = 0; round < 3; round++) {
-    sweep(rows, k => above[k]);
-    sweep([...rows].reverse(), k => below[k]);
+    sweep(rows, above);
+    sweep([...rows].reverse(), below);
   }
   return rank;
 }
 
 // ---- listings
-
 // The lines of the code in a listing, a word each.
 export function codeLines(text) {
   const start = text.indexOf('00400000  ');

@@ -17,10 +17,12 @@ const element = (tag, text, ...classes) => {
   return made;
 };
 const say = (id, text) => { $(id).textContent = text; };
+const attempt = (work, other = null) => {
+  try { return work(); } catch { return other; }
+};
 const cut = text => (text.length > SHOWN ? text.slice(0, SHOWN) + '\n.. and more' : text);
 
 // ---- the worker
-
 class Client {
   constructor(script, wasm) {
     this.script = URL.createObjectURL(new Blob([script], { type: 'text/javascript' }));
@@ -74,7 +76,6 @@ const page = {
 };
 
 // ---- the C text
-
 const lineHeight = () => parseFloat(getComputedStyle($('numbers')).lineHeight);
 
 // The lines that are marked: that of a fault, else those of the function that is shown and of the chosen block's exit.
@@ -136,17 +137,15 @@ function showFault(told) {
   $('fault').hidden = told === null;
   if (told) {
     const place = told.line === null ? '' : `Line ${told.line}, column ${told.column}: `;
-    $('fault').replaceChildren(element('b', place + (told.message ?? told.fault)));
-    if (told.hint) $('fault').append(element('div', 'Hint: ' + told.hint));
-    $('fault').append(element('small', told.fault));
+    const hint = told.hint ? [element('div', 'Hint: ' + told.hint)] : [];
+    $('fault').replaceChildren(element('b', place + (told.message ?? told.fault)), ...hint, element('small', told.fault));
   }
   showGutter();
 }
 
 // What stands on the right isn't of the text on the left: it is dimmed, and says why.
 function setStale(why) {
-  $('stale').hidden = why === null;
-  say('stale', why ?? '');
+  Object.assign($('stale'), { hidden: why === null, textContent: why });
   $('right').classList.toggle('stale', why !== null);
 }
 
@@ -181,18 +180,16 @@ async function refresh() {
 }
 
 function showRuns(interp, run) {
-  say('interp', cut(interp.text));
-  say('machine', run ? cut(run.text) : '');
   const isOne = !run || interp.text === run.text;
-  $('machine').parentElement.hidden = isOne;
-  say('whose', run && isOne ? 'Output of interpreter and machine' : 'Interpreter');
-  say('reason', '');
   const isMore = interp.status === 4 || run?.status === 4;
+  $('machine').parentElement.hidden = isOne;
   $('run-on').hidden = !isMore || !run;
-  if (!run) say('agree', '');
-  else if (interp.status === 3) say('agree', 'C gives the text no meaning from there on, so nothing is promised of the machine. The command mcc interp prints why.');
-  else if (isMore) say('agree', 'Not at the end after these steps.');
-  else say('agree', isOne ? 'Both print the same.' : 'They differ: this must not be.');
+  const agree = !run ? '' : interp.status === 3
+    ? 'C gives the text no meaning from there on, so nothing is promised of the machine. The command mcc interp prints why.'
+    : isMore ? 'Not at the end after these steps.' : isOne ? 'Both print the same.' : 'They differ: this must not be.';
+  const texts = { interp: cut(interp.text), machine: cut(run?.text ?? ''), reason: '', agree };
+  texts.whose = run && isOne ? 'Output of interpreter and machine' : 'Interpreter';
+  for (const [id, text] of Object.entries(texts)) say(id, text);
   if (run?.status === 3) showPlace(run.text.trimEnd().split('\n').at(-1).slice(6));
 }
 
@@ -278,15 +275,13 @@ async function showParts() {
 }
 
 // ---- the graph of a function
-
 function showFunctions() {
   const was = page.isOther ? null : page.group?.name;
   $('functions').replaceChildren(...page.groups.map((g, k) => new Option(`${g.name} (${g.blocks.length})`, k)));
-  const wanted = page.groups.findIndex(g => g.name === (page.wanted.name ?? was));
-  const main = page.groups.findIndex(g => g.name === 'main');
-  chooseGroup(wanted >= 0 ? wanted : Math.max(main, 0), page.wanted.number ?? (wanted >= 0 ? page.chosen?.number : null));
-  page.isOther = false;
-  page.wanted = {};
+  const place = name => page.groups.findIndex(g => g.name === name);
+  const wanted = place(page.wanted.name ?? was);
+  chooseGroup(wanted >= 0 ? wanted : Math.max(place('main'), 0), page.wanted.number ?? (wanted >= 0 ? page.chosen?.number : null));
+  Object.assign(page, { isOther: false, wanted: {} });
 }
 
 function chooseGroup(k, number) {
@@ -314,20 +309,18 @@ function showGraph() {
   say('drawn', blocks.length < all.length ? `${DRAWN} of ${all.length} blocks are drawn` : '');
   const { edges, layer, rank } = graphOf(blocks);
   const least = Math.min(...rank);
-  const widest = Math.max(...rank) - least;
-  const back = edges.filter(e => e.isBack).length;
+  const back = edges.filter(e => e.isBack);
   const middle = k => NODE.pad + NODE.width / 2 + (rank[k] - least) * NODE.across;
   const top = k => NODE.pad + layer[k] * NODE.down;
-  const right = NODE.pad + NODE.width + widest * NODE.across;
-  const width = right + 8 + 10 * back;
+  const right = NODE.pad + NODE.width + (Math.max(...rank) - least) * NODE.across;
+  const width = right + 8 + 10 * back.length;
   const height = NODE.pad * 2 + NODE.height + Math.max(...layer) * NODE.down;
   $('graph').setAttribute('viewBox', `0 0 ${width} ${height}`);
   const scale = parseFloat(getComputedStyle($('rtl')).fontSize) / 13;
   Object.assign($('graph').style, { width: width * scale + 'px', height: height * scale + 'px' });
-  const graph = $('shapes');
-  graph.replaceChildren();
+  const drawn = [];
   let lane = right + 6;
-  const entered = new Set(edges.filter(e => e.isBack).map(e => e.to));
+  const entered = new Set(back.map(e => e.to));
   const labels = [];
   // Short ways back are nearer than long ones.
   const length = e => (e.isBack ? layer[e.from] - layer[e.to] : 0);
@@ -343,20 +336,20 @@ function showGraph() {
     const line = isBack ? `M ${x} ${y} C ${x} ${y + 16}, ${lane} ${y + 16}, ${lane} ${y - 6} L ${lane} ${v + 6} `
       + `C ${lane} ${v - 18}, ${u} ${v - 18}, ${u} ${v}` : `M ${x} ${y} ` + down.join(' ');
     if (isBack) lane += 10;
-    graph.append(svg('path', { d: line, class: isBack ? 'back' : '', 'marker-end': isBack ? 'url(#arrow-back)' : 'url(#arrow)' }));
+    drawn.push(svg('path', { d: line, class: isBack ? 'back' : '', 'marker-end': isBack ? 'url(#arrow-back)' : 'url(#arrow)' }));
     const [near, anchor] = side < 0 ? [x - 5, 'end'] : [x + 5, 'start'];
     if (kind) labels.push(svg('text', { x: near, y: y + 13, class: 'kind way', 'text-anchor': anchor }, kind));
   }
-  graph.append(...labels);
-  blocks.forEach((b, k) => {
+  const nodes = blocks.map((b, k) => {
     const node = svg('g', { class: 'node', tabindex: -1, role: 'button', 'data-block': b.number, 'aria-label': `block ${b.number}` });
     node.append(svg('rect', { x: middle(k) - NODE.width / 2, y: top(k), width: NODE.width, height: NODE.height }));
     const [word] = b.block.exit.split(' ');
     node.append(svg('text', { x: middle(k), y: top(k) + 14, 'text-anchor': 'middle' }, String(b.number)));
     node.append(svg('text', { x: middle(k), y: top(k) + 28, 'text-anchor': 'middle', class: 'kind' }, `${b.block.insts.length} · ${word}`));
     node.onclick = () => chooseBlock(b);
-    graph.append(node);
+    return node;
   });
+  $('shapes').replaceChildren(...drawn, ...labels, ...nodes);
 }
 
 function markNodes() {
@@ -392,7 +385,6 @@ function graphKey(event) {
 }
 
 // ---- a block and its order
-
 // One's order of a block is kept while one looks at others.
 const keyOf = ({ block }) => [...block.insts, block.exit].join('\n');
 
@@ -402,7 +394,7 @@ function chooseBlock(block) {
   page.at = 0;
   say('block-title', block.number === null ? 'A block of a check text' : `Block ${block.number}, ${hex(block.address)}`);
   const { insts, exit } = block.block;
-  $('block').replaceChildren(...insts.map(line => element('li', line, classOf(line))), element('li', exit, 'exit'));
+  $('block').replaceChildren(...insts.map(line => element('li', line, line === 'nop' && 'nop')), element('li', exit, 'exit'));
   showOrder();
   markNodes();
   showListing();
@@ -420,8 +412,6 @@ function chooseAt(address) {
   else chooseGroup(k, block.number);
 }
 
-const classOf = line => (line === 'nop' ? 'nop' : null);
-
 // The places of the order, in the order of their words: 0.., 'exit', 'slot'.
 const placesOf = order => [...order.insts.keys(), 'exit', ...(order.slot === null ? [] : ['slot'])];
 
@@ -432,8 +422,7 @@ function showOrder() {
   if (!places.includes(page.at)) page.at = places.includes(page.at - 1) ? page.at - 1 : places[0];
   $('order').replaceChildren(...places.map(place => {
     const line = place === 'exit' ? order.exit : place === 'slot' ? 'slot ' + order.slot : order.insts[place];
-    const kind = place === 'exit' || place === 'slot' ? place : null;
-    const item = element('li', line, kind, classOf(line.replace('slot ', '')), broken.includes(place) && 'broken');
+    const item = element('li', line, typeof place === 'string' && place, /^(slot )?nop$/.test(line) && 'nop', broken.includes(place) && 'broken');
     item.dataset.place = place;
     item.tabIndex = place === page.at ? 0 : -1;
     item.draggable = place !== 'exit';
@@ -449,7 +438,7 @@ async function judge() {
   const mine = ++asked;
   page.said = '';
   const { block } = page.chosen;
-  const { status, text } = await client.ask('explain', { text: pairText(block, page.order) }).catch(error => ({ text: error.message }));
+  const { status, text } = await client.ask('explain', { text: pairText(block, page.order) }).catch(({ message }) => ({ text: message }));
   if (mine !== asked) return;
   const told = status === 1 ? parseTold(text) : null;
   page.said = told ? '' : text;
@@ -462,9 +451,9 @@ async function judge() {
   showStart(told === null);
   showGoal();
   if ($('order').querySelector('input')) return;
-  const hadFocus = $('order').contains(document.activeElement);
+  const isFocused = $('order').contains(document.activeElement);
   showOrder();
-  if (hadFocus) focusOrder();
+  if (isFocused) focusOrder();
 }
 
 // A start from which block and order do otherwise, with what each leaves; and both runs from it.
@@ -562,8 +551,8 @@ function editLine() {
 
 const CHANGES = {
   up: ({ insts, slot }, at) => {
-    if (at === 'slot') return slot === 'nop' ? null : [move(page.order, 'slot', insts.length), insts.length];
-    return at > 0 ? [move(page.order, at, at - 1), at - 1] : null;
+    const to = at !== 'slot' ? at - 1 : slot === 'nop' ? -1 : insts.length;
+    return to >= 0 ? [move(page.order, at, to), to] : null;
   },
   down: ({ insts, slot }, at) => {
     if (at === 'slot' || at === 'exit') return null;
@@ -571,10 +560,7 @@ const CHANGES = {
     return slot === null ? null : [move(page.order, at, 'slot'), 'slot'];
   },
   'to-slot': ({ slot }, at) => (slot === null || typeof at !== 'number' ? null : [move(page.order, at, 'slot'), 'slot']),
-  'add-nop': ({ insts }, at) => {
-    const place = typeof at === 'number' ? at : insts.length;
-    return [addNop(page.order, place), place];
-  },
+  'add-nop': ({ insts }, at) => [addNop(page.order, insts[at] ? at : insts.length), insts[at] ? at : insts.length],
   remove: ({ insts }, at) => (insts[at] === undefined ? null : [withLine(page.order, at, ''), Math.min(at, insts.length - 2)]),
   'to-plain': () => [plainOrder(page.chosen.block), 0],
   'to-build': () => [page.chosen.order, 0],
@@ -593,15 +579,12 @@ function orderKey(event) {
   const name = event.altKey
     ? { ArrowUp: 'up', ArrowDown: 'down' }[event.key]
     : event.ctrlKey || event.metaKey ? { z: 'undo' }[event.key] : KEYS[event.key];
-  if (name) {
-    event.preventDefault();
-    apply(name);
-  } else if (!event.altKey && (event.key === 'ArrowUp' || event.key === 'ArrowDown')) {
-    event.preventDefault();
-    const places = placesOf(page.order);
-    const next = places.indexOf(page.at) + (event.key === 'ArrowUp' ? -1 : 1);
-    stand(places[Math.max(0, Math.min(places.length - 1, next))]);
-  }
+  const by = event.altKey ? undefined : { ArrowUp: -1, ArrowDown: 1 }[event.key];
+  if (!name && !by) return;
+  event.preventDefault();
+  const places = placesOf(page.order);
+  if (name) apply(name);
+  else stand(places[Math.max(0, Math.min(places.length - 1, places.indexOf(page.at) + by))]);
 }
 
 function stand(place) {
@@ -653,8 +636,7 @@ function listenToOrder() {
     event.preventDefault();
     if (from === null || !event.target.dataset.place) return;
     const onto = placeOf(event.target);
-    const count = page.order.insts.length;
-    let to = onto === 'exit' ? count : onto;
+    let to = onto === 'exit' ? page.order.insts.length : onto;
     if (typeof from === 'number' && typeof to === 'number' && to > from) to--;
     change(move(page.order, from, to), to);
     from = null;
@@ -662,11 +644,10 @@ function listenToOrder() {
   list.ondragend = showOrder;
   for (const name of [...Object.keys(CHANGES), 'edit', 'undo']) $(name).onclick = () => apply(name);
   $('both').onclick = showBoth;
-  $('as-text').onclick = () => openText(pairText(page.chosen.block, page.order));
+  $('as-text').onclick = () => putText(pairText(page.chosen.block, page.order));
 }
 
 // ---- the machine
-
 async function goTo(from, { most = 0, stop = 0 } = {}) {
   if (!page.image) return;
   const { image } = page;
@@ -727,20 +708,18 @@ function showListing() {
 
 // The word of the listing on which one stands: that of the next step, until arrows lead to another one.
 function pointAt(address) {
-  const list = $('listing');
   const item = address === null ? null : $('word-' + address);
-  list.querySelector('.cursor')?.classList.remove('cursor');
+  $('listing').querySelector('.cursor')?.classList.remove('cursor');
   item?.classList.add('cursor');
-  list.setAttribute('aria-activedescendant', item?.id ?? '');
+  $('listing').setAttribute('aria-activedescendant', item?.id ?? '');
   return item;
 }
 
 function moveCursor(by) {
   const to = (page.cursor ?? page.view?.pc ?? 0) + by;
-  const item = $('word-' + to) && pointAt(to);
-  if (!item) return;
+  if (!$('word-' + to)) return;
   page.cursor = to;
-  item.scrollIntoView({ block: 'nearest' });
+  pointAt(to).scrollIntoView({ block: 'nearest' });
 }
 
 function clickWord(address) {
@@ -789,9 +768,7 @@ function showPast(view) {
     made.cells[1].classList.toggle('loading', states[k + 1].loads > 0);
     made.cells[2].classList.toggle('loading', isLate);
     if (leap === null) return [made];
-    const way = row('td', `└─▶ ${hex(leap).slice(2)}`, '', '');
-    way.className = 'leap';
-    return [made, way];
+    return [made, Object.assign(row('td', `└─▶ ${hex(leap).slice(2)}`, '', ''), { className: 'leap' })];
   });
   $('past').replaceChildren(row('th', 'fetches', 'does', 'shows'), ...rows);
 }
@@ -839,7 +816,6 @@ function machineKey(event) {
 }
 
 // ---- examples, links, themes, tabs
-
 // A text in place of the one that is there, so that the browser's undo brings that back; a long one is put in without.
 function putText(text) {
   const source = $('source');
@@ -854,11 +830,6 @@ function putText(text) {
   focused?.focus();
 }
 
-function openText(text) {
-  page.isOther = true;
-  putText(text);
-}
-
 function typed() {
   if ($('source').value === page.text && page.tried !== null) return;
   page.text = $('source').value;
@@ -871,21 +842,11 @@ function typed() {
 }
 
 // The text outlives a reload, together with the link from which it came.
-function keep() {
-  try {
-    sessionStorage.setItem('mcc', JSON.stringify({ hash: location.hash, state: stateOf() }));
-  } catch {
-    sessionStorage.removeItem('mcc');
-  }
-}
+const keep = () => attempt(() => sessionStorage.setItem('mcc', JSON.stringify({ hash: location.hash, state: stateOf() })));
 
 function kept() {
-  try {
-    const { hash, state } = JSON.parse(sessionStorage.getItem('mcc'));
-    return hash === location.hash ? state : null;
-  } catch {
-    return null;
-  }
+  const { hash, state } = attempt(() => JSON.parse(sessionStorage.getItem('mcc'))) ?? {};
+  return hash === location.hash ? state : null;
 }
 
 function listExamples(texts) {
@@ -897,9 +858,8 @@ function listExamples(texts) {
   });
   select.replaceChildren(new Option('choose', ''), ...groups);
   select.onchange = () => {
-    const name = select.value;
+    openState({ c: texts[select.value] });
     select.value = '';
-    if (name) openState({ c: texts[name] });
   };
 }
 
@@ -917,13 +877,9 @@ const hashOf = state => '#' + Object.entries(state).map(([name, value]) => `${na
 
 // The state of an address; an old one has a text alone.
 function stateOfAddress() {
-  try {
-    const hash = location.hash.slice(1);
-    if (!/^[a-z]=/.test(hash)) return { c: decodeURIComponent(hash) };
-    return Object.fromEntries(hash.split('&').map(part => [part[0], decodeURIComponent(part.slice(2))]));
-  } catch {
-    return {};
-  }
+  const hash = location.hash.slice(1);
+  const part = text => attempt(() => decodeURIComponent(text), '');
+  return /^[a-z]=/.test(hash) ? Object.fromEntries(hash.split('&').map(it => [it[0], part(it.slice(2))])) : { c: part(hash) };
 }
 
 function openState({ c, v, f, b, o, g }) {
@@ -932,7 +888,10 @@ function openState({ c, v, f, b, o, g }) {
   page.wanted = { name: f, number: Number(b) };
   setGoal(/\d+/.exec(g ?? '')?.[0] ?? null);
   if (c === page.text && page.groups.length) showFunctions();
-  else if (c) openText(c);
+  else if (c) {
+    page.isOther = true;
+    putText(c);
+  }
   if (TABS.includes(v)) chooseTab(v);
 }
 
@@ -948,8 +907,8 @@ function showGoal() {
   $('goal').hidden = goal === null;
   if (goal === null || !order) return;
   const isReached = said.trim() === 'same' && orderWords(order) <= goal;
-  $('goal').className = isReached ? 'same' : '';
-  say('goal', `Goal: at most ${goal} words and same. ${isReached ? 'Reached!' : `Now: ${orderWords(order)} words, ${said.split('\n')[0] || 'no order'}.`}`);
+  const now = isReached ? 'Reached!' : `Now: ${orderWords(order)} words, ${said.split('\n')[0] || 'no order'}.`;
+  Object.assign($('goal'), { className: isReached ? 'same' : '', textContent: `Goal: at most ${goal} words and same. ${now}` });
 }
 
 async function copyLink() {
@@ -961,8 +920,7 @@ async function copyLink() {
 
 function setTheme(theme) {
   document.documentElement.dataset.theme = theme;
-  $('theme').textContent = theme === 'dark' ? 'Light' : 'Dark';
-  $('theme').setAttribute('aria-pressed', String(theme === 'dark'));
+  Object.assign($('theme'), { textContent: theme === 'dark' ? 'Light' : 'Dark', ariaPressed: String(theme === 'dark') });
 }
 
 function setPresent() {
@@ -993,9 +951,9 @@ function listenToTabs() {
     $('tab-' + tab).onkeydown = event => {
       const by = { ArrowRight: 1, ArrowLeft: -1 }[event.key];
       if (!by) return;
-      const next = TABS[(k + by + TABS.length) % TABS.length];
-      chooseTab(next);
-      $('tab-' + next).focus();
+      const next = $('tab-' + TABS[(k + by + TABS.length) % TABS.length]);
+      next.click();
+      next.focus();
     };
   }
 }
@@ -1013,12 +971,9 @@ async function runOn() {
   $('run-on').hidden = true;
   $('stop').hidden = false;
   say('agree', 'running ..');
-  try {
-    const { interp, run } = await client.ask('runs', { text: page.text, image: page.image, steps: LONG_RUN });
-    showRuns(interp, run);
-  } catch (error) {
-    say('agree', error.message);
-  }
+  const ran = await client.ask('runs', { text: page.text, image: page.image, steps: LONG_RUN }).catch(error => error);
+  if (ran instanceof Error) say('agree', ran.message);
+  else showRuns(ran.interp, ran.run);
   page.isRunning = false;
   $('stop').hidden = true;
 }

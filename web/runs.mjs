@@ -6,14 +6,11 @@ const OPERATIONS = {
   slt: (a, b) => ((a | 0) < (b | 0) ? 1 : 0), sltu: (a, b) => (a < b ? 1 : 0),
   sll: (a, b) => a << (b & 31), srl: (a, b) => a >>> (b & 31), sra: (a, b) => a >> (b & 31), lui: a => a << 16,
 };
-const SAME_AS = {
-  addiu: 'addu', andi: 'and', ori: 'or', xori: 'xor', slti: 'slt', sltiu: 'sltu', sllv: 'sll', srlv: 'srl', srav: 'sra',
-};
+const SAME_AS = { addiu: 'addu', andi: 'and', ori: 'or', xori: 'xor', slti: 'slt', sltiu: 'sltu', sllv: 'sll', srlv: 'srl', srav: 'sra' };
 const SIZES = { lw: 4, lbu: 1, sw: 4, sb: 1 };
 const LINK = 0x00401234;
 
 class Stuck extends Error {}
-
 const wordOf = word => '0x' + low(word).toString(16).padStart(8, '0');
 
 // An instruction or an exit: its name, its operands, and the numbers of those that are registers.
@@ -79,9 +76,7 @@ class State {
   // Where an exit leads from here; it writes its link, or its number of a call to the system.
   leave({ name, parts }) {
     const [a, b] = parts.map(part => (part[0] === '$' ? this.read(part) : 0));
-    const tests = {
-      beq: a === b, bne: a !== b, blez: (a | 0) <= 0, bgtz: (a | 0) > 0, bltz: (a | 0) < 0, bgez: (a | 0) >= 0,
-    };
+    const tests = { beq: a === b, bne: a !== b, blez: (a | 0) <= 0, bgtz: (a | 0) > 0, bltz: (a | 0) < 0, bgez: (a | 0) >= 0 };
     const [link, word] = [this.regs[31], this.regs[4]].map(wordOf);
     if (name === 'call') this.put('$31', LINK);
     if (name === 'out' || name === 'halt') this.put('$2', name === 'out' ? 1 : 10);
@@ -166,9 +161,6 @@ export function differences(block, order) {
 }
 
 // ---- starts: those that crates/counterexample tries, by their numbers (search.rt); so the memory of one is known by its registers
-
-const STARTS = 512;
-
 function mixed(word) {
   const a = low(word ^ (word << 13));
   const b = a ^ (a >>> 17);
@@ -215,7 +207,7 @@ export function parseStart(said) {
 // A start from which to run both: that which the answer names, else the first from which they differ, else the first that isn't stuck.
 export function chooseStart(block, order, said) {
   const registers = parseStart(said)?.registers ?? [];
-  const starts = Array.from({ length: STARTS }, (_, number) => startNumber(block, number));
+  const starts = Array.from({ length: 512 }, (_, number) => startNumber(block, number));
   const alike = starts.filter(start => registers.every(([r, word]) => start.regs[r] === word));
   const differ = start => differences(runBlock(block, start), runOrder(order, start)).length > 0;
   const found = alike.find(differ) ?? alike.find(start => !runBlock(block, start).isStuck) ?? alike[0];
