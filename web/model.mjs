@@ -113,7 +113,7 @@ export function functionsOf(text) {
   return found;
 }
 
-const COLOURED = /(\/\*[\s\S]*?(?:\*\/|$)|\/\/.*)|\b(int|unsigned|char|void|if|else|while|for|break|continue|return|out)\b|\b(\d\w*)/g;
+const COLOURED = /(\/\*[\s\S]*?(?:\*\/|$)|\/\/.*)|\b(int|unsigned|char|void|if|else|while|for|break|continue|return|out)\b|(?<![$\w])(\d\w*)/g;
 
 // The parts of each line that have a colour: comments, the words of C, numbers.
 export function coloursOf(text) {

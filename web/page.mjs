@@ -422,7 +422,8 @@ function showOrder() {
   if (!places.includes(page.at)) page.at = places.includes(page.at - 1) ? page.at - 1 : places[0];
   $('order').replaceChildren(...places.map(place => {
     const line = place === 'exit' ? order.exit : place === 'slot' ? 'slot ' + order.slot : order.insts[place];
-    const item = element('li', line, typeof place === 'string' && place, /^(slot )?nop$/.test(line) && 'nop', broken.includes(place) && 'broken');
+    const kinds = [typeof place === 'string' && place, /^(slot )?nop$/.test(line) && 'nop', broken.includes(place) && 'broken'];
+    const item = element('li', line, ...kinds);
     item.dataset.place = place;
     item.tabIndex = place === page.at ? 0 : -1;
     item.draggable = place !== 'exit';
@@ -468,15 +469,15 @@ function showStart(isOrder) {
   const sides = [runBlock(block, start), runOrder(order, start)];
   const found = named ? [['', named.block, named.order]] : differences(...sides);
   const read = readFirst([...block.insts, block.exit], [...order.insts, order.exit, order.slot]);
-  const from = (named?.registers ?? read.map(r => [r, start.regs[r]])).map(([r, word]) => `$${r} = ${hex(word)}`).join(', ') || 'any state';
+  const from = (named?.registers ?? read.map(r => [r, start.regs[r]])).map(([r, word]) => `$${r} = ${hex(word)}`);
   const by = named ? 'The order is wrong from ' : "This page's own script finds the order wrong from ";
-  $('start').replaceChildren(...(found.length ? [by, element('code', from)] : ["This page's own script finds no start from which they differ."]));
+  $('start').replaceChildren(...(found.length ? [by, ...from.flatMap((text, k) => [k ? ', ' : '', element('code', text)])] : ["This page's own script finds no start from which they differ."]));
   const leaves = [['th', '', 'the block leaves', 'the order leaves'], ...found.slice(0, 3).map(cells => ['td', ...cells])];
   $('leaves').replaceChildren(...(found.length ? leaves.map(cells => row(...cells)) : []));
   const [a, b] = sides.map(side => side.rows);
   const both = Array.from({ length: Math.max(a.length, b.length) }, (_, k) => row('td', k + 1, a[k] ?? '', b[k] ?? ''));
   $('rows').replaceChildren(row('th', '', 'the block, whose loads show at once', 'your order'), ...both);
-  say('from', `Both from ${isWrong ? 'that start' : from}, word by word. This page's own script runs them, and no proof covers it.`);
+  say('from', `Both from ${isWrong ? 'that start' : from.join(', ') || 'any state'}, word by word. This page's own script runs them, and no proof covers it.`);
 }
 
 // A row of a table; a cell is a text, or the line of a run with what it shows.
@@ -827,7 +828,8 @@ function putText(text) {
   if (!isPut) typed();
   source.setSelectionRange(0, 0);
   source.scrollTop = 0;
-  focused?.focus();
+  if (focused === document.body) source.blur();
+  else focused?.focus();
 }
 
 function typed() {

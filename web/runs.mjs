@@ -81,7 +81,8 @@ class State {
     if (name === 'call') this.put('$31', LINK);
     if (name === 'out' || name === 'halt') this.put('$2', name === 'out' ? 1 : 10);
     if (name in tests) return 'goes to ' + parts.at(tests[name] ? -2 : -1);
-    return { goto: `goes to ${parts[0]}`, call: `calls ${parts[0]}`, return: `returns to ${link}`, out: `prints ${word}` }[name] ?? `ends with ${word}`;
+    const others = { goto: `goes to ${parts[0]}`, call: `calls ${parts[0]}`, return: `returns to ${link}`, out: `prints ${word}` };
+    return others[name] ?? `ends with ${word}`;
   }
 }
 
@@ -207,13 +208,16 @@ export function parseStart(said) {
 // A start from which to run both: that which the answer names, else the first from which they differ, else the first that isn't stuck.
 export function chooseStart(block, order, said) {
   const registers = parseStart(said)?.registers ?? [];
-  const starts = Array.from({ length: 512 }, (_, number) => startNumber(block, number));
-  const alike = starts.filter(start => registers.every(([r, word]) => start.regs[r] === word));
-  const differ = start => differences(runBlock(block, start), runOrder(order, start)).length > 0;
-  const found = alike.find(differ) ?? alike.find(start => !runBlock(block, start).isStuck) ?? alike[0];
-  if (found) return found;
-  const { regs, ...rest } = starts[0];
-  return { ...rest, regs: regs.map((_, r) => registers.find(([named]) => named === r)?.[1] ?? 0) };
+  let found = null;
+  for (let number = 0; number < 512; number++) {
+    const start = startNumber(block, number);
+    if (!registers.every(([r, word]) => start.regs[r] === word)) continue;
+    const ran = runBlock(block, start);
+    if (!ran.isStuck) found ??= start;
+    if (found && (/^same|no start/.test(said) || differences(ran, runOrder(order, start)).length)) return start;
+  }
+  const { regs, ...rest } = startNumber(block, 0);
+  return found ?? { ...rest, regs: regs.map((word, r) => registers.find(([named]) => named === r)?.[1] ?? word) };
 }
 
 // The registers that a block or an order reads before it writes them.
