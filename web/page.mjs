@@ -25,9 +25,8 @@ const cut = text => (text.length > SHOWN ? text.slice(0, SHOWN) + '\n.. and more
 // ---- the worker
 class Client {
   constructor(script, wasm) {
-    this.script = URL.createObjectURL(new Blob([script], { type: 'text/javascript' }));
-    this.wasm = wasm;
-    this.count = 0;
+    const url = URL.createObjectURL(new Blob([script], { type: 'text/javascript' }));
+    Object.assign(this, { script: url, wasm, count: 0 });
   }
 
   // A worker of its own, with what waits for it: what an ended one still sends reaches nobody.
@@ -484,9 +483,8 @@ function showStart(isOrder) {
 function row(tag, ...cells) {
   const made = element('tr', null);
   for (const cell of cells) {
-    const { line, shows } = cell.line ? cell : { line: String(cell), shows: null };
-    const put = element(tag, line);
-    if (shows !== null) put.append(element('div', shows, shows.startsWith('stuck') && 'stuck'));
+    const put = element(tag, cell.line ?? String(cell));
+    if (cell.line) put.append(element('div', cell.shows, cell.isStuck && 'stuck'));
     made.append(put);
   }
   return made;
@@ -611,7 +609,8 @@ function showRibbon(item) {
   const [x, u] = [a.right - left, b.left - left];
   const [y, z, v, w] = [a.top, a.bottom, b.top, b.bottom].map(at => at - top);
   const middle = (x + u) / 2;
-  $('ribbon').append(svg('path', { d: `M ${x} ${y} C ${middle} ${y}, ${middle} ${v}, ${u} ${v} L ${u} ${w} C ${middle} ${w}, ${middle} ${z}, ${x} ${z} Z` }));
+  const line = `M ${x} ${y} C ${middle} ${y}, ${middle} ${v}, ${u} ${v} L ${u} ${w} C ${middle} ${w}, ${middle} ${z}, ${x} ${z} Z`;
+  $('ribbon').append(svg('path', { d: line }));
 }
 
 function listenToOrder() {
@@ -889,11 +888,9 @@ function openState({ c, v, f, b, o, g }) {
   if (pair) page.mine.set(keyOf(pair), pair.order);
   page.wanted = { name: f, number: Number(b) };
   setGoal(/\d+/.exec(g ?? '')?.[0] ?? null);
+  page.isOther = Boolean(c);
   if (c === page.text && page.groups.length) showFunctions();
-  else if (c) {
-    page.isOther = true;
-    putText(c);
-  }
+  else if (c) putText(c);
   if (TABS.includes(v)) chooseTab(v);
 }
 
