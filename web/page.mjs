@@ -75,8 +75,6 @@ const page = {
 };
 
 // ---- the C text
-const lineHeight = () => parseFloat(getComputedStyle($('numbers')).lineHeight);
-
 // The lines that are marked: that of a fault, else those of the function that is shown and of the chosen block's exit.
 function showGutter() {
   const { group, chosen, told } = page;
@@ -93,7 +91,7 @@ function showGutter() {
 function follow() {
   const { scrollTop: top, scrollLeft: left } = $('source');
   const { bad, held, left: exits } = page.marks;
-  const first = Math.max(1, Math.floor(top / lineHeight()) - 10);
+  const first = Math.max(1, Math.floor(top / parseFloat(getComputedStyle($('numbers')).lineHeight)) - 10);
   const count = Math.max(0, Math.min(120, page.lines.length - first + 1));
   $('numbers').replaceChildren(...Array.from({ length: count }, (_, k) => {
     const line = first + k;
@@ -470,13 +468,15 @@ function showStart(isOrder) {
   const read = readFirst([...block.insts, block.exit], [...order.insts, order.exit, order.slot]);
   const from = (named?.registers ?? read.map(r => [r, start.regs[r]])).map(([r, word]) => `$${r} = ${hex(word)}`);
   const by = named ? 'The order is wrong from ' : "This page's own script finds the order wrong from ";
-  $('start').replaceChildren(...(found.length ? [by, ...from.flatMap((text, k) => [k ? ', ' : '', element('code', text)])] : ["This page's own script finds no start from which they differ."]));
+  const refuted = [by, ...from.flatMap((text, k) => [k ? ', ' : '', element('code', text)])];
+  $('start').replaceChildren(...(found.length ? refuted : ["This page's own script finds no start from which they differ."]));
   const leaves = [['th', '', 'the block leaves', 'the order leaves'], ...found.slice(0, 3).map(cells => ['td', ...cells])];
   $('leaves').replaceChildren(...(found.length ? leaves.map(cells => row(...cells)) : []));
-  const [a, b] = sides.map(side => side.rows);
-  const both = Array.from({ length: Math.max(a.length, b.length) }, (_, k) => row('td', k + 1, a[k] ?? '', b[k] ?? ''));
+  const count = Math.max(...sides.map(side => side.rows.length));
+  const both = Array.from({ length: count }, (_, k) => row('td', k + 1, ...sides.map(side => side.rows[k] ?? '')));
   $('rows').replaceChildren(row('th', '', 'the block, whose loads show at once', 'your order'), ...both);
-  say('from', `Both from ${isWrong ? 'that start' : from.join(', ') || 'any state'}, word by word. This page's own script runs them, and no proof covers it.`);
+  const common = isWrong ? 'that start' : from.join(', ') || 'any state';
+  say('from', `Both from ${common}, word by word. This page's own script runs them, and no proof covers it.`);
 }
 
 // A row of a table; a cell is a text, or the line of a run with what it shows.

@@ -188,6 +188,14 @@ async function ownOrders(page) {
   judge('shows its start', (await page.until(`${text('start')}.includes('from $8 = 0x')`)) && (await page.value(text('leaves'))).includes('0x'), await page.value(text('start')));
   await page.value(click('both'));
   judge('and both runs', await page.until(`document.getElementById('rows').checkVisibility() && document.querySelectorAll('#rows tr').length === 4 && ${text('from')}.includes('no proof')`));
+  for (const zoom of [1, 1.25, 1.5]) {
+    await page.zoom(zoom);
+    judge(`${zoom * 100} %: the wrong order and its start in sight`, (await page.value(inPage('#verdict'))) && (await page.value(inPage('#leaves'))));
+    judge(`${zoom * 100} %: both runs aren't cut`, !(await page.value(isCut('.work'))));
+    await page.value(`document.querySelector('.work').scrollTo(0, 9999)`);
+    judge(`${zoom * 100} %: the verdict stays in sight`, await page.value(inPage('#verdict')));
+  }
+  await page.zoom(1);
   await page.value(click('both'));
 }
 
