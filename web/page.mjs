@@ -989,7 +989,7 @@ async function main() {
   setTheme(matchMedia('(prefers-color-scheme: dark)').matches ? 'dark' : 'light');
   $('theme').onclick = () => setTheme(document.documentElement.dataset.theme === 'dark' ? 'light' : 'dark');
   $('present').onclick = setPresent;
-  onresize = seeNode;
+  onresize = () => { seeNode(); showListing(); };
   listenToTabs();
   listenToOrder();
   listenToMachine();

@@ -220,6 +220,7 @@ async function machine(page) {
   for (const zoom of [1, 1.25, 1.5]) {
     await page.zoom(zoom);
     judge(`${zoom * 100} %: no word of the listing is cut`, !(await page.value(isCut('#listing'))) && !(await page.value(isCut('.values'))));
+    await sleep(100);
     judge(`${zoom * 100} %: the next word is in sight`, (await page.value(inPage('#listing .here'))) && (await page.value(inPage('#tab-stages'))));
   }
   await page.zoom(1);
