@@ -527,19 +527,19 @@ function setOrder(order, at) {
 // The line on which one stands becomes a field: Enter puts it in, Escape leaves it as it was, an empty one is taken out.
 function editLine() {
   const item = $('order').querySelector('[tabindex="0"]');
-  const { at } = page;
+  const { at, order } = page;
   const field = Object.assign(element('input', null), { value: item.textContent, spellcheck: false, ariaLabel: 'Line of the order' });
   item.draggable = false;
   item.replaceChildren(field);
   field.focus();
   field.select();
   const end = isKept => {
-    if (!field.isConnected) return;
+    if (!field.isConnected || order !== page.order) return;
     const line = field.value.trim().replace(/ +/g, ' ');
     field.onblur = null;
     field.remove();
-    setOrder(page.order, at);
-    if (isKept) change(withLine(page.order, at, line), at);
+    setOrder(order, at);
+    if (isKept) change(withLine(order, at, line), at);
   };
   field.onblur = () => end(true);
   field.onkeydown = event => {
