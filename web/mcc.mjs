@@ -14,13 +14,9 @@ export class Mcc {
     this.renew();
   }
 
-  renew() {
-    this.exports = new WebAssembly.Instance(this.module, {}).exports;
-  }
+  renew() { this.exports = new WebAssembly.Instance(this.module, {}).exports; }
 
-  bytes(at, length) {
-    return new Uint8Array(this.exports.memory.buffer, Number(at), Number(length));
-  }
+  bytes(at, length) { return new Uint8Array(this.exports.memory.buffer, Number(at), Number(length)); }
 
   take(length) {
     const at = this.exports.mcc_take(BigInt(length));
@@ -113,15 +109,9 @@ export class Mcc {
 function readView(data) {
   const words = at => Array.from({ length: 32 }, (_, k) => data.getUint32(at + 4 * k, true));
   return {
-    words: Number(data.getBigUint64(0, true)),
-    pc: data.getUint32(8, true),
-    target: data.getUint8(16) ? data.getUint32(12, true) : null,
-    loads: data.getUint8(17),
-    hold: data.getUint8(18),
-    loaded: data.getUint32(20, true),
-    high: data.getUint32(24, true),
-    low: data.getUint32(28, true),
-    registers: words(32),
+    words: Number(data.getBigUint64(0, true)), pc: data.getUint32(8, true),
+    target: data.getUint8(16) ? data.getUint32(12, true) : null, loads: data.getUint8(17), hold: data.getUint8(18),
+    loaded: data.getUint32(20, true), high: data.getUint32(24, true), low: data.getUint32(28, true), registers: words(32),
     memory: words(160).slice(0, data.getUint8(19)),
   };
 }

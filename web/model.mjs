@@ -44,9 +44,8 @@ export function parsePair(text) {
 }
 
 export function pairText(block, order) {
-  const lines = ['block', ...block.insts, block.exit, 'order', ...order.insts, order.exit];
-  if (order.slot !== null) lines.push('slot ' + order.slot);
-  return lines.join('\n') + '\n';
+  const slot = order.slot === null ? [] : ['slot ' + order.slot];
+  return ['block', ...block.insts, block.exit, 'order', ...order.insts, order.exit, ...slot, ''].join('\n');
 }
 
 export const orderWords = order => order.insts.length + exitWords(order.exit);
@@ -69,9 +68,8 @@ export const blockAt = (blocks, pc) => blocks.findLast(b => b.address <= pc && p
 // The plain order: a Nop behind each load, two behind each mfhi and mflo, one in the slot.
 export function plainOrder(block) {
   const insts = block.insts.flatMap(i => {
-    const word = mnemonic(i);
-    if (word === 'lw' || word === 'lbu') return [i, 'nop'];
-    return word === 'mfhi' || word === 'mflo' ? [i, 'nop', 'nop'] : [i];
+    const count = { lw: 1, lbu: 1, mfhi: 2, mflo: 2 }[mnemonic(i)] ?? 0;
+    return [i, ...Array(count).fill('nop')];
   });
   return { insts, exit: block.exit, slot: hasSlot(block.exit) ? 'nop' : null };
 }
@@ -108,28 +106,57 @@ export function functionsOf(text) {
       if (found.length) found.at(-1).to = Math.max(found.at(-1).to, line);
       head = '';
     } else if (depth === 0) {
-      if (c === ';') head = '';
-      else {
-        if (head.trim() === '' && c.trim() !== '') start = line;
-        head += c;
-      }
+      if (head.trim() === '' && c.trim() !== '') start = line;
+      head = c === ';' ? '' : head + c;
     }
   }
   return found;
 }
 
+const COLOURED = /(\/\*[\s\S]*?(?:\*\/|$)|\/\/.*)|\b(int|unsigned|char|void|if|else|while|for|break|continue|return|out)\b|(?<![$\w])(\d\w*)/g;
+
+// The parts of each line that have a colour: comments, the words of C, numbers.
+export function coloursOf(text) {
+  const lines = text.split('\n').map(() => []);
+  let line = 0, start = 0;
+  for (const { 0: found, index, 1: comment, 2: word } of text.matchAll(COLOURED)) {
+    for (let end = text.indexOf('\n', start); end >= 0 && end < index; end = text.indexOf('\n', start)) [line, start] = [line + 1, end + 1];
+    found.split('\n').forEach((part, k) => {
+      const from = k ? 0 : index - start;
+      lines[line + k].push([from, from + part.length, comment ? 'comment' : word ? 'keyword' : 'number']);
+    });
+  }
+  return lines;
+}
+
+// The globals of a C text, with their addresses and places: one word each, or as many as an array has; four bytes share one.
+export function globalsOf(text) {
+  let depth = 0, address = 0x10000000;
+  const outside = [...codeOf(text)].filter(c => (c === '}' ? depth-- : c === '{' ? depth++ : depth) === 0 && c !== '}').join('');
+  return [...outside.matchAll(/\b(int|unsigned|char)\s+(\w+)\s*(?:\[\s*(\w+?)[uU]?\s*\]|=[^;]*)?\s*;/g)].map(([, type, name, count]) => {
+    const found = { name, address, count: count === undefined ? null : Number(count), size: type === 'char' ? 1 : 4 };
+    address += 4 * Math.ceil(((found.count ?? 1) * found.size) / 4);
+    return found;
+  });
+}
+
+// The name of the word at an address: `a[3]`, and `line[4..7]` where it has four bytes.
+export function nameAt(globals, address) {
+  const held = globals.findLast(g => g.address <= address);
+  if (!held || address >= held.address + 4 * Math.ceil(((held.count ?? 1) * held.size) / 4)) return '';
+  const first = (address - held.address) / held.size;
+  if (held.count === null) return held.name;
+  return held.size === 4 ? `${held.name}[${first}]` : `${held.name}[${first}..${Math.min(first + 3, held.count - 1)}]`;
+}
+
 // The functions of a build: the start, and those of the text in their order; each with the numbers of its blocks.
 export function groupBlocks(blocks, functions) {
-  return [...Map.groupBy(blocks, b => b.owner)].map(([owner, own], k) => ({
-    owner,
-    name: k === 0 ? 'start' : functions[k - 1]?.name ?? 'block ' + owner,
-    lines: k === 0 ? null : functions[k - 1] ?? null,
-    blocks: own,
-  }));
+  const named = [{ name: 'start' }, ...functions];
+  return [...Map.groupBy(blocks, b => b.owner)].map(([owner, own], k) => (
+    { owner, name: named[k]?.name ?? 'block ' + owner, lines: functions[k - 1] ?? null, blocks: own }));
 }
 
 // ---- faults
-
 // The line of a fault, and its place and what is said of it, where the program tells them.
 export function parseTold(text) {
   const lines = text.split('\n');
@@ -144,19 +171,15 @@ export function parseTold(text) {
 }
 
 // ---- what is said of a verdict
-
 // The places of an order (0.., 'exit', 'slot') of the two words that `mcc check --explain` names behind a rule.
 export function marked(order, said) {
   const [verdict, , ...named] = said.split('\n').map(line => line.trim());
   if (!verdict.startsWith('unclean ')) return [];
   const words = [...order.insts, order.exit, order.slot];
   const places = [...order.insts.keys(), 'exit', 'slot'];
-  for (const k of places.keys()) {
-    for (const n of verdict === 'unclean U2' ? [k + 1, k + 2] : [k + 1]) {
-      if (words[k] === named[0] && words[n] === named[1]) return [places[k], places[n]];
-    }
-  }
-  return [];
+  const pairs = [...places.keys()].flatMap(k => [[k, k + 1], ...(verdict === 'unclean U2' ? [[k, k + 2]] : [])]);
+  const found = pairs.find(([k, n]) => words[k] === named[0] && words[n] === named[1]);
+  return found ? found.map(k => places[k]) : [];
 }
 
 // What a stage of `mcc show` has of a block, without its margin.
@@ -166,39 +189,32 @@ export function blockOf(stage, number) {
 }
 
 // ---- changes of an order; each gives a new one
-
-const copy = order => ({ ...order, insts: [...order.insts] });
-
 // Moves what stands at a place (a number or 'slot') to another one; what was in the slot and is no Nop goes to the end.
 export function move(order, from, to) {
-  const next = copy(order);
+  const next = { ...order, insts: [...order.insts] };
   if (from === to) return next;
   let inst = next.slot;
   if (from === 'slot') next.slot = 'nop';
   else [inst] = next.insts.splice(from, 1);
-  if (to !== 'slot') {
-    next.insts.splice(to, 0, inst);
-    return next;
-  }
+  if (to !== 'slot') return { ...next, insts: next.insts.toSpliced(to, 0, inst) };
   if (next.slot !== null && next.slot !== 'nop') next.insts.push(next.slot);
-  next.slot = inst;
-  return next;
+  return { ...next, slot: inst };
 }
 
 export const addNop = (order, at) => ({ ...order, insts: order.insts.toSpliced(at, 0, 'nop') });
-export const removeNop = (order, at) => ({ ...order, insts: order.insts.toSpliced(at, 1) });
+
+// An order with another line at a place, or without it where the line is empty.
+export function withLine(order, place, line) {
+  if (place === 'slot') return { ...order, slot: line.replace(/^slot /, '') || 'nop' };
+  if (place === 'exit') return { ...order, exit: line || order.exit, slot: hasSlot(line || order.exit) ? order.slot ?? 'nop' : null };
+  return { ...order, insts: line ? order.insts.with(place, line) : order.insts.toSpliced(place, 1) };
+}
 
 // ---- the graph of a function: blocks in layers, and its edges
-
 export function graphOf(blocks) {
   const numbers = new Map(blocks.map((b, k) => [b.number, k]));
-  const edges = [];
-  for (const [from, b] of blocks.entries()) {
-    const all = targets(b.block.exit);
-    all.forEach((t, k) => {
-      if (numbers.has(t)) edges.push({ from, to: numbers.get(t), kind: all.length < 2 ? '' : k === 0 ? 'yes' : 'no', isBack: false });
-    });
-  }
+  const edges = blocks.flatMap((b, from) => targets(b.block.exit).map((t, k, all) => (
+    { from, to: numbers.get(t), kind: all.length < 2 ? '' : k === 0 ? 'yes' : 'no', isBack: false })).filter(e => e.to !== undefined));
   const layer = layers(blocks.length, edges);
   const steps = stepsOf(edges, layer);
   return { edges, layer, rank: ranks(layer.length, steps, layer) };
@@ -206,20 +222,13 @@ export function graphOf(blocks) {
 
 // Where an edge goes past layers, it has a place in each of them, behind those of the blocks (`by`).
 function stepsOf(edges, layer) {
-  const steps = [];
-  for (const edge of edges) {
+  return edges.flatMap(edge => {
     edge.by = [];
-    if (edge.isBack) continue;
-    let from = edge.from;
-    while (layer[from] + 1 < layer[edge.to]) {
-      const place = layer.push(layer[from] + 1) - 1;
-      steps.push({ from, to: place });
-      edge.by.push(place);
-      from = place;
-    }
-    steps.push({ from, to: edge.to });
-  }
-  return steps;
+    if (edge.isBack) return [];
+    for (let at = layer[edge.from] + 1; at < layer[edge.to]; at++) edge.by.push(layer.push(at) - 1);
+    const way = [edge.from, ...edge.by, edge.to];
+    return way.slice(1).map((to, k) => ({ from: way[k], to }));
+  });
 }
 
 // The layer of each block, below all from which an edge comes down; marks the edges that go back.
@@ -228,19 +237,16 @@ function layers(count, edges) {
   for (const edge of edges) out[edge.from].push(edge);
   const state = new Array(count).fill(0);
   const ended = [];
-  for (let root = 0; root < count; root++) {
-    const stack = state[root] ? [] : [[root, 0]];
-    while (stack.length) {
-      const top = stack.at(-1);
-      state[top[0]] = 1;
-      const edge = out[top[0]][top[1]++];
-      if (!edge) {
-        state[top[0]] = 2;
-        ended.push(stack.pop()[0]);
-      } else if (state[edge.to] === 1) edge.isBack = true;
-      else if (state[edge.to] === 0) stack.push([edge.to, 0]);
+  const visit = from => {
+    state[from] = 1;
+    for (const edge of out[from]) {
+      if (state[edge.to] === 1) edge.isBack = true;
+      else if (state[edge.to] === 0) visit(edge.to);
     }
-  }
+    state[from] = 2;
+    ended.push(from);
+  };
+  for (let root = 0; root < count; root++) if (state[root] === 0) visit(root);
   const layer = new Array(count).fill(0);
   for (const from of ended.reverse()) {
     for (const { to, isBack } of out[from]) if (!isBack) layer[to] = Math.max(layer[to], layer[from] + 1);
@@ -257,34 +263,43 @@ function ranks(count, edges, layer) {
   rows.forEach(settle);
   const sweep = (order, near) => {
     for (const row of order) {
-      const middle = k => {
-        const others = near(k);
-        return others.length ? others.reduce((sum, n) => sum + rank[n], 0) / others.length : rank[k];
-      };
-      const by = new Map(row.map(k => [k, middle(k)]));
+      const middle = (k, others) => (others.length ? others.reduce((sum, n) => sum + rank[n], 0) / others.length : rank[k]);
+      const by = new Map(row.map(k => [k, middle(k, near[k])]));
       row.sort((a, b) => by.get(a) - by.get(b) || a - b);
       settle(row);
     }
   };
-  const above = Array.from({ length: count }, () => []);
-  const below = Array.from({ length: count }, () => []);
+  const [above, below] = [0, 1].map(() => Array.from({ length: count }, () => []));
   for (const { from, to } of edges) {
     above[to].push(from);
     below[from].push(to);
   }
   for (let round = 0; round < 3; round++) {
-    sweep(rows, k => above[k]);
-    sweep([...rows].reverse(), k => below[k]);
+    sweep(rows, above);
+    sweep([...rows].reverse(), below);
   }
   return rank;
 }
 
 // ---- listings
-
 // The lines of the code in a listing, a word each.
 export function codeLines(text) {
   const start = text.indexOf('00400000  ');
   return start < 0 ? [] : text.slice(start).split(/\n(?!00)/, 1)[0].split('\n');
+}
+
+export const NAMES = ['zero', 'at', 'v0', 'v1', ...[0, 1, 2, 3].map(k => 'a' + k), ...[0, 1, 2, 3, 4, 5, 6, 7].map(k => 't' + k),
+  ...[0, 1, 2, 3, 4, 5, 6, 7].map(k => 's' + k), 't8', 't9', 'k0', 'k1', 'gp', 'sp', 'fp', 'ra'];
+
+// What a word did, by the machine before it and after it: what it does, what shows then, and where its slot leads.
+export function deed(line, before, after, wordText) {
+  const at = reached(line, before.registers);
+  const does = after.loads ? `$${after.loads} gets ${wordText(after.loaded)}`
+    : after.target !== null ? `goes to ${hex(after.target).slice(2)}`
+      : at !== null && line[0] === 's' ? `[${hex(at).slice(2)}] gets ${line.slice(3).split(',')[0]}` : '';
+  const own = /^(?!sw|sb|b|lw|lbu|mult|div|jr|syscall)\w+ \$(\d+),/.exec(line)?.[1] ?? (line.startsWith('jal ') ? 31 : 0);
+  const shows = [...new Set([before.loads, Number(own)])].filter(r => r > 0).map(r => `$${r} = ${wordText(after.registers[r])}`).join(', ');
+  return { does, shows, isLate: before.loads > 0, leap: before.target === before.pc + 4 ? null : before.target };
 }
 
 // The address that a load or store reaches, by the registers before it.

@@ -1,16 +1,13 @@
 // The page: what is typed goes to the worker, and what it answers is shown.
 import {
-  RULES, addNop, blockAt, blockOf, codeLines, exitLines, functionsOf, graphOf, groupBlocks, hex, marked, move, orderWords, pairText,
-  parseOrders, parsePair, parseTold, plainOrder, reached, removeNop,
+  NAMES, RULES, addNop, blockAt, blockOf, codeLines, coloursOf, deed, exitLines, functionsOf, globalsOf, graphOf, groupBlocks, hex, marked, move,
+  nameAt, orderWords, pairText, parseOrders, parsePair, parseTold, plainOrder, reached, withLine,
 } from './model.mjs';
+import { chooseStart, differences, parseStart, readFirst, runBlock, runOrder } from './runs.mjs';
 
 const $ = id => document.getElementById(id);
-const SHORT_RUN = 1_000_000;
-const LONG_RUN = 1_000_000_000_000;
-const LINES = 400;
-const SHOWN = 100_000;
-const DRAWN = 300;
-const SHORT_TEXT = 200_000;
+const [SHORT_RUN, LONG_RUN] = [1_000_000, 1_000_000_000_000];
+const [LINES, SHOWN, DRAWN, SHORT_TEXT] = [400, 100_000, 300, 200_000];
 const NO_MEMORY64 = 'This browser lacks WebAssembly with 64-bit memories. Chromium or Chrome from 133 on has it, and Firefox from 134 on.';
 
 const element = (tag, text, ...classes) => {
@@ -20,37 +17,48 @@ const element = (tag, text, ...classes) => {
   return made;
 };
 const say = (id, text) => { $(id).textContent = text; };
+const attempt = (work, other = null) => {
+  try { return work(); } catch { return other; }
+};
 const cut = text => (text.length > SHOWN ? text.slice(0, SHOWN) + '\n.. and more' : text);
 
 // ---- the worker
-
 class Client {
   constructor(script, wasm) {
-    this.script = URL.createObjectURL(new Blob([script], { type: 'text/javascript' }));
-    this.wasm = wasm;
+    const url = URL.createObjectURL(new Blob([script], { type: 'text/javascript' }));
+    Object.assign(this, { script: url, wasm, count: 0 });
   }
 
+  // A worker of its own, with what waits for it: what an ended one still sends reaches nobody.
   start() {
-    this.worker = new Worker(this.script);
-    this.waiting = new Map();
-    this.count = 0;
-    this.worker.onmessage = ({ data: { id, answer, error } }) => {
-      const { resolve, reject } = this.waiting.get(id);
-      this.waiting.delete(id);
-      if (error === undefined) resolve(answer);
-      else reject(new Error(error));
+    const worker = new Worker(this.script);
+    const waiting = new Map();
+    worker.onmessage = ({ data: { id, answer, error } }) => {
+      const asked = waiting.get(id);
+      if (worker !== this.worker || !asked) return;
+      waiting.delete(id);
+      if (error === undefined) asked.resolve(answer);
+      else asked.reject(new Error(error));
     };
-    return this.ask('start', { wasm: this.wasm });
+    Object.assign(this, { worker, waiting });
+    return (this.ready = this.send('start', { wasm: this.wasm }));
   }
 
-  ask(name, work) {
+  send(name, work) {
     return new Promise((resolve, reject) => {
-      this.waiting.set(++this.count, { resolve, reject });
-      this.worker.postMessage({ id: this.count, name, work });
+      const id = ++this.count;
+      this.waiting.set(id, { resolve, reject });
+      this.worker.postMessage({ id, name, work });
     });
   }
 
-  // Ends what is running, and begins anew.
+  // Asks a worker that has its module.
+  async ask(name, work) {
+    for (let ready = null; ready !== this.ready;) await (ready = this.ready).catch(() => null);
+    return this.send(name, work);
+  }
+
+  // Ends what is running, and starts a new worker.
   stop() {
     this.worker.terminate();
     for (const { reject } of this.waiting.values()) reject(new Error('stopped'));
@@ -60,15 +68,13 @@ class Client {
 
 let client = null;
 const page = {
-  text: '', lines: [], marks: {}, scroll: { top: 0, left: 0 }, told: null, image: null, blocks: [], groups: [], group: null,
-  chosen: null, order: null, at: 0, said: '', stages: new Map(),
+  text: '', lines: [], marks: {}, told: null, image: null, blocks: [], groups: [], group: null,
+  chosen: null, order: null, at: 0, said: '', stages: new Map(), tried: null, isRunning: false, isOther: false,
+  mine: new Map(), past: [], badLine: null, globals: [], isPlaying: false, goal: null, wanted: {}, colours: null,
   listing: [], view: null, before: null, breakpoint: null, cursor: null, touched: null, isBusy: false, isStale: false,
 };
 
 // ---- the C text
-
-const LINE = 13 * 1.45;
-
 // The lines that are marked: that of a fault, else those of the function that is shown and of the chosen block's exit.
 function showGutter() {
   const { group, chosen, told } = page;
@@ -76,31 +82,51 @@ function showGutter() {
   const held = bad === null && chosen?.number != null ? group?.lines : null;
   page.lines = page.text.split('\n');
   page.marks = { bad, held, left: held ? exitLines(page.text, group, chosen, page.groups) : [] };
-  const behind = $('behind');
-  behind.replaceChildren();
-  if (bad !== null) {
-    const line = page.lines[bad - 1] ?? '';
-    const start = told.column - 1;
-    const length = /^(\w+|.)/.exec(line.slice(start))?.[0].length ?? 0;
-    behind.style.top = `${bad - 1}lh`;
-    behind.append(line.slice(0, start), element('mark', line.slice(start, start + length) || ' '), line.slice(start + length));
-  }
+  page.colours = page.text.length <= SHORT_TEXT ? coloursOf(page.text) : null;
+  $('source').classList.toggle('uncoloured', !page.colours);
   follow();
 }
 
 // The numbers of the lines that are seen, and the marked place, where the text stands.
 function follow() {
-  const { top, left } = page.scroll;
+  const { scrollTop: top, scrollLeft: left } = $('source');
   const { bad, held, left: exits } = page.marks;
-  const first = Math.max(1, Math.floor(top / LINE) - 10);
+  const first = Math.max(1, Math.floor(top / parseFloat(getComputedStyle($('numbers')).lineHeight)) - 10);
   const count = Math.max(0, Math.min(120, page.lines.length - first + 1));
   $('numbers').replaceChildren(...Array.from({ length: count }, (_, k) => {
     const line = first + k;
     const isHeld = held && held.from <= line && line <= held.to;
     return element('div', String(line), line === bad ? 'bad' : exits.includes(line) ? 'left' : isHeld && 'held');
   }));
+  drawText(first, count);
   $('numbers').style.transform = `translateY(calc(${first - 1}lh - ${top}px))`;
-  $('behind').style.transform = `translate(${-left}px, ${-top}px)`;
+  $('behind').style.transform = `translate(${-left}px, calc(${first - 1}lh - ${top}px))`;
+}
+
+// The text of the lines that are seen, in colours, with the place of a fault.
+function drawText(first, count) {
+  const { told, colours, lines } = page;
+  const parts = [];
+  for (let k = first - 1; k < first - 1 + count; k++) {
+    const line = lines[k];
+    const start = told?.line === k + 1 ? told.column - 1 : -1;
+    const end = start < 0 ? -1 : start + Math.max(1, /^(\w+|[-+*\/%&|^<>=!]+|.)/.exec(line.slice(start))?.[0].length ?? 1);
+    const spans = start < 0 ? colours?.[k] ?? [] : [[start, end, 'bad']];
+    spans.forEach(([from, to, kind], n) => {
+      parts.push(line.slice(spans[n - 1]?.[1] ?? 0, from), element(kind === 'bad' ? 'mark' : 'span', line.slice(from, to) || ' ', kind));
+    });
+    parts.push((colours || start >= 0 ? line.slice(spans.at(-1)?.[1] ?? 0) : '') + '\n');
+  }
+  $('behind').replaceChildren(...parts);
+}
+
+// Enter keeps the indentation, and adds to it after a brace.
+function sourceKey(event) {
+  const { value, selectionStart } = event.target;
+  if (event.key !== 'Enter' || event.isComposing || event.ctrlKey || event.altKey || value.length > SHORT_TEXT) return;
+  const line = value.slice(value.lastIndexOf('\n', selectionStart - 1) + 1, selectionStart);
+  event.preventDefault();
+  document.execCommand('insertText', false, '\n' + /^ */.exec(line)[0] + (/\{\s*$/.test(line) ? '    ' : ''));
 }
 
 function showFault(told) {
@@ -108,29 +134,41 @@ function showFault(told) {
   $('fault').hidden = told === null;
   if (told) {
     const place = told.line === null ? '' : `Line ${told.line}, column ${told.column}: `;
-    $('fault').replaceChildren(element('b', told.fault), element('div', place + (told.message ?? '')));
-    if (told.hint) $('fault').append(element('div', 'Hint: ' + told.hint));
+    const hint = told.hint ? [element('div', 'Hint: ' + told.hint)] : [];
+    $('fault').replaceChildren(element('b', place + (told.message ?? told.fault)), ...hint, element('small', told.fault));
   }
   showGutter();
 }
 
+// What stands on the right isn't of the text on the left: it is dimmed, and says why.
+function setStale(why) {
+  Object.assign($('stale'), { hidden: why === null, textContent: why });
+  $('right').classList.toggle('stale', why !== null);
+}
+
 async function refresh() {
-  if (page.isBusy) {
-    page.isStale = true;
-    return;
-  }
+  page.isStale = page.isBusy;
+  if (page.isBusy) return;
   page.isBusy = true;
   do {
     page.isStale = false;
     const { text } = page;
+    page.tried = text;
     const plain = $('plain').checked;
     const late = setTimeout(() => { $('stop').hidden = false; }, 700);
     const started = performance.now();
     try {
-      const answer = await client.ask('program', { text, steps: SHORT_RUN, plain });
-      if (text === page.text) showProgram(answer, plain, performance.now() - started);
+      if (isPair(text)) await showPair(text);
+      else {
+        const answer = await client.ask('program', { text, steps: SHORT_RUN, plain });
+        if (text === page.text) showProgram(answer, plain, performance.now() - started);
+      }
     } catch (error) {
       say('state', error.message);
+      if (text === page.text) {
+        showRuns({ status: 1, text: error.message }, null);
+        setStale('The text has no answer yet. Below is the last program that was built.');
+      }
     }
     clearTimeout(late);
     $('stop').hidden = true;
@@ -139,34 +177,70 @@ async function refresh() {
 }
 
 function showRuns(interp, run) {
-  say('interp', cut(interp.text));
-  say('machine', run ? cut(run.text) : '');
+  const isOne = !run || interp.text === run.text;
   const isMore = interp.status === 4 || run?.status === 4;
+  $('machine').parentElement.hidden = isOne;
   $('run-on').hidden = !isMore || !run;
-  if (!run) say('agree', '');
-  else if (interp.status === 3) say('agree', 'C gives the text no meaning from there on, so nothing is promised of the machine.');
-  else if (isMore) say('agree', 'Not at the end after these steps.');
-  else say('agree', interp.text === run.text ? 'Both print the same.' : 'They differ: this must not be.');
+  const agree = !run ? '' : interp.status === 3
+    ? 'C gives the text no meaning from there on, so nothing is promised of the machine. The command mcc interp prints why.'
+    : isMore ? 'Not at the end after these steps.' : isOne ? 'Both print the same.' : 'They differ: this must not be.';
+  const texts = { interp: cut(interp.text), machine: cut(run?.text ?? ''), reason: '', agree };
+  texts.whose = run && isOne ? 'Output of interpreter and machine' : 'Interpreter';
+  for (const [id, text] of Object.entries(texts)) say(id, text);
+  if (run?.status === 3) showPlace(run.text.trimEnd().split('\n').at(-1).slice(6));
+}
+
+// Why the machine is stuck, and at which word of which block.
+async function showPlace(rule) {
+  const { image } = page;
+  const view = await client.ask('machine', { image, from: 0, most: SHORT_RUN, stop: 0, address: 0x10000000 }).catch(() => null);
+  if (!view || image !== page.image) return;
+  const block = blockAt(page.blocks, view.pc);
+  const name = page.groups.find(g => g.owner === block?.owner)?.name;
+  const there = element('button', 'Show the word');
+  there.onclick = () => { chooseTab('steps'); goTo(view.words); };
+  const place = element('b', `${hex(view.pc)}: ${lineAt(view.pc)}`);
+  $('reason').replaceChildren(`The machine is stuck by ${RULES[rule] ?? rule} `, place, `, block ${block?.number} of ${name}. `, there);
+}
+
+const isPair = text => text.startsWith('block\n');
+
+// A check text of one's own: its order is judged as it is typed.
+async function showPair(text) {
+  const { status, text: said } = await client.ask('explain', { text });
+  if (text !== page.text) return;
+  const pair = status === 1 ? null : parsePair(text);
+  Object.assign(page, { image: null, blocks: [], groups: [], group: null, listing: [] });
+  showRuns({ status: 1, text: '' }, null);
+  showFault(pair ? null : parseTold(said));
+  setStale(pair ? null : 'The check text has a fault. Below is the last one that had none.');
+  say('state', said.split('\n')[0]);
+  if (!pair) return;
+  // It has neither a graph nor RTL, and nothing runs.
+  document.body.classList.add('own');
+  chooseTab('orders');
+  chooseBlock({ number: null, owner: null, address: 0, ...pair });
 }
 
 function showProgram({ interp, build, run, list, orders }, isPlain, time) {
-  showRuns(interp.status === 1 ? { status: 1, text: '' } : interp, run);
   if (build.image === null) {
     page.image = null;
+    showRuns({ status: 1, text: '' }, null);
     showFault(parseTold(build.text));
+    setStale(`The text has a fault. ${page.chosen ? 'Below is the last program that was built.' : 'There is no program yet.'}`);
     say('state', 'fault');
     return;
   }
-  page.image = build.image;
   const blocks = orders.status === 0 ? parseOrders(orders.text, isPlain) : [];
-  page.blocks = blocks;
-  page.groups = groupBlocks(blocks, functionsOf(page.text));
-  page.listing = codeLines(list.text);
+  const groups = groupBlocks(blocks, functionsOf(page.text));
+  Object.assign(page, { image: build.image, blocks, groups, listing: codeLines(list.text), globals: globalsOf(page.text), breakpoint: null });
   page.stages.clear();
+  document.body.classList.remove('own');
   showFault(null);
+  setStale(null);
+  showRuns(interp, run);
   say('state', `${build.text.trim().split(' ').slice(0, 4).join(' ')} · ${time.toFixed(0)} ms`);
   showFunctions();
-  page.breakpoint = null;
   goTo(0);
 }
 
@@ -174,10 +248,8 @@ function showProgram({ interp, build, run, list, orders }, isPlain, time) {
 function stageOf(stage, group) {
   const name = group && group !== page.groups[0] ? group.name : '';
   const key = `${stage} ${name}`;
-  if (!page.stages.has(key)) {
-    const asked = client.ask('show', { text: page.text, stage, name }).then(shown => shown.text, error => error.message + '\n');
-    page.stages.set(key, asked);
-  }
+  const ask = () => client.ask('show', { text: page.text, stage, name }).then(shown => shown.text, error => error.message + '\n');
+  if (!page.stages.has(key)) page.stages.set(key, ask());
   return page.stages.get(key);
 }
 
@@ -200,14 +272,13 @@ async function showParts() {
 }
 
 // ---- the graph of a function
-
 function showFunctions() {
-  const was = page.group?.name;
-  const select = $('functions');
-  select.replaceChildren(...page.groups.map((g, k) => new Option(`${g.name} (${g.blocks.length})`, k)));
-  const wanted = page.groups.findIndex(g => g.name === was);
-  const main = page.groups.findIndex(g => g.name === 'main');
-  chooseGroup(wanted >= 0 ? wanted : Math.max(main, 0), page.chosen?.number);
+  const was = page.isOther ? null : page.group?.name;
+  $('functions').replaceChildren(...page.groups.map((g, k) => new Option(`${g.name} (${g.blocks.length})`, k)));
+  const place = name => page.groups.findIndex(g => g.name === name);
+  const wanted = place(page.wanted.name ?? was);
+  chooseGroup(wanted >= 0 ? wanted : Math.max(place('main'), 0), page.wanted.number ?? (wanted >= 0 ? page.chosen?.number : null));
+  Object.assign(page, { isOther: false, wanted: {} });
 }
 
 function chooseGroup(k, number) {
@@ -220,7 +291,7 @@ function chooseGroup(k, number) {
   showStage();
 }
 
-const NODE = { width: 92, height: 34, across: 116, down: 62, pad: 30 };
+const NODE = { width: 78, height: 34, across: 100, down: 62, pad: 10 };
 const svg = (tag, attributes, text = null) => {
   const made = document.createElementNS('http://www.w3.org/2000/svg', tag);
   for (const [name, value] of Object.entries(attributes)) made.setAttribute(name, value);
@@ -230,52 +301,52 @@ const svg = (tag, attributes, text = null) => {
 
 function showGraph() {
   const all = page.group.blocks;
-  const first = Math.max(0, Math.min(all.indexOf(page.chosen) - DRAWN / 2, all.length - DRAWN));
-  const blocks = all.slice(first, first + DRAWN);
+  const start = Math.max(0, Math.min(all.indexOf(page.chosen) - DRAWN / 2, all.length - DRAWN));
+  const blocks = all.slice(start, start + DRAWN);
   say('drawn', blocks.length < all.length ? `${DRAWN} of ${all.length} blocks are drawn` : '');
   const { edges, layer, rank } = graphOf(blocks);
   const least = Math.min(...rank);
-  const widest = Math.max(...rank) - least;
-  const back = edges.filter(e => e.isBack).length;
+  const back = edges.filter(e => e.isBack);
   const middle = k => NODE.pad + NODE.width / 2 + (rank[k] - least) * NODE.across;
   const top = k => NODE.pad + layer[k] * NODE.down;
-  const right = NODE.pad + NODE.width + widest * NODE.across;
-  const width = right + 26 + 12 * back;
+  const right = NODE.pad + NODE.width + (Math.max(...rank) - least) * NODE.across;
+  const width = right + 8 + 10 * back.length;
   const height = NODE.pad * 2 + NODE.height + Math.max(...layer) * NODE.down;
   $('graph').setAttribute('viewBox', `0 0 ${width} ${height}`);
-  Object.assign($('graph').style, { width: width + 'px', height: height + 'px', minWidth: width + 'px' });
-  const graph = $('shapes');
-  graph.replaceChildren();
-  let lane = right + 8;
-  for (const { from, to, by, kind, isBack } of edges) {
+  const scale = parseFloat(getComputedStyle($('rtl')).fontSize) / 13;
+  Object.assign($('graph').style, { width: width * scale + 'px', height: height * scale + 'px' });
+  const drawn = [];
+  let lane = right + 6;
+  const entered = new Set(back.map(e => e.to));
+  const labels = [];
+  // Short ways back are nearer than long ones.
+  const length = e => (e.isBack ? layer[e.from] - layer[e.to] : 0);
+  for (const { from, to, by, kind, isBack } of [...edges].sort((e, f) => length(e) - length(f))) {
     const side = kind === 'yes' ? -14 : kind === 'no' ? 14 : 0;
-    const [x, y, u, v] = [middle(from) + side, top(from) + NODE.height, middle(to), top(to)];
+    const enter = !entered.has(to) ? 0 : isBack ? 10 : -10;
+    const [x, y, u, v] = [middle(from) + side, top(from) + NODE.height, middle(to) + enter, top(to)];
     const bend = NODE.down - NODE.height;
     const curve = (a, b, c, d) => `C ${a} ${b + bend}, ${c} ${d - bend}, ${c} ${d}`;
     const past = by.map(k => [middle(k), top(k)]);
-    let [a, b] = [x, y];
-    const down = [...past, [u, v]].map(([c, d], k) => {
-      const drawn = curve(a, b, c, d) + (k < past.length ? ` L ${c} ${d + NODE.height}` : '');
-      [a, b] = [c, d + NODE.height];
-      return drawn;
-    });
-    const line = isBack
-      ? `M ${x} ${y} C ${x} ${y + 16}, ${lane} ${y + 16}, ${lane} ${y - 6} L ${lane} ${v + 6} `
-        + `C ${lane} ${v - 18}, ${u + 8} ${v - 18}, ${u + 8} ${v}`
-      : `M ${x} ${y} ` + down.join(' ');
-    if (isBack) lane += 12;
-    graph.append(svg('path', { d: line, class: isBack ? 'back' : '', 'marker-end': isBack ? 'url(#arrow-back)' : 'url(#arrow)' }));
-    if (kind) graph.append(svg('text', { x: x + (side < 0 ? -26 : 10), y: y + 12, class: 'kind' }, kind));
+    const ends = [[x, y], ...past.map(([c, d]) => [c, d + NODE.height])];
+    const down = [...past, [u, v]].map(([c, d], k) => curve(...ends[k], c, d) + (k < past.length ? ` L ${c} ${d + NODE.height}` : ''));
+    const line = isBack ? `M ${x} ${y} C ${x} ${y + 16}, ${lane} ${y + 16}, ${lane} ${y - 6} L ${lane} ${v + 6} `
+      + `C ${lane} ${v - 18}, ${u} ${v - 18}, ${u} ${v}` : `M ${x} ${y} ` + down.join(' ');
+    if (isBack) lane += 10;
+    drawn.push(svg('path', { d: line, class: isBack ? 'back' : '', 'marker-end': isBack ? 'url(#arrow-back)' : 'url(#arrow)' }));
+    const [near, anchor] = side < 0 ? [x - 5, 'end'] : [x + 5, 'start'];
+    if (kind) labels.push(svg('text', { x: near, y: y + 13, class: 'kind way', 'text-anchor': anchor }, kind));
   }
-  blocks.forEach((b, k) => {
+  const nodes = blocks.map((b, k) => {
     const node = svg('g', { class: 'node', tabindex: -1, role: 'button', 'data-block': b.number, 'aria-label': `block ${b.number}` });
     node.append(svg('rect', { x: middle(k) - NODE.width / 2, y: top(k), width: NODE.width, height: NODE.height }));
     const [word] = b.block.exit.split(' ');
     node.append(svg('text', { x: middle(k), y: top(k) + 14, 'text-anchor': 'middle' }, String(b.number)));
     node.append(svg('text', { x: middle(k), y: top(k) + 28, 'text-anchor': 'middle', class: 'kind' }, `${b.block.insts.length} · ${word}`));
     node.onclick = () => chooseBlock(b);
-    graph.append(node);
+    return node;
   });
+  $('shapes').replaceChildren(...drawn, ...labels, ...nodes);
 }
 
 function markNodes() {
@@ -286,6 +357,16 @@ function markNodes() {
     node.classList.toggle('pointed', number === here?.number);
     node.setAttribute('tabindex', number === page.chosen?.number ? 0 : -1);
   }
+  seeNode();
+}
+
+// Brings the chosen block into view, with what is around it.
+function seeNode() {
+  const box = document.querySelector('.drawing');
+  const node = document.querySelector('#graph .node.chosen')?.getBoundingClientRect();
+  const { left, top, right, bottom } = box.getBoundingClientRect();
+  if (!node || (node.left >= left && node.right <= right && node.top >= top && node.bottom <= bottom)) return;
+  box.scrollBy((node.left + node.right - left - right) / 2, (node.top + node.bottom - top - bottom) / 2);
 }
 
 // Tab reaches the chosen block alone; arrows lead to the others, Enter chooses one.
@@ -301,14 +382,17 @@ function graphKey(event) {
 }
 
 // ---- a block and its order
+// One's order of a block is kept while one looks at others.
+const keyOf = ({ block }) => [...block.insts, block.exit].join('\n');
 
 function chooseBlock(block) {
   page.chosen = block;
-  page.order = block.order;
+  page.order = page.mine.get(keyOf(block)) ?? block.order;
   page.at = 0;
-  const where = block.number === null ? 'A block of a check text' : `Block ${block.number}, ${hex(block.address)}`;
-  say('block-title', where);
-  showBlock();
+  say('block-title', block.number === null ? 'A block of a check text' : `Block ${block.number}, ${hex(block.address)}`);
+  const { insts, exit } = block.block;
+  $('block').replaceChildren(...insts.map(line => element('li', line, line === 'nop' && 'nop')), element('li', exit, 'exit'));
+  showOrder();
   markNodes();
   showListing();
   showGutter();
@@ -325,26 +409,18 @@ function chooseAt(address) {
   else chooseGroup(k, block.number);
 }
 
-const classOf = line => (line === 'nop' ? 'nop' : null);
-
-function showBlock() {
-  const { block } = page.chosen;
-  $('block').replaceChildren(...block.insts.map(line => element('li', line, classOf(line))), element('li', block.exit, 'exit'));
-  showOrder();
-}
-
 // The places of the order, in the order of their words: 0.., 'exit', 'slot'.
 const placesOf = order => [...order.insts.keys(), 'exit', ...(order.slot === null ? [] : ['slot'])];
 
 function showOrder() {
   const { order } = page;
-  const broken = marked(order, page.said);
   const places = placesOf(order);
+  const broken = page.badLine === null ? marked(order, page.said) : [places[page.badLine]];
   if (!places.includes(page.at)) page.at = places.includes(page.at - 1) ? page.at - 1 : places[0];
   $('order').replaceChildren(...places.map(place => {
     const line = place === 'exit' ? order.exit : place === 'slot' ? 'slot ' + order.slot : order.insts[place];
-    const kind = place === 'exit' || place === 'slot' ? place : null;
-    const item = element('li', line, kind, classOf(line.replace('slot ', '')), broken.includes(place) && 'broken');
+    const kinds = [typeof place === 'string' && place, /^(slot )?nop$/.test(line) && 'nop', broken.includes(place) && 'broken'];
+    const item = element('li', line, ...kinds);
     item.dataset.place = place;
     item.tabIndex = place === page.at ? 0 : -1;
     item.draggable = place !== 'exit';
@@ -359,33 +435,123 @@ let asked = 0;
 async function judge() {
   const mine = ++asked;
   page.said = '';
-  const pair = pairText(page.chosen.block, page.order);
-  const { text } = await client.ask('explain', { text: pair }).catch(error => ({ text: error.message }));
+  const { block } = page.chosen;
+  const { status, text } = await client.ask('explain', { text: pairText(block, page.order) }).catch(({ message }) => ({ text: message }));
   if (mine !== asked) return;
-  page.said = text;
-  const [verdict, ...why] = text.trimEnd().split('\n');
+  const told = status === 1 ? parseTold(text) : null;
+  page.said = told ? '' : text;
+  page.badLine = told?.line ? told.line - block.insts.length - 4 : null;
+  const [verdict, ...why] = told ? ['no order', told.message, told.hint ?? ''] : text.split(/\nthe order is wrong/)[0].trimEnd().split('\n');
   const isSame = verdict === 'same';
-  $('verdict').className = isSame ? 'same' : 'other';
-  say('verdict', verdict);
+  Object.assign($('verdict'), { className: isSame ? 'same' : 'other', textContent: verdict });
+  $('why').classList.toggle('prose', isSame || told !== null);
   say('why', isSame ? 'The order means the block: it may stand for it.' : why.join('\n'));
-  const hadFocus = $('order').contains(document.activeElement);
+  showStart(told === null);
+  showGoal();
+  if ($('order').querySelector('input')) return;
+  const isFocused = $('order').contains(document.activeElement);
   showOrder();
-  if (hadFocus) focusOrder();
+  if (isFocused) focusOrder();
+}
+
+// A start from which block and order do otherwise, with what each leaves; and both runs from it.
+function showStart(isOrder) {
+  const { chosen: { block }, order, said } = page;
+  const isWrong = said.startsWith('differs') && !said.includes('no start');
+  $('both').disabled = !isOrder;
+  $('witness').hidden = !isWrong;
+  if (!isOrder) return;
+  const named = parseStart(said);
+  const start = chooseStart(block, order, said);
+  const sides = [runBlock(block, start), runOrder(order, start)];
+  const found = named ? [['', named.block, named.order]] : differences(...sides);
+  const read = readFirst([...block.insts, block.exit], [...order.insts, order.exit, order.slot]);
+  const from = (named?.registers ?? read.map(r => [r, start.regs[r]])).map(([r, word]) => `$${r} = ${hex(word)}`);
+  const by = named ? 'The order is wrong from ' : "This page's own script finds the order wrong from ";
+  const refuted = [by, ...from.flatMap((text, k) => [k ? ', ' : '', element('code', text)])];
+  $('start').replaceChildren(...(found.length ? refuted : ["This page's own script finds no start from which they differ."]));
+  const leaves = [['th', '', 'the block leaves', 'the order leaves'], ...found.slice(0, 3).map(cells => ['td', ...cells])];
+  $('leaves').replaceChildren(...(found.length ? leaves.map(cells => row(...cells)) : []));
+  const count = Math.max(...sides.map(side => side.rows.length));
+  const both = Array.from({ length: count }, (_, k) => row('td', k + 1, ...sides.map(side => side.rows[k] ?? '')));
+  $('rows').replaceChildren(row('th', '', 'the block, whose loads show at once', 'your order'), ...both);
+  const common = isWrong ? 'that start' : from.join(', ') || 'any state';
+  say('from', `Both from ${common}, word by word. This page's own script runs them, and no proof covers it.`);
+}
+
+// A row of a table; a cell is a text, or the line of a run with what it shows.
+function row(tag, ...cells) {
+  const made = element('tr', null);
+  for (const cell of cells) {
+    const put = element(tag, cell.line ?? String(cell));
+    if (cell.line) put.append(element('div', cell.shows, cell.isStuck && 'stuck'));
+    made.append(put);
+  }
+  return made;
+}
+
+function showBoth() {
+  const isShown = $('runs').hidden;
+  $('both').setAttribute('aria-expanded', String(isShown));
+  $('runs').hidden = !isShown;
+  if (isShown) $('runs').scrollIntoView({ block: 'nearest' });
 }
 
 function change(order, at) {
-  page.order = order;
-  page.at = at;
-  page.said = '';
+  page.past.push([keyOf(page.chosen), page.order, page.at]);
+  setOrder(order, at);
+}
+
+// The order that was before the last change.
+function undoOrder() {
+  const last = page.past.findLastIndex(([key]) => key === keyOf(page.chosen));
+  if (last >= 0) setOrder(...page.past.splice(last, 1)[0].slice(1));
+}
+
+// A check text follows its order, which follows it.
+function setOrder(order, at) {
+  const { chosen, mine } = page;
+  Object.assign(page, { order, at, said: '', badLine: null });
+  if (chosen.number === null) {
+    page.text = pairText(chosen.block, order);
+    putText(page.text);
+    showGutter();
+  } else if (order === chosen.order) mine.delete(keyOf(chosen));
+  else mine.set(keyOf(chosen), order);
+  keep();
   showOrder();
   focusOrder();
   judge();
 }
 
+// The line on which one stands becomes a field: Enter puts it in, Escape leaves it as it was, an empty one is taken out.
+function editLine() {
+  const item = $('order').querySelector('[tabindex="0"]');
+  const { at, order } = page;
+  const field = Object.assign(element('input', null), { value: item.textContent, spellcheck: false, ariaLabel: 'Line of the order' });
+  item.draggable = false;
+  item.replaceChildren(field);
+  field.focus();
+  field.select();
+  const end = isKept => {
+    if (!field.isConnected || order !== page.order) return;
+    const line = field.value.trim().replace(/ +/g, ' ');
+    field.onblur = null;
+    field.remove();
+    setOrder(order, at);
+    if (isKept) change(withLine(order, at, line), at);
+  };
+  field.onblur = () => end(true);
+  field.onkeydown = event => {
+    event.stopPropagation();
+    if (event.key === 'Enter' || event.key === 'Escape') end(event.key === 'Enter');
+  };
+}
+
 const CHANGES = {
   up: ({ insts, slot }, at) => {
-    if (at === 'slot') return slot === 'nop' ? null : [move(page.order, 'slot', insts.length), insts.length];
-    return at > 0 ? [move(page.order, at, at - 1), at - 1] : null;
+    const to = at !== 'slot' ? at - 1 : slot === 'nop' ? -1 : insts.length;
+    return to >= 0 ? [move(page.order, at, to), to] : null;
   },
   down: ({ insts, slot }, at) => {
     if (at === 'slot' || at === 'exit') return null;
@@ -393,17 +559,17 @@ const CHANGES = {
     return slot === null ? null : [move(page.order, at, 'slot'), 'slot'];
   },
   'to-slot': ({ slot }, at) => (slot === null || typeof at !== 'number' ? null : [move(page.order, at, 'slot'), 'slot']),
-  'add-nop': ({ insts }, at) => {
-    const place = typeof at === 'number' ? at : insts.length;
-    return [addNop(page.order, place), place];
-  },
-  'remove-nop': ({ insts, slot }, at) => (insts[at] === 'nop' ? [removeNop(page.order, at), Math.min(at, insts.length - 2)] : null),
+  'add-nop': ({ insts }, at) => [addNop(page.order, insts[at] ? at : insts.length), insts[at] ? at : insts.length],
+  remove: ({ insts }, at) => (insts[at] === undefined ? null : [withLine(page.order, at, ''), Math.min(at, insts.length - 2)]),
   'to-plain': () => [plainOrder(page.chosen.block), 0],
   'to-build': () => [page.chosen.order, 0],
 };
+const KEYS = { s: 'to-slot', n: 'add-nop', Delete: 'remove', Backspace: 'remove', Enter: 'edit', F2: 'edit' };
 
 function apply(name) {
   if (!page.chosen) return;
+  if (name === 'edit') return editLine();
+  if (name === 'undo') return undoOrder();
   const changed = CHANGES[name](page.order, page.at);
   if (changed) change(...changed);
 }
@@ -411,16 +577,13 @@ function apply(name) {
 function orderKey(event) {
   const name = event.altKey
     ? { ArrowUp: 'up', ArrowDown: 'down' }[event.key]
-    : { s: 'to-slot', n: 'add-nop', Delete: 'remove-nop', Backspace: 'remove-nop' }[event.key];
-  if (name) {
-    event.preventDefault();
-    apply(name);
-  } else if (!event.altKey && (event.key === 'ArrowUp' || event.key === 'ArrowDown')) {
-    event.preventDefault();
-    const places = placesOf(page.order);
-    const next = places.indexOf(page.at) + (event.key === 'ArrowUp' ? -1 : 1);
-    stand(places[Math.max(0, Math.min(places.length - 1, next))]);
-  }
+    : event.ctrlKey || event.metaKey ? { z: 'undo' }[event.key] : KEYS[event.key];
+  const by = event.altKey ? undefined : { ArrowUp: -1, ArrowDown: 1 }[event.key];
+  if (!name && !by) return;
+  event.preventDefault();
+  const places = placesOf(page.order);
+  if (name) apply(name);
+  else stand(places[Math.max(0, Math.min(places.length - 1, places.indexOf(page.at) + by))]);
 }
 
 function stand(place) {
@@ -431,11 +594,35 @@ function stand(place) {
 
 const placeOf = item => (/^\d+$/.test(item.dataset.place) ? Number(item.dataset.place) : item.dataset.place);
 
+// A ribbon from an instruction of the block to the same one of the order.
+function showRibbon(item) {
+  const lists = ['block', 'order'].map(id => [...$(id).children]);
+  const textOf = it => it.textContent.replace('slot ', '');
+  const alike = items => items.filter(it => textOf(it) === textOf(item));
+  const isShown = item !== null && lists.some(items => items.includes(item)) && textOf(item) !== 'nop';
+  const ends = isShown ? lists.map(items => alike(items)[alike(item.parentElement === $('block') ? lists[0] : lists[1]).indexOf(item)]) : [];
+  for (const it of lists.flat()) it.classList.toggle('tied', ends.includes(it) && ends.every(Boolean));
+  $('ribbon').replaceChildren();
+  if (!isShown || !ends.every(Boolean)) return;
+  const { left, top } = $('ribbon').getBoundingClientRect();
+  const [a, b] = ends.map(it => it.getBoundingClientRect());
+  const [x, u] = [a.right - left, b.left - left];
+  const [y, z, v, w] = [a.top, a.bottom, b.top, b.bottom].map(at => at - top);
+  const middle = (x + u) / 2;
+  const line = `M ${x} ${y} C ${middle} ${y}, ${middle} ${v}, ${u} ${v} L ${u} ${w} C ${middle} ${w}, ${middle} ${z}, ${x} ${z} Z`;
+  $('ribbon').append(svg('path', { d: line }));
+}
+
 function listenToOrder() {
   const list = $('order');
+  for (const id of ['block', 'order']) {
+    $(id).onmouseover = $(id).onfocusin = event => showRibbon(event.target.closest('li'));
+    $(id).onmouseleave = () => showRibbon(null);
+  }
   let from = null;
   list.onkeydown = orderKey;
-  list.onclick = event => { if (event.target.dataset.place) stand(placeOf(event.target)); };
+  list.onclick = event => event.target.dataset.place && stand(placeOf(event.target));
+  list.ondblclick = event => event.target.dataset.place && editLine();
   list.ondragstart = event => {
     from = placeOf(event.target);
     event.dataTransfer.setData('text/plain', event.target.textContent);
@@ -449,37 +636,48 @@ function listenToOrder() {
     event.preventDefault();
     if (from === null || !event.target.dataset.place) return;
     const onto = placeOf(event.target);
-    const count = page.order.insts.length;
-    let to = onto === 'exit' ? count : onto;
+    let to = onto === 'exit' ? page.order.insts.length : onto;
     if (typeof from === 'number' && typeof to === 'number' && to > from) to--;
     change(move(page.order, from, to), to);
     from = null;
   };
   list.ondragend = showOrder;
-  for (const name of Object.keys(CHANGES)) $(name).onclick = () => apply(name);
+  for (const name of [...Object.keys(CHANGES), 'edit', 'undo']) $(name).onclick = () => apply(name);
+  $('both').onclick = showBoth;
+  $('as-text').onclick = () => putText(pairText(page.chosen.block, page.order));
 }
 
 // ---- the machine
-
 async function goTo(from, { most = 0, stop = 0 } = {}) {
   if (!page.image) return;
   const { image } = page;
   const address = page.touched ?? 0x10000000;
   const view = await client.ask('machine', { image, from, most, stop, address }).catch(() => null);
   if (image !== page.image || !view || view.status !== 0) return;
-  page.before = page.view && view.words === page.view.words + 1 ? page.view : null;
-  page.view = view;
-  page.cursor = null;
+  Object.assign(page, { before: page.view && view.words === page.view.words + 1 ? page.view : null, view, cursor: null });
+  if (!$('steps').hidden) chooseAt(view.pc);
   showMachine();
 }
 
 function step() {
   const { view } = page;
-  if (!view || view.next.status !== 4) return;
+  if (!view || view.next.status !== 4) return null;
   const at = reached(lineAt(view.pc), view.registers);
   if (at !== null && at < 0x6f000000) page.touched = at - (at % 4) - Math.min(16, at - (at % 4) - 0x10000000);
   if (at !== null) page.last = at;
-  goTo(view.words + 1);
+  return goTo(view.words + 1);
+}
+
+// Steps at a speed, up to the end or the breakpoint.
+async function play() {
+  page.isPlaying = !page.isPlaying;
+  say('play', page.isPlaying ? 'Pause' : 'Play');
+  while (page.isPlaying) {
+    await new Promise(resolve => setTimeout(resolve, 1000 / Number($('speed').value)));
+    if (page.isPlaying) await step();
+    page.isPlaying &&= page.view?.next.status === 4 && page.view.pc !== page.breakpoint;
+  }
+  say('play', 'Play');
 }
 
 const lineAt = pc => page.listing[(pc - 0x00400000) / 4]?.slice(20) ?? '';
@@ -498,13 +696,11 @@ function showListing() {
   list.replaceChildren(...page.listing.slice(near, upTo).map((_, k) => {
     const address = 0x00400000 + 4 * (near + k);
     const number = begins.get(address);
-    const label = [String(number ?? '').padStart(4), address.toString(16).padStart(8, '0'), lineAt(address)].join('  ');
+    const label = [String(number ?? '').padStart(4), address.toString(16).padStart(8, '0'), lineAt(address)].join(' ');
     const item = element('li', label, number !== undefined && 'block', address === view?.pc && 'here', isIn(address) && 'chosen',
       address === after && 'next', address === page.breakpoint && 'breakpoint');
     item.dataset.address = address;
-    item.id = 'word-' + address;
-    item.role = 'option';
-    return item;
+    return Object.assign(item, { id: 'word-' + address, role: 'option' });
   }));
   list.querySelector('.here')?.scrollIntoView({ block: 'nearest' });
   pointAt(page.cursor ?? view?.pc ?? null);
@@ -512,25 +708,25 @@ function showListing() {
 
 // The word of the listing on which one stands: that of the next step, until arrows lead to another one.
 function pointAt(address) {
-  const list = $('listing');
   const item = address === null ? null : $('word-' + address);
-  list.querySelector('.cursor')?.classList.remove('cursor');
+  $('listing').querySelector('.cursor')?.classList.remove('cursor');
   item?.classList.add('cursor');
-  list.setAttribute('aria-activedescendant', item?.id ?? '');
+  $('listing').setAttribute('aria-activedescendant', item?.id ?? '');
   return item;
 }
 
 function moveCursor(by) {
   const to = (page.cursor ?? page.view?.pc ?? 0) + by;
-  const item = $('word-' + to) && pointAt(to);
-  if (!item) return;
+  if (!$('word-' + to)) return;
   page.cursor = to;
-  item.scrollIntoView({ block: 'nearest' });
+  pointAt(to).scrollIntoView({ block: 'nearest' });
 }
 
 function clickWord(address) {
+  page.cursor = address;
   chooseAt(address);
-  setBreakpoint(address);
+  page.breakpoint = page.breakpoint === address ? null : address;
+  showMachine();
 }
 
 function showMachine() {
@@ -543,69 +739,74 @@ function showMachine() {
   say('written', cut(lines.join('\n')));
   say('count', `${view.words} words ran` + (page.breakpoint === null ? '' : `; breakpoint ${hex(page.breakpoint)}`));
   $('ending').className = next.status === 3 ? 'stuck' : '';
-  if (next.status === 0) say('ending', `The next word halts the machine: ${end}.`);
-  else if (next.status === 3) say('ending', `The machine is stuck. ${RULES[end.slice(6)] ?? end}`);
-  else say('ending', '');
+  const endings = { 0: `The next word halts the machine: ${end}.`, 3: `The machine is stuck. ${RULES[end.slice(6)] ?? end}` };
+  say('ending', endings[next.status] ?? '');
   showSpecial(view, before);
   $('registers').replaceChildren(...view.registers.map((word, r) => {
     const isLoading = view.loads === r && r > 0;
     const isChanged = before !== null && before.registers[r] !== word;
     const item = element('div', null, isChanged && 'changed', isLoading && 'loading');
-    item.append(element('span', '$' + r), word.toString(16).padStart(8, '0'));
-    item.title = isLoading ? `${word | 0}; a load is under way: ${view.loaded | 0} shows behind the next word` : `${word | 0}`;
+    item.append(element('span', `$${r} ${NAMES[r]}`), wordText(word));
+    item.title = isLoading ? `${word | 0}; a load is under way: ${view.loaded | 0} shows after the next word` : `${word | 0}`;
     return item;
   }));
-  showMemory('stack', view.registers[29], view.stack.slice(0, 16));
+  $('registers').classList.toggle('decimal', $('base').value !== 'hex');
+  showPast(view);
+  showMemory('stack', view.registers[29], view.stack.slice(0, 16), () => '');
   say('data-title', 'Data from ' + hex(view.address));
-  showMemory('data', view.address, view.memory.slice(0, 16));
+  showMemory('data', view.address, view.memory.slice(0, 16), at => nameAt(page.globals, at));
 }
 
-function showMemory(id, address, words) {
-  const digits = word => word.toString(16).padStart(8, '0');
-  const lines = words.map((word, k) => [`${digits(address + 4 * k)}  ${digits(word)}\n`, address + 4 * k]);
+const wordText = word => ($('base').value === 'hex' ? word.toString(16).padStart(8, '0') : String(word | 0).padStart(11));
+
+// The last words, one below the other: what a load gets shows one row later, and a branch leads away from below its slot.
+function showPast(view) {
+  const states = [...view.past, view];
+  const rows = view.past.flatMap((before, k) => {
+    const { does, shows, isLate, leap } = deed(lineAt(before.pc), before, states[k + 1], word => wordText(word).trim());
+    const made = row('td', lineAt(before.pc), does, shows);
+    made.cells[1].classList.toggle('loading', states[k + 1].loads > 0);
+    made.cells[2].classList.toggle('loading', isLate);
+    if (leap === null) return [made];
+    return [made, Object.assign(row('td', `└─▶ ${hex(leap).slice(2)}`, '', ''), { className: 'leap' })];
+  });
+  $('past').replaceChildren(row('th', 'fetches', 'does', 'shows'), ...rows);
+}
+
+function showMemory(id, address, words, nameOf) {
+  const line = (word, at) => `${at.toString(16).padStart(8, '0')}  ${wordText(word)}  ${nameOf(at)}`.trimEnd() + '\n';
   const isLast = at => page.last !== undefined && at <= page.last && page.last < at + 4;
-  $(id).replaceChildren(...lines.map(([line, at]) => (isLast(at) ? element('mark', line) : line)));
+  const shown = words.map((word, k) => [line(word, address + 4 * k), address + 4 * k]);
+  $(id).replaceChildren(...shown.map(([text, at]) => (isLast(at) ? element('mark', text) : text)));
 }
 
 function showSpecial(view, before) {
   const changed = name => before !== null && before[name] !== view[name] && 'changed';
-  const row = (...cells) => {
-    const made = element('tr', null);
-    for (const [name, text, ...classes] of cells) made.append(element('th', name), element('td', text, ...classes));
-    return made;
-  };
-  const after = view.target === null ? hex((view.pc + 4) >>> 0) : `${hex(view.target)} (pc is a slot)`;
+  const after = view.target === null ? hex((view.pc + 4) >>> 0) : `${hex(view.target)} (in a slot)`;
   const load = view.loads ? `$${view.loads} gets ${hex(view.loaded)}` : 'none';
-  const wait = view.hold ? `wait ${view.hold} word${view.hold > 1 ? 's' : ''}` : 'ready';
-  $('special').replaceChildren(
-    row(['pc', hex(view.pc), changed('pc')], ['HI', hex(view.high), changed('high')]),
-    row(['then', after], ['LO', hex(view.low), changed('low')]),
-    row(['load', load, view.loads > 0 && 'loading'], ['mult, div', wait, view.hold > 0 && 'loading']),
-  );
-}
-
-function setBreakpoint(address) {
-  page.breakpoint = page.breakpoint === address ? null : address;
-  showMachine();
+  const cells = [['pc', hex(view.pc)], ['HI', hex(view.high), changed('high')], ['then', after], ['LO', hex(view.low), changed('low')],
+    ['load', load, view.loads > 0 && 'loading'], ['mult, div', view.hold ? `wait ${view.hold}` : 'ready', view.hold > 0 && 'loading']];
+  $('special').replaceChildren(...cells.map(([name, text, ...classes]) => {
+    const item = element('div', null, ...classes);
+    item.append(element('span', name), text);
+    return item;
+  }));
 }
 
 function listenToMachine() {
   $('step').onclick = step;
   $('back').onclick = () => goTo(Math.max(0, (page.view?.words ?? 0) - 1));
+  $('play').onclick = play;
+  $('base').onchange = () => page.view && showMachine();
   $('reset').onclick = () => { page.last = undefined; page.touched = null; goTo(0); };
   $('run').onclick = () => goTo((page.view?.words ?? 0) + 1, { most: SHORT_RUN, stop: page.breakpoint ?? 0 });
-  $('listing').onclick = event => {
-    const { address } = event.target.dataset;
-    if (!address) return;
-    page.cursor = Number(address);
-    clickWord(page.cursor);
-  };
+  $('listing').onclick = ({ target: { dataset: { address } } }) => address && clickWord(Number(address));
   $('steps').onkeydown = machineKey;
 }
 
 function machineKey(event) {
   if (event.target.closest('button, select, input') || event.altKey || event.ctrlKey || event.metaKey) return;
-  const name = { ArrowRight: 'step', ' ': 'step', ArrowLeft: 'back', Home: 'reset', r: 'run' }[event.key];
+  const name = { ArrowRight: 'step', ' ': 'step', ArrowLeft: 'back', Home: 'reset', r: 'run', p: 'play' }[event.key];
   const by = event.target === $('listing') ? { ArrowUp: -4, ArrowDown: 4 }[event.key] : undefined;
   if (!name && !by && event.key !== 'Enter') return;
   event.preventDefault();
@@ -615,61 +816,118 @@ function machineKey(event) {
 }
 
 // ---- examples, links, themes, tabs
-
-function openText(text) {
-  $('source').value = text;
-  typed();
+// A text in place of the one that is there, so that the browser's undo brings that back; a long one is put in without.
+function putText(text) {
+  const source = $('source');
+  const focused = document.activeElement;
+  source.focus();
+  source.select();
+  const isPut = text && text.length <= SHORT_TEXT && source.value.length <= SHORT_TEXT && document.execCommand('insertText', false, text);
+  if (!isPut) source.value = text;
+  if (!isPut) typed();
+  source.setSelectionRange(0, 0);
+  source.scrollTop = 0;
+  if (focused === document.body) source.blur();
+  else focused?.focus();
 }
 
 function typed() {
+  if ($('source').value === page.text && page.tried !== null) return;
   page.text = $('source').value;
-  page.view = page.before = null;
+  Object.assign(page, { view: null, before: null, touched: null, last: undefined, isPlaying: false });
+  if (page.isRunning) stop();
   showGutter();
+  keep();
   clearTimeout(typed.later);
   typed.later = setTimeout(refresh, 120);
 }
 
-function openPair(text) {
-  const pair = parsePair(text);
-  if (!pair) return;
-  chooseTab('orders');
-  chooseBlock({ number: null, owner: null, address: 0, ...pair });
+// The text outlives a reload, together with the link from which it came.
+const keep = () => attempt(() => sessionStorage.setItem('mcc', JSON.stringify({ hash: location.hash, state: stateOf() })));
+
+function kept() {
+  const { hash, state } = attempt(() => JSON.parse(sessionStorage.getItem('mcc'))) ?? {};
+  return hash === location.hash ? state : null;
 }
 
 function listExamples(texts) {
   const select = $('examples');
   const groups = [['C programs', /\.c$/], ['Orders', /\.check$/]].map(([label, pattern]) => {
-    const group = document.createElement('optgroup');
-    group.label = label;
+    const group = Object.assign(element('optgroup', null), { label });
     group.append(...Object.keys(texts).filter(name => pattern.test(name)).map(name => new Option(name.replace(/\.\w+$/, ''), name)));
     return group;
   });
   select.replaceChildren(new Option('choose', ''), ...groups);
   select.onchange = () => {
-    const name = select.value;
-    if (name.endsWith('.c')) openText(texts[name]);
-    else if (name) openPair(texts[name]);
+    openState({ c: texts[select.value] });
+    select.value = '';
   };
 }
 
-function textOfAddress() {
-  try {
-    return decodeURIComponent(location.hash.slice(1));
-  } catch {
-    return '';
-  }
+// What a link carries: the text, the view, the function, the block, one's order of it, and a goal.
+function stateOf() {
+  const { chosen, group, order, goal, text } = page;
+  const state = { c: text, v: TABS.find(tab => !$(tab).hidden) };
+  if (group && chosen?.number != null) Object.assign(state, { f: group.name, b: chosen.number });
+  if (chosen && order && order !== chosen.order && chosen.number !== null) state.o = pairText(chosen.block, order);
+  if (goal !== null) state.g = `at most ${goal} words and same`;
+  return state;
+}
+
+const hashOf = state => '#' + Object.entries(state).map(([name, value]) => `${name}=${encodeURIComponent(value)}`).join('&');
+
+// The state of an address; an old one has a text alone.
+function stateOfAddress() {
+  const hash = location.hash.slice(1);
+  const part = text => attempt(() => decodeURIComponent(text), '');
+  return /^[a-z]=/.test(hash) ? Object.fromEntries(hash.split('&').map(it => [it[0], part(it.slice(2))])) : { c: part(hash) };
+}
+
+function openState({ c, v, f, b, o, g }) {
+  const pair = o && parsePair(o);
+  if (pair) page.mine.set(keyOf(pair), pair.order);
+  page.wanted = { name: f, number: Number(b) };
+  setGoal(/\d+/.exec(g ?? '')?.[0] ?? null);
+  page.isOther = Boolean(c);
+  if (c === page.text && page.groups.length) showFunctions();
+  else if (c) putText(c);
+  if (TABS.includes(v)) chooseTab(v);
+}
+
+// An exercise: an order of at most so many words that means its block.
+function setGoal(words) {
+  page.goal = words === null || words === '' ? null : Number(words);
+  $('goal-words').value = page.goal ?? '';
+  showGoal();
+}
+
+function showGoal() {
+  const { goal, order, said } = page;
+  $('goal').hidden = goal === null;
+  if (goal === null || !order) return;
+  const isReached = said.trim() === 'same' && orderWords(order) <= goal;
+  const now = isReached ? 'Reached!' : `Now: ${orderWords(order)} words, ${said.split('\n')[0] || 'no order'}.`;
+  Object.assign($('goal'), { className: isReached ? 'same' : '', textContent: `Goal: at most ${goal} words and same. ${now}` });
 }
 
 async function copyLink() {
-  history.replaceState(null, '', '#' + encodeURIComponent(page.text));
+  history.replaceState(null, '', hashOf(stateOf()));
+  keep();
   const isCopied = await navigator.clipboard?.writeText(location.href).then(() => true, () => false);
-  say('state', isCopied ? 'link copied' : 'the address has the text now');
+  say('state', isCopied ? 'link copied' : 'the address has it now');
 }
 
 function setTheme(theme) {
   document.documentElement.dataset.theme = theme;
-  $('theme').textContent = theme === 'dark' ? 'Light' : 'Dark';
-  $('theme').setAttribute('aria-pressed', String(theme === 'dark'));
+  Object.assign($('theme'), { textContent: theme === 'dark' ? 'Light' : 'Dark', ariaPressed: String(theme === 'dark') });
+}
+
+function setPresent() {
+  $('present').setAttribute('aria-pressed', String(document.documentElement.classList.toggle('present')));
+  if (page.group) showGraph();
+  markNodes();
+  showListing();
+  follow();
 }
 
 const TABS = ['orders', 'steps', 'stages'];
@@ -682,6 +940,8 @@ function chooseTab(name) {
   }
   showListing();
   showStage();
+  seeNode();
+  if (client) keep();
 }
 
 function listenToTabs() {
@@ -690,9 +950,9 @@ function listenToTabs() {
     $('tab-' + tab).onkeydown = event => {
       const by = { ArrowRight: 1, ArrowLeft: -1 }[event.key];
       if (!by) return;
-      const next = TABS[(k + by + TABS.length) % TABS.length];
-      chooseTab(next);
-      $('tab-' + next).focus();
+      const next = $('tab-' + TABS[(k + by + TABS.length) % TABS.length]);
+      next.click();
+      next.focus();
     };
   }
 }
@@ -706,28 +966,30 @@ function followCaret() {
 
 async function runOn() {
   if (!page.image) return;
+  page.isRunning = true;
   $('run-on').hidden = true;
   $('stop').hidden = false;
   say('agree', 'running ..');
-  try {
-    const { interp, run } = await client.ask('runs', { text: page.text, image: page.image, steps: LONG_RUN });
-    showRuns(interp, run);
-  } catch (error) {
-    say('agree', error.message);
-  }
+  const ran = await client.ask('runs', { text: page.text, image: page.image, steps: LONG_RUN }).catch(error => error);
+  if (ran instanceof Error) say('agree', ran.message);
+  else showRuns(ran.interp, ran.run);
+  page.isRunning = false;
   $('stop').hidden = true;
 }
 
+// What was typed while something ran is answered after it.
 async function stop() {
   $('stop').hidden = true;
-  await client.stop();
   say('state', 'stopped');
+  await client.stop();
+  if (page.tried !== page.text) refresh();
 }
 
 async function main() {
-  const dark = matchMedia('(prefers-color-scheme: dark)').matches;
-  setTheme(dark ? 'dark' : 'light');
+  setTheme(matchMedia('(prefers-color-scheme: dark)').matches ? 'dark' : 'light');
   $('theme').onclick = () => setTheme(document.documentElement.dataset.theme === 'dark' ? 'light' : 'dark');
+  $('present').onclick = setPresent;
+  onresize = () => { seeNode(); showListing(); };
   listenToTabs();
   listenToOrder();
   listenToMachine();
@@ -736,18 +998,17 @@ async function main() {
   listExamples(texts);
   const source = $('source');
   source.oninput = typed;
-  source.onscroll = () => {
-    page.scroll = { top: source.scrollTop, left: source.scrollLeft };
-    follow();
-  };
+  source.onscroll = follow;
   source.onkeyup = source.onclick = followCaret;
+  source.onkeydown = sourceKey;
   $('plain').onchange = refresh;
   $('functions').onchange = () => chooseGroup(Number($('functions').value));
   $('stage').onchange = $('whole').onchange = showStage;
   $('link').onclick = copyLink;
   $('run-on').onclick = runOn;
   $('stop').onclick = stop;
-  onhashchange = () => openText(textOfAddress());
+  onhashchange = () => openState(stateOfAddress());
+  $('goal-words').oninput = () => setGoal($('goal-words').value);
   const wasm = Uint8Array.from(atob($('wasm').textContent.trim()), c => c.charCodeAt(0));
   client = new Client($('worker').textContent, wasm);
   const started = performance.now();
@@ -756,11 +1017,11 @@ async function main() {
   } catch (error) {
     say('state', NO_MEMORY64);
     $('fault').hidden = false;
-    $('fault').textContent = `${NO_MEMORY64} (${error.message})`;
-    return;
+    return say('fault', `${NO_MEMORY64} (${error.message})`);
   }
   document.documentElement.dataset.ready = (performance.now() - started).toFixed(0);
-  openText(textOfAddress() || texts['squares.c']);
+  const state = kept() ?? stateOfAddress();
+  openState({ ...state, c: state.c || texts['squares.c'] });
 }
 
 main();

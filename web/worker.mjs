@@ -2,6 +2,7 @@
 import { Mcc } from './mcc.mjs';
 
 const ENCODER = new TextEncoder();
+const PAST = 8;
 let mcc = null;
 
 const WORK = {
@@ -21,13 +22,16 @@ const WORK = {
   runs: ({ text, image, steps }) => ({ interp: mcc.interp(ENCODER.encode(text), steps), run: mcc.run(image, steps) }),
   explain: ({ text }) => mcc.explain(ENCODER.encode(text)),
   show: ({ text, stage, name }) => mcc.show(ENCODER.encode(text), stage, name),
-  // The machine, what it wrote until then and how its next word ends, if it does; and the words of the stack.
+  // The machine, what it wrote until then and how its next word ends, if it does; the words of the stack, and the machine before each
+  // of the last words.
   machine: ({ image, from, most, stop, address }) => {
     const view = mcc.machine(image, { from, most, stop, address });
     if (view.status !== 0) return view;
     const next = mcc.run(image, view.words + 1);
     const stack = mcc.machine(image, { from: view.words, address: view.registers[29] });
-    return { ...view, next, stack: stack.memory ?? [] };
+    const first = Math.max(0, view.words - PAST);
+    const past = Array.from({ length: view.words - first }, (_, k) => mcc.machine(image, { from: first + k, address }));
+    return { ...view, next, stack: stack.memory ?? [], past };
   },
 };
 

@@ -111,6 +111,16 @@ class Page extends Waiting {
     await this.send('Input.dispatchKeyEvent', { type: 'keyUp', ...words, text: undefined });
   }
 
+  // The browser's zoom, in a window of 1280 x 800.
+  async zoom(by) {
+    const [width, height] = [1280, 800].map(length => Math.round(length / by));
+    await this.send('Emulation.setDeviceMetricsOverride', { width, height, deviceScaleFactor: by, mobile: false });
+  }
+
+  async reload() {
+    await this.send('Page.reload');
+  }
+
   async mouse(type, x, y) {
     await this.send('Input.dispatchMouseEvent', { type, x, y, button: 'left', buttons: type === 'mouseReleased' ? 0 : 1, clickCount: 1 });
   }

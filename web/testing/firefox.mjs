@@ -114,6 +114,16 @@ class Page extends Waiting {
     await this.browser.send('WebDriver:PerformActions', { actions: [{ type: 'key', id: 'keys', actions }] });
   }
 
+  // A window as small as the page's at this zoom of 1280 x 800.
+  async zoom(by) {
+    const [across, down] = await this.value('[outerWidth - innerWidth, outerHeight - innerHeight]');
+    await this.browser.send('WebDriver:SetWindowRect', { width: Math.round(1280 / by) + across, height: Math.round(800 / by) + down });
+  }
+
+  async reload() {
+    await this.browser.send('WebDriver:Refresh', {});
+  }
+
   // Marionette's mouse starts no dragging, so the events are the script's.
   async drag(from, to) {
     await this.value(`(() => {

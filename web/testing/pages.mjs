@@ -1,8 +1,11 @@
 // The page in a headless browser, from its file: node pages.mjs chromium|firefox PAGE [FOLDER for pictures]
+import fs from 'node:fs';
 import path from 'node:path';
 import { pathToFileURL } from 'node:url';
 import { Browser } from './browser.mjs';
 import { Firefox } from './firefox.mjs';
+import { parsePair } from '../model.mjs';
+import { chooseStart, differences, parseStart, runBlock, runOrder } from '../runs.mjs';
 
 const [, , name, file, pictures] = process.argv;
 const address = pathToFileURL(path.resolve(file)).href;
@@ -11,6 +14,8 @@ const text = id => `document.getElementById('${id}').textContent`;
 const click = id => `document.getElementById('${id}').click()`;
 const typed = value => `(() => { const s = document.getElementById('source'); s.value = ${JSON.stringify(value)};
   s.dispatchEvent(new Event('input')); })()`;
+const choose = example => `(() => { const s = document.getElementById('examples'); s.value = '${example}'; s.onchange(); })()`;
+const sleep = time => new Promise(resolve => setTimeout(resolve, time));
 const READY = `document.querySelectorAll('#graph .node').length > 0 && ${text('verdict')} !== ''`;
 let passed = 0, failed = 0;
 
@@ -113,6 +118,222 @@ async function byKeys(page) {
   judge('Home leads back to the start', await page.until(`${text('count')}.startsWith('0 words')`));
 }
 
+// A function of 30 blocks.
+const WIDE = `int a[40];\nint main(void) {\n    int i;\n    int s;\n    s = 0;\n    for (i = 0; i < 20; i = i + 1) {\n${
+  Array.from({ length: 8 }, (_, k) => `        if (a[i + ${k}] < s) { s = s + ${k}; } else { a[i] = s - ${k}; }\n`).join('')
+}        while (s > 100) { s = s - 50; }\n    }\n    out(s);\n    return 0;\n}\n`;
+const isInside = (inner, outer) => `(() => { const [a, b] = [document.querySelector('${inner}'), ${outer}].map(e => e.getBoundingClientRect());
+  return a.width > 0 && a.left >= b.left - 1 && a.right <= b.right + 1 && a.top >= b.top - 1 && a.bottom <= b.bottom + 1; })()`;
+const inPage = selector => isInside(selector, `({ getBoundingClientRect: () => ({ left: 0, top: 0, right: innerWidth, bottom: innerHeight }) })`);
+const isCut = selector => `[...document.querySelectorAll('${selector}')].some(e => e.scrollWidth > e.clientWidth + 1)`;
+
+// At three zooms, and for a class: nothing is cut, the verdict and the chosen block are in sight.
+async function zooms(page) {
+  await page.value(typed(WIDE));
+  judge('a function of 30 blocks', await page.until(`document.querySelectorAll('#graph .node').length === 30`));
+  judge('without a label that an edge crosses last', await page.value(`[...document.querySelectorAll('#graph .way')].every(e => !e.nextElementSibling?.matches('path')
+    && getComputedStyle(e).paintOrder.startsWith('stroke'))`));
+  judge('with an edge back, dashed', await page.value(`getComputedStyle(document.querySelector('#graph path.back')).strokeDasharray !== 'none'`));
+  for (const zoom of [1, 1.25, 1.5]) {
+    await page.zoom(zoom);
+    for (const isPresent of [false, true]) {
+      const how = `${zoom * 100} %${isPresent ? ', present' : ''}`;
+      if (isPresent) await page.value(click('present'));
+      for (const k of [0, 17, 29]) {
+        await page.value(`document.querySelectorAll('#graph .node')[${k}].dispatchEvent(new Event('click'))`);
+        await page.until(`${text('verdict')} === 'same'`);
+        judge(`${how}: block ${k} in view`, await page.value(isInside('#graph .node.chosen', `document.querySelector('.drawing')`)));
+      }
+      judge(`${how}: the graph is readable`, await page.value(`document.querySelector('#graph .node.chosen text').getBoundingClientRect().height >= 12`));
+      judge(`${how}: no instruction is cut`, !(await page.value(isCut('ol.words'))));
+      judge(`${how}: verdict and tabs in sight`, (await page.value(inPage('#verdict'))) && (await page.value(inPage('#tab-stages'))));
+      judge(`${how}: nothing runs out of the page`, await page.value('document.documentElement.scrollWidth <= innerWidth && document.documentElement.scrollHeight <= innerHeight'));
+      judge(`${how}: all buttons of the head`, await page.value(inPage('#theme')));
+      if (isPresent) judge(`${how}: code of 18 px`, await page.value(`getComputedStyle(document.querySelector('#order li')).fontSize === '18px' && !document.getElementById('left').checkVisibility()`));
+    }
+    await page.value(click('present'));
+  }
+  await page.zoom(1);
+}
+
+// A check text of one's own, lines that are edited, and a start that refutes an order.
+async function ownOrders(page) {
+  const own = (order, b) => `block\nlw $8,0($29)\n${b}\nlw $10,8($29)\nreturn\norder\n${order.join('\n')}\nreturn\nslot nop\n`;
+  for (const b of ['sw $9,4($29)', 'sw $9,0($30)']) {
+    const [a, c] = ['lw $8,0($29)', 'lw $10,8($29)'];
+    for (const order of [[a, b, c], [a, c, b], [b, a, c], [b, c, a], [c, a, b], [c, b, a]]) {
+      await page.value(`document.getElementById('verdict').textContent = ''`);
+      await page.value(typed(own(order, b)));
+      judge('a check text of one\'s own', await page.until(`${text('order')} === ${JSON.stringify([...order, 'return', 'slot nop'].join(''))}
+        && ${text('verdict')} !== ''`), order);
+      const isSame = b.endsWith('($29)') || order[1] === b && order[0] === a;
+      judge('with its verdict', isSame === ((await page.value(text('verdict'))) === 'same'), [order, await page.value(text('verdict'))]);
+    }
+  }
+  judge('without a graph', !(await page.value(`document.querySelector('.graph').checkVisibility()`)));
+  await page.value(`document.querySelector('#order li[data-place="0"]').click()`);
+  await page.key('Enter');
+  await page.value(`document.querySelector('#order input').value = 'lw $8,4($29)'`);
+  await page.key('Enter');
+  judge('a line is edited', await page.until(`${text('verdict')}.startsWith('differs')`), await page.value(text('verdict')));
+  judge('and the text follows', (await page.value(`document.getElementById('source').value`)).includes('order\nlw $8,4($29)\n'));
+  await page.value(click('undo'));
+  judge('undo brings the line back', await page.until(`document.querySelector('#order li').textContent !== 'lw $8,4($29)'`));
+  await page.value(typed('block\naddu $8,$8,1\nreturn\norder\nreturn\nslot nop\n'));
+  judge('a fault of a check text at its line', await page.until(`document.querySelector('#gutter .bad')?.textContent === '2' && !document.getElementById('fault').hidden`));
+  judge('the message is bold', (await page.value(`document.querySelector('#fault b').textContent`)).includes('expected addu'));
+  judge('what is on the right is dimmed, and says so', await page.value(`document.getElementById('right').matches('.stale') && document.getElementById('stale').checkVisibility()`));
+  await page.value(typed('block\naddiu $8,$8,1\nreturn\norder\naddiu $8,$8,2\nreturn\nslot nop\n'));
+  judge('a wrong order', await page.until(`${text('verdict')} === 'differs $8'`));
+  judge('shows its start', (await page.until(`${text('start')}.includes('from $8 = 0x')`)) && (await page.value(text('leaves'))).includes('0x'), await page.value(text('start')));
+  await page.value(click('both'));
+  judge('and both runs', await page.until(`document.getElementById('rows').checkVisibility() && document.querySelectorAll('#rows tr').length === 4 && ${text('from')}.includes('no proof')`));
+  for (const zoom of [1, 1.25, 1.5]) {
+    await page.zoom(zoom);
+    judge(`${zoom * 100} %: the wrong order and its start in sight`, (await page.value(inPage('#verdict'))) && (await page.value(inPage('#leaves'))));
+    judge(`${zoom * 100} %: both runs aren't cut`, !(await page.value(isCut('.work'))));
+    await page.value(`document.querySelector('.work').scrollTo(0, 9999)`);
+    judge(`${zoom * 100} %: the verdict stays in sight`, await page.value(inPage('#verdict')));
+  }
+  await page.zoom(1);
+  await page.value(click('both'));
+}
+
+// The machine: names of registers and globals, numbers, the last words, a speed, and the block at pc.
+async function machine(page) {
+  await page.value(typed('int first;\nunsigned char line[6];\nint a[4];\n\nint main(void) {\n    int i;\n    i = 0;\n    while (i < 3) {\n        a[i] = a[i + 1] + 7;\n'
+    + '        i = i + 1;\n    }\n    first = 0 - a[0];\n    line[5] = 9;\n    out(first);\n    return 0;\n}\n'));
+  await page.until(`${text('interp')}.startsWith('4294967289\\ndone 0')`);
+  await page.value(click('tab-steps'));
+  judge('a load under way', await stepTo(page, `document.querySelectorAll('#registers .loading').length === 1`));
+  const late = `document.querySelector('#past tr:last-child td:nth-child(2)').textContent`;
+  judge('is in the last words', /^\$\d+ gets /.test(await page.value(late)), await page.value(late));
+  const register = /\$\d+/.exec(await page.value(late))[0];
+  const count = await page.value(text('count'));
+  await page.value(click('step'));
+  await page.until(`${text('count')} !== '${count}'`);
+  judge('and its value shows one row later', await page.value(`document.querySelector('#past tr:last-child td.loading:nth-child(3)').textContent.includes('${register} = ')`));
+  judge('a branch leaves from below its slot', await stepTo(page, `document.querySelector('#past tr.leap:last-child') !== null`));
+  judge('the chosen block follows', await page.value(`document.querySelector('#listing .here').matches('.chosen')`));
+  judge('both names of a register', (await page.value(text('registers'))).includes('$29 sp'));
+  judge('eight words at most', await page.value(`document.querySelectorAll('#past tr:not(.leap)').length <= 9`));
+  for (const zoom of [1, 1.25, 1.5]) {
+    await page.zoom(zoom);
+    judge(`${zoom * 100} %: no word of the listing is cut`, !(await page.value(isCut('#listing'))) && !(await page.value(isCut('.values'))));
+    await sleep(100);
+    judge(`${zoom * 100} %: the next word is in sight`, (await page.value(inPage('#listing .here'))) && (await page.value(inPage('#tab-stages'))));
+  }
+  await page.zoom(1);
+  await page.value(click('run'));
+  judge('runs to the end', await page.until(`${text('ending')}.startsWith('The next word halts')`));
+  await page.value(`(() => { const s = document.getElementById('base'); s.value = 'decimal'; s.onchange(); })()`);
+  judge('the globals by name, in decimal', await page.until(`/10000000\\s+-7\\s+first\\n10000004.*line\\[0\\.\\.3\\]\\n10000008.*line\\[4\\.\\.5\\]\\n1000000c\\s+7\\s+a\\[0\\]/.test(${text('data')})`),
+    await page.value(text('data')));
+  await page.value(`(() => { const s = document.getElementById('base'); s.value = 'hex'; s.onchange(); document.getElementById('speed').value = '40'; })()`);
+  await page.value(click('reset'));
+  await page.until(`${text('count')}.startsWith('0 words')`);
+  await page.value(click('play'));
+  judge('plays by itself', await page.until(`parseInt(${text('count')}) > 5`));
+  await page.value(click('play'));
+  judge('and pauses', await page.until(`${text('play')} === 'Play'`));
+  await page.value(typed('int a[4];\nint main(void) {\n    int i;\n    i = 7;\n    a[i * 100000] = 7;\n    return 0;\n}\n'));
+  judge('stuck says why', await page.until(`${text('reason')}.includes("an address that isn't mapped") && ${text('reason')}.includes('sw ')`), await page.value(text('reason')));
+  judge('beside wrong, in two outputs', (await page.value(text('interp'))).startsWith('wrong') && (await page.value(`document.getElementById('machine').checkVisibility()`)));
+  await page.value(`document.querySelector('#reason button').click()`);
+  judge('and leads to the word', await page.until(`document.querySelector('#listing .here')?.textContent.includes('sw ') && ${text('ending')}.includes('stuck')`));
+  await page.value(click('tab-orders'));
+  await page.value(typed('int main(void) {\n    out(1);\n    return 0;\n}\n'));
+  judge('one output where both agree', await page.until(`${text('whose')} === 'Output of interpreter and machine' && !document.getElementById('machine').checkVisibility()`));
+  judge('with colours', await page.value(`document.querySelectorAll('#behind .keyword').length === 4 && document.querySelector('#behind').textContent.startsWith('int main(void) {\\n')`));
+  await page.value(`(() => { const s = document.getElementById('source'); s.focus(); s.setSelectionRange(16, 16); })()`);
+  await page.key('Enter');
+  judge('Enter indents', (await page.value(`document.getElementById('source').value`)).startsWith('int main(void) {\n    \n    out(1);'));
+}
+
+// A link carries the text, the function, the block, one's order of it, the view and a goal, which the page judges.
+async function links(page, browser) {
+  await page.value(choose('primes.c'));
+  await page.until(`${text('interp')}.includes('29\\ndone 0') && document.querySelectorAll('#graph .node').length === 7`);
+  await page.value(`document.querySelector('#graph [data-block="6"]').dispatchEvent(new Event('click'))`);
+  await page.until(`${text('block-title')}.startsWith('Block 6') && ${text('verdict')} === 'same'`);
+  await page.value(`document.querySelector('#order li').focus()`);
+  await page.key('ArrowDown', { alt: true });
+  await page.until(`${text('verdict')}.startsWith('differs')`);
+  await page.value(`(() => { const g = document.getElementById('goal-words'); g.value = 9; g.oninput(); })()`);
+  judge('a goal that isn\'t reached', await page.until(`/^Goal: at most 9 words and same\\. Now: 9 words, differs/.test(${text('goal')})`), await page.value(text('goal')));
+  const order = await page.value(text('order'));
+  await page.value(click('link'));
+  const hash = await page.value('location.hash');
+  const linked = await browser.open(address + hash);
+  judge('a link carries block, order and goal', await linked.until(`${text('block-title')}.startsWith('Block 6') && ${text('verdict')}.startsWith('differs')
+    && ${text('order')} === ${JSON.stringify(order)} && ${text('goal')}.startsWith('Goal: at most 9 words')`), hash);
+  await linked.value(click('to-build'));
+  judge('the page judges the goal', await linked.until(`${text('goal')}.endsWith('Reached!')`), await linked.value(text('goal')));
+  await linked.reload();
+  judge('a reload keeps all of it', await linked.until(`${text('block-title')}.startsWith('Block 6') && ${text('goal')}.endsWith('Reached!')`));
+  const stages = await browser.open(`${address}#c=${encodeURIComponent('int main(void) {\n    out(42);\n    return 0;\n}\n')}&v=stages`);
+  judge('a link carries its view', await stages.until(`document.getElementById('stage-text').checkVisibility() && ${text('stage-text')}.startsWith('function main')`));
+  const lesson = fs.readFileSync(new URL('../../docs/TEACHING.md', import.meta.url), 'utf8');
+  const exercises = [...lesson.matchAll(/mcc\.html(#[^)\s]*)/g)].map(([, found]) => found);
+  judge('six exercises of the lesson', exercises.length === 6, exercises.length);
+  for (const exercise of exercises) {
+    const opened = await browser.open(address + exercise);
+    judge('an exercise opens, and is to do', await opened.until(`${text('goal')}.includes('Now: ')`), exercise);
+  }
+}
+
+// What explains a verdict, as `mcc check --explain` prints it.
+function starts() {
+  const pair = parsePair('block\naddiu $8,$8,1\nreturn\norder\naddiu $8,$8,2\nreturn\nslot nop\n');
+  const said = 'differs $8\nblock: ($8 + 1)\norder: ($8 + 2)\nthe order is wrong: it does otherwise from a start with\n  $8 = 0x1000003c\n  $31 = 0x1000001c\n'
+    + '  block: $8 = 0x1000003d\n  order: $8 = 0x1000003e\n';
+  const named = parseStart(said);
+  judge('a start of an answer', JSON.stringify(named) === JSON.stringify({ registers: [[8, 0x1000003c], [31, 0x1000001c]], block: '$8 = 0x1000003d', order: '$8 = 0x1000003e' }), JSON.stringify(named));
+  const start = chooseStart(pair.block, pair.order, said);
+  const found = differences(runBlock(pair.block, start), runOrder(pair.order, start));
+  judge('gives what the answer says', found.length === 1 && `${found[0][0]} = ${found[0][1]}` === named.block && `${found[0][0]} = ${found[0][2]}` === named.order, found);
+  const early = parsePair('block\nlw $8,0($29)\naddu $9,$8,$8\nreturn\norder\nlw $8,0($29)\naddu $9,$8,$8\nreturn\nslot nop\n');
+  judge('an early word is stuck', runOrder(early.order, chooseStart(early.block, early.order, '')).rows.at(-1).isStuck);
+  judge('no start, no table', parseStart('no start that was tried tells them apart: the terms may tell too little') === null);
+}
+
+// An edit while a text runs, and Stop; a reload; an example over a text, and the way back.
+async function losesNothing(page) {
+  const good = 'int main(void) { out(41); return 3; }';
+  const slow = `int a; int main(void) { while (1) { a = (a+1)*3%7${'+a*3%7'.repeat(150)}&7; } }`;
+  for (const wait of [300, 0]) {
+    await page.value(typed(slow));
+    await page.until(`!document.getElementById('stop').hidden`, 30);
+    await page.value(typed(good + ' '.repeat(wait)));
+    await sleep(wait);
+    await page.value(click('stop'));
+    judge(`an edit ${wait} ms before Stop is answered`, await page.until(`${text('interp')}.includes('done 3')`), await page.value(text('state')));
+  }
+  for (const wait of [0, 100, 200]) {
+    await page.value(typed(ENDLESS + ' '.repeat(wait)));
+    await page.until(`!document.getElementById('run-on').hidden`, 60);
+    await page.value(click('run-on'));
+    await sleep(500);
+    await page.value(click('stop'));
+    await sleep(wait);
+    await page.value(typed(good + ' '.repeat(wait)));
+    judge(`an edit ${wait} ms after Stop is answered`, await page.until(`${text('interp')}.includes('done 3')`), await page.value(text('state')));
+  }
+  await page.value(typed(ENDLESS));
+  await page.until(`!document.getElementById('run-on').hidden`, 60);
+  await page.value(click('run-on'));
+  await page.value(typed(good));
+  judge('an edit ends a long run', await page.until(`${text('interp')}.includes('done 3')`));
+  await page.value(choose('primes.c'));
+  judge('an example', await page.until(`${text('interp')}.includes('29\\ndone 0')`));
+  await page.value(`document.getElementById('source').focus(), document.execCommand('undo')`);
+  judge('undo brings the text back', await page.until(`document.getElementById('source').value === ${JSON.stringify(good)}`),
+    await page.value(`document.getElementById('source').value`));
+  await page.until(`${text('interp')}.includes('done 3')`);
+  await page.reload();
+  judge('a reload keeps the text', await page.until(`${text('interp')}.includes('done 3')`));
+}
+
 async function main() {
   const browser = name === 'firefox' ? new Firefox() : new Browser();
   const late = new Promise(resolve => setTimeout(resolve, 120_000, null).unref());
@@ -137,7 +358,7 @@ async function main() {
   judge('Alt+Down moves a line', await page.until(`document.activeElement.dataset.place === '1'`));
   await page.value(click('to-build'));
   judge('and back', await page.until(`${text('verdict')}.startsWith('same')`));
-  await page.value(`(() => { const s = document.getElementById('examples'); s.value = 'load-moved-apart.check'; s.onchange(); })()`);
+  await page.value(choose('load-moved-apart.check'));
   judge('an order of the examples', await page.until(`${text('block-title')} === 'A block of a check text' && ${text('verdict')} !== ''`));
   const before = await page.value(text('verdict'));
   for (const to of ['up', 'up', 'up', 'to-slot']) await page.value(click(to));
@@ -148,7 +369,7 @@ async function main() {
     await page.value(text('order')));
   judge('with both terms', /^block: .*\norder: /.test(await page.value(text('why'))), await page.value(text('why')));
   if (pictures) await page.picture(path.join(pictures, 'differs.png'));
-  await page.value(`(() => { const s = document.getElementById('examples'); s.value = 'load-used-too-soon.check'; s.onchange(); })()`);
+  await page.value(choose('load-used-too-soon.check'));
   judge('an unclean order', await page.until(`${text('verdict')} === 'unclean U1'`));
   judge('with its rule in words', (await page.value(text('why'))).startsWith('an instruction reads or writes'));
   judge('and its two words marked', await page.until(`document.querySelectorAll('#order .broken').length === 2`));
@@ -192,6 +413,13 @@ async function main() {
   judge('and is stopped', await page.until(`${text('state')} === 'stopped'`));
   await page.value(typed('int main(void) {\n    out(5);\n    return 0;\n}\n'));
   judge('the page works on', await page.until(`${text('interp')}.startsWith('5\\ndone 0')`));
+
+  starts();
+  await ownOrders(page);
+  await zooms(page);
+  await machine(page);
+  await losesNothing(page);
+  await links(page, browser);
 
   // long texts, and texts that are too much
   await page.value(typed(long()));
