@@ -18,7 +18,7 @@ mod build_memory;
 mod builds;
 #[cfg(test)]
 mod depths;
-#[cfg(test)]
+// (specs/Files.antt speaks of it, so it is there without the tests, too)
 mod files;
 #[cfg(test)]
 mod homes;
