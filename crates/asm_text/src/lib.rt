@@ -1,8 +1,11 @@
 //! Images as assembler source, for GNU as and for SPIM.
 //!
-//! Proved: `source` gives printable ASCII and line ends.
 //! Contract: `source`
-//! Tested: the source has the image's words (tests/images/assembler.case, `.ci/machines`)
+//! - `source` gives printable ASCII and line ends.
+//!
+//! | Tested | In |
+//! |---|---|
+//! | the source has the image's words | tests/images/assembler.case, `.ci/machines` |
 #![tactic(auto)]
 
 ghost use Rattle.std.specs.Prelude.{All, IfOk};

@@ -1,15 +1,12 @@
-//! The figures of docs/FIGURES.md. Without a word it prints what is the same in every run, which the gate compares; with
-//! one it measures:
+//! Measures what docs/FIGURES.md shows. Without a word it prints what is the same in every run, which the gate compares.
 //!
-//! - `check`: the longest check text against one of an eighth of it
-//! - `front`: the reader on 1 MiB of C against 64 KiB; `front ifs N` and `front parens N` read N nested statements or
-//!   parentheses, to see what stack they take
-//! - `lower`: lowering and selection of 1 MiB of C against 64 KiB; `lower FILE..` says what becomes of each file
+//! - `check`: the longest check text, and one of an eighth of it
+//! - `front`: reads 1 MiB of C and 64 KiB. `front ifs N` and `front parens N` read N nested statements or parentheses
+//! - `lower`: lowers and selects 1 MiB of C and 64 KiB. `lower FILE..` says what each file becomes
 //! - `run`: C programs of some million steps, by the interpreter and lowered
-//! - `build`: 1 MiB of C built plainly, and scheduled by 1, 2 and 4 workers; `build FILE..` says how large the image of
-//!   each file is
-//! - `phase`: blocks of 16 to 512 instructions checked by 1, 2 and 4 workers
-//! - `image`: eight C programs: the words that their images run, plain and scheduled
+//! - `build`: 1 MiB of C, plainly and by 1, 2 and 4 workers. `build FILE..` says how large each image is
+//! - `phase`: blocks of 16 to 512 instructions, checked by 1, 2 and 4 workers
+//! - `image`: the words that the images of eight C programs run, plain and scheduled
 //! - `table`: interns a second by 1, 2 and 4 threads
 #![tactic(auto)]
 

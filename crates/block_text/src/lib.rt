@@ -1,8 +1,9 @@
 //! Blocks and orders as text for people, and what they leave in each place, read out of the validator's own table.
 //!
 //! Definitions: `specs/Shown.antt`, `specs/Written.antt`, `specs/Readers.antt`.
-//! Proved: What `page_of` gives is printable ASCII and line ends. A `Writer` writes what it is given, or reports refused memory.
 //! Contract: `page_of`, `Writer`
+//! - What `page_of` gives is printable ASCII and line ends.
+//! - A `Writer` writes what it is given, or reports refused memory.
 #![tactic(auto)]
 
 mod left;

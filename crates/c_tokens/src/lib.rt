@@ -1,9 +1,9 @@
 //! The tokens of a C text, by longest match (C99 6.4), where they are, and the sizes that they keep within.
 //!
 //! Definitions: `specs/Pieces.antt`, `specs/Texts.antt`.
-//! Proved: `lex` gives the tokens of the longest pieces with their offsets, or the first rejection. A source has one list of tokens at
-//! most.
 //! Contract: `lex`, `one_lexing`
+//! - `lex` gives the tokens of the longest pieces with their offsets, or the first rejection.
+//! - A source has one list of tokens at most.
 #![tactic(auto)]
 
 mod constants;

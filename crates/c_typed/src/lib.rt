@@ -1,8 +1,8 @@
 //! The language of typed C programs: trees whose names are numbers, what they mean, and the laws of their runs.
 //!
 //! Definitions: `specs/Trees.antt`, `specs/Values.antt`, `specs/Meaning.antt`.
-//! Proved: Laws of the meaning of typed programs: each value is a word, an element fits its global, and runs go on from where they are.
 //! Contract: `values_are_words`, `elements_fit_their_widths`, `runs_go_on_from_where_they_are`
+//! - Laws of the meaning of typed programs: each value is a word, an element fits its global, and runs go on from where they are.
 #![tactic(auto)]
 
 mod laws;

@@ -1,10 +1,13 @@
 //! The command `mcc check` with `--explain`, and over several files.
 //!
 //! Definitions: `specs/Command.antt`, `specs/Several.antt`.
-//! Proved: `--explain` prints the same answer, then printable lines. Of several files each is read in order and has its own answer,
-//! whatever the number of workers, and the status is the worst.
 //! Contract: `check_files`, `ExplainedAnswer`, `print_explained`
-//! Tested: what the lines say (tests/check/explained.case)
+//! - `--explain` prints the same answer, then printable lines.
+//! - Of several files each is read in order and has its own answer, whatever the number of workers, and the status is the worst.
+//!
+//! | Tested | In |
+//! |---|---|
+//! | what the lines say | tests/check/explained.case |
 #![tactic(auto)]
 
 mod command;

@@ -1,9 +1,9 @@
 //! The check text: a block and an order for it, as lines.
 //!
 //! Definitions: `specs/Whole.antt`.
-//! Proved: `read` gives the block and the order exactly if the check text spells them, memory aside, and else the first line that can't be
-//! in its place.
 //! Contract: `read`
+//! - `read` gives the block and the order exactly if the check text spells them, memory aside, and else the first line that can't be in its
+//!   place.
 #![tactic(auto)]
 
 mod cuts;

@@ -1,9 +1,9 @@
 //! The command line of `mcc`, as tables of parts.
 //!
 //! Definitions: `specs/Commands.antt`, `specs/Programs.antt`.
-//! Proved: If `words` is Ok, files and numbers are those of clap's matches of the arguments, in their ranges.
-//! An error is of the first kind that clap's grammar has for them.
 //! Contract: `words`, `some_words_are_taken`, `words_have_their_faults`
+//! - If `words` is Ok, files and numbers are the ones that clap matches in the arguments, in their ranges.
+//! - An error is of the first kind that clap's grammar has for them.
 #![tactic(auto)]
 
 mod command;

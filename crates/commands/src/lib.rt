@@ -1,9 +1,10 @@
 //! What the commands of the program share: files, errors, and where an error lies.
 //!
 //! Definitions: `specs/Texts.antt`, `specs/Requests.antt`.
-//! Proved: A command over one file asks, prints and ends as its own definition says. What is printed below an error steers no terminal. An
-//! `Explanation` is printable ASCII.
 //! Contract: `answer_file`, `read_file`, `write_file`, `tell`, `tell_placed`, `print_name`, `Explanation::new`
+//! - A command over one file asks, prints and ends as its own definition says.
+//! - What is printed below an error steers no terminal.
+//! - An `Explanation` is printable ASCII.
 #![tactic(auto)]
 
 mod explanation;

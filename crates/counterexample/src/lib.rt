@@ -1,8 +1,8 @@
 //! Start states that refute orders, found among a fixed list of states.
 //!
 //! Definitions: `specs/Refuting.antt`, `specs/Views.antt`, `specs/Memories.antt`.
-//! Proved: `refute` and `find_start` are Some only if the start state refutes the order, so the order doesn't mean its block.
 //! Contract: `refute`, `find_start`, `run_block`, `run_order`, `refuted_orders_do_not_mean_their_blocks`
+//! - `refute` and `find_start` are Some only if the start state refutes the order, so the order doesn't mean its block.
 #![tactic(auto)]
 
 mod block;

@@ -1,7 +1,7 @@
 //! Delay slots filled with an instruction of the block (Gross and Hennessy, 1982). Not trusted: a caller checks each order.
 //!
-//! Proved: The same, with the slot filled.
 //! Contract: `FilledOrder`
+//! - The same, with the slot filled.
 #![tactic(auto)]
 
 mod filled;

@@ -1,5 +1,6 @@
-//! A validator of one's own over the table of terms: two threads run a block and its optimised form on
-//! terms, and where the tickets of what they leave are equal, the two blocks mean the same.
+//! A validator of one's own over the table of terms.
+//!
+//! Two threads run a block and its optimised form on terms. If the tickets of what they leave are equal, the two blocks mean the same.
 //!
 //! `validate` (`validator.rt`) is the call to read, with `specs/Meaning.antt`: what a block means.
 #![tactic(auto)]

@@ -1,8 +1,12 @@
 //! A list scheduler (Gibbons and Muchnick, 1986), not trusted: a caller checks each order against its block. `Hostile` proposes wrong ones.
 //!
-//! Proved: A `Reorder` returns, and its answer is one that its `proposes` allows. For the schedulers here that is any order.
 //! Contract: `Reorder`, `ListOrder`
-//! Tested: the orders of seventeen worked blocks; the eight ways of `Hostile` (test_calls)
+//! - A `Reorder` returns, and its answer is one that its `proposes` allows.
+//! - For the schedulers here that is any order.
+//!
+//! | Tested | In |
+//! |---|---|
+//! | the orders of seventeen worked blocks; the eight ways of `Hostile` | test_calls |
 #![tactic(auto)]
 
 mod access;

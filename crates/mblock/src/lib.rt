@@ -1,9 +1,10 @@
 //! Basic blocks, the orders that a scheduler proposes for them, and when an order breaks no delay rule.
 //!
 //! Definitions: `specs/Clean.antt`, `specs/OrderMeaning.antt`, `specs/PlainOrders.antt`, `specs/UnitRuns.antt`.
-//! Proved: `clean` is Ok exactly if an order breaks none of U1 to U4, and else reports the least. `plain` gives an order that is clean and
-//! means its block. `Unit::new` is Some exactly on units.
 //! Contract: `clean`, `plain`, `plain_orders`, `each_plain_order_is_clean`, `each_plain_order_means_its_block`, `Unit::new`
+//! - `clean` is Ok exactly if an order breaks none of U1 to U4, and else reports the least.
+//! - `plain` gives an order that is clean and means its block.
+//! - `Unit::new` is Some exactly on units.
 #![tactic(auto)]
 
 mod block;

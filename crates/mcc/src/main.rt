@@ -1,8 +1,11 @@
 //! The program `mcc`: `driver::mcc` over the real files and streams (`disk::run`).
 //!
-//! Proved: What `main` runs has the clauses of `driver::mcc`, over any files and streams. That these are the host's, no contract says.
 //! Contract: `Mcc::answer`
-//! Tested: all of tests/
+//! - What `main` runs has the clauses of `driver::mcc`, over any files and streams; that these are the host's, no contract says.
+//!
+//! | Tested | In |
+//! |---|---|
+//! | the whole program | tests/ |
 #![tactic(auto)]
 
 use commands::{Complaints, Files, Output};

@@ -1,8 +1,12 @@
 //! What is said of the errors of a C text: what is wrong, in plain words, and what to write instead.
 //!
-//! Proved: `explain` gives printable ASCII for each source and each error. The line of an error is exact.
 //! Contract: `explain`
-//! Tested: nearly each message and hint (tests/messages)
+//! - `explain` gives printable ASCII for each source and each error.
+//! - The line of an error is exact.
+//!
+//! | Tested | In |
+//! |---|---|
+//! | nearly each message and hint | tests/messages |
 #![tactic(auto)]
 
 mod constants;

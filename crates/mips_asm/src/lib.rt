@@ -1,10 +1,15 @@
-//! Images of scheduled units: the words of the orders, exactly those of their layout, each field in its range.
+//! Images of scheduled units: the words of the orders, exactly as their layout has them, each field in its range.
 //!
 //! Definitions: `specs/Assembled.antt`, `specs/Limits.antt`, `specs/Listing.antt`.
-//! Proved: `assemble` gives the image of a scheduled unit, which runs as the unit. Limit comes exactly beyond 32,000 words of a function or
-//! 1,048,576 in all. `list` gives exactly the listing.
 //! Contract: `assemble`, `image_of`, `code_of`, `list`
-//! Tested: each rule and each rejection by worked words (tests/images), changed bytes, refused memory (test_calls)
+//! - `assemble` gives the image of a scheduled unit, which runs as the unit.
+//! - Limit comes exactly beyond 32,000 words of a function or 1,048,576 in all.
+//! - `list` gives exactly the listing.
+//!
+//! | Tested | In |
+//! |---|---|
+//! | each rule and each rejection by worked words | tests/images |
+//! | changed bytes, refused memory | test_calls |
 #![tactic(auto)]
 
 mod assembly;

@@ -1,8 +1,8 @@
 //! The words of MIPS I instructions (Kane, MIPS RISC Architecture, appendix A).
 //!
 //! Definitions: `specs/Words.antt`, `specs/Decoding.antt`.
-//! Proved: `encode` and `decode` are inverse on the table of words, and `decode` is None for every other word.
 //! Contract: `encode`, `decode`
+//! - `encode` and `decode` are inverse on the table of words, and `decode` is None for every other word.
 #![tactic(auto)]
 
 mod decoder;

@@ -1,9 +1,10 @@
 //! Machine code of RTL instructions whose pseudo-registers live in homes: what happens inside a block.
 //!
 //! Definitions: `specs/Code.antt`, `specs/Locations.antt`, `specs/Elements.antt`, `specs/Comparisons.antt`, `specs/Left.antt`.
-//! Proved: The code of an instruction is exactly `inst_code`, and by the lemmas `performs` and `compares` it does what the instruction does
-//! over homes. Refused memory leaves a beginning of that code.
 //! Contract: `emit_insts`, `emit_arguments`, `emit_arrival`, `emit_departure`
+//! - The code of an instruction is exactly `inst_code`, and by the lemmas `performs` and `compares` it does what the instruction does over
+//!   homes.
+//! - Refused memory leaves a beginning of that code.
 #![tactic(auto)]
 
 mod comparison;

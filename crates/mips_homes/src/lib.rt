@@ -1,9 +1,10 @@
 //! Homes of pseudo-registers: registers, slots of the frame, or registers of one block.
 //!
 //! Definitions: `specs/Choice.antt`, `specs/Hints.antt`, `specs/Places.antt`, `specs/Laws.antt`.
-//! Proved: `homes` puts the eight pseudo-registers with most mentions into $16 to $23 and each other one into a slot. `place` moves those
-//! that are local to their blocks to registers that no function keeps. Over either the run is the program's at each bound.
 //! Contract: `homes`, `place`, `each_homed_run_is_the_run`, `each_choice_never_forgets`
+//! - `homes` puts the eight pseudo-registers with most mentions into $16 to $23 and each other one into a slot.
+//! - `place` moves those that are local to their blocks to registers that no function keeps.
+//! - Over either the run is the program's at each bound.
 #![tactic(auto)]
 
 mod best;

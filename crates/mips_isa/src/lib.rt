@@ -1,10 +1,12 @@
 //! The instructions of MIPS I in use, their text, and what they do (Kane, MIPS RISC Architecture).
 //!
 //! Definitions: `specs/Actions.antt`, `specs/Rules.antt`, `specs/Steps.antt`, `specs/MemoryMap.antt`.
-//! Proved: `Plain::action` is exactly the table of 31 instructions. Their texts, reads and writes are exact. An action is stuck exactly if
-//! it breaks one of M1 to M9. Accesses that share no byte don't meet.
 //! Contract: `Plain::action`, `safe_actions_keep_their_rules`, `stuck_actions_break_a_rule`, `each_broken_rule_is_least`,
 //! `loads_pass_stores`, `stores_commute`, `addresses_are_the_memory_map`
+//! - `Plain::action` is exactly the table of 31 instructions.
+//! - Their texts, reads and writes are exact.
+//! - An action is stuck exactly if it breaks one of M1 to M9.
+//! - Accesses that share no byte don't meet.
 #![tactic(auto)]
 
 mod action;

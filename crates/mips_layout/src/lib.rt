@@ -1,9 +1,9 @@
 //! How orders follow one another in the code, and that the code runs as the unit of their blocks.
 //!
 //! Definitions: `specs/Layout.antt`, `specs/LayoutRuns.antt`.
-//! Proved: If a unit isn't stuck, the laid-out words of orders that mean its blocks end and print alike. A word counts for at most 513
-//! steps of the unit, in plain orders for one.
 //! Contract: `each_layout_runs`, `each_plain_layout_runs`, `each_layout_tells_calls_apart`, `each_layout_fits`
+//! - If a unit isn't stuck, the laid-out words of orders that mean its blocks end and print alike.
+//! - A word counts for at most 513 steps of the unit, in plain orders for one.
 #![tactic(auto)]
 
 mod laws;

@@ -1,8 +1,9 @@
 //! Runs images on the machine: exactly its definition at each bound. `load` decodes each word once, a step takes constant time.
 //!
 //! Definitions: `specs/ImageRuns.antt`, `specs/Decoding.antt`.
-//! Proved: `load`, `Machine::step` and `run` are exactly the machine from the image's start. What a `Machine` shows is what it holds.
 //! Contract: `load`, `Machine::step`, `run`
+//! - `load`, `Machine::step` and `run` are exactly the machine from the image's start.
+//! - What a `Machine` shows is what it holds.
 #![tactic(auto)]
 
 mod code;

@@ -1,11 +1,15 @@
 //! Selection of machine code: an RTL program becomes a unit of blocks.
 //!
 //! Definitions: `specs/Laws.antt`, `specs/Limits.antt`, `specs/Whole.antt`.
-//! Proved: If the program isn't wrong after n steps, its unit has the same end and output after no fewer, whatever the links of calls are.
-//! The data are the globals' bytes. Ok comes only if frames and stack fit. Limit comes only if they don't, or if there would be too many
-//! blocks.
 //! Contract: `select`, `select_numbered`, `each_unit_keeps_runs`
-//! Tested: units compared with RTL's runs: 40 live variables, long blocks, recursion, bytes, limits (test_calls)
+//! - If the program isn't wrong after n steps, its unit has the same end and output after no fewer, whatever the links of calls are.
+//! - The data are the globals' bytes.
+//! - Ok comes only if frames and stack fit.
+//! - Limit comes only if they don't, or if there would be too many blocks.
+//!
+//! | Tested | In |
+//! |---|---|
+//! | units compared with RTL's runs: 40 live variables, long blocks, recursion, bytes, limits | test_calls |
 #![tactic(auto)]
 
 mod code;

@@ -1,8 +1,9 @@
 //! Blocks of any length, cut into pieces of at most 512 instructions: chained by Goto, each with the owner of its block.
 //!
 //! Definitions: `specs/Split.antt`, `specs/Laws.antt`.
-//! Proved: `split_unit` cuts blocks at 512 instructions exactly as defined. The unit does what the long blocks do.
 //! Contract: `split_unit`, `first_pieces`, `each_split_unit_comes_to`
+//! - `split_unit` cuts blocks at 512 instructions exactly as defined.
+//! - The unit does what the long blocks do.
 #![tactic(auto)]
 
 mod fault;

@@ -1,9 +1,9 @@
 //! RTL, the intermediate language: functions of blocks over pseudo-registers. The idea of three-address code is CompCert's.
 //!
 //! Definitions: `specs/Programs.antt`, `specs/Meaning.antt`, `specs/Laws.antt`.
-//! Proved: `Rtl::new` is Some exactly on programs, and `run` is exactly what n steps lead to. Where C's operators give a value, RTL's give
-//! the same.
 //! Contract: `Rtl::new`, `run`, `values_are_words`, `operators_compute_as_c`
+//! - `Rtl::new` is Some exactly on programs, and `run` is exactly what n steps lead to.
+//! - Where C's operators give a value, RTL's give the same.
 #![tactic(auto)]
 
 mod block;

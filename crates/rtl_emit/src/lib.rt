@@ -1,9 +1,10 @@
 //! Code of RTL for the expressions and conditions of typed C programs. It is made backwards, so each target exists already.
 //!
 //! Definitions: `specs/Expressions.antt`, `specs/Runs.antt`, `specs/Blocks.antt`.
-//! Proved: The code of an expression leaves its value in the requested register. The code of a condition leads to one of two blocks. Both
-//! hold whatever other blocks exist, and name no register above those that are counted.
 //! Contract: `value_into`, `operand_into`, `condition`
+//! - The code of an expression leaves its value in the requested register.
+//! - The code of a condition leads to one of two blocks.
+//! - Both hold whatever other blocks exist, and name no register above those that are counted.
 #![tactic(auto)]
 
 mod block;

@@ -1,11 +1,14 @@
 //! Typed C programs as programs of RTL: `lower` is the pass.
 //!
 //! Definitions: `specs/Laws.antt`, `specs/Sizes.antt`, `specs/Coded.antt`, `specs/Emits.antt`.
-//! Proved: If the source isn't wrong after n steps, its RTL has the same end and output after no fewer. Ok comes only within 8,000
-//! pseudo-registers and 1,048,575 blocks, counted on the typed program, and Limit only beyond. Each function has as many blocks as are
-//! counted, and no more registers.
 //! Contract: `lower`
-//! Tested: at most sixteen steps for each step of the source; the deepest sources (test_calls)
+//! - If the source isn't wrong after n steps, its RTL has the same end and output after no fewer.
+//! - Ok comes only within 8,000 pseudo-registers and 1,048,575 blocks, counted on the typed program, and Limit only beyond.
+//! - Each function has as many blocks as are counted, and no more registers.
+//!
+//! | Tested | In |
+//! |---|---|
+//! | at most sixteen steps for each step of the source; the deepest sources | test_calls |
 #![tactic(auto)]
 
 mod context;

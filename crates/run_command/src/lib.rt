@@ -1,10 +1,13 @@
 //! The command `mcc run`.
 //!
 //! Definitions: `specs/ImageRuns.antt`, `specs/Command.antt`.
-//! Proved: `run_image` is exactly the image's run, if the bytes are an image's, and else the first test that fails. `run_file` asks and
-//! prints accordingly.
 //! Contract: `run_image`, `run_file`
-//! Tested: why a run is stuck (tests/images/reasons.case)
+//! - `run_image` is exactly the image's run, if the bytes are an image's, and else the first test that fails.
+//! - `run_file` asks and prints accordingly.
+//!
+//! | Tested | In |
+//! |---|---|
+//! | why a run is stuck | tests/images/reasons.case |
 #![tactic(auto)]
 
 mod command;

@@ -1,9 +1,9 @@
-//! What a run of a program comes to, at any level: of C, of RTL, of blocks. An interpreter of any level keeps its words here.
+//! The outcome of a program's run at any level: of C, of RTL, of blocks. An interpreter of any level keeps its words here.
 //!
 //! Definitions: `specs/Runs.antt`, `specs/Stores.antt`, `specs/Steps.antt`, `specs/Calls.antt`, `specs/Results.antt`, `specs/Refines.antt`.
-//! Proved: Reads and writes of what an interpreter keeps are exact, and `run_steps` is exactly what n steps lead to. Refinement, `Refines`,
-//! is defined here.
 //! Contract: `word_at`, `set_word`, `element`, `store`, `Interpreter::enter`, `Interpreter::leave`, `run_steps`
+//! - Reads and writes of what an interpreter keeps are exact, and `run_steps` is exactly what n steps lead to.
+//! - Refinement, `Refines`, is defined here.
 #![tactic(auto)]
 
 mod interpreter;

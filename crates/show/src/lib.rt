@@ -1,8 +1,11 @@
 //! What becomes of a C text, stage by stage, as text for people, by the public calls of the layers.
 //!
-//! Proved: What is printed is printable ASCII in lines. The source spells a program without errors.
 //! Contract: `show`
-//! Tested: each stage of three programs (tests/show)
+//! - What is printed is printable ASCII in lines, and the source spells a program without errors.
+//!
+//! | Tested | In |
+//! |---|---|
+//! | each stage of three programs | tests/show |
 #![tactic(auto)]
 
 mod blocks;

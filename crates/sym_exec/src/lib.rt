@@ -1,9 +1,9 @@
 //! Symbolic execution of blocks and orders, to tickets of a shared table of terms.
 //!
 //! Definitions: `specs/Symbolic.antt`, `specs/Asked.antt`, `specs/Stores.antt`.
-//! Proved: `run_block` and `run_order` give the tickets of the trees of a block and an order. Their only error is `TableFull`, if the pass has
-//! linked all it may and one of the trees that the code asks for isn't in the table.
 //! Contract: `run_block`, `run_order`, `RunRoom`
+//! - `run_block` and `run_order` give the tickets of the trees of a block and an order.
+//! - Their only error is `TableFull`, if the pass has linked all it may and one of the trees that the code asks for isn't in the table.
 #![tactic(auto)]
 
 mod address;

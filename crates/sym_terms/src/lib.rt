@@ -1,8 +1,9 @@
 //! The labels of terms of MIPS, with a word of 64 bits for each, and the trees that carry them.
 //!
 //! Definitions: `specs/Trees.antt`, `specs/Values.antt`, `specs/NormalForms.antt`, `specs/Laws.antt`.
-//! Proved: Label and word are inverse. Terms in normal form (N1 to N4) have the values that the machine computes.
 //! Contract: `Label`, `trees_keep_values`
+//! - Label and word are inverse.
+//! - Terms in normal form (N1 to N4) have the values that the machine computes.
 #![tactic(auto)]
 
 mod label;

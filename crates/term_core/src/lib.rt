@@ -1,9 +1,9 @@
 //! The pure world of the shared table of terms: passes, words, and their single steps. It exists for proofs alone.
 //!
 //! Definitions: `specs/Terms.antt`, `specs/World.antt`.
-//! Proved: Every list of single steps of any handles leads to one legal history. Each step is of one of four kinds, on a word that this
-//! kind may touch.
 //! Contract: `any_schedule`
+//! - Every list of single steps of any handles leads to one legal history.
+//! - Each step is of one of four kinds, on a word that this kind may touch.
 #![tactic(auto)]
 
 ghost use Rattle.std.specs.Prelude.{◌≡◌, ℕ, List};

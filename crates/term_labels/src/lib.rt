@@ -1,8 +1,8 @@
 //! Labels of terms, and the trees that carry them: for tables of anyone's terms.
 //!
 //! Definitions: `specs/Trees.antt`, `specs/Codings.antt`, `specs/Kinds.antt`.
-//! Proved: A type of labels gives each label a word, from which it is read back, so no two labels share one.
 //! Contract: `Label`, `word_of`, `parts_of`
+//! - A type of labels gives each label a word, and reads the label back from it, so no two labels share one.
 #![tactic(auto)]
 
 mod parts;

@@ -1,13 +1,13 @@
-//! Tests of what no case of tests/ at the top reaches. The expected values are worked by hand, or those of GNU as and objdump.
+//! Tests of what no case of tests/ at the top reaches. The expected values are worked by hand, or come from GNU as and objdump.
 //!
-//! - Public calls between C and images: C lowered to RTL, RTL, the homes of pseudo-registers, units selected, split, assembled
-//!   and run, words of instructions and their texts, and memory that is refused to these calls.
+//! - Public calls between C and images: C lowered to RTL, RTL, the homes of pseudo-registers, units selected, split, assembled and run.
+//! - Words of instructions and their texts, and memory that is refused to these calls.
 //! - Plain orders, schedulers, verdicts that are refused memory, the pool of workers, and phases over them.
-//! - `mcc`: streams and files that fail half way, memory that is refused to its commands and to builds, schedulers that propose
-//!   wrong orders, many builds in one process, and what words ask for.
+//! - `mcc`: streams and files that fail half way, memory that is refused to its commands and to builds.
+//! - Schedulers that propose wrong orders, many builds in one process, and what words ask for.
 //!
-//! `files`, `written` and `scarce_memory` stand in for the host: a file and streams in memory, what `mcc` does over them, and
-//! all memory that can be had, to give back block by block.
+//! `files`, `written` and `scarce_memory` stand in for the host. They are a file and streams in memory, what `mcc` does over them, and all
+//! memory that can be had, to give back block by block.
 #![tactic(auto)]
 
 #[cfg(test)]

@@ -1,10 +1,10 @@
 //! Words of 32 bits: their signed reading, and each operator that the machine, the terms and C use.
 //!
 //! Definitions: `specs/Operators.antt`, `specs/C.antt`, `specs/Laws.antt`.
-//! Proved: `Operator::value` is exactly `value_of` for 19 operators, and None exactly for a division without a value. `Sign`'s methods are
-//! C's operators by the sign of their type, None where C leaves the result undefined. Where C gives two words a value, the machine's
-//! operator gives the same.
 //! Contract: `Operator::value`, `Sign::sum`, `Width::kept`, `operators_give_words`, `c_computes_as_the_machine`
+//! - `Operator::value` is exactly `value_of` for 19 operators, and None exactly for a division without a value.
+//! - `Sign`'s methods are C's operators by the sign of their type, None where C leaves the result undefined.
+//! - Where C gives two words a value, the machine's operator gives the same.
 #![tactic(auto)]
 
 mod c;
