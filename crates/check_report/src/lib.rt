@@ -19,3 +19,4 @@ mod witness;
 
 pub use command::{ExplainedAnswer, print_explained};
 pub use several::check_files;
+pub use witness::put_found;

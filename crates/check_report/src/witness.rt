@@ -137,7 +137,7 @@ fn put_witness(
 }
 
 /// A start from which the order does otherwise than the block, or that none was found.
-pub(crate) fn put_found(
+pub fn put_found(
     alloc: Global,
     out: &mut Writer,
     block: &Block,

@@ -1,9 +1,12 @@
 // Graphs of blocks, for Graphviz.
 
+use crate::back_edges::{Edges, back_edges};
+use crate::orders::put_needed;
 use crate::rtl_text::RtlView;
-use block_text::{ExitLine, Writer, put_insts};
+use block_text::Writer;
 use mblock::{Block, Exit};
 use rtl::{RBlock, RExit};
+use std::alloc::{AllocError, Global};
 
 /// What an edge is for: where a branch's condition holds, where it doesn't, and all others.
 #[derive(Clone, Copy)]
@@ -13,8 +16,8 @@ enum Way {
     Goes,
 }
 
-/// An edge between blocks. One that goes back to its own block or an earlier one is bold, so that loops are seen.
-fn put_edge(out: &mut Writer, from: usize, to: usize, way: Way) {
+/// An edge between blocks. One that goes back is bold, so that loops are seen.
+fn put_edge(out: &mut Writer, from: usize, to: usize, way: Way, is_back: bool) {
     out.text("    b");
     out.put(&from);
     out.text(" -> b");
@@ -24,16 +27,10 @@ fn put_edge(out: &mut Writer, from: usize, to: usize, way: Way) {
         Way::Falls => " [label=\"else\" style=dashed",
         Way::Goes => " [style=solid",
     });
-    if to <= from {
+    if is_back {
         out.text(" penwidth=2 color=blue");
     }
     out.text("];\n");
-}
-
-/// The edges of a branch.
-fn put_branch(out: &mut Writer, from: usize, then: usize, other: usize) {
-    put_edge(out, from, then, Way::Taken);
-    put_edge(out, from, other, Way::Falls);
 }
 
 fn put_node(out: &mut Writer, number: usize) {
@@ -44,61 +41,111 @@ fn put_node(out: &mut Writer, number: usize) {
     out.text("\\l");
 }
 
-fn put_edges(out: &mut Writer, from: usize, exit: Exit) {
+/// The numbers of the blocks to which an exit leads.
+fn exit_targets(exit: Exit) -> Edges {
     match exit {
         Exit::Goto(next) | Exit::Call { next, .. } | Exit::Out(next) => {
-            put_edge(out, from, next.number() as usize, Way::Goes);
+            [Some(next.number() as usize), None]
         }
         Exit::BranchPair { then, other, .. } | Exit::BranchZero { then, other, .. } => {
-            put_branch(out, from, then.number() as usize, other.number() as usize);
+            [Some(then.number() as usize), Some(other.number() as usize)]
         }
-        Exit::Return | Exit::Halt => {}
+        Exit::Return | Exit::Halt => [None, None],
     }
 }
 
-/// A block of the unit, and its edges.
-fn put_block(out: &mut Writer, number: usize, block: &Block) {
-    put_node(out, number);
-    put_insts(out, block.insts(), "", "\\l");
-    out.put(&ExitLine(block.exit()));
-    out.text("\\l\"];\n");
-    put_edges(out, number, block.exit());
-}
-
-/// Blocks of the unit, from this number on.
-pub(crate) fn put_blocks(out: &mut Writer, first: usize, blocks: &[Block]) {
-    let mut k = first;
-    for block in blocks {
-        put_block(out, k, block);
-        k = k.saturating_add(1);
-    }
-}
-
-fn put_rtl_edges(out: &mut Writer, view: &RtlView<'_>, from: usize, exit: &RExit) {
+/// The places of the blocks to which an exit of RTL leads.
+fn rtl_places(exit: &RExit) -> Edges {
     match exit {
         RExit::Goto(next) | RExit::Call(_, _, _, next) | RExit::Out(_, next) => {
-            put_edge(out, from, view.number(*next), Way::Goes);
+            [Some(*next as usize), None]
         }
-        RExit::Branch(_, then, other) => {
-            put_branch(out, from, view.number(*then), view.number(*other));
-        }
-        RExit::Return(_) => {}
+        RExit::Branch(_, then, other) => [Some(*then as usize), Some(*other as usize)],
+        RExit::Return(_) => [None, None],
     }
 }
 
-/// A block of RTL, and its edges.
-fn put_rtl_block(out: &mut Writer, view: &RtlView<'_>, number: usize, block: &RBlock) {
-    put_node(out, number);
-    view.lines(out, block, "", "\\l");
-    out.text("\"];\n");
-    put_rtl_edges(out, view, number, &block.exit);
+/// Their numbers.
+fn rtl_targets(view: &RtlView<'_>, exit: &RExit) -> Edges {
+    match exit {
+        RExit::Goto(next) | RExit::Call(_, _, _, next) | RExit::Out(_, next) => {
+            [Some(view.number(*next)), None]
+        }
+        RExit::Branch(_, then, other) => [Some(view.number(*then)), Some(view.number(*other))],
+        RExit::Return(_) => [None, None],
+    }
 }
 
-/// The blocks of a function of RTL.
-pub(crate) fn put_rtl_blocks(out: &mut Writer, view: &RtlView<'_>, blocks: &[RBlock]) {
-    let mut k = 0u32;
+/// The edges out of a node: two are a branch's.
+fn put_edges(out: &mut Writer, from: usize, edges: Edges, back: [bool; 2]) {
+    match edges {
+        [Some(then), Some(other)] => {
+            put_edge(out, from, then, Way::Taken, back[0]);
+            put_edge(out, from, other, Way::Falls, back[1]);
+        }
+        [Some(next), None] => put_edge(out, from, next, Way::Goes, back[0]),
+        _ => {}
+    }
+}
+
+/// The marks of a block's edges.
+fn marks_of(back: &[[bool; 2]], k: usize) -> [bool; 2] {
+    back.get(k).copied().unwrap_or([false; 2])
+}
+
+/// The place of a block among a function's, the first of which has this number.
+fn place_from(first: usize, number: Option<usize>) -> Option<usize> {
+    Some(number?.saturating_sub(first))
+}
+
+/// The blocks of a function of the unit, from this number on, and their edges.
+pub(crate) fn put_blocks(
+    alloc: Global,
+    out: &mut Writer,
+    first: usize,
+    blocks: &[Block],
+) -> Result<(), AllocError> {
+    let mut edges = Vec::new(alloc);
     for block in blocks {
-        put_rtl_block(out, view, view.number(k), block);
-        k = k.saturating_add(1);
+        let [one, other] = exit_targets(block.exit());
+        edges.push([place_from(first, one), place_from(first, other)])?;
     }
+    let back = back_edges(alloc, &edges)?;
+    for (k, block) in blocks.iter().enumerate() {
+        let number = first.saturating_add(k);
+        put_node(out, number);
+        put_needed(out, block, "", "\\l");
+        out.text("\"];\n");
+        put_edges(out, number, exit_targets(block.exit()), marks_of(&back, k));
+    }
+    Ok(())
+}
+
+/// The blocks of a function of RTL, and their edges.
+pub(crate) fn put_rtl_blocks(
+    alloc: Global,
+    out: &mut Writer,
+    view: &RtlView<'_>,
+    blocks: &[RBlock],
+) -> Result<(), AllocError> {
+    let mut edges = Vec::new(alloc);
+    for block in blocks {
+        edges.push(rtl_places(&block.exit))?;
+    }
+    let back = back_edges(alloc, &edges)?;
+    let mut number = 0u32;
+    for (k, block) in blocks.iter().enumerate() {
+        let from = view.number(number);
+        put_node(out, from);
+        view.lines(out, block, "", "\\l");
+        out.text("\"];\n");
+        put_edges(
+            out,
+            from,
+            rtl_targets(view, &block.exit),
+            marks_of(&back, k),
+        );
+        number = number.saturating_add(1);
+    }
+    Ok(())
 }

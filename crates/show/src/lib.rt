@@ -8,6 +8,7 @@
 //! | each stage of three programs | tests/show |
 #![tactic(auto)]
 
+mod back_edges;
 mod blocks;
 mod dot;
 mod homes;

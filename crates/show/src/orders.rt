@@ -3,8 +3,9 @@
 ghost use Rattle.std.specs.Prelude.{All, IfSome};
 ghost use Rattle.term_table.specs.Passes.{IsOf};
 
-use block_text::{Writer, put_order};
+use block_text::{ExitLine, Writer, put_insts, put_order};
 use block_validator::{Place, Verdict, validate};
+use check_report::put_found;
 use delay_filler::FilledOrder;
 use list_scheduler::{ListOrder, Reorder};
 use mblock::{Block, Order, plain};
@@ -97,8 +98,20 @@ fn put_verdict(out: &mut Writer, verdict: Verdict<'_>) -> Result<Option<Order>, 
     Ok(None)
 }
 
+/// A block behind a margin, without its Nops: a block has no delays, so they do nothing.
+pub(crate) fn put_needed(out: &mut Writer, block: &Block, margin: &str, end: &str) {
+    for inst in block.insts() {
+        if !inst.is_nop() {
+            put_insts(out, &[*inst], margin, end);
+        }
+    }
+    out.text(margin);
+    out.put(&ExitLine(block.exit()));
+    out.text(end);
+}
+
 /// A block in its plain order, behind a margin.
-pub(crate) fn put_plain(
+fn put_plain(
     alloc: Global,
     out: &mut Writer,
     block: &Block,
@@ -109,11 +122,12 @@ pub(crate) fn put_plain(
     Ok(())
 }
 
-/// The order that was refused, and the plain one, which stands in its place.
+/// The order that was refused, why it is wrong, if that was found, and the plain one, which is taken.
 fn put_refused(alloc: Global, out: &mut Writer, block: &Block) -> Result<(), AllocError> {
     let refused = proposed_order(alloc, block)?;
     out.text("    proposed:\n");
     put_order(out, &refused, "      ", "\n");
+    put_found(alloc, out, block, &refused)?;
     out.text("    taken:\n");
     put_plain(alloc, out, block, "      ")
 }

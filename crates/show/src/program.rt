@@ -9,7 +9,7 @@ use crate::homes::put_homes;
 use crate::listing::{ListingView, put_title};
 use crate::names::Names;
 use crate::numbers::{Range, functions_of, rtl_blocks_of};
-use crate::orders::{put_plain, put_settled};
+use crate::orders::{put_needed, put_settled};
 use crate::rtl_text::RtlView;
 use crate::stage::Stage;
 use crate::terms::put_terms;
@@ -178,9 +178,9 @@ impl<'a> View<'a> {
         range.unwrap_or(none).of(self.shown.numbers)
     }
 
-    fn put_rtl(&self, out: &mut Writer, number: usize, is_graph: bool) {
+    fn put_rtl(&self, out: &mut Writer, number: usize, is_graph: bool) -> Result<(), AllocError> {
         let Some(function) = self.function(number) else {
-            return;
+            return Ok(());
         };
         let view = RtlView {
             names: &self.names,
@@ -190,10 +190,11 @@ impl<'a> View<'a> {
         };
         let blocks = function.blocks.as_slice();
         if is_graph {
-            put_rtl_blocks(out, &view, blocks);
+            put_rtl_blocks(self.alloc, out, &view, blocks)?;
         } else {
             view.blocks(out, blocks);
         }
+        Ok(())
     }
 
     fn put_homes(&self, out: &mut Writer, number: usize) {
@@ -214,7 +215,8 @@ impl<'a> View<'a> {
             }
             _ => {
                 out.text("\n");
-                put_plain(self.alloc, out, block, "    ")
+                put_needed(out, block, "    ", "\n");
+                Ok(())
             }
         }
     }
@@ -240,7 +242,7 @@ impl<'a> View<'a> {
     ) -> Result<(), AllocError> {
         put_title(out, &self.names, number);
         match stage {
-            Stage::Rtl => self.put_rtl(out, number, false),
+            Stage::Rtl => self.put_rtl(out, number, false)?,
             Stage::Homes => self.put_homes(out, number),
             _ => self.put_blocks(out, stage, number)?,
         }
@@ -248,7 +250,7 @@ impl<'a> View<'a> {
     }
 
     /// A function's graph, as a cluster.
-    fn put_graph(&self, out: &mut Writer, is_rtl: bool, number: usize) {
+    fn put_graph(&self, out: &mut Writer, is_rtl: bool, number: usize) -> Result<(), AllocError> {
         let name = if number == 0 {
             "start"
         } else {
@@ -260,12 +262,14 @@ impl<'a> View<'a> {
         out.text(name);
         out.text("\";\n");
         if is_rtl {
-            self.put_rtl(out, number, true);
+            self.put_rtl(out, number, true)?;
         } else {
             let range = self.range(number);
-            put_blocks(out, range.from, range.of(self.shown.unit.blocks()));
+            let blocks = range.of(self.shown.unit.blocks());
+            put_blocks(self.alloc, out, range.from, blocks)?;
         }
         out.text("  }\n");
+        Ok(())
     }
 
     fn put_listing(&self, out: &mut Writer, only: Option<usize>) -> Result<(), ShowFault> {
@@ -306,8 +310,7 @@ impl<'a> View<'a> {
         number: usize,
     ) -> Result<(), AllocError> {
         if wanted.dot {
-            self.put_graph(out, wanted.stage == Some(Stage::Rtl), number);
-            return Ok(());
+            return self.put_graph(out, wanted.stage == Some(Stage::Rtl), number);
         }
         match wanted.stage {
             Some(stage) => self.put_function(out, stage, number),
