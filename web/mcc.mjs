@@ -69,7 +69,11 @@ export class Mcc {
 
   check(text) { return this.text('mcc_web_check', text); }
   explain(text) { return this.text('mcc_web_explain', text); }
-  interp(text, steps, depth = 256) { return this.text('mcc_web_interp', text, [depth, BigInt(steps)]); }
+  // With where and why it is wrong, if it is.
+  interp(text, steps, depth = 256) {
+    const ran = this.text('mcc_web_interp', text, [depth, BigInt(steps)]);
+    return ran.status === 3 ? { ...ran, why: this.text('mcc_web_wrong', text, [depth, BigInt(steps)]).text } : ran;
+  }
   orders(text, depth = 256) { return this.text('mcc_web_orders', text, [depth]); }
   run(image, steps) { return this.text('mcc_web_run', image, [BigInt(steps)]); }
   list(image) { return this.text('mcc_web_list', image); }

@@ -68,7 +68,7 @@ class Client {
 
 let client = null;
 const page = {
-  text: '', lines: [], marks: {}, told: null, image: null, blocks: [], groups: [], group: null,
+  text: '', lines: [], marks: {}, told: null, wrong: null, image: null, blocks: [], groups: [], group: null,
   chosen: null, order: null, at: 0, said: '', stages: new Map(), tried: null, isRunning: false, isOther: false,
   mine: new Map(), past: [], badLine: null, globals: [], isPlaying: false, goal: null, wanted: {}, colours: null,
   listing: [], view: null, before: null, breakpoint: null, cursor: null, touched: null, isBusy: false, isStale: false,
@@ -77,8 +77,8 @@ const page = {
 // ---- the C text
 // The lines that are marked: that of a fault, else those of the function that is shown and of the chosen block's exit.
 function showGutter() {
-  const { group, chosen, told } = page;
-  const bad = told?.line ?? null;
+  const { group, chosen } = page;
+  const bad = (page.told ?? page.wrong)?.line ?? null;
   const held = bad === null && chosen?.number != null ? group?.lines : null;
   page.lines = page.text.split('\n');
   page.marks = { bad, held, left: held ? exitLines(page.text, group, chosen, page.groups) : [] };
@@ -105,7 +105,8 @@ function follow() {
 
 // The text of the lines that are seen, in colours, with the place of a fault.
 function drawText(first, count) {
-  const { told, colours, lines } = page;
+  const { colours, lines } = page;
+  const told = page.told ?? page.wrong;
   const parts = [];
   for (let k = first - 1; k < first - 1 + count; k++) {
     const line = lines[k];
@@ -175,23 +176,28 @@ async function refresh() {
   } while (page.isStale);
   page.isBusy = false;
 }
+// Where and why the C program's run is wrong, as mcc tells it.
+const WHY = /^program\.c(?::(\d+):(\d+))?: in function '(\w+)':\nwrong: ([^]*)$/;
 
 function showRuns(interp, run) {
   const isOne = !run || interp.text === run.text;
   const isMore = interp.status === 4 || run?.status === 4;
   $('machine').parentElement.hidden = isOne;
   $('run-on').hidden = !isMore || !run;
-  const agree = !run ? '' : interp.status === 3
-    ? 'C gives the text no meaning from there on, so nothing is promised of the machine. The command mcc interp prints why.'
+  const [, line, column, name, words] = WHY.exec(interp.why ?? '') ?? [];
+  page.wrong = line ? { line: Number(line), column: Number(column) } : null;
+  const reason = name ? `Wrong in ${name}${line ? `, line ${line}` : ''}: ${words.trim().replace(/\nhint: (.*)/, ' ($1)')}. ` : '';
+  const agree = !run ? '' : interp.status === 3 ? 'C gives the text no meaning from there on, so nothing is promised of the machine.'
     : isMore ? 'Not at the end after these steps.' : isOne ? 'Both print the same.' : 'They differ: this must not be.';
-  const texts = { interp: cut(interp.text), machine: cut(run?.text ?? ''), reason: '', agree };
+  const texts = { interp: cut(interp.text), machine: cut(run?.text ?? ''), reason, agree };
   texts.whose = run && isOne ? 'Output of interpreter and machine' : 'Interpreter';
   for (const [id, text] of Object.entries(texts)) say(id, text);
-  if (run?.status === 3) showPlace(run.text.trimEnd().split('\n').at(-1).slice(6));
+  showGutter();
+  if (run?.status === 3) showPlace(run.text.trimEnd().split('\n').at(-1).slice(6), reason);
 }
 
 // Why the machine is stuck, and at which word of which block.
-async function showPlace(rule) {
+async function showPlace(rule, reason) {
   const { image } = page;
   const view = await client.ask('machine', { image, from: 0, most: SHORT_RUN, stop: 0, address: 0x10000000 }).catch(() => null);
   if (!view || image !== page.image) return;
@@ -200,7 +206,7 @@ async function showPlace(rule) {
   const there = element('button', 'Show the word');
   there.onclick = () => { chooseTab('steps'); goTo(view.words); };
   const place = element('b', `${hex(view.pc)}: ${lineAt(view.pc)}`);
-  $('reason').replaceChildren(`The machine is stuck by ${RULES[rule] ?? rule} `, place, `, block ${block?.number} of ${name}. `, there);
+  $('reason').replaceChildren(`${reason}The machine is stuck by ${RULES[rule] ?? rule} `, place, `, block ${block?.number} of ${name}. `, there);
 }
 
 const isPair = text => text.startsWith('block\n');

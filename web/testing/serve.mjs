@@ -45,9 +45,9 @@ function answer(words, folder) {
 }
 
 // The program names its file where the module has a name of its own.
-function told({ status, text }, words, folder) {
-  if (status !== 1) return { status, out: text, err: '' };
-  return { status, out: '', err: text.replace(/^(program\.c|order\.check)(?=:\d+:\d+:)/m, wordsOf(words).files[0]) };
+function told({ status, text, why = '' }, words, folder) {
+  const named = lines => lines.replace(/^(program\.c|order\.check)(?=:\d+:\d+:|: in function)/m, wordsOf(words).files[0]);
+  return status === 1 ? { status, out: '', err: named(text) } : { status, out: text, err: named(why) };
 }
 
 // A line with the status and the length of standard output's bytes, and these before those of standard error.

@@ -9,7 +9,7 @@ use words::Width;
 
 /// A typed expression. A local, a global variable and an array stand as their numbers. An operator keeps the type that
 /// it computes in: for a comparison that is the operands' common type.
-#[derive(Drop)]
+#[derive(Drop, PartialEq)]
 pub enum TypedExpression {
     Constant(Literal),
     Local(usize, IntegerType),
@@ -30,7 +30,7 @@ pub enum Destination {
 /// A statement whose names are numbers (C99 6.8). `Unset` is a declaration without a first value. `Call` has the place
 /// that its result goes to, if it goes anywhere, the function and the arguments. `Loop` has its test, its last part and
 /// its body: a `while` has an empty last part, and a `for` is the block of its first part and the loop.
-#[derive(Drop)]
+#[derive(Drop, PartialEq)]
 pub enum TypedStatement {
     Empty,
     Block(Vec<TypedStatement>),

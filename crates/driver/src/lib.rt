@@ -1,11 +1,15 @@
 //! The program's commands over bytes, files and writers: `mcc` is the whole program.
 //!
 //! Definitions: `specs/Interps.antt`, `specs/Listings.antt`, `specs/Program.antt`.
-//! Proved: `interp` gives exactly the run of the source's one typed program, or its error. `list_image` gives exactly the listing. For
-//! arguments that clap accepts, `mcc` asks of its files, prints and ends as the command's own call may (`answered`, `quiet`, `stopped`).
 //! Contract: `interp`, `list_image`, `mcc`
-//! Tested: images print what the interpreter prints, eight programs also what gcc's builds print (tests/builds); failing files and streams
-//! (test_calls); each refused allocation (`.ci/refuse`)
+//! - `interp` gives exactly the run of the source's one typed program, or its error. `list_image` gives exactly the listing.
+//! - For arguments that clap accepts, `mcc` asks of its files, prints and ends as the command's own call may.
+//!
+//! | Tested | In |
+//! |---|---|
+//! | images print what the interpreter prints, eight programs also what gcc's builds print | tests/builds |
+//! | failing files and streams | test_calls |
+//! | each refused allocation | `.ci/refuse` |
 #![tactic(auto)]
 
 mod image_commands;
@@ -16,6 +20,7 @@ mod reasons;
 mod show_commands;
 mod source_runs;
 mod texts;
+mod wrong_places;
 
 pub use build_command::{
     BuildFault, BuildOpts, Built, Limit, build, build_one, build_plain, print_built, tell_build,
@@ -27,6 +32,7 @@ pub use commands::{FileFault, Files};
 pub use listings::list_image;
 pub use messages::SourceFault;
 pub use program::{end_status, mcc, tell_interp};
+pub use reasons::wrong_page;
 pub use run_command::{EndingLine, ending_status, print_run, run_image};
 pub use show_commands::{StagesFault, stages, tell_stages};
 pub use source_runs::{InterpFault, interp};

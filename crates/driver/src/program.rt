@@ -64,14 +64,15 @@ pub fn tell_interp<E: Complaints>(
     tell_placed(alloc, err, &fault, &place)
 }
 
-/// `mcc interp`, with its bounds.
+/// `mcc interp`, with the source's name and the bounds.
 #[derive(Clone, Copy)]
-struct InterpCommand {
+struct InterpCommand<'s> {
+    source: &'s str,
     depth: u32,
     steps: u64,
 }
 
-impl FileCommand for InterpCommand {
+impl FileCommand for InterpCommand<'_> {
     ghost use Rattle.runs.specs.Runs.{outcome_of};
     ghost use Rattle.driver.specs.Interps.{IsInterpFault, IsRun};
     ghost use Rattle.run_command.specs.Command.{IsReason, IsRefused};
@@ -116,7 +117,10 @@ impl FileCommand for InterpCommand {
 
     fn remark<E: Complaints>(&self, alloc: Global, bytes: &[u8], answer: &Ran, err: &mut E) {
         match answer.end {
-            End::Wrong => tell_page(err, wrong_page(alloc, bytes, self.depth, self.steps)),
+            End::Wrong => {
+                let page = wrong_page(alloc, self.source, bytes, self.depth, self.steps);
+                tell_page(err, page);
+            }
             End::Done(_) | End::More => {}
         }
     }
@@ -216,7 +220,11 @@ pub fn mcc<T: Threads + Wait + Sync, F: Files, W: Output, E: Complaints>(
             },
         ) => answer_file(
             alloc,
-            &InterpCommand { depth, steps },
+            &InterpCommand {
+                source,
+                depth,
+                steps,
+            },
             source,
             files,
             out,

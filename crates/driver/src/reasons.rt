@@ -3,11 +3,13 @@
 ghost use Rattle.std.specs.Prelude.{All, IfSome};
 ghost use Rattle.block_text.specs.Shown.{IsShown};
 
+use crate::wrong_places::place_in_text;
 use block_text::{WIDTH, page_of};
 use build_command::typed_of;
-use c_run::{Reason, reason_of};
+use c_run::{Reason, reason_of, wrong_place_of};
 use c_tokens::IntegerType;
 use c_tree::{BinaryOp, UnaryOp};
+use c_types::Typed;
 use std::alloc::{AllocError, Global};
 
 /// Lines as they may be told; None where memory was refused to them.
@@ -101,15 +103,50 @@ fn wrong_lines(alloc: Global, why: Reason, depth: u32) -> Result<String, AllocEr
     }
 }
 
-/// Why the program that the text spells ends wrong within so many steps.
-pub(crate) fn wrong_page(alloc: Global, text: &[u8], depth: u32, steps: u64) -> Option<Vec<u8>>
+/// Where a program's run is wrong: nothing, where that isn't known.
+fn place_line(
+    alloc: Global,
+    source: &str,
+    text: &[u8],
+    typed: &Typed,
+    bounds: (u32, u64),
+) -> Result<String, AllocError> {
+    let (depth, steps) = bounds;
+    let Some(place) = wrong_place_of(alloc, typed, depth, steps)? else {
+        return Ok(String::new(alloc));
+    };
+    let Some(place) = place_in_text(alloc, text, typed, place) else {
+        return Ok(String::new(alloc));
+    };
+    let name = place.function;
+    match place.spot {
+        Some(spot) => {
+            let (line, column) = (spot.line, spot.column);
+            format!(in alloc; "{source}:{line}:{column}: in function '{name}':\n")
+        }
+        None => format!(in alloc; "{source}: in function '{name}':\n"),
+    }
+}
+
+/// Where and why the program that the text spells ends wrong within so many steps, in lines for people; None where it doesn't,
+/// or memory was refused. `source` is the text's name.
+pub fn wrong_page(
+    alloc: Global,
+    source: &str,
+    text: &[u8],
+    depth: u32,
+    steps: u64,
+) -> Option<Vec<u8>>
     ensures { IfSome result (λ page. All IsShown page.items) }
 {
     let Ok(typed) = typed_of(alloc, text) else {
         return None;
     };
-    match reason_of(alloc, &typed, depth, steps) {
-        Ok(Some(why)) => page(alloc, wrong_lines(alloc, why, depth)),
-        _ => None,
-    }
+    let Ok(Some(why)) = reason_of(alloc, &typed, depth, steps) else {
+        return None;
+    };
+    let mut lines = place_line(alloc, source, text, &typed, (depth, steps)).ok()?;
+    let reason = wrong_lines(alloc, why, depth).ok()?;
+    lines.push_str(reason.as_str()).ok()?;
+    page(alloc, Ok(lines))
 }

@@ -98,6 +98,10 @@ pub record SaysText (Is : List ℕ → Type 0) (status said : ℕ) (old new : Li
   pub ends : status ≡ 0
   pub gives : Gives text said old new
 
+-- why a run is wrong: lines of printable ASCII
+abbrev pub SaysReason : (status said : ℕ) → (old new : List ℕ) → Type 0
+SaysReason = SaysText (All IsShown)
+
 abbrev pub SaysListing : (bytes : List ℕ) → (status said : ℕ) → (old new : List ℕ) → Type 0
 SaysListing bytes = SaysText (IsListing bytes)
 

@@ -4,7 +4,7 @@ ghost use Rattle.std.specs.Prelude.{◌≡◌, ◌≢◌};
 ghost use Rattle.check_command.specs.Checks.{IsCheckFault};
 ghost use Rattle.image.specs.Images.{IsImageFault};
 ghost use Rattle.mcc_web.specs.Answers.{SaysCheckFault, SaysExplained, SaysImageFault, SaysInterpFault, SaysListing, SaysMachine};
-ghost use Rattle.mcc_web.specs.Answers.{SaysRun, SaysStages, SaysStagesFault, SaysVerdict};
+ghost use Rattle.mcc_web.specs.Answers.{SaysReason, SaysRun, SaysStages, SaysStagesFault, SaysVerdict};
 ghost use Rattle.mcc_web.specs.declared.told.TheConstants.{REFUSED};
 
 pub use crate::told::REFUSED;
@@ -14,7 +14,7 @@ use check_report::print_explained;
 use commands::tell;
 use driver::{
     CheckFault, EndLine, EndingLine, check, end_status, ending_status, interp, list_image,
-    print_run, run_image, stages, tell_interp, tell_stages,
+    print_run, run_image, stages, tell_interp, tell_stages, wrong_page,
 };
 use image::ImageFault;
 use show::Asked;
@@ -144,6 +144,29 @@ pub extern "C" fn mcc_web_interp(
             *status = tell_interp(alloc, &mut told, "program.c", text, fault);
             told.give(out, status)
         }
+    }
+}
+
+/// Where and why the run of the C program is wrong: what `mcc interp program.c` tells below `wrong`. The status is `REFUSED`, and
+/// there is no text, where the run isn't wrong or memory was refused.
+#[unsafe(no_mangle)]
+pub extern "C" fn mcc_web_wrong(
+    alloc: Global,
+    text: &[u8],
+    depth: u32,
+    steps: u64,
+    out: &mut [u8],
+    status: &mut u8,
+) -> usize
+    ensures told { status.new ≢ REFUSED → SaysReason status.new result out.old out.new }
+    ensures kept { status.new ≡ REFUSED → out.new ≡ out.old }
+{
+    match wrong_page(alloc, "program.c", text, depth, steps) {
+        Some(page) => {
+            *status = 0;
+            put(out, page.as_slice())
+        }
+        None => refuse(status),
     }
 }
 

@@ -16,6 +16,7 @@ mod lexical;
 mod names;
 mod said;
 mod source;
+mod statements;
 mod syntax;
 mod types;
 
@@ -33,6 +34,7 @@ use crate::types::say_kind;
 use c_front::{FrontFault, FrontFaultKind};
 use commands::Explanation;
 pub use fault::SourceFault;
+pub use statements::{PlacedStatement, placed_statements};
 use std::alloc::{AllocError, Global};
 
 fn say_front(

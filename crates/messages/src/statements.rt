@@ -1,0 +1,163 @@
+// The statements of a function with their places in the text. A typed tree has none, but the same form as the syntax tree.
+
+use c_tree::{Expression, ForParts, FunctionDefinition, Item, Simple, Statement};
+use c_typed::TypedStatement;
+use std::alloc::{AllocError, Global};
+
+/// A statement that takes a step, or a declaration without a first value.
+#[derive(Clone, Copy)]
+pub struct PlacedStatement<'a> {
+    pub statement: &'a TypedStatement,
+    /// Where its first name or its `return` stands, in bytes from the text's beginning; None where it has neither.
+    pub at: Option<usize>,
+    /// How many statements follow it in its block; 0 for the body of a loop without braces, and for the last part of a `for`.
+    pub left: usize,
+}
+
+/// Finds where the first name of an expression stands, if it has one.
+fn first_name(e: &Expression) -> Option<usize> {
+    match e {
+        Expression::Constant(_) => None,
+        Expression::Name(name) | Expression::Index(name, _) => Some(name.at),
+        Expression::Unary(_, part) => first_name(part),
+        Expression::Binary(_, left, right) => match first_name(left) {
+            Some(at) => Some(at),
+            None => first_name(right),
+        },
+        Expression::Conditional(test, first, second) => match first_name(test) {
+            Some(at) => Some(at),
+            None => match first_name(first) {
+                Some(at) => Some(at),
+                None => first_name(second),
+            },
+        },
+    }
+}
+
+/// Finds where a simple statement begins.
+fn start_of(s: &Simple) -> usize {
+    match s {
+        Simple::Assign(name, _) | Simple::AssignAt(name, _, _) => name.at,
+        Simple::CallStatement(call) => call.name.at,
+    }
+}
+
+/// The statements that were met on a walk through a function.
+#[derive(Drop)]
+struct Walk<'a> {
+    placed: Vec<PlacedStatement<'a>>,
+}
+
+impl<'a> Walk<'a> {
+    fn add(
+        &mut self,
+        statement: &'a TypedStatement,
+        left: usize,
+        at: Option<usize>,
+    ) -> Result<(), AllocError> {
+        self.placed.push(PlacedStatement {
+            statement,
+            at,
+            left,
+        })?;
+        Ok(())
+    }
+
+    /// Adds the first or last part of a `for`.
+    fn part(
+        &mut self,
+        part: &Option<Simple>,
+        typed: &'a TypedStatement,
+        left: usize,
+    ) -> Result<(), AllocError> {
+        match part {
+            Some(s) => self.add(typed, left, Some(start_of(s))),
+            None => Ok(()),
+        }
+    }
+
+    /// Walks through a `for`, which is typed as the block of its first part and the loop.
+    #[cycle(statements)]
+    fn for_loop(
+        &mut self,
+        parts: &ForParts,
+        body: &Statement,
+        typed: &'a [TypedStatement],
+    ) -> Result<(), AllocError> {
+        if let Some(first) = typed.first() {
+            self.part(&parts.first, first, 1)?;
+        }
+        if let Some(again) = typed.get(1)
+            && let TypedStatement::Loop(_, last, inner) = again
+        {
+            let at = match &parts.test {
+                Some(test) => first_name(test),
+                None => None,
+            };
+            self.add(again, 0, at)?;
+            self.part(&parts.last, last, 0)?;
+            self.statement(body, inner, 0)?;
+        }
+        Ok(())
+    }
+
+    /// Walks through a statement that so many others follow in its block.
+    #[cycle(statements)]
+    fn statement(
+        &mut self,
+        s: &Statement,
+        typed: &'a TypedStatement,
+        left: usize,
+    ) -> Result<(), AllocError> {
+        match (s, typed) {
+            (Statement::Block(items), TypedStatement::Block(all)) => self.items(items, all),
+            (Statement::If(test, first), TypedStatement::If(_, one, _)) => {
+                self.add(typed, left, first_name(test))?;
+                self.statement(first, one, left)
+            }
+            (Statement::IfElse(test, first, second), TypedStatement::If(_, one, other)) => {
+                self.add(typed, left, first_name(test))?;
+                self.statement(first, one, left)?;
+                self.statement(second, other, left)
+            }
+            (Statement::While(test, body), TypedStatement::Loop(_, _, inner)) => {
+                self.add(typed, left, first_name(test))?;
+                self.statement(body, inner, 0)
+            }
+            (Statement::For(parts, body), TypedStatement::Block(two)) => {
+                self.for_loop(parts, body, two)
+            }
+            (Statement::Return(at, _), _) => self.add(typed, left, Some(*at)),
+            (Statement::Simply(inner), _) => self.add(typed, left, Some(start_of(inner))),
+            _ => Ok(()),
+        }
+    }
+
+    /// Walks through the items of a block or of a function's body.
+    #[cycle(statements)]
+    fn items(&mut self, items: &[Item], typed: &'a [TypedStatement]) -> Result<(), AllocError> {
+        for (k, item) in items.iter().enumerate() {
+            if let Some(one) = typed.get(k) {
+                let left = typed.len().saturating_sub(k).saturating_sub(1);
+                match item {
+                    Item::Declare(_, name, _) => self.add(one, left, Some(name.at))?,
+                    Item::Statement(s) => self.statement(s, one, left)?,
+                }
+            }
+        }
+        Ok(())
+    }
+}
+
+/// Lists the statements of a function in the order of the text, given its body as it was typed.
+pub fn placed_statements<'a>(
+    alloc: Global,
+    function: &FunctionDefinition,
+    body: &'a [TypedStatement],
+) -> Result<Vec<PlacedStatement<'a>>, AllocError> {
+    let mut walk = Walk {
+        placed: Vec::new(alloc),
+    };
+    walk.items(&function.body, body)?;
+    Ok(walk.placed)
+}
