@@ -2,7 +2,7 @@
 //!
 //! Definitions: `specs/Expressions.antt`, `specs/Runs.antt`, `specs/Blocks.antt`.
 //! Proved: The code of an expression leaves its value in the requested register. The code of a condition leads to one of two blocks. Both
-//! hold whatever other blocks exist, and name no register above those that are counted.
+//! hold whatever other blocks exist, and take no more registers and instructions than are counted.
 //! Contract: `value_into`, `operand_into`, `condition`
 #![tactic(auto)]
 

@@ -3,7 +3,7 @@
 //! Definitions: `specs/Laws.antt`, `specs/Sizes.antt`, `specs/Coded.antt`, `specs/Emits.antt`.
 //! Proved: If the source isn't wrong after n steps, its RTL has the same end and output after no fewer. Ok comes only within 8,000
 //! pseudo-registers and 1,048,575 blocks, counted on the typed program, and Limit only beyond. Each function has as many blocks as are
-//! counted, and no more registers.
+//! counted, and no more registers and instructions.
 //! Contract: `lower`
 //! Tested: at most sixteen steps for each step of the source; the deepest sources (test_calls)
 #![tactic(auto)]
