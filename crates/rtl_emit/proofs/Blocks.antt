@@ -3,7 +3,7 @@ use Rattle.std.proofs.Common.{◌≡◌, ◌≢◌, ℕ, zero, suc, ◌+◌, ◌
 use Rattle.std.specs.Prelude.{slice_get, slice_set}
 use Rattle.std.proofs.Math.ListN.{length-set}
 use Rattle.rtl.specs.Meaning.{Code, code_of}
-use Rattle.rtl_emit.specs.Blocks.{Grows, Has, At, Fills}
+use Rattle.rtl_emit.specs.Blocks.{Spot, Block, Line, line_of, insts_of, insts_at, insts_in, Grows, Has, At, Fills}
 use Rattle.rtl.specs.declared.block.RBlock.{RBlock}
 
 pub within : {a b : List RBlock} {n : ℕ} → Grows a b → length b ≤ n → length a ≤ n
@@ -66,6 +66,24 @@ fills_set old b x c lt is = record {
   others = λ i ne. set_others old b x i ne;
   at = record { block = x; there = set_there old b x lt; is = is };
 }
+
+-- their instructions
+
+pub line_insts : (s : Spot) → insts_of (line_of s) ≡ insts_at s
+line_insts (Block b) = refl
+line_insts (Line c) = refl
+
+pub insts_push : (old new : List RBlock) (b : RBlock) (c : Code) → new ≡ old ++ b ∷ [] → code_of b ≡ c → insts_in new ≡ insts_in old + insts_of c
+insts_push old new b c e is = ap insts_in e ∙ pushed old
+  where
+    pushed : (l : List RBlock) → insts_in (l ++ b ∷ []) ≡ insts_in l + insts_of c
+    pushed [] = let n = ap insts_of is in omega (arith, n)
+    pushed (x ∷ l) = let n = pushed l in omega (arith, n)
+
+pub insts_set : (old : List RBlock) (n : ℕ) (b : RBlock) (c : Code) → code_of b ≡ c → insts_in (slice_set old n b) ≤ insts_in old + insts_of c
+insts_set [] n b c is = omega arith
+insts_set (x ∷ l) zero b c is = let n = ap insts_of is in omega (arith, n)
+insts_set (x ∷ l) (suc n) b c is = let r = insts_set l n b c is in omega (arith, r)
 
 -- the parts of what was added
 pub split2 : (bs a b c : List RBlock) → Grows a b → Grows b c → Has bs a c → Has bs a b × Has bs b c

@@ -15,14 +15,14 @@ use Rattle.rtl.specs.declared.instruction.RExit.TheVariants as X
 use Rattle.words.specs.Words.{wrap}
 use Rattle.rtl.specs.Meaning.{Code}
 use Rattle.rtl.specs.declared.limits.TheConstants.{MAX_REGISTERS, MAX_BLOCKS}
-use Rattle.rtl_emit.specs.Blocks.{open_code, exit_code, goto, first, line_of, Spot, Line, Grows, At, Lands}
+use Rattle.rtl_emit.specs.Blocks.{open_code, exit_code, goto, first, line_of, insts_of, insts_at, insts_in, Spot, Line, Grows, At, Lands, Adds}
 use Rattle.rtl_emit.specs.Emits.{Size, Covers, Emits, value_size, condition_size, test_size, values_size, both_size, left_targets}
 use Rattle.rtl_emit.specs.Emits.{EmitsValue, EmitsOperand, EmitsBranch, EmitsOperands, EmitsBoth, EmitsBlock, EmitsValueBlock, EmitsBranchBlock}
 use Rattle.rtl_emit.specs.Expressions.{IsPlace, ArePlaces, IsTruth, Decides, Evaluates, Fetches, Combines}
 use Rattle.rtl_emit.specs.Operations.{IsPrefix, ComputesContrary, Computes, inst_of}
 use Rattle.rtl_emit.specs.Sizes.{logical_of, joint, Beyond, by_branches, is_logical, place_registers, next_free, value_registers, value_blocks, globals_named}
 use Rattle.rtl_emit.specs.Sizes.{condition_registers, condition_blocks, combined_registers, test_registers, has_contrary, arguments_blocks, values_registers, globals_named_in}
-use Rattle.rtl_emit.specs.Sizes.{places_registers, operands_registers}
+use Rattle.rtl_emit.specs.Sizes.{places_registers, operands_registers, value_insts, condition_insts}
 use Rattle.rtl_emit.specs.Sound.{Scope, IsSound, IsSoundSpot, KeepsSound}
 use Rattle.rtl_emit.specs.declared.block.OpenBlock.{OpenBlock}
 use Rattle.rtl_emit.specs.declared.fault.LowerFault.{LowerFault}
@@ -34,7 +34,7 @@ use Rattle.rtl_emit.specs.declared.place.Place.{Place}
 use Rattle.rtl_emit.specs.declared.targets.Targets.{Targets}
 use Rattle.rtl_emit.specs.declared.waiting.Waiting.{Waiting}
 use Rattle.rtl_emit.specs.declared.waiting.WaitingForTwo.{WaitingForTwo}
-use Rattle.rtl_emit.proofs.Blocks.{grows_then, within, split2, split3}
+use Rattle.rtl_emit.proofs.Blocks.{grows_then, within, line_insts, split2, split3}
 use Rattle.rtl_emit.proofs.Conditions.{not_decides, and_decides, or_decides, not_tests, and_tests, or_tests, IsTest, told}
 use Rattle.rtl_emit.proofs.Conditions.{constant_decides, contrary_decides, conditional_decides, conditional_value}
 use Rattle.rtl_emit.proofs.Emitted.{gives_from, finds_to, unary_is, Over}
@@ -176,16 +176,17 @@ contrary_beyond false it o k l r free b plain has more = rw (plain, has) (omega 
 told_size : (both : Bool) (k : IntegerType) (l r : TypedExpression) (free n : ℕ) → value_size (binary (logical_of both) k l r) free n ≡ record {
   registers = condition_registers (binary (logical_of both) k l r) true free;
   blocks = n + 2 + condition_blocks (binary (logical_of both) k l r);
+  insts = condition_insts (binary (logical_of both) k l r) + 2;
   globals = globals_named (binary (logical_of both) k l r);
 }
 told_size true k l r free n =
     let s = condition_size (binary B.LogicalAnd k l r) true free in
     let b : (value_size (binary B.LogicalAnd k l r) free n).blocks ≡ n + 2 + s.blocks = omega arith in
-    ap (λ (b : ℕ). let z : Size = record { registers = s.registers; blocks = b; globals = s.globals } in z) b
+    ap (λ (b : ℕ). let z : Size = record { registers = s.registers; blocks = b; insts = s.insts + 2; globals = s.globals } in z) b
 told_size false k l r free n =
     let s = condition_size (binary B.LogicalOr k l r) true free in
     let b : (value_size (binary B.LogicalOr k l r) free n).blocks ≡ n + 2 + s.blocks = omega arith in
-    ap (λ (b : ℕ). let z : Size = record { registers = s.registers; blocks = b; globals = s.globals } in z) b
+    ap (λ (b : ℕ). let z : Size = record { registers = s.registers; blocks = b; insts = s.insts + 2; globals = s.globals } in z) b
 
 -- an expression that is another one
 
@@ -206,7 +207,10 @@ number_emits old e c d free from after is fe = subst (λ e. EmitsValue e d free 
   count = omega arith;
   room = omega arith;
   limit = tt;
-  sound = λ s n g h. (g, sound_first _ fe h.0 (sound_line _ h.1.1));
+  sound = (
+    λ s n g h. (g, sound_first _ fe h.0 (sound_line _ h.1.1)),
+    (let n = ap insts_of fe in let l = line_insts after in omega (arith, n, l)),
+  );
   does = λ bs h. gives_from fe (number bs c d free (line_of after));
 })
 
@@ -219,9 +223,12 @@ local_emits old e x x' k d free from after is ix lt fe =
       count = omega arith;
       room = omega (arith, lt);
       limit = tt;
-      sound = λ s n g h.
-          let named : x' < s.registers = omega (arith, h.1.0.0) in
-          (g, sound_first _ fe (h.0, named) (sound_line _ h.1.1));
+      sound = (
+        λ s n g h.
+            let named : x' < s.registers = omega (arith, h.1.0.0) in
+            (g, sound_first _ fe (h.0, named) (sound_line _ h.1.1)),
+        (let n = ap insts_of fe in let l = line_insts after in omega (arith, n, l)),
+      );
       does = λ bs h. gives_from fe (local_value bs x' k d free (line_of after));
     })
 
@@ -233,10 +240,13 @@ global_emits old a a' k d free z load from after ia iz lt fl fe = record {
   count = omega arith;
   room = omega (arith, iz, lt);
   limit = tt;
-  sound = λ s n g h.
-      let there : a' < s.globals = omega (arith, ia, h.1.0.1) in
-      let spare : z < s.registers = omega (arith, iz, h.1.0.0) in
-      (g, sound_first _ fe spare (sound_first _ fl (h.0, (there, spare)) (sound_line _ h.1.1)));
+  sound = (
+    λ s n g h.
+        let there : a' < s.globals = omega (arith, ia, h.1.0.1) in
+        let spare : z < s.registers = omega (arith, iz, h.1.0.0) in
+        (g, sound_first _ fe spare (sound_first _ fl (h.0, (there, spare)) (sound_line _ h.1.1))),
+    (let n = ap insts_of fe in let m = ap insts_of fl in let l = line_insts after in omega (arith, n, m, l)),
+  );
   does = λ bs h.
       subst (λ a. Evaluates bs (global a k) free d (open_code from) (line_of after)) ia (gives_from (fe ∙ ap (first (I.Const z 0)) fl)
       (global_value bs a' k d z free (line_of after) (omega (arith, iz))));
@@ -251,12 +261,15 @@ element_emits old new a k i d free after (Ok w) r pl fe room limit o err =
     ended (value_size i free 1) (value_size (element a k i) free 0) 0 old old new _ _ _ _ r
     (record { blocks = omega arith; registers = omega arith; room = λ le. omega (arith, le, room); globals = omega arith })
     (grows_same old) (omega arith)
-    (λ from keeps s n g h.
-    let there : a < s.globals = omega (arith, h.1.0.1) in
-    let named : globals_named i ≤ s.globals = omega (arith, h.1.0.1) in
-    let few : value_registers i free ≤ s.registers = omega (arith, h.1.0.0) in
-    let held : w.place.register < s.registers = (let p = pl.counted in omega (arith, p, h.1.0.0)) in
-    keeps s n g (held, ((few, named), sound_first _ fe (h.0, (there, held)) (sound_line _ h.1.1))))
+    (λ from keeps. (
+      λ s n g h.
+          let there : a < s.globals = omega (arith, h.1.0.1) in
+          let named : globals_named i ≤ s.globals = omega (arith, h.1.0.1) in
+          let few : value_registers i free ≤ s.registers = omega (arith, h.1.0.0) in
+          let held : w.place.register < s.registers = (let p = pl.counted in omega (arith, p, h.1.0.0)) in
+          keeps.0 s n g (held, ((few, named), sound_first _ fe (h.0, (there, held)) (sound_line _ h.1.1))),
+      (let m = keeps.1 in let n = ap insts_of fe in let l = line_insts after in omega (arith, m, n, l)),
+    ))
     (λ from does bs h. element_value bs a k i d free w.place.register w.place.free (open_code from) (line_of after) pl (finds_to fe (does bs h))) o
 element_emits old new a k i d free after (Err f) r pl fe room limit o err =
     refused (value_size (element a k i) free (joint after)) old new _ _ f r err.0 err.1
@@ -268,6 +281,7 @@ abbrev combined_size : TypedExpression → (free : ℕ) → Size
 combined_size a free = record {
   registers = combined_registers (place_registers a free) (next_free a free) (value_registers a free);
   blocks = value_blocks a 1;
+  insts = value_insts a + 2;
   globals = globals_named a;
 }
 
@@ -285,39 +299,46 @@ pub prefix_emits : (old new : List RBlock) (o : UnaryOp) (with : Combination) (k
     → OnOk w (max (place_registers a free) (next_free a free + 1) ≤ MAX_REGISTERS)
     → IfOk w (λ w. (bs : List RBlock) (from : Code) → Fetches bs a free w.place.register from (open_code w.code)
     → Combines bs with.operation a with.word free d from (open_code opened))
+    → IfOk w (λ w. insts_of (open_code w.code) ≡ insts_of (open_code opened) + 2)
     → IfOk w (λ w. (s : Scope) → d < s.registers → max (place_registers a free) (next_free a free + 1) ≤ s.registers
     → IsSound s (open_code opened) → IsSound s (open_code w.code))
     → IfErr w (λ f. f ≡ Limit → MAX_REGISTERS < max (place_registers a free) (next_free a free + 1))
     → IfOk w (λ w. EmitsOperand a w.place.register free w.code old new x) → IfErr w (λ f. (x ≡ Err f) × (new ≡ old))
     → EmitsValue (unary o k a) d free after old new x
-prefix_emits old new o with k a b d free opened after w x prefix ib fe pl room does sound limit v err =
+prefix_emits old new o with k a b d free opened after w x prefix ib fe pl room does insts sound limit v err =
     subst (λ size. Emits size old new (λ from. KeepsSound old new (λ s. (d < s.registers)
-    × (Covers size s × IsSoundSpot s after)) (λ s. IsSound s (open_code from)))
+    × (Covers size s × IsSoundSpot s after)) (λ s. IsSound s (open_code from))
+    × Adds old new (insts_of (open_code from)) (insts_at after) size.insts)
     (λ from bs. Evaluates bs (unary o k a) free d (open_code from) (line_of after)) x)
-    (sym (prefix_size o k a free (joint after) prefix.0 (λ io. sym ib ∙ prefix.1.0 io))) (sized w pl room does sound limit v err)
+    (sym (prefix_size o k a free (joint after) prefix.0 (λ io. sym ib ∙ prefix.1.0 io))) (sized w pl room does insts sound limit v err)
   where
     sized : (w : Result Waiting LowerFault) → IfOk w (λ w. IsPlace a free w.place.register w.place.free) → OnOk w (max (place_registers a free) (next_free a free + 1) ≤ MAX_REGISTERS)
         → IfOk w (λ w. (bs : List RBlock) (from : Code) → Fetches bs a free w.place.register from (open_code w.code)
         → Combines bs with.operation a with.word free d from (open_code opened))
+        → IfOk w (λ w. insts_of (open_code w.code) ≡ insts_of (open_code opened) + 2)
         → IfOk w (λ w. (s : Scope) → d < s.registers → max (place_registers a free) (next_free a free + 1) ≤ s.registers
         → IsSound s (open_code opened) → IsSound s (open_code w.code))
         → IfErr w (λ f. f ≡ Limit → MAX_REGISTERS < max (place_registers a free) (next_free a free + 1))
         → IfOk w (λ w. EmitsOperand a w.place.register free w.code old new x) → IfErr w (λ f. (x ≡ Err f) × (new ≡ old))
         → Emits (combined_size a free) old new (λ from. KeepsSound old new (λ s. (d < s.registers)
-        × (Covers (combined_size a free) s × IsSoundSpot s after)) (λ s. IsSound s (open_code from)))
+        × (Covers (combined_size a free) s × IsSoundSpot s after)) (λ s. IsSound s (open_code from))
+        × Adds old new (insts_of (open_code from)) (insts_at after) (value_insts a + 2))
         (λ from bs. Evaluates bs (unary o k a) free d (open_code from) (line_of after)) x
-    sized (Ok w) pl room does sound limit v err =
+    sized (Ok w) pl room does insts sound limit v err =
         ended (value_size a free 1) (combined_size a free) 0 old old new _ _ _ _ x
         (record { blocks = omega arith; registers = omega arith; room = λ le. omega (arith, le, room); globals = omega arith })
         (grows_same old) (omega arith)
-        (λ from keeps s n g h.
-        let few : value_registers a free ≤ s.registers = omega (arith, h.1.0.0) in
-        let spare : max (place_registers a free) (next_free a free + 1) ≤ s.registers = omega (arith, h.1.0.0) in
-        let held : w.place.register < s.registers = (let p = pl.counted in omega (arith, p, spare)) in
-        keeps s n g (held, ((few, h.1.0.1), sound s h.0 spare (sound_along fe (sound_line _ h.1.1)))))
+        (λ from keeps. (
+          λ s n g h.
+              let few : value_registers a free ≤ s.registers = omega (arith, h.1.0.0) in
+              let spare : max (place_registers a free) (next_free a free + 1) ≤ s.registers = omega (arith, h.1.0.0) in
+              let held : w.place.register < s.registers = (let p = pl.counted in omega (arith, p, spare)) in
+              keeps.0 s n g (held, ((few, h.1.0.1), sound s h.0 spare (sound_along fe (sound_line _ h.1.1)))),
+          (let m = keeps.1 in let n = ap insts_of fe in let l = line_insts after in omega (arith, m, insts, n, l)),
+        ))
         (λ from made bs h. prefix_value bs o k with a d free (open_code from) (line_of after) prefix.1.1
         (subst (λ c. Combines bs with.operation a with.word free d (open_code from) c) fe (does bs (open_code from) (made bs h)))) v
-    sized (Err f) pl room does sound limit v err =
+    sized (Err f) pl room does insts sound limit v err =
         refused (combined_size a free) old new _ _ f x err.0 err.1 (λ is. let more = limit is in omega (arith, more))
 
 pub identity_emits : (old new : List RBlock) (o : UnaryOp) (k : IntegerType) (a : TypedExpression) (d free : ℕ) (after : Spot)
@@ -333,6 +354,7 @@ identity_emits old new o k a d free after x io v =
 pub record Truth (old new : List RBlock) (d : ℕ) (t : Targets) (after : Spot) : Type 0 where
   pub grows : Grows old new
   pub count : length new ≡ length old + (joint after + 2)
+  pub insts : insts_in new ≡ insts_in old + (insts_at after + 2)
   pub sound : KeepsSound old new (λ s. (d < s.registers) × IsSoundSpot s after) (λ s. (t.yes < s.blocks) × (t.no < s.blocks))
   pub likely : t.likely ≡ true
   pub truth : Over old new (λ bs. IsTruth bs d t.yes t.no after)
@@ -347,10 +369,15 @@ not_emits old mid new o k a b d free tr t after r prefix ib it truth last =
     (ended (condition_size a true free) (value_size (unary U.Not k a) free (joint after)) (joint after + 2) old mid new _ _ _ _ r
     (record { blocks = rw by refl; registers = rw by (omega arith); room = rw by (λ le. le); globals = omega arith })
     truth.grows truth.count
-    (λ from keeps s l gs h.
-    let m = truth.sound s (within last'.grows l) gs (h.0, h.1.1) in
-    let is : value_registers (unary U.Not k a) free ≡ condition_registers a true free = rw by refl in
-    keeps s l m.0 ((subst (λ n. n ≤ s.registers) is h.1.0.0, h.1.0.1), (m.1.1, m.1.0)))
+    (λ from keeps. (
+      λ s l gs h.
+          let m = truth.sound s (within last'.grows l) gs (h.0, h.1.1) in
+          let is : value_registers (unary U.Not k a) free ≡ condition_registers a true free = rw by refl in
+          keeps.0 s l m.0 ((subst (λ n. n ≤ s.registers) is h.1.0.0, h.1.0.1), (m.1.1, m.1.0)),
+      (let m = keeps.1 in
+          let n : value_insts (unary U.Not k a) ≡ condition_insts a + 2 = rw by refl in
+          omega (arith, m, n, truth.insts)),
+    ))
     (λ from does bs h.
     let p = split2 bs old mid new truth.grows last'.grows h in
     told bs (unary U.Not k a) d tr.yes tr.no free (open_code from) after (not_tests k a) (truth.truth bs p.0)
@@ -371,6 +398,11 @@ logical_covers : (both : Bool) (k : IntegerType) (l r : TypedExpression) (t : Ta
     → Covers (condition_size l (left_targets both t block).likely free) s × Covers (condition_size r t.likely free) s
 logical_covers true k l r t free block s h = ((omega (arith, h.0), omega (arith, h.1)), (omega (arith, h.0), omega (arith, h.1)))
 logical_covers false k l r t free block s h = ((omega (arith, h.0), omega (arith, h.1)), (omega (arith, h.0), omega (arith, h.1)))
+
+logical_insts : (both : Bool) (k : IntegerType) (l r : TypedExpression)
+    → condition_insts (binary (logical_of both) k l r) ≡ condition_insts r + condition_insts l
+logical_insts true k l r = refl
+logical_insts false k l r = refl
 
 left_within : (both : Bool) (t : Targets) (block blocks : ℕ) → block < blocks → (t.yes < blocks) × (t.no < blocks)
     → ((left_targets both t block).yes < blocks) × ((left_targets both t block).no < blocks)
@@ -393,10 +425,13 @@ logical_branches both b0 b1 new k l r t t' free block x it second last' =
     let c1 : length b1 ≡ length b0 + ((condition_size r t.likely free).blocks + 1) = second.count in
     ended (condition_size l (left_targets both t block).likely free) (condition_size (binary (logical_of both) k l r) t.likely free)
     ((condition_size r t.likely free).blocks + 1) b0 b1 new _ _ _ _ x (logical_ends both k l r t free block second.room) second.grows c1
-    (λ from keeps s n g h.
-    let parts = logical_covers both k l r t free block s h.0 in
-    let b = second.sound s (within last.grows n) g (parts.1, h.1) in
-    keeps s n b.0 (parts.0, left_within both t block s.blocks b.1 h.1))
+    (λ from keeps. (
+      λ s n g h.
+          let parts = logical_covers both k l r t free block s h.0 in
+          let b = second.sound.0 s (within last.grows n) g (parts.1, h.1) in
+          keeps.0 s n b.0 (parts.0, left_within both t block s.blocks b.1 h.1),
+      (let m = keeps.1 in let n = second.sound.1 in let all = logical_insts both k l r in omega (arith, m, n, all)),
+    ))
     (λ from does bs h.
     let p = split2 bs b0 b1 new second.grows last.grows h in
     let d = second.does bs p.0 in
@@ -407,11 +442,13 @@ pub logical_stops : (both : Bool) (old new : List RBlock) (k : IntegerType) (l r
     (x : Result OpenBlock LowerFault) → x ≡ Err f → EmitsBranchBlock r t free old new (Err f)
     → EmitsBranch (condition_size (binary (logical_of both) k l r) t.likely free) (binary (logical_of both) k l r) t free old new x
 logical_stops true old new k l r t free f x is e =
-    part_refused (record { registers = condition_registers r t.likely free; blocks = condition_blocks r + 1; globals = globals_named r })
+    part_refused
+    (record { registers = condition_registers r t.likely free; blocks = condition_blocks r + 1; insts = condition_insts r; globals = globals_named r })
     (condition_size (binary B.LogicalAnd k l r) t.likely free) 0 old old new _ _ _ _ f x is (omega arith) (omega arith) (omega arith) (grows_same old)
     (omega arith) e
 logical_stops false old new k l r t free f x is e =
-    part_refused (record { registers = condition_registers r t.likely free; blocks = condition_blocks r + 1; globals = globals_named r })
+    part_refused
+    (record { registers = condition_registers r t.likely free; blocks = condition_blocks r + 1; insts = condition_insts r; globals = globals_named r })
     (condition_size (binary B.LogicalOr k l r) t.likely free) 0 old old new _ _ _ _ f x is (omega arith) (omega arith) (omega arith) (grows_same old)
     (omega arith) e
 
@@ -420,6 +457,7 @@ told_value : (old b0 new : List RBlock) (e : TypedExpression) (t : Targets) (d f
     → Truth old b0 d t after → IsTest e → value_size e free (joint after) ≡ record {
       registers = (condition_size e true free).registers;
       blocks = joint after + 2 + (condition_size e true free).blocks;
+      insts = condition_insts e + 2;
       globals = globals_named e;
     } → EmitsBranch (condition_size e t.likely free) e t free b0 new x → EmitsValue e d free after old new x
 told_value old b0 new e t d free after x tr tests size last =
@@ -432,9 +470,12 @@ told_value old b0 new e t d free after x tr tests size last =
       globals = omega arith;
     })
     tr.grows tr.count
-    (λ from keeps s n g h.
-    let m = tr.sound s (within last.grows n) g (h.0, h.1.1) in
-    keeps s n m.0 ((subst (λ n. n ≤ s.registers) (ap (λ s. s.registers) size) h.1.0.0, h.1.0.1), m.1))
+    (λ from keeps. (
+      λ s n g h.
+          let m = tr.sound s (within last.grows n) g (h.0, h.1.1) in
+          keeps.0 s n m.0 ((subst (λ n. n ≤ s.registers) (ap (λ s. s.registers) size) h.1.0.0, h.1.0.1), m.1),
+      (let m = keeps.1 in let n : value_insts e ≡ condition_insts e + 2 = ap (λ s. s.insts) size in omega (arith, m, n, tr.insts)),
+    ))
     (λ from does bs h.
     let p = split2 bs old b0 new tr.grows last.grows h in
     told bs e d t.yes t.no free (open_code from) after tests (tr.truth bs p.0) (does bs p.1)) last'
@@ -470,13 +511,16 @@ both_emits old mid new l r free p next q waiting middle x second left =
     let room : value_registers r next ≤ MAX_REGISTERS = second.room in
     ended (value_size l free 1) (both_size l r free next) (value_blocks r 1) old mid new _ _ _ _ x
     (record { blocks = omega arith; registers = omega arith; room = λ le. omega (arith, le, room); globals = omega arith }) second.grows c1
-    (λ from keeps s n g h.
-    let in_right : value_registers r next ≤ s.registers = omega (arith, h.1.1.0.0) in
-    let in_left : value_registers l free ≤ s.registers = omega (arith, h.1.1.0.0) in
-    let of_right : globals_named r ≤ s.globals = omega (arith, h.1.1.0.1) in
-    let of_left : globals_named l ≤ s.globals = omega (arith, h.1.1.0.1) in
-    let m = second.sound s (within left.grows n) g (h.1.0, ((in_right, of_right), h.1.1.1)) in
-    keeps s n m.0 (h.0, ((in_left, of_left), m.1)))
+    (λ from keeps. (
+      λ s n g h.
+          let in_right : value_registers r next ≤ s.registers = omega (arith, h.1.1.0.0) in
+          let in_left : value_registers l free ≤ s.registers = omega (arith, h.1.1.0.0) in
+          let of_right : globals_named r ≤ s.globals = omega (arith, h.1.1.0.1) in
+          let of_left : globals_named l ≤ s.globals = omega (arith, h.1.1.0.1) in
+          let m = second.sound.0 s (within left.grows n) g (h.1.0, ((in_right, of_right), h.1.1.1)) in
+          keeps.0 s n m.0 (h.0, ((in_left, of_left), m.1)),
+      (let m = keeps.1 in let n = second.sound.1 in omega (arith, m, n)),
+    ))
     (λ from does bs h.
     let parts = split2 bs old mid new second.grows left.grows h in
     (open_code middle, does bs parts.1, second.does bs parts.0)) left
@@ -526,9 +570,17 @@ pub operator_emits : (old new : List RBlock) (o : BinaryOp) (k : IntegerType) (o
 operator_emits old new o k op l r d free code after (Ok w) x computes plain fe pl pr fw sound room limit two err =
     ended (both_size l r free w.first.free) (value_size (binary o k l r) free (joint after)) 0 old old new _ _ _ _ x
     (operator_ends o k l r free w.first.free (joint after) plain pl.next_is room) (grows_same old) (omega arith)
-    (λ from keeps s n g h.
-    let few = operator_names o k l r free _ _ _ _ s.registers plain pl pr h.1.0.0 in
-    keeps s n g (few.0, (few.1.0, ((few.1.1.0, h.1.0.1), sound s h.0 few.1.1.1 (sound_along fe (sound_line _ h.1.1))))))
+    (λ from keeps. (
+      λ s n g h.
+          let few = operator_names o k l r free _ _ _ _ s.registers plain pl pr h.1.0.0 in
+          keeps.0 s n g (few.0, (few.1.0, ((few.1.1.0, h.1.0.1), sound s h.0 few.1.1.1 (sound_along fe (sound_line _ h.1.1))))),
+      (let m = keeps.1 in
+          let all : value_insts (binary o k l r) ≡ value_insts r + value_insts l + 1 = rw plain refl in
+          let n = ap insts_of fw in
+          let e = ap insts_of fe in
+          let a = line_insts after in
+          omega (arith, m, all, n, e, a)),
+    ))
     (λ from does bs h.
     let m = does bs h in
     operator_value bs o k op l r d free (open_code from) (line_of after) computes
@@ -554,26 +606,30 @@ not_stops old new o k a b d free after f x is prefix ib g limit =
 
 -- code as a block of its own
 pub block_emits : (old mid new : List RBlock) (size : Size) (Needs Needs' : Scope → Type 0) (Is : List RBlock → Code → Type 0) (code : OpenBlock)
-    (x : Result ℕ LowerFault) → Emits size old mid (λ from. KeepsSound old mid Needs' (λ s. IsSound s (open_code from)))
+    (x : Result ℕ LowerFault)
+    → Emits size old mid (λ from. KeepsSound old mid Needs' (λ s. IsSound s (open_code from)) × Adds old mid (insts_of (open_code from)) 0 size.insts)
     (λ from bs. Is bs (open_code from)) (Ok code) → ((s : Scope) → Covers size s → Needs s → Needs' s)
-    → Grows mid new → OnOk x (length new ≡ length mid + 1) → IfErr x (λ f. f ≡ Limit → MAX_BLOCKS < length mid + 1)
+    → Grows mid new → OnOk x (length new ≡ length mid + 1) → OnOk x (insts_in new ≡ insts_in mid + insts_of (open_code code)) → IfErr x (λ f. f ≡ Limit → MAX_BLOCKS < length mid + 1)
     → IfOk x (λ b. KeepsSound mid new (λ s. IsSound s (open_code code)) (λ s. b < s.blocks))
     → IfOk x (λ b. Over mid new (λ bs. At bs b (open_code code))) → EmitsBlock size Needs Is old new x
-block_emits old mid new size Needs Needs' Is code (Ok b) e needs g n limit sound ats =
+block_emits old mid new size Needs Needs' Is code (Ok b) e needs g n insts limit sound ats =
     let c : length mid ≡ length old + size.blocks = e.count in
     record {
       grows = grows_then old mid new e.grows g;
       count = omega (arith, c, n);
       room = e.room;
       limit = tt;
-      sound = λ s l gs h.
-          let m = e.sound s (within g l) gs (needs s h.0 h.1) in
-          sound s l m.0 m.1;
+      sound = (
+        λ s l gs h.
+            let m = e.sound.0 s (within g l) gs (needs s h.0 h.1) in
+            sound s l m.0 m.1,
+        (let a = e.sound.1 in omega (arith, a, insts)),
+      );
       does = λ bs h.
           let p = split2 bs old mid new e.grows g h in
           (open_code code, ats bs p.1, e.does bs p.0);
     }
-block_emits old mid new size Needs Needs' Is code (Err f) e needs g n limit sound ats =
+block_emits old mid new size Needs Needs' Is code (Err f) e needs g n insts limit sound ats =
     let c : length mid ≡ length old + size.blocks = e.count in
     record {
       grows = grows_then old mid new e.grows g;
@@ -589,21 +645,23 @@ pub block_stops : {A : Type 0} (old new : List RBlock) (size : Size) (Keeps : A 
     (Is : List RBlock → Code → Type 0) (f : LowerFault) (x : Result ℕ LowerFault) → x ≡ Err f → Emits size old new Keeps Does (Err f)
     → EmitsBlock size Needs Is old new x
 block_stops old new size Keeps Does Needs Is f x is e =
-    part_refused size (record { registers = size.registers; blocks = size.blocks + 1; globals = size.globals }) 0 old old new Keeps _ Does _ f x is (omega arith)
+    part_refused size (record { registers = size.registers; blocks = size.blocks + 1; insts = size.insts; globals = size.globals }) 0 old old new Keeps _ Does _ f x is (omega arith)
     (omega arith) (omega arith) (grows_same old) (omega arith) e
 
 -- both sides of `?:` as blocks of their own
-pub record Sides (b0 b2 : List RBlock) (registers blocks globals : ℕ) (Needs : Scope → Type 0) (IsYes IsNo : List RBlock → Code → Type 0)
+pub record Sides (b0 b2 : List RBlock) (registers blocks insts globals : ℕ) (Needs : Scope → Type 0) (IsYes IsNo : List RBlock → Code → Type 0)
     (yes_block no_block : ℕ) : Type 0 where
   pub grows : Grows b0 b2
   pub count : length b2 ≡ length b0 + (blocks + 2)
   pub room : registers ≤ MAX_REGISTERS
   pub sound : KeepsSound b0 b2 (λ s. ((registers ≤ s.registers) × (globals ≤ s.globals)) × Needs s) (λ s. (yes_block < s.blocks) × (no_block < s.blocks))
+  pub adds : Adds b0 b2 0 0 insts
   pub does : Over b0 b2 (λ bs. ((from : Code) × At bs yes_block from × IsYes bs from) × ((from : Code) × At bs no_block from × IsNo bs from))
 
 pub sides : (b0 b1 b2 : List RBlock) (s1 s2 : Size) (Needs : Scope → Type 0) (IsYes IsNo : List RBlock → Code → Type 0) (yes_block no_block : ℕ)
     → EmitsBlock s1 Needs IsYes b0 b1 (Ok yes_block) → EmitsBlock s2 Needs IsNo b1 b2 (Ok no_block)
-    → Sides b0 b2 (max s1.registers s2.registers) (s1.blocks + s2.blocks) (max s1.globals s2.globals) Needs IsYes IsNo yes_block no_block
+    → Sides b0 b2 (max s1.registers s2.registers) (s1.blocks + s2.blocks) (s1.insts + s2.insts) (max s1.globals s2.globals) Needs IsYes IsNo
+    yes_block no_block
 sides b0 b1 b2 s1 s2 Needs IsYes IsNo yes_block no_block e1 e2 =
     let c1 : length b1 ≡ length b0 + (s1.blocks + 1) = e1.count in
     let c2 : length b2 ≡ length b1 + (s2.blocks + 1) = e2.count in
@@ -616,9 +674,10 @@ sides b0 b1 b2 s1 s2 Needs IsYes IsNo yes_block no_block e1 e2 =
       sound = λ s n g h.
           let left : Covers s1 s = (omega (arith, h.0.0), omega (arith, h.0.1)) in
           let right : Covers s2 s = (omega (arith, h.0.0), omega (arith, h.0.1)) in
-          let a = e1.sound s (within e2.grows n) g (left, h.1) in
-          let b = e2.sound s n a.0 (right, h.1) in
+          let a = e1.sound.0 s (within e2.grows n) g (left, h.1) in
+          let b = e2.sound.0 s n a.0 (right, h.1) in
           (b.0, (a.1, b.1));
+      adds = (let a = e1.sound.1 in let b = e2.sound.1 in omega (arith, a, b));
       does = λ bs h.
           let p = split2 bs b0 b1 b2 e1.grows e2.grows h in
           (e1.does bs p.0, e2.does bs p.1);
@@ -627,7 +686,8 @@ sides b0 b1 b2 s1 s2 Needs IsYes IsNo yes_block no_block e1 e2 =
 pub conditional_branches : (b0 b2 new : List RBlock) (k : IntegerType) (c a b : TypedExpression) (t t' : Targets) (free yes_block no_block : ℕ)
     (x : Result OpenBlock LowerFault) → t' ≡ record { yes = yes_block; no = no_block; likely = true }
     → Sides b0 b2 (max (condition_size a t.likely free).registers (condition_size b t.likely free).registers)
-    ((condition_size a t.likely free).blocks + (condition_size b t.likely free).blocks) (max (globals_named a) (globals_named b))
+    ((condition_size a t.likely free).blocks + (condition_size b t.likely free).blocks) (condition_insts a + condition_insts b)
+    (max (globals_named a) (globals_named b))
     (λ s. (t.yes < s.blocks) × (t.no < s.blocks)) (λ bs from. Decides bs a free t.yes t.no from) (λ bs from. Decides bs b free t.yes t.no from)
     yes_block no_block → EmitsBranch (condition_size c t'.likely free) c t' free b2 new x
     → EmitsBranch (condition_size (conditional k c a b) t.likely free) (conditional k c a b) t free b0 new x
@@ -637,13 +697,16 @@ conditional_branches b0 b2 new k c a b t t' free yes_block no_block x it two las
     ((condition_size a t.likely free).blocks + (condition_size b t.likely free).blocks + 2) b0 b2 new _ _ _ _ x
     (record { blocks = omega arith; registers = omega arith; room = λ le. omega (arith, le, two.room); globals = omega arith })
     two.grows two.count
-    (λ from keeps s n g h.
-    let sides : max (globals_named a) (globals_named b) ≤ s.globals = omega (arith, h.0.1) in
-    let test : globals_named c ≤ s.globals = omega (arith, h.0.1) in
-    let in_sides : max (condition_registers a t.likely free) (condition_registers b t.likely free) ≤ s.registers = omega (arith, h.0.0) in
-    let in_test : condition_registers c true free ≤ s.registers = omega (arith, h.0.0) in
-    let m = two.sound s (within last'.grows n) g ((in_sides, sides), h.1) in
-    keeps s n m.0 ((in_test, test), m.1))
+    (λ from keeps. (
+      λ s n g h.
+          let sides : max (globals_named a) (globals_named b) ≤ s.globals = omega (arith, h.0.1) in
+          let test : globals_named c ≤ s.globals = omega (arith, h.0.1) in
+          let in_sides : max (condition_registers a t.likely free) (condition_registers b t.likely free) ≤ s.registers = omega (arith, h.0.0) in
+          let in_test : condition_registers c true free ≤ s.registers = omega (arith, h.0.0) in
+          let m = two.sound s (within last'.grows n) g ((in_sides, sides), h.1) in
+          keeps.0 s n m.0 ((in_test, test), m.1),
+      (let m = keeps.1 in let n = two.adds in omega (arith, m, n)),
+    ))
     (λ from does bs h.
     let p = split2 bs b0 b2 new two.grows last'.grows h in
     let d = two.does bs p.0 in
@@ -656,20 +719,23 @@ pub side_stops : (b0 b1 b2 : List RBlock) (k : IntegerType) (c a b : TypedExpres
     → EmitsBranch (condition_size (conditional k c a b) t.likely free) (conditional k c a b) t free b0 b2 x
 side_stops b0 b1 b2 k c a b t free yes_block f x is e1 e2 =
     let c1 : length b1 ≡ length b0 + (condition_blocks a + 1) = e1.count in
-    part_refused (record { registers = condition_registers b t.likely free; blocks = condition_blocks b + 1; globals = globals_named b })
+    part_refused
+    (record { registers = condition_registers b t.likely free; blocks = condition_blocks b + 1; insts = condition_insts b; globals = globals_named b })
     (condition_size (conditional k c a b) t.likely free) (condition_blocks a + 1) b0 b1 b2 _ _ _ _ f x is (omega arith) (omega arith) (omega arith) e1.grows c1 e2
 
 pub first_side_stops : (b0 b1 : List RBlock) (k : IntegerType) (c a b : TypedExpression) (t : Targets) (free : ℕ) (f : LowerFault)
     (x : Result OpenBlock LowerFault) → x ≡ Err f → EmitsBranchBlock a t free b0 b1 (Err f)
     → EmitsBranch (condition_size (conditional k c a b) t.likely free) (conditional k c a b) t free b0 b1 x
 first_side_stops b0 b1 k c a b t free f x is e =
-    part_refused (record { registers = condition_registers a t.likely free; blocks = condition_blocks a + 1; globals = globals_named a })
+    part_refused
+    (record { registers = condition_registers a t.likely free; blocks = condition_blocks a + 1; insts = condition_insts a; globals = globals_named a })
     (condition_size (conditional k c a b) t.likely free) 0 b0 b0 b1 _ _ _ _ f x is (omega arith) (omega arith) (omega arith) (grows_same b0) (omega arith) e
 
 -- where a value goes on, as a block
 pub record Joined (old new : List RBlock) (after : Spot) (join : ℕ) : Type 0 where
   pub grows : Grows old new
   pub count : length new ≡ length old + joint after
+  pub insts : insts_in new ≡ insts_in old + insts_at after
   pub sound : KeepsSound old new (λ s. IsSoundSpot s after) (λ s. join < s.blocks)
   pub lands : Over old new (λ bs. Lands bs join after)
 
@@ -687,15 +753,18 @@ conditional_emits old b0 b1 b2 new k c a b t' d free join yes_block no_block aft
     old b2 new _ _ _ _ x
     (record { blocks = omega arith; registers = omega arith; room = λ le. omega (arith, le, room); globals = omega arith })
     (grows_then old b0 b2 j.grows two.grows) (omega (arith, j.count, c2))
-    (λ from keeps s n g h.
-    let sides : max (globals_named a) (globals_named b) ≤ s.globals = omega (arith, h.1.0.1) in
-    let test : globals_named c ≤ s.globals = omega (arith, h.1.0.1) in
-    let in_sides : max (value_registers a free) (value_registers b free) ≤ s.registers = omega (arith, h.1.0.0) in
-    let in_test : condition_registers c true free ≤ s.registers = omega (arith, h.1.0.0) in
-    let n2 = within last'.grows n in
-    let at = j.sound s (within two.grows n2) g h.1.1 in
-    let m = two.sound s n2 at.0 ((in_sides, sides), (h.0, at.1)) in
-    keeps s n m.0 ((in_test, test), m.1))
+    (λ from keeps. (
+      λ s n g h.
+          let sides : max (globals_named a) (globals_named b) ≤ s.globals = omega (arith, h.1.0.1) in
+          let test : globals_named c ≤ s.globals = omega (arith, h.1.0.1) in
+          let in_sides : max (value_registers a free) (value_registers b free) ≤ s.registers = omega (arith, h.1.0.0) in
+          let in_test : condition_registers c true free ≤ s.registers = omega (arith, h.1.0.0) in
+          let n2 = within last'.grows n in
+          let at = j.sound s (within two.grows n2) g h.1.1 in
+          let m = two.sound s n2 at.0 ((in_sides, sides), (h.0, at.1)) in
+          keeps.0 s n m.0 ((in_test, test), m.1),
+      (let m = keeps.1 in let n = two.adds in omega (arith, m, n, j.insts)),
+    ))
     (λ from does bs h.
     let p = split3 bs old b0 b2 new j.grows two.grows last'.grows h in
     let m = two.does bs p.1 in
@@ -713,7 +782,7 @@ pub first_value_stops : (old b0 b1 : List RBlock) (k : IntegerType) (c a b : Typ
     (x : Result OpenBlock LowerFault) → x ≡ Err f → Joined old b0 after join → EmitsValueBlock a d free join b0 b1 (Err f)
     → EmitsValue (conditional k c a b) d free after old b1 x
 first_value_stops old b0 b1 k c a b d free join after f x is j e =
-    part_refused (record { registers = value_registers a free; blocks = value_blocks a 0 + 1; globals = globals_named a })
+    part_refused (record { registers = value_registers a free; blocks = value_blocks a 0 + 1; insts = value_insts a; globals = globals_named a })
     (value_size (conditional k c a b) free (joint after)) (joint after) old b0 b1 _ _ _ _ f x is (omega arith) (omega arith) (omega arith) j.grows j.count e
 
 pub value_stops : (old b0 b1 b2 : List RBlock) (k : IntegerType) (c a b : TypedExpression) (d free join yes_block : ℕ) (after : Spot) (f : LowerFault)
@@ -721,7 +790,7 @@ pub value_stops : (old b0 b1 b2 : List RBlock) (k : IntegerType) (c a b : TypedE
     → EmitsValueBlock b d free join b1 b2 (Err f) → EmitsValue (conditional k c a b) d free after old b2 x
 value_stops old b0 b1 b2 k c a b d free join yes_block after f x is j e1 e2 =
     let c1 : length b1 ≡ length b0 + (value_blocks a 0 + 1) = e1.count in
-    part_refused (record { registers = value_registers b free; blocks = value_blocks b 0 + 1; globals = globals_named b })
+    part_refused (record { registers = value_registers b free; blocks = value_blocks b 0 + 1; insts = value_insts b; globals = globals_named b })
     (value_size (conditional k c a b) free (joint after)) (joint after + (value_blocks a 0 + 1)) old b1 b2 _ _ _ _ f x is (omega arith) (omega arith)
     (omega arith) (grows_then old b0 b1 j.grows e1.grows) (omega (arith, j.count, c1)) e2
 
@@ -736,7 +805,10 @@ constant_emits old e c word t free from is iw fe =
       count = omega arith;
       room = omega arith;
       limit = tt;
-      sound = λ s n g h. (g, sound_exit _ fe (either (nat_eq word 0) t.no t.yes s.blocks h.1.1 h.1.0));
+      sound = (
+        λ s n g h. (g, sound_exit _ fe (either (nat_eq word 0) t.no t.yes s.blocks h.1.1 h.1.0)),
+        (let n = ap insts_of fe in omega (arith, n)),
+      );
       does = λ bs h. subst (λ f. Decides bs (constant c) free t.yes t.no f) (sym fe)
           (constant_decides bs c _ t.yes t.no free (ap (λ x. if nat_eq x 0 then t.no else t.yes) iw));
     })
@@ -754,7 +826,7 @@ not_branches old new e o k a a' t t' free x is io ia it v =
     (ended (condition_size a' (not t.likely) free) (condition_size (unary U.Not k a') t.likely free) 0 old old new _ _ _ _ x
     (record { blocks = omega arith; registers = omega arith; room = λ le. le; globals = omega arith })
     (grows_same old) (omega arith)
-    (λ from keeps s n g h. keeps s n g (h.0, (h.1.1, h.1.0)))
+    (λ from keeps. (λ s n g h. keeps.0 s n g (h.0, (h.1.1, h.1.0)), keeps.1))
     (λ from does bs h. not_decides bs k a' t.yes t.no free (open_code from) (does bs h)) v')
 
 pub contrary_emits : (old new : List RBlock) (o : BinaryOp) (k : IntegerType) (op : Operation) (l r : TypedExpression) (t : Targets) (free : ℕ)
@@ -771,12 +843,18 @@ pub contrary_emits : (old new : List RBlock) (o : BinaryOp) (k : IntegerType) (o
 contrary_emits old new o k op l r t free (Ok w) x tests plain has unlikely pl pr fw sound room limit two err =
     ended (both_size l r free w.first.free) (condition_size (binary o k l r) t.likely free) 0 old old new _ _ _ _ x
     (contrary_ends t.likely unlikely o k l r free w.first.free plain has pl.next_is room) (grows_same old) (omega arith)
-    (λ from keeps s n g h.
-    let all = contrary_names t.likely unlikely o k l r free s.registers plain has h.0.0 in
-    let few = held_names l r free _ _ _ _ s.registers pl pr (omega (arith, all)) in
-    let places = few.1.1.1 in
-    let tested : max (free + 1) (max (place_registers l free) (place_registers r (next_free l free))) ≤ s.registers = omega (arith, all, places) in
-    keeps s n g (few.0, (few.1.0, ((few.1.1.0, h.0.1), sound s tested h.1.0 h.1.1))))
+    (λ from keeps. (
+      λ s n g h.
+          let all = contrary_names t.likely unlikely o k l r free s.registers plain has h.0.0 in
+          let few = held_names l r free _ _ _ _ s.registers pl pr (omega (arith, all)) in
+          let places = few.1.1.1 in
+          let tested : max (free + 1) (max (place_registers l free) (place_registers r (next_free l free))) ≤ s.registers = omega (arith, all, places) in
+          keeps.0 s n g (few.0, (few.1.0, ((few.1.1.0, h.0.1), sound s tested h.1.0 h.1.1))),
+      (let m = keeps.1 in
+          let all : condition_insts (binary o k l r) ≡ value_insts r + value_insts l + 1 + 2 = rw plain refl in
+          let n = ap insts_of fw in
+          omega (arith, m, all, n)),
+    ))
     (λ from does bs h.
     let m = does bs h in
     contrary_decides bs o k op l r free t.yes t.no free (open_code from) tests (omega arith)
@@ -789,12 +867,13 @@ pub test_emits : (old new : List RBlock) (e : TypedExpression) (t : Targets) (fr
     → IfOk w (λ w. IsPlace e free w.place.register w.place.free)
     → OnOk w (test_registers t.likely free (place_registers e free) (next_free e free) 0 ≤ MAX_REGISTERS)
     → IfOk w (λ w. (bs : List RBlock) (from : Code) → Fetches bs e free w.place.register from (open_code w.code) → Decides bs e free t.yes t.no from)
+    → IfOk w (λ w. insts_of (open_code w.code) ≤ 2)
     → IfOk w (λ w. (s : Scope) → test_registers t.likely free (place_registers e free) (next_free e free) 0 ≤ s.registers
     → t.yes < s.blocks → t.no < s.blocks → IsSound s (open_code w.code))
     → IfErr w (λ f. f ≡ Limit → MAX_REGISTERS < test_registers t.likely free (place_registers e free) (next_free e free) 0)
     → IfOk w (λ w. EmitsOperand e w.place.register free w.code old new x) → IfErr w (λ f. (x ≡ Err f) × (new ≡ old))
     → EmitsBranch (test_size e t.likely free) e t free old new x
-test_emits old new e t free (Ok w) x pl room does sound limit v err =
+test_emits old new e t free (Ok w) x pl room does insts sound limit v err =
     ended (value_size e free 1) (test_size e t.likely free) 0 old old new _ _ _ _ x
     (record {
       blocks = omega arith;
@@ -803,12 +882,15 @@ test_emits old new e t free (Ok w) x pl room does sound limit v err =
       globals = omega arith;
     })
     (grows_same old) (omega arith)
-    (λ from keeps s n g h.
-    let few = test_names t.likely free (place_registers e free) (next_free e free) (value_registers e free) s.registers h.0.0 in
-    let held : w.place.register < s.registers = (let p = pl.counted in let q = few.0 in omega (arith, p, q)) in
-    keeps s n g (held, ((few.1.0, h.0.1), sound s few.1.1 h.1.0 h.1.1)))
+    (λ from keeps. (
+      λ s n g h.
+          let few = test_names t.likely free (place_registers e free) (next_free e free) (value_registers e free) s.registers h.0.0 in
+          let held : w.place.register < s.registers = (let p = pl.counted in let q = few.0 in omega (arith, p, q)) in
+          keeps.0 s n g (held, ((few.1.0, h.0.1), sound s few.1.1 h.1.0 h.1.1)),
+      (let m = keeps.1 in omega (arith, m, insts)),
+    ))
     (λ from made bs h. does bs (open_code from) (made bs h)) v
-test_emits old new e t free (Err f) x pl room does sound limit v err =
+test_emits old new e t free (Err f) x pl room does insts sound limit v err =
     refused (test_size e t.likely free) old new _ _ f x err.0 err.1
     (λ is. test_beyond t.likely free (place_registers e free) (next_free e free) (value_registers e free) (length old + value_blocks e 1) (globals_named e) (limit is))
 
@@ -834,18 +916,21 @@ operands_emits old mid new all es e ps ps2 p free after middle x ia ip are rest 
     (ended (value_size e free 1) (values_size (e ∷ es) free) (arguments_blocks es) old mid new _ _ _ _ x
     (record { blocks = omega arith; registers = omega arith; room = λ le. omega (arith, le, room); globals = omega arith })
     rest.grows c1
-    (λ from keeps s n g h.
-    let pw = both.0.counted in
-    let pe = ap (places_registers es) both.0.next_is in
-    let ve = ap (values_registers es) both.0.next_is in
-    let held : p.register < s.registers = omega (arith, pw, h.0) in
-    let places : places_registers es p.free ≤ s.registers = omega (arith, pe, h.0) in
-    let in_rest : values_registers es p.free ≤ s.registers = omega (arith, ve, h.1.0.0) in
-    let in_one : value_registers e free ≤ s.registers = omega (arith, h.1.0.0) in
-    let of_rest : globals_named_in es ≤ s.globals = omega (arith, h.1.0.1) in
-    let of_one : globals_named e ≤ s.globals = omega (arith, h.1.0.1) in
-    let m = rest.sound s (within one.grows n) g (places, ((in_rest, of_rest), h.1.1)) in
-    keeps s n m.0 (held, ((in_one, of_one), m.1)))
+    (λ from keeps. (
+      λ s n g h.
+          let pw = both.0.counted in
+          let pe = ap (places_registers es) both.0.next_is in
+          let ve = ap (values_registers es) both.0.next_is in
+          let held : p.register < s.registers = omega (arith, pw, h.0) in
+          let places : places_registers es p.free ≤ s.registers = omega (arith, pe, h.0) in
+          let in_rest : values_registers es p.free ≤ s.registers = omega (arith, ve, h.1.0.0) in
+          let in_one : value_registers e free ≤ s.registers = omega (arith, h.1.0.0) in
+          let of_rest : globals_named_in es ≤ s.globals = omega (arith, h.1.0.1) in
+          let of_one : globals_named e ≤ s.globals = omega (arith, h.1.0.1) in
+          let m = rest.sound.0 s (within one.grows n) g (places, ((in_rest, of_rest), h.1.1)) in
+          keeps.0 s n m.0 (held, ((in_one, of_one), m.1)),
+      (let m = keeps.1 in let n = rest.sound.1 in omega (arith, m, n)),
+    ))
     (λ from does bs h.
     let t = split2 bs old mid new rest.grows one.grows h in
     (open_code middle, does bs t.1, rest.does bs t.0)) one))

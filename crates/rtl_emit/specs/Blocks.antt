@@ -37,6 +37,22 @@ abbrev pub line_of : Spot → Code
 line_of (Block b) = goto b
 line_of (Line c) = c
 
+-- how many instructions code has, the code at a spot, and blocks; a block that begins at a spot has its own
+abbrev pub insts_of : Code → ℕ
+insts_of c = length c.insts
+
+abbrev pub insts_at : Spot → ℕ
+insts_at (Block b) = 0
+insts_at (Line c) = insts_of c
+
+abbrev pub insts_in : List RBlock → ℕ
+insts_in [] = 0
+insts_in (b ∷ bs) = length b.insts.items + insts_in bs
+
+-- blocks become new ones, and code with `after` instructions code with `from`: at most so many more in all
+abbrev pub Adds : (old new : List RBlock) (from after : ℕ) → ℕ → Type 0
+Adds old new from after most = insts_in new + from ≤ insts_in old + after + most
+
 -- a list of blocks has become longer
 pub record Grows (old new : List RBlock) : Type 0 where
   pub longer : length old ≤ length new

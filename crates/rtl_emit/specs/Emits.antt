@@ -4,9 +4,10 @@ use Rattle.c_typed.specs.Trees.{TypedExpression}
 use Rattle.rtl.specs.declared.block.RBlock.{RBlock}
 use Rattle.rtl.specs.declared.limits.TheConstants.{MAX_REGISTERS}
 use Rattle.rtl.specs.Meaning.{Code}
-use Rattle.rtl_emit.specs.Blocks.{open_code, goto, line_of, Spot, Grows, Has, At}
+use Rattle.rtl_emit.specs.Blocks.{open_code, goto, line_of, insts_of, insts_at, Spot, Grows, Has, At, Adds}
 use Rattle.rtl_emit.specs.Expressions.{Evaluates, Fetches, Decides, FetchAll}
-use Rattle.rtl_emit.specs.Sizes.{joint, Beyond, value_registers, value_blocks, condition_registers, condition_blocks, globals_named}
+use Rattle.rtl_emit.specs.Sizes.{joint, Beyond, value_registers, value_blocks, value_insts, condition_registers, condition_blocks}
+use Rattle.rtl_emit.specs.Sizes.{condition_insts, arguments_insts, globals_named}
 use Rattle.rtl_emit.specs.Sizes.{values_registers, places_registers, arguments_blocks, globals_named_in, test_registers, place_registers, next_free}
 use Rattle.rtl_emit.specs.Sound.{Scope, IsSound, IsSoundSpot, KeepsSound}
 use Rattle.rtl_emit.specs.declared.block.OpenBlock.{OpenBlock}
@@ -15,18 +16,19 @@ use Rattle.rtl_emit.specs.declared.fault.LowerFault.TheVariants.{Limit}
 use Rattle.rtl_emit.specs.declared.place.Place.{Place}
 use Rattle.rtl_emit.specs.declared.targets.Targets.{Targets}
 
--- how many blocks code adds, and one more than the greatest number of a register, and of a global, that it names beside
--- those that it is given
+-- how many blocks code adds, at most how many instructions, and one more than the greatest number of a register, and of a
+-- global, that it names beside those that it is given
 pub record Size : Type 0 where
   pub registers : ℕ
   pub blocks : ℕ
+  pub insts : ℕ
   pub globals : ℕ
 
 -- so many registers and globals are in scope
 abbrev pub Covers : Size → Scope → Type 0
 Covers size s = (size.registers ≤ s.registers) × (size.globals ≤ s.globals)
 
--- the blocks that were there stay, whatever is answered; an Ok adds so many, is within the limits, keeps what is sound, and does
+-- the blocks that were there stay, whatever is answered; an Ok adds so many, is within the limits, keeps what is sound and small, and does
 -- its work in every list of blocks that has those which were added; a Limit comes only where one of the sizes is beyond one
 pub record Emits {A : Type 0} (size : Size) (old new : List RBlock) (Keeps : A → Type 0) (Does : A → List RBlock
     → Type 0) (r : Result A LowerFault)
@@ -39,12 +41,18 @@ pub record Emits {A : Type 0} (size : Size) (old new : List RBlock) (Keeps : A �
   pub does : IfOk r (λ x. (bs : List RBlock) → Has bs old new → Does x bs)
 
 abbrev pub value_size : TypedExpression → (free joint : ℕ) → Size
-value_size e free n = record { registers = value_registers e free; blocks = value_blocks e n; globals = globals_named e }
+value_size e free n = record {
+  registers = value_registers e free;
+  blocks = value_blocks e n;
+  insts = value_insts e;
+  globals = globals_named e;
+}
 
 abbrev pub test_size : TypedExpression → (likely : Bool) (free : ℕ) → Size
 test_size e likely free = record {
   registers = test_registers likely free (place_registers e free) (next_free e free) (value_registers e free);
   blocks = value_blocks e 1;
+  insts = value_insts e + 2;
   globals = globals_named e;
 }
 
@@ -52,31 +60,40 @@ abbrev pub condition_size : TypedExpression → (likely : Bool) (free : ℕ) →
 condition_size e likely free = record {
   registers = condition_registers e likely free;
   blocks = condition_blocks e;
+  insts = condition_insts e;
   globals = globals_named e;
 }
 
 abbrev pub values_size : List TypedExpression → (free : ℕ) → Size
-values_size es free = record { registers = values_registers es free; blocks = arguments_blocks es; globals = globals_named_in es }
+values_size es free = record {
+  registers = values_registers es free;
+  blocks = arguments_blocks es;
+  insts = arguments_insts es;
+  globals = globals_named_in es;
+}
 
 -- code that puts the value of an expression into the register `to`
 abbrev pub EmitsValue : TypedExpression → (to free : ℕ) → Spot → (old new : List RBlock) → Result OpenBlock LowerFault → Type 0
 EmitsValue e to free after old new r = Emits (value_size e free (joint after)) old new
     (λ from. KeepsSound old new (λ s. (to < s.registers)
-    × (Covers (value_size e free (joint after)) s × IsSoundSpot s after)) (λ s. IsSound s (open_code from)))
+    × (Covers (value_size e free (joint after)) s × IsSoundSpot s after)) (λ s. IsSound s (open_code from))
+    × Adds old new (insts_of (open_code from)) (insts_at after) (value_insts e))
     (λ from bs. Evaluates bs e free to (open_code from) (line_of after)) r
 
 -- code that puts it into the operand's place, where it isn't there
 abbrev pub EmitsOperand : TypedExpression → (register free : ℕ) → OpenBlock → (old new : List RBlock) → Result OpenBlock LowerFault → Type 0
 EmitsOperand e register free after old new r = Emits (value_size e free 1) old new
     (λ from. KeepsSound old new (λ s. (register < s.registers)
-    × (Covers (value_size e free 1) s × IsSound s (open_code after))) (λ s. IsSound s (open_code from)))
+    × (Covers (value_size e free 1) s × IsSound s (open_code after))) (λ s. IsSound s (open_code from))
+    × Adds old new (insts_of (open_code from)) (insts_of (open_code after)) (value_insts e))
     (λ from bs. Fetches bs e free register (open_code from) (open_code after)) r
 
 -- code that leads to one of two blocks
 abbrev pub EmitsBranch : Size → TypedExpression → Targets → (free : ℕ) → (old new : List RBlock) → Result OpenBlock LowerFault → Type 0
 EmitsBranch size e targets free old new r = Emits size old new
     (λ from. KeepsSound old new (λ s. Covers size s
-    × ((targets.yes < s.blocks) × (targets.no < s.blocks))) (λ s. IsSound s (open_code from)))
+    × ((targets.yes < s.blocks) × (targets.no < s.blocks))) (λ s. IsSound s (open_code from))
+    × Adds old new (insts_of (open_code from)) 0 size.insts)
     (λ from bs. Decides bs e free targets.yes targets.no (open_code from)) r
 
 -- code that puts the values of a list into their places
@@ -84,7 +101,8 @@ abbrev pub EmitsOperands : List TypedExpression → List Place → (free : ℕ) 
     → Result OpenBlock LowerFault → Type 0
 EmitsOperands es places free after old new r = Emits (values_size es free) old new
     (λ from. KeepsSound old new (λ s. (places_registers es free ≤ s.registers)
-    × (Covers (values_size es free) s × IsSound s (open_code after))) (λ s. IsSound s (open_code from)))
+    × (Covers (values_size es free) s × IsSound s (open_code after))) (λ s. IsSound s (open_code from))
+    × Adds old new (insts_of (open_code from)) (insts_of (open_code after)) (arguments_insts es))
     (λ from bs. FetchAll bs es free places (open_code from) (open_code after)) r
 
 -- code that puts the values of two operands into their places, the second of which is found while the first is held
@@ -92,6 +110,7 @@ abbrev pub both_size : (left right : TypedExpression) (free next : ℕ) → Size
 both_size l r free next = record {
   registers = max (value_registers r next) (value_registers l free);
   blocks = value_blocks r 1 + value_blocks l 1;
+  insts = value_insts r + value_insts l;
   globals = max (globals_named l) (globals_named r);
 }
 
@@ -99,15 +118,16 @@ abbrev pub EmitsBoth : (left right : TypedExpression) (free p next q : ℕ) → 
     → Result OpenBlock LowerFault → Type 0
 EmitsBoth l r free p next q after old new x = Emits (both_size l r free next) old new
     (λ from. KeepsSound old new (λ s. (p < s.registers) × ((q < s.registers)
-    × (Covers (both_size l r free next) s × IsSound s (open_code after)))) (λ s. IsSound s (open_code from)))
+    × (Covers (both_size l r free next) s × IsSound s (open_code after)))) (λ s. IsSound s (open_code from))
+    × Adds old new (insts_of (open_code from)) (insts_of (open_code after)) (value_insts r + value_insts l))
     (λ from bs. (middle : Code) × Fetches bs l free p (open_code from) middle × Fetches bs r next q middle (open_code after)) x
 
 -- code in a block of its own
 abbrev pub EmitsBlock : Size → (Needs : Scope → Type 0) (Is : List RBlock → Code → Type 0) → (old new : List RBlock)
     → Result ℕ LowerFault → Type 0
 EmitsBlock size Needs Is old new r =
-    Emits (record { registers = size.registers; blocks = size.blocks + 1; globals = size.globals }) old new
-    (λ b. KeepsSound old new (λ s. Covers size s × Needs s) (λ s. b < s.blocks))
+    Emits (record { registers = size.registers; blocks = size.blocks + 1; insts = size.insts; globals = size.globals }) old new
+    (λ b. KeepsSound old new (λ s. Covers size s × Needs s) (λ s. b < s.blocks) × Adds old new 0 0 size.insts)
     (λ b bs. (from : Code) × At bs b from × Is bs from) r
 
 abbrev pub EmitsValueBlock : TypedExpression → (to free join : ℕ) → (old new : List RBlock) → Result ℕ LowerFault → Type 0

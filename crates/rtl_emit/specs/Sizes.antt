@@ -1,5 +1,5 @@
--- How many blocks the code of an expression takes, and how many pseudo-registers: one more than the greatest number that it
--- takes, 0 where it takes none. A local is the register of its number; `free` is the first register that is free.
+-- How many blocks the code of an expression takes, at most how many instructions, and how many pseudo-registers: one more than
+-- the greatest number that it takes, 0 where it takes none. A local is the register of its number; `free` is the first register that is free.
 use Rattle.std.specs.Prelude.{ℕ, ◌+◌, ◌-◌, ◌^◌, ◌<◌, max, Bool, true, false, not, List, [], ◌∷◌, if◌then◌else◌}
 use Rattle.c_tree.specs.declared.tree.BinaryOp.{BinaryOp}
 use Rattle.c_tree.specs.declared.tree.BinaryOp.TheVariants as B
@@ -61,6 +61,32 @@ abbrev mutual
   condition_blocks (binary o k l r) = if is_logical o then condition_blocks r + 1 + condition_blocks l
       else value_blocks r 1 + value_blocks l 1
   condition_blocks (conditional k c a b) = condition_blocks a + 1 + condition_blocks b + 1 + condition_blocks c
+
+-- at most how many instructions the value of an expression takes, and the branches of a condition
+abbrev mutual
+  pub value_insts : TypedExpression → ℕ
+  value_insts (constant c) = 1
+  value_insts (local x k) = 1
+  value_insts (global x k) = 2
+  value_insts (element x k i) = value_insts i + 1
+  value_insts (unary U.Identity k e) = value_insts e
+  value_insts (unary U.Not k e) = if by_branches e then condition_insts e + 2 else value_insts e + 2
+  value_insts (unary o k e) = value_insts e + 2
+  value_insts (binary o k l r) =
+      if is_logical o then condition_insts r + condition_insts l + 2 else value_insts r + value_insts l + 1
+  value_insts (conditional k c a b) = value_insts a + value_insts b + condition_insts c
+
+  pub condition_insts : TypedExpression → ℕ
+  condition_insts (constant c) = 0
+  condition_insts (local x k) = 1 + 2
+  condition_insts (global x k) = 2 + 2
+  condition_insts (element x k i) = value_insts i + 1 + 2
+  condition_insts (unary U.Identity k e) = condition_insts e
+  condition_insts (unary U.Not k e) = condition_insts e
+  condition_insts (unary o k e) = value_insts e + 2 + 2
+  condition_insts (binary o k l r) =
+      if is_logical o then condition_insts r + condition_insts l else value_insts r + value_insts l + 1 + 2
+  condition_insts (conditional k c a b) = condition_insts a + condition_insts b + condition_insts c
 
 -- a local is read in its own register, another operand in the first free one
 abbrev pub place_registers : TypedExpression → (free : ℕ) → ℕ
@@ -144,6 +170,10 @@ operand_registers e free = max (place_registers e free) (value_registers e free)
 abbrev pub arguments_blocks : List TypedExpression → ℕ
 arguments_blocks [] = 0
 arguments_blocks (e ∷ es) = arguments_blocks es + value_blocks e 1
+
+abbrev pub arguments_insts : List TypedExpression → ℕ
+arguments_insts [] = 0
+arguments_insts (e ∷ es) = arguments_insts es + value_insts e
 
 abbrev pub places_registers : List TypedExpression → (free : ℕ) → ℕ
 places_registers [] free = 0

@@ -3,7 +3,8 @@ ghost use Rattle.std.specs.Prelude.{◌≡◌, ◌++◌, ◌∷◌, ◌+◌, ◌
 ghost use Rattle.rtl.specs.declared.limits.TheConstants.{MAX_BLOCKS};
 ghost use Rattle.rtl_emit.specs.Sizes.{joint};
 ghost use Rattle.rtl_emit.specs.Sound.{IsSound, IsSoundSpot, AreSound, KeepsSound, Scope};
-ghost use Rattle.rtl_emit.specs.Blocks.{open_code, exit_code, first, spot, line_of, Grows, Has, At, Lands, Reserves, Fills};
+ghost use Rattle.rtl_emit.specs.Blocks.{open_code, exit_code, first, spot, line_of, insts_of, insts_at, insts_in};
+ghost use Rattle.rtl_emit.specs.Blocks.{Grows, Has, At, Lands, Reserves, Fills};
 ghost use Rattle.rtl.specs.declared.block.RBlock.{RBlock};
 
 use crate::fault::LowerFault;
@@ -66,6 +67,7 @@ pub fn block_of(blocks: &mut Vec<RBlock>, after: Continuation) -> Result<BlockNu
     ensures grows { Grows blocks.old.items blocks.new.items }
     ensures left { OnErr result (blocks.new.items ≡ blocks.old.items) }
     ensures count { OnOk result (length blocks.new.items ≡ length blocks.old.items + joint (spot after)) }
+    ensures insts { OnOk result (insts_in blocks.new.items ≡ insts_in blocks.old.items + insts_at (spot after)) }
     ensures limit { IfErr result (λ f. f ≡ LowerFault.Limit → MAX_BLOCKS < length blocks.old.items + joint (spot after)) }
     ensures sound { IfOk result (λ b. KeepsSound blocks.old.items blocks.new.items (λ s. IsSoundSpot s (spot after))
         (λ s. b < s.blocks)) }
@@ -82,6 +84,7 @@ pub(crate) fn seal(blocks: &mut Vec<RBlock>, code: OpenBlock) -> Result<BlockNum
     ensures grows { Grows blocks.old.items blocks.new.items }
     ensures left { OnErr result (blocks.new.items ≡ blocks.old.items) }
     ensures count { OnOk result (length blocks.new.items ≡ length blocks.old.items + 1) }
+    ensures insts { OnOk result (insts_in blocks.new.items ≡ insts_in blocks.old.items + insts_of (open_code code)) }
     ensures limit { IfErr result (λ f. f ≡ LowerFault.Limit → MAX_BLOCKS < length blocks.old.items + 1) }
     ensures sound { IfOk result (λ b. KeepsSound blocks.old.items blocks.new.items (λ s. IsSound s (open_code code))
         (λ s. b < s.blocks)) }
@@ -110,6 +113,7 @@ fn put_block(blocks: &mut Vec<RBlock>, block: RBlock) -> Result<(), AllocError>
 pub fn reserve(alloc: Global, blocks: &mut Vec<RBlock>) -> Result<BlockNumber, LowerFault>
     ensures left { OnErr result (blocks.new.items ≡ blocks.old.items) }
     ensures limit { IfErr result (λ f. f ≡ LowerFault.Limit → MAX_BLOCKS < length blocks.old.items + 1) }
+    ensures insts { OnOk result (insts_in blocks.new.items ≡ insts_in blocks.old.items) }
     ensures sound { OnOk result ((s : Scope) → AreSound s blocks.old.items → AreSound s blocks.new.items) }
     ensures reserves { IfOk result (λ b. Reserves blocks.old.items blocks.new.items b) }
 {
@@ -128,6 +132,7 @@ pub fn reserve(alloc: Global, blocks: &mut Vec<RBlock>) -> Result<BlockNumber, L
 /// The code as the block of a number that was reserved.
 pub fn fill(blocks: &mut Vec<RBlock>, number: BlockNumber, code: OpenBlock)
     requires { number < length blocks.old.items }
+    ensures insts { insts_in blocks.new.items ≤ insts_in blocks.old.items + insts_of (open_code code) }
     ensures sound { (s : Scope) → AreSound s blocks.old.items → IsSound s (open_code code) → AreSound s blocks.new.items }
     ensures fills { Fills blocks.old.items blocks.new.items number (open_code code) }
 {

@@ -4,7 +4,7 @@
 //! Contract: `value_into`, `operand_into`, `condition`
 //! - The code of an expression leaves its value in the requested register.
 //! - The code of a condition leads to one of two blocks.
-//! - Both hold whatever other blocks exist, and name no register above those that are counted.
+//! - Both hold whatever other blocks exist, and take no more registers and instructions than are counted.
 #![tactic(auto)]
 
 mod block;

@@ -2,7 +2,7 @@
 ghost use Rattle.std.specs.Prelude.{◌≡◌, ◌==◌, ◌+◌, ◌<◌, true, not, List, IfOk, IfErr, OnOk, length, if◌then◌else◌};
 ghost use Rattle.rtl.specs.declared.block.RBlock.{RBlock};
 ghost use Rattle.rtl.specs.declared.limits.TheConstants.{MAX_BLOCKS};
-ghost use Rattle.rtl_emit.specs.Blocks.{open_code, goto, spot, Grows, Has};
+ghost use Rattle.rtl_emit.specs.Blocks.{open_code, goto, spot, insts_at, insts_in, Grows, Has};
 ghost use Rattle.rtl_emit.specs.Expressions.{IsTruth};
 ghost use Rattle.rtl_emit.specs.Sizes.{joint};
 ghost use Rattle.rtl_emit.specs.Sound.{IsSoundSpot, KeepsSound};
@@ -83,6 +83,7 @@ pub(crate) fn truth_blocks(
 ) -> Result<Targets, LowerFault>
     ensures grows { Grows blocks.old.items blocks.new.items }
     ensures count { OnOk result (length blocks.new.items ≡ length blocks.old.items + (joint (spot after) + 2)) }
+    ensures insts { OnOk result (insts_in blocks.new.items ≡ insts_in blocks.old.items + (insts_at (spot after) + 2)) }
     ensures limit { IfErr result (λ f. f ≡ LowerFault.Limit → MAX_BLOCKS < length blocks.old.items + (joint (spot after) + 2)) }
     ensures sound { IfOk result (λ t. KeepsSound blocks.old.items blocks.new.items (λ s. (to < s.registers) × IsSoundSpot s (spot after))
         (λ s. (t.yes < s.blocks) × (t.no < s.blocks))) }

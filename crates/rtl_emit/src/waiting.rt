@@ -6,7 +6,7 @@ ghost use Rattle.rtl.specs.declared.block.RBlock.{RBlock};
 ghost use Rattle.rtl.specs.declared.instruction.RInst.TheVariants.{Const, Load};
 ghost use Rattle.rtl.specs.declared.instruction.RExit.TheVariants.{Branch};
 ghost use Rattle.rtl.specs.declared.limits.TheConstants.{MAX_REGISTERS};
-ghost use Rattle.rtl_emit.specs.Blocks.{open_code, exit_code, first, spot, line_of};
+ghost use Rattle.rtl_emit.specs.Blocks.{open_code, exit_code, first, spot, line_of, insts_of};
 ghost use Rattle.rtl_emit.specs.Expressions.{IsPlace, Fetches, Combines, Decides};
 ghost use Rattle.rtl_emit.specs.Operations.{inst_of};
 ghost use Rattle.rtl_emit.specs.Sizes.{place_registers, next_free, test_registers, Beyond};
@@ -68,6 +68,7 @@ pub(crate) fn combination_at(
     ensures does { IfOk result (λ w. (bs : List RBlock) (from : Code)
         → Fetches bs (typed_expression_of e.now) free w.place.register from (open_code w.code)
         → Combines bs with.operation (typed_expression_of e.now) with.word free to from (open_code after)) }
+    ensures insts { IfOk result (λ w. insts_of (open_code w.code) ≡ insts_of (open_code after) + 2) }
     ensures sound { IfOk result (λ w. (s : Scope) → to < s.registers
         → max (place_registers (typed_expression_of e.now) free) (next_free (typed_expression_of e.now) free + 1) ≤ s.registers
         → IsSound s (open_code after) → IsSound s (open_code w.code)) }
@@ -94,6 +95,7 @@ pub(crate) fn test_at(
     ensures does { IfOk result (λ w. (bs : List RBlock) (from : Code)
         → Fetches bs (typed_expression_of e.now) free w.place.register from (open_code w.code)
         → Decides bs (typed_expression_of e.now) free targets.yes targets.no from) }
+    ensures insts { IfOk result (λ w. insts_of (open_code w.code) ≤ 2) }
     ensures sound { IfOk result (λ w. (s : Scope) → test_registers targets.likely free (place_registers (typed_expression_of e.now) free)
         (next_free (typed_expression_of e.now) free) 0 ≤ s.registers
         → targets.yes < s.blocks → targets.no < s.blocks → IsSound s (open_code w.code)) }

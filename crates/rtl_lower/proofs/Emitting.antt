@@ -13,7 +13,7 @@ use Rattle.rtl.specs.declared.instruction.RExit.TheVariants as X
 use Rattle.rtl.specs.declared.block.RBlock.{RBlock}
 use Rattle.rtl.specs.declared.limits.TheConstants.{MAX_REGISTERS, MAX_BLOCKS}
 use Rattle.rtl.specs.Meaning.{Code}
-use Rattle.rtl_emit.specs.Blocks.{Spot, Block, Line, Lands, Grows, Has, Reserves, Fills, open_code, exit_code, first, spot, line_of}
+use Rattle.rtl_emit.specs.Blocks.{Spot, Block, Line, Lands, Grows, Has, Reserves, Fills, open_code, exit_code, first, spot, line_of, insts_of, insts_at, insts_in}
 use Rattle.rtl_emit.specs.Emits.{Size, Emits, value_size, condition_size, values_size, EmitsValue, EmitsOperand, EmitsBranch, EmitsOperands}
 use Rattle.rtl_emit.specs.Expressions.{IsPlace, Fetches, AddPlaces}
 use Rattle.rtl_emit.specs.Sizes.{joint, place_registers, places_registers, next_free, value_registers, value_blocks, condition_blocks}
@@ -26,7 +26,7 @@ use Rattle.rtl_emit.specs.declared.fault.LowerFault.{LowerFault}
 use Rattle.rtl_emit.specs.declared.fault.LowerFault.TheVariants.{Limit}
 use Rattle.rtl_emit.specs.declared.place.Place.{Place}
 use Rattle.rtl_emit.specs.declared.targets.Targets.{Targets}
-use Rattle.rtl_emit.proofs.Blocks.{grows_then, within, split2, split3, split4}
+use Rattle.rtl_emit.proofs.Blocks.{grows_then, within, line_insts, split2, split3, split4}
 use Rattle.rtl_emit.proofs.Emitted.{Over, Joins, finds_to}
 use Rattle.rtl_emit.proofs.Emitting.{ended, part_refused, refused, grows_same}
 use Rattle.rtl_emit.proofs.Sound.{sound_along, sound_first, sound_exit, sound_line}
@@ -76,6 +76,7 @@ made_emits size old new Keeps Does (Err f) e = part_refused size size 0 old old 
 pub record Sealing (old new : List RBlock) (block : ℕ) (after : Spot) : Type 0 where
   pub grows : Grows old new
   pub count : length new ≡ length old + joint after
+  pub insts : insts_in new ≡ insts_in old + insts_at after
   pub sound : KeepsSound old new (λ s. IsSoundSpot s after) (λ s. block < s.blocks)
   pub lands : Joins old new block after
 
@@ -100,7 +101,7 @@ simple_emits old new s s' c after code r is one ir e =
     subst (λ r. EmitsStatement s c after old new r) (sym ir) (subst (λ s. EmitsStatement s c after old new (made_of code)) (sym is)
     (made_emits (statement_size s' c.free (joint after)) old new _ _ code
     (meant (statement_size s' c.free (joint after)) old new _ _ _ _ code
-    (λ from keeps. (sym (one (joint after)), λ p n gives inside f s l g h. keeps p n gives inside f s l g (h.0, h.1.1.1)))
+    (λ from keeps. (sym (one (joint after)), λ p n gives inside f s l g h. keeps.0 p n gives inside f s l g (h.0, h.1.1.1), keeps.1))
     (λ from does bs h. does bs h c.leave c.next) e)))
 
 pub whole_emits : (old new : List RBlock) (s s' : TypedStatement) (c : Context) (after : Spot) (code : Result OpenBlock LowerFault)
@@ -117,11 +118,14 @@ local_emits old new to x local e free after r it il lt v =
     (ended (value_size e free (joint after)) (statement_size (assign (Local local) e) free (joint after)) 0 old old new _ _ _ _ r
     (record { blocks = omega arith; registers = omega arith; room = λ le. omega (arith, le, lt); globals = omega arith })
     (grows_same old) (omega arith)
-    (λ from keeps p n gives inside f s l g h.
-    let le = h.0.registers_fit in
-    let to_it : local < s.registers = omega (arith, le) in
-    let few : value_registers e free ≤ s.registers = omega (arith, le) in
-    keeps s l g (to_it, ((few, named p s n e h.0 f.1), h.1)))
+    (λ from keeps. (
+      λ p n gives inside f s l g h.
+          let le = h.0.registers_fit in
+          let to_it : local < s.registers = omega (arith, le) in
+          let few : value_registers e free ≤ s.registers = omega (arith, le) in
+          keeps.0 s l g (to_it, ((few, named p s n e h.0 f.1), h.1)),
+      keeps.1,
+    ))
     (λ from does bs h leave next. record { code = open_code from; is = refl; value = does bs h }) v)
 
 pub variable_emits : (old new : List RBlock) (to : Destination) (x g : ℕ) (e : TypedExpression) (free p next z : ℕ) (last middle : OpenBlock)
@@ -135,14 +139,17 @@ variable_emits old new to x g e free p next z last middle after r it ig pl room 
     (ended (value_size e free 1) (statement_size (assign (Variable g) e) free (joint after)) 0 old old new _ _ _ _ r
     (record { blocks = omega arith; registers = omega arith; room = λ le. omega (arith, le, room, lt, next_is); globals = omega arith })
     (grows_same old) (omega arith)
-    (λ from keeps p' n gives inside f s l g' h.
-    let there = in_scope p' s _ _ h.0 refl f.0 in
-    let le = h.0.registers_fit in
-    let pw = pl.counted in
-    let held : p < s.registers = omega (arith, le, pw) in
-    let spare : z < s.registers = omega (arith, le, next_is) in
-    let few : value_registers e free ≤ s.registers = omega (arith, le) in
-    keeps s l g' (held, ((few, named p' s n e h.0 f.1), sound_first _ fm spare (sound_first _ fl (there, (spare, held)) (sound_line _ h.1)))))
+    (λ from keeps. (
+      λ p' n gives inside f s l g' h.
+          let there = in_scope p' s _ _ h.0 refl f.0 in
+          let le = h.0.registers_fit in
+          let pw = pl.counted in
+          let held : p < s.registers = omega (arith, le, pw) in
+          let spare : z < s.registers = omega (arith, le, next_is) in
+          let few : value_registers e free ≤ s.registers = omega (arith, le) in
+          keeps.0 s l g' (held, ((few, named p' s n e h.0 f.1), sound_first _ fm spare (sound_first _ fl (there, (spare, held)) (sound_line _ h.1)))),
+      (let k = keeps.1 in let n = ap insts_of code in let a = line_insts after in omega (arith, k, n, a)),
+    ))
     (λ from does bs h leave next'. record { z = z; fetches = fetches_first from pl (finds_to code (does bs h)); spare = omega (arith, iz) }) o)
 
 pub store_emits : (old mid new : List RBlock) (a a' : ℕ) (i e : TypedExpression) (free p next q last : ℕ) (code middle : OpenBlock) (after : Spot)
@@ -156,20 +163,23 @@ store_emits old mid new a a' i e free p next q last code middle after r ia pi ri
     ended (value_size i free 1) (statement_size (store a i e) free (joint after)) (value_blocks e 1) old mid new _ _ _ _ r
     (record { blocks = omega arith; registers = omega arith; room = λ le. omega (arith, le, ri, places, values); globals = omega arith })
     second.grows c1
-    (λ from keeps p' n gives inside f s l g h.
-    let there = in_scope p' s _ _ h.0 ia f.0 in
-    let le = h.0.registers_fit in
-    let pw = pi.counted in
-    let qw = pe.counted in
-    let qe = ap (place_registers e) pi.next_is in
-    let ve = ap (value_registers e) pi.next_is in
-    let at_index : p < s.registers = omega (arith, le, pw) in
-    let at_value : q < s.registers = omega (arith, le, qw, qe) in
-    let in_value : value_registers e next ≤ s.registers = omega (arith, le, ve) in
-    let in_index : value_registers i free ≤ s.registers = omega (arith, le) in
-    let end = sound_first _ fe (there, (at_index, at_value)) (sound_line _ h.1) in
-    let m = second.sound s (within one.grows l) g (at_value, ((in_value, named p' s n e h.0 f.1.1), end)) in
-    keeps s l m.0 (at_index, ((in_index, named p' s n i h.0 f.1.0), m.1)))
+    (λ from keeps. (
+      λ p' n gives inside f s l g h.
+          let there = in_scope p' s _ _ h.0 ia f.0 in
+          let le = h.0.registers_fit in
+          let pw = pi.counted in
+          let qw = pe.counted in
+          let qe = ap (place_registers e) pi.next_is in
+          let ve = ap (value_registers e) pi.next_is in
+          let at_index : p < s.registers = omega (arith, le, pw) in
+          let at_value : q < s.registers = omega (arith, le, qw, qe) in
+          let in_value : value_registers e next ≤ s.registers = omega (arith, le, ve) in
+          let in_index : value_registers i free ≤ s.registers = omega (arith, le) in
+          let end = sound_first _ fe (there, (at_index, at_value)) (sound_line _ h.1) in
+          let m = second.sound.0 s (within one.grows l) g (at_value, ((in_value, named p' s n e h.0 f.1.1), end)) in
+          keeps.0 s l m.0 (at_index, ((in_index, named p' s n i h.0 f.1.0), m.1)),
+      (let k = keeps.1 in let m = second.sound.1 in let n = ap insts_of fe in let a' = line_insts after in omega (arith, k, m, n, a')),
+    ))
     (λ from does bs h leave next'. store_code old mid new free a a' i e p next q last (open_code from) (open_code middle) (open_code code) after
     ia fe pi pe second.grows one.grows second.does does leave next' bs h) one
 
@@ -180,13 +190,16 @@ output_emits old mid new e free b p next end after r sealing pl room fe o =
     ended (value_size e free 1) (statement_size (output e) free (joint after)) (joint after) old mid new _ _ _ _ r
     (record { blocks = omega arith; registers = omega arith; room = λ le. omega (arith, le, room); globals = omega arith })
     sealing.grows sealing.count
-    (λ from keeps p' n gives inside f s l g h.
-    let j = sealing.sound s (within o.grows l) g h.1 in
-    let le = h.0.registers_fit in
-    let pw = pl.counted in
-    let held : p < s.registers = omega (arith, le, pw) in
-    let few : value_registers e free ≤ s.registers = omega (arith, le) in
-    keeps s l j.0 (held, ((few, named p' s n e h.0 f), sound_exit _ fe (held, j.1))))
+    (λ from keeps. (
+      λ p' n gives inside f s l g h.
+          let j = sealing.sound s (within o.grows l) g h.1 in
+          let le = h.0.registers_fit in
+          let pw = pl.counted in
+          let held : p < s.registers = omega (arith, le, pw) in
+          let few : value_registers e free ≤ s.registers = omega (arith, le) in
+          keeps.0 s l j.0 (held, ((few, named p' s n e h.0 f), sound_exit _ fe (held, j.1))),
+      (let k = keeps.1 in let n = ap insts_of fe in omega (arith, k, n, sealing.insts)),
+    ))
     (λ from does bs h leave next'.
     let sp = split2 bs old mid new sealing.grows o.grows h in
     record {
@@ -205,7 +218,7 @@ nowhere_emits old new to free b after it sealing =
       count = sealing.count;
       room = omega arith;
       limit = tt;
-      sound = λ p n f s l g h. let j = sealing.sound s l g h.1 in (j.0, (tt, j.1));
+      sound = (λ p n f s l g h. let j = sealing.sound s l g h.1 in (j.0, (tt, j.1)), omega (arith, sealing.insts));
       does = λ bs h. (refl, sealing.lands bs h);
     })
 
@@ -218,11 +231,14 @@ to_local_emits old new to x local free b after it il lt sealing =
       count = sealing.count;
       room = omega (arith, lt);
       limit = tt;
-      sound = λ p n f s l g h.
-          let le = h.0.registers_fit in
-          let to_it : local < s.registers = omega (arith, le) in
-          let j = sealing.sound s l g h.1 in
-          (j.0, (to_it, j.1));
+      sound = (
+        λ p n f s l g h.
+            let le = h.0.registers_fit in
+            let to_it : local < s.registers = omega (arith, le) in
+            let j = sealing.sound s l g h.1 in
+            (j.0, (to_it, j.1)),
+        omega (arith, sealing.insts),
+      );
       does = λ bs h. (refl, sealing.lands bs h);
     })
 
@@ -239,13 +255,16 @@ to_variable_emits old new to x g free t z b last code after it ig ift lt iz ltz 
       count = sealing.count;
       room = omega (arith, ltz, iz, ift);
       limit = tt;
-      sound = λ p n f s l g' h.
-          let there = in_scope p s _ _ h.0 refl f in
-          let le = h.0.registers_fit in
-          let of_result : t < s.registers = omega (arith, le, ift) in
-          let of_index : z < s.registers = omega (arith, le, ift, iz) in
-          let j = sealing.sound s l g' (sound_first _ fc of_index (sound_first _ fl (there, (of_index, of_result)) (sound_line _ h.1))) in
-          (j.0, (of_result, j.1));
+      sound = (
+        λ p n f s l g' h.
+            let there = in_scope p s _ _ h.0 refl f in
+            let le = h.0.registers_fit in
+            let of_result : t < s.registers = omega (arith, le, ift) in
+            let of_index : z < s.registers = omega (arith, le, ift, iz) in
+            let j = sealing.sound s l g' (sound_first _ fc of_index (sound_first _ fl (there, (of_index, of_result)) (sound_line _ h.1))) in
+            (j.0, (of_result, j.1)),
+        (let n = ap insts_of both in let a = line_insts after in omega (arith, n, a, sealing.insts)),
+      );
       does = λ bs h. record {
         t = t;
         z = z;
@@ -265,17 +284,20 @@ call_emits old mid new to f f' es free x places0 places ps1 ps2 args end after r
     ended (values_size es free) (statement_size (call to f es) free (joint after)) (receiver_blocks to (joint after)) old mid new _ _ _ _ r
     (record { blocks = omega arith; registers = omega arith; room = λ le. omega (arith, le, room, receiver.room); globals = omega arith })
     receiver.grows receiver.count
-    (λ from keeps p n gives inside fits s l g h.
-    let j = receiver.sound p n fits.0 s (within values.grows l) g (fewer h.0 (omega arith), h.1) in
-    let le = h.0.registers_fit in
-    let in_places : places_registers es free ≤ s.registers = omega (arith, le) in
-    let few : values_registers es free ≤ s.registers = omega (arith, le) in
-    let all : places ≡ add.0 = add.1 ∙ ap (λ l. l ++ add.0) i0 in
-    let registers = ia ∙ ap (map (λ p. p.register)) (i1 ∙ all) in
-    let named_call = fits.1.0 in
-    let callee = callee_sound p s _ _ named_call.callee _ _ _ _ h.0 ig named_call.there named_call.count registers add.2 in
-    let exit = sound_exit _ fe (callee, (place_registers_sound s.registers _ _ _ _ registers add.2 in_places, j.1)) in
-    keeps s l j.0 (in_places, ((few, named_all p s n es h.0 fits.1.1), exit)))
+    (λ from keeps. (
+      λ p n gives inside fits s l g h.
+          let j = receiver.sound.0 p n fits.0 s (within values.grows l) g (fewer h.0 (omega arith), h.1) in
+          let le = h.0.registers_fit in
+          let in_places : places_registers es free ≤ s.registers = omega (arith, le) in
+          let few : values_registers es free ≤ s.registers = omega (arith, le) in
+          let all : places ≡ add.0 = add.1 ∙ ap (λ l. l ++ add.0) i0 in
+          let registers = ia ∙ ap (map (λ p. p.register)) (i1 ∙ all) in
+          let named_call = fits.1.0 in
+          let callee = callee_sound p s _ _ named_call.callee _ _ _ _ h.0 ig named_call.there named_call.count registers add.2 in
+          let exit = sound_exit _ fe (callee, (place_registers_sound s.registers _ _ _ _ registers add.2 in_places, j.1)) in
+          keeps.0 s l j.0 (in_places, ((few, named_all p s n es h.0 fits.1.1), exit)),
+      (let k = keeps.1 in let m = receiver.sound.1 in let n = ap insts_of fe in omega (arith, k, m, n)),
+    ))
     (λ from does bs h leave next. call_code old mid new free to f f' x.to es places0 places ps1 ps2 args (open_code from) (open_code end) after x.block
     ig i0 add i1 i2 ia fe receiver.grows values.grows receiver.does does leave next bs h) values
 
@@ -284,7 +306,8 @@ call_emits old mid new to f f' es free x places0 places ps1 ps2 args end after r
 pub nothing_returned : (old : List RBlock) (given : Option TypedExpression) (free : ℕ) (code : OpenBlock) (after : Spot) → given ≡ None
     → open_code code ≡ exit_code (X.Return None) → EmitsCode (return_with given) free after old old (Ok code)
 nothing_returned old given free code after ig fe = subst (λ given. EmitsCode (return_with given) free after old old (Ok code)) (sym ig)
-    (emitted _ old old _ _ _ (grows_same old) (omega arith) (omega arith) (λ p n gives inside f s l g h. (g, sound_exit _ fe tt)) (λ bs h leave next. ap Line fe))
+    (emitted _ old old _ _ _ (grows_same old) (omega arith) (omega arith)
+    (λ p n gives inside f s l g h. (g, sound_exit _ fe tt), (let n = ap insts_of fe in omega (arith, n))) (λ bs h leave next. ap Line fe))
 
 pub value_returned : (old new : List RBlock) (given : Option TypedExpression) (e : TypedExpression) (free p next : ℕ) (end : OpenBlock) (after : Spot)
     (r : Result OpenBlock LowerFault) → given ≡ Some e → IsPlace e free p next → place_registers e free ≤ MAX_REGISTERS
@@ -294,12 +317,15 @@ value_returned old new given e free p next end after r ig pl room fe o =
     (ended (value_size e free 1) (statement_size (return_with (Some e)) free (joint after)) 0 old old new _ _ _ _ r
     (record { blocks = omega arith; registers = omega arith; room = λ le. omega (arith, le, room); globals = omega arith })
     (grows_same old) (omega arith)
-    (λ from keeps p' n gives inside f s l g h.
-    let le = h.0.registers_fit in
-    let pw = pl.counted in
-    let held : p < s.registers = omega (arith, le, pw) in
-    let few : value_registers e free ≤ s.registers = omega (arith, le) in
-    keeps s l g (held, ((few, named p' s n e h.0 f.1), sound_exit _ fe held)))
+    (λ from keeps. (
+      λ p' n gives inside f s l g h.
+          let le = h.0.registers_fit in
+          let pw = pl.counted in
+          let held : p < s.registers = omega (arith, le, pw) in
+          let few : value_registers e free ≤ s.registers = omega (arith, le) in
+          keeps.0 s l g (held, ((few, named p' s n e h.0 f.1), sound_exit _ fe held)),
+      (let k = keeps.1 in let n = ap insts_of fe in omega (arith, k, n)),
+    ))
     (λ from does bs h leave next'. fetches_first from pl (finds_to fe (does bs h))) o)
 
 -- statements that are no code of their own
@@ -307,20 +333,20 @@ value_returned old new given e free p next end after r ig pl room fe o =
 pub nothing_emits : (old : List RBlock) (s : Tree.TypedStatement) (c : Context) (after : Continuation)
     → (s ≡ Tree.Empty) ⊎ ((x : ℕ) × s ≡ Tree.Unset x) → EmitsStatement (statement_of s) c (spot after) old old (Ok after)
 nothing_emits old s c after (inl is) = subst (λ s. EmitsStatement (statement_of s) c (spot after) old old (Ok after)) (sym is)
-    (emitted _ old old _ _ _ (grows_same old) (omega arith) (omega arith) (refl, λ p n gives inside f s l g h. (g, h.1.1.1)) (λ bs h. refl))
+    (emitted _ old old _ _ _ (grows_same old) (omega arith) (omega arith) (refl, λ p n gives inside f s l g h. (g, h.1.1.1), omega arith) (λ bs h. refl))
 nothing_emits old s c after (inr is) = subst (λ s. EmitsStatement (statement_of s) c (spot after) old old (Ok after)) (sym is.1)
-    (emitted _ old old _ _ _ (grows_same old) (omega arith) (omega arith) (refl, λ p n gives inside f s l g h. (g, h.1.1.1)) (λ bs h. refl))
+    (emitted _ old old _ _ _ (grows_same old) (omega arith) (omega arith) (refl, λ p n gives inside f s l g h. (g, h.1.1.1), omega arith) (λ bs h. refl))
 
 pub break_emits : (old : List RBlock) (s : TypedStatement) (c : Context) (after : Spot) → s ≡ break_loop
     → EmitsStatement s c after old old (Ok (Jump c.leave))
 break_emits old s c after is = subst (λ s. EmitsStatement s c after old old (Ok (Jump c.leave))) (sym is)
-    (emitted _ old old _ _ _ (grows_same old) (omega arith) (omega arith) (refl, λ p n gives inside f s l g h. (g, h.1.0)) (λ bs h. refl))
+    (emitted _ old old _ _ _ (grows_same old) (omega arith) (omega arith) (refl, λ p n gives inside f s l g h. (g, h.1.0), omega arith) (λ bs h. refl))
 
 pub continue_emits : (old : List RBlock) (s : TypedStatement) (c : Context) (b : ℕ) (after : Spot) → s ≡ continue_loop → c.next ≡ Some b
     → EmitsStatement s c after old old (Ok (Jump b))
 continue_emits old s c b after is ib = subst (λ s. EmitsStatement s c after old old (Ok (Jump b))) (sym is)
     (emitted _ old old _ _ _ (grows_same old) (omega arith) (omega arith)
-    (refl, λ p n gives inside f s l g h. (g, subst (λ next. IfSome next (λ b. b < s.blocks)) ib h.1.1.0)) (λ bs h. (b, ib, refl)))
+    (refl, λ p n gives inside f s l g h. (g, subst (λ next. IfSome next (λ b. b < s.blocks)) ib h.1.1.0), omega arith) (λ bs h. (b, ib, refl)))
 
 -- lists of statements
 
@@ -332,7 +358,7 @@ block_emits old new s all c after r is e = subst (λ s. EmitsStatement s c after
 pub none_emits : (old : List RBlock) (all : TypedStatements) (c : Context) (after : Continuation) → all ≡ no_statements
     → EmitsStatements all c (spot after) old old (Ok after)
 none_emits old all c after is = subst (λ all. EmitsStatements all c (spot after) old old (Ok after)) (sym is)
-    (emitted _ old old _ _ _ (grows_same old) (omega arith) (omega arith) (refl, λ p n gives inside f s l g h. (g, h.1.1.1)) (λ bs h. refl))
+    (emitted _ old old _ _ _ (grows_same old) (omega arith) (omega arith) (refl, λ p n gives inside f s l g h. (g, h.1.1.1), omega arith) (λ bs h. refl))
 
 pub more_emits : (old mid new : List RBlock) (all : TypedStatements) (s : TypedStatement) (rest : TypedStatements) (c : Context) (after : Spot)
     (middle : Continuation) (r : Result Continuation LowerFault) → all ≡ more_statements s rest → EmitsStatements rest c after old mid (Ok middle)
@@ -356,6 +382,7 @@ more_emits old mid new all s rest c after middle r is others one =
       λ p n gives inside f s' l g h.
           let m = others.sound.1 p n gives inside f.1 s' (within one.grows l) g (fewer h.0 (omega arith), h.1) in
           keeps.1 p n gives inside f.0 s' l m.0 (fewer h.0 (omega arith), (h.1.0, (h.1.1.0, m.1))),
+      (let k = keeps.2 in let n = others.sound.2 in omega (arith, k, n)),
     ))
     (λ from does bs h.
     let sp = split2 bs old mid new others.grows one.grows h in
@@ -381,10 +408,11 @@ if_is {s} {e} {a} {b} {a'} is ia ib = is ∙ ap (λ a. if_else e a b) (sym ia) �
 
 pub side_emits : (old mid new : List RBlock) (s : TypedStatement) (c : Context) (join : ℕ) (code : Continuation) (r : Result ℕ LowerFault)
     → EmitsStatement s c (Block join) old mid (Ok code) → Grows mid new → OnOk r (length new ≡ length mid + joint (spot code))
+    → OnOk r (insts_in new ≡ insts_in mid + insts_at (spot code))
     → IfErr r (λ f. f ≡ Limit → MAX_BLOCKS < length mid + joint (spot code))
     → IfOk r (λ b. KeepsSound mid new (λ s. IsSoundSpot s (spot code)) (λ s. b < s.blocks))
     → IfOk r (λ b. (bs : List RBlock) → Has bs mid new → Lands bs b (spot code)) → EmitsSide s c join old new r
-side_emits old mid new s c join code (Ok b) e g count limit sound lands =
+side_emits old mid new s c join code (Ok b) e g count insts limit sound lands =
     let c1 : length mid ≡ length old + statement_blocks s 0 = e.count in
     let same : joint (spot code) ≡ statement_joint s 0 = e.sound.0 in
     record {
@@ -392,14 +420,17 @@ side_emits old mid new s c join code (Ok b) e g count limit sound lands =
       count = omega (arith, c1, count, same);
       room = e.room;
       limit = tt;
-      sound = λ p n gives inside f s' l g0 h.
-          let m = e.sound.1 p n gives inside f s' (within g l) g0 h in
-          sound s' l m.0 m.1;
+      sound = (
+        λ p n gives inside f s' l g0 h.
+            let m = e.sound.1 p n gives inside f s' (within g l) g0 h in
+            sound s' l m.0 m.1,
+        (let a = e.sound.2 in omega (arith, a, insts)),
+      );
       does = λ bs h.
           let sp = split2 bs old mid new e.grows g h in
           (spot code, lands bs sp.1, e.does bs sp.0);
     }
-side_emits old mid new s c join code (Err f) e g count limit sound lands =
+side_emits old mid new s c join code (Err f) e g count insts limit sound lands =
     let c1 : length mid ≡ length old + statement_blocks s 0 = e.count in
     let same : joint (spot code) ≡ statement_joint s 0 = e.sound.0 in
     record {
@@ -435,11 +466,12 @@ if_emits b0 b1 b2 b3 b4 e a b c join y n likely after r il sealing one other tes
           let l3 = within test'.grows l in
           let l2 = within other.grows l3 in
           let j = sealing.sound s (within one.grows l2) g h.1.1.1 in
-          let x = one.sound p k gives inside f.1.0 s l2 j.0 (fewer h.0 (omega arith), (h.1.0, (h.1.1.0, j.1))) in
-          let z = other.sound p k gives inside f.1.1 s l3 x.0 (fewer h.0 (omega arith), (h.1.0, (h.1.1.0, j.1))) in
+          let x = one.sound.0 p k gives inside f.1.0 s l2 j.0 (fewer h.0 (omega arith), (h.1.0, (h.1.1.0, j.1))) in
+          let z = other.sound.0 p k gives inside f.1.1 s l3 x.0 (fewer h.0 (omega arith), (h.1.0, (h.1.1.0, j.1))) in
           let le = h.0.registers_fit in
           let few : condition_registers e (stays a && not (is_equality e)) c.free ≤ s.registers = omega (arith, le) in
-          keeps s l z.0 ((few, named p s k e h.0 f.0), (x.1, z.1)),
+          keeps.0 s l z.0 ((few, named p s k e h.0 f.0), (x.1, z.1)),
+      (let k = keeps.1 in let x = one.sound.1 in let z = other.sound.1 in omega (arith, k, x, z, sealing.insts)),
     ))
     (λ from does bs h.
     let sp = split4 bs b0 b1 b2 b3 b4 sealing.grows one.grows other.grows test'.grows h in
@@ -504,7 +536,7 @@ block_ends old new many last b im sealing =
       count = sealing.count;
       room = omega arith;
       limit = tt;
-      sound = ((refl, refl), λ s l g h. let j = sealing.sound s l g h in (j.0, (j.1, j.1)));
+      sound = ((refl, refl), λ s l g h. let j = sealing.sound s l g h in (j.0, (j.1, j.1)), omega (arith, sealing.insts));
       does = turn_block old new b last sealing.lands;
     })
 
@@ -516,7 +548,7 @@ line_ends old many last im =
       count = omega arith;
       room = omega arith;
       limit = tt;
-      sound = ((refl, refl), λ s l g h. (g, (tt, h)));
+      sound = ((refl, refl), λ s l g h. (g, (tt, h)), omega arith);
       does = λ bs h. record { comes = comes_equal bs (spot last) (spot last) refl; continues = λ b e. cc };
     })
 
@@ -540,9 +572,10 @@ turn_emits b0 b1 b2 b3 e last c many again bottom code r test part end =
           let l2 = within end.grows l in
           let le = h.0.registers_fit in
           let few : condition_registers e again.likely c.free ≤ s.registers = omega (arith, le) in
-          let x = test.sound s (within part.grows l2) g ((few, named p s n e h.0 fe), h.1.1.1) in
+          let x = test.sound.0 s (within part.grows l2) g ((few, named p s n e h.0 fe), h.1.1.1) in
           let y = part.sound.1 p n gives false fl s l2 x.0 (fewer h.0 (omega arith), (h.1.0, (h.1.1.0, x.1))) in
           keeps.1 s l y.0 y.1,
+      (let k = keeps.2 in let x = test.sound.1 in let y = part.sound.2 in omega (arith, k, x, y)),
     ))
     (λ t does bs h.
     let sp = split3 bs b0 b1 b2 b3 test.grows part.grows end.grows h in
@@ -557,12 +590,13 @@ grows_filled b0 b5 b6 head c g low f = record {
 pub loop_emits : (b0 b1 b2 b3 b4 b5 b6 : List RBlock) (e : TypedExpression) (last body : TypedStatement) (c inner : Context) (many : Bool)
     (left head : ℕ) (turn : Turn) (code : Continuation) (top : OpenBlock) (filled : Code) (after : Spot) → many ≡ continues body
     → inner ≡ record { alloc = c.alloc; free = c.free; leave = left; next = turn.next } → Sealing b0 b1 left after → Reserves b1 b2 head
-    → ((s : Scope) → AreSound s b1 → AreSound s b2) → EmitsTurn e last c many (record { yes = head; no = left; likely = true }) b2 b3 (Ok turn)
+    → insts_in b2 ≡ insts_in b1 → ((s : Scope) → AreSound s b1 → AreSound s b2) → EmitsTurn e last c many (record { yes = head; no = left; likely = true }) b2 b3 (Ok turn)
     → EmitsStatement body inner (spot turn.after) b3 b4 (Ok code)
     → EmitsBranch (condition_size e true c.free) e (record { yes = head; no = left; likely = true }) c.free b4 b5 (Ok top)
-    → filled ≡ line_of (spot code) → Fills b5 b6 head filled → ((s : Scope) → AreSound s b5 → IsSound s filled → AreSound s b6)
+    → filled ≡ line_of (spot code) → Fills b5 b6 head filled → insts_in b6 ≤ insts_in b5 + insts_of filled
+    → ((s : Scope) → AreSound s b5 → IsSound s filled → AreSound s b6)
     → EmitsStatement (loop e last body) c after b0 b6 (Ok (Made top))
-loop_emits b0 b1 b2 b3 b4 b5 b6 e last body c inner many left head turn code top filled after im ii sealing res kept turns inside test ie f sound =
+loop_emits b0 b1 b2 b3 b4 b5 b6 e last body c inner many left head turn code top filled after im ii sealing res i2 kept turns inside test ie f i6 sound =
     let body_emits = subst (λ inner. EmitsStatement body inner (spot turn.after) b3 b4 (Ok code)) ii inside in
     let turn_emits' =
     subst (λ many. EmitsTurn e last c many (record { yes = head; no = left; likely = true }) b2 b3 (Ok turn)) im turns in
@@ -597,8 +631,14 @@ loop_emits b0 b1 b2 b3 b4 b5 b6 e last body c inner many left head turn code top
             let y = body_emits.sound.1 p n gives true f'.1.1 s l4 x.0 (fewer h.0 (omega arith), (j.1, x.1)) in
             let le = h.0.registers_fit in
             let few : condition_registers e true c.free ≤ s.registers = omega (arith, le) in
-            let z = test.sound s l5 y.0 ((few, named p s n e h.0 f'.0), (at, j.1)) in
+            let z = test.sound.0 s l5 y.0 ((few, named p s n e h.0 f'.0), (at, j.1)) in
             (sound s z.0 (sound_along ie (sound_line _ y.1)), z.1),
+        (let x = turn_emits'.sound.2 in
+            let y = body_emits.sound.2 in
+            let z = test.sound.1 in
+            let n = ap insts_of ie in
+            let a = line_insts (spot code) in
+            omega (arith, x, y, z, n, a, i2, i6, sealing.insts)),
       );
       does = λ bs h.
           let h2 = has_past bs b0 b2 b5 b6 head filled (omega (arith, sealing.grows.longer, res.longer)) in_b2 f h in

@@ -20,9 +20,9 @@ use Rattle.rtl.specs.Meaning.{Code, first_values}
 use Rattle.rtl.specs.declared.block.RBlock.{RBlock}
 use Rattle.rtl.specs.declared.block.RFunc.{RFunc}
 use Rattle.rtl.specs.declared.block.RGlobal.{RGlobal}
-use Rattle.rtl_emit.specs.Blocks.{Spot, Line, line_of, At, Reserves, Fills}
+use Rattle.rtl_emit.specs.Blocks.{Spot, Line, line_of, insts_in, At, Reserves, Fills}
 use Rattle.rtl_emit.specs.Sound.{Scope, AreSound}
-use Rattle.rtl_lower.specs.Sizes.{statements_blocks, function_registers}
+use Rattle.rtl_lower.specs.Sizes.{statements_blocks, statements_insts, function_registers}
 use Rattle.rtl_lower.specs.Sound.{Suits}
 use Rattle.rtl_lower.specs.Laws.{KeepsRuns}
 use Rattle.rtl_lower.specs.Coded.{IsCodeOf, IsGlobalOf, ArePairs, AreCodesOf, AreGlobalsOf, CodedAll}
@@ -33,9 +33,10 @@ pub function_code : (f : TypedFunction) (r : RFunc) (b0 b1 b2 : List RBlock) (fr
     → free ≡ f.locals → r.parameters ≡ f.parameters → all ≡ f.body → b0 ≡ [] → Reserves b0 b1 entry → MakesAll b1 b2 free all 0 None from (Line end)
     → filled ≡ line_of from → Fills b2 r.blocks.items entry filled
     → length b2 ≡ length b1 + statements_blocks all 1
+    → insts_in r.blocks.items ≤ statements_insts all
     → ((p : TypedProgram) (s : Scope) → Suits p (function_registers f) s → FitsFunction p f → length r.blocks.items ≤ s.blocks
     → AreSound s r.blocks.items) → IsCodeOf f r
-function_code f r b0 b1 b2 free entry all filled end from il ip ib e0 res makes fe f' count sound =
+function_code f r b0 b1 b2 free entry all filled end from il ip ib e0 res makes fe f' count insts sound =
     let zero_entry : entry ≡ 0 = res.number ∙ ap length e0 in
     let one : length b1 ≡ 1 = omega (arith, res.longer, ap length e0) in
     let here = makes r.blocks.items (record { by = λ i low high. let ne : i ≢ entry = omega arith in f'.others i ne }) in
@@ -47,6 +48,7 @@ function_code f r b0 b1 b2 free entry all filled end from il ip ib e0 res makes 
       body = subst (λ n. CodedAll r.blocks.items n f.body 0 None from (Line end)) il
           (subst (λ b. CodedAll r.blocks.items free b 0 None from (Line end)) ib here);
       count = (let blocks = ap (λ b. statements_blocks b 1) ib in omega (arith, f'.same_length, count, one, blocks));
+      insts = subst (λ b. insts_in r.blocks.items ≤ statements_insts b) ib insts;
       sound = sound;
     }
 

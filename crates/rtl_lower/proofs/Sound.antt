@@ -219,6 +219,7 @@ size_is p rs f r callees fits c =
       registers = bound_within r.parameters (function_registers f) (blocks_names r.blocks.items) (omega (arith, q, m))
           (blocks_below s r.blocks.items (sound_function p rs (length p.globals) f r callees (omega arith) fits c));
       blocks = c.count;
+      insts = c.insts;
     }
 
 function_is : (p : TypedProgram) (rs : List RFunc) (globals : ℕ) (f : TypedFunction) (r : RFunc)

@@ -19,12 +19,12 @@ use Rattle.rtl.specs.declared.instruction.RExit.TheVariants as X
 use Rattle.rtl.specs.declared.block.RBlock.{RBlock}
 use Rattle.rtl.specs.declared.block.RFunc.{RFunc}
 use Rattle.rtl.specs.declared.block.RGlobal.{RGlobal}
-use Rattle.rtl_emit.specs.Blocks.{goto, exit_code, first, Spot, Block, Line, line_of, Lands, At}
+use Rattle.rtl_emit.specs.Blocks.{goto, exit_code, first, Spot, Block, Line, line_of, insts_in, Lands, At}
 use Rattle.rtl_emit.specs.Runs.{at_code, Goes}
 use Rattle.rtl_emit.specs.Expressions.{IsPlace, Evaluates, Fetches, Decides, ArePlaces, FetchAll}
 use Rattle.rtl_emit.specs.Sound.{Scope, AreSound}
 use Rattle.rtl_emit.specs.declared.place.Place.{Place}
-use Rattle.rtl_lower.specs.Sizes.{function_blocks, function_registers}
+use Rattle.rtl_lower.specs.Sizes.{function_blocks, function_insts, function_registers}
 use Rattle.rtl_lower.specs.Sound.{Suits}
 
 -- code that is at a spot, or that has jumped there already
@@ -195,7 +195,7 @@ abbrev mutual
   CodedAll bs free (more_statements s rest) leave next from after =
       (middle : Spot) × Coded bs free s leave next from middle × CodedAll bs free rest leave next middle after
 
--- the blocks of a function, which name no more registers than are counted on it
+-- the blocks of a function, which name no more registers and have no more instructions than are counted on it
 pub record IsCodeOf (f : TypedFunction) (r : RFunc) : Type 0 where
   pub parameters : r.parameters ≡ f.parameters
   pub entry : Spot
@@ -203,6 +203,7 @@ pub record IsCodeOf (f : TypedFunction) (r : RFunc) : Type 0 where
   pub after : Code
   pub body : CodedAll r.blocks.items f.locals f.body 0 None entry (Line after)
   pub count : length r.blocks.items ≡ function_blocks f
+  pub insts : insts_in r.blocks.items ≤ function_insts f
   pub sound : (p : TypedProgram) (s : Scope) → Suits p (function_registers f) s → FitsFunction p f → length r.blocks.items ≤ s.blocks
       → AreSound s r.blocks.items
 

@@ -1,5 +1,5 @@
--- How many blocks the code of a statement, a function and a program takes, and how many pseudo-registers: one more than the
--- greatest number that it takes. `free` is the number of the function's locals, the first register that is free.
+-- How many blocks the code of a statement, a function and a program takes, at most how many instructions, and how many
+-- pseudo-registers: one more than the greatest number that it takes. `free` is the number of the function's locals, the first register that is free.
 use Rattle.std.specs.Prelude.{◌≡◌, ℕ, ◌+◌, ◌<◌, ◌^◌, max, Bool, true, false, ◌||◌, ◌&&◌, not, ◌≤◌, All, sum_by, List, Option, Some, None}
 use Rattle.std.specs.Prelude.{if◌then◌else◌}
 use Rattle.c_typed.specs.declared.tree.Destination.{Destination}
@@ -11,7 +11,7 @@ use Rattle.c_typed.specs.Trees.{assign, store, call}
 use Rattle.c_typed.specs.Trees.{output, if_else, loop, break_loop, continue_loop, return_with, no_statements, more_statements}
 use Rattle.rtl.specs.declared.limits.TheConstants.{MAX_REGISTERS, MAX_BLOCKS}
 use Rattle.rtl_emit.specs.Sizes.{value_blocks, condition_blocks, arguments_blocks, value_registers, condition_registers, place_registers}
-use Rattle.rtl_emit.specs.Sizes.{next_free}
+use Rattle.rtl_emit.specs.Sizes.{next_free, value_insts, condition_insts, arguments_insts}
 use Rattle.rtl_emit.specs.Sizes.{operand_registers, operands_registers, places_registers, values_registers, globals_named, globals_named_in}
 
 -- a test of equality, which seldom holds
@@ -95,6 +95,28 @@ abbrev mutual
   statements_blocks no_statements n = 0
   statements_blocks (more_statements s rest) n = statements_blocks rest n + statement_blocks s (statements_joint rest n)
 
+-- at most how many instructions; the test of a loop stands before it and behind its last part
+abbrev pub receiver_insts : Option Destination → ℕ
+receiver_insts (Some (Variable g)) = 2
+receiver_insts _ = 0
+
+abbrev mutual
+  pub statement_insts : TypedStatement → ℕ
+  statement_insts (block all) = statements_insts all
+  statement_insts (assign (Local x) e) = value_insts e
+  statement_insts (assign (Variable g) e) = value_insts e + 2
+  statement_insts (store a i e) = value_insts e + value_insts i + 1
+  statement_insts (call to f es) = receiver_insts to + arguments_insts es
+  statement_insts (output e) = value_insts e
+  statement_insts (if_else e a b) = statement_insts a + statement_insts b + condition_insts e
+  statement_insts (loop e last body) = condition_insts e + statement_insts last + statement_insts body + condition_insts e
+  statement_insts (return_with (Some e)) = value_insts e
+  statement_insts _ = 0
+
+  pub statements_insts : TypedStatements → ℕ
+  statements_insts no_statements = 0
+  statements_insts (more_statements s rest) = statements_insts rest + statement_insts s
+
 abbrev mutual
   pub statement_registers : TypedStatement → (free : ℕ) → ℕ
   statement_registers (block all) free = statements_registers all free
@@ -119,6 +141,9 @@ abbrev mutual
 -- the entry and the blocks of the body
 abbrev pub function_blocks : TypedFunction → ℕ
 function_blocks f = 1 + statements_blocks f.body 1
+
+abbrev pub function_insts : TypedFunction → ℕ
+function_insts f = statements_insts f.body
 
 abbrev pub function_registers : TypedFunction → ℕ
 function_registers f = max f.locals (statements_registers f.body f.locals)

@@ -4,7 +4,7 @@
 //! Contract: `lower`
 //! - If the source isn't wrong after n steps, its RTL has the same end and output after no fewer.
 //! - Ok comes only within 8,000 pseudo-registers and 1,048,575 blocks, counted on the typed program, and Limit only beyond.
-//! - Each function has as many blocks as are counted, and no more registers.
+//! - Each function has as many blocks as are counted, and no more registers and instructions.
 //!
 //! | Tested | In |
 //! |---|---|

@@ -5,7 +5,7 @@ ghost use Rattle.c_typed.specs.Shape.{functions_of};
 ghost use Rattle.c_typed.specs.WellFormed.{words_in};
 ghost use Rattle.c_typed.specs.declared.limits.TheConstants.{MAX_GLOBAL_WORDS};
 ghost use Rattle.rtl_lower.specs.Coded.{AreCodesOf, AreGlobalsOf};
-ghost use Rattle.rtl.specs.Programs.{block_count};
+ghost use Rattle.rtl.specs.Programs.{IsProgram, block_count};
 ghost use Rattle.rtl.specs.declared.limits.TheConstants.{MAX_REGISTERS};
 ghost use Rattle.rtl_lower.specs.Laws.{KeepsRuns, AreOfSizes};
 ghost use Rattle.rtl_lower.specs.Sizes.{function_blocks, function_registers, IsPlain, HaveRoom};
@@ -55,12 +55,13 @@ fn globals(alloc: Global, all: &[TypedGlobal]) -> Result<Vec<RGlobal>, LowerFaul
 }
 
 /// The program of RTL that does what the source does: wherever the source isn't wrong, it comes to the same end and output.
-/// Each of its functions has no more pseudo-registers than are counted on the typed one, and as many blocks; its globals are
-/// those of the source.
+/// Each of its functions has no more pseudo-registers and instructions than are counted on the typed one, and as many blocks; its
+/// globals are those of the source.
 /// A Limit only where a function would have more than 8,000 pseudo-registers or the program more than 1,048,575 blocks;
 /// NoMemory where memory is refused.
 pub fn lower(alloc: Global, program: &Typed) -> Result<Rtl, LowerFault>
     ensures runs { IfOk result (λ r. KeepsRuns (program_of program.now) r) }
+    ensures program { IfOk result IsProgram }
     ensures sizes { IfOk result (λ r. AreOfSizes (functions_of program.now.functions) r.functions) }
     ensures variables { IfOk result (λ r. AreGlobalsOf program.now.globals r.globals) }
     ensures within { OnOk result (HaveRoom (functions_of program.now.functions)) }

@@ -66,13 +66,13 @@ unary_into-returns-in_ok-truth-in-Branches t c = λ k.
     let truth = c.in_ok-truth-in-Branches.ensures in
     not_emits _ _ _ _ k _ _ c.args.aim.to c.args.aim.free c.in_ok-truth-in-Branches.truth _ (spot c.args.aim.after) _ c.in-Branches.ensures c.is_logical.ensures
     c.likely_first.ensures
-    (record { grows = truth.grows; count = truth.count; sound = truth.sound; likely = truth.is_likely; truth = truth.truth }) c.condition.ensures
+    (record { grows = truth.grows; count = truth.count; insts = truth.insts; sound = truth.sound; likely = truth.is_likely; truth = truth.truth }) c.condition.ensures
 
 pub unary_into-returns-in-Combined : goal.unary_into-returns-in-Combined
 unary_into-returns-in-Combined t c = λ k.
     let value = c.combination_at-value.ensures in
     prefix_emits _ _ _ _ k _ _ c.args.aim.to c.args.aim.free c.open_block.result (spot c.args.aim.after) c.combination_at-value.result _ c.in-Combined.ensures
-    c.is_logical.ensures c.open_block.ensures value.place value.room value.does value.sound value.limit c.await_operand.ensures.ok c.await_operand.ensures.err
+    c.is_logical.ensures c.open_block.ensures value.place value.room value.does value.insts value.sound value.limit c.await_operand.ensures.ok c.await_operand.ensures.err
 
 pub binary_into-returns-in-Logical : goal.binary_into-returns-in-Logical
 binary_into-returns-in-Logical t c =
@@ -96,7 +96,7 @@ pub told_into-returns : goal.told_into-returns
 told_into-returns t c = λ k.
     let truth = c.in_ok-truth.ensures in
     told_emits c.args.both _ _ _ k _ _ c.in_ok-truth.truth c.args.aim.to c.args.aim.free (spot c.args.aim.after) _
-    (record { grows = truth.grows; count = truth.count; sound = truth.sound; likely = truth.is_likely; truth = truth.truth }) (c.logical_branches.ensures k)
+    (record { grows = truth.grows; count = truth.count; insts = truth.insts; sound = truth.sound; likely = truth.is_likely; truth = truth.truth }) (c.logical_branches.ensures k)
 
 pub conditional_into-returns-in_err-join : goal.conditional_into-returns-in_err-join
 conditional_into-returns-in_err-join t c = λ k.
@@ -107,19 +107,19 @@ pub conditional_into-returns-in_err-yes : goal.conditional_into-returns-in_err-y
 conditional_into-returns-in_err-yes t c = λ k.
     let join = c.in_ok-join.ensures in
     first_value_stops _ _ _ k _ _ _ c.args.aim.to c.args.aim.free c.in_ok-join.join (spot c.args.aim.after) c.in_err-yes.field-0.0 _ (search rules)
-    (record { grows = join.grows; count = join.count; sound = join.sound; lands = join.lands }) c.in_err-yes.ensures
+    (record { grows = join.grows; count = join.count; insts = join.insts; sound = join.sound; lands = join.lands }) c.in_err-yes.ensures
 
 pub conditional_into-returns-in_err-no : goal.conditional_into-returns-in_err-no
 conditional_into-returns-in_err-no t c = λ k.
     let join = c.in_ok-join.ensures in
     value_stops _ _ _ _ k _ _ _ c.args.aim.to c.args.aim.free c.in_ok-join.join c.in_ok-yes.yes (spot c.args.aim.after) c.in_err-no.field-0.0 _
-    (search rules) (record { grows = join.grows; count = join.count; sound = join.sound; lands = join.lands }) c.in_ok-yes.ensures c.in_err-no.ensures
+    (search rules) (record { grows = join.grows; count = join.count; insts = join.insts; sound = join.sound; lands = join.lands }) c.in_ok-yes.ensures c.in_err-no.ensures
 
 pub conditional_into-returns : goal.conditional_into-returns
 conditional_into-returns t c = λ k.
     let join = c.in_ok-join.ensures in
     conditional_emits _ _ _ _ _ k _ _ _ _ c.args.aim.to c.args.aim.free c.in_ok-join.join c.in_ok-yes.yes c.in_ok-no.no (spot c.args.aim.after) _
-    c.likely_first.ensures (record { grows = join.grows; count = join.count; sound = join.sound; lands = join.lands }) c.in_ok-yes.ensures c.in_ok-no.ensures
+    c.likely_first.ensures (record { grows = join.grows; count = join.count; insts = join.insts; sound = join.sound; lands = join.lands }) c.in_ok-yes.ensures c.in_ok-no.ensures
     c.condition.ensures
 
 pub value_block-returns-in_err-code : goal.value_block-returns-in_err-code
@@ -130,7 +130,7 @@ pub value_block-returns : goal.value_block-returns
 value_block-returns t c =
     let made = c.seal.ensures in
     block_emits _ _ _ (value_size (typed_expression_of c.args.e.now) c.args.free 0) _ _ _ c.in_ok-code.code _ c.in_ok-code.ensures
-    (λ s named h. (h.0, (named, h.1))) made.grows made.count made.limit made.sound made.at
+    (λ s named h. (h.0, (named, h.1))) made.grows made.count made.insts made.limit made.sound made.at
 
 pub operand_into-returns : goal.operand_into-returns
 operand_into-returns t c = operand_emits _ _ _ _ _ c.args.after _ c.value_into.ensures
@@ -150,7 +150,8 @@ await_both-returns t c = record {
 pub test-returns : goal.test-returns
 test-returns t c =
     let value = c.test_at.ensures in
-    test_emits _ _ _ c.args.targets _ c.test_at.result _ value.place value.room value.does value.sound value.limit c.await_operand.ensures.ok c.await_operand.ensures.err
+    test_emits _ _ _ c.args.targets _ c.test_at.result _ value.place value.room value.does value.insts value.sound value.limit
+    c.await_operand.ensures.ok c.await_operand.ensures.err
 
 pub condition-returns-in-Constant : goal.condition-returns-in-Constant
 condition-returns-in-Constant t c =
@@ -220,7 +221,7 @@ pub branch_block-returns : goal.branch_block-returns
 branch_block-returns t c =
     let made = c.seal.ensures in
     block_emits _ _ _ (condition_size (typed_expression_of c.args.e.now) c.args.targets.likely c.args.free) _ _ _ c.in_ok-code.code _ c.in_ok-code.ensures
-    (λ s named h. (named, h)) made.grows made.count made.limit made.sound made.at
+    (λ s named h. (named, h)) made.grows made.count made.insts made.limit made.sound made.at
 
 pub value_into-element_into-requires : goal.value_into-element_into-requires
 value_into-element_into-requires t c =

@@ -1,4 +1,5 @@
-use Rattle.std.proofs.Common.{◌<◌, arith}
+use Rattle.std.proofs.Common.{◌<◌, ap, arith}
+use Rattle.rtl_emit.specs.Blocks.{insts_of}
 use Rattle.rtl_emit.proofs.Emitted.{combine_from}
 use Rattle.rtl_emit.proofs.Sound.{sound_first, sound_operation}
 use Rattle.rtl_emit.proofs.waiting.combination_at.Goals as goal
@@ -7,6 +8,12 @@ pub returns-clause-does : goal.returns-clause-does
 returns-clause-does c = λ bs from f.
     combine_from bs _ _ _ _ _ _ _ _ _ from _ _ _ c.instruction.ensures c.in_ok-last.ensures c.in_ok-code.ensures c.in_ok-place.ensures.place
     c.in_ok-other.ensures.is f
+
+pub returns-clause-insts : goal.returns-clause-insts
+returns-clause-insts c =
+    let last = ap insts_of c.in_ok-last.ensures in
+    let code = ap insts_of c.in_ok-code.ensures in
+    omega (arith, last, code)
 
 pub returns-clause-sound : goal.returns-clause-sound
 returns-clause-sound c = λ s to few after.

@@ -1,4 +1,5 @@
-use Rattle.std.proofs.Common.{◌<◌, arith}
+use Rattle.std.proofs.Common.{◌<◌, ap, arith}
+use Rattle.rtl_emit.specs.Blocks.{insts_of}
 use Rattle.std.proofs.lemmas.Result.{IfOk-weaker}
 use Rattle.rtl_emit.proofs.Emitted.{plain_from, negated_from}
 use Rattle.rtl_emit.proofs.Emitting.{test_names, contrary_test_names}
@@ -15,6 +16,15 @@ returns-in_ok-contrary-clause-does c =
     (λ w h bs from f. negated_from bs _ _ _ _ _ _ from _ c.exit_block-end.ensures c.straight_op.ensures c.in_ok-contrary.ensures.is
     (h bs from f))
     c.combination_at.ensures.does
+
+pub returns-in_ok-place-clause-insts : goal.returns-in_ok-place-clause-insts
+returns-in_ok-place-clause-insts c = let n = ap insts_of c.exit_block-code.ensures in omega (arith, n)
+
+pub returns-in_ok-contrary-clause-insts : goal.returns-in_ok-contrary-clause-insts
+returns-in_ok-contrary-clause-insts c =
+    IfOk-weaker c.combination_at.result _ _
+    (λ w h. let n = ap insts_of c.exit_block-end.ensures in omega (arith, n, h))
+    c.combination_at.ensures.insts
 
 pub returns-in_ok-place-clause-sound : goal.returns-in_ok-place-clause-sound
 returns-in_ok-place-clause-sound c = λ s few yes no.

@@ -6,7 +6,8 @@ use Rattle.c_typed.specs.WellFormed.{FitsStatements}
 use Rattle.rtl.specs.declared.instruction.RExit.TheVariants as X
 use Rattle.rtl_emit.specs.Sound.{AreSound}
 use Rattle.rtl_emit.proofs.Sound.{sound_along, sound_exit, sound_line}
-use Rattle.rtl_emit.proofs.Blocks.{within}
+use Rattle.rtl_emit.specs.Blocks.{insts_in, insts_of, spot}
+use Rattle.rtl_emit.proofs.Blocks.{line_insts, within}
 use Rattle.rtl_lower.specs.Sizes.{statements_registers}
 use Rattle.rtl_lower.proofs.Sound.{fewer, some_within, within_filled}
 use Rattle.rtl_lower.proofs.Functions.{function_code}
@@ -17,6 +18,14 @@ returns-clause-code c =
     function_code _ _ _ _ _ _ _ _ _ _ _ c.in_ok-free.ensures.is c.in_ok-parameters.ensures.is (ap statements_of c.as_slice.ensures.value)
     c.new-blocks.ensures.items
     c.in_ok-entry.ensures.reserves c.in_ok-code.ensures.does c.open_block.ensures c.fill.ensures.fills c.in_ok-code.ensures.count
+    (let entry = c.in_ok-entry.ensures.insts in
+    let none = ap insts_in c.new-blocks.ensures.items in
+    let body = c.in_ok-code.ensures.sound.2 in
+    let filled = ap insts_of c.open_block.ensures in
+    let line = line_insts (spot c.in_ok-code.code) in
+    let end = ap insts_of c.exit_block.ensures in
+    let whole = c.fill.ensures.insts in
+    omega (arith, entry, none, body, filled, line, end, whole))
     (λ p s su fits le.
     let n = within_filled c.fill.ensures.fills le in
     let some = some_within c.in_ok-entry.ensures.reserves (within c.in_ok-code.ensures.grows n) in

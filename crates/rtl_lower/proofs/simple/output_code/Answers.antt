@@ -7,5 +7,5 @@ returns c =
     let join = c.in_ok-block.ensures in
     let value = c.in_ok-value.ensures in
     output_emits _ _ _ _ _ _ _ _ c.exit_block-end.result (spot c.args.after) _
-    (record { grows = join.grows; count = join.count; sound = join.sound; lands = join.lands }) value.place value.room c.exit_block-end.ensures
+    (record { grows = join.grows; count = join.count; insts = join.insts; sound = join.sound; lands = join.lands }) value.place value.room c.exit_block-end.ensures
     c.operand_into.ensures

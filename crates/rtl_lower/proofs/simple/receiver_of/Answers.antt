@@ -8,7 +8,7 @@ pub returns-in_ok-block-in-None : goal.returns-in_ok-block-in-None
 returns-in_ok-block-in-None c =
     let join = c.in_ok-block-in-None.ensures in
     nowhere_emits _ _ _ _ _ (spot c.args.after) c.in-None.is
-    (record { grows = join.grows; count = join.count; sound = join.sound; lands = join.lands })
+    (record { grows = join.grows; count = join.count; insts = join.insts; sound = join.sound; lands = join.lands })
 
 pub returns-in_ok-block-in-Some-Local : goal.returns-in_ok-block-in-Some-Local
 returns-in_ok-block-in-Some-Local c =
@@ -16,7 +16,7 @@ returns-in_ok-block-in-Some-Local c =
     let local = c.in_ok-local-in-Some-Local.ensures in
     let is : c.args.to ≡ Some (Local c.in-Some-Local.x) = search rules in
     to_local_emits _ _ _ _ _ _ _ (spot c.args.after) is local.is local.within
-    (record { grows = join.grows; count = join.count; sound = join.sound; lands = join.lands })
+    (record { grows = join.grows; count = join.count; insts = join.insts; sound = join.sound; lands = join.lands })
 
 pub returns-in_ok-block-in-Some-Global : goal.returns-in_ok-block-in-Some-Global
 returns-in_ok-block-in-Some-Global c =
@@ -26,4 +26,4 @@ returns-in_ok-block-in-Some-Global c =
     let is : c.args.to ≡ Some (Variable c.in-Some-Global.x) = search rules in
     to_variable_emits _ _ _ _ _ _ _ _ _ c.in_ok-last-in-Some-Global.last c.in_ok-code-in-Some-Global.code (spot c.args.after) is
     c.in_ok-global-in-Some-Global.ensures.is result.is result.within index.is index.within c.in_ok-last-in-Some-Global.ensures
-    c.in_ok-code-in-Some-Global.ensures (record { grows = join.grows; count = join.count; sound = join.sound; lands = join.lands })
+    c.in_ok-code-in-Some-Global.ensures (record { grows = join.grows; count = join.count; insts = join.insts; sound = join.sound; lands = join.lands })

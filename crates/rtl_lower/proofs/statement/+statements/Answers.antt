@@ -63,13 +63,13 @@ statement-returns-in-Return t c =
 pub side_block-returns : goal.side_block-returns
 side_block-returns t c =
     let join = c.block_of.ensures in
-    side_emits _ _ _ _ c.args.context _ c.in_ok-code.code _ c.in_ok-code.ensures join.grows join.count join.limit join.sound join.lands
+    side_emits _ _ _ _ c.args.context _ c.in_ok-code.code _ c.in_ok-code.ensures join.grows join.count join.insts join.limit join.sound join.lands
 
 pub if_statement-returns : goal.if_statement-returns
 if_statement-returns t c =
     let join = c.in_ok-join.ensures in
     if_emits _ _ _ _ _ _ _ _ c.args.context _ _ _ _ (spot c.args.after) _ c.is_likely.ensures
-    (record { grows = join.grows; count = join.count; sound = join.sound; lands = join.lands }) c.in_ok-yes_block.ensures c.in_ok-no_block.ensures
+    (record { grows = join.grows; count = join.count; insts = join.insts; sound = join.sound; lands = join.lands }) c.in_ok-yes_block.ensures c.in_ok-no_block.ensures
     c.condition.ensures
 
 pub turn_of-returns : goal.turn_of-returns
@@ -82,8 +82,9 @@ loop_statement-returns t c =
     let join = c.in_ok-left.ensures in
     let head = c.in_ok-head.ensures in
     loop_emits _ _ _ _ _ _ _ _ _ _ c.args.context _ _ _ _ c.in_ok-turn.turn c.in_ok-body_code.body_code c.in_ok-top.top _ (spot c.args.after)
-    c.may_continue.ensures c.inside_loop-inner.ensures (record { grows = join.grows; count = join.count; sound = join.sound; lands = join.lands })
-    head.reserves head.sound c.in_ok-turn.ensures c.in_ok-body_code.ensures c.in_ok-top.ensures c.open_block.ensures c.fill.ensures.fills c.fill.ensures.sound
+    c.may_continue.ensures c.inside_loop-inner.ensures (record { grows = join.grows; count = join.count; insts = join.insts; sound = join.sound; lands = join.lands })
+    head.reserves head.insts head.sound c.in_ok-turn.ensures c.in_ok-body_code.ensures c.in_ok-top.ensures c.open_block.ensures c.fill.ensures.fills
+    c.fill.ensures.insts c.fill.ensures.sound
 
 pub statements-returns : goal.statements-returns
 statements-returns t c =
@@ -141,14 +142,14 @@ if_statement-returns-in_err-yes_block t c =
     let join = c.in_ok-join.ensures in
     if_first_stops _ _ _ _ _ _ c.args.context c.in_ok-join.join (spot c.args.after) c.in_err-yes_block.field-0.0
     c.from_residual-in_err-yes_block.result (search rules)
-    (record { grows = join.grows; count = join.count; sound = join.sound; lands = join.lands }) c.in_err-yes_block.ensures
+    (record { grows = join.grows; count = join.count; insts = join.insts; sound = join.sound; lands = join.lands }) c.in_err-yes_block.ensures
 
 pub if_statement-returns-in_err-no_block : goal.if_statement-returns-in_err-no_block
 if_statement-returns-in_err-no_block t c =
     let join = c.in_ok-join.ensures in
     if_second_stops _ _ _ _ _ _ _ c.args.context c.in_ok-join.join c.in_ok-yes_block.yes_block (spot c.args.after) c.in_err-no_block.field-0.0
     c.from_residual-in_err-no_block.result (search rules)
-    (record { grows = join.grows; count = join.count; sound = join.sound; lands = join.lands }) c.in_ok-yes_block.ensures c.in_err-no_block.ensures
+    (record { grows = join.grows; count = join.count; insts = join.insts; sound = join.sound; lands = join.lands }) c.in_ok-yes_block.ensures c.in_err-no_block.ensures
 
 pub turn_of-returns-in_err-bottom : goal.turn_of-returns-in_err-bottom
 turn_of-returns-in_err-bottom t c =
@@ -169,7 +170,7 @@ pub loop_statement-returns-in_err-head : goal.loop_statement-returns-in_err-head
 loop_statement-returns-in_err-head t c =
     let join = c.in_ok-left.ensures in
     loop_head_stops _ _ _ _ _ _ c.args.context c.in_ok-left.left (spot c.args.after) c.in_err-head.field-0.0 c.from_residual-in_err-head.result (search rules)
-    (record { grows = join.grows; count = join.count; sound = join.sound; lands = join.lands }) c.in_err-head.ensures.left c.in_err-head.ensures.limit
+    (record { grows = join.grows; count = join.count; insts = join.insts; sound = join.sound; lands = join.lands }) c.in_err-head.ensures.left c.in_err-head.ensures.limit
 
 pub loop_statement-returns-in_err-turn : goal.loop_statement-returns-in_err-turn
 loop_statement-returns-in_err-turn t c =
@@ -177,7 +178,7 @@ loop_statement-returns-in_err-turn t c =
     loop_turn_stops _ _ _ _ _ _ _ c.args.context _ c.in_ok-left.left c.in_ok-head.head (spot c.args.after) c.in_err-turn.field-0.0
     c.from_residual-in_err-turn.result (search rules) c.may_continue.ensures
     (record {
-      sealing = record { grows = join.grows; count = join.count; sound = join.sound; lands = join.lands };
+      sealing = record { grows = join.grows; count = join.count; insts = join.insts; sound = join.sound; lands = join.lands };
       reserves = c.in_ok-head.ensures.reserves;
     }) c.in_err-turn.ensures
 
@@ -187,7 +188,7 @@ loop_statement-returns-in_err-body_code t c =
     loop_body_stops _ _ _ _ _ _ _ _ c.args.context _ _ c.in_ok-left.left c.in_ok-head.head c.in_ok-turn.turn (spot c.args.after)
     c.in_err-body_code.field-0.0 c.from_residual-in_err-body_code.result (search rules) c.may_continue.ensures c.inside_loop-inner.ensures
     (record {
-      sealing = record { grows = join.grows; count = join.count; sound = join.sound; lands = join.lands };
+      sealing = record { grows = join.grows; count = join.count; insts = join.insts; sound = join.sound; lands = join.lands };
       reserves = c.in_ok-head.ensures.reserves;
     }) c.in_ok-turn.ensures c.in_err-body_code.ensures
 
@@ -197,7 +198,7 @@ loop_statement-returns-in_err-top t c =
     loop_top_stops _ _ _ _ _ _ _ _ _ c.args.context _ _ c.in_ok-left.left c.in_ok-head.head c.in_ok-turn.turn c.in_ok-body_code.body_code
     (spot c.args.after) c.in_err-top.field-0.0 c.from_residual-in_err-top.result (search rules) c.may_continue.ensures c.inside_loop-inner.ensures
     (record {
-      sealing = record { grows = join.grows; count = join.count; sound = join.sound; lands = join.lands };
+      sealing = record { grows = join.grows; count = join.count; insts = join.insts; sound = join.sound; lands = join.lands };
       reserves = c.in_ok-head.ensures.reserves;
     }) c.in_ok-turn.ensures c.in_ok-body_code.ensures c.in_err-top.ensures
 
