@@ -2,7 +2,7 @@
 
 #![tactic(auto, using(crate::proofs::TermCallers::seen_all, crate::proofs::TermCallers::missing_term))]
 
-ghost use Rattle.std.specs.Prelude.{◌≡◌, ◌≤◌, IfOk, IfErr, IfSome, IfNone, length};
+ghost use Rattle.std.specs.Prelude.{◌≡◌, ◌+◌, ◌≤◌, IfOk, IfErr, IfSome, IfNone, length};
 ghost use Rattle.term_core.specs.declared.Call.TheVariants.{Find, Intern, Read};
 ghost use Rattle.term_labels.specs.Trees.{Tree, Trees, node};
 ghost use Rattle.term_table.specs.Passes.{IsOf, Answered, linked};
@@ -26,6 +26,7 @@ pub struct Node<L> {
 impl TermTable {
     /// The ticket of the term of this label over the children's terms: the one that it has, if it is
     /// there, else that of a node that the pass now links. The pass has seen the ticket from then on.
+    /// It links one term at most.
     ///
     /// `TableFull` exactly where the term is not there and the pass has itself linked as many terms
     /// as it may; the table is then as before. Either tells how many links the call loaded.
@@ -52,6 +53,7 @@ impl TermTable {
         ensures full { IfErr result (λ _. linked pass.new ≡ pass.new.nodes) }
         ensures absent { (xs : Trees L) → HaveTerms L.coding pass.old children.now xs
             → IfErr result (λ _. LacksTerm L.coding pass.new (node label xs)) }
+        ensures grows { linked pass.new ≤ linked pass.old + 1 }
     {
         self.intern_word(pass, label.word(), children)
     }
@@ -75,12 +77,13 @@ impl TermTable {
             → IfSome result.ticket (λ t. HasTerm L.coding pass.new t (node label xs)) }
         ensures absent { (xs : Trees L) → HaveTerms L.coding pass.old children.now xs
             → IfNone result.ticket (LacksTerm L.coding pass.new (node label xs)) }
+        ensures stays { linked pass.new ≡ linked pass.old }
     {
         self.find_word(pass, label.word(), children)
     }
 
     /// The label of a term that the pass has seen, and the tickets of its children, which it then has
-    /// seen too.
+    /// seen too. Links nothing.
     pub fn read<L: Label>(&self, pass: &mut Pass, ticket: Ticket) -> Node<L>
         requires table { IsOf self.now pass.old }
         requires seen { HasSeenTerm L.coding pass.old ticket }
@@ -93,6 +96,7 @@ impl TermTable {
         ensures seen { HasSeenTerms L.coding pass.new result.children.items }
         ensures tree { (x : Tree L) → HasTerm L.coding pass.old ticket x
             → IsTermNode L.coding pass.new result.label result.children.items x }
+        ensures stays { linked pass.new ≡ linked pass.old }
     {
         let node = self.read_word(pass, ticket);
         // The word of a term over these labels is that of a label.
