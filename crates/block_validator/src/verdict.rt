@@ -1,5 +1,5 @@
 //! The verdict on an order for a block, and the orders that were checked.
-ghost use Rattle.std.specs.Prelude.{◌≡◌, ◌++◌, IfOk, OnErr, MatchOption};
+ghost use Rattle.std.specs.Prelude.{◌≡◌, ◌≤◌, ◌+◌, ◌++◌, IfOk, OnErr, MatchOption};
 ghost use Rattle.mblock.specs.Parts.{BlockParts, OrderParts};
 ghost use Rattle.mblock.specs.Clean.{IsClean};
 ghost use Rattle.mblock.specs.BlockMeaning.{exit_shape};
@@ -8,7 +8,9 @@ ghost use Rattle.term_table.specs.Trees.{HasLegalHistory};
 ghost use Rattle.sym_exec.specs.Symbolic.{block_trees, order_trees};
 ghost use Rattle.sym_exec.specs.Standing.{Later, AfterInterns};
 ghost use Rattle.sym_exec.specs.Asked.{LacksOne, block_asked, order_asked};
+ghost use Rattle.sym_exec.specs.Growth.{block_growth, order_growth};
 ghost use Rattle.mblock.specs.Orders.{Means};
+ghost use Rattle.mblock.specs.declared.unclean.Unclean.{Unclean as ARule};
 ghost use Rattle.block_validator.specs.Same.{SameTrees, DiffersFirst, EachCheckedOrderMeansItsBlock};
 ghost use Rattle.block_validator.specs.Verdicts.{IsVerdict, OneDecision};
 
@@ -106,6 +108,7 @@ fn compare(
     ensures exact { IfOk result (λ r. MatchOption r (SameTrees (block_trees block.now) (order_trees order.now))
         (DiffersFirst (block_trees block.now) (order_trees order.now))) }
     ensures absent { OnErr result (LacksOne pass.new (block_asked block.now ++ order_asked order.now)) }
+    ensures grows { linked pass.new ≤ linked pass.old + (block_growth block.now + order_growth order.now) }
     ensures pass { AfterInterns table.now pass.old result pass.new }
     ensures legal { HasLegalHistory pass.new }
 {
@@ -126,6 +129,7 @@ fn verdict_of<'a>(
     ensures exact { IsVerdict block.now order result }
     ensures full { result ≡ Verdict.Full → IfOk compared (λ _. ⊥) }
     ensures memory { result ≡ Verdict.NoMemory → ⊥ }
+    ensures unclean { (rule : ARule) → result ≡ Verdict.Unclean rule → ⊥ }
 {
     match compared {
         Err(_) => Verdict::Full,
@@ -137,9 +141,10 @@ fn verdict_of<'a>(
 /// The verdict on an order for a block: the least delay rule that it breaks, else the first place whose
 /// terms differ, else that it means the block.
 ///
-/// Memory is taken before any term is linked: where it is refused, the pass is as it was. `Full` comes only
+/// Memory is taken before any term is linked: where it is refused or a rule is broken, the pass is as it was. `Full` comes only
 /// where the pass has linked as many terms as it may, and one of those that block and order ask for isn't in
-/// the table. Whatever the verdict, the terms that were linked stay, and the pass is the table's.
+/// the table. Whatever the verdict, the terms that were linked stay, and the pass is the table's. They are no
+/// more than the actions of block and order may link.
 pub fn validate<'a>(
     alloc: Global,
     table: &TermTable,
@@ -154,7 +159,9 @@ pub fn validate<'a>(
     ensures legal { HasLegalHistory pass.new }
     ensures full { result ≡ Verdict.Full → linked pass.new ≡ pass.new.nodes }
     ensures absent { result ≡ Verdict.Full → LacksOne pass.new (block_asked block.now ++ order_asked order) }
+    ensures grows { linked pass.new ≤ linked pass.old + (block_growth block.now + order_growth order) }
     ensures memory { result ≡ Verdict.NoMemory → pass.new ≡ pass.old }
+    ensures unclean { (rule : ARule) → result ≡ Verdict.Unclean rule → pass.new ≡ pass.old }
 {
     // Tells the check that the history is legal, for the verdicts before the first term.
     let _linked = pass.linked();

@@ -1,6 +1,6 @@
 -- One of the trees that are asked for isn't there.
 use Rattle.std.proofs.Common.{◌≡◌, ◌∙◌, ◌⊎◌, ℕ, zero, suc, ◌+◌, ◌<◌, ◌≤◌, List, [], ◌∷◌, ◌++◌, take, drop, length, map, get_or, Result, Ok, Err, OnErr, slice_index_or, refl, sym, ap, subst, ⊎_elim, inl, inr, arith}
-use Rattle.std.proofs.Math.Seq.{take-suc, drop-cons}
+use Rattle.std.proofs.Math.Seq.{take-suc}
 use Rattle.std.proofs.lemmas.List.{take-append-le, take-append-drop, length-take-le}
 use Rattle.std.proofs.lemmas.List.Elements.{Contains-append_left, Contains-append_right}
 use Rattle.sym_terms.specs.declared.label.Label.TheVariants.{Mem0, Init, Store}
@@ -16,6 +16,7 @@ use Rattle.sym_exec.specs.Stores.{Makes, LeadsTo, MakeMemory}
 use Rattle.sym_exec.specs.Symbolic.{TreeState, register_tree, start_trees, trees_after}
 use Rattle.sym_exec.specs.Asked.{LacksOne, asked_by, asked_by_all, first_registers, asked_first}
 use Rattle.sym_exec.proofs.Parts.{lacks_first}
+use Rattle.sym_exec.proofs.Tracking.{drop_here}
 use Rattle.sym_exec.proofs.Chains.{leads-split, memory-join, memory-one}
 
 pub on_err : {X E : Type 0} {A B : Type 0} (r : Result X E) → OnErr r A → (A → B) → OnErr r B
@@ -76,10 +77,7 @@ lacks_start_of p (suc r) some h = h
 pub asked_step : (l : List Plain) (k : ℕ) (x : Plain) (a : Action) (u : TreeState) → k < length l → x ≡ get_or l k x → a ≡ action_of x
     → asked_by_all (map action_of (drop k l)) u ≡ asked_by a u ++ asked_by_all (map action_of (drop (k + 1) l)) (trees_after a u)
 asked_step l k x a u lt there acts =
-    let next : suc k ≡ k + 1 = omega arith in
-    let left : drop k l ≡ x ∷ drop (k + 1) l =
-    drop-cons l k x lt ∙ (ap (λ (y : Plain). y ∷ drop (suc k) l) (sym there) ∙ ap (λ j. x ∷ drop j l) next) in
-    ap (λ m. asked_by_all (map action_of m) u) left
+    ap (λ m. asked_by_all (map action_of m) u) (drop_here l k x lt there)
     ∙ ap (λ b. asked_by b u ++ asked_by_all (map action_of (drop (k + 1) l)) (trees_after b u)) (sym acts)
 
 -- a memory that is made of one that isn't there

@@ -6,3 +6,4 @@ pub mod Values
 pub mod MipsTerms
 pub mod Parts
 pub mod Asked
+mod Growth

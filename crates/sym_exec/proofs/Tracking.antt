@@ -1,6 +1,7 @@
 -- A run has come as far as its trees: calls of the table leave it there, and what an action does takes it on.
 use Rattle.std.proofs.Common.{◌≡◌, ℕ, zero, suc, ◌<◌, ◌≤◌, ◌+◌, List, [], ◌∷◌, ◌++◌, length, map, drop, get_or, refl, sym, ap, ◌∙◌, subst, arith}
 use Rattle.std.specs.Prelude.{vec_len, vec_capacity}
+use Rattle.std.proofs.Math.Seq.{drop-cons}
 use Rattle.mips_isa.specs.declared.inst.Plain.{Plain}
 use Rattle.mips_isa.specs.declared.action.Action.{Action}
 use Rattle.mips_isa.specs.Actions.{action_of}
@@ -69,6 +70,12 @@ tracks_start {p} {s} {l} {m} none hold stores guards = record {
   memory = subst (λ v. MakeMemory p v.items (leaf Mem0)) (sym stores) (subst (λ xs. MakeMemory p xs (leaf Mem0)) (sym none.stores) refl);
   guards = guards_none (subst (λ v. v.items ≡ []) (sym guards) none.guards);
 }
+
+-- a list from a place on: the element there, and the others
+pub drop_here : (l : List Plain) (k : ℕ) (x : Plain) → k < length l → x ≡ get_or l k x → drop k l ≡ x ∷ drop (k + 1) l
+drop_here l k x lt there =
+    let next : suc k ≡ k + 1 = omega arith in
+    drop-cons l k x lt ∙ (ap (λ (y : Plain). y ∷ drop (suc k) l) (sym there) ∙ ap (λ j. x ∷ drop j l) next)
 
 -- the actions from a place on are the one there and the others
 trees_rest : (l : List Plain) (k : ℕ) (x : Plain) (a : Action) (u : TreeState) → k < length l → x ≡ get_or l k x → a ≡ action_of x

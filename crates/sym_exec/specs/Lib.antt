@@ -1,5 +1,6 @@
 pub mod Symbolic
 pub mod Asked
+pub mod Growth
 pub mod Standing
 pub mod Stores
 pub mod MipsTerms

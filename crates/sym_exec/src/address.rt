@@ -1,7 +1,8 @@
 //! Addresses by tickets: the constant that a term is, and the base and the constant of a sum.
-ghost use Rattle.std.specs.Prelude.{◌≡◌, IfOk, OnErr, IfSome, IfNone};
+ghost use Rattle.std.specs.Prelude.{◌≡◌, ◌+◌, ◌≤◌, IfOk, OnErr, IfSome, IfNone};
 ghost use Rattle.sym_terms.specs.Trees.{Tree};
 ghost use Rattle.sym_terms.specs.NormalForms.{label_constant, constant_of, is_sum, at_base, address_of, tree_plus};
+ghost use Rattle.term_table.specs.Passes.{linked};
 ghost use Rattle.term_table.specs.Trees.{HasLegalHistory};
 ghost use Rattle.sym_exec.specs.MipsTerms.{HasSeen, HasTree, Lacks};
 ghost use Rattle.sym_exec.specs.Standing.{IsAddress, AreSummands};
@@ -33,6 +34,7 @@ pub(crate) fn constant_at(terms: &mut Interner, ticket: Ticket) -> Option<u32>
     requires { HasSeen terms.old.pass.now ticket }
     ensures value { (x : Tree) → HasTree terms.old.pass.now ticket x → result ≡ constant_of x }
     ensures pass { GoesOn terms.old terms.new }
+    ensures stays { linked terms.new.pass.now ≡ linked terms.old.pass.now }
 {
     let node = terms.read(ticket);
     if node.children.len() > 0 {
@@ -58,6 +60,7 @@ fn summands(terms: &mut Interner, ticket: Ticket) -> Option<(Ticket, Ticket)>
     ensures legal { HasLegalHistory terms.new.pass.now }
     ensures some { (x : Tree) → HasTree terms.old.pass.now ticket x → IfSome result (λ s. AreSummands terms.new.pass.now s.0 s.1 x) }
     ensures pass { GoesOn terms.old terms.new }
+    ensures stays { linked terms.new.pass.now ≡ linked terms.old.pass.now }
 {
     let node = terms.read(ticket);
     if !is_sum_label(node.label) {
@@ -76,6 +79,7 @@ pub(crate) fn address_at(terms: &mut Interner, ticket: Ticket) -> TermAddress
     ensures seen { HasSeen terms.new.pass.now result.base }
     ensures tree { (x : Tree) → HasTree terms.old.pass.now ticket x → IsAddress terms.new.pass.now result (address_of x) }
     ensures pass { GoesOn terms.old terms.new }
+    ensures stays { linked terms.new.pass.now ≡ linked terms.old.pass.now }
 {
     let Some((base, constant)) = summands(terms, ticket) else {
         return TermAddress {
@@ -103,6 +107,7 @@ pub(crate) fn plus_term(
     ensures tree { (x : Tree) → HasTree terms.old.pass.now base x → IfOk result (λ t. HasTree terms.new.pass.now t (tree_plus x offset)) }
     ensures absent { (x : Tree) → HasTree terms.old.pass.now base x → OnErr result (Lacks terms.new.pass.now (tree_plus x offset)) }
     ensures pass { Interns terms.old result terms.new }
+    ensures grows { linked terms.new.pass.now ≤ linked terms.old.pass.now + 2 }
 {
     if offset == 0 {
         return Ok(base);

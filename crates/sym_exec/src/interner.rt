@@ -14,8 +14,9 @@ pub(crate) struct Interner<'t> {
 }
 
 impl<'t> Interner<'t> {
-    ghost use Rattle.std.specs.Prelude.{◌≡◌, IfOk, OnErr};
+    ghost use Rattle.std.specs.Prelude.{◌≡◌, ◌+◌, ◌≤◌, IfOk, OnErr};
     ghost use Rattle.sym_terms.specs.Trees.{Tree, leaf, binary, ternary};
+    ghost use Rattle.term_table.specs.Passes.{linked};
     ghost use Rattle.term_table.specs.Trees.{HasLegalHistory};
     ghost use Rattle.sym_exec.specs.MipsTerms.{HasSeen, HasTree, HaveSeen, IsNode, Lacks};
     ghost use Rattle.sym_exec.specs.Interners.{GoesOn, Interns};
@@ -34,6 +35,7 @@ impl<'t> Interner<'t> {
         ensures absent { OnErr result (Lacks self.new.pass.now (leaf label)) }
         ensures legal { HasLegalHistory self.new.pass.now }
         ensures pass { Interns self.old result self.new }
+        ensures grows { linked self.new.pass.now ≤ linked self.old.pass.now + 1 }
     {
         let interned = self.table.intern(self.pass, label, &[])?;
         Ok(interned.ticket)
@@ -48,6 +50,7 @@ impl<'t> Interner<'t> {
         ensures absent { (x y : Tree) → HasTree self.old.pass.now a x → HasTree self.old.pass.now b y
             → OnErr result (Lacks self.new.pass.now (binary label x y)) }
         ensures pass { Interns self.old result self.new }
+        ensures grows { linked self.new.pass.now ≤ linked self.old.pass.now + 1 }
     {
         let interned = self.table.intern(self.pass, label, &[a, b])?;
         Ok(interned.ticket)
@@ -69,6 +72,7 @@ impl<'t> Interner<'t> {
         ensures absent { (x y z : Tree) → HasTree self.old.pass.now a x → HasTree self.old.pass.now b y → HasTree self.old.pass.now c z
             → OnErr result (Lacks self.new.pass.now (ternary label x y z)) }
         ensures pass { Interns self.old result self.new }
+        ensures grows { linked self.new.pass.now ≤ linked self.old.pass.now + 1 }
     {
         let interned = self.table.intern(self.pass, label, &[a, b, c])?;
         Ok(interned.ticket)
@@ -81,6 +85,7 @@ impl<'t> Interner<'t> {
         ensures seen { HaveSeen self.new.pass.now result.children.items }
         ensures tree { (x : Tree) → HasTree self.old.pass.now ticket x → IsNode self.new.pass.now result.label result.children.items x }
         ensures pass { GoesOn self.old self.new }
+        ensures stays { linked self.new.pass.now ≡ linked self.old.pass.now }
     {
         self.table.read(self.pass, ticket)
     }

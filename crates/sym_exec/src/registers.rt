@@ -41,6 +41,8 @@ impl TermRegisters {
     ghost use Rattle.sym_exec.specs.Asked.{asked_by, LacksOne};
     ghost use Rattle.sym_exec.specs.Standing.{Known, Hold, with_reg, with_halves};
     ghost use Rattle.sym_exec.specs.Interners.{Interns};
+    ghost use Rattle.sym_exec.specs.Growth.{operand_growth, op_growth};
+    ghost use Rattle.term_table.specs.Passes.{linked};
     ghost use Rattle.sym_exec.specs.Stores.{MakeMemory, IsChain, HasStoreRoom};
 
     pub(crate) fn get(&self, r: Reg) -> Ticket
@@ -70,6 +72,7 @@ impl TermRegisters {
         ensures absent { (t : TreeState) → Hold terms.old.pass.now self.now t
             → OnErr result (Lacks terms.new.pass.now (operand_tree t operand.now)) }
         ensures pass { Interns terms.old result terms.new }
+        ensures grows { linked terms.new.pass.now ≤ linked terms.old.pass.now + operand_growth operand.now }
     {
         match *operand {
             Operand::Held(r) => Ok(self.get(r)),
@@ -85,6 +88,7 @@ impl TermRegisters {
         ensures absent { (t : TreeState) → Hold terms.old.pass.now self.now t
             → OnErr result (Lacks terms.new.pass.now (address_tree t base offset)) }
         ensures pass { Interns terms.old result terms.new }
+        ensures grows { linked terms.new.pass.now ≤ linked terms.old.pass.now + 2 }
     {
         let at = address_at(terms, self.get(base));
         plus_term(terms, at.base, at.offset.wrapping_add(offset))
@@ -105,6 +109,7 @@ impl TermRegisters {
         ensures absent { (t : TreeState) → Hold terms.old.pass.now self.old t
             → OnErr result (LacksOne terms.new.pass.now (asked_by (Computes d op a b.now) t)) }
         ensures pass { Interns terms.old result terms.new }
+        ensures grows { linked terms.new.pass.now ≤ linked terms.old.pass.now + (operand_growth b.now + op_growth op) }
     {
         let y = self.operand(terms, b)?;
         let value = op_term(terms, op, self.get(a), y)?;
@@ -125,6 +130,7 @@ impl TermRegisters {
             → OnOk result (Hold terms.new.pass.now self.new (record t { regs = put t.regs d (leaf label) })) }
         ensures absent { OnErr result (Lacks terms.new.pass.now (leaf label)) }
         ensures pass { Interns terms.old result terms.new }
+        ensures grows { linked terms.new.pass.now ≤ linked terms.old.pass.now + 1 }
     {
         let value = terms.leaf(label)?;
         self.set(d, value);
@@ -155,6 +161,7 @@ impl TermRegisters {
         ensures stores { OnOk result (chain.new.stores ≡ chain.old.stores) }
         ensures room { OnOk result (HasStoreRoom chain.new) }
         ensures pass { Interns terms.old result terms.new }
+        ensures grows { linked terms.new.pass.now ≤ linked terms.old.pass.now + (vec_len chain.old.stores + 3) }
     {
         let address = self.address(terms, access.base, access.offset)?;
         let at = address_at(terms, address);
@@ -187,6 +194,7 @@ impl TermRegisters {
         ensures room { OnOk result (HasStoreRoom chain.new) }
         ensures count { OnOk result (vec_len chain.new.stores ≡ vec_len chain.old.stores + 1) }
         ensures pass { Interns terms.old result terms.new }
+        ensures grows { linked terms.new.pass.now ≤ linked terms.old.pass.now + 2 }
     {
         let address = self.address(terms, access.base, access.offset)?;
         let at = address_at(terms, address);
@@ -217,6 +225,7 @@ impl TermRegisters {
         ensures absent { (t : TreeState) → Hold terms.old.pass.now self.old t
             → OnErr result (LacksOne terms.new.pass.now ((with_halves high low a b t).hi ∷ (with_halves high low a b t).lo ∷ [])) }
         ensures pass { Interns terms.old result terms.new }
+        ensures grows { linked terms.new.pass.now ≤ linked terms.old.pass.now + (op_growth high + op_growth low) }
     {
         let (x, y) = (self.get(a), self.get(b));
         let hi = op_term(terms, high, x, y)?;

@@ -8,7 +8,7 @@ ghost use Rattle.mblock.specs.declared.limits.TheConstants.{ORDER_INSTS};
 ghost use Rattle.sym_terms.specs.declared.label.Origin.TheVariants.{Register};
 ghost use Rattle.sym_terms.specs.declared.label.Label.TheVariants.{Init};
 ghost use Rattle.sym_terms.specs.Trees.{leaf};
-ghost use Rattle.term_table.specs.Passes.{PassState, IsOf};
+ghost use Rattle.term_table.specs.Passes.{PassState, IsOf, linked};
 ghost use Rattle.term_table.specs.Trees.{HasLegalHistory};
 ghost use Rattle.sym_exec.specs.MipsTerms.{HasTree, Lacks};
 ghost use Rattle.sym_exec.specs.Asked.{asked_by, asked_by_all, asked_first, asked_by_shape, code_asked};
@@ -17,6 +17,8 @@ ghost use Rattle.sym_exec.specs.Symbolic.{TreeState, GuardTree, start_trees, tre
 ghost use Rattle.sym_exec.specs.Symbolic.{block_trees, order_trees};
 ghost use Rattle.sym_exec.specs.Standing.{AfterInterns, Known, Hold, LeavesBy, StandsFor};
 ghost use Rattle.sym_exec.specs.Interners.{Interns};
+ghost use Rattle.sym_exec.specs.Growth.{growth_by, growth_by_all, growth_by_shape, stores_after, all_stores, code_growth};
+ghost use Rattle.sym_exec.specs.Growth.{block_growth, order_growth, GrowthHasBound};
 ghost use Rattle.sym_exec.specs.Stores.{IsChain, HasRoom, IsEmpty, Tracks};
 
 use crate::interner::Interner;
@@ -64,6 +66,8 @@ fn step(
     ensures absent { (t : TreeState) → Tracks terms.old.pass.now registers.old lists.old t
         → OnErr result (LacksOne terms.new.pass.now (asked_by action.now t)) }
     ensures pass { Interns terms.old result terms.new }
+    ensures grows { linked terms.new.pass.now ≤ linked terms.old.pass.now + growth_by action.now (vec_len lists.old.chain.stores) }
+    ensures stores { OnOk result (vec_len lists.new.chain.stores ≡ stores_after action.now (vec_len lists.old.chain.stores)) }
     ensures room { OnOk result (HasRoom lists.new) }
     ensures count { OnOk result (vec_len lists.new.guards ≤ vec_len lists.old.guards + 1) }
 {
@@ -148,6 +152,8 @@ fn steps(
     ensures absent { (t : TreeState) → Tracks terms.old.pass.now registers.old lists.old t
         → OnErr result (LacksOne terms.new.pass.now (asked_by_all (map action_of insts.now) t)) }
     ensures pass { Interns terms.old result terms.new }
+    ensures grows { linked terms.new.pass.now ≤ linked terms.old.pass.now + growth_by_all (map action_of insts.now) (vec_len lists.old.chain.stores) }
+    ensures stores { OnOk result (vec_len lists.new.chain.stores ≡ all_stores (map action_of insts.now) (vec_len lists.old.chain.stores)) }
     ensures room { OnOk result (HasRoom lists.new) }
     ensures count { OnOk result (vec_len lists.new.guards ≤ vec_len lists.old.guards + length insts.now) }
 {
@@ -165,6 +171,7 @@ fn start_reg(terms: &mut Interner, r: u8) -> Result<Ticket, TableFull>
     ensures absent { OnErr result (Lacks terms.new.pass.now (leaf (Init (Register r)))) }
     ensures legal { HasLegalHistory terms.new.pass.now }
     ensures pass { Interns terms.old result terms.new }
+    ensures grows { linked terms.new.pass.now ≤ linked terms.old.pass.now + 1 }
 {
     let Some(reg) = NonzeroReg::new(r) else {
         unreachable!();
@@ -179,6 +186,7 @@ fn start_registers(terms: &mut Interner) -> Result<TermRegisters, TableFull>
     ensures absent { OnErr result (LacksOne terms.new.pass.now asked_first) }
     ensures legal { HasLegalHistory terms.new.pass.now }
     ensures pass { Interns terms.old result terms.new }
+    ensures grows { linked terms.new.pass.now ≤ linked terms.old.pass.now + 34 }
 {
     let zero = terms.leaf(Label::Const(0))?;
     let mut regs = [zero; 32];
@@ -202,6 +210,8 @@ fn start(terms: &mut Interner, lists: &mut RunLists) -> Result<TermRegisters, Ta
     ensures absent { OnErr result (LacksOne terms.new.pass.now asked_first) }
     ensures legal { HasLegalHistory terms.new.pass.now }
     ensures pass { Interns terms.old result terms.new }
+    ensures grows { linked terms.new.pass.now ≤ linked terms.old.pass.now + 35 }
+    ensures stores { vec_len lists.new.chain.stores ≡ 0 }
 {
     let registers = start_registers(terms)?;
     let memory = terms.leaf(Label::Mem0)?;
@@ -262,6 +272,7 @@ fn put_own(
         → OnOk result (Hold terms.new.pass.now registers.new (exit_trees exit.now t)) }
     ensures absent { OnErr result (LacksOne terms.new.pass.now (asked_by_shape (exit_shape exit.now))) }
     ensures pass { Interns terms.old result terms.new }
+    ensures grows { linked terms.new.pass.now ≤ linked terms.old.pass.now + growth_by_shape (exit_shape exit.now) }
 {
     match *exit {
         Exit::Call {
@@ -293,6 +304,8 @@ fn run_slot(
     ensures absent { (t : TreeState) → Tracks terms.old.pass.now registers.old lists.old t
         → OnErr result (LacksOne terms.new.pass.now (asked_by_all (slot_actions slot.now) t)) }
     ensures pass { Interns terms.old result terms.new }
+    ensures grows { linked terms.new.pass.now ≤ linked terms.old.pass.now + growth_by_all (slot_actions slot.now) (vec_len lists.old.chain.stores) }
+    ensures stores { OnOk result (vec_len lists.new.chain.stores ≡ all_stores (slot_actions slot.now) (vec_len lists.old.chain.stores)) }
 {
     match slot {
         Some(inst) => step(terms, registers, lists, &inst.action()),
@@ -315,6 +328,7 @@ fn run_code(
     ensures absent { OnErr result (LacksOne terms.new.pass.now (code_asked (map action_of insts.now) exit.now (slot_actions slot.now))) }
     ensures legal { HasLegalHistory terms.new.pass.now }
     ensures pass { Interns terms.old result terms.new }
+    ensures grows { linked terms.new.pass.now ≤ linked terms.old.pass.now + code_growth (map action_of insts.now) exit.now (slot_actions slot.now) }
 {
     let mut registers = start(terms, &mut lists)?;
     steps(terms, &mut registers, &mut lists, insts)?;
@@ -338,7 +352,7 @@ fn run_code(
 /// The tickets of what a block leaves: those of its trees. The guards and stores go into `room`, so nothing is allocated.
 ///
 /// `TableFull` comes only where the pass has linked as many terms as it may, and one of those that the block asks for isn't
-/// in the table. The terms that were linked stay.
+/// in the table. The terms that were linked stay, and they are no more than the block's actions may link.
 pub fn run_block(
     table: &TermTable,
     pass: &mut Pass,
@@ -348,6 +362,7 @@ pub fn run_block(
     requires table { IsOf table.now pass.old }
     ensures trees { IfOk result (λ s. StandsFor pass.new s.places s.exit s.guards.items (block_trees block.now)) }
     ensures absent { OnErr result (LacksOne pass.new (block_asked block.now)) }
+    ensures grows { linked pass.new ≤ linked pass.old + block_growth block.now }
     ensures legal { HasLegalHistory pass.new }
     ensures pass { AfterInterns table.now pass.old result pass.new }
 {
@@ -371,6 +386,7 @@ pub fn run_order(
     requires table { IsOf table.now pass.old }
     ensures trees { IfOk result (λ s. StandsFor pass.new s.places s.exit s.guards.items (order_trees order.now)) }
     ensures absent { OnErr result (LacksOne pass.new (order_asked order.now)) }
+    ensures grows { linked pass.new ≤ linked pass.old + order_growth order.now }
     ensures legal { HasLegalHistory pass.new }
     ensures pass { AfterInterns table.now pass.old result pass.new }
 {
@@ -383,3 +399,8 @@ pub fn run_order(
         room.into_lists(),
     )
 }
+
+/// What a run may link is at most quadratic in the number of its actions. A law: it computes nothing.
+pub fn growth_has_bound()
+    ensures { GrowthHasBound }
+{}

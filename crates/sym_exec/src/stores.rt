@@ -117,7 +117,7 @@ impl StoreChain {
     ghost use Rattle.mblock.specs.declared.limits.TheConstants.{ORDER_INSTS};
     ghost use Rattle.sym_terms.specs.Trees.{Tree};
     ghost use Rattle.sym_terms.specs.NormalForms.{address_of, load_tree, store_tree};
-    ghost use Rattle.term_table.specs.Passes.{PassState};
+    ghost use Rattle.term_table.specs.Passes.{PassState, linked};
     ghost use Rattle.sym_exec.specs.MipsTerms.{HasSeen, HasTree, Lacks};
     ghost use Rattle.term_table.specs.Trees.{HasLegalHistory};
     ghost use Rattle.sym_exec.specs.Standing.{IsAddress};
@@ -138,6 +138,7 @@ impl StoreChain {
         ensures absent { (t : Tree) → MakeMemory terms.old.pass.now (take count self.old.stores.items) t
             → OnErr result (Lacks terms.new.pass.now t) }
         ensures pass { Interns terms.old result terms.new }
+        ensures grows { linked terms.new.pass.now ≤ linked terms.old.pass.now + count }
     {
         while self.memories.len() <= count {
             let made = self.memories.len();
@@ -160,6 +161,7 @@ impl StoreChain {
         ensures absent { (t : Tree) → MakeMemory terms.old.pass.now self.old.stores.items t
             → OnErr result (Lacks terms.new.pass.now t) }
         ensures pass { Interns terms.old result terms.new }
+        ensures grows { linked terms.new.pass.now ≤ linked terms.old.pass.now + vec_len self.old.stores }
     {
         let count = self.stores.len();
         self.memory_behind(terms, count)
@@ -188,6 +190,7 @@ impl StoreChain {
         ensures absent { (m b : Tree) → MakeMemory terms.old.pass.now self.old.stores.items m → HasTree terms.old.pass.now address b
             → OnErr result (Lacks terms.new.pass.now (load_tree width m b)) }
         ensures pass { Interns terms.old result terms.new }
+        ensures grows { linked terms.new.pass.now ≤ linked terms.old.pass.now + (vec_len self.old.stores + 1) }
     {
         let count = stores_seen(self.stores.as_slice(), width, at);
         let memory = self.memory_behind(terms, count)?;

@@ -1,9 +1,11 @@
 //! Terms of operations.
-ghost use Rattle.std.specs.Prelude.{◌≡◌, IfOk, OnErr};
+ghost use Rattle.std.specs.Prelude.{◌≡◌, ◌+◌, ◌≤◌, IfOk, OnErr};
 ghost use Rattle.sym_terms.specs.Trees.{Tree};
 ghost use Rattle.sym_terms.specs.NormalForms.{constant_of, is_addition, sum_tree, op_tree};
 ghost use Rattle.sym_exec.specs.MipsTerms.{HasSeen, HasTree, Lacks};
 ghost use Rattle.sym_exec.specs.Interners.{Interns};
+ghost use Rattle.sym_exec.specs.Growth.{op_growth};
+ghost use Rattle.term_table.specs.Passes.{linked};
 
 use crate::address::{address_at, constant_at, plus_term};
 use crate::interner::Interner;
@@ -30,6 +32,7 @@ fn sum_term(terms: &mut Interner, a: Ticket, b: Ticket) -> Result<Ticket, TableF
     ensures absent { (x y : Tree) → HasTree terms.old.pass.now a x → HasTree terms.old.pass.now b y
         → OnErr result (Lacks terms.new.pass.now (sum_tree x y (constant_of y))) }
     ensures pass { Interns terms.old result terms.new }
+    ensures grows { linked terms.new.pass.now ≤ linked terms.old.pass.now + 2 }
 {
     match constant_at(terms, b) {
         Some(constant) => {
@@ -55,6 +58,7 @@ pub(crate) fn op_term(
     ensures absent { (x y : Tree) → HasTree terms.old.pass.now a x → HasTree terms.old.pass.now b y
         → OnErr result (Lacks terms.new.pass.now (op_tree op x y)) }
     ensures pass { Interns terms.old result terms.new }
+    ensures grows { linked terms.new.pass.now ≤ linked terms.old.pass.now + op_growth op }
 {
     if is_addition(op) {
         sum_term(terms, a, b)

@@ -10,6 +10,7 @@ use Rattle.sym_exec.proofs.run.start_registers.Goals as goal
 pub loop-r-init : goal.loop-r-init
 loop-r-init c = record {
   goes = goes_on c.in_ok-zero.ensures.pass;
+  grows = omega (arith, c.in_ok-zero.ensures.grows);
   count = Rattle.std.proofs.Common.refl;
   stands = λ q lt.
       let e : 0 ≡ q = omega arith in
@@ -25,6 +26,7 @@ loop-r-preserved c =
     let inside : k < length regs = (let n = c.loop-r.invariant.count in omega (arith, n, c.loop-r-test.true)) in
     record {
       goes = goes_more c.loop-r.invariant.goes (goes_on c.in_ok-regs.ensures.pass);
+      grows = omega (arith, c.loop-r.invariant.grows, c.in_ok-regs.ensures.grows, c.loop-r-test.true);
       count = length_set regs k c.in_ok-regs.field-0 ∙ c.loop-r.invariant.count;
       stands = λ q lt.
           set_tree c.start_reg.new.terms.pass.now regs k c.in_ok-regs.field-0 q inside (c.loop-r.auto.r) c.in_ok-regs.ensures.tree lt

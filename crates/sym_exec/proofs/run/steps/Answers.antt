@@ -1,4 +1,7 @@
-use Rattle.std.proofs.Common.{◌∙◌, rules, arith, sym, subst}
+use Rattle.std.proofs.Common.{◌∙◌, ◌+◌, map, drop, vec_len, rules, arith, sym, ap, subst}
+use Rattle.mips_isa.specs.Actions.{action_of}
+use Rattle.sym_exec.specs.Growth.{growth_by_all, all_stores}
+use Rattle.sym_exec.proofs.Growth.{growth_step, stores_step}
 use Rattle.sym_exec.specs.Symbolic.{trees_after}
 use Rattle.sym_exec.proofs.Tickets.{goes_on, goes_more, interns_by}
 use Rattle.sym_exec.proofs.Tracking.{trees_step}
@@ -7,22 +10,29 @@ use Rattle.sym_exec.proofs.Asked.{err_always, lacks_left, lacks_right, asked_ste
 use Rattle.sym_exec.proofs.run.steps.Goals as goal
 
 pub loop-inst-preserved : goal.loop-inst-preserved
-loop-inst-preserved c = record {
-  known = c.in_ok-step.ensures.known;
-  goes = goes_more c.loop-inst.invariant.goes (goes_on c.in_ok-step.ensures.pass);
-  chain = c.in_ok-step.ensures.chain;
-  room = c.in_ok-step.ensures.room;
-  count = omega (arith, c.loop-inst.invariant.count, c.in_ok-step.ensures.count);
-  tracks = λ t h.
-      let was = c.loop-inst.invariant.tracks t h in
-      let more = trees_step c.args.insts.now c.loop-inst.inst-index _ c.action.result was.0 c.loop-inst-test.true c.inst-item.is c.action.ensures in
-      let split = asked_step c.args.insts.now c.loop-inst.inst-index _ c.action.result was.0 c.loop-inst-test.true c.inst-item.is c.action.ensures in (
-        trees_after c.action.result was.0,
-        c.in_ok-step.ensures.tracks was.0 was.1,
-        more ∙ was.2,
-        λ p lacks. was.3 p (subst (LacksOne p) (sym split) (lacks_right (asked_by c.action.result was.0) lacks)),
-      );
-}
+loop-inst-preserved c =
+    let now = vec_len c.loop-inst.lists.chain.stores in
+    let more = growth_step c.args.insts.now c.loop-inst.inst-index _ c.action.result now c.loop-inst-test.true c.inst-item.is c.action.ensures in
+    let rest = stores_step c.args.insts.now c.loop-inst.inst-index _ c.action.result now c.loop-inst-test.true c.inst-item.is c.action.ensures in
+    let after = map action_of (drop (c.loop-inst.inst-index + 1) c.args.insts.now) in
+    let is = c.in_ok-step.ensures.stores in record {
+      known = c.in_ok-step.ensures.known;
+      goes = goes_more c.loop-inst.invariant.goes (goes_on c.in_ok-step.ensures.pass);
+      grows = let left = ap (growth_by_all after) is in omega (arith, c.loop-inst.invariant.grows, c.in_ok-step.ensures.grows, more, left);
+      stores = ap (all_stores after) is ∙ (sym rest ∙ c.loop-inst.invariant.stores);
+      chain = c.in_ok-step.ensures.chain;
+      room = c.in_ok-step.ensures.room;
+      count = omega (arith, c.loop-inst.invariant.count, c.in_ok-step.ensures.count);
+      tracks = λ t h.
+          let was = c.loop-inst.invariant.tracks t h in
+          let more = trees_step c.args.insts.now c.loop-inst.inst-index _ c.action.result was.0 c.loop-inst-test.true c.inst-item.is c.action.ensures in
+          let split = asked_step c.args.insts.now c.loop-inst.inst-index _ c.action.result was.0 c.loop-inst-test.true c.inst-item.is c.action.ensures in (
+            trees_after c.action.result was.0,
+            c.in_ok-step.ensures.tracks was.0 was.1,
+            more ∙ was.2,
+            λ p lacks. was.3 p (subst (LacksOne p) (sym split) (lacks_right (asked_by c.action.result was.0) lacks)),
+          );
+    }
 
 pub returns-in_err-step-clause-pass : goal.returns-in_err-step-clause-pass
 returns-in_err-step-clause-pass c = interns_by (goes_more c.loop-inst.invariant.goes (goes_on c.in_err-step.ensures.pass)) (search rules)
@@ -33,3 +43,9 @@ returns-in_err-step-clause-absent c = λ t h.
     let was = c.loop-inst.invariant.tracks t h in
     let split = asked_step c.args.insts.now c.loop-inst.inst-index _ c.action.result was.0 c.loop-inst-test.true c.inst-item.is c.action.ensures in
     err_always _ (was.3 p (subst (LacksOne p) (sym split) (lacks_left _ (c.in_err-step.ensures.absent was.0 was.1))))
+
+pub returns-in_err-step-clause-grows : goal.returns-in_err-step-clause-grows
+returns-in_err-step-clause-grows c =
+    let now = vec_len c.loop-inst.lists.chain.stores in
+    let more = growth_step c.args.insts.now c.loop-inst.inst-index _ c.action.result now c.loop-inst-test.true c.inst-item.is c.action.ensures in
+    omega (arith, c.loop-inst.invariant.grows, c.in_err-step.ensures.grows, more)

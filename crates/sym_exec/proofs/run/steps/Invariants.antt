@@ -3,7 +3,8 @@ use Rattle.mips_isa.specs.Actions.{action_of}
 use Rattle.sym_exec.specs.Symbolic.{TreeState, all_trees}
 use Rattle.sym_exec.specs.Standing.{Known}
 use Rattle.sym_exec.specs.Asked.{asked_by_all, LacksOne}
-use Rattle.term_table.specs.Passes.{PassState}
+use Rattle.sym_exec.specs.Growth.{growth_by_all, all_stores}
+use Rattle.term_table.specs.Passes.{PassState, linked}
 use Rattle.sym_exec.specs.Interners.{GoesOn}
 use Rattle.sym_exec.specs.Stores.{IsChain, HasRoom, Tracks}
 use Rattle.sym_exec.proofs.run.steps.Given as goal
@@ -12,6 +13,10 @@ abbrev pub invariant-loop-inst : goal.invariant-loop-inst
 invariant-loop-inst l = record {
   known : Known l.terms.pass.now l.registers;
   goes : GoesOn l.fn.terms l.terms;
+  grows : linked l.terms.pass.now + growth_by_all (map action_of (drop l.inst-index l.insts)) (vec_len l.lists.chain.stores)
+      ≤ linked l.fn.terms.pass.now + growth_by_all (map action_of l.insts) (vec_len l.fn.lists.chain.stores);
+  stores : all_stores (map action_of (drop l.inst-index l.insts)) (vec_len l.lists.chain.stores)
+      ≡ all_stores (map action_of l.insts) (vec_len l.fn.lists.chain.stores);
   chain : IsChain l.terms.pass.now l.lists.chain;
   room : HasRoom l.lists;
   count : vec_len l.lists.guards ≤ vec_len l.fn.lists.guards + l.inst-index;

@@ -1,4 +1,4 @@
-use Rattle.std.proofs.Common.{◌∙◌, ◌-◌, ◌<◌, take, length, refl, sym, subst, rules}
+use Rattle.std.proofs.Common.{◌∙◌, ◌-◌, ◌<◌, take, length, refl, sym, subst, arith, rules}
 use Rattle.std.proofs.lemmas.List.{get_or_default}
 use Rattle.sym_exec.specs.MipsTerms.{HasTree, Lacks}
 use Rattle.sym_exec.specs.Stores.{MakeMemory}
@@ -27,6 +27,7 @@ loop-self-preserved c =
     let on = c.in_ok-memory.ensures.pass.later in
     record {
       goes = goes_more c.loop-self.invariant.goes (goes_on c.in_ok-memory.ensures.pass);
+      grows = omega (arith, c.loop-self.invariant.grows, c.in_ok-memory.ensures.grows);
       chain = chain-push (c.len-made.result - 1) on c.loop-self.invariant.chain (search rules) (search rules) c.index-stored.ensures
           c.index-before.ensures c.in_ok-memory.ensures.tree refl c.push_reserved.ensures.items;
       stores = c.loop-self.invariant.stores;

@@ -1,0 +1,102 @@
+-- The growth of a run step by step, its bound, and two examples.
+use Rattle.std.proofs.Common.{◌≡◌, ◌∙◌, ℕ, suc, ◌+◌, ◌*◌, ◌<◌, ◌≤◌, Bool, true, false, List, [], ◌∷◌, length, map, drop, get_or, refl, sym, ap, arith}
+use Rattle.std.specs.Prelude.{if◌then◌else◌}
+use Rattle.words.specs.declared.width.Width.TheVariants.{Word}
+use Rattle.words.specs.declared.operator.Operator.TheVariants.{Addu}
+use Rattle.mips_isa.specs.declared.inst.Plain.{Plain}
+use Rattle.mips_isa.specs.declared.action.Operand.TheVariants.{Held, Fixed}
+use Rattle.mips_isa.specs.declared.action.Action.{Action}
+use Rattle.mips_isa.specs.declared.action.Action.TheVariants.{Computes, Sets, Loads, Stores, Multiplies, Divides, MovesHigh, MovesLow}
+use Rattle.mips_isa.specs.Actions.{action_of}
+use Rattle.mblock.specs.declared.exit.Exit.TheVariants.{Goto}
+use Rattle.mblock.specs.BlockMeaning.{Shape, Goes, ChoosesPair, ChoosesZero, Calls, Returns, Prints, Halts, exit_shape}
+use Rattle.sym_terms.specs.NormalForms.{is_addition}
+use Rattle.sym_exec.specs.Growth.{growth_by, stores_after, all_stores, growth_by_all, growth_by_shape, code_growth, GrowthHasBound}
+use Rattle.sym_exec.proofs.Tracking.{drop_here}
+
+-- what the actions from a place on may link: the one there, and the others
+pub growth_step : (l : List Plain) (k : ℕ) (x : Plain) (a : Action) (n : ℕ) → k < length l → x ≡ get_or l k x → a ≡ action_of x
+    → growth_by_all (map action_of (drop k l)) n ≡ growth_by a n + growth_by_all (map action_of (drop (k + 1) l)) (stores_after a n)
+growth_step l k x a n lt there acts =
+    ap (λ m. growth_by_all (map action_of m) n) (drop_here l k x lt there)
+    ∙ ap (λ b. growth_by b n + growth_by_all (map action_of (drop (k + 1) l)) (stores_after b n)) (sym acts)
+
+pub stores_step : (l : List Plain) (k : ℕ) (x : Plain) (a : Action) (n : ℕ) → k < length l → x ≡ get_or l k x → a ≡ action_of x
+    → all_stores (map action_of (drop k l)) n ≡ all_stores (map action_of (drop (k + 1) l)) (stores_after a n)
+stores_step l k x a n lt there acts =
+    ap (λ m. all_stores (map action_of m) n) (drop_here l k x lt there)
+    ∙ ap (λ b. all_stores (map action_of (drop (k + 1) l)) (stores_after b n)) (sym acts)
+
+-- the bound
+two_or_one : (b : Bool) → (if b then 2 else 1) ≤ 2
+two_or_one true = omega arith
+two_or_one false = omega arith
+
+growth_low : (a : Action) (k : ℕ) → growth_by a k ≤ k + 3
+growth_low (Computes d op a (Held r)) k = let low = two_or_one (is_addition op) in omega (arith, low)
+growth_low (Computes d op a (Fixed w)) k = let low = two_or_one (is_addition op) in omega (arith, low)
+growth_low (Sets d w) k = omega arith
+growth_low (Loads w d base offset) k = omega arith
+growth_low (Stores w r base offset) k = omega arith
+growth_low (Multiplies sign a b) k = omega arith
+growth_low (Divides sign a b) k = omega arith
+growth_low (MovesHigh d) k = omega arith
+growth_low (MovesLow d) k = omega arith
+
+stores_low : (a : Action) (k : ℕ) → stores_after a k ≤ suc k
+stores_low (Computes d op a b) k = omega arith
+stores_low (Sets d w) k = omega arith
+stores_low (Loads w d base offset) k = omega arith
+stores_low (Stores w r base offset) k = omega arith
+stores_low (Multiplies sign a b) k = omega arith
+stores_low (Divides sign a b) k = omega arith
+stores_low (MovesHigh d) k = omega arith
+stores_low (MovesLow d) k = omega arith
+
+all_stores_low : (acts : List Action) (k : ℕ) → all_stores acts k ≤ k + length acts
+all_stores_low [] k = omega arith
+all_stores_low (a ∷ rest) k =
+    let here = stores_low a k in
+    let below = all_stores_low rest (stores_after a k) in
+    omega (arith, here, below)
+
+all_low : (acts : List Action) (k m : ℕ) → k + length acts ≤ m → growth_by_all acts k ≤ length acts * (m + 3)
+all_low [] k m few = omega arith
+all_low (a ∷ rest) k m few =
+    let here = growth_low a k in
+    let next = stores_low a k in
+    let below = all_low rest (stores_after a k) m (omega (arith, next, few)) in
+    let split : suc (length rest) * (m + 3) ≡ (m + 3) + length rest * (m + 3) = grind arith in
+    omega (arith, here, few, below, split)
+
+shape_low : (shape : Shape) → growth_by_shape shape ≤ 1
+shape_low (Goes t) = omega arith
+shape_low (ChoosesPair x t e) = omega arith
+shape_low (ChoosesZero x t e) = omega arith
+shape_low (Calls f n) = omega arith
+shape_low Returns = omega arith
+shape_low (Prints n) = omega arith
+shape_low Halts = omega arith
+
+sum_is : (a b : ℕ) → (a + b) + (a * (a + b + 3) + b * (a + b + 3)) ≡ (a + b) * (a + b + 4)
+sum_is a b = grind arith
+
+pub growth_bound : GrowthHasBound
+growth_bound acts exit slots =
+    let n = length acts + length slots in
+    let before = all_stores acts 0 in
+    let few = all_stores_low acts 0 in
+    let end = all_stores_low slots before in
+    let first = all_low acts 0 n (omega arith) in
+    let last = all_low slots before n (omega (arith, few)) in
+    let exits = shape_low (exit_shape exit) in
+    let whole = sum_is (length acts) (length slots) in
+    omega (arith, few, end, first, last, exits, whole)
+
+-- 35 at the start, and 3 for a constant, the sum's constant and the sum
+pub one_sum : code_growth (Computes 5 Addu 4 (Fixed 1) ∷ []) (Goto 1) [] ≡ 38
+one_sum = refl
+
+-- 2 for each address, 2 for the memories that the load needs, 1 for the load, and 2 for the memories at the end
+pub two_stores_and_a_load : code_growth (Stores Word 5 4 0 ∷ Stores Word 5 4 4 ∷ Loads Word 6 4 0 ∷ []) (Goto 1) [] ≡ 46
+two_stores_and_a_load = refl
