@@ -3,8 +3,8 @@
 //! Definitions: `specs/Laws.antt`, `specs/Limits.antt`, `specs/Whole.antt`.
 //! Proved: If the program isn't wrong after n steps, its unit has the same end and output after no fewer, whatever the links of calls are.
 //! The data are the globals' bytes. Ok comes only if frames and stack fit. Limit comes only if they don't, or if there would be too many
-//! blocks.
-//! Contract: `select`, `select_numbered`, `each_unit_keeps_runs`
+//! blocks. A unit has no more blocks than the counts of functions, blocks and instructions allow.
+//! Contract: `select`, `select_numbered`, `each_unit_keeps_runs`, `each_unit_is_counted`
 //! Tested: units compared with RTL's runs: 40 live variables, long blocks, recursion, bytes, limits (test_calls)
 #![tactic(auto)]
 
@@ -22,7 +22,7 @@ mod program;
 mod prologue;
 mod push;
 
-pub use laws::{each_unit_keeps_runs, limits_are_these_numbers};
+pub use laws::{each_unit_is_counted, each_unit_keeps_runs, limits_are_these_numbers};
 pub use limits::STACK_BYTES;
 pub use mips_split::SelectFault;
 pub use numbering::{Numbered, select_numbered};
