@@ -1,6 +1,7 @@
 // The image of a unit.
 
-ghost use Rattle.std.specs.Prelude.{◌≡◌, ℕ, IfOk, OnOk, IfErr, slice_index};
+ghost use Rattle.std.specs.Prelude.{◌≡◌, ℕ, ◌*◌, ◌<◌, IfOk, OnOk, IfErr, length, slice_index};
+ghost use Rattle.mips_layout.specs.declared.limits.TheConstants.{FUNCTION_WORDS};
 ghost use Rattle.mblock.specs.Orders.{AreOrders};
 ghost use Rattle.image.specs.Images.{IsImage, FitsVersion, Second};
 ghost use Rattle.image.specs.Views.{version_of};
@@ -31,6 +32,7 @@ pub fn image_of(
     ensures runs { IfOk result (RunsAsUnit unit.now orders.now) }
     ensures within { OnOk result (IsWithin (slice_index unit.now.owner) orders.now) }
     ensures limit { IfErr result (λ e. e ≡ AsmFault.Limit → IsWithin (slice_index unit.now.owner) orders.now → ⊥) }
+    ensures many { IfErr result (λ e. e ≡ AsmFault.Limit → FUNCTION_WORDS < 2052 * length orders.now) }
 {
     let code = code_of(alloc, unit.owner(), orders)?;
     let bytes = Vec::from_slice(alloc, unit.globals())?;
@@ -46,6 +48,7 @@ pub fn assemble(alloc: Global, scheduled: &Scheduled<'_>) -> Result<Image, AsmFa
     ensures runs { IfOk result (RunsAsUnit scheduled.now.unit scheduled.now.orders) }
     ensures within { OnOk result (IsWithin (slice_index scheduled.now.unit.owner) scheduled.now.orders) }
     ensures limit { IfErr result (λ e. e ≡ AsmFault.Limit → IsWithin (slice_index scheduled.now.unit.owner) scheduled.now.orders → ⊥) }
+    ensures many { IfErr result (λ e. e ≡ AsmFault.Limit → FUNCTION_WORDS < 2052 * length scheduled.now.orders) }
 {
     let unit = scheduled.unit();
     let report = scheduled.report();

@@ -1,13 +1,13 @@
 // The words of orders, in the order of the layout.
 
-ghost use Rattle.std.specs.Prelude.{◌≡◌, ℕ, ◌+◌, ◌<◌, ◌≤◌, ◌++◌, ◌∷◌, [], ℤ, pos, All, length, map, slice_index, FitsSigned, Err, OnOk};
+ghost use Rattle.std.specs.Prelude.{◌≡◌, ℕ, ◌+◌, ◌*◌, ◌<◌, ◌≤◌, ◌++◌, ◌∷◌, [], ℤ, pos, All, length, map, slice_index, FitsSigned, Err, OnOk};
 ghost use Rattle.std.specs.Prelude.{IfOk};
 ghost use Rattle.std.specs.Int.{w16};
 ghost use Rattle.mips_isa.specs.declared.inst.Inst.TheVariants as insts;
 ghost use Rattle.mips_isa.specs.declared.inst.Control.TheVariants.{SystemCall};
 ghost use Rattle.mips_isa.specs.Ranges.{IsInst};
 ghost use Rattle.mips_code.specs.Words.{inst_word};
-ghost use Rattle.mips_layout.specs.declared.limits.TheConstants.{CODE_WORDS};
+ghost use Rattle.mips_layout.specs.declared.limits.TheConstants.{CODE_WORDS, FUNCTION_WORDS};
 ghost use Rattle.mips_layout.specs.Layout.{jump_to, hop, slot_insts, branch_offset, exit_insts, order_insts, insts_of, layout, place};
 ghost use Rattle.mips_layout.specs.Layout.{set_number};
 ghost use Rattle.mips_asm.specs.Emitted.{AllNear, AreUnits, Fit, IsNear, IsWithin, start_of};
@@ -231,6 +231,7 @@ pub fn code_of(alloc: Global, owner: &[BlockNumber], orders: &[Order]) -> Result
     ensures fit { OnOk result (All IsInst (layout orders.now)) }
     ensures within { OnOk result (IsWithin (slice_index owner.now) orders.now) }
     ensures limit { result ≡ Err AsmFault.Limit → IsWithin (slice_index owner.now) orders.now → ⊥ }
+    ensures many { result ≡ Err AsmFault.Limit → FUNCTION_WORDS < 2052 * length orders.now }
 {
     if !functions_fit(owner, orders) || total(orders) > CODE_WORDS {
         return Err(AsmFault::Limit);

@@ -1,6 +1,7 @@
 // Whether each function is within its limit.
 
-ghost use Rattle.std.specs.Prelude.{◌≡◌, ℕ, ◌≤◌, ◌↔◌, ◌==◌, cond, IsTrue, length, slice_index};
+ghost use Rattle.std.specs.Prelude.{◌≡◌, ℕ, ◌*◌, ◌<◌, ◌≤◌, ◌↔◌, ◌==◌, cond, false, IsTrue, length, slice_index};
+ghost use Rattle.mips_layout.specs.declared.limits.TheConstants.{FUNCTION_WORDS};
 ghost use Rattle.mips_layout.specs.Functions.{AreFunctions};
 ghost use Rattle.mips_asm.specs.Limits.{FunctionsFit};
 
@@ -10,7 +11,8 @@ use mips_layout::FUNCTION_WORDS;
 
 // The words so far of the function of block `k`: none where it is the function's first.
 fn words_before(first: usize, k: usize, words: u32) -> u32
-    ensures { result ≡ cond (first == k) 0 words }
+    ensures value { result ≡ cond (first == k) 0 words }
+    ensures small { result ≤ words }
 {
     if first == k { 0 } else { words }
 }
@@ -19,7 +21,8 @@ fn words_before(first: usize, k: usize, words: u32) -> u32
 pub fn functions_fit(owner: &[BlockNumber], orders: &[Order]) -> bool
     requires length { length owner.now ≡ length orders.now }
     requires functions { AreFunctions (length orders.now) (slice_index owner.now) }
-    ensures { IsTrue result ↔ FunctionsFit (slice_index owner.now) orders.now }
+    ensures fit { IsTrue result ↔ FunctionsFit (slice_index owner.now) orders.now }
+    ensures many { result ≡ false → FUNCTION_WORDS < 2052 * length orders.now }
 {
     let mut words = 0;
     for (k, order) in orders.iter().enumerate() {

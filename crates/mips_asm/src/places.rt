@@ -1,6 +1,6 @@
 // Where orders stand, in words.
 
-ghost use Rattle.std.specs.Prelude.{◌≡◌, ℕ, ◌≤◌, IfOk, length};
+ghost use Rattle.std.specs.Prelude.{◌≡◌, ℕ, ◌*◌, ◌≤◌, IfOk, length};
 ghost use Rattle.mblock.specs.declared.limits.TheConstants.{UNIT_BLOCKS};
 ghost use Rattle.mips_layout.specs.Layout.{exit_size, place, size};
 ghost use Rattle.mips_asm.specs.Emitted.{places_from};
@@ -47,7 +47,8 @@ pub fn places(alloc: Global, orders: &[Order]) -> Result<Vec<u32>, AllocError>
 /// How many words there are.
 pub fn total(orders: &[Order]) -> u32
     requires { length orders.now ≤ UNIT_BLOCKS }
-    ensures { result ≡ place orders.now (length orders.now) }
+    ensures value { result ≡ place orders.now (length orders.now) }
+    ensures small { result ≤ 2052 * length orders.now }
 {
     let mut words = 0;
     for order in orders {

@@ -114,6 +114,14 @@ module _ (func : RFunc) (f : Frame) (ok : IsChoice func f) where
       home x (Reg r) there = (let range = ok.registers x r there in (omega (arith, range.0), omega (arith, range.1)))
       home x (Slot k) there = ok.in_slots x k there
 
+-- eight at most are saved then too
+pub placed_eight : (func : RFunc) (f : Frame) → IsPlacedFor func f → length f.saved.items ≤ 8
+placed_eight func f q =
+    let eight = saved_eight func q.choice q.is in
+    let few = still_few f.homes.items (q.choice).saved.items in
+    let same = ap length (q.placed).saved in
+    omega (arith, eight, few, same)
+
 -- with local pseudo-registers in passing registers
 placed_is_frame : (func : RFunc) (f : Frame) → IsPlacedFor func f → (most : ℕ) → frame_bytes_of func ≤ most → IsFrame most f
 placed_is_frame func f q most le = record {

@@ -15,3 +15,5 @@ mod Placed
 mod FrameSizes
 mod Correct
 mod Selecting
+mod CodeSizes
+pub mod Counted

@@ -1,5 +1,5 @@
 -- The theorem of selection.
-use Rattle.std.specs.Prelude.{◌≡◌, ◌≢◌, ◌<◌, ℕ, List, length}
+use Rattle.std.specs.Prelude.{◌≡◌, ◌≢◌, ◌<◌, ◌≤◌, ◌+◌, ℕ, List, length}
 use Rattle.runs.specs.declared.ran.End.TheVariants.{Wrong}
 use Rattle.mips_isa.specs.Starting.{start_state}
 use Rattle.mblock.specs.declared.limits.TheConstants.{UNIT_BLOCKS}
@@ -9,7 +9,7 @@ use Rattle.rtl.specs.Programs.{Program, IsProgram}
 use Rattle.rtl.specs.Meaning.{rtl_run}
 use Rattle.mips_homes.specs.declared.homed.Homed.{Homed}
 use Rattle.mips_homes.specs.Places.{ArePlaced}
-use Rattle.mips_select.specs.Limits.{FramesFit}
+use Rattle.mips_select.specs.Limits.{FramesFit, most_blocks_for}
 use Rattle.mips_select.specs.Whole.{unit_for, block_numbers}
 
 -- at every bound after which the program isn't wrong, the unit comes to the same end and output in as many items or more
@@ -40,3 +40,8 @@ pub record IsBeyond (p : Program) : Type 0 where
   pub lent : homed.rtl.now ≡ p
   pub choices : ArePlaced homed
   pub many : UNIT_BLOCKS < length (unit_for homed).blocks
+
+-- the unit of every program has at most two blocks beside those that are counted for its functions, whatever its homes are
+abbrev pub EachUnitIsCounted : Type 0
+EachUnitIsCounted = (h : Homed) → IsProgram h.rtl.now → ArePlaced h
+    → length (unit_for h).blocks ≤ 2 + most_blocks_for (h.rtl.now).functions

@@ -1,8 +1,10 @@
--- The frames of functions and the limits of the stack.
-use Rattle.std.specs.Prelude.{◌≡◌, ℕ, ◌+◌, ◌*◌, ◌≤◌, ◌<◌, List, [], ◌∷◌, length, max, Option, None, Some}
+-- The frames of functions and the limits of the stack, and at most how many blocks a unit has.
+use Rattle.std.specs.Prelude.{◌≡◌, ℕ, ◌+◌, ◌*◌, ◌/◌, ◌≤◌, ◌<◌, List, [], ◌∷◌, length, max, Option, None, Some}
+use Rattle.mblock.specs.declared.limits.TheConstants.{BLOCK_INSTS}
+use Rattle.rtl.specs.declared.block.RBlock.{RBlock}
 use Rattle.rtl.specs.declared.block.RFunc.{RFunc}
 use Rattle.rtl.specs.Names.{how_many}
-use Rattle.rtl.specs.Programs.{Program}
+use Rattle.rtl.specs.Programs.{Program, block_count}
 use Rattle.mips_homes.specs.declared.homed.Frame.{Frame}
 use Rattle.mips_emit.specs.declared.limits.TheConstants.{FRAME_BYTES}
 use Rattle.mips_select.specs.declared.limits.TheConstants.{STACK_BYTES}
@@ -33,3 +35,20 @@ IsLargest fs (Some n) = (n ≡ largest_by_homes fs) × (n ≤ FRAME_BYTES)
 pub record HaveRoom (fs : List Frame) (depth : ℕ) : Type 0 where
   pub frames : largest_by_homes fs ≤ FRAME_BYTES
   pub stack : depth * largest_by_homes fs ≤ STACK_BYTES
+
+-- at most how many blocks a unit has for a function with so many blocks and instructions. There are two for each block and one before
+-- them; their instructions are at most 14 for the function, 14 for each block, and 8 for each instruction; and long ones are cut
+abbrev pub most_blocks : (blocks insts : ℕ) → ℕ
+most_blocks blocks insts = 1 + 2 * blocks + (14 + 14 * blocks + 8 * insts) / BLOCK_INSTS
+
+abbrev pub insts_in : List RBlock → ℕ
+insts_in [] = 0
+insts_in (b ∷ bs) = length b.insts.items + insts_in bs
+
+abbrev pub most_blocks_of : RFunc → ℕ
+most_blocks_of func = most_blocks (block_count func) (insts_in func.blocks.items)
+
+-- for functions
+abbrev pub most_blocks_for : List RFunc → ℕ
+most_blocks_for [] = 0
+most_blocks_for (func ∷ funcs) = most_blocks_of func + most_blocks_for funcs

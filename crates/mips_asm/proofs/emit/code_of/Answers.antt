@@ -26,7 +26,7 @@ returns-clause-fit c =
 pub put_orders-requires-clause-places : goal.put_orders-requires-clause-places
 put_orders-requires-clause-places c =
     let at = c.deref.ensures.value ∙ c.in_ok-places.ensures in
-    let total = c.total.ensures in
+    let total = c.total.ensures.value in
     let le = c.if-total-gt-CODE_WORDS.false in
     subst (λ (p : List ℕ). All (λ q. q ≤ CODE_WORDS) p) (sym at) (all_small c.args.orders.now (omega arith))
 
@@ -35,4 +35,4 @@ put_orders-requires-clause-near c =
     let orders = c.args.orders.now in
     let own = slice_index c.args.owner.now in
     let at = c.deref.ensures.value ∙ c.in_ok-places.ensures in
-    subst (λ (p : List ℕ). AllNear (start_of p) orders) (sym at) (all_near own orders c.requires.unit (c.functions_fit.ensures.0 c.if-not-functions_fit.false))
+    subst (λ (p : List ℕ). AllNear (start_of p) orders) (sym at) (all_near own orders c.requires.unit (c.functions_fit.ensures.fit.0 c.if-not-functions_fit.false))

@@ -1,0 +1,287 @@
+-- At most how many machine instructions stand for an instruction, an exit and the beginning of a function.
+use Rattle.std.proofs.Common.{◌≡◌, ℕ, zero, suc, ◌+◌, ◌*◌, ◌≤◌, Bool, true, false, List, [], ◌∷◌, ◌++◌, length, length-append, Option, Some, None, arith}
+use Rattle.std.specs.Prelude.{◌/◌, ◌%◌, nat_eq, nat_lt, if◌then◌else◌}
+use Rattle.words.specs.Words.{wrap}
+use Rattle.words.specs.declared.width.Width.{Width}
+use Rattle.words.specs.declared.width.Width.TheVariants.{Word, Byte}
+use Rattle.mips_isa.specs.declared.inst.AluOp.TheVariants.{Addu}
+use Rattle.mips_isa.specs.declared.inst.ImmOp.TheVariants.{Addiu}
+use Rattle.mips_isa.specs.declared.inst.LogicOp.TheVariants.{Ori}
+use Rattle.mips_isa.specs.declared.inst.Plain.{Plain}
+use Rattle.mips_isa.specs.declared.inst.Plain.TheVariants.{Alu, Imm, Logic, LoadUpper}
+use Rattle.rtl.specs.declared.operator.Op.{Op}
+use Rattle.rtl.specs.declared.operator.Op.TheVariants as ops
+use Rattle.rtl.specs.declared.instruction.RInst.{RInst}
+use Rattle.rtl.specs.declared.instruction.RInst.TheVariants.{Const, Move, Bin, Load, Store}
+use Rattle.rtl.specs.declared.instruction.RExit.{RExit}
+use Rattle.rtl.specs.declared.instruction.RExit.TheVariants.{Goto, Branch, Call, Return, Out}
+use Rattle.rtl.specs.declared.block.RGlobal.{RGlobal}
+use Rattle.mips_homes.specs.HomedRun.{is_lasting}
+use Rattle.mips_homes.specs.declared.homed.Frame.{Frame}
+use Rattle.mips_emit.specs.declared.location.Location.{Location}
+use Rattle.mips_emit.specs.declared.location.Location.TheVariants.{Held, InSlot}
+use Rattle.mips_emit.specs.declared.location.Source.{Source}
+use Rattle.mips_emit.specs.declared.location.Source.TheVariants.{Zero, Word as Known, From}
+use Rattle.mips_emit.specs.declared.comparison.Asked.{Asked}
+use Rattle.mips_emit.specs.declared.comparison.Comparison.{Comparison}
+use Rattle.mips_emit.specs.declared.comparison.Form.{Form}
+use Rattle.mips_emit.specs.declared.comparison.Form.TheVariants.{OnPair, OnLeft, OnRight, ByResult, ByOpposite, InResult}
+use Rattle.mips_emit.specs.declared.facts.Last.{Last}
+use Rattle.mips_emit.specs.Locations.{Locations, Facts, locations, known_in, learned, operand, last_operand, inner_of, word_source}
+use Rattle.mips_emit.specs.Elements.{direct, scaled, base_sum, scaled_seat, width_of, page, address_of_place}
+use Rattle.mips_emit.specs.Code.{constant, is_small, half, li, fetch, seat, bring, stays, carry, into, finish, put_at, arrive, operation, code_by_less}
+use Rattle.mips_emit.specs.Code.{code_by_left, code_by_right, code_by_word, multiple_of, multiple_code, code_by_multiple, op_code, element_code}
+use Rattle.mips_emit.specs.Code.{immediate_of, turned_immediate_of, turned_less_of, element_load, const_code, nop, inst_code, arguments_code}
+use Rattle.mips_emit.specs.Comparisons.{code_by_form, opposite_op, comparison_of, asked_last, next_code, insts_code, branch_code}
+use Rattle.mips_emit.specs.Comparisons.{tested, returned, return_code}
+use Rattle.mips_select.specs.declared.prologue.Way.{Way}
+use Rattle.mips_select.specs.declared.prologue.Way.TheVariants.{Save, Restore}
+use Rattle.mips_select.specs.Code.{frame_words, frame_link, frame_bytes, step_of, stack_step, saves, restores, link_save, link_load, lowers}
+use Rattle.mips_select.specs.Code.{parameters_code, prologue, epilogue, exit_code, result_code}
+use Rattle.mips_select.specs.Emittable.{HasFewArguments}
+
+either : (b : Bool) (n : ℕ) (x y : List Plain) → length x ≤ n → length y ≤ n → length (if b then x else y) ≤ n
+either true n x y lx ly = lx
+either false n x y lx ly = ly
+
+-- code and what is behind it
+joined : (y : List Plain) (a b n : ℕ) (x : List Plain) → length x ≤ a → length y ≤ b → a + b ≤ n → length (x ++ y) ≤ n
+joined y a b n x lx ly le = let sum = length-append x y in omega (arith, lx, ly, sum, le)
+
+one_behind : (i : Plain) (a n : ℕ) (x : List Plain) → length x ≤ a → a + 1 ≤ n → length (x ++ i ∷ []) ≤ n
+one_behind i a n x lx le = let sum = length-append x (i ∷ []) in omega (arith, lx, sum, le)
+
+two_behind : (i j : Plain) (a n : ℕ) (x : List Plain) → length x ≤ a → a + 2 ≤ n → length (x ++ i ∷ j ∷ []) ≤ n
+two_behind i j a n x lx le = let sum = length-append x (i ∷ j ∷ []) in omega (arith, lx, sum, le)
+
+-- ---- operands and results
+
+li_few : (t w : ℕ) → length (li t w) ≤ 2
+li_few t w = by (is_small w) (nat_lt w 65536) (nat_eq (w % 65536) 0)
+  where
+    by : (small low upper : Bool) → length (if small then Imm Addiu t 0 (half w) ∷ [] else if low then Logic Ori t 0 w ∷ []
+        else if upper then LoadUpper t (w / 65536 % 65536) ∷ [] else constant t w) ≤ 2
+    by true low upper = omega arith
+    by false true upper = omega arith
+    by false false true = omega arith
+    by false false false = omega arith
+
+fetch_few : (t : ℕ) (x : Source) → length (fetch t x) ≤ 2
+fetch_few t Zero = omega arith
+fetch_few t (Known w) = li_few t w
+fetch_few t (From (Held r)) = omega arith
+fetch_few t (From (InSlot k)) = omega arith
+
+bring_few : (t : ℕ) (x : Source) → length (bring t x) ≤ 2
+bring_few t Zero = omega arith
+bring_few t (Known w) = li_few t w
+bring_few t (From (Held r)) = omega arith
+bring_few t (From (InSlot k)) = omega arith
+
+carry_few : (t : ℕ) (x : Source) → length (carry t x) ≤ 2
+carry_few t x = either (stays t x) 2 [] (bring t x) (omega arith) (bring_few t x)
+
+finish_few : (o : Option Location) → length (finish o) ≤ 1
+finish_few None = omega arith
+finish_few (Some (Held r)) = omega arith
+finish_few (Some (InSlot k)) = omega arith
+
+put_few : (o : Option Location) (x : Source) → length (put_at o x) ≤ 8
+put_few None x = omega arith
+put_few (Some (Held r)) x = let n = bring_few r x in omega (arith, n)
+put_few (Some (InSlot k)) x = one_behind _ 2 8 (fetch (inner_of (Some (InSlot k))) x) (fetch_few (inner_of (Some (InSlot k))) x) (omega arith)
+
+arrive_few : (o : Option Location) (t : ℕ) → length (arrive o t) ≤ 1
+arrive_few None t = omega arith
+arrive_few (Some (Held r)) t = either (stays r (From (Held t))) 1 [] (bring r (From (Held t))) (omega arith) (omega arith)
+arrive_few (Some (InSlot k)) t = omega arith
+
+-- ---- operators
+
+operation_few : (op : Op) (d a b : ℕ) → length (operation op d a b) ≤ 2
+operation_few ops.Add d a b = omega arith
+operation_few ops.Sub d a b = omega arith
+operation_few ops.Mul d a b = omega arith
+operation_few ops.DivS d a b = omega arith
+operation_few ops.DivU d a b = omega arith
+operation_few ops.RemS d a b = omega arith
+operation_few ops.RemU d a b = omega arith
+operation_few ops.And d a b = omega arith
+operation_few ops.Or d a b = omega arith
+operation_few ops.Xor d a b = omega arith
+operation_few ops.Shl d a b = omega arith
+operation_few ops.ShrU d a b = omega arith
+operation_few ops.ShrS d a b = omega arith
+operation_few ops.Eq d a b = omega arith
+operation_few ops.Ne d a b = omega arith
+operation_few ops.LtS d a b = omega arith
+operation_few ops.LtU d a b = omega arith
+operation_few ops.LeS d a b = omega arith
+operation_few ops.LeU d a b = omega arith
+
+less_few : (op : Op) (t d : ℕ) (less : Option Plain) (x y : Source) → length (code_by_less op t d less x y) ≤ 6
+less_few op t d None x y =
+    joined _ 2 4 6 (fetch t x) (fetch_few t x) (joined _ 2 2 4 (fetch 2 y) (fetch_few 2 y) (operation_few op d (seat t x) (seat 2 y)) (omega arith)) (omega arith)
+less_few op t d (Some i) x y = two_behind _ _ 2 6 (fetch 2 y) (fetch_few 2 y) (omega arith)
+
+left_few : (op : Op) (t d : ℕ) (left less : Option Plain) (x y : Source) → length (code_by_left op t d left less x y) ≤ 6
+left_few op t d None less x y = less_few op t d less x y
+left_few op t d (Some i) less x y = one_behind _ 2 6 (fetch 2 y) (fetch_few 2 y) (omega arith)
+
+right_few : (op : Op) (t d : ℕ) (right left less : Option Plain) (x y : Source) → length (code_by_right op t d right left less x y) ≤ 6
+right_few op t d None left less x y = left_few op t d left less x y
+right_few op t d (Some i) left less x y = one_behind _ 2 6 (fetch t x) (fetch_few t x) (omega arith)
+
+product_few : (t d : ℕ) (m : _) (x : Source) → length (multiple_code t d m x) ≤ 6
+product_few t d m x = two_behind _ _ 2 6 (fetch t x) (fetch_few t x) (omega arith)
+
+multiple_few : (t d : ℕ) (right left : Option _) (x y : Source) (other : List Plain) → length other ≤ 6
+    → length (code_by_multiple t d right left x y other) ≤ 6
+multiple_few t d (Some m) left x y other le = product_few t d m x
+multiple_few t d None (Some m) x y other le = product_few t d m y
+multiple_few t d None None x y other le = le
+
+op_few : (op : Op) (t d : ℕ) (left right : Option ℕ) (x y : Source) → length (op_code op t d left right x y) ≤ 6
+op_few op t d left right x y =
+    multiple_few t d (multiple_of op right) (multiple_of op left) x y (code_by_word op t d left right x y)
+    (right_few op t d (immediate_of op d (seat t x) right) (turned_immediate_of op d (seat 2 y) left) (turned_less_of op d (seat 2 y) left) x y)
+
+-- ---- instructions
+
+scaled_few : (w : Width) (q : ℕ) → length (scaled w q) ≤ 1
+scaled_few Word q = omega arith
+scaled_few Byte q = omega arith
+
+sum_few : (start q : ℕ) → length (base_sum start q) ≤ 2
+sum_few start q = by (nat_lt start 65536)
+  where
+    by : (near : Bool) → length (if near then Alu Addu 1 q 28 ∷ [] else LoadUpper 2 (page (address_of_place start)) ∷ Alu Addu 1 q 2 ∷ []) ≤ 2
+    by true = omega arith
+    by false = omega arith
+
+element_few : (w : Width) (start : ℕ) (o : Option ℕ) (x : Source) → length (element_code w start o x) ≤ 5
+element_few w start None x =
+    joined _ 2 3 5 (fetch 1 x) (fetch_few 1 x)
+    (joined _ 1 2 3 (scaled w (seat 1 x)) (scaled_few w (seat 1 x)) (sum_few start (scaled_seat w (seat 1 x))) (omega arith)) (omega arith)
+element_few w start (Some p) x = omega arith
+
+const_few : (o : Option Location) (w : ℕ) → length (const_code o w) ≤ 8
+const_few None w = omega arith
+const_few (Some (Held r)) w =
+    let few = bring_few r (word_source w) in
+    either (is_lasting r) 8 (bring r (word_source w)) (nop ∷ []) (omega (arith, few)) (omega arith)
+const_few (Some (InSlot k)) w = put_few (Some (InSlot k)) (word_source w)
+
+inst_few : (globals : List RGlobal) (starts : ℕ → ℕ) (at : Locations) (facts : Facts) (i : RInst) → length (inst_code globals starts at facts i) ≤ 8
+inst_few globals starts at facts (Const d w) = const_few (at d) (wrap w)
+inst_few globals starts at facts (Move d a) = put_few (at d) (operand at facts a)
+inst_few globals starts at facts (Bin op d a b) =
+    joined _ 6 1 8 (op_code op (inner_of (at d)) (into (at d)) (known_in facts a) (known_in facts b) (operand at facts a) (operand at facts b))
+    (op_few op (inner_of (at d)) (into (at d)) (known_in facts a) (known_in facts b) (operand at facts a) (operand at facts b)) (finish_few (at d))
+    (omega arith)
+inst_few globals starts at facts (Load d a i) =
+    let w = width_of globals a in
+    let place = direct w (starts a) (known_in facts i) in
+    joined _ 6 1 8 (element_code w (starts a) place (operand at facts i) ++ element_load w (into (at d)) (starts a) place ∷ [])
+    (one_behind _ 5 6 (element_code w (starts a) place (operand at facts i)) (element_few w (starts a) place (operand at facts i)) (omega arith))
+    (finish_few (at d)) (omega arith)
+inst_few globals starts at facts (Store a i b) =
+    let w = width_of globals a in
+    let place = direct w (starts a) (known_in facts i) in
+    joined _ 5 3 8 (element_code w (starts a) place (operand at facts i)) (element_few w (starts a) place (operand at facts i))
+    (one_behind _ 2 3 (fetch 2 (operand at facts b)) (fetch_few 2 (operand at facts b)) (omega arith)) (omega arith)
+
+form_few : (f : Form) (op : Op) (l r : Option ℕ) (x y : Source) → length (code_by_form f op l r x y) ≤ 8
+form_few (OnPair test) op l r x y =
+    joined _ 2 3 8 (fetch 1 x) (fetch_few 1 x) (one_behind _ 2 3 (fetch 3 y) (fetch_few 3 y) (omega arith)) (omega arith)
+form_few (OnLeft test) op l r x y = one_behind _ 2 8 (fetch 3 x) (fetch_few 3 x) (omega arith)
+form_few (OnRight test) op l r x y = one_behind _ 2 8 (fetch 3 y) (fetch_few 3 y) (omega arith)
+form_few ByResult op l r x y = let n = op_few op 1 3 l r x y in omega (arith, n)
+form_few ByOpposite op l r x y = let n = op_few (opposite_op op) 1 3 r l y x in omega (arith, n)
+form_few InResult op l r x y = let n = op_few op 1 2 l r x y in omega (arith, n)
+
+next_few : (globals : List RGlobal) (starts : ℕ → ℕ) (at : Locations) (facts : Facts) (o : Option Comparison) (i : RInst)
+    → length (next_code globals starts at facts o i) ≤ 8
+next_few globals starts at facts None i = inst_few globals starts at facts i
+next_few globals starts at facts (Some m) i = form_few m.form m.op m.left m.right m.x m.y
+
+pub insts_few : (globals : List RGlobal) (starts : ℕ → ℕ) (at : Locations) (asked : Asked) (facts : Facts) (is : List RInst) (behind : List Plain)
+    → length (insts_code globals starts at asked facts is behind) ≤ 8 * length is + length behind
+insts_few globals starts at asked facts [] behind = omega arith
+insts_few globals starts at asked facts (i ∷ is) behind =
+    let m = comparison_of at facts (asked_last asked is) i in
+    let one = next_few globals starts at facts m i in
+    let rest = insts_few globals starts at asked (learned at i facts) is behind in
+    let sum = length-append (next_code globals starts at facts m i) (insts_code globals starts at asked (learned at i facts) is behind) in
+    omega (arith, one, rest, sum)
+
+-- ---- frames and exits
+
+words_many : (way : Way) (at : ℕ) (rs : List ℕ) → length (frame_words way at rs) ≡ length rs
+words_many way at [] = omega arith
+words_many way at (r ∷ rs) = let n = words_many way (at + 4) rs in omega (arith, n)
+
+link_few : (way : Way) (leaf : Bool) (f : Frame) → length (frame_link way leaf f) ≤ 1
+link_few way true f = omega arith
+link_few way false f = omega arith
+
+step_few : (way : Way) (n : ℕ) → length (stack_step way n) ≤ 1
+step_few way n = either (nat_eq n 0) 1 [] (Imm Addiu 29 29 (step_of way n) ∷ []) (omega arith) (omega arith)
+
+parameters_few : (at : Locations) (t x n : ℕ) → length (parameters_code at t x n) ≤ n
+parameters_few at t x zero = omega arith
+parameters_few at t x (suc n) =
+    let one = arrive_few (at x) t in
+    let rest = parameters_few at (suc t) (suc x) n in
+    let sum = length-append (arrive (at x) t) (parameters_code at (suc t) (suc x) n) in
+    omega (arith, one, rest, sum)
+
+pub prologue_few : (leaf : Bool) (f : Frame) (n : ℕ) → length f.saved.items ≤ 8 → n ≤ 4 → length (prologue leaf f n) ≤ 14
+prologue_few leaf f n eight four =
+    let saved = words_many Save (4 * f.slots) f.saved.items in
+    let parameters = parameters_few (locations f) 4 0 n in
+    let few : length (saves (4 * f.slots) f.saved.items) ≤ 8 = omega (arith, saved, eight) in
+    let moved : length (parameters_code (locations f) 4 0 n) ≤ 4 = omega (arith, parameters, four) in
+    joined _ 1 13 14 (lowers (frame_bytes leaf f)) (step_few Save (frame_bytes leaf f))
+    (joined _ 9 4 13 (saves (4 * f.slots) f.saved.items ++ link_save leaf f)
+    (joined _ 8 1 9 (saves (4 * f.slots) f.saved.items) few (link_few Save leaf f) (omega arith)) moved (omega arith)) (omega arith)
+
+epilogue_few : (leaf : Bool) (f : Frame) → length f.saved.items ≤ 8 → length (epilogue leaf f) ≤ 10
+epilogue_few leaf f eight =
+    let saved = words_many Restore (4 * f.slots) f.saved.items in
+    let few : length (restores (4 * f.slots) f.saved.items) ≤ 8 = omega (arith, saved, eight) in
+    joined _ 9 1 10 (restores (4 * f.slots) f.saved.items ++ link_load leaf f)
+    (joined _ 8 1 9 (restores (4 * f.slots) f.saved.items) few (link_few Restore leaf f) (omega arith)) (step_few Restore (frame_bytes leaf f)) (omega arith)
+
+arguments_few : (at : Locations) (facts : Facts) (t : ℕ) (xs : List ℕ) → length (arguments_code at facts t xs) ≤ 2 * length xs
+arguments_few at facts t [] = omega arith
+arguments_few at facts t (x ∷ xs) =
+    let one = carry_few t (operand at facts x) in
+    let rest = arguments_few at facts (suc t) xs in
+    let sum = length-append (carry t (operand at facts x)) (arguments_code at facts (suc t) xs) in
+    omega (arith, one, rest, sum)
+
+branch_few : (o : Option Comparison) (x : Source) → length (branch_code o x) ≤ 2
+branch_few None x = fetch_few 1 x
+branch_few (Some m) x = omega arith
+
+return_few : (b : Bool) (x : Source) → length (return_code b x) ≤ 2
+return_few true x = omega arith
+return_few false x = carry_few 2 x
+
+pub exit_few : (leaf : Bool) (f : Frame) (facts : Facts) (last : Last) (x : RExit) → length f.saved.items ≤ 8 → HasFewArguments x
+    → length (exit_code leaf f facts last x) ≤ 12
+exit_few leaf f facts last (Goto b) eight few = omega arith
+exit_few leaf f facts last (Branch c t e) eight few =
+    let n = branch_few (tested last.comparison c) (last_operand (locations f) facts last.fresh c) in omega (arith, n)
+exit_few leaf f facts last (Call g xs d next) eight few =
+    let n = arguments_few (locations f) facts 4 xs.items in omega (arith, n, few)
+exit_few leaf f facts last (Return None) eight few = let n = epilogue_few leaf f eight in omega (arith, n)
+exit_few leaf f facts last (Return (Some x)) eight few =
+    joined _ 2 10 12 (return_code (returned last.comparison x) (last_operand (locations f) facts last.fresh x))
+    (return_few (returned last.comparison x) (last_operand (locations f) facts last.fresh x)) (epilogue_few leaf f eight) (omega arith)
+exit_few leaf f facts last (Out x next) eight few = let n = carry_few 4 (last_operand (locations f) facts last.fresh x) in omega (arith, n)
+
+pub result_few : (at : Locations) (o : Option ℕ) → length (result_code at o) ≤ 1
+result_few at None = omega arith
+result_few at (Some d) = arrive_few (at d) 2

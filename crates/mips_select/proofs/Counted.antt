@@ -1,0 +1,192 @@
+-- At most how many blocks the unit of a program has.
+use Rattle.std.proofs.Common.{◌≡◌, ℕ, suc, ◌+◌, ◌-◌, ◌*◌, ◌≤◌, Bool, true, false, List, [], ◌∷◌, ◌++◌, length, length-append, Option, Some, None}
+use Rattle.std.proofs.Common.{refl, arith, nat_eq, eqb-true}
+use Rattle.std.specs.Prelude.{if◌then◌else◌, slice_get}
+use Rattle.mblock.specs.Parts.{BlockParts}
+use Rattle.rtl.specs.declared.instruction.RExit.{RExit}
+use Rattle.rtl.specs.declared.instruction.RExit.TheVariants.{Goto, Branch, Call, Return, Out}
+use Rattle.rtl.specs.declared.block.RBlock.{RBlock}
+use Rattle.rtl.specs.declared.block.RFunc.{RFunc}
+use Rattle.rtl.specs.declared.block.RGlobal.{RGlobal}
+use Rattle.mips_homes.specs.declared.homed.Frame.{Frame}
+use Rattle.mips_emit.specs.Locations.{locations, no_facts, known_after}
+use Rattle.mips_emit.specs.Comparisons.{insts_code, last_after, no_last}
+use Rattle.mips_split.specs.Split.{first_piece_of, total}
+use Rattle.mips_split.proofs.Counts.{length-split_from}
+use Rattle.mips_select.specs.declared.heads.Naming.{Naming}
+use Rattle.mips_select.specs.declared.heads.Naming.TheVariants.{Unnamed, Called, Jumped}
+use Rattle.mips_select.specs.declared.heads.Head.{Head}
+use Rattle.mips_select.specs.declared.heads.Head.TheVariants.{Bare, Enters, Takes}
+use Rattle.mips_select.specs.Code.{asked_of, exit_code, own_block, head_code, after_block}
+use Rattle.mips_select.specs.Data.{start_of}
+use Rattle.mips_select.specs.Emittable.{HasFewArguments}
+use Rattle.mips_select.specs.Heads.{head_at, heads_of, is_leaf, namings, unnamed, resumes, count, lead_in}
+use Rattle.mips_select.specs.Laws.{EachUnitIsCounted}
+use Rattle.mips_select.specs.Limits.{insts_in, most_blocks_for}
+use Rattle.mips_select.specs.Whole.{behind, next_of, blocks_from, blocks_in, lead_blocks, place_in, function_blocks, function_size, functions_blocks, program_blocks, entry_of}
+use Rattle.mips_select.proofs.CodeSizes.{insts_few, prologue_few, exit_few, result_few}
+use Rattle.mips_select.proofs.FrameSizes.{placed_eight}
+use Rattle.mips_select.proofs.Selecting.{functions_emittable}
+
+-- the instructions of blocks
+abbrev words_in : List BlockParts → ℕ
+words_in [] = 0
+words_in (b ∷ bs) = length b.insts + words_in bs
+
+words_append : (xs ys : List BlockParts) → words_in (xs ++ ys) ≡ words_in xs + words_in ys
+words_append [] ys = omega arith
+words_append (x ∷ xs) ys = let rest = words_append xs ys in omega (arith, rest)
+
+-- cut at 512 instructions
+total_append : (xs ys : List BlockParts) → total 512 (xs ++ ys) ≡ total 512 xs + total 512 ys
+total_append [] ys = omega arith
+total_append (x ∷ xs) ys = let rest = total_append xs ys in omega (arith, rest)
+
+total_few : (bs : List BlockParts) → 512 * total 512 bs ≤ 512 * length bs + words_in bs
+total_few [] = omega arith
+total_few (b ∷ bs) = let rest = total_few bs in omega (arith, rest)
+
+-- so many blocks, with so many instructions in all
+record Few (bs : List BlockParts) (blocks words : ℕ) : Type 0 where
+  blocks_few : length bs ≤ blocks
+  words_few : words_in bs ≤ words
+
+both : (xs ys : List BlockParts) (a b c d : ℕ) → Few xs a b → Few ys c d → Few (xs ++ ys) (a + c) (b + d)
+both xs ys a b c d x y =
+    let n = length-append xs ys in
+    let m = words_append xs ys in
+    record { blocks_few = omega (arith, n, x.blocks_few, y.blocks_few); words_few = omega (arith, m, x.words_few, y.words_few) }
+
+-- ---- one function
+
+module _ (globals : List RGlobal) (starts entry place : ℕ → ℕ) (leaf : Bool) (heads : ℕ → Head) (f : Frame) (n : ℕ)
+    (eight : length f.saved.items ≤ 8) (four : n ≤ 4) where
+  behind_few : (x : RExit) → Few (behind heads place f x) 1 1
+  behind_few (Call g xs d next) = by (resumes d (heads next))
+    where
+      by : (b : Bool) → Few (if b then [] else after_block f d (place next) ∷ []) 1 1
+      by true = record { blocks_few = omega arith; words_few = omega arith }
+      by false = let m = result_few (locations f) d in record { blocks_few = omega arith; words_few = omega (arith, m) }
+  behind_few (Goto b) = record { blocks_few = omega arith; words_few = omega arith }
+  behind_few (Branch c t e) = record { blocks_few = omega arith; words_few = omega arith }
+  behind_few (Return o) = record { blocks_few = omega arith; words_few = omega arith }
+  behind_few (Out x next) = record { blocks_few = omega arith; words_few = omega arith }
+
+  own_few : (j m : ℕ) (b : RBlock) → HasFewArguments b.exit
+      → length (own_block globals starts entry place leaf f (head_code leaf f n (heads j)) m b).insts
+      ≤ length (head_code leaf f n (heads j)) + (12 + 8 * length b.insts.items)
+  own_few j m b few =
+      let facts = known_after (locations f) b.insts.items no_facts in
+      let last = last_after (locations f) (asked_of b.exit) no_facts b.insts.items no_last in
+      let exit = exit_few leaf f facts last b.exit eight few in
+      let code = insts_few globals starts (locations f) (asked_of b.exit) no_facts b.insts.items (exit_code leaf f facts last b.exit) in
+      let sum = length-append (head_code leaf f n (heads j)) (insts_code globals starts (locations f) (asked_of b.exit) no_facts b.insts.items
+      (exit_code leaf f facts last b.exit)) in
+      omega (arith, exit, code, sum)
+
+  -- a block, and what is behind it
+  one_few : (k j : ℕ) (b : RBlock) (bs : List RBlock) (blocks words : ℕ) → HasFewArguments b.exit
+      → Few (blocks_from globals starts entry place leaf heads f n (k + count heads b.exit) (suc j) bs) blocks words
+      → Few (blocks_from globals starts entry place leaf heads f n k j (b ∷ bs)) (2 + blocks)
+      (length (head_code leaf f n (heads j)) + (13 + 8 * length b.insts.items) + words)
+  one_few k j b bs blocks words few rest =
+      let own = own_few j (next_of heads place k b.exit) b few in
+      let more = both (behind heads place f b.exit) (blocks_from globals starts entry place leaf heads f n (k + count heads b.exit) (suc j) bs) 1 1
+      blocks words (behind_few b.exit) rest in
+      record { blocks_few = omega (arith, more.blocks_few); words_few = omega (arith, own, more.words_few) }
+
+  -- those behind the first begin with one instruction at most
+  rest_few : ((j : ℕ) → length (head_code leaf f n (heads (suc j))) ≤ 1) → (k j : ℕ) (bs : List RBlock)
+      → ((i : ℕ) (b : RBlock) → slice_get bs i ≡ Some b → HasFewArguments b.exit)
+      → Few (blocks_from globals starts entry place leaf heads f n k (suc j) bs) (2 * length bs) (14 * length bs + 8 * insts_in bs)
+  rest_few small k j [] few = record { blocks_few = omega arith; words_few = omega arith }
+  rest_few small k j (b ∷ bs) few =
+      let head = small j in
+      let rest = rest_few small (k + count heads b.exit) (suc j) bs (λ i c e. few (suc i) c e) in
+      let all = one_few k (suc j) b bs (2 * length bs) (14 * length bs + 8 * insts_in bs) (few 0 b refl) rest in
+      record { blocks_few = omega (arith, all.blocks_few); words_few = omega (arith, head, all.words_few) }
+
+  all_few : ((j : ℕ) → length (head_code leaf f n (heads (suc j))) ≤ 1) → (k : ℕ) (bs : List RBlock)
+      → ((i : ℕ) (b : RBlock) → slice_get bs i ≡ Some b → HasFewArguments b.exit)
+      → Few (blocks_from globals starts entry place leaf heads f n k 0 bs) (2 * length bs)
+      ((length (head_code leaf f n (heads 0)) - 1) + (14 * length bs + 8 * insts_in bs))
+  all_few small k [] few = record { blocks_few = omega arith; words_few = omega arith }
+  all_few small k (b ∷ bs) few =
+      let rest = rest_few small (k + count heads b.exit) 0 bs (λ i c e. few (suc i) c e) in
+      let all = one_few k 0 b bs (2 * length bs) (14 * length bs + 8 * insts_in bs) (few 0 b refl) rest in
+      record { blocks_few = omega (arith, all.blocks_few); words_few = omega (arith, all.words_few) }
+
+  -- the prologue is in a block of its own, or at the head of the first
+  lead_few : (h : Head) (first : ℕ) → (length (lead_blocks leaf h f n first) ≤ 1)
+      × (words_in (lead_blocks leaf h f n first) + (length (head_code leaf f n h) - 1) ≤ 14)
+  lead_few Bare first = let m = prologue_few leaf f n eight four in (omega arith, omega (arith, m))
+  lead_few Enters first = let m = prologue_few leaf f n eight four in (omega arith, omega (arith, m))
+  lead_few (Takes d) first =
+      let m = prologue_few leaf f n eight four in
+      let r = result_few (locations f) (Some d) in
+      (omega arith, omega (arith, m, r))
+
+later_head : (leaf : Bool) (f : Frame) (n : ℕ) (l : List Naming) (j : ℕ) → length (head_code leaf f n (head_at (suc j) (slice_get l (suc j)))) ≤ 1
+later_head leaf f n l j = by (slice_get l (suc j))
+  where
+    by : (o : Option Naming) → length (head_code leaf f n (head_at (suc j) o)) ≤ 1
+    by None = omega arith
+    by (Some Unnamed) = at (nat_eq (suc j) 0) refl
+      where
+        at : (b : Bool) → nat_eq (suc j) 0 ≡ b → length (head_code leaf f n (if b then Enters else Bare)) ≤ 1
+        at true e = let is = eqb-true (suc j) 0 e in absurd (omega (arith, is))
+        at false e = omega arith
+    by (Some (Called None)) = omega arith
+    by (Some (Called (Some d))) = at (nat_eq (suc j) 0)
+      where
+        at : (b : Bool) → length (head_code leaf f n (if b then Bare else Takes d)) ≤ 1
+        at true = omega arith
+        at false = result_few (locations f) (Some d)
+    by (Some Jumped) = omega arith
+
+function_few : (globals : List RGlobal) (starts entry : ℕ → ℕ) (n k : ℕ) (bs : List RBlock) (f : Frame) → length f.saved.items ≤ 8 → n ≤ 4
+    → ((i : ℕ) (b : RBlock) → slice_get bs i ≡ Some b → HasFewArguments b.exit)
+    → Few (blocks_in globals starts entry n k bs f) (1 + 2 * length bs) (14 + 14 * length bs + 8 * insts_in bs)
+function_few globals starts entry n k bs f eight four few =
+    let heads = heads_of bs in
+    let leaf = is_leaf bs in
+    let place = place_in k bs in
+    let lead = lead_few globals starts entry place leaf heads f n eight four (heads 0) (place 0) in
+    let all = all_few globals starts entry place leaf heads f n eight four (λ j. later_head leaf f n (namings bs (unnamed bs)) j) (k + lead_in heads) bs few in
+    let b = length-append (lead_blocks leaf (heads 0) f n (place 0)) (blocks_from globals starts entry place leaf heads f n (k + lead_in heads) 0 bs) in
+    let w = words_append (lead_blocks leaf (heads 0) f n (place 0)) (blocks_from globals starts entry place leaf heads f n (k + lead_in heads) 0 bs) in
+    record { blocks_few = omega (arith, lead.0, all.blocks_few, b); words_few = omega (arith, lead.1, all.words_few, w) }
+
+-- ---- the program
+
+record IsFew (func : RFunc) (f : Frame) : Type 0 where
+  eight : length f.saved.items ≤ 8
+  four : func.parameters ≤ 4
+  few : (i : ℕ) (b : RBlock) → slice_get func.blocks.items i ≡ Some b → HasFewArguments b.exit
+
+functions_few : (globals : List RGlobal) (starts entry : ℕ → ℕ) (k : ℕ) (funcs : List RFunc) (fs : List Frame)
+    → ((i : ℕ) (func : RFunc) (f : Frame) → slice_get funcs i ≡ Some func → slice_get fs i ≡ Some f → IsFew func f)
+    → total 512 (functions_blocks globals starts entry k funcs fs) ≤ most_blocks_for funcs
+functions_few globals starts entry k [] fs each = omega arith
+functions_few globals starts entry k (func ∷ funcs) [] each = omega arith
+functions_few globals starts entry k (func ∷ funcs) (f ∷ fs) each =
+    let is = each 0 func f refl refl in
+    let one = function_few globals starts entry func.parameters k func.blocks.items f is.eight is.four is.few in
+    let cut = total_few (function_blocks globals starts entry k func f) in
+    let rest = functions_few globals starts entry (k + function_size func) funcs fs (λ i g h eg eh. each (suc i) g h eg eh) in
+    let sum = total_append (function_blocks globals starts entry k func f) (functions_blocks globals starts entry (k + function_size func) funcs fs) in
+    omega (arith, one.blocks_few, one.words_few, cut, rest, sum)
+
+pub each_counted : EachUnitIsCounted
+each_counted h ok places =
+    let p = h.rtl.now in
+    let starts = start_of p.globals in
+    let entry = entry_of p.functions in
+    let emittable = functions_emittable p p.functions (length p.globals) ok refl refl in
+    let few = functions_few p.globals starts entry 2 p.functions h.frames.items (λ i func f there at. record {
+      eight = placed_eight func f (places.by i func f there at);
+      four = (emittable.by i func there).parameters;
+      few = λ b block e. ((emittable.by i func there).blocks.by b block e).exit;
+    }) in
+    let long = length-split_from 512 (first_piece_of 512 (program_blocks h)) 0 (program_blocks h) in
+    omega (arith, few, long)
