@@ -2,11 +2,11 @@
 //!
 //! Definitions: `specs/Follows.antt`, `specs/Builds.antt`, `specs/BuildFaults.antt`, `specs/Commands.antt`.
 //! Proved: The headline: if `build` is Ok, the source spells a program without errors and the bytes are those of an image that follows it
-//! (`follows`). Image and report are those of one scheduled unit (`scheduled`). An error is the source's own, or a limit (`fault`). If the
-//! scheduler may propose one order for a block, two builds that decided each block of one unit make one image. Nothing is printed before
-//! IMAGE is written, and after an error standard output is as it was (`StopsBuild`).
+//! (`follows`). Image and report are those of one scheduled unit (`scheduled`). An error is the source's own, or a limit that its
+//! counts allow (`fault`). If a scheduler proposes one order for a block, two builds that decided each block of one unit make one image.
+//! Nothing is printed before IMAGE is written, and after an error standard output is as it was (`StopsBuild`).
 //! Contract: `build`, `build_one`, `build_plain`, `build_file`, `one_build`
-//! Tested: limits of selection and assembly don't come too early; 1, 2, 4 and 64 workers give equal images (tests/builds)
+//! Tested: 1, 2, 4 and 64 workers give equal images (tests/builds)
 #![tactic(auto)]
 
 mod build_commands;
