@@ -1,5 +1,5 @@
 -- A build from its two halves.
-use Rattle.std.proofs.Common.{◌≡◌, ◌+◌, ℕ, List, Result, Ok, Err, IfOk, IfErr, sym, subst}
+use Rattle.std.proofs.Common.{◌≡◌, ◌+◌, ℕ, List, Result, Ok, Err, IfOk, IfErr, sym, ap, subst, length, arith}
 use Rattle.c_typed.specs.Meaning.{source_run}
 use Rattle.mips_isa.specs.Starting.{start_state}
 use Rattle.mblock.specs.Units.{UnitParts}
@@ -65,19 +65,28 @@ scheduled_build Suits (Err e) (Ok b) suits w = absurd w
 scheduled_build Suits m (Err e) suits w = tt
 
 -- a unit of the text's program that has no image
-fault_of : (text : List ℕ) (depth : ℕ) (u : UnitParts) (s : ScheduledParts) (e : BuildFault) → IsUnitOf text depth u → IsUnwritten s e
-    → IsBuildFault text e
-fault_of text depth u s (faults.Source f) of h = absurd h
-fault_of text depth u s (faults.Limit limits.Lowering) of h = absurd h
-fault_of text depth u s (faults.Limit limits.Selection) of h = absurd h
-fault_of text depth u s (faults.Limit limits.Assembly) of h = (of.program, of.spelled)
-fault_of text depth u s faults.NoMemory of h = (of.program, of.spelled)
+fault_of : (text : List ℕ) (depth : ℕ) (u : UnitParts) (s : ScheduledParts) (e : BuildFault) → IsUnitOf text depth u → s.unit ≡ u → IsUnwritten s e
+    → IsBuildFault text depth e
+fault_of text depth u s (faults.Source f) of same h = absurd h
+fault_of text depth u s (faults.Limit limits.Lowering) of same h = absurd h
+fault_of text depth u s (faults.Limit limits.Selection) of same h = absurd h
+fault_of text depth u s (faults.Limit limits.Assembly) of same h = record {
+  program = of.program;
+  spelled = of.spelled;
+  beyond = λ fit.
+      let few = of.few in
+      let unit = ap (λ (u : UnitParts). length u.blocks) same in
+      let long = (h.0.orders).long in
+      let many = h.1.1 in
+      omega (arith, fit, few, unit, long, many);
+}
+fault_of text depth u s faults.NoMemory of same h = (of.program, of.spelled)
 
 pub unwritten : {E : Type 0} (text : List ℕ) (depth : ℕ) (u : UnitParts) (m : Result ScheduledParts E) (r : Result Built BuildFault)
-    → IsUnitOf text depth u → IfErr r (IsUnwrittenOf m) → IfErr r (IsBuildFault text)
-unwritten text depth u m (Ok b) of h = tt
-unwritten text depth u (Ok s) (Err fault) of h = fault_of text depth u s fault of h
-unwritten text depth u (Err e) (Err fault) of h = subst (IsBuildFault text) (sym h) (of.program, of.spelled)
+    → IsUnitOf text depth u → IfOk m (λ s. s.unit ≡ u) → IfErr r (IsUnwrittenOf m) → IfErr r (IsBuildFault text depth)
+unwritten text depth u m (Ok b) of same h = tt
+unwritten text depth u (Ok s) (Err fault) of same h = fault_of text depth u s fault of same h
+unwritten text depth u (Err e) (Err fault) of same h = subst (IsBuildFault text depth) (sym h) (of.program, of.spelled)
 
 pub with_both : {E : Type 0} {P Q R : ScheduledParts → Type 0} (m : Result ScheduledParts E) → IfOk m P → IfOk m Q
     → ((s : ScheduledParts) → P s → Q s → R s) → IfOk m R

@@ -1,3 +1,4 @@
 pub mod Composed
+pub mod Counts
 pub mod Halves
 pub mod OneBuild

@@ -54,7 +54,7 @@ pub record Builds (source image : List ℕ) (depth : ℕ) (plain : Bool) (status
 pub data StopsBuild (source image : List ℕ) (depth : ℕ) (plain : Bool) (silent refused : Type 0) : List Request → List ℕ → Type 0 where
   unread : (fault : FileFault) → silent
       → StopsBuild source image depth plain silent refused (NotRead source fault ∷ []) (host_fault_text (reading_fault fault))
-  faulty : (text : List ℕ) (fault : BuildFault) → IsBuildFault text fault → silent
+  faulty : (text : List ℕ) (fault : BuildFault) → IsBuildFault text depth fault → silent
       → StopsBuild source image depth plain silent refused (Read source text ∷ []) (build_fault_text fault)
   unwritten : (text : List ℕ) (built : Built) → IsBuiltAs text depth plain built → (fault : FileFault) → silent
       → StopsBuild source image depth plain silent refused (Read source text ∷ (NotWritten image built.image.items fault ∷ []))

@@ -1,5 +1,5 @@
 -- The two halves of a build, as its private functions see them: up to a unit, and from a scheduled unit on.
-use Rattle.std.specs.Prelude.{◌≡◌, ℕ, List, length, slice_index, Result, Ok, Err}
+use Rattle.std.specs.Prelude.{◌≡◌, ◌<◌, ◌≤◌, ◌*◌, ℕ, List, length, slice_index, Result, Ok, Err}
 use Rattle.c_typed.specs.Trees.{TypedProgram}
 use Rattle.c_typed.specs.Meaning.{source_run}
 use Rattle.c_types.specs.Typed.{SpellsTyped}
@@ -11,18 +11,22 @@ use Rattle.image.specs.Views.{counts_of}
 use Rattle.sched_phase.specs.Schedules.{ScheduledParts, IsScheduled}
 use Rattle.mips_asm.specs.Assembled.{IsAssembled, RunsAsUnit}
 use Rattle.mips_asm.specs.Emitted.{IsWithin}
+use Rattle.mips_layout.specs.declared.limits.TheConstants.{FUNCTION_WORDS}
 use Rattle.runs.specs.Refines.{Refines, Same, AtLeast}
+use Rattle.build_command.specs.BuildFaults.{blocks_counted}
 use Rattle.build_command.specs.declared.builds.Built.{Built}
 use Rattle.build_command.specs.declared.builds.BuildFault.{BuildFault}
 use Rattle.build_command.specs.declared.builds.BuildFault.TheVariants as faults
 use Rattle.build_command.specs.declared.builds.Limit.TheVariants as limits
 
--- a unit of the program that the text spells, which refines it whatever words the calls have as links
+-- a unit of the program that the text spells, which refines it whatever words the calls have as links, and has no more blocks than are
+-- counted
 pub record IsUnitOf (text : List ℕ) (depth : ℕ) (u : UnitParts) : Type 0 where
   pub program : TypedProgram
   pub spelled : SpellsTyped text program
   pub runs : (links : ℕ → ℕ) → TellsApart links u.blocks
       → Refines AtLeast Same (source_run program depth) (unit_run u.blocks links (start_state u.globals))
+  pub few : length u.blocks ≤ blocks_counted program.functions
 
 -- the bytes of a scheduled unit's image, which runs as the unit
 pub record IsWritten (s : ScheduledParts) (b : Built) : Type 0 where
@@ -41,7 +45,8 @@ abbrev pub IsUnwritten : ScheduledParts → BuildFault → Type 0
 IsUnwritten s (faults.Source f) = ⊥
 IsUnwritten s (faults.Limit limits.Lowering) = ⊥
 IsUnwritten s (faults.Limit limits.Selection) = ⊥
-IsUnwritten s (faults.Limit limits.Assembly) = IsScheduled s × (IsWithin (slice_index s.unit.owner) s.orders → ⊥)
+IsUnwritten s (faults.Limit limits.Assembly) =
+    IsScheduled s × ((IsWithin (slice_index s.unit.owner) s.orders → ⊥) × (FUNCTION_WORDS < 2052 * length s.orders))
 IsUnwritten s faults.NoMemory = Unit {0}
 
 -- the same of a schedule, to which memory may have been refused

@@ -88,7 +88,7 @@ fn built_as_asked<T: Threads + Wait + Sync>(
     asked: &AskedBuild<'_>,
 ) -> Result<Built, BuildFault>
     ensures built { IfOk result (IsBuiltAs text.now asked.now.depth asked.now.plain) }
-    ensures fault { IfErr result (IsBuildFault text.now) }
+    ensures fault { IfErr result (IsBuildFault text.now asked.now.depth) }
 {
     if asked.plain {
         build_plain(alloc, text, asked.depth)

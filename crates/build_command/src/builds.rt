@@ -79,7 +79,7 @@ pub fn typed_of(alloc: Global, text: &[u8]) -> Result<Typed, SourceFault>
 pub fn unit_of(alloc: Global, text: &[u8], depth: u32) -> Result<Unit, BuildFault>
     requires { 1 ≤ depth }
     ensures unit { IfOk result (IsUnitOf text.now depth) }
-    ensures fault { IfErr result (IsBuildFault text.now) }
+    ensures fault { IfErr result (IsBuildFault text.now depth) }
 {
     let typed = typed_of(alloc, text)?;
     let rtl = match lower(alloc, &typed) {
@@ -127,7 +127,7 @@ pub fn build_plain(alloc: Global, text: &[u8], depth: u32) -> Result<Built, Buil
     requires { 1 ≤ depth }
     ensures follows { IfOk result (λ b. FollowsText text.now depth 1 b.image.items) }
     ensures scheduled { IfOk result (IsScheduledBuild IsPlain) }
-    ensures fault { IfErr result (IsBuildFault text.now) }
+    ensures fault { IfErr result (IsBuildFault text.now depth) }
 {
     let unit = unit_of(alloc, text, depth)?;
     let scheduled = schedule_plain(alloc, &unit);

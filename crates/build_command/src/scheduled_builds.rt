@@ -49,7 +49,7 @@ pub fn build<T: Threads + Wait + Sync, R: Reorder + Sync, G: Gate + Sync>(
     requires { 1 ≤ options.now.depth }
     ensures follows { IfOk result (λ b. FollowsText text.now options.now.depth (BLOCK_INSTS + 1) b.image.items) }
     ensures scheduled { IfOk result (IsScheduledBuild (IsPhase (R.proposes reorder.now))) }
-    ensures fault { IfErr result (IsBuildFault text.now) }
+    ensures fault { IfErr result (IsBuildFault text.now options.now.depth) }
 {
     let unit = unit_of(alloc, text, options.depth)?;
     let scheduled = schedule_all(rt, alloc, &unit, options.phase, reorder, gate);
@@ -66,7 +66,7 @@ pub fn build_one<R: Reorder>(
     requires { 1 ≤ options.now.depth }
     ensures follows { IfOk result (λ b. FollowsText text.now options.now.depth (BLOCK_INSTS + 1) b.image.items) }
     ensures scheduled { IfOk result (IsScheduledBuild (IsWholePhase (R.proposes reorder.now))) }
-    ensures fault { IfErr result (IsBuildFault text.now) }
+    ensures fault { IfErr result (IsBuildFault text.now options.now.depth) }
 {
     let unit = unit_of(alloc, text, options.depth)?;
     let scheduled = schedule_one(alloc, &unit, options.phase, reorder);

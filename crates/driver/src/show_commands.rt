@@ -5,7 +5,9 @@ ghost use Rattle.commands.specs.Requests.{TellsLine};
 ghost use Rattle.block_text.specs.Shown.{IsShown};
 ghost use Rattle.build_command.specs.BuildFaults.{IsBuildFault};
 ghost use Rattle.build_command.specs.SourceFaults.{IsFaultless};
-ghost use Rattle.driver.specs.Stages.{IsStagesFault, stages_fault_text};
+ghost use Rattle.mips_select.specs.Limits.{FramesFit};
+ghost use Rattle.mips_select.specs.Laws.{IsBeyond};
+ghost use Rattle.driver.specs.Stages.{IsRtlOf, IsStagesFault, stages_fault_text};
 
 use crate::pages::PageCommand;
 use crate::reasons::page;
@@ -49,8 +51,8 @@ impl Error for StagesFault {}
 
 /// RTL of the program that the text spells.
 fn rtl_of(alloc: Global, text: &[u8]) -> Result<Rtl, BuildFault>
-    ensures spelled { IfOk result (λ _. IsFaultless text.now) }
-    ensures fault { IfErr result (IsBuildFault text.now) }
+    ensures spelled { IfOk result (IsRtlOf text.now) }
+    ensures fault { IfErr result (IsBuildFault text.now 1) }
 {
     let typed = typed_of(alloc, text)?;
     match lower(alloc, &typed) {
@@ -62,7 +64,7 @@ fn rtl_of(alloc: Global, text: &[u8]) -> Result<Rtl, BuildFault>
 
 /// The numbered blocks of a program, of which one call is active at most: nothing is run.
 fn blocks_of(alloc: Global, rtl: &Rtl) -> Result<Numbered, BuildFault>
-    ensures { IfErr result (λ e. (e ≡ BuildFault.Limit Limit.Selection) ⊎ (e ≡ BuildFault.NoMemory)) }
+    ensures { IfErr result (λ e. ((e ≡ BuildFault.Limit Limit.Selection) × (FramesFit rtl.now 1 → IsBeyond rtl.now)) ⊎ (e ≡ BuildFault.NoMemory)) }
 {
     match select_numbered(alloc, rtl, 1) {
         Ok(numbered) => Ok(numbered),

@@ -81,8 +81,8 @@ pub record SaysImage (text : List ℕ) (depth : ℕ) (plain : Bool) (status said
   pub ends : status ≡ 0
   pub gives : Gives (built_text plain built ++ built.image.items) said old new
 
-abbrev pub SaysBuildFault : (text : List ℕ) → (said : ℕ) → (old new : List ℕ) → Type 0
-SaysBuildFault text = SaysFault (IsBuildFault text) build_fault_text
+abbrev pub SaysBuildFault : (text : List ℕ) (depth : ℕ) → (said : ℕ) → (old new : List ℕ) → Type 0
+SaysBuildFault text depth = SaysFault (IsBuildFault text depth) build_fault_text
 
 -- `run` and `list`
 pub record SaysMachine (bytes : List ℕ) (steps : ℕ) (status said : ℕ) (old new : List ℕ) : Type 0 where

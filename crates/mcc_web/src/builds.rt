@@ -36,7 +36,7 @@ fn build_image(alloc: Global, text: &[u8], plain: bool, depth: u32) -> Result<Bu
     requires { 1 ≤ depth }
     ensures follows { IfOk result (λ b. FollowsText text.now depth (factor_of plain) b.image.items) }
     ensures scheduled { IfOk result (IsScheduledAs plain) }
-    ensures fault { IfErr result (IsBuildFault text.now) }
+    ensures fault { IfErr result (IsBuildFault text.now depth) }
 {
     if plain {
         build_plain(alloc, text, depth)
@@ -65,14 +65,16 @@ fn print_image(alloc: Global, plain: bool, built: &Built) -> io::Result<Vec<u8>>
 pub(crate) fn give_build_fault(
     alloc: Global,
     text: &[u8],
+    depth: u32,
     fault: BuildFault,
     out: &mut [u8],
     status: &mut u8,
 ) -> usize
-    requires { IsBuildFault text.now fault }
+    requires { IsBuildFault text.now depth fault }
     ensures ends { status.new ≢ 1 → status.new ≡ REFUSED }
-    ensures faulty { status.new ≡ 1 → SaysBuildFault text.now result out.old out.new }
+    ensures faulty { status.new ≡ 1 → SaysBuildFault text.now depth result out.old out.new }
 {
+    let _ = depth;
     let mut told = Told::new(alloc);
     *status = tell_build(alloc, &mut told, "program.c", text, fault);
     told.give(out, status)
@@ -92,7 +94,7 @@ pub extern "C" fn mcc_web_build(
     ensures wrong_words { status.new ≡ 2 → depth ≡ 0 }
     ensures answered { status.new ≢ 1 → status.new ≢ 2 → status.new ≢ REFUSED
         → SaysImage text.now depth plain status.new result out.old out.new }
-    ensures faulty { status.new ≡ 1 → SaysBuildFault text.now result out.old out.new }
+    ensures faulty { status.new ≡ 1 → SaysBuildFault text.now depth result out.old out.new }
 {
     if depth == 0 {
         *status = 2;
@@ -109,6 +111,6 @@ pub extern "C" fn mcc_web_build(
                 0
             }
         },
-        Err(fault) => give_build_fault(alloc, text, fault, out, status),
+        Err(fault) => give_build_fault(alloc, text, depth, fault, out, status),
     }
 }

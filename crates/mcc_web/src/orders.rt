@@ -91,7 +91,7 @@ pub extern "C" fn mcc_web_orders(
     ensures wrong_words { status.new ≡ 2 → depth ≡ 0 }
     ensures answered { status.new ≢ 1 → status.new ≢ 2 → status.new ≢ REFUSED
         → SaysOrders text.now depth status.new result out.old out.new }
-    ensures faulty { status.new ≡ 1 → SaysBuildFault text.now result out.old out.new }
+    ensures faulty { status.new ≡ 1 → SaysBuildFault text.now depth result out.old out.new }
 {
     if depth == 0 {
         *status = 2;
@@ -99,7 +99,7 @@ pub extern "C" fn mcc_web_orders(
     }
     let unit = match unit_of(alloc, text, depth) {
         Ok(unit) => unit,
-        Err(fault) => return give_build_fault(alloc, text, fault, out, status),
+        Err(fault) => return give_build_fault(alloc, text, depth, fault, out, status),
     };
     let Ok(scheduled) = schedule_one(alloc, &unit, phase_for(text.len()), &FilledOrder(ListOrder))
     else {

@@ -15,4 +15,5 @@ returns-clause-scheduled c = scheduled_build IsPlain _ c.write.result
     (λ s plain report. record { orders = plain; report = report })) c.write.ensures.written
 
 pub returns-clause-fault : goal.returns-clause-fault
-returns-clause-fault c = unwritten c.args.text.now c.args.depth c.in_ok-unit.unit _ c.write.result c.in_ok-unit.ensures.unit c.write.ensures.fault
+returns-clause-fault c = unwritten c.args.text.now c.args.depth c.in_ok-unit.unit _ c.write.result c.in_ok-unit.ensures.unit c.schedule_plain-scheduled.ensures.unit
+    c.write.ensures.fault

@@ -16,4 +16,4 @@ returns-clause-scheduled g c = scheduled_build (IsWholePhase (g.R.Reorder.propos
 
 pub returns-clause-fault : goal.returns-clause-fault
 returns-clause-fault g c = unwritten c.args.text.now c.args.options.now.depth c.in_ok-unit.unit _ c.write.result c.in_ok-unit.ensures.unit
-    c.write.ensures.fault
+    c.schedule_one-scheduled.ensures.unit c.write.ensures.fault
