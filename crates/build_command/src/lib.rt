@@ -3,8 +3,7 @@
 //! Definitions: `specs/Follows.antt`, `specs/Builds.antt`, `specs/BuildFaults.antt`, `specs/Commands.antt`.
 //! Contract: `build`, `build_one`, `build_plain`, `build_file`, `one_build`
 //! - The headline: if `build` is Ok, the source spells a program and the bytes are an image that follows it (`follows`).
-//! - Image and report come from one scheduled unit (`scheduled`). An error is the source's own, or a limit that its
-//!   counts allow (`fault`).
+//! - Image and report come from one scheduled unit (`scheduled`). An error is the source's own, or a limit that its counts allow.
 //! - If a scheduler proposes one order for a block, two builds that decided each block of one unit make one image. After an error
 //!   standard output is as it was (`StopsBuild`).
 //!
