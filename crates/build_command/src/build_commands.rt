@@ -13,7 +13,10 @@ use crate::places::source_place;
 use crate::scheduled_builds::{BuildOpts, build, phase_of};
 use crate::texts::BuiltLine;
 use command_line::AskedBuild;
-use commands::{Complaints, Files, HostFault, Output, read_file, tell, tell_placed, write_file};
+use commands::{
+    Complaints, Files, HostFault, Output, read_file, tell_placed, tell_unprinted, tell_unread,
+    tell_unwritten, write_file,
+};
 use delay_filler::FilledOrder;
 use list_scheduler::ListOrder;
 use messages::SourceFault;
@@ -129,18 +132,18 @@ fn build_apart<T: Threads + Wait + Sync, F: Files, W: Output, E: Complaints>(
 {
     let text = match read_file(alloc, asked.source, files) {
         Ok(text) => text,
-        Err(fault) => return tell(err, &fault),
+        Err(fault) => return tell_unread(alloc, err, asked.source, fault),
     };
     let built = match built_as_asked(rt, alloc, text.as_slice(), asked) {
         Ok(built) => built,
         Err(fault) => return tell_build(alloc, err, asked.source, text.as_slice(), fault),
     };
     if let Err(fault) = write_file(asked.image, built.image.as_slice(), files) {
-        return tell(err, &fault);
+        return tell_unwritten(alloc, err, asked.image, fault);
     }
     match print_built(out, asked.plain, &built) {
         Ok(()) => 0,
-        Err(_) => tell(err, &HostFault::CannotWrite),
+        Err(_) => tell_unprinted(err, HostFault::CannotWrite),
     }
 }
 

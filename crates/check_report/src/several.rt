@@ -10,7 +10,7 @@ ghost use Rattle.commands.specs.Requests.{Asks, IsSent, Request, WasRefused};
 
 use crate::readings::{Reading, read_each};
 use crate::said::{Said, judge_each, line_of, print_line};
-use commands::{Complaints, Files, HostFault, Output, tell};
+use commands::{Complaints, Files, HostFault, Output, tell_unprinted};
 use std::alloc::Global;
 use std::array;
 use std::thread::Threads;
@@ -113,11 +113,11 @@ pub fn check_files<T: Threads + Sync, F: Files, W: Output, E: Complaints>(
     for stretch in names.chunks(STRETCH) {
         match check_stretch(threads, alloc, stretch, explain, files, out, err) {
             Some(worst) => status = worse(status, worst),
-            None => return tell(err, &HostFault::CannotWrite),
+            None => return tell_unprinted(err, HostFault::CannotWrite),
         }
     }
     match out.send() {
         Ok(()) => status,
-        Err(_) => tell(err, &HostFault::CannotWrite),
+        Err(_) => tell_unprinted(err, HostFault::CannotWrite),
     }
 }

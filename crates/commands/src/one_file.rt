@@ -5,8 +5,9 @@ ghost use Rattle.commands.specs.declared.fault.HostFault.{HostFault};
 ghost use Rattle.commands.specs.OneFile.{AnswersFile, StopsFile, TookPrint};
 ghost use Rattle.commands.specs.Requests.{Asks, Does, IsSent, LeavesOutput, TellsBeside, TellsLine, WasRefused};
 
-use crate::fault::{Complaints, HostFault, tell};
+use crate::fault::{Complaints, HostFault};
 use crate::files::{Files, read_file};
+use crate::host_faults::{tell_unprinted, tell_unread};
 use crate::output::Output;
 use std::alloc::Global;
 
@@ -97,7 +98,7 @@ pub fn answer_file<C: FileCommand, F: Files, W: Output, E: Complaints>(
 {
     let text = match read_file(alloc, file, files) {
         Ok(text) => text,
-        Err(fault) => return tell(err, &fault),
+        Err(fault) => return tell_unread(alloc, err, file, fault),
     };
     let bytes = text.as_slice();
     let answer = match command.work(alloc, bytes) {
@@ -109,6 +110,6 @@ pub fn answer_file<C: FileCommand, F: Files, W: Output, E: Complaints>(
             command.remark(alloc, bytes, &answer, err);
             status
         }
-        Err(fault) => tell(err, &fault),
+        Err(fault) => tell_unprinted(err, fault),
     }
 }

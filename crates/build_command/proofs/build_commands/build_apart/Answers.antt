@@ -15,7 +15,7 @@ returns-in-Err-clause-stopped g c = λ one.
     let fault = c.in-Err.ensures.asked.0 in
     asks_once g.F.Files.answers g.W.Output.refuses g.E.Complaints.tells _ _ _ _ _ _ (NotRead c.args.asked.now.source.now fault)
     (host_fault_text (reading_fault fault)) _ c.in-Err.ensures.asked.2
-    (told_as _ _ _ _ _ c.in-Err.ensures.asked.1 c.tell.ensures.told) (unread fault refl)
+    (told_as _ _ _ _ _ c.in-Err.ensures.asked.1 c.tell_unread.ensures.told) (unread fault refl)
 
 pub returns-in-Err-built_as_asked-clause-stopped : goal.returns-in-Err-built_as_asked-clause-stopped
 returns-in-Err-built_as_asked-clause-stopped g c = λ one.
@@ -38,7 +38,7 @@ returns-in-Err-write_file-clause-stopped g c = λ one.
           (read_as answers _ _ _ _ text c.as_slice.ensures.value c.in-Ok.ensures.asked)
           (not_written_as answers _ _ _ _ built.image.items fault c.as_slice-2.ensures.value c.in-Err-write_file.ensures.asked.2);
       text = host_fault_text (writing_fault fault);
-      told = told_as _ _ _ _ _ c.in-Err-write_file.ensures.asked.1 c.tell-in-Err-write_file.ensures.told;
+      told = told_as _ _ _ _ _ c.in-Err-write_file.ensures.asked.1 c.tell_unwritten.ensures.told;
       means = unwritten text built c.in-Ok-built_as_asked.ensures.built fault refl;
     }
 
@@ -75,6 +75,6 @@ returns-clause-stopped g c = λ one.
           (read_as answers _ _ _ _ text c.as_slice.ensures.value c.in-Ok.ensures.asked)
           (written_as answers _ _ _ _ built.image.items c.as_slice-2.ensures.value c.in_default.ensures.asked);
       text = host_fault_text CannotWrite;
-      told = c.tell-in-Err-print_built.ensures.told;
+      told = c.tell_unprinted.ensures.told;
       means = untold text built c.in-Ok-built_as_asked.ensures.built c.in-Err-print_built.ensures.refused;
     }

@@ -46,10 +46,10 @@ returns-in-None-check_stretch-clause-each g c =
     let was = c.loop-stretch.invariant in
     let steps = c.in-Some.ensures.steps in
     inr (
-      c.tell.ensures.status,
+      c.tell_unprinted.ensures.status,
       broken g.F.Files.answers g.W.Output.refuses g.E.Complaints.tells c.args.explain _ _ _ _ _ _ _ _ _ _ _ was.4.0 (map (λ (s : Bor (List ℕ)). s.now) c.in-Some.stretch.now) _ _
           c.loop-stretch.status (names_of was.4.0 _ c.in-Some.stretch.now _ _ steps.1.0 was.4.1) was.4.2 c.in-None-check_stretch.ensures.each c.in-None-check_stretch.ensures.refused
-          c.tell.ensures.told,
+          c.tell_unprinted.ensures.told,
     )
 
 pub returns-in-Err-clause-each : goal.returns-in-Err-clause-each
@@ -57,7 +57,7 @@ returns-in-Err-clause-each g c =
     let was = c.loop-stretch.invariant in
     let whole = names_end was.4.0 _ _ c.in-None.ensures.steps.1.0 was.4.1 in
     inr (
-      c.tell-in-Err.ensures.status,
+      c.tell_unprinted-in-Err.ensures.status,
       broken_behind g.F.Files.answers g.W.Output.refuses g.E.Complaints.tells c.args.explain _ _ _ _ _ _ _ _ _ was.4.0 _ c.loop-stretch.status whole was.4.2
-          (_, c.in-Err.ensures.refused) c.tell-in-Err.ensures.told,
+          (_, c.in-Err.ensures.refused) c.tell_unprinted-in-Err.ensures.told,
     )
