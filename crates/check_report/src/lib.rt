@@ -2,7 +2,7 @@
 //!
 //! Definitions: `specs/Command.antt`, `specs/Several.antt`.
 //! Proved: `--explain` prints the same answer, then printable lines. Of several files each is read in order and has its own answer,
-//! whatever the number of workers, and the status is the worst.
+//! whatever the number of workers, the status is the worst, and the last line has the totals.
 //! Contract: `check_files`, `ExplainedAnswer`, `print_explained`
 //! Tested: what the lines say (tests/check/explained.case)
 #![tactic(auto)]
@@ -12,6 +12,7 @@ mod explain;
 mod readings;
 mod said;
 mod several;
+mod totals;
 mod witness;
 
 pub use command::{ExplainedAnswer, print_explained};

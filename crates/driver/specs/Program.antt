@@ -13,7 +13,7 @@ use Rattle.commands.specs.OneFile.{AnswersFile, StopsFile}
 use Rattle.block_text.specs.Shown.{IsShown}
 use Rattle.check_command.specs.Command.{Checks, StopsCheck}
 use Rattle.check_report.specs.Command.{Explains}
-use Rattle.check_report.specs.Several.{BreaksOff, ChecksAll, ChecksEach}
+use Rattle.check_report.specs.Several.{BreaksOff, ChecksAll, ChecksEach, IsTotals}
 use Rattle.build_command.specs.SourceFaults.{IsFaultless}
 use Rattle.build_command.specs.Commands.{AnswersBuild, IsBuildRemark, StopsApart}
 use Rattle.run_command.specs.Command.{IsReason, IsRefused, Runs, StopsRun, words_text}
@@ -94,6 +94,7 @@ abbrev pub Remarks : Command → (status : ℕ) → List (List ℕ) → Type 0
 Remarks (Interp source depth steps) status told = IsReason status told
 Remarks (Run image steps) status told = IsReason status told
 Remarks (Build b) status told = IsBuildRemark status told
+Remarks (CheckEach files explain) status told = IsTotals explain (map (λ s. s.now) files.items) told
 Remarks _ status told = told ≡ []
 
 -- the words ask for a build whose image has the source's name

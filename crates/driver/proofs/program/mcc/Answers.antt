@@ -3,7 +3,7 @@ use Rattle.clap.specs.Words.{fault_of}
 use Rattle.command_line.specs.Commands.{IsCommand, mcc_app}
 use Rattle.command_line.specs.declared.command.Command.TheVariants.{Check, CheckEach, Interp, Build, Run, List as Listing, Show}
 use Rattle.command_line.proofs.Programs.{answered_by, ends_untaken, mistake_of, silent, stopped_by, stopped_before}
-use Rattle.driver.proofs.Lifted.{all_answered, all_silent, all_stopped, remarked}
+use Rattle.driver.proofs.Lifted.{all_answered, all_counted, all_stopped, remarked}
 use Rattle.driver.specs.Program.{Answers, Remarks, Stops}
 use Rattle.driver.proofs.program.mcc.Goals as goal
 
@@ -34,9 +34,9 @@ returns-in-Ok-CheckEach-clause-answered g c = λ taken other.
 
 pub returns-in-Ok-CheckEach-clause-quiet : goal.returns-in-Ok-CheckEach-clause-quiet
 returns-in-Ok-CheckEach-clause-quiet g c = λ taken other.
-    silent Remarks g.E.Complaints.tells (map (λ s. s.now) c.args.args.now) c.check_files.result (CheckEach c.in-Ok-CheckEach.names c.in-Ok-CheckEach.explain)
+    remarked g.E.Complaints.tells (map (λ s. s.now) c.args.args.now) c.check_files.result (CheckEach c.in-Ok-CheckEach.names c.in-Ok-CheckEach.explain)
     (subst (IsCommand (map (λ s. s.now) c.args.args.now)) c.in-Ok-CheckEach.field-0-is c.in-Ok-CheckEach.ensures.command)
-    _ _ refl (all_silent g.F.Files.answers g.W.Output.sends g.W.Output.refuses g.E.Complaints.tells c.in-Ok-CheckEach.explain c.check_files.result _ _ _ _ _ _ _ _ c.in-Ok-CheckEach.names _
+    _ _ (all_counted g.F.Files.answers g.W.Output.sends g.W.Output.refuses g.E.Complaints.tells c.in-Ok-CheckEach.explain c.check_files.result _ _ _ _ _ _ _ _ c.in-Ok-CheckEach.names _
     c.as_slice.ensures.value c.check_files.ensures.each other)
 
 pub returns-in-Ok-CheckEach-clause-stopped : goal.returns-in-Ok-CheckEach-clause-stopped
