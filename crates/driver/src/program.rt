@@ -95,7 +95,7 @@ impl FileCommand for InterpCommand {
 
     ghost unprinted = { IsRefused };
 
-    ghost remarks = { IsReason };
+    ghost remarks = { λ s status told. IsReason status told };
 
     fn work(&self, alloc: Global, bytes: &[u8]) -> Result<Ran, InterpFault> {
         interp(alloc, bytes, self.depth, self.steps)

@@ -60,7 +60,7 @@ impl FileCommand for RunCommand {
 
     ghost unprinted = { IsRefused };
 
-    ghost remarks = { IsReason };
+    ghost remarks = { λ s status told. IsReason status told };
 
     fn work(&self, alloc: Global, bytes: &[u8]) -> Result<MachineRan, ImageFault> {
         run_image(alloc, bytes, self.steps)
