@@ -1,5 +1,5 @@
 -- What the command `build` asks of its files, prints, tells and ends by.
-use Rattle.std.specs.Prelude.{◌≡◌, ℕ, ◌+◌, List, [], ◌∷◌, ◌++◌, Bool, true, false, codes, decimal, ⊤}
+use Rattle.std.specs.Prelude.{◌≡◌, ◌≢◌, ◌⊎◌, ℕ, ◌+◌, List, [], ◌∷◌, ◌++◌, Bool, true, false, codes, decimal, ⊤}
 use Rattle.mblock.specs.Parts.{BlockParts, OrderParts}
 use Rattle.mblock.specs.declared.limits.TheConstants.{BLOCK_INSTS}
 use Rattle.image.specs.Texts.{counts_text}
@@ -62,3 +62,23 @@ pub data StopsBuild (source image : List ℕ) (depth : ℕ) (plain : Bool) (sile
   untold : (text : List ℕ) (built : Built) → IsBuiltAs text depth plain built → refused
       → StopsBuild source image depth plain silent refused (Read source text ∷ (Written image built.image.items ∷ []))
       (host_fault_text CannotWrite)
+
+-- what is told if both names are the same, in the form of wrong words
+abbrev pub one_name_text : List ℕ
+one_name_text = codes "error: SOURCE and IMAGE are one file\n\n  tip: give the image a name of its own, as in 'mcc build prog.c prog.image'\n\nFor more information, try '--help'.\n"
+
+-- `mcc build SOURCE IMAGE` by its names: a build if they differ; else status 2, and nothing is asked or printed
+pub data AnswersBuild (source image : List ℕ) (depth : ℕ) (plain : Bool) (status : ℕ) (requests : List Request)
+    (printed : List ℕ) : Type 0 where
+  apart : source ≢ image → Builds source image depth plain status requests printed
+      → AnswersBuild source image depth plain status requests printed
+  one_name : source ≡ image → status ≡ 2 → requests ≡ [] → printed ≡ [] → AnswersBuild source image depth plain status requests printed
+
+-- what is told with it: nothing with a build
+abbrev pub IsBuildRemark : (status : ℕ) → List (List ℕ) → Type 0
+IsBuildRemark status told = ((status ≢ 2) × (told ≡ [])) ⊎ ((status ≡ 2) × (told ≡ one_name_text ∷ []))
+
+-- a build that ended by a fault has two names
+abbrev pub StopsApart : (source image : List ℕ) → (depth : ℕ) → (plain : Bool) → (silent refused : Type 0) → List Request → List ℕ → Type 0
+StopsApart source image depth plain silent refused requests told =
+    (source ≢ image) × StopsBuild source image depth plain silent refused requests told

@@ -2,18 +2,21 @@
 
 ghost use Rattle.std.specs.Prelude.{◌≡◌, ◌≢◌, ◌≤◌, All, IfErr, IfOk, OnErr, OnOk};
 ghost use Rattle.std.specs.Io.KnownBytes.{Appends};
-ghost use Rattle.commands.specs.Requests.{Asks, Does, IsSent, TellsLine, WasRefused};
+ghost use Rattle.commands.specs.Requests.{Asks, Does, IsSent, TellsBeside, TellsLine, WasRefused};
 ghost use Rattle.commands.specs.Texts.{IsShown};
 ghost use Rattle.build_command.specs.Texts.{build_fault_text};
 ghost use Rattle.build_command.specs.BuildFaults.{IsBuildFault};
-ghost use Rattle.build_command.specs.Commands.{Builds, IsBuiltAs, StopsBuild, built_text};
+ghost use Rattle.build_command.specs.Commands.{AnswersBuild, Builds, IsBuildRemark, IsBuiltAs, StopsApart, StopsBuild, built_text, one_name_text};
 
 use crate::builds::{BuildFault, Built, Limit, build_plain};
 use crate::places::source_place;
 use crate::scheduled_builds::{BuildOpts, build, phase_of};
 use crate::texts::BuiltLine;
 use command_line::AskedBuild;
-use commands::{Complaints, Files, HostFault, Output, read_file, tell, tell_placed, write_file};
+use commands::{
+    Complaints, Files, HostFault, Output, read_file, tell_placed, tell_unprinted, tell_unread,
+    tell_unwritten, write_file,
+};
 use delay_filler::FilledOrder;
 use list_scheduler::ListOrder;
 use messages::SourceFault;
@@ -101,9 +104,17 @@ fn built_as_asked<T: Threads + Wait + Sync>(
     }
 }
 
-/// Builds the C program of a file. The image's file is written before anything is printed, and isn't touched where the
-/// build fails.
-pub fn build_file<T: Threads + Wait + Sync, F: Files, W: Output, E: Complaints>(
+/// What is told if IMAGE is SOURCE, in the form of wrong words.
+const ONE_NAME: &str = "\
+error: SOURCE and IMAGE are one file
+
+  tip: give the image a name of its own, as in 'mcc build prog.c prog.image'
+
+For more information, try '--help'.
+";
+
+/// Builds the C program of a file, which isn't the image's.
+fn build_apart<T: Threads + Wait + Sync, F: Files, W: Output, E: Complaints>(
     rt: &T,
     alloc: Global,
     asked: &AskedBuild<'_>,
@@ -121,17 +132,44 @@ pub fn build_file<T: Threads + Wait + Sync, F: Files, W: Output, E: Complaints>(
 {
     let text = match read_file(alloc, asked.source, files) {
         Ok(text) => text,
-        Err(fault) => return tell(err, &fault),
+        Err(fault) => return tell_unread(alloc, err, asked.source, fault),
     };
     let built = match built_as_asked(rt, alloc, text.as_slice(), asked) {
         Ok(built) => built,
         Err(fault) => return tell_build(alloc, err, asked.source, text.as_slice(), fault),
     };
     if let Err(fault) = write_file(asked.image, built.image.as_slice(), files) {
-        return tell(err, &fault);
+        return tell_unwritten(alloc, err, asked.image, fault);
     }
     match print_built(out, asked.plain, &built) {
         Ok(()) => 0,
-        Err(_) => tell(err, &HostFault::CannotWrite),
+        Err(_) => tell_unprinted(err, HostFault::CannotWrite),
     }
+}
+
+/// Builds the C program of a file. The image's file is written before anything is printed, and isn't touched where the
+/// build fails. The answer is the exit status: 2 exactly if both names are the same, and then nothing is done.
+pub fn build_file<T: Threads + Wait + Sync, F: Files, W: Output, E: Complaints>(
+    rt: &T,
+    alloc: Global,
+    asked: &AskedBuild<'_>,
+    files: &mut F,
+    out: &mut W,
+    err: &mut E,
+) -> u8
+    ensures most { result ≤ 2 }
+    ensures one_name { asked.now.source.now ≡ asked.now.image.now → result ≡ 2 }
+    ensures refused { result ≡ 2 → (asked.now.source.now ≡ asked.now.image.now) × (files.new ≡ files.old) × (out.new ≡ out.old) }
+    ensures answered { result ≢ 1 → Does F.answers files.old files.new (W.contents out.old) (W.contents out.new)
+        (AnswersBuild asked.now.source.now asked.now.image.now asked.now.depth asked.now.plain result) }
+    ensures sent { result ≢ 1 → result ≢ 2 → IsSent W.sends out.new }
+    ensures beside { result ≢ 1 → TellsBeside E.tells err.old (IsBuildRemark result) err.new }
+    ensures stopped { result ≡ 1 → Asks F.answers files.old files.new W.refuses out.old out.new E.tells err.old err.new
+        (StopsApart asked.now.source.now asked.now.image.now asked.now.depth asked.now.plain) }
+{
+    if asked.source == asked.image {
+        err.text(&ONE_NAME);
+        return 2;
+    }
+    build_apart(rt, alloc, asked, files, out, err)
 }

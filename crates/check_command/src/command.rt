@@ -134,7 +134,7 @@ impl<'a, P: AnswerPrinter> FileCommand for CheckCommand<'a, P> {
 
     ghost unprinted = { IsUnprinted };
 
-    ghost remarks = { λ status told. IsNothing told };
+    ghost remarks = { λ s status told. IsNothing told };
 
     fn work(&self, alloc: Global, bytes: &[u8]) -> Result<CheckAnswer, CheckFault> {
         match check(alloc, bytes) {

@@ -1,8 +1,8 @@
 -- Files that are checked one after another.
 use Rattle.std.proofs.Common.{◌≡◌, ℕ, zero, suc, ◌+◌, ◌<◌, ◌≤◌, List, [], ◌∷◌, ◌++◌, All, Bool, Option, None, map, fold, refl, sym, ◌∙◌, ap, subst, append-nil, append_assoc, codes, length, length-drop, take, drop, set, get_or, Bor, arith}
 use Rattle.std.specs.List.{AllZip, FoldsTo, flat_map}
-use Rattle.std.specs.Io.KnownBytes.{Appends}
-use Rattle.std.proofs.KnownBytes.{Appends-nil, Appends-trans}
+use Rattle.std.specs.Io.KnownBytes.{Appends, Keeps}
+use Rattle.std.proofs.KnownBytes.{Appends-kept, Appends-nil, Appends-trans}
 use Rattle.std.proofs.lemmas.List.{get_or-map, length-map, map-append, take-append-drop, take_all, take_more, take_more_set}
 use Rattle.std.proofs.lemmas.List.Concat.{flat_map-append}
 use Rattle.std.proofs.lemmas.List.Elements.{All-append, All-cons, All-nil, All-tail}
@@ -14,8 +14,9 @@ use Rattle.commands.specs.declared.fault.HostFault.TheVariants.{CannotWrite}
 use Rattle.commands.proofs.Told.{folds_on, line_on, lines_on}
 use Rattle.commands.proofs.Shown.{host_fault}
 use Rattle.check_report.proofs.FaultsShown.{of_files}
-use Rattle.check_report.specs.Line.{AreRead, IsChecked, IsReading, line_text, said_status, said_text}
-use Rattle.check_report.specs.Several.{BreaksOff, IsRight, Reads, faults_of, first_told, lines_of, name_of, request_of, said_of, status_of, worse}
+use Rattle.check_report.specs.Line.{AreRead, IsChecked, IsReading, line_text, said_text, totals_said}
+use Rattle.check_report.specs.Several.{BreaksOff, CheckedFile, ChecksAll, IsRight, Reads, faults_of, first_told, lines_of, name_of, no_totals, request_of, said_of, status_of, totals_after, totals_text, worse}
+use Rattle.check_report.specs.declared.totals.Totals.{Totals}
 use Rattle.check_report.specs.Several.BreaksOff.{breaks}
 use Rattle.check_report.specs.Stretch.{AreChecked, AreCutOff, BreaksStretch, ShowsStretch}
 use Rattle.check_report.specs.declared.readings.Reading.{Reading}
@@ -84,36 +85,24 @@ read_behind k (m ∷ ns) (y ∷ xs) [] h = absurd h
 read_behind zero (m ∷ ns) (y ∷ xs) (s ∷ rs) h = (reads_it m y s h.0, read_behind zero ns xs rs h.1)
 read_behind (suc k) (m ∷ ns) (y ∷ xs) (s ∷ rs) h = read_behind k ns xs rs h.1
 
--- ---- statuses
+-- ---- totals
 
-worse_first : (s : ℕ) → worse 0 s ≡ s
-worse_first s = grind arith
-
-worse_last : (s : ℕ) → worse s 0 ≡ s
-worse_last s = grind arith
-
-worse_assoc : (a b c : ℕ) → worse (worse a b) c ≡ worse a (worse b c)
-worse_assoc a b c = grind arith
-
-worst_on : (a b : ℕ) (ss : List ℕ) → fold worse (worse a b) ss ≡ worse a (fold worse b ss)
-worst_on a b [] = refl
-worst_on a b (s ∷ ss) = ap (λ (t : ℕ). fold worse t ss) (worse_assoc a b s) ∙ worst_on a (worse b s) ss
-
-worst_of : (ss ts : List ℕ) → fold worse 0 (ss ++ ts) ≡ worse (fold worse 0 ss) (fold worse 0 ts)
-worst_of ss ts =
-    fold-append worse 0 ss ts ∙ (ap (λ (t : ℕ). fold worse t ts) (sym (worse_last (fold worse 0 ss))) ∙ worst_on (fold worse 0 ss) 0 ts)
+-- their status is the worst
+worst_of : (t : Totals) (files : List CheckedFile) → (fold totals_after t files).status ≡ fold worse t.status (map status_of files)
+worst_of t [] = refl
+worst_of t (file ∷ files) = worst_of (totals_after t file) files
 
 -- ---- what was said
 
 module _ {E : Type 0} (tells : E → List ℕ → E → Type 0) (explain : Bool) where
-  pub begun : (out : Option (List ℕ)) (e : E) → AreChecked [] out out tells e e explain [] 0
-  begun out e = record { files = []; right = All-nil (IsRight explain); named = refl; asked = refl; took = Appends-nil out; told = refl; ends = refl }
+  pub begun : (out : Option (List ℕ)) (e : E) (t : Totals) → AreChecked [] out out tells e e explain [] t t
+  begun out e t = record { files = []; right = All-nil (IsRight explain); named = refl; asked = refl; took = Appends-nil out; told = refl; counted = refl }
 
   -- files, and then more
-  pub joined : (rs ss : List Request) (o p q : Option (List ℕ)) (c d e : E) (ns ms : List (List ℕ)) (i j : ℕ)
-      → AreChecked rs o p tells c d explain ns i → AreChecked ss p q tells d e explain ms j
-      → AreChecked (rs ++ ss) o q tells c e explain (ns ++ ms) (worse i j)
-  joined rs ss o p q c d e ns ms i j a b = record {
+  pub joined : (rs ss : List Request) (o p q : Option (List ℕ)) (c d e : E) (ns ms : List (List ℕ)) (t u v : Totals)
+      → AreChecked rs o p tells c d explain ns t u → AreChecked ss p q tells d e explain ms u v
+      → AreChecked (rs ++ ss) o q tells c e explain (ns ++ ms) t v
+  joined rs ss o p q c d e ns ms t u v a b = record {
     files = a.files ++ b.files;
     right = All-append (IsRight explain) a.files b.files a.right b.right;
     named = map-append name_of a.files b.files ∙ (ap (λ (xs : List (List ℕ)). xs ++ map name_of b.files) a.named ∙ ap (λ (xs : List (List ℕ)). ns ++ xs) b.named);
@@ -122,9 +111,7 @@ module _ {E : Type 0} (tells : E → List ℕ → E → Type 0) (explain : Bool)
         (Appends-trans o p q (flat_map lines_of a.files) (flat_map lines_of b.files) a.took b.took);
     told = subst (λ (ts : List (List ℕ)). FoldsTo (TellsLine tells) c ts e) (sym (flat_map-append faults_of a.files b.files))
         (folds_on (TellsLine tells) c d e (flat_map faults_of a.files) (flat_map faults_of b.files) a.told b.told);
-    ends = ap (λ (s : ℕ). worse s j) a.ends ∙ (ap (worse (fold worse 0 (map status_of a.files))) b.ends
-        ∙ (sym (worst_of (map status_of a.files) (map status_of b.files))
-        ∙ ap (λ (ss : List ℕ). fold worse 0 ss) (sym (map-append status_of a.files b.files))));
+    counted = b.counted ∙ (ap (λ (w : Totals). fold totals_after w b.files) a.counted ∙ sym (fold-append totals_after t a.files b.files));
   }
 
   printed : (r : Request) (d e : E) (name : List ℕ) (line : FileLine) (one : IsChecked r tells d e explain name line)
@@ -135,70 +122,70 @@ module _ {E : Type 0} (tells : E → List ℕ → E → Type 0) (explain : Bool)
       ∙ (ap (λ (t : List ℕ). shown_name (name_of one.file) ++ (codes ": " ++ (said_of one.file ++ 10 ∷ t))) one.more
       ∙ sym (append-nil (lines_of one.file))))
 
-  one_checked : (r : Request) (p q : Option (List ℕ)) (d e : E) (name : List ℕ) (line : FileLine)
+  one_checked : (r : Request) (p q : Option (List ℕ)) (d e : E) (name : List ℕ) (line : FileLine) (t : Totals)
       → IsChecked r tells d e explain name line → Appends p q (line_text name line)
-      → AreChecked (r ∷ []) p q tells d e explain (name ∷ []) (said_status line.said)
-  one_checked r p q d e name line one took = record {
+      → AreChecked (r ∷ []) p q tells d e explain (name ∷ []) t (totals_said t line.said)
+  one_checked r p q d e name line t one took = record {
     files = one.file ∷ [];
     right = All-cons (IsRight explain) one.file [] one.right (All-nil (IsRight explain));
     named = ap (λ (n : List ℕ). n ∷ []) one.named;
     asked = ap (λ (s : Request). s ∷ []) one.asked;
     took = subst (λ (bs : List ℕ). Appends p q bs) (printed r d e name line one) took;
     told = subst (λ (ts : List (List ℕ)). FoldsTo (TellsLine tells) d ts e) (sym (append-nil (faults_of one.file))) one.told;
-    ends = one.ends ∙ sym (worse_first (status_of one.file));
+    counted = one.counted t;
   }
 
   -- one more of the files, by its place
   pub next : (ns : List (List ℕ)) (xs : List Reading) (rs : List Request) (k : ℕ) (y : Reading) (o p q : Option (List ℕ)) (c d e : E)
-      (name : List ℕ) (status said both : ℕ) (line : FileLine) → AreRead ns xs rs → k < length ns → name ≡ get_or ns k []
-      → y ≡ get_or xs k y → both ≡ worse status said → said ≡ said_status line.said
-      → AreChecked (take k rs) o p tells c d explain (take k ns) status
+      (name : List ℕ) (before was both : Totals) (line : FileLine) → AreRead ns xs rs → k < length ns → name ≡ get_or ns k []
+      → y ≡ get_or xs k y → both ≡ totals_said was line.said
+      → AreChecked (take k rs) o p tells c d explain (take k ns) before was
       → ((r : Request) → IsReading name y r → IsChecked r tells d e explain name line) → Appends p q (line_text name line)
-      → AreChecked (take (k + 1) rs) o q tells c e explain (take (k + 1) ns) both
-  next ns xs rs k y o p q c d e name status said both line read inside named at is worst all one took =
+      → AreChecked (take (k + 1) rs) o q tells c e explain (take (k + 1) ns) before both
+  next ns xs rs k y o p q c d e name before was both line read inside named at is all one took =
       let r = get_or rs k (Read [] []) in
       let long = read_long ns xs rs read in
       let this = subst (λ (n : List ℕ). IsReading n y r) (sym named)
       (subst (λ (z : Reading). IsReading (get_or ns k []) z r) (sym at) (read_at ns xs rs k [] y (Read [] []) read inside)) in
-      let both_of = joined (take k rs) (r ∷ []) o p q c d e (take k ns) (name ∷ []) status (said_status line.said) all
-      (one_checked r p q d e name line (one r this) took) in
+      let both_of = joined (take k rs) (r ∷ []) o p q c d e (take k ns) (name ∷ []) before was (totals_said was line.said) all
+      (one_checked r p q d e name line was (one r this) took) in
       let names = ap (λ (n : List ℕ). take k ns ++ n ∷ []) named ∙ sym (take_more ns k [] inside) in
       let requests = sym (take_more rs k (Read [] []) (omega arith)) in
-      subst (λ (s : ℕ). AreChecked (take (k + 1) rs) o q tells c e explain (take (k + 1) ns) s) (sym (is ∙ ap (worse status) worst))
-      (subst (λ (ss : List Request). AreChecked ss o q tells c e explain (take (k + 1) ns) (worse status (said_status line.said))) requests
-      (subst (λ (ms : List (List ℕ)). AreChecked (take k rs ++ r ∷ []) o q tells c e explain ms (worse status (said_status line.said))) names both_of))
+      subst (λ (t : Totals). AreChecked (take (k + 1) rs) o q tells c e explain (take (k + 1) ns) before t) (sym is)
+      (subst (λ (ss : List Request). AreChecked ss o q tells c e explain (take (k + 1) ns) before (totals_said was line.said)) requests
+      (subst (λ (ms : List (List ℕ)). AreChecked (take k rs ++ r ∷ []) o q tells c e explain ms before (totals_said was line.said)) names both_of))
 
   -- all of them
-  pub whole : (ns : List (List ℕ)) (xs : List Reading) (rs : List Request) (k : ℕ) (o p : Option (List ℕ)) (c d : E) (status : ℕ)
-      → AreRead ns xs rs → length ns ≤ k → AreChecked (take k rs) o p tells c d explain (take k ns) status
-      → AreChecked rs o p tells c d explain ns status
-  whole ns xs rs k o p c d status read end all =
+  pub whole : (ns : List (List ℕ)) (xs : List Reading) (rs : List Request) (k : ℕ) (o p : Option (List ℕ)) (c d : E) (before after : Totals)
+      → AreRead ns xs rs → length ns ≤ k → AreChecked (take k rs) o p tells c d explain (take k ns) before after
+      → AreChecked rs o p tells c d explain ns before after
+  whole ns xs rs k o p c d before after read end all =
       let long = read_long ns xs rs read in
-      subst (λ (ss : List Request). AreChecked ss o p tells c d explain ns status) (take_all k rs (omega arith))
-      (subst (λ (ms : List (List ℕ)). AreChecked (take k rs) o p tells c d explain ms status) (take_all k ns end) all)
+      subst (λ (ss : List Request). AreChecked ss o p tells c d explain ns before after) (take_all k rs (omega arith))
+      (subst (λ (ms : List (List ℕ)). AreChecked (take k rs) o p tells c d explain ms before after) (take_all k ns end) all)
 
   -- nothing is said of standard output
-  unprinted : (rs : List Request) (o p : Option (List ℕ)) (c d : E) (ns : List (List ℕ)) (i : ℕ)
-      → AreChecked rs o p tells c d explain ns i → AreChecked rs None None tells c d explain ns i
-  unprinted rs o p c d ns i all = record {
+  unprinted : (rs : List Request) (o p : Option (List ℕ)) (c d : E) (ns : List (List ℕ)) (before after : Totals)
+      → AreChecked rs o p tells c d explain ns before after → AreChecked rs None None tells c d explain ns before after
+  unprinted rs o p c d ns before after all = record {
     files = all.files;
     right = all.right;
     named = all.named;
     asked = all.asked;
     took = tt;
     told = all.told;
-    ends = all.ends;
+    counted = all.counted;
   }
 
   -- standard output was refused to the lines of one of the files
   pub cut_off : (ns : List (List ℕ)) (xs : List Reading) (rs : List Request) (k : ℕ) (y : Reading) (o p : Option (List ℕ)) (c d e : E)
-      (name : List ℕ) (status : ℕ) (line : FileLine) → AreRead ns xs rs → k < length ns → length ns ≤ 64 → name ≡ get_or ns k []
-      → y ≡ get_or xs k y → AreChecked (take k rs) o p tells c d explain (take k ns) status
+      (name : List ℕ) (before was : Totals) (line : FileLine) → AreRead ns xs rs → k < length ns → length ns ≤ 64 → name ≡ get_or ns k []
+      → y ≡ get_or xs k y → AreChecked (take k rs) o p tells c d explain (take k ns) before was
       → ((r : Request) → IsReading name y r → IsChecked r tells d e explain name line)
       → AreCutOff rs tells c e explain ns
-  cut_off ns xs rs k y o p c d e name status line read inside most named at all one =
-      let with_it = next ns xs rs k y None None None c d e name status (said_status line.said) (worse status (said_status line.said)) line
-      read inside named at refl refl (unprinted (take k rs) o p c d (take k ns) status all) one tt in
+  cut_off ns xs rs k y o p c d e name before was line read inside most named at all one =
+      let with_it = next ns xs rs k y None None None c d e name before was (totals_said was line.said) line
+      read inside named at refl (unprinted (take k rs) o p c d (take k ns) before was all) one tt in
       let long = length-drop (k + 1) ns in
       record {
         files = with_it.files;
@@ -215,24 +202,45 @@ module _ {E : Type 0} (tells : E → List ℕ → E → Type 0) (explain : Bool)
 -- ---- stretch behind stretch
 
 module _ {F E : Type 0} (answers : F → Request → F → Type 0) (tells : E → List ℕ → E → Type 0) (explain : Bool) where
-  pub none_yet : (f : F) (out : Option (List ℕ)) (e : E) → ShowsStretch answers f f out out tells e e explain [] 0
-  none_yet f out e = ([], refl, begun tells explain out e)
+  pub none_yet : (f : F) (out : Option (List ℕ)) (e : E) (t : Totals) → ShowsStretch answers f f out out tells e e explain [] t t
+  none_yet f out e t = ([], refl, begun tells explain out e t)
 
-  pub on : (f g h : F) (o p q : Option (List ℕ)) (c d e : E) (ns ms : List (List ℕ)) (i j k : ℕ) → k ≡ worse i j
-      → ShowsStretch answers f g o p tells c d explain ns i → ShowsStretch answers g h p q tells d e explain ms j
-      → ShowsStretch answers f h o q tells c e explain (ns ++ ms) k
-  on f g h o p q c d e ns ms i j k is a b = (
+  pub on : (f g h : F) (o p q : Option (List ℕ)) (c d e : E) (ns ms : List (List ℕ)) (t u v : Totals)
+      → ShowsStretch answers f g o p tells c d explain ns t u → ShowsStretch answers g h p q tells d e explain ms u v
+      → ShowsStretch answers f h o q tells c e explain (ns ++ ms) t v
+  on f g h o p q c d e ns ms t u v a b = (
     a.0 ++ b.0,
     folds_on answers f g h a.0 b.0 a.1 b.1,
-    subst (λ (s : ℕ). AreChecked (a.0 ++ b.0) o q tells c e explain (ns ++ ms) s) (sym is) (joined tells explain a.0 b.0 o p q c d e ns ms i j a.2 b.2),
+    joined tells explain a.0 b.0 o p q c d e ns ms t u v a.2 b.2,
   )
+
+  -- all of them, and then the totals
+  pub all_checked : (f g : F) (o p q : Option (List ℕ)) (c d e : E) (ns all : List (List ℕ)) (t : Totals) (n : ℕ) → ns ≡ all → length all ≡ n
+      → ShowsStretch answers f g o p tells c d explain ns no_totals t → Keeps p q → tells d (totals_text n t ++ 10 ∷ []) e
+      → ChecksAll answers f g o q tells c e explain all t.status
+  all_checked f g o p q c d e ns all t n same long shown kept told =
+      let these = shown.2 in
+      record {
+        files = these.files;
+        right = these.right;
+        named = these.named ∙ same;
+        asked = subst (λ (rs : List Request). FoldsTo answers f rs g) (sym these.asked) shown.1;
+        took = Appends-kept o p q (flat_map lines_of these.files) these.took kept;
+        told = (
+          d,
+          these.told,
+          subst (λ (u : Totals). tells d (totals_text (length all) u ++ 10 ∷ []) e) these.counted
+              (subst (λ (m : ℕ). tells d (totals_text m t ++ 10 ∷ []) e) (sym long) told),
+        );
+        ends = ap (λ (u : Totals). u.status) these.counted ∙ worst_of no_totals these.files;
+      }
 
 module _ {F W E : Type 0} (answers : F → Request → F → Type 0) (refuses : W → W → Type 0) (tells : E → List ℕ → E → Type 0) (explain : Bool) where
   -- standard output was refused within a stretch
-  pub broken : (f g h : F) (v w : W) (o p : Option (List ℕ)) (c d e r : E) (ns ms rest all : List (List ℕ)) (i : ℕ) → ns ++ (ms ++ rest) ≡ all
-      → ShowsStretch answers f g o p tells c d explain ns i → BreaksStretch answers g h tells d e explain ms → WasRefused refuses w
+  pub broken : (f g h : F) (v w : W) (o p : Option (List ℕ)) (c d e r : E) (ns ms rest all : List (List ℕ)) (t u : Totals) → ns ++ (ms ++ rest) ≡ all
+      → ShowsStretch answers f g o p tells c d explain ns t u → BreaksStretch answers g h tells d e explain ms → WasRefused refuses w
       → TellsLine tells e (host_fault_text CannotWrite) r → Asks answers f h refuses v w tells c r (BreaksOff explain all)
-  broken f g h v w o p c d e r ns ms rest all i same before cut refused told =
+  broken f g h v w o p c d e r ns ms rest all t u same before cut refused told =
       let these = before.2 in
       let those = cut.2 in
       let files = these.files ++ those.files in
@@ -272,8 +280,8 @@ module _ {F W E : Type 0} (answers : F → Request → F → Type 0) (refuses : 
   }
 
   -- or behind them all
-  pub broken_behind : (f g : F) (v w : W) (o p : Option (List ℕ)) (c d r : E) (ns all : List (List ℕ)) (i : ℕ) → ns ≡ all
-      → ShowsStretch answers f g o p tells c d explain ns i → WasRefused refuses w → TellsLine tells d (host_fault_text CannotWrite) r
+  pub broken_behind : (f g : F) (v w : W) (o p : Option (List ℕ)) (c d r : E) (ns all : List (List ℕ)) (t u : Totals) → ns ≡ all
+      → ShowsStretch answers f g o p tells c d explain ns t u → WasRefused refuses w → TellsLine tells d (host_fault_text CannotWrite) r
       → Asks answers f g refuses v w tells c r (BreaksOff explain all)
-  broken_behind f g v w o p c d r ns all i same before refused told =
-      broken f g g v w o p c d d r ns [] [] all i (append-nil ns ∙ same) before ([], refl, nothing_cut d) refused told
+  broken_behind f g v w o p c d r ns all t u same before refused told =
+      broken f g g v w o p c d d r ns [] [] all t u (append-nil ns ∙ same) before ([], refl, nothing_cut d) refused told

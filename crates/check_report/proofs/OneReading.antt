@@ -7,7 +7,7 @@ use Rattle.commands.specs.Texts.{host_fault_text}
 use Rattle.commands.specs.declared.fault.HostFault.{HostFault}
 use Rattle.commands.specs.declared.files.FileFault.{FileFault}
 use Rattle.check_command.specs.Checks.{IsAnswerTo, IsCheckFault}
-use Rattle.check_report.specs.Line.{IsAnswerLine, IsChecked, IsReading, IsSaid, said_status, said_text}
+use Rattle.check_report.specs.Line.{IsAnswerLine, IsChecked, IsReading, IsSaid, said_text, totals_said}
 use Rattle.check_report.specs.Several.CheckedFile.{Answered, Faulty, Unexplained, Unread}
 use Rattle.check_command.specs.Texts.{check_fault_text}
 use Rattle.check_report.specs.declared.readings.Reading.{Reading}
@@ -48,7 +48,7 @@ module _ {E : Type 0} (tells : E → List ℕ → E → Type 0) (d e : E) (expla
         told = sym printed.2;
         said = ap said_text printed.0;
         more = refl;
-        ends = ap said_status printed.0;
+        counted = λ t. ap (totals_said t) printed.0;
       }
   answer_checked answer said (inr refused) r read =
       let known = answered name x answer r said read in
@@ -60,7 +60,7 @@ module _ {E : Type 0} (tells : E → List ℕ → E → Type 0) (d e : E) (expla
         told = (e, refused.3, refl);
         said = ap said_text refused.0;
         more = refused.1;
-        ends = ap said_status refused.0;
+        counted = λ t. ap (totals_said t) refused.0;
       }
 
   pub fault_checked : (fault : CheckFault) → IsSaid x (says.Text fault) → TellsLine tells d (check_fault_text fault) e
@@ -75,7 +75,7 @@ module _ {E : Type 0} (tells : E → List ℕ → E → Type 0) (d e : E) (expla
         told = (e, told, refl);
         said = ap said_text same;
         more = none;
-        ends = ap said_status same;
+        counted = λ t. ap (totals_said t) same;
       }
 
   pub unread_checked : (fault : HostFault) → IsSaid x (says.Host fault) → TellsLine tells d (host_fault_text fault) e
@@ -90,5 +90,5 @@ module _ {E : Type 0} (tells : E → List ℕ → E → Type 0) (d e : E) (expla
         told = (e, told_as tells d e fault (reading_fault known.0) known.2 told, refl);
         said = ap said_text same ∙ ap host_fault_text known.2;
         more = none;
-        ends = ap said_status same;
+        counted = λ t. ap (totals_said t) same;
       }

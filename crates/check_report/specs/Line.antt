@@ -8,7 +8,8 @@ use Rattle.commands.specs.declared.files.FileFault.{FileFault}
 use Rattle.commands.specs.declared.fault.HostFault.TheVariants.{NoMemory}
 use Rattle.check_command.specs.Checks.{IsAnswerTo, IsCheckFault}
 use Rattle.check_report.specs.Command.{IsMore}
-use Rattle.check_report.specs.Several.{CheckedFile, IsRight, name_of, request_of, said_of, more_of, status_of, faults_of}
+use Rattle.check_report.specs.Several.{CheckedFile, IsRight, count_answer, count_fault, faults_of, more_of, name_of, request_of, said_of, totals_after, worse}
+use Rattle.check_report.specs.declared.totals.Totals.{Totals}
 use Rattle.check_command.specs.Texts.{answer_text, check_fault_text, exit_status}
 use Rattle.check_report.specs.declared.readings.Reading.{Reading}
 use Rattle.check_report.specs.declared.readings.Reading.TheVariants as reads
@@ -62,6 +63,15 @@ said_status (says.Answer answer) = exit_status answer
 said_status (says.Text fault) = 1
 said_status (says.Host fault) = 1
 
+-- the totals with one more file, of which this is said
+abbrev pub count_said : Said → Totals → Totals
+count_said (says.Answer answer) t = count_answer answer t
+count_said (says.Text fault) t = count_fault t
+count_said (says.Host fault) t = count_fault t
+
+abbrev pub totals_said : Totals → Said → Totals
+totals_said t said = record (count_said said t) { status = worse t.status (said_status said) }
+
 -- what is printed of a file of this name
 abbrev pub line_text : List ℕ → FileLine → List ℕ
 line_text name line = shown_name name ++ (codes ": " ++ (said_text line.said ++ 10 ∷ line.more.items))
@@ -76,7 +86,7 @@ pub record IsChecked {E : Type 0} (request : Request) (tells : E → List ℕ �
   pub told : FoldsTo (TellsLine tells) err_old (faults_of file) err_new
   pub said : said_text line.said ≡ said_of file
   pub more : line.more.items ≡ more_of file
-  pub ends : said_status line.said ≡ status_of file
+  pub counted : (t : Totals) → totals_said t line.said ≡ totals_after t file
 
 -- what the line of an answer says: the answer, with the lines behind it, or that memory was refused to these
 abbrev pub IsAnswerLine : {E : Type 0} → (E → List ℕ → E → Type 0) → E → E → (explain : Bool) → CheckAnswer → FileLine → Type 0

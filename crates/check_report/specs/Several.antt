@@ -1,6 +1,6 @@
 -- What `mcc check FILE FILE ..` asks of its files, prints and ends by.
 use Rattle.std.specs.Prelude.{◌≡◌, ◌==◌, ◌||◌, ◌≤◌, if◌then◌else◌, ℕ, List, [], ◌∷◌, ◌++◌, All, Bool, true, Option, ⊤}
-use Rattle.std.specs.Prelude.{map, fold, length, max, codes}
+use Rattle.std.specs.Prelude.{◌+◌, ◌-◌, ◌^◌, map, fold, length, max, min, codes, decimal}
 use Rattle.std.specs.List.{AllZip, FoldsTo, flat_map}
 use Rattle.std.specs.Io.KnownBytes.{Appends}
 use Rattle.commands.specs.Requests.{Request, TellsLine, reading_fault}
@@ -12,7 +12,9 @@ use Rattle.check_command.specs.Checks.{IsAnswerTo, IsCheckFault}
 use Rattle.check_report.specs.Command.{IsMore}
 use Rattle.check_command.specs.Texts.{answer_text, check_fault_text, exit_status}
 use Rattle.check_command.specs.declared.verdicts.CheckAnswer.{CheckAnswer}
+use Rattle.check_command.specs.declared.verdicts.CheckAnswer.TheVariants as answers
 use Rattle.check_command.specs.declared.verdicts.CheckFault.{CheckFault}
+use Rattle.check_report.specs.declared.totals.Totals.{Totals}
 
 -- what became of one of the files: its text has an answer, with the lines behind that, or an answer for whose lines memory was
 -- refused, or a fault; or it couldn't be read
@@ -74,8 +76,45 @@ lines_of file = shown_name (name_of file) ++ (codes ": " ++ (said_of file ++ 10 
 abbrev pub worse : ℕ → ℕ → ℕ
 worse a b = if a == 1 || b == 1 then 1 else max a b
 
+-- the totals of no file
+abbrev pub no_totals : Totals
+no_totals = record { status = 0; same = 0; unclean = 0; differs = 0; full = 0; faulty = 0 }
+
+-- one more, or the greatest count
+abbrev pub one_more : ℕ → ℕ
+one_more n = min (n + 1) (2 ^ 64 - 1)
+
+-- the counts with one more file: by its answer, or with a fault
+abbrev pub count_answer : CheckAnswer → Totals → Totals
+count_answer answers.Same t = record t { same = one_more t.same }
+count_answer (answers.Unclean rule) t = record t { unclean = one_more t.unclean }
+count_answer (answers.Differs place) t = record t { differs = one_more t.differs }
+count_answer answers.Full t = record t { full = one_more t.full }
+
+abbrev pub count_fault : Totals → Totals
+count_fault t = record t { faulty = one_more t.faulty }
+
+abbrev pub count_file : CheckedFile → Totals → Totals
+count_file (Answered name text answer more) t = count_answer answer t
+count_file (Unexplained name text answer) t = count_fault t
+count_file (Faulty name text fault) t = count_fault t
+count_file (Unread name fault) t = count_fault t
+
+-- the totals with one more file
+abbrev pub totals_after : Totals → CheckedFile → Totals
+totals_after t file = record (count_file file t) { status = worse t.status (status_of file) }
+
+abbrev pub totals_of : List CheckedFile → Totals
+totals_of files = fold totals_after no_totals files
+
+-- the line of the totals of so many files
+abbrev pub totals_text : ℕ → Totals → List ℕ
+totals_text n t =
+    decimal n ++ (codes " files: " ++ (decimal t.same ++ (codes " same, " ++ (decimal t.unclean ++ (codes " unclean, "
+    ++ (decimal t.differs ++ (codes " differs, " ++ (decimal t.full ++ (codes " full, " ++ (decimal t.faulty ++ codes " faulty"))))))))))
+
 -- each of the files was read, in order; standard output took the lines of each, and standard error was told its fault, if it has
--- one; the status is the worst
+-- one, and last the totals; the status is the worst
 pub record ChecksAll {F E : Type 0} (answers : F → Request → F → Type 0) (old new : F) (out_old out_new : Option (List ℕ))
     (tells : E → List ℕ → E → Type 0) (err_old err_new : E) (explain : Bool) (names : List (List ℕ)) (status : ℕ) : Type 0 where
   pub files : List CheckedFile
@@ -83,13 +122,19 @@ pub record ChecksAll {F E : Type 0} (answers : F → Request → F → Type 0) (
   pub named : map name_of files ≡ names
   pub asked : FoldsTo answers old (map request_of files) new
   pub took : Appends out_old out_new (flat_map lines_of files)
-  pub told : FoldsTo (TellsLine tells) err_old (flat_map faults_of files) err_new
+  pub told : (mid : E) × FoldsTo (TellsLine tells) err_old (flat_map faults_of files) mid
+      × tells mid (totals_text (length names) (totals_of files) ++ 10 ∷ []) err_new
   pub ends : status ≡ fold worse 0 (map status_of files)
 
 -- the same as an answer: what was asked and printed
 abbrev pub ChecksEach : (explain : Bool) → (names : List (List ℕ)) → (status : ℕ) → List Request → List ℕ → Type 0
 ChecksEach explain names status requests printed = (files : List CheckedFile) × All (IsRight explain) files × (map name_of files ≡ names)
     × (requests ≡ map request_of files) × (printed ≡ flat_map lines_of files) × (status ≡ fold worse 0 (map status_of files))
+
+-- what is told with answers alone: the totals
+abbrev pub IsTotals : (explain : Bool) → (names : List (List ℕ)) → List (List ℕ) → Type 0
+IsTotals explain names told = (files : List CheckedFile) × All (IsRight explain) files × (map name_of files ≡ names)
+    × (told ≡ (totals_text (length names) (totals_of files) ++ 10 ∷ []) ∷ [])
 
 -- the first line that was told
 abbrev pub first_told : List (List ℕ) → List ℕ

@@ -3,18 +3,19 @@ use Rattle.std.specs.Prelude.{◌≡◌, ◌≤◌, ℕ, List, ◌++◌, All, Bo
 use Rattle.std.specs.List.{AllZip, FoldsTo, flat_map}
 use Rattle.std.specs.Io.KnownBytes.{Appends}
 use Rattle.commands.specs.Requests.{Request, TellsLine}
-use Rattle.check_report.specs.Several.{CheckedFile, IsRight, Reads, name_of, request_of, lines_of, faults_of, status_of, worse}
+use Rattle.check_report.specs.Several.{CheckedFile, IsRight, Reads, faults_of, lines_of, name_of, request_of, totals_after}
+use Rattle.check_report.specs.declared.totals.Totals.{Totals}
 
--- files that were read by these requests have their lines; the status is the worst
+-- files that were read by these requests have their lines; the totals have them too
 pub record AreChecked {E : Type 0} (requests : List Request) (out_old out_new : Option (List ℕ)) (tells : E → List ℕ → E → Type 0)
-    (err_old err_new : E) (explain : Bool) (names : List (List ℕ)) (status : ℕ) : Type 0 where
+    (err_old err_new : E) (explain : Bool) (names : List (List ℕ)) (before after : Totals) : Type 0 where
   pub files : List CheckedFile
   pub right : All (IsRight explain) files
   pub named : map name_of files ≡ names
   pub asked : map request_of files ≡ requests
   pub took : Appends out_old out_new (flat_map lines_of files)
   pub told : FoldsTo (TellsLine tells) err_old (flat_map faults_of files) err_new
-  pub ends : status ≡ fold worse 0 (map status_of files)
+  pub counted : after ≡ fold totals_after before files
 
 -- standard output was refused behind some of the files that were read by these requests
 pub record AreCutOff {E : Type 0} (requests : List Request) (tells : E → List ℕ → E → Type 0) (err_old err_new : E) (explain : Bool)
@@ -31,9 +32,9 @@ pub record AreCutOff {E : Type 0} (requests : List Request) (tells : E → List 
 
 -- the files were read so, and have their lines
 abbrev pub ShowsStretch : {F E : Type 0} → (F → Request → F → Type 0) → F → F → Option (List ℕ) → Option (List ℕ)
-    → (E → List ℕ → E → Type 0) → E → E → (explain : Bool) → (names : List (List ℕ)) → (status : ℕ) → Type 0
-ShowsStretch answers old new out_old out_new tells err_old err_new explain names status = (requests : List Request)
-    × FoldsTo answers old requests new × AreChecked requests out_old out_new tells err_old err_new explain names status
+    → (E → List ℕ → E → Type 0) → E → E → (explain : Bool) → (names : List (List ℕ)) → (before after : Totals) → Type 0
+ShowsStretch answers old new out_old out_new tells err_old err_new explain names before after = (requests : List Request)
+    × FoldsTo answers old requests new × AreChecked requests out_old out_new tells err_old err_new explain names before after
 
 -- the files were read so, and standard output was refused behind some of them
 abbrev pub BreaksStretch : {F E : Type 0} → (F → Request → F → Type 0) → F → F → (E → List ℕ → E → Type 0) → E → E → (explain : Bool)

@@ -3,7 +3,8 @@
 //! Definitions: `specs/Command.antt`, `specs/Several.antt`.
 //! Contract: `check_files`, `ExplainedAnswer`, `print_explained`
 //! - `--explain` prints the same answer, then printable lines.
-//! - Of several files each is read in order and has its own answer, whatever the number of workers, and the status is the worst.
+//! - Of several files each is read in order and has its own answer, whatever the number of workers. The status is the worst, and the last
+//!   line has the totals.
 //!
 //! | Tested | In |
 //! |---|---|
@@ -15,6 +16,7 @@ mod explain;
 mod readings;
 mod said;
 mod several;
+mod totals;
 mod witness;
 
 pub use command::{ExplainedAnswer, print_explained};

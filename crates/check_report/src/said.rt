@@ -11,7 +11,7 @@ ghost use Rattle.commands.specs.Requests.{Request, WasRefused};
 use crate::explain::explanation_lines;
 use crate::readings::Reading;
 use check_command::{CheckAnswer, CheckFault, check, status_of, tell_check};
-use commands::{Complaints, HostFault, Output, print_name, tell};
+use commands::{Complaints, HostFault, Output, print_name, tell, tell_unread};
 use std::alloc::{AllocError, Global};
 use std::thread::{Threads, available_parallelism};
 use std::{fmt, io, thread};
@@ -172,7 +172,7 @@ pub(crate) fn line_of<E: Complaints>(
             bare(alloc, said)
         }
         Said::Host(fault) => {
-            let _one = tell(err, &fault);
+            let _one = tell_unread(alloc, err, name, fault);
             bare(alloc, said)
         }
     }

@@ -19,7 +19,8 @@ IsShown byte = IsPrintable byte ⊎ (byte ≡ 9) ⊎ (byte ≡ 10)
 
 -- an explanation in such bytes alone, so each part of it is one line
 abbrev pub IsPrintableExplanation : Explanation → Type 0
-IsPrintableExplanation e = All IsPrintable e.message.items × IfSome e.hint (λ hint. All IsPrintable hint.items)
+IsPrintableExplanation e =
+    All IsPrintable e.message.items × IfSome e.hint (λ hint. All IsPrintable hint.items) × IfSome e.more (λ more. All IsPrintable more.items)
 
 -- a byte as it is shown, `?` where it could steer a terminal
 abbrev pub shown_byte : ℕ → ℕ

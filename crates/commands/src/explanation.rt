@@ -1,6 +1,6 @@
 // What is said of a fault below its line: what is wrong, and what to write in its place.
 
-ghost use Rattle.std.specs.Prelude.{◌≡◌, ◌≤◌, All, IfOk};
+ghost use Rattle.std.specs.Prelude.{◌≡◌, ◌≤◌, All, IfOk, IfSome};
 ghost use Rattle.commands.specs.Texts.{IsPrintable, IsPrintableExplanation, shown_byte};
 
 use std::alloc::{AllocError, Global};
@@ -12,6 +12,8 @@ pub struct Explanation {
     pub message: Vec<u8>,
     /// What to write in its place, if something helps.
     pub hint: Option<Vec<u8>>,
+    /// What else is wrong, in one line.
+    pub more: Option<Vec<u8>>,
 }
 
 /// The byte itself if it is printable, else `?`.
@@ -36,16 +38,40 @@ fn printable_bytes(alloc: Global, text: &str) -> Result<Vec<u8>, AllocError>
     Ok(bytes)
 }
 
+/// The same of a text that may be missing.
+fn printable_if_some(alloc: Global, text: Option<&str>) -> Result<Option<Vec<u8>>, AllocError>
+    ensures { IfOk result (λ o. IfSome o (λ bytes. All IsPrintable bytes.items)) }
+{
+    match text {
+        Some(text) => Ok(Some(printable_bytes(alloc, text)?)),
+        None => Ok(None),
+    }
+}
+
 impl Explanation {
     /// The message and the hint, with `?` for each byte that isn't printable ASCII.
     pub fn new(alloc: Global, message: &str, hint: Option<&str>) -> Result<Explanation, AllocError>
         ensures { IfOk result IsPrintableExplanation }
     {
+        Explanation::with_more(alloc, message, hint, None)
+    }
+
+    /// The same with what else is wrong.
+    pub fn with_more(
+        alloc: Global,
+        message: &str,
+        hint: Option<&str>,
+        more: Option<&str>,
+    ) -> Result<Explanation, AllocError>
+        ensures { IfOk result IsPrintableExplanation }
+    {
         let message = printable_bytes(alloc, message)?;
-        let hint = match hint {
-            Some(hint) => Some(printable_bytes(alloc, hint)?),
-            None => None,
-        };
-        Ok(Explanation { message, hint })
+        let hint = printable_if_some(alloc, hint)?;
+        let more = printable_if_some(alloc, more)?;
+        Ok(Explanation {
+            message,
+            hint,
+            more,
+        })
     }
 }

@@ -1,7 +1,7 @@
 //! What the commands of the program share: files, errors, and where an error lies.
 //!
 //! Definitions: `specs/Texts.antt`, `specs/Requests.antt`.
-//! Contract: `answer_file`, `read_file`, `write_file`, `tell`, `tell_placed`, `print_name`, `Explanation::new`
+//! Contract: `answer_file`, `read_file`, `write_file`, `tell`, `tell_file`, `tell_placed`, `print_name`, `Explanation::new`
 //! - A command over one file asks, prints and ends as its own definition says.
 //! - What is printed below an error steers no terminal.
 //! - An `Explanation` is printable ASCII.
@@ -10,6 +10,7 @@
 mod explanation;
 mod fault;
 mod files;
+mod host_faults;
 mod names;
 mod one_file;
 mod output;
@@ -19,6 +20,7 @@ mod wrong_words;
 pub use explanation::{Explanation, printable_byte};
 pub use fault::{Complaints, HostFault, tell};
 pub use files::{FileFault, Files, read_file, write_file};
+pub use host_faults::{FileError, tell_file, tell_unprinted, tell_unread, tell_unwritten};
 pub use names::print_name;
 pub use one_file::{BadFile, FileCommand, answer_file};
 pub use output::Output;

@@ -5,8 +5,9 @@ ghost use Rattle.commands.specs.declared.fault.HostFault.{HostFault};
 ghost use Rattle.commands.specs.OneFile.{AnswersFile, StopsFile, TookPrint};
 ghost use Rattle.commands.specs.Requests.{Asks, Does, IsSent, LeavesOutput, TellsBeside, TellsLine, WasRefused};
 
-use crate::fault::{Complaints, HostFault, tell};
+use crate::fault::{Complaints, HostFault};
 use crate::files::{Files, read_file};
+use crate::host_faults::{tell_unprinted, tell_unread};
 use crate::output::Output;
 use std::alloc::Global;
 
@@ -44,7 +45,7 @@ pub trait FileCommand {
     ghost unprinted: { HostFault → Type 0 };
 
     // what may be told beside an answer of this status
-    ghost remarks: { ℕ → List (List ℕ) → Type 0 };
+    ghost remarks: { Self → ℕ → List (List ℕ) → Type 0 };
 
     /// The answer to these bytes, or their fault.
     fn work(&self, alloc: Global, bytes: &[u8]) -> Result<Self::Answer, Self::Fault>
@@ -69,7 +70,7 @@ pub trait FileCommand {
 
     /// What is told beside an answer that was printed.
     fn remark<E: Complaints>(&self, alloc: Global, bytes: &[u8], answer: &Self::Answer, err: &mut E)
-        ensures { TellsBeside E.tells err.old (remarks (status answer.now)) err.new };
+        ensures { TellsBeside E.tells err.old (remarks self.now (status answer.now)) err.new };
 
     /// The line of a fault, and below it what is known of it.
     fn tell<E: Complaints>(&self, alloc: Global, of: &BadFile<'_, Self::Fault>, err: &mut E) -> u8
@@ -91,13 +92,13 @@ pub fn answer_file<C: FileCommand, F: Files, W: Output, E: Complaints>(
     ensures answered { result ≢ 1 → Does F.answers files.old files.new (W.contents out.old) (W.contents out.new)
         (AnswersFile (C.answers command.now) (C.prints command.now) C.status file.now result) }
     ensures sent { result ≢ 1 → IsSent W.sends out.new }
-    ensures beside { result ≢ 1 → TellsBeside E.tells err.old (C.remarks result) err.new }
+    ensures beside { result ≢ 1 → TellsBeside E.tells err.old (C.remarks command.now result) err.new }
     ensures stopped { result ≡ 1 → Asks F.answers files.old files.new W.refuses out.old out.new E.tells err.old err.new
         (StopsFile (C.answers command.now) (C.faults command.now) C.line C.unprinted file.now) }
 {
     let text = match read_file(alloc, file, files) {
         Ok(text) => text,
-        Err(fault) => return tell(err, &fault),
+        Err(fault) => return tell_unread(alloc, err, file, fault),
     };
     let bytes = text.as_slice();
     let answer = match command.work(alloc, bytes) {
@@ -109,6 +110,6 @@ pub fn answer_file<C: FileCommand, F: Files, W: Output, E: Complaints>(
             command.remark(alloc, bytes, &answer, err);
             status
         }
-        Err(fault) => tell(err, &fault),
+        Err(fault) => tell_unprinted(err, fault),
     }
 }

@@ -7,6 +7,7 @@ ghost use Rattle.commands.specs.Texts.{IsShown};
 
 use crate::explanation::{Explanation, printable_byte};
 use crate::fault::Complaints;
+use crate::host_faults::FileError;
 use std::alloc::{AllocError, Global};
 use std::fmt;
 
@@ -221,7 +222,43 @@ fn add_hint(lines: &mut Lines, about: Option<&Explanation>)
     }
 }
 
-/// The line with the place and the message, the line of the text with its caret, and the hint.
+/// Adds what else is wrong, if something is.
+fn add_more(lines: &mut Lines, about: Option<&Explanation>)
+    ensures { All IsShown lines.old.bytes.items → All IsShown lines.new.bytes.items }
+{
+    if let Some(about) = about
+        && let Some(more) = &about.more
+    {
+        lines.add(more.as_slice(), Way::Words);
+        lines.end_line();
+    }
+}
+
+/// Adds a text as a hint, if there is one.
+fn add_hint_text(lines: &mut Lines, hint: Option<&str>)
+    ensures { All IsShown lines.old.bytes.items → All IsShown lines.new.bytes.items }
+{
+    if let Some(hint) = hint {
+        lines.add(b"hint: ", Way::Words);
+        lines.add(hint.as_bytes(), Way::Words);
+        lines.end_line();
+    }
+}
+
+/// The line with the file and what is wrong with it, and the hint.
+pub(crate) fn file_lines(alloc: Global, about: &FileError<'_>) -> Result<Vec<u8>, AllocError>
+    ensures { IfOk result (λ lines. All IsShown lines.items) }
+{
+    let mut lines = Lines::new(alloc);
+    lines.add(about.file.as_bytes(), Way::Words);
+    lines.add(b": error: ", Way::Words);
+    lines.add(about.message.as_bytes(), Way::Words);
+    lines.end_line();
+    add_hint_text(&mut lines, about.hint);
+    lines.end()
+}
+
+/// The line with the place and the message, the line of the text with its caret, the hint, and what else is wrong.
 fn lines_below(alloc: Global, place: &Place<'_>, at: usize) -> Result<Vec<u8>, AllocError>
     ensures { IfOk result (λ lines. All IsShown lines.items) }
 {
@@ -233,6 +270,7 @@ fn lines_below(alloc: Global, place: &Place<'_>, at: usize) -> Result<Vec<u8>, A
     lines.end_line();
     add_place(&mut lines, place.text, at);
     add_hint(&mut lines, place.about.as_ref());
+    add_more(&mut lines, place.about.as_ref());
     lines.end()
 }
 

@@ -9,6 +9,7 @@ ghost use Rattle.commands.specs.Texts.{host_fault_text};
 ghost use Rattle.commands.specs.WrongWords.{IsFaultOfWords, IsHelp, IsMistake};
 
 use crate::fault::{Complaints, HostFault, tell};
+use crate::host_faults::tell_unprinted;
 use crate::output::Output;
 use clap::Error;
 use clap::error::ErrorKind;
@@ -31,7 +32,7 @@ fn show_help<W: Output, E: Complaints>(error: &Error, out: &mut W, err: &mut E) 
 {
     match print_help(out, error) {
         Ok(()) => 0,
-        Err(_) => tell(err, &HostFault::CannotWrite),
+        Err(_) => tell_unprinted(err, HostFault::CannotWrite),
     }
 }
 

@@ -1,11 +1,11 @@
 -- What a command did, as what the program did with its words: what it told beside its answer, and checks of several files.
-use Rattle.std.proofs.Common.{◌≡◌, ◌≢◌, ◌⊎◌, All, get_or, ℕ, List, [], ◌∷◌, ◌==◌, ◌||◌, if◌then◌else◌, Bool, true, false, Option, map, fold, max, refl, sym, subst, inl, inr}
+use Rattle.std.proofs.Common.{◌≡◌, ◌≢◌, ◌++◌, ◌⊎◌, All, get_or, ℕ, List, [], ◌∷◌, ◌==◌, ◌||◌, if◌then◌else◌, Bool, true, false, Option, length, map, fold, max, refl, sym, subst, inl, inr}
 use Rattle.std.specs.declared.vec.Vec.{Vec}
 use Rattle.std.specs.declared.alloc.Global.{Global}
 use Rattle.std.specs.Borrow.{Bor}
 use Rattle.std.specs.List.{FoldsTo, flat_map}
 use Rattle.commands.specs.Requests.{Request, Asks, Does, IsSent, TellsBeside, TellsLine}
-use Rattle.check_report.specs.Several.{BreaksOff, CheckedFile, ChecksAll, ChecksEach, worse, status_of, faults_of, lines_of, request_of}
+use Rattle.check_report.specs.Several.{BreaksOff, CheckedFile, ChecksAll, ChecksEach, IsTotals, faults_of, lines_of, request_of, status_of, totals_of, totals_text, worse}
 use Rattle.check_report.specs.Several.CheckedFile.{Answered, Unexplained, Faulty, Unread}
 use Rattle.command_line.specs.Commands.{IsCommand}
 use Rattle.command_line.specs.Programs.{IsRemark, IsStopped}
@@ -64,11 +64,13 @@ module _ {F E : Type 0} (answers : F → Request → F → Type 0) (tells : E �
     means = (all.files, all.right, all.named, refl, refl, all.ends);
   }
 
-  -- nothing is told where none has a fault
-  pub each_silent : status ≢ 1 → q ≡ p
-  each_silent other =
+  -- the totals alone are told if none has a fault
+  pub each_counted : status ≢ 1 → TellsBeside tells p (IsTotals explain names) q
+  each_counted other =
       let none = no_faults 0 all.files (λ one. other (subst (λ (s : ℕ). s ≡ 1) (sym all.ends) one)) in
-      sym (subst (λ (lines : List (List ℕ)). FoldsTo (TellsLine tells) p lines q) none all.told)
+      let same : p ≡ all.told.0 = subst (λ (lines : List (List ℕ)). FoldsTo (TellsLine tells) p lines all.told.0) none all.told.1 in
+      let line = totals_text (length names) (totals_of all.files) ++ 10 ∷ [] in
+      (line ∷ [], (q, subst (λ (e : E). tells e line q) (sym same) all.told.2, refl), (all.files, all.right, all.named, refl))
 
 -- several files, which all have their lines, or which broke off
 module _ {F W E : Type 0} (answers : F → Request → F → Type 0) (sends refuses : W → W → Type 0) (tells : E → List ℕ → E → Type 0)
@@ -82,9 +84,9 @@ module _ {F W E : Type 0} (answers : F → Request → F → Type 0) (sends refu
     answered_of (inl all) other = each_answered answers tells explain (map (λ s. s.now) files.items) status f g o r p q all.0
     answered_of (inr stop) other = absurd (other stop.0)
 
-    silent_of : Each files.items → status ≢ 1 → q ≡ p
-    silent_of (inl all) other = each_silent answers tells explain (map (λ s. s.now) files.items) status f g o r p q all.0 other
-    silent_of (inr stop) other = absurd (other stop.0)
+    counted_of : Each files.items → status ≢ 1 → TellsBeside tells p (IsTotals explain (map (λ s. s.now) files.items)) q
+    counted_of (inl all) other = each_counted answers tells explain (map (λ s. s.now) files.items) status f g o r p q all.0 other
+    counted_of (inr stop) other = absurd (other stop.0)
 
     stopped_of : (words : List (List ℕ)) → IsCommand words (CheckEach files explain) → Each files.items → status ≡ 1
         → Asks answers f g refuses v w tells p q (IsStopped Stops words) ⊎ HasFaultyFile answers f g o r sends w tells p q words
@@ -101,8 +103,8 @@ module _ {F W E : Type 0} (answers : F → Request → F → Type 0) (sends refu
     pub all_answered : Each ns → status ≢ 1 → Does answers f g o r (ChecksEach explain (map (λ s. s.now) files.items) status)
     all_answered each = answered_of (subst Each same each)
 
-    pub all_silent : Each ns → status ≢ 1 → q ≡ p
-    all_silent each = silent_of (subst Each same each)
+    pub all_counted : Each ns → status ≢ 1 → TellsBeside tells p (IsTotals explain (map (λ s. s.now) files.items)) q
+    all_counted each = counted_of (subst Each same each)
 
     pub all_stopped : (words : List (List ℕ)) → IsCommand words (CheckEach files explain) → Each ns → status ≡ 1
         → Asks answers f g refuses v w tells p q (IsStopped Stops words) ⊎ HasFaultyFile answers f g o r sends w tells p q words

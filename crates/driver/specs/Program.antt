@@ -13,11 +13,12 @@ use Rattle.commands.specs.OneFile.{AnswersFile, StopsFile}
 use Rattle.block_text.specs.Shown.{IsShown}
 use Rattle.check_command.specs.Command.{Checks, StopsCheck}
 use Rattle.check_report.specs.Command.{Explains}
-use Rattle.check_report.specs.Several.{BreaksOff, ChecksAll, ChecksEach}
+use Rattle.check_report.specs.Several.{BreaksOff, ChecksAll, ChecksEach, IsTotals}
 use Rattle.build_command.specs.SourceFaults.{IsFaultless}
-use Rattle.build_command.specs.Commands.{Builds, StopsBuild}
+use Rattle.build_command.specs.Commands.{AnswersBuild, IsBuildRemark, StopsApart}
 use Rattle.run_command.specs.Command.{IsReason, IsRefused, Runs, StopsRun, words_text}
 use Rattle.command_line.specs.Commands.{IsCommand}
+use Rattle.command_line.specs.declared.command.AskedBuild.{AskedBuild}
 use Rattle.command_line.specs.declared.command.Command.{Command}
 use Rattle.command_line.specs.declared.command.Command.TheVariants.{Check, CheckEach, Interp, Build, Run, List as Listing, Show}
 use Rattle.driver.specs.Texts.{end_text, end_status, interp_fault_text}
@@ -73,7 +74,7 @@ Answers (Check file false) status requests printed = Checks file.now status requ
 Answers (Check file true) status requests printed = Explains file.now status requests printed
 Answers (CheckEach files explain) status requests printed = ChecksEach explain (map (λ s. s.now) files.items) status requests printed
 Answers (Interp source depth steps) status requests printed = Interps source.now depth steps status requests printed
-Answers (Build b) status requests printed = Builds b.source.now b.image.now b.depth b.plain status requests printed
+Answers (Build b) status requests printed = AnswersBuild b.source.now b.image.now b.depth b.plain status requests printed
 Answers (Run image steps) status requests printed = Runs image.now steps status requests printed
 Answers (Listing image asm) status requests printed = Lists image.now asm status requests printed
 Answers (Show source stage function dot) status requests printed = Shows source.now status requests printed
@@ -83,7 +84,7 @@ abbrev pub Stops : Command → (silent refused : Type 0) → List Request → Li
 Stops (Check file explain) silent refused requests told = StopsCheck file.now silent refused requests told
 Stops (CheckEach files explain) silent refused requests told = BreaksOff explain (map (λ s. s.now) files.items) silent refused requests told
 Stops (Interp source depth steps) silent refused requests told = StopsInterp source.now depth steps silent refused requests told
-Stops (Build b) silent refused requests told = StopsBuild b.source.now b.image.now b.depth b.plain silent refused requests told
+Stops (Build b) silent refused requests told = StopsApart b.source.now b.image.now b.depth b.plain silent refused requests told
 Stops (Run image steps) silent refused requests told = StopsRun image.now steps silent refused requests told
 Stops (Listing image asm) silent refused requests told = StopsList image.now asm silent refused requests told
 Stops (Show source stage function dot) silent refused requests told = StopsShow source.now silent refused requests told
@@ -92,7 +93,13 @@ Stops (Show source stage function dot) silent refused requests told = StopsShow 
 abbrev pub Remarks : Command → (status : ℕ) → List (List ℕ) → Type 0
 Remarks (Interp source depth steps) status told = IsReason status told
 Remarks (Run image steps) status told = IsReason status told
+Remarks (Build b) status told = IsBuildRemark status told
+Remarks (CheckEach files explain) status told = IsTotals explain (map (λ s. s.now) files.items) told
 Remarks _ status told = told ≡ []
+
+-- the words ask for a build whose image has the source's name
+abbrev pub NamesOneFile : List (List ℕ) → Type 0
+NamesOneFile words = (b : AskedBuild) × IsCommand words (Build b) × (b.source.now ≡ b.image.now)
 
 -- the program: its words ask for a check of several files, of which one had a fault, and all have their lines, which were sent on
 pub record HasFaultyFile {F W E : Type 0} (answers : F → Request → F → Type 0) (old new : F) (out_old out_new : Option (List ℕ))

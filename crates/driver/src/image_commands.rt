@@ -8,8 +8,9 @@ ghost use Rattle.image.specs.Images.{IsImageFault};
 use crate::listings::list_image;
 use crate::pages::PageCommand;
 use asm_text::source;
-use commands::{BadFile, Complaints, tell};
+use commands::{BadFile, Complaints};
 use image::{ImageFault, read_image};
+use run_command::tell_image;
 use std::alloc::Global;
 
 /// The listing of an image's bytes, if they are those of one.
@@ -63,7 +64,7 @@ impl PageCommand for ImageCommand {
         }
     }
 
-    fn tell<E: Complaints>(&self, _alloc: Global, of: &BadFile<'_, ImageFault>, err: &mut E) -> u8 {
-        tell(err, &of.fault)
+    fn tell<E: Complaints>(&self, alloc: Global, of: &BadFile<'_, ImageFault>, err: &mut E) -> u8 {
+        tell_image(alloc, err, of.file, of.bytes, of.fault)
     }
 }

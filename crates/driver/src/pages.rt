@@ -68,7 +68,7 @@ impl<C: PageCommand> FileCommand for Paged<C> {
 
     ghost unprinted = { IsRefused };
 
-    ghost remarks = { λ status told. IsNothing told };
+    ghost remarks = { λ s status told. IsNothing told };
 
     fn work(&self, alloc: Global, bytes: &[u8]) -> Result<Vec<u8>, C::Fault> {
         self.0.page(alloc, bytes)

@@ -7,7 +7,7 @@ ghost use Rattle.command_line.specs.Programs.{EndsUntaken, HasMistake, IsAnswere
 ghost use Rattle.check_command.specs.Command.{StopsCheck};
 ghost use Rattle.check_command.specs.Texts.{IsCheckStatus};
 ghost use Rattle.command_line.specs.declared.command.Command.TheVariants.{Check};
-ghost use Rattle.driver.specs.Program.{Answers, HasFaultyFile, Remarks, Shows, Stops, StopsShow};
+ghost use Rattle.driver.specs.Program.{Answers, HasFaultyFile, NamesOneFile, Remarks, Shows, Stops, StopsShow};
 ghost use Rattle.driver.specs.Texts.{end_status, interp_fault_text};
 
 use crate::image_commands::ImageCommand;
@@ -96,7 +96,7 @@ impl FileCommand for InterpCommand<'_> {
 
     ghost unprinted = { IsRefused };
 
-    ghost remarks = { IsReason };
+    ghost remarks = { λ s status told. IsReason status told };
 
     fn work(&self, alloc: Global, bytes: &[u8]) -> Result<Ran, InterpFault> {
         interp(alloc, bytes, self.depth, self.steps)
@@ -177,7 +177,7 @@ fn show_source<F: Files, W: Output, E: Complaints>(
 
 /// Does what the words ask for (the first is the program's name), over its files and two writers; a build and a check of several files
 /// start threads. The answer is the exit status: 0 for `same`, `done`, a build, a listing, stages and help, 1 for a fault, 2 for
-/// wrong words, 4 for `more`, 3 for any other answer; of several check texts the worst.
+/// wrong words and a build onto its source, 4 for `more`, 3 for any other answer; of several check texts the worst.
 pub fn mcc<T: Threads + Wait + Sync, F: Files, W: Output, E: Complaints>(
     rt: &T,
     alloc: Global,
@@ -187,7 +187,7 @@ pub fn mcc<T: Threads + Wait + Sync, F: Files, W: Output, E: Complaints>(
     err: &mut E,
 ) -> u8
     ensures most { result ≤ 4 }
-    ensures taken { takes mcc_app (map (λ s. s.now) args.entry.now) ≡ true → result ≢ 2 }
+    ensures taken { takes mcc_app (map (λ s. s.now) args.entry.now) ≡ true → result ≡ 2 → NamesOneFile (map (λ s. s.now) args.entry.now) }
     ensures answered { takes mcc_app (map (λ s. s.now) args.entry.now) ≡ true → result ≢ 1
         → Does F.answers files.old files.new (W.contents out.old) (W.contents out.new)
         (IsAnswered Answers (map (λ s. s.now) args.entry.now) result) }
@@ -200,7 +200,8 @@ pub fn mcc<T: Threads + Wait + Sync, F: Files, W: Output, E: Complaints>(
         ⊎ HasFaultyFile F.answers files.old files.new (W.contents out.old) (W.contents out.new) W.sends out.new E.tells err.old err.new
         (map (λ s. s.now) args.entry.now) }
     ensures wrong { result ≡ 2
-        → (files.new ≡ files.old) × (out.new ≡ out.old) × HasMistake (fault_of mcc_app (map (λ s. s.now) args.entry.now)) }
+        → (files.new ≡ files.old) × (out.new ≡ out.old)
+        × (HasMistake (fault_of mcc_app (map (λ s. s.now) args.entry.now)) ⊎ NamesOneFile (map (λ s. s.now) args.entry.now)) }
     ensures untaken { fault_of mcc_app (map (λ s. s.now) args.entry.now) ≢ []
         → (files.new ≡ files.old) × EndsUntaken (fault_of mcc_app (map (λ s. s.now) args.entry.now)) result }
 {

@@ -24,7 +24,7 @@ impl Program for Mcc {
     ghost use Rattle.command_line.specs.Commands.{mcc_app};
     ghost use Rattle.command_line.specs.Programs.{EndsUntaken, HasMistake, IsAnswered, IsRemark, IsStopped};
     ghost use Rattle.commands.specs.Requests.{Asks, Does, IsSent, TellsBeside};
-    ghost use Rattle.driver.specs.Program.{Answers, HasFaultyFile, Remarks, Stops};
+    ghost use Rattle.driver.specs.Program.{Answers, HasFaultyFile, NamesOneFile, Remarks, Stops};
 
     /// Runs `driver::mcc` over what its host has. The answer is the exit status.
     fn answer<T: Threads + Wait + Sync, F: Files, W: Output, E: Complaints>(
@@ -33,7 +33,7 @@ impl Program for Mcc {
     ) -> u8
         requires { IsSync T.row }
         ensures most { result ≤ 4 }
-        ensures taken { takes mcc_app (map (λ s. s.now) host.old.words.now) ≡ true → result ≢ 2 }
+        ensures taken { takes mcc_app (map (λ s. s.now) host.old.words.now) ≡ true → result ≡ 2 → NamesOneFile (map (λ s. s.now) host.old.words.now) }
         ensures answered { takes mcc_app (map (λ s. s.now) host.old.words.now) ≡ true → result ≢ 1
             → Does F.answers host.old.files host.new.files (W.contents host.old.out) (W.contents host.new.out)
             (IsAnswered Answers (map (λ s. s.now) host.old.words.now) result) }
@@ -46,7 +46,7 @@ impl Program for Mcc {
             ⊎ HasFaultyFile F.answers host.old.files host.new.files (W.contents host.old.out) (W.contents host.new.out) W.sends host.new.out
             E.tells host.old.err host.new.err (map (λ s. s.now) host.old.words.now) }
         ensures wrong { result ≡ 2 → (host.new.files ≡ host.old.files) × (host.new.out ≡ host.old.out)
-            × HasMistake (fault_of mcc_app (map (λ s. s.now) host.old.words.now)) }
+            × (HasMistake (fault_of mcc_app (map (λ s. s.now) host.old.words.now)) ⊎ NamesOneFile (map (λ s. s.now) host.old.words.now)) }
         ensures untaken { fault_of mcc_app (map (λ s. s.now) host.old.words.now) ≢ []
             → (host.new.files ≡ host.old.files) × EndsUntaken (fault_of mcc_app (map (λ s. s.now) host.old.words.now)) result }
     {

@@ -114,7 +114,7 @@ pub(crate) fn say_byte(said: &mut Said, text: &[u8], at: usize) {
 }
 
 /// The word or the sign behind blanks.
-fn behind_blanks<'t>(text: &'t [u8], at: usize) -> &'t [u8] {
+pub(crate) fn behind_blanks<'t>(text: &'t [u8], at: usize) -> &'t [u8] {
     let rest = back(text, at);
     for (n, byte) in rest.iter().enumerate() {
         if *byte != b' ' {

@@ -13,6 +13,7 @@ mod constants;
 mod expected;
 mod fault;
 mod lexical;
+mod more_tokens;
 mod names;
 mod said;
 mod source;
@@ -26,6 +27,7 @@ ghost use Rattle.commands.specs.Texts.{IsPrintableExplanation};
 use crate::constants::{say_constant, say_size};
 use crate::expected::expected_words;
 use crate::lexical::{say_byte, say_token};
+use crate::more_tokens::say_more;
 use crate::names::{in_sight, names_before};
 use crate::said::Said;
 use crate::source::Source;
@@ -45,7 +47,10 @@ fn say_front(
 ) -> Result<(), AllocError> {
     match fault.kind {
         FrontFaultKind::Byte => say_byte(said, source.text, fault.at),
-        FrontFaultKind::Token => say_token(said, source, fault.at),
+        FrontFaultKind::Token => {
+            say_token(said, source, fault.at);
+            say_more(alloc, said, source.text, fault.at)?;
+        }
         FrontFaultKind::Syntax => {
             let k = source.index_of(fault.at);
             let expected = expected_words(alloc, source, k)?;

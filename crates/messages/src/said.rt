@@ -13,6 +13,9 @@ pub(crate) struct Said {
     message: String,
     /// Empty where there is none.
     hint: String,
+    /// What else is wrong, and how much.
+    more: String,
+    count: usize,
     is_refused: bool,
 }
 
@@ -21,6 +24,8 @@ impl Said {
         Said {
             message: String::new(alloc),
             hint: String::new(alloc),
+            more: String::new(alloc),
+            count: 0,
             is_refused: false,
         }
     }
@@ -65,6 +70,27 @@ impl Said {
         }
     }
 
+    /// Goes on with what else is wrong.
+    pub(crate) fn more(&mut self, text: &str) {
+        if !self.is_refused {
+            self.is_refused = self.more.push_str(text).is_err();
+        }
+    }
+
+    pub(crate) fn more_number(&mut self, number: usize) {
+        if !self.is_refused {
+            self.is_refused = write!(self.more, "{number}").is_err();
+        }
+    }
+
+    /// How much else is wrong, and how much of that is named at most.
+    pub(crate) fn count_more(&mut self, count: usize, named: usize) {
+        self.count = count;
+        if named < count {
+            self.more(" ..");
+        }
+    }
+
     /// What was written, unless memory was refused.
     pub(crate) fn end(self, alloc: Global) -> Result<Explanation, AllocError>
         ensures { IfOk result IsPrintableExplanation }
@@ -74,6 +100,11 @@ impl Said {
         }
         let hint = self.hint.as_str();
         let hint = if hint.is_empty() { None } else { Some(hint) };
-        Explanation::new(alloc, self.message.as_str(), hint)
+        if self.count == 0 {
+            return Explanation::new(alloc, self.message.as_str(), hint);
+        }
+        let (count, named) = (self.count, self.more.as_str());
+        let more = format!(in alloc; "and {count} more: {named}")?;
+        Explanation::with_more(alloc, self.message.as_str(), hint, Some(more.as_str()))
     }
 }

@@ -7,10 +7,11 @@ ghost use Rattle.commands.specs.Requests.{Asks, Does, IsSent, TellsBeside};
 ghost use Rattle.image.specs.Images.{IsImageFault};
 ghost use Rattle.image.specs.Texts.{image_fault_text};
 
+use crate::image_faults::tell_image;
 use crate::image_runs::run_image;
 use crate::reasons::{stuck_page, tell_page};
 use crate::texts::{EndingLine, print_run};
-use commands::{BadFile, Complaints, FileCommand, Files, HostFault, Output, answer_file, tell};
+use commands::{BadFile, Complaints, FileCommand, Files, HostFault, Output, answer_file};
 use image::ImageFault;
 use mips_machine::MachineRan;
 use mips_steps::Ending;
@@ -59,7 +60,7 @@ impl FileCommand for RunCommand {
 
     ghost unprinted = { IsRefused };
 
-    ghost remarks = { IsReason };
+    ghost remarks = { λ s status told. IsReason status told };
 
     fn work(&self, alloc: Global, bytes: &[u8]) -> Result<MachineRan, ImageFault> {
         run_image(alloc, bytes, self.steps)
@@ -85,8 +86,8 @@ impl FileCommand for RunCommand {
         }
     }
 
-    fn tell<E: Complaints>(&self, _alloc: Global, of: &BadFile<'_, ImageFault>, err: &mut E) -> u8 {
-        tell(err, &of.fault)
+    fn tell<E: Complaints>(&self, alloc: Global, of: &BadFile<'_, ImageFault>, err: &mut E) -> u8 {
+        tell_image(alloc, err, of.file, of.bytes, of.fault)
     }
 }
 

@@ -11,11 +11,13 @@
 #![tactic(auto)]
 
 mod command;
+mod image_faults;
 mod image_runs;
 mod reasons;
 mod texts;
 
 pub use command::{ending_status, run_file};
+pub use image_faults::tell_image;
 pub use image_runs::run_image;
 pub use reasons::tell_page;
 pub use texts::{EndingLine, print_run};

@@ -24,9 +24,11 @@ const RUN: &[&str] = &["mcc", "run", "x"];
 
 const LIST: &[&str] = &["mcc", "list", "x"];
 
-const CANNOT_READ: &str = "fault 60 CannotRead\n";
+const CANNOT_READ: &str = "fault 60 CannotRead\nx: error: this file can't be read\n";
 
-const CANNOT_WRITE: &str = "fault 61 CannotWrite\n";
+const CANNOT_WRITE: &str = "fault 61 CannotWrite\ny: error: the image can't be written\n";
+
+const CANNOT_PRINT: &str = "fault 61 CannotWrite\nerror: standard output can't be written\n";
 
 const NO_MEMORY: &str = "fault 30 NoMemory\n";
 
@@ -92,7 +94,7 @@ fn tells_shut_out<T: Threads + Wait + Sync>(
 ) -> bool {
     let mut files = OneFile::of(alloc, bytes);
     let told = told_with_shut_out(threads, alloc, &mut files, words);
-    told.is(1, "", CANNOT_WRITE) && files.writes == writes
+    told.is(1, "", CANNOT_PRINT) && files.writes == writes
 }
 
 // The file of a command.
@@ -200,7 +202,7 @@ fn breaks_off<T: Threads + Wait + Sync>(
         &mut out,
         &mut err,
     );
-    let is_told = status == 1 && err.as_slice() == CANNOT_WRITE.as_bytes();
+    let is_told = status == 1 && err.as_slice() == CANNOT_PRINT.as_bytes();
     is_told && out.taken.len() == room && printing.printed.starts_with(out.taken.as_slice())
 }
 

@@ -14,4 +14,4 @@ returns-in-Text g c =
 pub returns-in-Host : goal.returns-in-Host
 returns-in-Host g c =
     unread_checked g.E.Complaints.tells _ _ c.args.explain c.args.name.now c.args.reading.now c.bare-in-Host.result c.in-Host.fault
-    (rw c.in-Host.is at c.requires) c.tell-one.ensures.told c.bare-in-Host.ensures.0 c.bare-in-Host.ensures.1
+    (rw c.in-Host.is at c.requires) c.tell_unread-one.ensures.told c.bare-in-Host.ensures.0 c.bare-in-Host.ensures.1

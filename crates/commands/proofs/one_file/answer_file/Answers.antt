@@ -11,14 +11,14 @@ pub returns-in-Err-clause-stopped : goal.returns-in-Err-clause-stopped
 returns-in-Err-clause-stopped g c = λ one.
     let fault = c.in-Err.ensures.asked.0 in
     asks_once g.F.Files.answers g.W.Output.refuses g.E.Complaints.tells _ _ _ _ _ _ (NotRead c.args.file.now fault) (host_fault_text (reading_fault fault)) _
-    c.in-Err.ensures.asked.2 (told_as _ _ _ _ _ c.in-Err.ensures.asked.1 c.tell.ensures.told) (unread fault (refl {a = c.args.out.now}))
+    c.in-Err.ensures.asked.2 (told_as _ _ _ _ _ c.in-Err.ensures.asked.1 c.tell_unread.ensures.told) (unread fault (refl {a = c.args.out.now}))
 
 pub returns-in-Err-work-clause-stopped : goal.returns-in-Err-work-clause-stopped
 returns-in-Err-work-clause-stopped g c = λ one.
     let answers = g.F.Files.answers in
     let bytes = c.as_slice-bytes.result.now in
     asks_once answers g.W.Output.refuses g.E.Complaints.tells _ _ _ _ _ _ (Read c.args.file.now bytes) (g.C.FileCommand.line c.in-Err-work.fault) _
-    (read_as answers _ _ _ _ bytes c.as_slice-bytes.ensures.value c.in-Ok.ensures.asked) c.tell-in-Err-work.ensures.told
+    (read_as answers _ _ _ _ bytes c.as_slice-bytes.ensures.value c.in-Ok.ensures.asked) c.tell.ensures.told
     (faulty bytes c.in-Err-work.fault c.in-Err-work.ensures.fault refl)
 
 pub returns-in-Ok-print-clause-answered : goal.returns-in-Ok-print-clause-answered
@@ -49,5 +49,5 @@ returns-clause-stopped g c = λ one.
     let answers = g.F.Files.answers in
     let bytes = c.as_slice-bytes.result.now in
     asks_once answers g.W.Output.refuses g.E.Complaints.tells _ _ _ _ _ _ (Read c.args.file.now bytes) (host_fault_text c.in-Err-print.fault) _
-    (read_as answers _ _ _ _ bytes c.as_slice-bytes.ensures.value c.in-Ok.ensures.asked) c.tell-in-Err-print.ensures.told
+    (read_as answers _ _ _ _ bytes c.as_slice-bytes.ensures.value c.in-Ok.ensures.asked) c.tell_unprinted.ensures.told
     (untold bytes c.in-Ok-work.answer c.in-Ok-work.ensures.answer c.in-Err-print.fault c.in-Err-print.ensures.fault c.in-Err-print.ensures.left)

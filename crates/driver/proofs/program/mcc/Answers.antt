@@ -1,9 +1,9 @@
-use Rattle.std.proofs.Common.{refl, inl, map, subst}
+use Rattle.std.proofs.Common.{refl, inl, inr, map, subst}
 use Rattle.clap.specs.Words.{fault_of}
 use Rattle.command_line.specs.Commands.{IsCommand, mcc_app}
 use Rattle.command_line.specs.declared.command.Command.TheVariants.{Check, CheckEach, Interp, Build, Run, List as Listing, Show}
 use Rattle.command_line.proofs.Programs.{answered_by, ends_untaken, mistake_of, silent, stopped_by, stopped_before}
-use Rattle.driver.proofs.Lifted.{all_answered, all_silent, all_stopped, remarked}
+use Rattle.driver.proofs.Lifted.{all_answered, all_counted, all_stopped, remarked}
 use Rattle.driver.specs.Program.{Answers, Remarks, Stops}
 use Rattle.driver.proofs.program.mcc.Goals as goal
 
@@ -34,9 +34,9 @@ returns-in-Ok-CheckEach-clause-answered g c = λ taken other.
 
 pub returns-in-Ok-CheckEach-clause-quiet : goal.returns-in-Ok-CheckEach-clause-quiet
 returns-in-Ok-CheckEach-clause-quiet g c = λ taken other.
-    silent Remarks g.E.Complaints.tells (map (λ s. s.now) c.args.args.now) c.check_files.result (CheckEach c.in-Ok-CheckEach.names c.in-Ok-CheckEach.explain)
+    remarked g.E.Complaints.tells (map (λ s. s.now) c.args.args.now) c.check_files.result (CheckEach c.in-Ok-CheckEach.names c.in-Ok-CheckEach.explain)
     (subst (IsCommand (map (λ s. s.now) c.args.args.now)) c.in-Ok-CheckEach.field-0-is c.in-Ok-CheckEach.ensures.command)
-    _ _ refl (all_silent g.F.Files.answers g.W.Output.sends g.W.Output.refuses g.E.Complaints.tells c.in-Ok-CheckEach.explain c.check_files.result _ _ _ _ _ _ _ _ c.in-Ok-CheckEach.names _
+    _ _ (all_counted g.F.Files.answers g.W.Output.sends g.W.Output.refuses g.E.Complaints.tells c.in-Ok-CheckEach.explain c.check_files.result _ _ _ _ _ _ _ _ c.in-Ok-CheckEach.names _
     c.as_slice.ensures.value c.check_files.ensures.each other)
 
 pub returns-in-Ok-CheckEach-clause-stopped : goal.returns-in-Ok-CheckEach-clause-stopped
@@ -72,9 +72,28 @@ returns-in-Ok-Build-clause-answered g c = λ taken other.
 
 pub returns-in-Ok-Build-clause-quiet : goal.returns-in-Ok-Build-clause-quiet
 returns-in-Ok-Build-clause-quiet g c = λ taken other.
-    silent Remarks g.E.Complaints.tells (map (λ s. s.now) c.args.args.now) c.build_file.result (Build c.in-Ok-Build.asked)
+    remarked g.E.Complaints.tells (map (λ s. s.now) c.args.args.now) c.build_file.result (Build c.in-Ok-Build.asked)
     (subst (IsCommand (map (λ s. s.now) c.args.args.now)) c.in-Ok-Build.field-0-is c.in-Ok-Build.ensures.command)
-    _ _ refl (c.build_file.ensures.quiet other)
+    _ _ (c.build_file.ensures.beside other)
+
+pub returns-in-Ok-Build-clause-taken : goal.returns-in-Ok-Build-clause-taken
+returns-in-Ok-Build-clause-taken g c = λ taken two. (
+  c.in-Ok-Build.asked,
+  subst (IsCommand (map (λ s. s.now) c.args.args.now)) c.in-Ok-Build.field-0-is c.in-Ok-Build.ensures.command,
+  (c.build_file.ensures.refused two).0,
+)
+
+pub returns-in-Ok-Build-clause-wrong : goal.returns-in-Ok-Build-clause-wrong
+returns-in-Ok-Build-clause-wrong g c = λ two.
+    let refused = c.build_file.ensures.refused two in (
+      refused.1,
+      refused.2,
+      inr (
+        c.in-Ok-Build.asked,
+        subst (IsCommand (map (λ s. s.now) c.args.args.now)) c.in-Ok-Build.field-0-is c.in-Ok-Build.ensures.command,
+        refused.0,
+      ),
+    )
 
 pub returns-in-Ok-Build-clause-stopped : goal.returns-in-Ok-Build-clause-stopped
 returns-in-Ok-Build-clause-stopped g c = λ one.
@@ -145,7 +164,7 @@ returns-in-Err-clause-stopped g c = λ one.
 pub returns-in-Err-clause-wrong : goal.returns-in-Err-clause-wrong
 returns-in-Err-clause-wrong g c = λ two.
     let wrong = c.tell_words.ensures.wrong two in
-    (refl, wrong.1, mistake_of (fault_of mcc_app (map (λ s. s.now) c.args.args.now)) c.in-Err.error wrong.0 c.in-Err.ensures.kinds)
+    (refl, wrong.1, inl (mistake_of (fault_of mcc_app (map (λ s. s.now) c.args.args.now)) c.in-Err.error wrong.0 c.in-Err.ensures.kinds))
 
 pub returns-in-Err-clause-untaken : goal.returns-in-Err-clause-untaken
 returns-in-Err-clause-untaken g c = λ some. (

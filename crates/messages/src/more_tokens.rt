@@ -1,0 +1,117 @@
+// The tokens behind the first wrong one that C doesn't have either.
+
+ghost use Rattle.std.specs.Prelude.{◌≤◌, length};
+ghost use Rattle.c_tokens.specs.declared.sizes.TheConstants.{MAX_TEXT};
+
+use crate::lexical::behind_blanks;
+use crate::said::Said;
+use crate::source::{back, front, is_word, shown_text, spelled_at};
+use c_tokens::{LexFault, MAX_TEXT, Refusal, lex};
+use commands::spot_of;
+use std::alloc::{AllocError, Global};
+
+/// So many are named at most.
+const NAMED: usize = 8;
+
+/// Where the line of an offset ends.
+fn line_end(text: &[u8], at: usize) -> usize {
+    for (n, byte) in back(text, at).iter().enumerate() {
+        if *byte == b'\n' {
+            return at.saturating_add(n);
+        }
+    }
+    text.len()
+}
+
+/// Where a string or a character that begins at an offset ends, at the latest with its line.
+fn quoted_end(text: &[u8], at: usize, quote: u8) -> usize {
+    let mut is_escaped = false;
+    for (n, byte) in back(text, at.saturating_add(1)).iter().enumerate() {
+        if *byte == b'\n' || (*byte == quote && !is_escaped) {
+            return at.saturating_add(n).saturating_add(2);
+        }
+        is_escaped = *byte == b'\\' && !is_escaped;
+    }
+    text.len()
+}
+
+/// Where a number that is no constant ends.
+fn number_end(text: &[u8], at: usize) -> usize {
+    for (n, byte) in back(text, at).iter().enumerate() {
+        if !is_word(*byte) && *byte != b'.' {
+            return at.saturating_add(n.max(1));
+        }
+    }
+    text.len()
+}
+
+/// Where tokens can be read on behind a wrong one; None in a comment, and where it can't be told.
+fn goes_on(text: &[u8], at: usize) -> Option<usize> {
+    match spelled_at(text, at) {
+        [b'/', b'*'] | [b'\\'] | [b'?', b'?'] => None,
+        [quote @ (b'"' | b'\'')] => Some(quoted_end(text, at, *quote)),
+        [b'#'] => Some(line_end(text, at)),
+        sign => Some(at.saturating_add(sign.len().max(1))),
+    }
+}
+
+/// The next place that is refused, from an offset on.
+fn next_refused(
+    alloc: Global,
+    text: &[u8],
+    from: usize,
+) -> Result<Option<(Refusal, usize)>, AllocError>
+    requires { length text.now ≤ MAX_TEXT }
+{
+    match lex(alloc, back(text, from)) {
+        Ok(_) => Ok(None),
+        Err(LexFault::Refused(why, at)) => Ok(Some((why, from.saturating_add(at)))),
+        Err(LexFault::NoMemory) => Err(AllocError),
+    }
+}
+
+/// Names one of them, with line and column.
+fn say_one(said: &mut Said, text: &[u8], at: usize) {
+    let spot = spot_of(text, at);
+    said.more_number(spot.line);
+    said.more(":");
+    said.more_number(spot.column);
+    said.more(" '");
+    said.more(shown_text(spelled_at(text, at)));
+    if spelled_at(text, at) == b"#".as_slice() {
+        said.more(shown_text(behind_blanks(text, at.saturating_add(1))));
+    }
+    said.more("'");
+}
+
+/// Says which tokens behind the first wrong one C doesn't have either, as far as they can be read.
+pub(crate) fn say_more(
+    alloc: Global,
+    said: &mut Said,
+    text: &[u8],
+    first: usize,
+) -> Result<(), AllocError> {
+    let text = front(text, MAX_TEXT);
+    let mut from = goes_on(text, first);
+    let mut count = 0usize;
+    for _ in 0..text.len() {
+        let Some(next) = from else { break };
+        let Some((why, at)) = next_refused(alloc, text, next)? else {
+            break
+        };
+        match why {
+            Refusal::BadToken => {
+                if count < NAMED {
+                    said.more(if count == 0 { "" } else { ", " });
+                    say_one(said, text, at);
+                }
+                count = count.saturating_add(1);
+                from = goes_on(text, at);
+            }
+            Refusal::BadConstant => from = Some(number_end(text, at)),
+            Refusal::BadSize => from = None,
+        }
+    }
+    said.count_more(count, NAMED);
+    Ok(())
+}
