@@ -32,7 +32,7 @@ async function stepTo(page, condition, most = 300) {
     if (await page.value(condition)) return true;
     const before = await page.value(text('count'));
     await page.value(click('step'));
-    if (!(await page.until(`${text('count')} !== ${JSON.stringify(before)}`, 5))) return false;
+    if (!(await page.until(`${text('count')} !== ${JSON.stringify(before)}`))) return false;
   }
   return false;
 }
