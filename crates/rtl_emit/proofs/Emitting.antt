@@ -1,6 +1,6 @@
 -- What the call for an expression promises (`Emits`), from what the calls for its parts did: one lemma for each kind.
-use Rattle.std.proofs.Common.{◌≡◌, ◌≢◌, ℕ, ◌+◌, ◌<◌, ◌≤◌, max, Bool, true, false, List, ◌∷◌, length, Ok, Err, Result, refl, sym, ◌∙◌, ap, subst, arith, nat_eq}
-use Rattle.std.specs.Prelude.{if◌then◌else◌, not, IfOk, IfErr, OnOk}
+use Rattle.std.proofs.Common.{◌≡◌, ◌≢◌, ℕ, ◌+◌, ◌<◌, ◌≤◌, max, Bool, true, false, List, length, Ok, Err, Result, refl, sym, ◌∙◌, ap, subst, arith}
+use Rattle.std.specs.Prelude.{IfOk, IfErr, OnOk}
 use Rattle.c_tokens.specs.declared.token.IntegerType.{IntegerType}
 use Rattle.c_tokens.specs.declared.token.Literal.{Literal}
 use Rattle.c_tree.specs.declared.tree.BinaryOp.{BinaryOp}
@@ -8,21 +8,19 @@ use Rattle.c_tree.specs.declared.tree.BinaryOp.TheVariants as B
 use Rattle.c_tree.specs.declared.tree.UnaryOp.{UnaryOp}
 use Rattle.c_tree.specs.declared.tree.UnaryOp.TheVariants as U
 use Rattle.c_typed.specs.Values.{sign_of}
-use Rattle.c_typed.specs.Trees.{TypedExpression, constant, local, global, element, unary, binary, conditional}
+use Rattle.c_typed.specs.Trees.{TypedExpression, constant, local, global, element, unary, binary}
 use Rattle.rtl.specs.declared.block.RBlock.{RBlock}
 use Rattle.rtl.specs.declared.instruction.RInst.TheVariants as I
-use Rattle.rtl.specs.declared.instruction.RExit.TheVariants as X
-use Rattle.words.specs.Words.{wrap}
 use Rattle.rtl.specs.Meaning.{Code}
 use Rattle.rtl.specs.declared.limits.TheConstants.{MAX_REGISTERS, MAX_BLOCKS}
-use Rattle.rtl_emit.specs.Blocks.{open_code, exit_code, goto, first, line_of, insts_of, insts_at, insts_in, Spot, Line, Grows, At, Lands, Adds}
-use Rattle.rtl_emit.specs.Emits.{Size, Covers, Emits, value_size, condition_size, test_size, values_size, both_size, left_targets}
-use Rattle.rtl_emit.specs.Emits.{EmitsValue, EmitsOperand, EmitsBranch, EmitsOperands, EmitsBoth, EmitsBlock, EmitsValueBlock, EmitsBranchBlock}
-use Rattle.rtl_emit.specs.Expressions.{IsPlace, ArePlaces, IsTruth, Decides, Evaluates, Fetches, Combines}
-use Rattle.rtl_emit.specs.Operations.{IsPrefix, ComputesContrary, Computes, inst_of}
+use Rattle.rtl_emit.specs.Blocks.{open_code, first, line_of, insts_of, insts_at, insts_in, Spot, Grows, At, Adds}
+use Rattle.rtl_emit.specs.Emits.{Size, Covers, Emits, value_size, condition_size, both_size, left_targets}
+use Rattle.rtl_emit.specs.Emits.{EmitsValue, EmitsOperand, EmitsBranch, EmitsBoth, EmitsBranchBlock}
+use Rattle.rtl_emit.specs.Expressions.{IsPlace, IsTruth, Decides, Evaluates, Fetches, Combines}
+use Rattle.rtl_emit.specs.Operations.{IsPrefix, Computes, inst_of}
 use Rattle.rtl_emit.specs.Sizes.{logical_of, joint, Beyond, by_branches, is_logical, place_registers, next_free, value_registers, value_blocks, globals_named}
-use Rattle.rtl_emit.specs.Sizes.{condition_registers, condition_blocks, combined_registers, test_registers, has_contrary, arguments_blocks, values_registers, globals_named_in}
-use Rattle.rtl_emit.specs.Sizes.{places_registers, operands_registers, value_insts, condition_insts}
+use Rattle.rtl_emit.specs.Sizes.{condition_registers, condition_blocks, combined_registers, test_registers, has_contrary}
+use Rattle.rtl_emit.specs.Sizes.{operands_registers, value_insts, condition_insts}
 use Rattle.rtl_emit.specs.Sound.{Scope, IsSound, IsSoundSpot, KeepsSound}
 use Rattle.rtl_emit.specs.declared.block.OpenBlock.{OpenBlock}
 use Rattle.rtl_emit.specs.declared.fault.LowerFault.{LowerFault}
@@ -30,17 +28,15 @@ use Rattle.rtl_emit.specs.declared.fault.LowerFault.TheVariants.{Limit}
 use Rattle.rtl_emit.specs.declared.operation.Combination.{Combination}
 use Rattle.rtl_emit.specs.declared.operation.Operation.{Operation}
 use Rattle.rtl_emit.specs.declared.operation.Prefix.TheVariants as P
-use Rattle.rtl_emit.specs.declared.place.Place.{Place}
 use Rattle.rtl_emit.specs.declared.targets.Targets.{Targets}
 use Rattle.rtl_emit.specs.declared.waiting.Waiting.{Waiting}
 use Rattle.rtl_emit.specs.declared.waiting.WaitingForTwo.{WaitingForTwo}
-use Rattle.rtl_emit.proofs.Blocks.{grows_then, within, line_insts, split2, split3}
+use Rattle.rtl_emit.proofs.Blocks.{grows_then, within, line_insts, split2}
 use Rattle.rtl_emit.proofs.Conditions.{not_decides, and_decides, or_decides, not_tests, and_tests, or_tests, IsTest, told}
-use Rattle.rtl_emit.proofs.Conditions.{constant_decides, contrary_decides, conditional_decides, conditional_value}
-use Rattle.rtl_emit.proofs.Emitted.{gives_from, finds_to, unary_is, Over}
-use Rattle.rtl_emit.proofs.Sound.{sound_along, sound_first, sound_exit, sound_line}
+use Rattle.rtl_emit.proofs.Emitted.{gives_from, finds_to, Over}
+use Rattle.rtl_emit.proofs.Sound.{sound_along, sound_first, sound_line}
 use Rattle.rtl_emit.proofs.Values.{number, local_value, global_value, element_value, prefix_value, identity_value}
-use Rattle.rtl_emit.proofs.Values.{operates, operator_value, fetched}
+use Rattle.rtl_emit.proofs.Values.{operates, operator_value}
 
 pub grows_same : (bs : List RBlock) → Grows bs bs
 grows_same bs = record { longer = omega arith; kept = λ i lt. refl }
@@ -111,15 +107,15 @@ part_refused part whole k old mid new Keeps Keeps' Does Does' f r is lr lb lg g 
 
 -- sizes of tests
 
-test_least : (b : Bool) (free p n v : ℕ) → v ≤ test_registers b free p n v
+pub test_least : (b : Bool) (free p n v : ℕ) → v ≤ test_registers b free p n v
 test_least true free p n v = omega arith
 test_least false free p n v = omega arith
 
-test_both : (b : Bool) (free p n v : ℕ) → test_registers b free p n 0 ≤ MAX_REGISTERS → v ≤ MAX_REGISTERS → test_registers b free p n v ≤ MAX_REGISTERS
+pub test_both : (b : Bool) (free p n v : ℕ) → test_registers b free p n 0 ≤ MAX_REGISTERS → v ≤ MAX_REGISTERS → test_registers b free p n v ≤ MAX_REGISTERS
 test_both true free p n v lt lv = omega (arith, lt, lv)
 test_both false free p n v lt lv = omega (arith, lt, lv)
 
-test_beyond : (b : Bool) (free p n v blocks globals : ℕ) → MAX_REGISTERS < test_registers b free p n 0
+pub test_beyond : (b : Bool) (free p n v blocks globals : ℕ) → MAX_REGISTERS < test_registers b free p n 0
     → Beyond (test_registers b free p n v) blocks globals
 test_beyond true free p n v blocks globals more = omega (arith, more)
 test_beyond false free p n v blocks globals more = omega (arith, more)
@@ -132,7 +128,7 @@ pub contrary_test_names : (b : Bool) (free p n m : ℕ) → b ≡ false → test
 contrary_test_names true free p n m is le = absurd (cc)
 contrary_test_names false free p n m is le = (omega (arith, le), omega (arith, le))
 
-contrary_ends : (likely : Bool) → likely ≡ false → (o : BinaryOp) (k : IntegerType) (l r : TypedExpression) (free next : ℕ) → is_logical o ≡ false
+pub contrary_ends : (likely : Bool) → likely ≡ false → (o : BinaryOp) (k : IntegerType) (l r : TypedExpression) (free next : ℕ) → is_logical o ≡ false
     → has_contrary o ≡ true → next ≡ next_free l free
     → max (free + 1) (max (place_registers l free) (place_registers r (next_free l free))) ≤ MAX_REGISTERS
     → Ends (both_size l r free next) (condition_size (binary o k l r) likely free) 0
@@ -145,7 +141,7 @@ contrary_ends false it o k l r free next plain has is room =
       globals = omega arith;
     })
 
-held_names : (l r : TypedExpression) (free p next q last n : ℕ) → IsPlace l free p next → IsPlace r next q last
+pub held_names : (l r : TypedExpression) (free p next q last n : ℕ) → IsPlace l free p next → IsPlace r next q last
     → operands_registers (place_registers l free) (place_registers r (next_free l free)) (value_registers l free) (value_registers r (next_free l free)) ≤ n
     → (p < n) × ((q < n) × ((max (value_registers r next) (value_registers l free) ≤ n)
     × (max (place_registers l free) (place_registers r (next_free l free)) ≤ n)))
@@ -157,7 +153,7 @@ held_names l r free p next q last n pl pr le =
     (omega (arith, pw, le), (omega (arith, qw, qe, le), (omega (arith, ve, le), omega (arith, le))))
 
 -- of the registers of a contrary comparison, the one that is tested and those of its operands
-contrary_names : (likely : Bool) → likely ≡ false → (o : BinaryOp) (k : IntegerType) (l r : TypedExpression) (free n : ℕ) → is_logical o ≡ false
+pub contrary_names : (likely : Bool) → likely ≡ false → (o : BinaryOp) (k : IntegerType) (l r : TypedExpression) (free n : ℕ) → is_logical o ≡ false
     → has_contrary o ≡ true → condition_registers (binary o k l r) likely free ≤ n → max (free + 1) (operands_registers (place_registers l free)
     (place_registers r (next_free l free)) (value_registers l free) (value_registers r (next_free l free))) ≤ n
 contrary_names true it o k l r free n plain has le = absurd (cc)
@@ -166,7 +162,7 @@ contrary_names false it o k l r free n plain has le =
     (place_registers r (next_free l free)) (value_registers l free) (value_registers r (next_free l free))) = rw (plain, has) refl in
     subst (λ m. m ≤ n) is le
 
-contrary_beyond : (likely : Bool) → likely ≡ false → (o : BinaryOp) (k : IntegerType) (l r : TypedExpression) (free b : ℕ) → is_logical o ≡ false
+pub contrary_beyond : (likely : Bool) → likely ≡ false → (o : BinaryOp) (k : IntegerType) (l r : TypedExpression) (free b : ℕ) → is_logical o ≡ false
     → has_contrary o ≡ true → MAX_REGISTERS < max (free + 1) (max (place_registers l free) (place_registers r (next_free l free)))
     → Beyond (condition_registers (binary o k l r) likely free) b (globals_named (binary o k l r))
 contrary_beyond true it o k l r free b plain has more = absurd (cc)
@@ -603,334 +599,3 @@ not_stops old new o k a b d free after f x is prefix ib g limit =
     let by : by_branches a ≡ true = sym ib ∙ prefix.1 in
     subst (λ o. EmitsValue (unary o k a) d free after old new x) (sym prefix.0)
     (truth_stops old new (unary U.Not k a) d free after f x is g (rw by (omega arith)) limit)
-
--- code as a block of its own
-pub block_emits : (old mid new : List RBlock) (size : Size) (Needs Needs' : Scope → Type 0) (Is : List RBlock → Code → Type 0) (code : OpenBlock)
-    (x : Result ℕ LowerFault)
-    → Emits size old mid (λ from. KeepsSound old mid Needs' (λ s. IsSound s (open_code from)) × Adds old mid (insts_of (open_code from)) 0 size.insts)
-    (λ from bs. Is bs (open_code from)) (Ok code) → ((s : Scope) → Covers size s → Needs s → Needs' s)
-    → Grows mid new → OnOk x (length new ≡ length mid + 1) → OnOk x (insts_in new ≡ insts_in mid + insts_of (open_code code)) → IfErr x (λ f. f ≡ Limit → MAX_BLOCKS < length mid + 1)
-    → IfOk x (λ b. KeepsSound mid new (λ s. IsSound s (open_code code)) (λ s. b < s.blocks))
-    → IfOk x (λ b. Over mid new (λ bs. At bs b (open_code code))) → EmitsBlock size Needs Is old new x
-block_emits old mid new size Needs Needs' Is code (Ok b) e needs g n insts limit sound ats =
-    let c : length mid ≡ length old + size.blocks = e.count in
-    record {
-      grows = grows_then old mid new e.grows g;
-      count = omega (arith, c, n);
-      room = e.room;
-      limit = tt;
-      sound = (
-        λ s l gs h.
-            let m = e.sound.0 s (within g l) gs (needs s h.0 h.1) in
-            sound s l m.0 m.1,
-        (let a = e.sound.1 in omega (arith, a, insts)),
-      );
-      does = λ bs h.
-          let p = split2 bs old mid new e.grows g h in
-          (open_code code, ats bs p.1, e.does bs p.0);
-    }
-block_emits old mid new size Needs Needs' Is code (Err f) e needs g n insts limit sound ats =
-    let c : length mid ≡ length old + size.blocks = e.count in
-    record {
-      grows = grows_then old mid new e.grows g;
-      count = tt;
-      room = tt;
-      limit = λ is. let more = limit is in omega (arith, c, more);
-      sound = tt;
-      does = tt;
-    }
-
--- its code is refused
-pub block_stops : {A : Type 0} (old new : List RBlock) (size : Size) (Keeps : A → Type 0) (Does : A → List RBlock → Type 0) (Needs : Scope → Type 0)
-    (Is : List RBlock → Code → Type 0) (f : LowerFault) (x : Result ℕ LowerFault) → x ≡ Err f → Emits size old new Keeps Does (Err f)
-    → EmitsBlock size Needs Is old new x
-block_stops old new size Keeps Does Needs Is f x is e =
-    part_refused size (record { registers = size.registers; blocks = size.blocks + 1; insts = size.insts; globals = size.globals }) 0 old old new Keeps _ Does _ f x is (omega arith)
-    (omega arith) (omega arith) (grows_same old) (omega arith) e
-
--- both sides of `?:` as blocks of their own
-pub record Sides (b0 b2 : List RBlock) (registers blocks insts globals : ℕ) (Needs : Scope → Type 0) (IsYes IsNo : List RBlock → Code → Type 0)
-    (yes_block no_block : ℕ) : Type 0 where
-  pub grows : Grows b0 b2
-  pub count : length b2 ≡ length b0 + (blocks + 2)
-  pub room : registers ≤ MAX_REGISTERS
-  pub sound : KeepsSound b0 b2 (λ s. ((registers ≤ s.registers) × (globals ≤ s.globals)) × Needs s) (λ s. (yes_block < s.blocks) × (no_block < s.blocks))
-  pub adds : Adds b0 b2 0 0 insts
-  pub does : Over b0 b2 (λ bs. ((from : Code) × At bs yes_block from × IsYes bs from) × ((from : Code) × At bs no_block from × IsNo bs from))
-
-pub sides : (b0 b1 b2 : List RBlock) (s1 s2 : Size) (Needs : Scope → Type 0) (IsYes IsNo : List RBlock → Code → Type 0) (yes_block no_block : ℕ)
-    → EmitsBlock s1 Needs IsYes b0 b1 (Ok yes_block) → EmitsBlock s2 Needs IsNo b1 b2 (Ok no_block)
-    → Sides b0 b2 (max s1.registers s2.registers) (s1.blocks + s2.blocks) (s1.insts + s2.insts) (max s1.globals s2.globals) Needs IsYes IsNo
-    yes_block no_block
-sides b0 b1 b2 s1 s2 Needs IsYes IsNo yes_block no_block e1 e2 =
-    let c1 : length b1 ≡ length b0 + (s1.blocks + 1) = e1.count in
-    let c2 : length b2 ≡ length b1 + (s2.blocks + 1) = e2.count in
-    let r1 : s1.registers ≤ MAX_REGISTERS = e1.room in
-    let r2 : s2.registers ≤ MAX_REGISTERS = e2.room in
-    record {
-      grows = grows_then b0 b1 b2 e1.grows e2.grows;
-      count = omega (arith, c1, c2);
-      room = omega (arith, r1, r2);
-      sound = λ s n g h.
-          let left : Covers s1 s = (omega (arith, h.0.0), omega (arith, h.0.1)) in
-          let right : Covers s2 s = (omega (arith, h.0.0), omega (arith, h.0.1)) in
-          let a = e1.sound.0 s (within e2.grows n) g (left, h.1) in
-          let b = e2.sound.0 s n a.0 (right, h.1) in
-          (b.0, (a.1, b.1));
-      adds = (let a = e1.sound.1 in let b = e2.sound.1 in omega (arith, a, b));
-      does = λ bs h.
-          let p = split2 bs b0 b1 b2 e1.grows e2.grows h in
-          (e1.does bs p.0, e2.does bs p.1);
-    }
-
-pub conditional_branches : (b0 b2 new : List RBlock) (k : IntegerType) (c a b : TypedExpression) (t t' : Targets) (free yes_block no_block : ℕ)
-    (x : Result OpenBlock LowerFault) → t' ≡ record { yes = yes_block; no = no_block; likely = true }
-    → Sides b0 b2 (max (condition_size a t.likely free).registers (condition_size b t.likely free).registers)
-    ((condition_size a t.likely free).blocks + (condition_size b t.likely free).blocks) (condition_insts a + condition_insts b)
-    (max (globals_named a) (globals_named b))
-    (λ s. (t.yes < s.blocks) × (t.no < s.blocks)) (λ bs from. Decides bs a free t.yes t.no from) (λ bs from. Decides bs b free t.yes t.no from)
-    yes_block no_block → EmitsBranch (condition_size c t'.likely free) c t' free b2 new x
-    → EmitsBranch (condition_size (conditional k c a b) t.likely free) (conditional k c a b) t free b0 new x
-conditional_branches b0 b2 new k c a b t t' free yes_block no_block x it two last =
-    let last' = subst (λ t. EmitsBranch (condition_size c t.likely free) c t free b2 new x) it last in
-    ended (condition_size c true free) (condition_size (conditional k c a b) t.likely free)
-    ((condition_size a t.likely free).blocks + (condition_size b t.likely free).blocks + 2) b0 b2 new _ _ _ _ x
-    (record { blocks = omega arith; registers = omega arith; room = λ le. omega (arith, le, two.room); globals = omega arith })
-    two.grows two.count
-    (λ from keeps. (
-      λ s n g h.
-          let sides : max (globals_named a) (globals_named b) ≤ s.globals = omega (arith, h.0.1) in
-          let test : globals_named c ≤ s.globals = omega (arith, h.0.1) in
-          let in_sides : max (condition_registers a t.likely free) (condition_registers b t.likely free) ≤ s.registers = omega (arith, h.0.0) in
-          let in_test : condition_registers c true free ≤ s.registers = omega (arith, h.0.0) in
-          let m = two.sound s (within last'.grows n) g ((in_sides, sides), h.1) in
-          keeps.0 s n m.0 ((in_test, test), m.1),
-      (let m = keeps.1 in let n = two.adds in omega (arith, m, n)),
-    ))
-    (λ from does bs h.
-    let p = split2 bs b0 b2 new two.grows last'.grows h in
-    let d = two.does bs p.0 in
-    conditional_decides bs k c a b t.yes t.no yes_block no_block free (open_code from) d.0.0 d.1.0 (does bs p.1)
-    d.0.1 d.1.1 d.0.2 d.1.2) last'
-
--- a side is refused, the first one, or the second one behind it
-pub side_stops : (b0 b1 b2 : List RBlock) (k : IntegerType) (c a b : TypedExpression) (t : Targets) (free yes_block : ℕ) (f : LowerFault)
-    (x : Result OpenBlock LowerFault) → x ≡ Err f → EmitsBranchBlock a t free b0 b1 (Ok yes_block) → EmitsBranchBlock b t free b1 b2 (Err f)
-    → EmitsBranch (condition_size (conditional k c a b) t.likely free) (conditional k c a b) t free b0 b2 x
-side_stops b0 b1 b2 k c a b t free yes_block f x is e1 e2 =
-    let c1 : length b1 ≡ length b0 + (condition_blocks a + 1) = e1.count in
-    part_refused
-    (record { registers = condition_registers b t.likely free; blocks = condition_blocks b + 1; insts = condition_insts b; globals = globals_named b })
-    (condition_size (conditional k c a b) t.likely free) (condition_blocks a + 1) b0 b1 b2 _ _ _ _ f x is (omega arith) (omega arith) (omega arith) e1.grows c1 e2
-
-pub first_side_stops : (b0 b1 : List RBlock) (k : IntegerType) (c a b : TypedExpression) (t : Targets) (free : ℕ) (f : LowerFault)
-    (x : Result OpenBlock LowerFault) → x ≡ Err f → EmitsBranchBlock a t free b0 b1 (Err f)
-    → EmitsBranch (condition_size (conditional k c a b) t.likely free) (conditional k c a b) t free b0 b1 x
-first_side_stops b0 b1 k c a b t free f x is e =
-    part_refused
-    (record { registers = condition_registers a t.likely free; blocks = condition_blocks a + 1; insts = condition_insts a; globals = globals_named a })
-    (condition_size (conditional k c a b) t.likely free) 0 b0 b0 b1 _ _ _ _ f x is (omega arith) (omega arith) (omega arith) (grows_same b0) (omega arith) e
-
--- where a value goes on, as a block
-pub record Joined (old new : List RBlock) (after : Spot) (join : ℕ) : Type 0 where
-  pub grows : Grows old new
-  pub count : length new ≡ length old + joint after
-  pub insts : insts_in new ≡ insts_in old + insts_at after
-  pub sound : KeepsSound old new (λ s. IsSoundSpot s after) (λ s. join < s.blocks)
-  pub lands : Over old new (λ bs. Lands bs join after)
-
-pub conditional_emits : (old b0 b1 b2 new : List RBlock) (k : IntegerType) (c a b : TypedExpression) (t' : Targets) (d free join yes_block no_block : ℕ)
-    (after : Spot) (x : Result OpenBlock LowerFault) → t' ≡ record { yes = yes_block; no = no_block; likely = true } → Joined old b0 after join
-    → EmitsValueBlock a d free join b0 b1 (Ok yes_block) → EmitsValueBlock b d free join b1 b2 (Ok no_block)
-    → EmitsBranch (condition_size c t'.likely free) c t' free b2 new x → EmitsValue (conditional k c a b) d free after old new x
-conditional_emits old b0 b1 b2 new k c a b t' d free join yes_block no_block after x it j yes_side no_side last =
-    let two = sides b0 b1 b2 (value_size a free 0) (value_size b free 0) (λ s. (d < s.registers) × (join < s.blocks))
-    (λ bs from. Evaluates bs a free d from (goto join)) (λ bs from. Evaluates bs b free d from (goto join)) yes_block no_block yes_side no_side in
-    let c2 : length b2 ≡ length b0 + (value_blocks a 0 + value_blocks b 0 + 2) = two.count in
-    let room : max (value_registers a free) (value_registers b free) ≤ MAX_REGISTERS = two.room in
-    let last' = subst (λ t. EmitsBranch (condition_size c t.likely free) c t free b2 new x) it last in
-    ended (condition_size c true free) (value_size (conditional k c a b) free (joint after)) (joint after + (value_blocks a 0 + value_blocks b 0 + 2))
-    old b2 new _ _ _ _ x
-    (record { blocks = omega arith; registers = omega arith; room = λ le. omega (arith, le, room); globals = omega arith })
-    (grows_then old b0 b2 j.grows two.grows) (omega (arith, j.count, c2))
-    (λ from keeps. (
-      λ s n g h.
-          let sides : max (globals_named a) (globals_named b) ≤ s.globals = omega (arith, h.1.0.1) in
-          let test : globals_named c ≤ s.globals = omega (arith, h.1.0.1) in
-          let in_sides : max (value_registers a free) (value_registers b free) ≤ s.registers = omega (arith, h.1.0.0) in
-          let in_test : condition_registers c true free ≤ s.registers = omega (arith, h.1.0.0) in
-          let n2 = within last'.grows n in
-          let at = j.sound s (within two.grows n2) g h.1.1 in
-          let m = two.sound s n2 at.0 ((in_sides, sides), (h.0, at.1)) in
-          keeps.0 s n m.0 ((in_test, test), m.1),
-      (let m = keeps.1 in let n = two.adds in omega (arith, m, n, j.insts)),
-    ))
-    (λ from does bs h.
-    let p = split3 bs old b0 b2 new j.grows two.grows last'.grows h in
-    let m = two.does bs p.1 in
-    conditional_value bs k c a b d join yes_block no_block free (open_code from) after m.0.0 m.1.0 (j.lands bs p.0)
-    m.0.1 m.1.1 (does bs p.2) m.0.2 m.1.2) last'
-
--- of its value: where it goes on is refused, or a side
-pub join_stops : (old new : List RBlock) (k : IntegerType) (c a b : TypedExpression) (d free : ℕ) (after : Spot) (f : LowerFault)
-    (x : Result OpenBlock LowerFault) → x ≡ Err f → new ≡ old → (f ≡ Limit → MAX_BLOCKS < length old + joint after)
-    → EmitsValue (conditional k c a b) d free after old new x
-join_stops old new k c a b d free after f x is same limit =
-    refused (value_size (conditional k c a b) free (joint after)) old new _ _ f x is same (λ l. let more = limit l in omega (arith, more))
-
-pub first_value_stops : (old b0 b1 : List RBlock) (k : IntegerType) (c a b : TypedExpression) (d free join : ℕ) (after : Spot) (f : LowerFault)
-    (x : Result OpenBlock LowerFault) → x ≡ Err f → Joined old b0 after join → EmitsValueBlock a d free join b0 b1 (Err f)
-    → EmitsValue (conditional k c a b) d free after old b1 x
-first_value_stops old b0 b1 k c a b d free join after f x is j e =
-    part_refused (record { registers = value_registers a free; blocks = value_blocks a 0 + 1; insts = value_insts a; globals = globals_named a })
-    (value_size (conditional k c a b) free (joint after)) (joint after) old b0 b1 _ _ _ _ f x is (omega arith) (omega arith) (omega arith) j.grows j.count e
-
-pub value_stops : (old b0 b1 b2 : List RBlock) (k : IntegerType) (c a b : TypedExpression) (d free join yes_block : ℕ) (after : Spot) (f : LowerFault)
-    (x : Result OpenBlock LowerFault) → x ≡ Err f → Joined old b0 after join → EmitsValueBlock a d free join b0 b1 (Ok yes_block)
-    → EmitsValueBlock b d free join b1 b2 (Err f) → EmitsValue (conditional k c a b) d free after old b2 x
-value_stops old b0 b1 b2 k c a b d free join yes_block after f x is j e1 e2 =
-    let c1 : length b1 ≡ length b0 + (value_blocks a 0 + 1) = e1.count in
-    part_refused (record { registers = value_registers b free; blocks = value_blocks b 0 + 1; insts = value_insts b; globals = globals_named b })
-    (value_size (conditional k c a b) free (joint after)) (joint after + (value_blocks a 0 + 1)) old b1 b2 _ _ _ _ f x is (omega arith) (omega arith)
-    (omega arith) (grows_then old b0 b1 j.grows e1.grows) (omega (arith, j.count, c1)) e2
-
--- conditions
-
-pub constant_emits : (old : List RBlock) (e : TypedExpression) (c : Literal) (word : ℕ) (t : Targets) (free : ℕ) (from : OpenBlock) → e ≡ constant c
-    → word ≡ wrap c.value → open_code from ≡ goto (if nat_eq word 0 then t.no else t.yes)
-    → EmitsBranch (condition_size e t.likely free) e t free old old (Ok from)
-constant_emits old e c word t free from is iw fe =
-    subst (λ e. EmitsBranch (condition_size e t.likely free) e t free old old (Ok from)) (sym is) (record {
-      grows = grows_same old;
-      count = omega arith;
-      room = omega arith;
-      limit = tt;
-      sound = (
-        λ s n g h. (g, sound_exit _ fe (either (nat_eq word 0) t.no t.yes s.blocks h.1.1 h.1.0)),
-        (let n = ap insts_of fe in omega (arith, n)),
-      );
-      does = λ bs h. subst (λ f. Decides bs (constant c) free t.yes t.no f) (sym fe)
-          (constant_decides bs c _ t.yes t.no free (ap (λ x. if nat_eq x 0 then t.no else t.yes) iw));
-    })
-  where
-    either : (b : Bool) (n y m : ℕ) → n < m → y < m → (if b then n else y) < m
-    either true n y m ln ly = ln
-    either false n y m ln ly = ly
-
-pub not_branches : (old new : List RBlock) (e : TypedExpression) (o : UnaryOp) (k : IntegerType) (a a' : TypedExpression) (t t' : Targets) (free : ℕ)
-    (x : Result OpenBlock LowerFault) → e ≡ unary o k a → o ≡ U.Not → a' ≡ a → t' ≡ record { yes = t.no; no = t.yes; likely = not t.likely }
-    → EmitsBranch (condition_size a' t'.likely free) a' t' free old new x → EmitsBranch (condition_size e t.likely free) e t free old new x
-not_branches old new e o k a a' t t' free x is io ia it v =
-    let v' = subst (λ t. EmitsBranch (condition_size a' t.likely free) a' t free old new x) it v in
-    subst (λ e. EmitsBranch (condition_size e t.likely free) e t free old new x) (sym (unary_is o U.Not k a a' is io ia))
-    (ended (condition_size a' (not t.likely) free) (condition_size (unary U.Not k a') t.likely free) 0 old old new _ _ _ _ x
-    (record { blocks = omega arith; registers = omega arith; room = λ le. le; globals = omega arith })
-    (grows_same old) (omega arith)
-    (λ from keeps. (λ s n g h. keeps.0 s n g (h.0, (h.1.1, h.1.0)), keeps.1))
-    (λ from does bs h. not_decides bs k a' t.yes t.no free (open_code from) (does bs h)) v')
-
-pub contrary_emits : (old new : List RBlock) (o : BinaryOp) (k : IntegerType) (op : Operation) (l r : TypedExpression) (t : Targets) (free : ℕ)
-    (w : Result WaitingForTwo LowerFault) (x : Result OpenBlock LowerFault)
-    → ComputesContrary o (sign_of k) op → is_logical o ≡ false → has_contrary o ≡ true → t.likely ≡ false
-    → IfOk w (λ w. IsPlace l free w.first.register w.first.free) → IfOk w (λ w. IsPlace r w.first.free w.second.register w.second.free)
-    → IfOk w (λ w. open_code w.code ≡ first (inst_of op free w.first.register w.second.register) (exit_code (X.Branch free t.no t.yes)))
-    → IfOk w (λ w. (s : Scope) → max (free + 1) (max (place_registers l free) (place_registers r (next_free l free))) ≤ s.registers
-    → t.yes < s.blocks → t.no < s.blocks → IsSound s (open_code w.code))
-    → OnOk w (max (free + 1) (max (place_registers l free) (place_registers r (next_free l free))) ≤ MAX_REGISTERS)
-    → IfErr w (λ f. f ≡ Limit → MAX_REGISTERS < max (free + 1) (max (place_registers l free) (place_registers r (next_free l free))))
-    → IfOk w (λ w. EmitsBoth l r free w.first.register w.first.free w.second.register w.code old new x)
-    → IfErr w (λ f. (x ≡ Err f) × (new ≡ old)) → EmitsBranch (condition_size (binary o k l r) t.likely free) (binary o k l r) t free old new x
-contrary_emits old new o k op l r t free (Ok w) x tests plain has unlikely pl pr fw sound room limit two err =
-    ended (both_size l r free w.first.free) (condition_size (binary o k l r) t.likely free) 0 old old new _ _ _ _ x
-    (contrary_ends t.likely unlikely o k l r free w.first.free plain has pl.next_is room) (grows_same old) (omega arith)
-    (λ from keeps. (
-      λ s n g h.
-          let all = contrary_names t.likely unlikely o k l r free s.registers plain has h.0.0 in
-          let few = held_names l r free _ _ _ _ s.registers pl pr (omega (arith, all)) in
-          let places = few.1.1.1 in
-          let tested : max (free + 1) (max (place_registers l free) (place_registers r (next_free l free))) ≤ s.registers = omega (arith, all, places) in
-          keeps.0 s n g (few.0, (few.1.0, ((few.1.1.0, h.0.1), sound s tested h.1.0 h.1.1))),
-      (let m = keeps.1 in
-          let all : condition_insts (binary o k l r) ≡ value_insts r + value_insts l + 1 + 2 = rw plain refl in
-          let n = ap insts_of fw in
-          omega (arith, m, all, n)),
-    ))
-    (λ from does bs h.
-    let m = does bs h in
-    contrary_decides bs o k op l r free t.yes t.no free (open_code from) tests (omega arith)
-    (operates bs op l r free free w.first.register w.first.free w.second.register w.second.free (open_code from) m.0 _ pl pr m.1 (finds_to fw m.2))) two
-contrary_emits old new o k op l r t free (Err f) x tests plain has unlikely pl pr fw sound room limit two err =
-    refused (condition_size (binary o k l r) t.likely free) old new _ _ f x err.0 err.1
-    (λ is. contrary_beyond t.likely unlikely o k l r free (length old + condition_blocks (binary o k l r)) plain has (limit is))
-
-pub test_emits : (old new : List RBlock) (e : TypedExpression) (t : Targets) (free : ℕ) (w : Result Waiting LowerFault) (x : Result OpenBlock LowerFault)
-    → IfOk w (λ w. IsPlace e free w.place.register w.place.free)
-    → OnOk w (test_registers t.likely free (place_registers e free) (next_free e free) 0 ≤ MAX_REGISTERS)
-    → IfOk w (λ w. (bs : List RBlock) (from : Code) → Fetches bs e free w.place.register from (open_code w.code) → Decides bs e free t.yes t.no from)
-    → IfOk w (λ w. insts_of (open_code w.code) ≤ 2)
-    → IfOk w (λ w. (s : Scope) → test_registers t.likely free (place_registers e free) (next_free e free) 0 ≤ s.registers
-    → t.yes < s.blocks → t.no < s.blocks → IsSound s (open_code w.code))
-    → IfErr w (λ f. f ≡ Limit → MAX_REGISTERS < test_registers t.likely free (place_registers e free) (next_free e free) 0)
-    → IfOk w (λ w. EmitsOperand e w.place.register free w.code old new x) → IfErr w (λ f. (x ≡ Err f) × (new ≡ old))
-    → EmitsBranch (test_size e t.likely free) e t free old new x
-test_emits old new e t free (Ok w) x pl room does insts sound limit v err =
-    ended (value_size e free 1) (test_size e t.likely free) 0 old old new _ _ _ _ x
-    (record {
-      blocks = omega arith;
-      registers = test_least t.likely free (place_registers e free) (next_free e free) (value_registers e free);
-      room = λ le. test_both t.likely free (place_registers e free) (next_free e free) (value_registers e free) room le;
-      globals = omega arith;
-    })
-    (grows_same old) (omega arith)
-    (λ from keeps. (
-      λ s n g h.
-          let few = test_names t.likely free (place_registers e free) (next_free e free) (value_registers e free) s.registers h.0.0 in
-          let held : w.place.register < s.registers = (let p = pl.counted in let q = few.0 in omega (arith, p, q)) in
-          keeps.0 s n g (held, ((few.1.0, h.0.1), sound s few.1.1 h.1.0 h.1.1)),
-      (let m = keeps.1 in omega (arith, m, insts)),
-    ))
-    (λ from made bs h. does bs (open_code from) (made bs h)) v
-test_emits old new e t free (Err f) x pl room does insts sound limit v err =
-    refused (test_size e t.likely free) old new _ _ f x err.0 err.1
-    (λ is. test_beyond t.likely free (place_registers e free) (next_free e free) (value_registers e free) (length old + value_blocks e 1) (globals_named e) (limit is))
-
-pub operand_emits : (old new : List RBlock) (e : TypedExpression) (p free : ℕ) (after : OpenBlock) (x : Result OpenBlock LowerFault)
-    → EmitsValue e p free (Line (open_code after)) old new x → EmitsOperand e p free after old new x
-operand_emits old new e p free after x v =
-    ended (value_size e free 1) (value_size e free 1) 0 old old new _ _ _ _ x
-    (record { blocks = omega arith; registers = omega arith; room = λ le. le; globals = omega arith })
-    (grows_same old) (omega arith)
-    (λ from keeps. keeps)
-    (λ from does bs h. fetched bs e free p (open_code from) (open_code after) (does bs h)) v
-
--- the operands of a list
-pub operands_emits : (old mid new : List RBlock) (all es : List TypedExpression) (e : TypedExpression) (ps ps2 : List Place) (p : Place) (free : ℕ)
-    (after middle : OpenBlock) (x : Result OpenBlock LowerFault) → all ≡ e ∷ es → ps ≡ p ∷ ps2 → ArePlaces all free ps
-    → EmitsOperands es ps2 p.free after old mid (Ok middle) → EmitsOperand e p.register free middle mid new x
-    → EmitsOperands all ps free after old new x
-operands_emits old mid new all es e ps ps2 p free after middle x ia ip are rest one =
-    let both : ArePlaces (e ∷ es) free (p ∷ ps2) = subst (λ ps. ArePlaces (e ∷ es) free ps) ip (subst (λ all. ArePlaces all free ps) ia are) in
-    let c1 : length mid ≡ length old + arguments_blocks es = rest.count in
-    let room : values_registers es (next_free e free) ≤ MAX_REGISTERS = subst (λ n. values_registers es n ≤ MAX_REGISTERS) both.0.next_is rest.room in
-    subst (λ all. EmitsOperands all ps free after old new x) (sym ia) (subst (λ ps. EmitsOperands (e ∷ es) ps free after old new x) (sym ip)
-    (ended (value_size e free 1) (values_size (e ∷ es) free) (arguments_blocks es) old mid new _ _ _ _ x
-    (record { blocks = omega arith; registers = omega arith; room = λ le. omega (arith, le, room); globals = omega arith })
-    rest.grows c1
-    (λ from keeps. (
-      λ s n g h.
-          let pw = both.0.counted in
-          let pe = ap (places_registers es) both.0.next_is in
-          let ve = ap (values_registers es) both.0.next_is in
-          let held : p.register < s.registers = omega (arith, pw, h.0) in
-          let places : places_registers es p.free ≤ s.registers = omega (arith, pe, h.0) in
-          let in_rest : values_registers es p.free ≤ s.registers = omega (arith, ve, h.1.0.0) in
-          let in_one : value_registers e free ≤ s.registers = omega (arith, h.1.0.0) in
-          let of_rest : globals_named_in es ≤ s.globals = omega (arith, h.1.0.1) in
-          let of_one : globals_named e ≤ s.globals = omega (arith, h.1.0.1) in
-          let m = rest.sound.0 s (within one.grows n) g (places, ((in_rest, of_rest), h.1.1)) in
-          keeps.0 s n m.0 (held, ((in_one, of_one), m.1)),
-      (let m = keeps.1 in let n = rest.sound.1 in omega (arith, m, n)),
-    ))
-    (λ from does bs h.
-    let t = split2 bs old mid new rest.grows one.grows h in
-    (open_code middle, does bs t.1, rest.does bs t.0)) one))

@@ -6,4 +6,5 @@ pub mod Conditions
 pub mod Emitted
 pub mod Sound
 pub mod Emitting
+pub mod EmittingBranches
 mod Weights

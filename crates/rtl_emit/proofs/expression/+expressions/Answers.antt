@@ -5,9 +5,11 @@ use Rattle.rtl_emit.specs.Blocks.{spot}
 use Rattle.rtl_emit.specs.Emits.{value_size, condition_size}
 use Rattle.rtl_emit.proofs.Emitted.{element_is, unary_is, binary_is, conditional_is}
 use Rattle.rtl_emit.proofs.Emitting.{value_along, branch_along, element_emits, prefix_emits, identity_emits, not_emits, not_stops, told_emits, told_stops}
-use Rattle.rtl_emit.proofs.Emitting.{both_emits, both_stops, operator_emits, block_emits, block_stops, join_stops, first_value_stops, value_stops}
-use Rattle.rtl_emit.proofs.Emitting.{conditional_emits, constant_emits, not_branches, logical_branches, logical_stops, conditional_branches, sides}
-use Rattle.rtl_emit.proofs.Emitting.{first_side_stops, side_stops, contrary_emits, test_emits, operand_emits}
+use Rattle.rtl_emit.proofs.Emitting.{both_emits, both_stops, operator_emits}
+use Rattle.rtl_emit.proofs.EmittingBranches.{block_emits, block_stops, join_stops, first_value_stops, value_stops}
+use Rattle.rtl_emit.proofs.Emitting.{logical_branches, logical_stops}
+use Rattle.rtl_emit.proofs.EmittingBranches.{conditional_emits, constant_emits, not_branches, conditional_branches, sides}
+use Rattle.rtl_emit.proofs.EmittingBranches.{first_side_stops, side_stops, contrary_emits, test_emits, operand_emits}
 use Rattle.rtl_emit.proofs.Weights.{element_weight, unary_weight, binary_weight, conditional_weight}
 use Rattle.rtl_emit.proofs.expression.+expressions.Goals as goal
 
