@@ -1,5 +1,5 @@
 -- Files that are checked one after another.
-use Rattle.std.proofs.Common.{◌≡◌, ℕ, zero, suc, ◌+◌, ◌<◌, ◌≤◌, List, [], ◌∷◌, ◌++◌, All, Bool, Option, None, map, fold, refl, sym, ◌∙◌, ap, subst, append-nil, append_assoc, codes, length, length-drop, take, drop, set, get_or, Bor, arith}
+use Rattle.std.proofs.Common.{◌≡◌, ℕ, zero, suc, ◌+◌, ◌<◌, ◌≤◌, List, [], ◌∷◌, ◌++◌, All, Bool, Option, None, map, fold, ◌^◌, refl, sym, ◌∙◌, ap, subst, append-nil, append_assoc, codes, length, length-drop, take, drop, set, get_or, Bor, arith}
 use Rattle.std.specs.List.{AllZip, FoldsTo, flat_map}
 use Rattle.std.specs.Io.KnownBytes.{Appends, Keeps}
 use Rattle.std.proofs.KnownBytes.{Appends-kept, Appends-nil, Appends-trans}
@@ -13,9 +13,10 @@ use Rattle.commands.specs.Texts.{IsShown, host_fault_text, shown_name}
 use Rattle.commands.specs.declared.fault.HostFault.TheVariants.{CannotWrite}
 use Rattle.commands.proofs.Told.{folds_on, line_on, lines_on}
 use Rattle.commands.proofs.Shown.{host_fault}
+use Rattle.check_report.proofs.Counts.{kept_totals}
 use Rattle.check_report.proofs.FaultsShown.{of_files}
-use Rattle.check_report.specs.Line.{AreRead, IsChecked, IsReading, line_text, said_text, totals_said}
-use Rattle.check_report.specs.Several.{BreaksOff, CheckedFile, ChecksAll, IsRight, Reads, faults_of, first_told, lines_of, name_of, no_totals, request_of, said_of, status_of, totals_after, totals_text, worse}
+use Rattle.check_report.specs.Line.{AreRead, IsChecked, IsReading, kept_after, line_text, said_text, totals_said}
+use Rattle.check_report.specs.Several.{BreaksOff, CheckedFile, ChecksAll, IsRight, Reads, faults_of, first_told, lines_of, name_of, no_totals, request_of, said_of, status_of, totals_text, worse}
 use Rattle.check_report.specs.declared.totals.Totals.{Totals}
 use Rattle.check_report.specs.Several.BreaksOff.{breaks}
 use Rattle.check_report.specs.Stretch.{AreChecked, AreCutOff, BreaksStretch, ShowsStretch}
@@ -88,9 +89,9 @@ read_behind (suc k) (m ∷ ns) (y ∷ xs) (s ∷ rs) h = read_behind k ns xs rs 
 -- ---- totals
 
 -- their status is the worst
-worst_of : (t : Totals) (files : List CheckedFile) → (fold totals_after t files).status ≡ fold worse t.status (map status_of files)
+worst_of : (t : Totals) (files : List CheckedFile) → (fold kept_after t files).status ≡ fold worse t.status (map status_of files)
 worst_of t [] = refl
-worst_of t (file ∷ files) = worst_of (totals_after t file) files
+worst_of t (file ∷ files) = worst_of (kept_after t file) files
 
 -- ---- what was said
 
@@ -111,7 +112,7 @@ module _ {E : Type 0} (tells : E → List ℕ → E → Type 0) (explain : Bool)
         (Appends-trans o p q (flat_map lines_of a.files) (flat_map lines_of b.files) a.took b.took);
     told = subst (λ (ts : List (List ℕ)). FoldsTo (TellsLine tells) c ts e) (sym (flat_map-append faults_of a.files b.files))
         (folds_on (TellsLine tells) c d e (flat_map faults_of a.files) (flat_map faults_of b.files) a.told b.told);
-    counted = b.counted ∙ (ap (λ (w : Totals). fold totals_after w b.files) a.counted ∙ sym (fold-append totals_after t a.files b.files));
+    counted = b.counted ∙ (ap (λ (w : Totals). fold kept_after w b.files) a.counted ∙ sym (fold-append kept_after t a.files b.files));
   }
 
   printed : (r : Request) (d e : E) (name : List ℕ) (line : FileLine) (one : IsChecked r tells d e explain name line)
@@ -215,11 +216,13 @@ module _ {F E : Type 0} (answers : F → Request → F → Type 0) (tells : E �
   )
 
   -- all of them, and then the totals
-  pub all_checked : (f g : F) (o p q : Option (List ℕ)) (c d e : E) (ns all : List (List ℕ)) (t : Totals) (n : ℕ) → ns ≡ all → length all ≡ n
+  pub all_checked : (f g : F) (o p q : Option (List ℕ)) (c d e : E) (ns all : List (List ℕ)) (t : Totals) (n : ℕ) → ns ≡ all → length all ≡ n → n < 2 ^ 64
       → ShowsStretch answers f g o p tells c d explain ns no_totals t → Keeps p q → tells d (totals_text n t ++ 10 ∷ []) e
       → ChecksAll answers f g o q tells c e explain all t.status
-  all_checked f g o p q c d e ns all t n same long shown kept told =
+  all_checked f g o p q c d e ns all t n same long few shown kept told =
       let these = shown.2 in
+      let counts = these.counted ∙ kept_totals these.files (subst (λ (m : ℕ). m < 2 ^ 64)
+          (sym long ∙ (ap (λ (xs : List (List ℕ)). length xs) (sym (these.named ∙ same)) ∙ length-map these.files name_of)) few) in
       record {
         files = these.files;
         right = these.right;
@@ -229,7 +232,7 @@ module _ {F E : Type 0} (answers : F → Request → F → Type 0) (tells : E �
         told = (
           d,
           these.told,
-          subst (λ (u : Totals). tells d (totals_text (length all) u ++ 10 ∷ []) e) these.counted
+          subst (λ (u : Totals). tells d (totals_text (length all) u ++ 10 ∷ []) e) counts
               (subst (λ (m : ℕ). tells d (totals_text m t ++ 10 ∷ []) e) (sym long) told),
         );
         ends = ap (λ (u : Totals). u.status) these.counted ∙ worst_of no_totals these.files;

@@ -4,7 +4,6 @@ use Rattle.std.specs.List.{flat_map}
 use Rattle.std.proofs.lemmas.List.Elements.{All-append, All-cons, All-head, All-nil, All-tail}
 use Rattle.commands.specs.Requests.{reading_fault}
 use Rattle.commands.specs.Texts.{IsShown, host_fault_text}
-use Rattle.commands.specs.declared.fault.HostFault.{HostFault}
 use Rattle.commands.specs.declared.fault.HostFault.TheVariants.{NoMemory}
 use Rattle.commands.proofs.Shown.{host_fault}
 use Rattle.check_command.specs.Texts.{check_fault_text}

@@ -1,3 +1,4 @@
 pub mod FaultsShown
 pub mod OneReading
+pub mod Counts
 pub mod EachFile

@@ -1,5 +1,5 @@
 -- What is read and said of one of several files, as private functions see it.
-use Rattle.std.specs.Prelude.{◌≡◌, ◌<◌, ◌^◌, ◌⊎◌, ℕ, List, [], ◌∷◌, ◌++◌, Bool, true, ⊤, codes, length, get_or}
+use Rattle.std.specs.Prelude.{◌≡◌, ◌<◌, ◌+◌, ◌-◌, ◌^◌, ◌⊎◌, ℕ, min, List, [], ◌∷◌, ◌++◌, Bool, true, ⊤, codes, length, get_or}
 use Rattle.std.specs.List.{FoldsTo}
 use Rattle.commands.specs.Requests.{Request, TellsLine, reading_fault}
 use Rattle.commands.specs.Requests.Request.{Read, NotRead}
@@ -8,7 +8,8 @@ use Rattle.commands.specs.declared.files.FileFault.{FileFault}
 use Rattle.commands.specs.declared.fault.HostFault.TheVariants.{NoMemory}
 use Rattle.check_command.specs.Checks.{IsAnswerTo, IsCheckFault}
 use Rattle.check_report.specs.Command.{IsMore}
-use Rattle.check_report.specs.Several.{CheckedFile, IsRight, count_answer, count_fault, faults_of, more_of, name_of, request_of, said_of, totals_after, worse}
+use Rattle.check_report.specs.Several.{CheckedFile, IsRight, faults_of, more_of, name_of, request_of, said_of, status_of, worse}
+use Rattle.check_report.specs.Several.CheckedFile.{Answered, Unexplained, Faulty, Unread}
 use Rattle.check_report.specs.declared.totals.Totals.{Totals}
 use Rattle.check_command.specs.Texts.{answer_text, check_fault_text, exit_status}
 use Rattle.check_report.specs.declared.readings.Reading.{Reading}
@@ -17,6 +18,7 @@ use Rattle.check_report.specs.declared.said.Said.{Said}
 use Rattle.check_report.specs.declared.said.Said.TheVariants as says
 use Rattle.check_report.specs.declared.said.FileLine.{FileLine}
 use Rattle.check_command.specs.declared.verdicts.CheckAnswer.{CheckAnswer}
+use Rattle.check_command.specs.declared.verdicts.CheckAnswer.TheVariants as answers
 use Rattle.check_command.specs.declared.verdicts.CheckFault.TheVariants.{Size}
 
 -- what was read of the file of this name, by this request
@@ -63,11 +65,33 @@ said_status (says.Answer answer) = exit_status answer
 said_status (says.Text fault) = 1
 said_status (says.Host fault) = 1
 
+-- a count as it is kept, in 64 bits: one more, or the greatest
+abbrev pub one_more : ℕ → ℕ
+one_more n = min (n + 1) (2 ^ 64 - 1)
+
+abbrev pub keep_answer : CheckAnswer → Totals → Totals
+keep_answer answers.Same t = record t { same = one_more t.same }
+keep_answer (answers.Unclean rule) t = record t { unclean = one_more t.unclean }
+keep_answer (answers.Differs place) t = record t { differs = one_more t.differs }
+keep_answer answers.Full t = record t { full = one_more t.full }
+
+abbrev pub keep_fault : Totals → Totals
+keep_fault t = record t { faulty = one_more t.faulty }
+
+abbrev pub keep_file : CheckedFile → Totals → Totals
+keep_file (Answered name text answer more) t = keep_answer answer t
+keep_file (Unexplained name text answer) t = keep_fault t
+keep_file (Faulty name text fault) t = keep_fault t
+keep_file (Unread name fault) t = keep_fault t
+
+abbrev pub kept_after : Totals → CheckedFile → Totals
+kept_after t file = record (keep_file file t) { status = worse t.status (status_of file) }
+
 -- the totals with one more file, of which this is said
 abbrev pub count_said : Said → Totals → Totals
-count_said (says.Answer answer) t = count_answer answer t
-count_said (says.Text fault) t = count_fault t
-count_said (says.Host fault) t = count_fault t
+count_said (says.Answer answer) t = keep_answer answer t
+count_said (says.Text fault) t = keep_fault t
+count_said (says.Host fault) t = keep_fault t
 
 abbrev pub totals_said : Totals → Said → Totals
 totals_said t said = record (count_said said t) { status = worse t.status (said_status said) }
@@ -86,7 +110,7 @@ pub record IsChecked {E : Type 0} (request : Request) (tells : E → List ℕ �
   pub told : FoldsTo (TellsLine tells) err_old (faults_of file) err_new
   pub said : said_text line.said ≡ said_of file
   pub more : line.more.items ≡ more_of file
-  pub counted : (t : Totals) → totals_said t line.said ≡ totals_after t file
+  pub counted : (t : Totals) → totals_said t line.said ≡ kept_after t file
 
 -- what the line of an answer says: the answer, with the lines behind it, or that memory was refused to these
 abbrev pub IsAnswerLine : {E : Type 0} → (E → List ℕ → E → Type 0) → E → E → (explain : Bool) → CheckAnswer → FileLine → Type 0

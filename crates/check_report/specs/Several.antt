@@ -1,6 +1,6 @@
 -- What `mcc check FILE FILE ..` asks of its files, prints and ends by.
 use Rattle.std.specs.Prelude.{◌≡◌, ◌==◌, ◌||◌, ◌≤◌, if◌then◌else◌, ℕ, List, [], ◌∷◌, ◌++◌, All, Bool, true, Option, ⊤}
-use Rattle.std.specs.Prelude.{◌+◌, ◌-◌, ◌^◌, map, fold, length, max, min, codes, decimal}
+use Rattle.std.specs.Prelude.{◌+◌, map, fold, length, max, codes, decimal}
 use Rattle.std.specs.List.{AllZip, FoldsTo, flat_map}
 use Rattle.std.specs.Io.KnownBytes.{Appends}
 use Rattle.commands.specs.Requests.{Request, TellsLine, reading_fault}
@@ -80,19 +80,15 @@ worse a b = if a == 1 || b == 1 then 1 else max a b
 abbrev pub no_totals : Totals
 no_totals = record { status = 0; same = 0; unclean = 0; differs = 0; full = 0; faulty = 0 }
 
--- one more, or the greatest count
-abbrev pub one_more : ℕ → ℕ
-one_more n = min (n + 1) (2 ^ 64 - 1)
-
 -- the counts with one more file: by its answer, or with a fault
 abbrev pub count_answer : CheckAnswer → Totals → Totals
-count_answer answers.Same t = record t { same = one_more t.same }
-count_answer (answers.Unclean rule) t = record t { unclean = one_more t.unclean }
-count_answer (answers.Differs place) t = record t { differs = one_more t.differs }
-count_answer answers.Full t = record t { full = one_more t.full }
+count_answer answers.Same t = record t { same = t.same + 1 }
+count_answer (answers.Unclean rule) t = record t { unclean = t.unclean + 1 }
+count_answer (answers.Differs place) t = record t { differs = t.differs + 1 }
+count_answer answers.Full t = record t { full = t.full + 1 }
 
 abbrev pub count_fault : Totals → Totals
-count_fault t = record t { faulty = one_more t.faulty }
+count_fault t = record t { faulty = t.faulty + 1 }
 
 abbrev pub count_file : CheckedFile → Totals → Totals
 count_file (Answered name text answer more) t = count_answer answer t

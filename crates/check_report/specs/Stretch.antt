@@ -3,7 +3,8 @@ use Rattle.std.specs.Prelude.{◌≡◌, ◌≤◌, ℕ, List, ◌++◌, All, Bo
 use Rattle.std.specs.List.{AllZip, FoldsTo, flat_map}
 use Rattle.std.specs.Io.KnownBytes.{Appends}
 use Rattle.commands.specs.Requests.{Request, TellsLine}
-use Rattle.check_report.specs.Several.{CheckedFile, IsRight, Reads, faults_of, lines_of, name_of, request_of, totals_after}
+use Rattle.check_report.specs.Several.{CheckedFile, IsRight, Reads, faults_of, lines_of, name_of, request_of}
+use Rattle.check_report.specs.Line.{kept_after}
 use Rattle.check_report.specs.declared.totals.Totals.{Totals}
 
 -- files that were read by these requests have their lines; the totals have them too
@@ -15,7 +16,7 @@ pub record AreChecked {E : Type 0} (requests : List Request) (out_old out_new : 
   pub asked : map request_of files ≡ requests
   pub took : Appends out_old out_new (flat_map lines_of files)
   pub told : FoldsTo (TellsLine tells) err_old (flat_map faults_of files) err_new
-  pub counted : after ≡ fold totals_after before files
+  pub counted : after ≡ fold kept_after before files
 
 -- standard output was refused behind some of the files that were read by these requests
 pub record AreCutOff {E : Type 0} (requests : List Request) (tells : E → List ℕ → E → Type 0) (err_old err_new : E) (explain : Bool)

@@ -2,8 +2,8 @@
 
 ghost use Rattle.std.specs.Prelude.{◌≡◌, Some};
 ghost use Rattle.check_command.specs.Texts.{IsCheckStatus};
-ghost use Rattle.check_report.specs.Line.{totals_said};
-ghost use Rattle.check_report.specs.Several.{count_fault, no_totals, totals_text, worse};
+ghost use Rattle.check_report.specs.Line.{keep_fault, totals_said};
+ghost use Rattle.check_report.specs.Several.{no_totals, totals_text, worse};
 ghost use Rattle.check_report.specs.declared.said.Said.TheVariants as says;
 
 use crate::said::Said;
@@ -77,7 +77,7 @@ impl Totals {
     /// With one more fault.
     fn with_fault(self) -> Totals
         requires { IsCheckStatus self.status }
-        ensures totals { result ≡ record (count_fault self) { status = worse self.status 1 } }
+        ensures totals { result ≡ record (keep_fault self) { status = worse self.status 1 } }
         ensures possible { IsCheckStatus result.status }
     {
         let mut totals = self;

@@ -77,6 +77,6 @@ returns-in-Ok-clause-each g c =
     let all = map (λ (s : Bor (List ℕ)). s.now) c.args.names.now in
     inl (
       all_checked g.F.Files.answers g.E.Complaints.tells c.args.explain _ _ _ _ _ _ _ _ was.4.0 all c.loop-stretch.totals (length c.args.names.now)
-          (names_end was.4.0 _ all c.in-None.ensures.steps.1.0 was.4.1) (length-map c.args.names.now (λ (s : Bor (List ℕ)). s.now)) was.4.2 c.send.ensures.bytes c.line.ensures,
+          (names_end was.4.0 _ all c.in-None.ensures.steps.1.0 was.4.1) (length-map c.args.names.now (λ (s : Bor (List ℕ)). s.now)) c.well_formed.1.1.0.0 was.4.2 c.send.ensures.bytes c.line.ensures,
       (_, c.in-Ok.ensures.sent),
     )
