@@ -1,6 +1,6 @@
 // What is told of the faults of files and of standard output: their lines, and below them which file and why.
 
-ghost use Rattle.std.specs.Prelude.{◌≡◌, All, IfOk, IfSome};
+ghost use Rattle.std.specs.Prelude.{◌≡◌, All, IfSome};
 ghost use Rattle.commands.specs.Requests.{TellsBeside, TellsLine};
 ghost use Rattle.commands.specs.Texts.{IsShown, host_fault_text};
 
@@ -42,44 +42,46 @@ fn show_file<E: Complaints>(alloc: Global, err: &mut E, about: &FileError<'_>)
     }
 }
 
-/// Tells why a file can't be read.
+/// Tells the fault of a file, and below it what is wrong with the file; of refused memory the line alone.
+fn tell_host<E: Complaints>(
+    alloc: Global,
+    err: &mut E,
+    about: &FileError<'_>,
+    fault: HostFault,
+) -> u8
+    ensures status { result ≡ 1 }
+    ensures told { TellsLine E.tells err.old (host_fault_text fault) err.new }
+{
+    match fault {
+        HostFault::CannotRead | HostFault::CannotWrite => tell_file(alloc, err, &fault, about),
+        HostFault::NoMemory => tell(err, &fault),
+    }
+}
+
+/// Tells why a file isn't read.
 pub fn tell_unread<E: Complaints>(alloc: Global, err: &mut E, file: &str, fault: HostFault) -> u8
     ensures status { result ≡ 1 }
     ensures told { TellsLine E.tells err.old (host_fault_text fault) err.new }
 {
-    match fault {
-        HostFault::CannotRead => tell_file(
-            alloc,
-            err,
-            &fault,
-            &FileError {
-                file,
-                message: "this file can't be read",
-                hint: None,
-            },
-        ),
-        HostFault::CannotWrite | HostFault::NoMemory => tell(err, &fault),
-    }
+    let about = FileError {
+        file,
+        message: "this file can't be read",
+        hint: None,
+    };
+    tell_host(alloc, err, &about, fault)
 }
 
-/// Tells why an image can't be written.
+/// Tells why an image isn't written.
 pub fn tell_unwritten<E: Complaints>(alloc: Global, err: &mut E, file: &str, fault: HostFault) -> u8
     ensures status { result ≡ 1 }
     ensures told { TellsLine E.tells err.old (host_fault_text fault) err.new }
 {
-    match fault {
-        HostFault::CannotWrite => tell_file(
-            alloc,
-            err,
-            &fault,
-            &FileError {
-                file,
-                message: "the image can't be written",
-                hint: None,
-            },
-        ),
-        HostFault::CannotRead | HostFault::NoMemory => tell(err, &fault),
-    }
+    let about = FileError {
+        file,
+        message: "the image can't be written",
+        hint: None,
+    };
+    tell_host(alloc, err, &about, fault)
 }
 
 /// What is told below a refusal of standard output.
