@@ -251,6 +251,6 @@ pub fn mcc<T: Threads + Wait + Sync, F: Files, W: Output, E: Complaints>(
             };
             show_source(alloc, asked, source, files, out, err)
         }
-        Err(error) => tell_words(&error, out, err),
+        Err(error) => tell_words(alloc, &error, out, err),
     }
 }
