@@ -248,6 +248,6 @@ pub fn mcc<T: Threads + Wait + Sync, F: Files, W: Output, E: Complaints>(
             show_source(alloc, asked, source, files, out, err)
         }
         Ok(Command::NoChoice { choice, value }) => tell_choice(alloc, err, choice, value),
-        Err(error) => tell_words(&error, out, err),
+        Err(error) => tell_words(alloc, &error, out, err),
     }
 }
