@@ -5,8 +5,14 @@ use Rattle.clap.specs.Words.{App, Row, Rule, Text, all_of, first_of, one_of, new
 use Rattle.clap.specs.declared.builder.ArgAction.TheVariants.{Append, Set, SetTrue}
 use Rattle.clap.specs.declared.builder.value_parser.ValueParser.TheVariants as parsers
 use Rattle.term_table.specs.declared.limits.TheConstants.{MAX_PASSES, MAX_NODES, MAX_HEADS}
+use Rattle.commands.specs.declared.numbers.WordForm.{WordForm}
+use Rattle.commands.specs.declared.numbers.WordForm.TheVariants as forms
+use Rattle.command_line.specs.declared.command.Choice.{Choice}
+use Rattle.command_line.specs.declared.command.Choice.TheVariants as choices
+use Rattle.command_line.specs.declared.command.Level.{Level}
+use Rattle.command_line.specs.declared.command.Level.TheVariants as levels
 use Rattle.command_line.specs.declared.command.Command.{Command}
-use Rattle.command_line.specs.declared.command.Command.TheVariants.{Check, CheckEach, Interp, Build, Run, List as Listing, Show}
+use Rattle.command_line.specs.declared.command.Command.TheVariants.{Check, CheckEach, Interp, Build, Run, List as Listing, NoChoice, Show}
 
 -- an argument by its place, which must be there
 abbrev pub required_rule : Text → Rule
@@ -40,8 +46,9 @@ abbrev pub check_app : App
 check_app = with_rule (with_rule (new_app (codes "check")) (several_rule (codes "FILE"))) (flag_rule (codes "explain"))
 
 abbrev pub interp_app : App
-interp_app = with_rule (with_rule (with_rule (new_app (codes "interp")) (required_rule (codes "SOURCE")))
-    (number_rule (codes "depth") 1 4096)) (number_rule (codes "steps") 0 4294967295)
+interp_app = with_rule (with_rule (with_rule (with_rule (with_rule (with_rule (new_app (codes "interp"))
+    (required_rule (codes "SOURCE"))) (number_rule (codes "depth") 1 4096)) (number_rule (codes "steps") 0 4294967295))
+    (text_rule (codes "at"))) (text_rule (codes "as"))) (flag_rule (codes "count"))
 
 abbrev pub build_app : App
 build_app = with_rule (with_rule (with_rule (with_rule (with_rule (with_rule (with_rule (new_app (codes "build"))
@@ -50,14 +57,15 @@ build_app = with_rule (with_rule (with_rule (with_rule (with_rule (with_rule (wi
     (number_rule (codes "nodes") 1 MAX_NODES)) (number_rule (codes "heads") 1 MAX_HEADS)
 
 abbrev pub run_app : App
-run_app = with_rule (with_rule (new_app (codes "run")) (required_rule (codes "IMAGE"))) (number_rule (codes "steps") 0 4294967295)
+run_app = with_rule (with_rule (with_rule (with_rule (new_app (codes "run")) (required_rule (codes "IMAGE")))
+    (number_rule (codes "steps") 0 4294967295)) (text_rule (codes "as"))) (flag_rule (codes "count"))
 
 abbrev pub list_app : App
 list_app = with_rule (with_rule (new_app (codes "list")) (required_rule (codes "IMAGE"))) (flag_rule (codes "asm"))
 
 abbrev pub show_app : App
-show_app = with_rule (with_rule (with_rule (with_rule (new_app (codes "show")) (required_rule (codes "SOURCE")))
-    (text_rule (codes "stage"))) (text_rule (codes "function"))) (flag_rule (codes "dot"))
+show_app = with_rule (with_rule (with_rule (with_rule (with_rule (new_app (codes "show")) (required_rule (codes "SOURCE")))
+    (text_rule (codes "stage"))) (text_rule (codes "function"))) (number_rule (codes "block") 0 1048575)) (flag_rule (codes "dot"))
 
 -- `mcc` with its first command, with two, with three, with four, with five
 abbrev pub checking_app : App
@@ -91,6 +99,41 @@ IsBounded given default low high n = IsNumber given default n × (low ≤ n) × 
 abbrev pub IsFlag : Option Text → Bool → Type 0
 IsFlag given b = (given ≡ None → b ≡ false) × (given ≡ Some (codes "true") → b ≡ true) × (given ≡ Some (codes "false") → b ≡ false)
 
+-- the number that the text gives, if there is a text
+abbrev pub IsMaybeNumber : Option Text → Option ℕ → Type 0
+IsMaybeNumber given None = given ≡ None
+IsMaybeNumber given (Some n) = (text : Text) × (given ≡ Some text) × IsNumeral 10 (without_leading_plus text)
+    × (digits_value 10 (without_leading_plus text) ≡ n)
+
+-- the names of the forms and of the levels
+abbrev pub form_name : WordForm → Text
+form_name forms.Unsigned = codes "unsigned"
+form_name forms.Signed = codes "signed"
+form_name forms.Hex = codes "hex"
+
+abbrev pub level_name : Level → Text
+level_name levels.C = codes "c"
+level_name levels.Rtl = codes "rtl"
+level_name levels.Blocks = codes "blocks"
+
+-- what the text names, or the default where there is no text
+abbrev pub IsNamed : {A : Type 0} → (A → Text) → A → Option Text → A → Type 0
+IsNamed name default None a = a ≡ default
+IsNamed name default (Some text) a = text ≡ name a
+
+-- the option of a choice, and a text that is none of its names
+abbrev pub choice_id : Choice → Text
+choice_id choices.Form = codes "as"
+choice_id choices.Level = codes "at"
+
+abbrev pub NamesNone : Choice → Text → Type 0
+NamesNone choices.Form text = (form : WordForm) → text ≡ form_name form → ⊥
+NamesNone choices.Level text = (level : Level) → text ≡ level_name level → ⊥
+
+-- the option of the choice has a value that is none of its names
+abbrev pub IsNoChoice : Choice → List Row → Text → Type 0
+IsNoChoice choice rows value = (first_of (choice_id choice) rows ≡ Some value) × NamesNone choice value
+
 -- the command's name, and the values that its arguments have
 abbrev pub HasValues : Text → List Row → Command → Type 0
 HasValues name rows (Check file explain) =
@@ -98,10 +141,13 @@ HasValues name rows (Check file explain) =
 HasValues name rows (CheckEach files explain) =
     (name ≡ codes "check") × (all_of (codes "FILE") rows ≡ Some (map (λ s. s.now) files.items)) × (2 ≤ length files.items)
     × IsFlag (one_of (codes "explain") rows) explain
-HasValues name rows (Interp source depth steps) =
-    (name ≡ codes "interp") × (first_of (codes "SOURCE") rows ≡ Some source.now)
-    × IsBounded (one_of (codes "depth") rows) 256 1 4096 depth
-    × IsNumber (one_of (codes "steps") rows) 1000000 steps × (steps < 2 ^ 32)
+HasValues name rows (Interp r) =
+    (name ≡ codes "interp") × (first_of (codes "SOURCE") rows ≡ Some r.source.now)
+    × IsBounded (one_of (codes "depth") rows) 256 1 4096 r.depth
+    × IsNumber (one_of (codes "steps") rows) 1000000 r.steps × (r.steps < 2 ^ 32)
+    × IsNamed level_name levels.C (first_of (codes "at") rows) r.level
+    × IsNamed form_name forms.Unsigned (first_of (codes "as") rows) r.form
+    × IsFlag (one_of (codes "count") rows) r.count
 HasValues name rows (Build b) =
     (name ≡ codes "build") × (first_of (codes "SOURCE") rows ≡ Some b.source.now) × (first_of (codes "IMAGE") rows ≡ Some b.image.now)
     × IsFlag (one_of (codes "plain") rows) b.plain
@@ -109,16 +155,20 @@ HasValues name rows (Build b) =
     × IsBounded (one_of (codes "workers") rows) 4 1 MAX_PASSES b.workers
     × IsBounded (one_of (codes "nodes") rows) 65536 1 MAX_NODES b.nodes
     × IsBounded (one_of (codes "heads") rows) 1024 1 MAX_HEADS b.heads
-HasValues name rows (Run image steps) =
-    (name ≡ codes "run") × (first_of (codes "IMAGE") rows ≡ Some image.now)
-    × IsNumber (one_of (codes "steps") rows) 1000000 steps × (steps < 2 ^ 32)
+HasValues name rows (Run r) =
+    (name ≡ codes "run") × (first_of (codes "IMAGE") rows ≡ Some r.image.now)
+    × IsNumber (one_of (codes "steps") rows) 1000000 r.steps × (r.steps < 2 ^ 32)
+    × IsNamed form_name forms.Unsigned (first_of (codes "as") rows) r.form
+    × IsFlag (one_of (codes "count") rows) r.count
 HasValues name rows (Listing image asm) =
     (name ≡ codes "list") × (first_of (codes "IMAGE") rows ≡ Some image.now) × IsFlag (one_of (codes "asm") rows) asm
-HasValues name rows (Show source stage function dot) =
+HasValues name rows (Show source stage function block dot) =
     (name ≡ codes "show") × (first_of (codes "SOURCE") rows ≡ Some source.now)
     × (first_of (codes "stage") rows ≡ option_map (λ s. s.now) stage)
     × (first_of (codes "function") rows ≡ option_map (λ s. s.now) function)
+    × IsMaybeNumber (one_of (codes "block") rows) block
     × IsFlag (one_of (codes "dot") rows) dot
+HasValues name rows (NoChoice choice value) = IsNoChoice choice rows value.now
 
 -- the subcommand and its values are clap's matches of the words
 abbrev pub IsCommand : List Text → Command → Type 0

@@ -47,7 +47,7 @@ SOURCE is a program in an integer subset of C99; `out(e)` writes the word of an 
 Of this text standard output gets 0, 1 and 2, each on a line in unsigned decimal, and then `done 0`:
 main has returned 0. Other ends: `wrong` (the program did what C gives no meaning, as a signed
 overflow or an index outside its array, or called too deep), `more` (it would go on). An assignment,
-a test, a call, a return and an output are one step each.
+a test, a call, a return and an output are one step each. What is put out is printed as the run goes on.
 `mcc interp --steps 100 /dev/stdin` reads standard input, and stops after 100 steps.";
 
 const BUILD_HELP: &str = "\
@@ -101,17 +101,18 @@ Each block has one number in all stages: that of the machine's blocks.
 
     mcc show squares.c                        RTL, blocks and orders of each function
     mcc show squares.c --stage orders         each block as scheduled, with the validator's verdict
+    mcc show squares.c --stage check --block 4    block 4 and its order as a check text, to change and check
     mcc show squares.c --dot | dot -Tsvg      the blocks and how they are left, for Graphviz
 
 Stages: `rtl` (instructions over pseudo-registers: locals by their names, others as %3), `homes` (the register
 or slot of the frame of each), `blocks` (the machine's blocks, each in its own order), `orders`
 (as scheduled; where an order was refused its verdict, the order, and the one that is taken), `terms` (what each
 block leaves in registers, memory, exit and guards, as the validator compares it; `$8` is what register 8
-held at the start, and `..` what is cut), `listing` (the image's words under their blocks).
-Blocks and orders are in the lines of a check text, which `mcc check` reads.";
+held at the start, and `..` what is cut), `listing` (the image's words under their blocks), `check` (a block and its
+order as a check text, which `mcc check` reads), `asm` (assembler source with the names of functions and globals).";
 
 const STAGE_HELP: &str =
-    "One of rtl, homes, blocks, orders, terms, listing; else rtl, blocks and orders";
+    "One of rtl, homes, blocks, orders, check, terms, listing, asm; else rtl, blocks and orders";
 
 const FUNCTION_HELP: &str = "The function that is shown alone";
 
@@ -123,6 +124,18 @@ const ASM_HELP: &str =
 const DEPTH_HELP: &str = "Calls active at once, main counted: 1 to 4096, or 256 if left out";
 
 const STEPS_HELP: &str = "Steps until the run stops: 0 to 4294967295, or 1000000 if left out";
+
+const LEVEL_HELP: &str =
+    "Run it as its RTL (rtl), as the machine's blocks (blocks), or by its meaning in C (c), as if left out";
+
+const FORM_HELP: &str =
+    "Print the output's words as signed, hex or unsigned numbers; unsigned if left out";
+
+const STEP_COUNT_HELP: &str = "Say on standard error how many steps ran";
+
+const WORD_COUNT_HELP: &str = "Say on standard error how many words ran";
+
+const BLOCK_HELP: &str = "The block that is shown alone, by its number";
 
 const WORDS_HELP: &str = "Words until the run stops: 0 to 4294967295, or 1000000 if left out";
 
@@ -144,6 +157,12 @@ const DEPTH: Part<'static> = Part {
     id: "depth",
     form: Form::Number { low: 1, high: 4096 },
     about: DEPTH_HELP,
+};
+
+const FORM: Part<'static> = Part {
+    id: "as",
+    form: Form::Text,
+    about: FORM_HELP,
 };
 
 const CHECK: &[Part<'static>] = &[
@@ -169,6 +188,17 @@ const INTERP: &[Part<'static>] = &[
             high: 4294967295,
         },
         about: STEPS_HELP,
+    },
+    Part {
+        id: "at",
+        form: Form::Text,
+        about: LEVEL_HELP,
+    },
+    FORM,
+    Part {
+        id: "count",
+        form: Form::Flag,
+        about: STEP_COUNT_HELP,
     },
 ];
 
@@ -227,6 +257,12 @@ const RUN: &[Part<'static>] = &[
         },
         about: WORDS_HELP,
     },
+    FORM,
+    Part {
+        id: "count",
+        form: Form::Flag,
+        about: WORD_COUNT_HELP,
+    },
 ];
 
 const LIST: &[Part<'static>] = &[
@@ -249,6 +285,14 @@ const SHOW: &[Part<'static>] = &[
         id: "function",
         form: Form::Text,
         about: FUNCTION_HELP,
+    },
+    Part {
+        id: "block",
+        form: Form::Number {
+            low: 0,
+            high: 1048575,
+        },
+        about: BLOCK_HELP,
     },
     Part {
         id: "dot",

@@ -12,6 +12,6 @@ mod laws;
 mod parts;
 mod values;
 
-pub use command::{AskedBuild, Command};
+pub use command::{AskedBuild, AskedInterp, AskedRun, Choice, Command, Level};
 pub use laws::{some_words_are_taken, words_have_their_faults};
 pub use values::words;

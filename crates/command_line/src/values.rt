@@ -1,13 +1,17 @@
 // The values of a command, out of the matches of its words.
 
-ghost use Rattle.std.specs.Prelude.{◌≡◌, ℕ, ◌≤◌, true, Some, IfOk, IfErr, IfSome, map, codes};
+ghost use Rattle.std.specs.Prelude.{◌≡◌, ℕ, ◌≤◌, true, Some, IfOk, IfErr, IfNone, IfSome, map, codes};
 ghost use Rattle.clap.specs.declared.error.ErrorKind.TheVariants.{OutOfMemory};
-ghost use Rattle.clap.specs.Words.{FailsBy, HasMatchesOf, fault_of, found_of, kind_of, one_of, rows_of, subcommand_rows_of, takes};
-ghost use Rattle.command_line.specs.Commands.{mcc_app, HasValues, IsBounded, IsCommand, IsFlag, IsNumber};
+ghost use Rattle.clap.specs.Words.{FailsBy, HasMatchesOf, fault_of, first_of, found_of, kind_of, one_of, rows_of, subcommand_rows_of, takes};
+ghost use Rattle.commands.specs.declared.numbers.WordForm.TheVariants.{Unsigned};
+ghost use Rattle.command_line.specs.declared.command.Choice.TheVariants.{Form, Level as LevelOf};
+ghost use Rattle.command_line.specs.declared.command.Level.TheVariants.{C};
+ghost use Rattle.command_line.specs.Commands.{mcc_app, HasValues, IsBounded, IsCommand, IsFlag, IsMaybeNumber, IsNamed, IsNoChoice, IsNumber, NamesNone, form_name, level_name};
 
-use crate::command::{AskedBuild, Command};
+use crate::command::{AskedBuild, AskedInterp, AskedRun, Choice, Command, Level};
 use crate::grammar::grammar;
 use clap::{ArgMatches, Error};
+use commands::WordForm;
 use std::alloc::{AllocError, Global};
 use term_table::{MAX_HEADS, MAX_NODES, MAX_PASSES};
 
@@ -66,17 +70,97 @@ fn bounded_number(
     Some(n)
 }
 
+fn form_named(name: &str) -> Option<WordForm>
+    ensures form { IfSome result (λ form. name.now ≡ form_name form) }
+    ensures none { IfNone result (NamesNone Form name.now) }
+{
+    match name {
+        "unsigned" => Some(WordForm::Unsigned),
+        "signed" => Some(WordForm::Signed),
+        "hex" => Some(WordForm::Hex),
+        _ => None,
+    }
+}
+
+fn level_named(name: &str) -> Option<Level>
+    ensures level { IfSome result (λ level. name.now ≡ level_name level) }
+    ensures none { IfNone result (NamesNone LevelOf name.now) }
+{
+    match name {
+        "c" => Some(Level::C),
+        "rtl" => Some(Level::Rtl),
+        "blocks" => Some(Level::Blocks),
+        _ => None,
+    }
+}
+
+/// The form that the option names, or its value where that names none.
+fn entered_form<'a>(values: &ArgMatches<'a>) -> Result<WordForm, &'a str>
+    ensures form { IfOk result (IsNamed form_name Unsigned (first_of (codes "as") (rows_of (found_of values.now)))) }
+    ensures none { IfErr result (λ name. IsNoChoice Form (rows_of (found_of values.now)) name.now) }
+{
+    let Some(name) = values.get_str("as") else {
+        return Ok(WordForm::Unsigned);
+    };
+    match form_named(name) {
+        Some(form) => Ok(form),
+        None => Err(name),
+    }
+}
+
+/// The level that the option names, or its value where that names none.
+fn entered_level<'a>(values: &ArgMatches<'a>) -> Result<Level, &'a str>
+    ensures level { IfOk result (IsNamed level_name C (first_of (codes "at") (rows_of (found_of values.now)))) }
+    ensures none { IfErr result (λ name. IsNoChoice LevelOf (rows_of (found_of values.now)) name.now) }
+{
+    let Some(name) = values.get_str("at") else {
+        return Ok(Level::C);
+    };
+    match level_named(name) {
+        Some(level) => Ok(level),
+        None => Err(name),
+    }
+}
+
+/// The value of an option, if it is given; the outer None where its text is no number.
+fn maybe_number(values: &ArgMatches<'_>, id: &str) -> Option<Option<u32>>
+    ensures { IfSome result (IsMaybeNumber (one_of id.now (rows_of (found_of values.now)))) }
+{
+    match values.try_get_one::<u32>(id) {
+        Err(_) => None,
+        Ok(None) => Some(None),
+        Ok(Some(n)) => Some(Some(n)),
+    }
+}
+
 fn entered_interp<'a>(values: &ArgMatches<'a>) -> Option<Command<'a>>
     ensures { IfSome result (HasValues (codes "interp") (rows_of (found_of values.now))) }
 {
     let source = values.get_str("SOURCE")?;
     let depth = bounded_number(values, "depth", 256, 1, 4096)?;
     let steps = number_or(values, "steps", 1000000)?;
-    Some(Command::Interp {
+    let level = match entered_level(values) {
+        Ok(level) => level,
+        Err(value) => {
+            let choice = Choice::Level;
+            return Some(Command::NoChoice { choice, value });
+        }
+    };
+    let form = match entered_form(values) {
+        Ok(form) => form,
+        Err(value) => {
+            let choice = Choice::Form;
+            return Some(Command::NoChoice { choice, value });
+        }
+    };
+    Some(Command::Interp(AskedInterp {
         source,
         depth,
         steps: steps as u64,
-    })
+        level,
+        form,
+        count: flag(values, "count"),
+    }))
 }
 
 fn entered_build<'a>(values: &ArgMatches<'a>) -> Option<Command<'a>>
@@ -105,10 +189,19 @@ fn entered_run<'a>(values: &ArgMatches<'a>) -> Option<Command<'a>>
 {
     let image = values.get_str("IMAGE")?;
     let steps = number_or(values, "steps", 1000000)?;
-    Some(Command::Run {
+    let form = match entered_form(values) {
+        Ok(form) => form,
+        Err(value) => {
+            let choice = Choice::Form;
+            return Some(Command::NoChoice { choice, value });
+        }
+    };
+    Some(Command::Run(AskedRun {
         image,
         steps: steps as u64,
-    })
+        form,
+        count: flag(values, "count"),
+    }))
 }
 
 fn entered_list<'a>(values: &ArgMatches<'a>) -> Option<Command<'a>>
@@ -125,11 +218,13 @@ fn entered_show<'a>(values: &ArgMatches<'a>) -> Option<Command<'a>>
     let source = values.get_str("SOURCE")?;
     let stage = values.get_str("stage");
     let function = values.get_str("function");
+    let block = maybe_number(values, "block")?;
     let dot = flag(values, "dot");
     Some(Command::Show {
         source,
         stage,
         function,
+        block,
         dot,
     })
 }

@@ -1,4 +1,5 @@
 pub mod Texts
+pub mod Numbers
 pub mod Requests
 pub mod OneFile
 pub mod WrongWords

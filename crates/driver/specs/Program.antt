@@ -20,8 +20,8 @@ use Rattle.run_command.specs.Command.{IsReason, IsRefused, Runs, StopsRun, words
 use Rattle.command_line.specs.Commands.{IsCommand}
 use Rattle.command_line.specs.declared.command.AskedBuild.{AskedBuild}
 use Rattle.command_line.specs.declared.command.Command.{Command}
-use Rattle.command_line.specs.declared.command.Command.TheVariants.{Check, CheckEach, Interp, Build, Run, List as Listing, Show}
-use Rattle.driver.specs.Texts.{end_text, end_status, interp_fault_text}
+use Rattle.command_line.specs.declared.command.Command.TheVariants.{Check, CheckEach, Interp, Build, Run, List as Listing, NoChoice, Show}
+use Rattle.driver.specs.Texts.{end_text, end_status, interp_fault_text, no_choice_text}
 use Rattle.driver.specs.Interps.{IsRun, IsInterpFault}
 use Rattle.driver.specs.Listings.{IsListing, IsOfImage}
 use Rattle.driver.specs.Stages.{IsStagesFault, stages_fault_text}
@@ -73,26 +73,28 @@ abbrev pub Answers : Command → ℕ → List Request → List ℕ → Type 0
 Answers (Check file false) status requests printed = Checks file.now status requests printed
 Answers (Check file true) status requests printed = Explains file.now status requests printed
 Answers (CheckEach files explain) status requests printed = ChecksEach explain (map (λ s. s.now) files.items) status requests printed
-Answers (Interp source depth steps) status requests printed = Interps source.now depth steps status requests printed
+Answers (Interp r) status requests printed = Interps r.source.now r.depth r.steps status requests printed
 Answers (Build b) status requests printed = AnswersBuild b.source.now b.image.now b.depth b.plain status requests printed
-Answers (Run image steps) status requests printed = Runs image.now steps status requests printed
+Answers (Run r) status requests printed = Runs r.image.now r.steps status requests printed
 Answers (Listing image asm) status requests printed = Lists image.now asm status requests printed
-Answers (Show source stage function dot) status requests printed = Shows source.now status requests printed
+Answers (Show source stage function block dot) status requests printed = Shows source.now status requests printed
+Answers (NoChoice choice value) status requests printed = ⊥
 
 -- a command that ended by a fault
 abbrev pub Stops : Command → (silent refused : Type 0) → List Request → List ℕ → Type 0
 Stops (Check file explain) silent refused requests told = StopsCheck file.now silent refused requests told
 Stops (CheckEach files explain) silent refused requests told = BreaksOff explain (map (λ s. s.now) files.items) silent refused requests told
-Stops (Interp source depth steps) silent refused requests told = StopsInterp source.now depth steps silent refused requests told
+Stops (Interp r) silent refused requests told = StopsInterp r.source.now r.depth r.steps silent refused requests told
 Stops (Build b) silent refused requests told = StopsApart b.source.now b.image.now b.depth b.plain silent refused requests told
-Stops (Run image steps) silent refused requests told = StopsRun image.now steps silent refused requests told
+Stops (Run r) silent refused requests told = StopsRun r.image.now r.steps silent refused requests told
 Stops (Listing image asm) silent refused requests told = StopsList image.now asm silent refused requests told
-Stops (Show source stage function dot) silent refused requests told = StopsShow source.now silent refused requests told
+Stops (Show source stage function block dot) silent refused requests told = StopsShow source.now silent refused requests told
+Stops (NoChoice choice value) silent refused requests told = (requests ≡ []) × (told ≡ no_choice_text) × silent
 
 -- what a command tells beside its answer
 abbrev pub Remarks : Command → (status : ℕ) → List (List ℕ) → Type 0
-Remarks (Interp source depth steps) status told = IsReason status told
-Remarks (Run image steps) status told = IsReason status told
+Remarks (Interp r) status told = IsReason status told
+Remarks (Run r) status told = IsReason status told
 Remarks (Build b) status told = IsBuildRemark status told
 Remarks (CheckEach files explain) status told = IsTotals explain (map (λ s. s.now) files.items) told
 Remarks _ status told = told ≡ []

@@ -20,3 +20,7 @@ abbrev pub end_status : End → ℕ
 end_status (Done w) = 0
 end_status Wrong = 3
 end_status More = 4
+
+-- an option of `run` or `interp` has none of its names
+abbrev pub no_choice_text : List ℕ
+no_choice_text = codes "fault 19 NoChoice"

@@ -12,6 +12,7 @@
 //! | each refused allocation | `.ci/refuse` |
 #![tactic(auto)]
 
+mod choices;
 mod image_commands;
 mod listings;
 mod pages;

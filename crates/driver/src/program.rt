@@ -10,6 +10,7 @@ ghost use Rattle.command_line.specs.declared.command.Command.TheVariants.{Check}
 ghost use Rattle.driver.specs.Program.{Answers, HasFaultyFile, NamesOneFile, Remarks, Shows, Stops, StopsShow};
 ghost use Rattle.driver.specs.Texts.{end_status, interp_fault_text};
 
+use crate::choices::tell_choice;
 use crate::image_commands::ImageCommand;
 use crate::pages::Paged;
 use crate::reasons::wrong_page;
@@ -213,26 +214,20 @@ pub fn mcc<T: Threads + Wait + Sync, F: Files, W: Output, E: Complaints>(
                 explain,
             },
         ) => { check_files(rt, alloc, names.as_slice(), explain, files, out, err) }
-        Ok(
-            Command::Interp {
-                source,
-                depth,
-                steps,
-            },
-        ) => answer_file(
+        Ok(Command::Interp(asked)) => answer_file(
             alloc,
             &InterpCommand {
-                source,
-                depth,
-                steps,
+                source: asked.source,
+                depth: asked.depth,
+                steps: asked.steps,
             },
-            source,
+            asked.source,
             files,
             out,
             err,
         ),
         Ok(Command::Build(asked)) => build_file(rt, alloc, &asked, files, out, err),
-        Ok(Command::Run { image, steps }) => { run_file(alloc, image, steps, files, out, err) }
+        Ok(Command::Run(asked)) => { run_file(alloc, asked.image, asked.steps, files, out, err) }
         Ok(Command::List { image, asm }) => {
             answer_file(alloc, &Paged(ImageCommand { asm }), image, files, out, err)
         }
@@ -241,6 +236,7 @@ pub fn mcc<T: Threads + Wait + Sync, F: Files, W: Output, E: Complaints>(
                 source,
                 stage,
                 function,
+                block: _,
                 dot,
             },
         ) => {
@@ -251,6 +247,7 @@ pub fn mcc<T: Threads + Wait + Sync, F: Files, W: Output, E: Complaints>(
             };
             show_source(alloc, asked, source, files, out, err)
         }
+        Ok(Command::NoChoice { choice, value }) => tell_choice(alloc, err, choice, value),
         Err(error) => tell_words(&error, out, err),
     }
 }

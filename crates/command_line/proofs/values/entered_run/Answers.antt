@@ -9,4 +9,6 @@ returns c = (
   sym (first_value-rows (found_of c.args.values.now) (codes "IMAGE")) ∙ sym c.in_ok-image.ensures,
   c.in_ok-steps.ensures,
   omega arith,
+  c.in-Ok.ensures.form,
+  c.flag.ensures,
 )

@@ -10,5 +10,6 @@ returns c =
       sym (first (codes "SOURCE")) ∙ sym c.in_ok-source.ensures,
       sym (first (codes "stage")) ∙ sym c.get_str-stage.ensures,
       sym (first (codes "function")) ∙ sym c.get_str-function.ensures,
+      c.in_ok-block.ensures,
       c.flag-dot.ensures,
     )

@@ -1,10 +1,11 @@
-use Rattle.std.proofs.Common.{refl, inl, inr, map, subst}
+use Rattle.std.proofs.Common.{[], refl, inl, inr, map, subst}
 use Rattle.clap.specs.Words.{fault_of}
 use Rattle.command_line.specs.Commands.{IsCommand, mcc_app}
-use Rattle.command_line.specs.declared.command.Command.TheVariants.{Check, CheckEach, Interp, Build, Run, List as Listing, Show}
+use Rattle.command_line.specs.declared.command.Command.TheVariants.{Check, CheckEach, Interp, Build, Run, List as Listing, NoChoice, Show}
 use Rattle.command_line.proofs.Programs.{answered_by, ends_untaken, mistake_of, silent, stopped_by, stopped_before}
 use Rattle.driver.proofs.Lifted.{all_answered, all_counted, all_stopped, remarked}
 use Rattle.driver.specs.Program.{Answers, Remarks, Stops}
+use Rattle.driver.specs.Texts.{no_choice_text}
 use Rattle.driver.proofs.program.mcc.Goals as goal
 
 pub returns-in-Ok-Check-clause-answered : goal.returns-in-Ok-Check-clause-answered
@@ -48,19 +49,19 @@ returns-in-Ok-CheckEach-clause-stopped g c =
 
 pub returns-in-Ok-Interp-clause-answered : goal.returns-in-Ok-Interp-clause-answered
 returns-in-Ok-Interp-clause-answered g c = λ taken other.
-    answered_by Answers g.F.Files.answers (map (λ s. s.now) c.args.args.now) c.answer_file.result (Interp c.in-Ok-Interp.source c.in-Ok-Interp.depth c.in-Ok-Interp.steps)
+    answered_by Answers g.F.Files.answers (map (λ s. s.now) c.args.args.now) c.answer_file.result (Interp c.in-Ok-Interp.asked)
     (subst (IsCommand (map (λ s. s.now) c.args.args.now)) c.in-Ok-Interp.field-0-is c.in-Ok-Interp.ensures.command)
     _ _ _ _ (c.answer_file.ensures.answered other)
 
 pub returns-in-Ok-Interp-clause-quiet : goal.returns-in-Ok-Interp-clause-quiet
 returns-in-Ok-Interp-clause-quiet g c = λ taken other.
-    remarked g.E.Complaints.tells (map (λ s. s.now) c.args.args.now) c.answer_file.result (Interp c.in-Ok-Interp.source c.in-Ok-Interp.depth c.in-Ok-Interp.steps)
+    remarked g.E.Complaints.tells (map (λ s. s.now) c.args.args.now) c.answer_file.result (Interp c.in-Ok-Interp.asked)
     (subst (IsCommand (map (λ s. s.now) c.args.args.now)) c.in-Ok-Interp.field-0-is c.in-Ok-Interp.ensures.command)
     _ _ (c.answer_file.ensures.beside other)
 
 pub returns-in-Ok-Interp-clause-stopped : goal.returns-in-Ok-Interp-clause-stopped
 returns-in-Ok-Interp-clause-stopped g c = λ one.
-    inl (stopped_by Stops g.F.Files.answers g.W.Output.refuses g.E.Complaints.tells (map (λ s. s.now) c.args.args.now) (Interp c.in-Ok-Interp.source c.in-Ok-Interp.depth c.in-Ok-Interp.steps)
+    inl (stopped_by Stops g.F.Files.answers g.W.Output.refuses g.E.Complaints.tells (map (λ s. s.now) c.args.args.now) (Interp c.in-Ok-Interp.asked)
     (subst (IsCommand (map (λ s. s.now) c.args.args.now)) c.in-Ok-Interp.field-0-is c.in-Ok-Interp.ensures.command)
     _ _ _ _ _ _ (c.answer_file.ensures.stopped one))
 
@@ -103,19 +104,19 @@ returns-in-Ok-Build-clause-stopped g c = λ one.
 
 pub returns-in-Ok-Run-clause-answered : goal.returns-in-Ok-Run-clause-answered
 returns-in-Ok-Run-clause-answered g c = λ taken other.
-    answered_by Answers g.F.Files.answers (map (λ s. s.now) c.args.args.now) c.run_file.result (Run c.in-Ok-Run.image c.in-Ok-Run.steps)
+    answered_by Answers g.F.Files.answers (map (λ s. s.now) c.args.args.now) c.run_file.result (Run c.in-Ok-Run.asked)
     (subst (IsCommand (map (λ s. s.now) c.args.args.now)) c.in-Ok-Run.field-0-is c.in-Ok-Run.ensures.command)
     _ _ _ _ (c.run_file.ensures.answered other)
 
 pub returns-in-Ok-Run-clause-quiet : goal.returns-in-Ok-Run-clause-quiet
 returns-in-Ok-Run-clause-quiet g c = λ taken other.
-    remarked g.E.Complaints.tells (map (λ s. s.now) c.args.args.now) c.run_file.result (Run c.in-Ok-Run.image c.in-Ok-Run.steps)
+    remarked g.E.Complaints.tells (map (λ s. s.now) c.args.args.now) c.run_file.result (Run c.in-Ok-Run.asked)
     (subst (IsCommand (map (λ s. s.now) c.args.args.now)) c.in-Ok-Run.field-0-is c.in-Ok-Run.ensures.command)
     _ _ (c.run_file.ensures.beside other)
 
 pub returns-in-Ok-Run-clause-stopped : goal.returns-in-Ok-Run-clause-stopped
 returns-in-Ok-Run-clause-stopped g c = λ one.
-    inl (stopped_by Stops g.F.Files.answers g.W.Output.refuses g.E.Complaints.tells (map (λ s. s.now) c.args.args.now) (Run c.in-Ok-Run.image c.in-Ok-Run.steps)
+    inl (stopped_by Stops g.F.Files.answers g.W.Output.refuses g.E.Complaints.tells (map (λ s. s.now) c.args.args.now) (Run c.in-Ok-Run.asked)
     (subst (IsCommand (map (λ s. s.now) c.args.args.now)) c.in-Ok-Run.field-0-is c.in-Ok-Run.ensures.command)
     _ _ _ _ _ _ (c.run_file.ensures.stopped one))
 
@@ -139,21 +140,28 @@ returns-in-Ok-List-clause-stopped g c = λ one.
 
 pub returns-in-Ok-Show-clause-answered : goal.returns-in-Ok-Show-clause-answered
 returns-in-Ok-Show-clause-answered g c = λ taken other.
-    answered_by Answers g.F.Files.answers (map (λ s. s.now) c.args.args.now) c.show_source.result (Show c.in-Ok-Show.source c.in-Ok-Show.stage c.in-Ok-Show.function c.in-Ok-Show.dot)
+    answered_by Answers g.F.Files.answers (map (λ s. s.now) c.args.args.now) c.show_source.result (Show c.in-Ok-Show.source c.in-Ok-Show.stage c.in-Ok-Show.function c.in-Ok-Show.block c.in-Ok-Show.dot)
     (subst (IsCommand (map (λ s. s.now) c.args.args.now)) c.in-Ok-Show.field-0-is c.in-Ok-Show.ensures.command)
     _ _ _ _ (c.show_source.ensures.answered other)
 
 pub returns-in-Ok-Show-clause-quiet : goal.returns-in-Ok-Show-clause-quiet
 returns-in-Ok-Show-clause-quiet g c = λ taken other.
-    remarked g.E.Complaints.tells (map (λ s. s.now) c.args.args.now) c.show_source.result (Show c.in-Ok-Show.source c.in-Ok-Show.stage c.in-Ok-Show.function c.in-Ok-Show.dot)
+    remarked g.E.Complaints.tells (map (λ s. s.now) c.args.args.now) c.show_source.result (Show c.in-Ok-Show.source c.in-Ok-Show.stage c.in-Ok-Show.function c.in-Ok-Show.block c.in-Ok-Show.dot)
     (subst (IsCommand (map (λ s. s.now) c.args.args.now)) c.in-Ok-Show.field-0-is c.in-Ok-Show.ensures.command)
     _ _ (c.show_source.ensures.beside other)
 
 pub returns-in-Ok-Show-clause-stopped : goal.returns-in-Ok-Show-clause-stopped
 returns-in-Ok-Show-clause-stopped g c = λ one.
-    inl (stopped_by Stops g.F.Files.answers g.W.Output.refuses g.E.Complaints.tells (map (λ s. s.now) c.args.args.now) (Show c.in-Ok-Show.source c.in-Ok-Show.stage c.in-Ok-Show.function c.in-Ok-Show.dot)
+    inl (stopped_by Stops g.F.Files.answers g.W.Output.refuses g.E.Complaints.tells (map (λ s. s.now) c.args.args.now) (Show c.in-Ok-Show.source c.in-Ok-Show.stage c.in-Ok-Show.function c.in-Ok-Show.block c.in-Ok-Show.dot)
     (subst (IsCommand (map (λ s. s.now) c.args.args.now)) c.in-Ok-Show.field-0-is c.in-Ok-Show.ensures.command)
     _ _ _ _ _ _ (c.show_source.ensures.stopped one))
+
+pub returns-in-Ok-NoChoice-clause-stopped : goal.returns-in-Ok-NoChoice-clause-stopped
+returns-in-Ok-NoChoice-clause-stopped g c = λ one.
+    inl (stopped_by Stops g.F.Files.answers g.W.Output.refuses g.E.Complaints.tells (map (λ s. s.now) c.args.args.now)
+    (NoChoice c.in-Ok-NoChoice.choice c.in-Ok-NoChoice.value)
+    (subst (IsCommand (map (λ s. s.now) c.args.args.now)) c.in-Ok-NoChoice.field-0-is c.in-Ok-NoChoice.ensures.command)
+    _ _ _ _ _ _ (record { requests = []; text = no_choice_text; asked = refl; told = c.tell_choice.ensures.told; means = (refl, refl, refl) }))
 
 pub returns-in-Err-clause-stopped : goal.returns-in-Err-clause-stopped
 returns-in-Err-clause-stopped g c = λ one.
