@@ -236,13 +236,14 @@ pub fn mcc<T: Threads + Wait + Sync, F: Files, W: Output, E: Complaints>(
                 source,
                 stage,
                 function,
-                block: _,
+                block,
                 dot,
             },
         ) => {
             let asked = Asked {
                 stage,
                 function,
+                block,
                 dot,
             };
             show_source(alloc, asked, source, files, out, err)

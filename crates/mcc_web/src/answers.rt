@@ -243,6 +243,7 @@ pub extern "C" fn mcc_web_show(
     let asked = Asked {
         stage: name_of(stage),
         function: name_of(function),
+        block: None,
         dot: false,
     };
     match stages(alloc, text, &asked) {

@@ -1,7 +1,7 @@
 //! Runs images on the machine: exactly its definition at each bound. `load` decodes each word once, a step takes constant time.
 //!
 //! Definitions: `specs/ImageRuns.antt`, `specs/Decoding.antt`.
-//! Contract: `load`, `Machine::step`, `run`
+//! Contract: `load`, `Machine::step`, `run`, `Registers::perform`
 //! - `load`, `Machine::step` and `run` are exactly the machine from the image's start.
 //! - What a `Machine` shows is what it holds.
 #![tactic(auto)]
@@ -12,4 +12,4 @@ mod memory;
 mod state;
 
 pub use machine::{Machine, MachineRan, load, run};
-pub use state::Load;
+pub use state::{Load, Registers};
