@@ -1,5 +1,5 @@
 // A machine's run in portions.
-ghost use Rattle.std.specs.Prelude.{◌≡◌, ◌≢◌, ◌≤◌, max, length, IfOk, None};
+ghost use Rattle.std.specs.Prelude.{◌≡◌, IfOk};
 ghost use Rattle.mips_steps.specs.Machines.{words_code};
 ghost use Rattle.mips_machine.specs.Views.{machine_of};
 ghost use Rattle.mips_machine.specs.Portions.{OutputGoesBefore, WentOn, emptied};
@@ -27,9 +27,9 @@ impl<'a> Machine<'a> {
         while ran < words && self.output.len() < outputs {
             let ended = self.step()?;
             ran += 1;
-            if ended.is_some() {
+            if let Some(end) = ended {
                 return Ok(Portion {
-                    end: ended,
+                    end: Some(end),
                     words: ran,
                 });
             }
@@ -52,5 +52,4 @@ impl<'a> Machine<'a> {
 /// The law that a run doesn't depend on what was written before it.
 pub fn output_goes_before()
     ensures { OutputGoesBefore }
-{
-}
+{}

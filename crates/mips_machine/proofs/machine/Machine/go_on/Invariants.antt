@@ -2,7 +2,7 @@ use Rattle.std.proofs.Common.{◌≡◌, ◌-◌, None}
 use Rattle.mips_steps.specs.Machines.{words_code}
 use Rattle.mips_machine.specs.Views.{machine_of}
 use Rattle.mips_machine.specs.Portions.{WentOn}
-use Rattle.mips_machine.proofs.portions.Machine.go_on.Given as goal
+use Rattle.mips_machine.proofs.machine.Machine.go_on.Given as goal
 
 abbrev pub invariant-loop-ran : goal.invariant-loop-ran
 invariant-loop-ran l = record {
