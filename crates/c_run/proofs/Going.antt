@@ -44,9 +44,9 @@ module _ (out : List ℕ) where
   call_same p depth f vs to frames g own =
       let called : TypedFunction → List ℕ → Run = λ function o. Running (record { locals = argument_places vs; todo = before_all function.body []; result_to = to } ∷ frames) g o in
       value_same (slice_get p.functions f) own _ _ (λ function.
-          elim (nat_lt (length frames) depth)
-          as (λ b. cond b (called function (out ++ own)) (Failed (out ++ own)) ≡ put out (cond b (called function own) (Failed own)))
-          [ true ↦ refl | false ↦ refl ])
+      elim (nat_lt (length frames) depth)
+      as (λ b. cond b (called function (out ++ own)) (Failed (out ++ own)) ≡ put out (cond b (called function own) (Failed own)))
+      [ true ↦ refl | false ↦ refl ])
 
   return_same : (globals : List Global) (v : Option ℕ) (to : Option Destination) (frames : List Frame) (g : Arrays) (own : List ℕ)
       → state_after_return globals v to frames g (out ++ own) ≡ put out (state_after_return globals v to frames g own)
@@ -68,12 +68,12 @@ module _ (out : List ℕ) where
       value_same (value_of e l g) own _ _ (λ v. assignment_same p.globals x v l g own _ _ (λ l' g'. refl))
   at_same p depth l (Do (store a i e) ∷ k) to frames g own =
       value_same (value_of i l g) own _ _ (λ x. value_same (value_of e l g) own _ _ (λ v.
-          value_same (elements_with p.globals g a x v) own _ _ (λ g'. refl)))
+      value_same (elements_with p.globals g a x v) own _ _ (λ g'. refl)))
   at_same p depth l (Do (call x f all) ∷ k) to frames g own =
-      value_same (values_of all l g) own _ _ (λ vs. call_same p depth f vs x _ g own)
+      value_same (values_of all l g) own _ _ (λ vs. call_same p depth f vs x (record { locals = l; todo = k; result_to = to } ∷ frames) g own)
   at_same p depth l (Do (output e) ∷ k) to frames g own =
       value_same (value_of e l g) own _ _ (λ v.
-          ap (λ o. Running (record { locals = l; todo = k; result_to = to } ∷ frames) g o) (append_assoc out own (v ∷ [])))
+      ap (λ o. Running (record { locals = l; todo = k; result_to = to } ∷ frames) g o) (append_assoc out own (v ∷ [])))
   at_same p depth l (Do (if_else c a b) ∷ k) to frames g own = value_same (value_of c l g) own _ _ (λ v. refl)
   at_same p depth l (Do (loop c last body) ∷ k) to frames g own = value_same (value_of c l g) own _ _ (λ v. refl)
   at_same p depth l (Do (return_with None) ∷ k) to frames g own = return_same p.globals None to frames g own

@@ -1,5 +1,5 @@
 // A program's run in portions.
-ghost use Rattle.std.specs.Prelude.{◌≡◌, IfOk};
+ghost use Rattle.std.specs.Prelude.{◌≡◌, ◌<◌, IfOk};
 ghost use Rattle.c_types.specs.Shape.{program_of};
 ghost use Rattle.c_typed.specs.Meaning.{source_start};
 ghost use Rattle.runs.specs.Runs.{outcome};
@@ -29,11 +29,7 @@ pub struct Portion {
 }
 
 /// A program before its first step.
-pub fn begin<'a>(
-    alloc: Global,
-    program: &'a Typed,
-    depth: u32,
-) -> Result<UnderWay<'a>, AllocError>
+pub fn begin<'a>(alloc: Global, program: &'a Typed, depth: u32) -> Result<UnderWay<'a>, AllocError>
     ensures start { IfOk result (λ m. state_of m ≡ source_start (program_of program.now)) }
     ensures program { IfOk result (λ m. m.program.now ≡ program.now) }
     ensures depth { IfOk result (λ m. m.depth ≡ depth) }
@@ -47,7 +43,7 @@ pub fn begin<'a>(
 }
 
 impl<'a> UnderWay<'a> {
-    /// Goes on for at most so many steps, while it holds fewer words of output than `outputs`. `Err` only where memory is refused.
+    /// Goes on for at most so many steps, until it holds so many words of output. `Err` only where memory is refused.
     pub fn go_on(
         &mut self,
         alloc: Global,
@@ -56,16 +52,23 @@ impl<'a> UnderWay<'a> {
     ) -> Result<Portion, AllocError>
         ensures went { IfOk result (λ p. WentOn (program_of self.old.program.now) self.old.depth steps (state_of self.old) (state_of self.new)
             p.end p.steps) }
+        ensures moved { IfOk result (λ p. 0 < steps → 0 < p.steps) }
         ensures program { self.new.program ≡ self.old.program }
         ensures depth { self.new.depth ≡ self.old.depth }
     {
         let mut done = 0;
-        while done < steps && self.interpreter.output.len() < outputs {
+        while done < steps {
             let reached = step(alloc, self.program, self.depth, &mut self.interpreter)?;
             done += 1;
             if let Some(end) = reached.end() {
                 return Ok(Portion {
                     end: Some(end),
+                    steps: done,
+                });
+            }
+            if outputs <= self.interpreter.output.len() {
+                return Ok(Portion {
+                    end: None,
                     steps: done,
                 });
             }
@@ -96,5 +99,4 @@ impl<'a> UnderWay<'a> {
 /// The law that a run doesn't depend on what was written before it.
 pub fn output_goes_before()
     ensures { OutputGoesBefore }
-{
-}
+{}

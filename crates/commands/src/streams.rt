@@ -49,6 +49,9 @@ pub trait StreamCommand {
     // the line of a fault
     ghost line: { Self.Fault → List ℕ };
 
+    // what is known of an end
+    ghost knows: { Self → Self.End → Type 0 };
+
     // what may be told beside an answer of this status
     ghost remarks: { Self → ℕ → List (List ℕ) → Type 0 };
 
@@ -61,6 +64,7 @@ pub trait StreamCommand {
     ) -> Result<Self::End, Broken<Self::Fault>>
         ensures took { IfOk result (λ e. TookAnswer (answers self.now bytes.now) (prints self.now) status (W.contents out.old) (W.contents out.new)
             (end_status e)) }
+        ensures knows { IfOk result (knows self.now) }
         ensures sent { OnOk result (IsSent W.sends out.new) }
         ensures broken { IfErr result (BreaksBy (answers self.now bytes.now) (prints self.now) (faults self.now bytes.now) (W.contents out.old)
             (W.contents out.new) (out.new ≡ out.old) (WasRefused W.refuses out.new)) };
@@ -73,6 +77,7 @@ pub trait StreamCommand {
 
     /// What is told beside an answer that was printed.
     fn remark<E: Complaints>(&self, alloc: Global, bytes: &[u8], end: &Self::End, err: &mut E)
+        requires { knows self.now end.now }
         ensures { TellsBeside E.tells err.old (remarks self.now (end_status end.now)) err.new };
 
     /// The line of a fault, and below it what is known of it.

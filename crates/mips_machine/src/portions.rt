@@ -1,5 +1,5 @@
 // A machine's run in portions.
-ghost use Rattle.std.specs.Prelude.{◌≡◌, IfOk};
+ghost use Rattle.std.specs.Prelude.{◌≡◌, ◌<◌, IfOk};
 ghost use Rattle.mips_steps.specs.Machines.{words_code};
 ghost use Rattle.mips_machine.specs.Views.{machine_of};
 ghost use Rattle.mips_machine.specs.Portions.{OutputGoesBefore, WentOn, emptied};
@@ -18,18 +18,25 @@ pub struct Portion {
 }
 
 impl<'a> Machine<'a> {
-    /// Goes on for at most so many words, while it holds fewer words of output than `outputs`. `Err` only where memory is refused.
+    /// Goes on for at most so many words, until it holds so many words of output. `Err` only where memory is refused.
     pub fn go_on(&mut self, words: u64, outputs: usize) -> Result<Portion, AllocError>
         ensures went { IfOk result (λ p. WentOn (words_code self.old.code.words.now) words (machine_of self.old) (machine_of self.new) p.end p.words) }
+        ensures moved { IfOk result (λ p. 0 < words → 0 < p.words) }
         ensures code { self.new.code ≡ self.old.code }
     {
         let mut ran = 0;
-        while ran < words && self.output.len() < outputs {
+        while ran < words {
             let ended = self.step()?;
             ran += 1;
             if let Some(end) = ended {
                 return Ok(Portion {
                     end: Some(end),
+                    words: ran,
+                });
+            }
+            if outputs <= self.output.len() {
+                return Ok(Portion {
+                    end: None,
                     words: ran,
                 });
             }

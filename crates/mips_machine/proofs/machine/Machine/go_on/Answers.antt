@@ -27,3 +27,11 @@ loop-ran-preserved c =
           c.loop-ran.invariant.went (step ∙ ap (λ o. stepped_of o new) c.in_default.is);
       code = c.in_ok-ended.ensures.code ∙ c.loop-ran.invariant.code;
     }
+
+pub returns-then-outputs-len-clause-went : goal.returns-then-outputs-len-clause-went
+returns-then-outputs-len-clause-went c =
+    let m = machine_of c.loop-ran.self in
+    let new = machine_of c.step.new.self in
+    let step = rw c.loop-ran.invariant.code at c.in_ok-ended.ensures.step in
+    goes_on (words_code c.args.self.now.code.words.now) c.args.words (machine_of c.args.self.now) m new c.loop-ran.ran c.loop-ran-test.true
+    c.loop-ran.invariant.went (step ∙ ap (λ o. stepped_of o new) c.in_default.is)
