@@ -1,3 +1,4 @@
+pub mod Going
 pub mod Acts
 pub mod Calls
 pub mod Sizes

@@ -14,10 +14,12 @@
 mod interpreter;
 mod pending;
 mod places;
+mod portions;
 mod reasons;
 mod steps;
 mod value;
 
 pub use places::{WrongPlace, wrong_place_of};
+pub use portions::{Portion, UnderWay, begin, output_goes_before};
 pub use reasons::{Reason, reason_of};
 pub use steps::run;

@@ -3,3 +3,4 @@ pub mod Numbers
 pub mod Requests
 pub mod OneFile
 pub mod WrongWords
+pub mod Streams

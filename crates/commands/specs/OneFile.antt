@@ -7,6 +7,11 @@ use Rattle.commands.specs.Requests.Request.{Read, NotRead}
 use Rattle.commands.specs.Texts.{host_fault_text}
 use Rattle.commands.specs.declared.files.FileFault.{FileFault}
 use Rattle.commands.specs.declared.fault.HostFault.{HostFault}
+use Rattle.commands.specs.declared.fault.HostFault.TheVariants.{CannotWrite}
+
+-- standard output was refused
+abbrev pub IsRefused : HostFault → Type 0
+IsRefused fault = fault ≡ CannotWrite
 
 -- standard output took what is printed of an answer
 abbrev pub TookPrint : Option (List ℕ) → Option (List ℕ) → (List ℕ → Type 0) → Type 0

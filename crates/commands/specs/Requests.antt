@@ -6,7 +6,7 @@ use Rattle.commands.specs.declared.files.FileFault.{FileFault}
 use Rattle.commands.specs.declared.files.FileFault.TheVariants as file_faults
 use Rattle.commands.specs.declared.fault.HostFault.{HostFault}
 use Rattle.commands.specs.declared.fault.HostFault.TheVariants as host_faults
-use Rattle.commands.specs.Texts.{IsShown}
+use Rattle.commands.specs.Texts.{IsShown, host_fault_text}
 
 -- one request with its answer: the bytes that were read, or that were written; or why it was refused
 pub data Request : Type 0 where
@@ -69,3 +69,14 @@ pub record Asks {F W E : Type 0} (answers : F → Request → F → Type 0) (old
   pub asked : FoldsTo answers old requests new
   pub told : TellsLine tells err_old text err_new
   pub means : Means (out_new ≡ out_old) (WasRefused refuses out_new) requests text
+
+-- what a command did that memory was refused to once it had begun to print: all that it asked of its files, and the bytes that its
+-- standard output took until then, which are as Begins says; and it told fault 30
+pub record StopsMidway {F E : Type 0} (answers : F → Request → F → Type 0) (old new : F) (out_old out_new : Option (List ℕ))
+    (tells : E → List ℕ → E → Type 0) (err_old err_new : E) (Begins : List Request → List ℕ → Type 0) : Type 0 where
+  pub requests : List Request
+  pub printed : List ℕ
+  pub asked : FoldsTo answers old requests new
+  pub took : Appends out_old out_new printed
+  pub told : TellsLine tells err_old (host_fault_text host_faults.NoMemory) err_new
+  pub begins : Begins requests printed

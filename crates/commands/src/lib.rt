@@ -1,7 +1,7 @@
 //! What the commands of the program share: files, errors, and where an error lies.
 //!
-//! Definitions: `specs/Texts.antt`, `specs/Requests.antt`.
-//! Contract: `answer_file`, `read_file`, `write_file`, `tell`, `tell_file`, `tell_placed`, `print_name`, `Explanation::new`
+//! Definitions: `specs/Texts.antt`, `specs/Requests.antt`, `specs/Streams.antt`.
+//! Contract: `answer_file`, `answer_stream`, `read_file`, `write_file`, `tell`, `tell_file`, `tell_placed`, `print_name`, `Explanation::new`
 //! - A command over one file asks, prints and ends as its own definition says.
 //! - What is printed below an error steers no terminal.
 //! - An `Explanation` is printable ASCII.
@@ -16,6 +16,7 @@ mod numbers;
 mod one_file;
 mod output;
 mod place;
+mod streams;
 mod wrong_words;
 
 pub use explanation::{Explanation, printable_byte};
@@ -27,4 +28,5 @@ pub use numbers::{FormedWord, WordForm};
 pub use one_file::{BadFile, FileCommand, answer_file};
 pub use output::Output;
 pub use place::{Place, Spot, line_offset, spot_of, tell_placed};
+pub use streams::{Broken, StreamCommand, answer_stream};
 pub use wrong_words::tell_words;

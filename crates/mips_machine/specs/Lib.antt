@@ -1,5 +1,6 @@
 pub mod Decoding
 pub mod ImageRuns
 pub mod Places
+pub mod Portions
 pub mod Rules
 pub mod Views

@@ -9,7 +9,9 @@
 mod code;
 mod machine;
 mod memory;
+mod portions;
 mod state;
 
 pub use machine::{Machine, MachineRan, load, run};
+pub use portions::{Portion, output_goes_before};
 pub use state::{Load, Registers};

@@ -1,3 +1,4 @@
 pub mod Texts
 pub mod ImageRuns
 pub mod Command
+pub mod Portions

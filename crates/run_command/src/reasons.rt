@@ -8,8 +8,6 @@ use commands::{Complaints, printable_byte};
 use image::{Image, read_image};
 use mips_asm::list;
 use mips_isa::{CODE_BASE, Rule};
-use mips_machine::load;
-use mips_steps::Ending;
 use std::alloc::{AllocError, Global};
 
 /// The byte itself if it is printable or a line's end, else `?`.
@@ -68,21 +66,6 @@ fn rule_words(rule: Rule) -> &'static str {
     }
 }
 
-/// The address at which an image's run is stuck within so many words, and the rule. The words are run anew, so that a run
-/// needn't keep what only one that is stuck is asked for.
-fn stuck_at(alloc: Global, image: &Image, steps: u64) -> Result<Option<(u32, Rule)>, AllocError> {
-    let mut machine = load(alloc, image)?;
-    for _ in 0..steps {
-        let ended = machine.step()?;
-        match ended {
-            None => {}
-            Some(Ending::Stuck(rule)) => return Ok(Some((machine.pc(), rule))),
-            Some(_) => return Ok(None),
-        }
-    }
-    Ok(None)
-}
-
 /// The line of the listing that has the code word at this address, if there is one.
 fn put_listed(alloc: Global, out: &mut String, image: &Image, at: u32) -> Result<(), AllocError> {
     let number = at.saturating_sub(CODE_BASE) as usize / 4;
@@ -104,15 +87,12 @@ fn stuck_lines(alloc: Global, image: &Image, at: u32, rule: Rule) -> Result<Stri
     Ok(lines)
 }
 
-/// Why the image of these bytes is stuck within so many words.
-pub(crate) fn stuck_page(alloc: Global, bytes: &[u8], steps: u64) -> Option<Vec<u8>>
+/// Why the image of these bytes is stuck at an address, by a rule.
+pub(crate) fn stuck_page(alloc: Global, bytes: &[u8], at: u32, rule: Rule) -> Option<Vec<u8>>
     ensures { IfSome result (λ page. All IsShown page.items) }
 {
     let Ok(image) = read_image(alloc, bytes) else {
         return None;
     };
-    match stuck_at(alloc, &image, steps) {
-        Ok(Some((at, rule))) => page(alloc, stuck_lines(alloc, &image, at, rule)),
-        _ => None,
-    }
+    page(alloc, stuck_lines(alloc, &image, at, rule))
 }

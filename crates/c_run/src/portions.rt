@@ -1,0 +1,102 @@
+// A program's run in portions.
+ghost use Rattle.std.specs.Prelude.{◌≡◌, ◌<◌, IfOk};
+ghost use Rattle.c_types.specs.Shape.{program_of};
+ghost use Rattle.c_typed.specs.Meaning.{source_start};
+ghost use Rattle.runs.specs.Runs.{outcome};
+ghost use Rattle.c_run.specs.Portions.{OutputGoesBefore, WentOn, emptied, state_of};
+
+use crate::interpreter::{Interpreter, step};
+use crate::steps::start;
+use c_types::Typed;
+use runs::End;
+use std::alloc::{AllocError, Global};
+
+/// A typed program under way, with at most `depth` calls active at once.
+#[derive(Drop)]
+pub struct UnderWay<'a> {
+    pub program: &'a Typed,
+    pub depth: u32,
+    pub(crate) interpreter: Interpreter<'a>,
+}
+
+/// How far a program went on.
+#[derive(Clone, Copy)]
+pub struct Portion {
+    /// How it ended; None where it would go on.
+    pub end: Option<End>,
+    /// The steps that were done, with the last one, at which it ended.
+    pub steps: u64,
+}
+
+/// A program before its first step.
+pub fn begin<'a>(alloc: Global, program: &'a Typed, depth: u32) -> Result<UnderWay<'a>, AllocError>
+    ensures start { IfOk result (λ m. state_of m ≡ source_start (program_of program.now)) }
+    ensures program { IfOk result (λ m. m.program.now ≡ program.now) }
+    ensures depth { IfOk result (λ m. m.depth ≡ depth) }
+{
+    let interpreter = start(alloc, program)?;
+    Ok(UnderWay {
+        program,
+        depth,
+        interpreter,
+    })
+}
+
+impl<'a> UnderWay<'a> {
+    /// Goes on for at most so many steps, until it holds so many words of output. `Err` only where memory is refused.
+    pub fn go_on(
+        &mut self,
+        alloc: Global,
+        steps: u64,
+        outputs: usize,
+    ) -> Result<Portion, AllocError>
+        ensures went { IfOk result (λ p. WentOn (program_of self.old.program.now) self.old.depth steps (state_of self.old) (state_of self.new)
+            p.end p.steps) }
+        ensures moved { IfOk result (λ p. 0 < steps → 0 < p.steps) }
+        ensures program { self.new.program ≡ self.old.program }
+        ensures depth { self.new.depth ≡ self.old.depth }
+    {
+        let mut done = 0;
+        while done < steps {
+            let reached = step(alloc, self.program, self.depth, &mut self.interpreter)?;
+            done += 1;
+            if let Some(end) = reached.end() {
+                return Ok(Portion {
+                    end: Some(end),
+                    steps: done,
+                });
+            }
+            if outputs <= self.interpreter.output.len() {
+                return Ok(Portion {
+                    end: None,
+                    steps: done,
+                });
+            }
+        }
+        Ok(Portion {
+            end: None,
+            steps: done,
+        })
+    }
+
+    /// What was written so far, the first word first.
+    pub fn output(&self) -> &[u32]
+        ensures { result.now ≡ (outcome (state_of self.now)).output }
+    {
+        self.interpreter.output.as_slice()
+    }
+
+    /// Forgets what was written so far.
+    pub fn clear_output(&mut self)
+        ensures state { state_of self.new ≡ emptied (state_of self.old) }
+        ensures program { self.new.program ≡ self.old.program }
+        ensures depth { self.new.depth ≡ self.old.depth }
+    {
+        self.interpreter.output.clear();
+    }
+}
+
+/// The law that a run doesn't depend on what was written before it.
+pub fn output_goes_before()
+    ensures { OutputGoesBefore }
+{}
