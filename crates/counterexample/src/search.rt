@@ -1,6 +1,7 @@
 // Starts to try.
-ghost use Rattle.std.specs.Prelude.{◌≡◌, IfOk, IfSome, IfNone};
+ghost use Rattle.std.specs.Prelude.{◌≡◌, IfOk, IfSome, IfNone, Contains};
 ghost use Rattle.mblock.specs.Orders.{Means};
+ghost use Rattle.counterexample.specs.declared.start.Start.{Start as AStart};
 ghost use Rattle.counterexample.specs.Views.{start_of};
 ghost use Rattle.counterexample.specs.Refuting.{Agrees, Refutes};
 
@@ -239,6 +240,28 @@ fn witness_of(
     }
 }
 
+/// One of these starts that refutes that the order means the block; None where from each of them the order does what the block does,
+/// if that isn't stuck. `Err` only where memory is refused.
+pub fn find_among(
+    alloc: Global,
+    block: &Block,
+    order: &Order,
+    starts: &[Start],
+    link: u32,
+) -> Result<Option<Witness>, AllocError>
+    ensures refutes { IfOk result (λ r. IfSome r (λ w. Refutes block.now order.now (start_of w.start) w.link w.difference)) }
+    ensures tried { IfOk result (λ r. IfSome r (λ w. Contains starts.now w.start × (w.link ≡ link))) }
+    ensures none { IfOk result (λ r. IfNone r ((s : AStart) → Contains starts.now s → Agrees block.now order.now (start_of s) link)) }
+{
+    for start in starts {
+        let witness = witness_of(alloc, block, order, start, link)?;
+        if witness.is_some() {
+            return Ok(witness);
+        }
+    }
+    Ok(None)
+}
+
 // One of the starts for a block and pairs of its accesses that refutes that the order means the block.
 fn find_by(
     alloc: Global,
@@ -250,7 +273,7 @@ fn find_by(
 {
     for number in 0..starts_for(block) {
         let start = start_number(alloc, block, pairs, number)?;
-        let witness = witness_of(alloc, block, order, &start, LINK)?;
+        let witness = find_among(alloc, block, order, &[start], LINK)?;
         if witness.is_some() {
             return Ok(witness);
         }
