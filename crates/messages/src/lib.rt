@@ -1,4 +1,4 @@
-//! What is said of the errors of a C text: what is wrong, in plain words, and what to write instead.
+//! What is said of the errors of a C text, and warnings: what is wrong, in plain words, and what to write instead.
 //!
 //! Contract: `explain`
 //! - `explain` gives printable ASCII for each source and each error.
@@ -6,7 +6,7 @@
 //!
 //! | Tested | In |
 //! |---|---|
-//! | nearly each message and hint | tests/messages |
+//! | nearly each message, hint and warning | tests/messages |
 #![tactic(auto)]
 
 mod chains;
