@@ -31,7 +31,7 @@ pub use build_command::{
 pub use check_command::{CheckAnswer, CheckFault, check};
 pub use command_line::{AskedBuild, Command, words};
 pub use commands::{FileFault, Files};
-pub use level_runs::interp_rtl;
+pub use level_runs::{interp_blocks, interp_rtl};
 pub use listings::list_image;
 pub use messages::SourceFault;
 pub use program::{end_status, mcc, tell_interp};

@@ -11,7 +11,8 @@ use std::alloc::{AllocError, Global};
 
 /// The address behind so many words.
 fn behind(address: u32, words: usize) -> u32 {
-    address.wrapping_add((words as u32).wrapping_mul(4))
+    let words = u32::try_from(words).unwrap_or(u32::MAX);
+    address.wrapping_add(words.wrapping_mul(4))
 }
 
 fn put_functions<'t>(
