@@ -1,8 +1,8 @@
 //! Runs a typed program: an interpreter that is exactly the meaning of C at each bound (C99 5.1.2.3, 6.5, 6.8).
 //!
-//! Definitions: `specs/Sizes.antt`, `specs/Turns.antt`.
-//! Contract: `run`, `reason_of`
-//! - `run` is exactly what n steps of the program lead to at a depth.
+//! Definitions: `specs/Sizes.antt`, `specs/Turns.antt`, `specs/Portions.antt`.
+//! Contract: `run`, `UnderWay::go_on`, `reason_of`
+//! - `run` and `UnderWay::go_on` are exactly what n steps of the program lead to at a depth.
 //! - `reason_of` gives a reason exactly if the run ends wrong, and what it says of values is so.
 //!
 //! | Tested | In |

@@ -4,7 +4,7 @@ use Rattle.std.specs.declared.vec.Vec.{Vec}
 use Rattle.std.specs.declared.alloc.Global.{Global}
 use Rattle.std.specs.Borrow.{Bor}
 use Rattle.std.specs.List.{FoldsTo, flat_map}
-use Rattle.commands.specs.Requests.{Request, Asks, Does, IsSent, TellsBeside, TellsLine}
+use Rattle.commands.specs.Requests.{Request, Asks, Does, IsSent, StopsMidway, TellsBeside, TellsLine}
 use Rattle.check_report.specs.Several.{BreaksOff, CheckedFile, ChecksAll, ChecksEach, IsTotals, faults_of, lines_of, request_of, status_of, totals_of, totals_text, worse}
 use Rattle.check_report.specs.Several.CheckedFile.{Answered, Unexplained, Faulty, Unread}
 use Rattle.command_line.specs.Commands.{IsCommand}
@@ -12,7 +12,7 @@ use Rattle.command_line.specs.Programs.{IsRemark, IsStopped}
 use Rattle.command_line.specs.declared.command.Command.{Command}
 use Rattle.command_line.specs.declared.command.Command.TheVariants.{CheckEach}
 use Rattle.command_line.proofs.Programs.{stopped_by}
-use Rattle.driver.specs.Program.{HasFaultyFile, Remarks, Stops}
+use Rattle.driver.specs.Program.{Begins, HasFaultyFile, IsBegun, Remarks, Stops}
 use Rattle.run_command.specs.Command.{IsShown as IsPageByte}
 use Rattle.commands.specs.Texts.{IsShown}
 
@@ -28,6 +28,28 @@ page_shown pieces h k d inside i e within = shown_of (get_or (get_or pieces k d)
 pub remarked : {E : Type 0} (tells : E → List ℕ → E → Type 0) (words : List (List ℕ)) (status : ℕ) (command : Command) → IsCommand words command
     → (p q : E) → TellsBeside tells p (Remarks command status) q → TellsBeside tells p (IsRemark Remarks words status) q
 remarked tells words status command entered p q (told, folds, says) = (told, folds, (command, entered, says))
+
+-- one of three
+pub or_begun : {A B C : Type 0} → A ⊎ B → A ⊎ (B ⊎ C)
+or_begun (inl a) = inl a
+or_begun (inr b) = inr (inl b)
+
+-- a run that ended by a fault, as what the program did
+pub run_stopped : {F W E : Type 0} (answers : F → Request → F → Type 0) (sends refuses : W → W → Type 0) (tells : E → List ℕ → E → Type 0)
+    (words : List (List ℕ)) (command : Command) → IsCommand words command → (f g : F) (o r : Option (List ℕ)) (v w : W) (p q : E)
+    → Asks answers f g refuses v w tells p q (Stops command) ⊎ StopsMidway answers f g o r tells p q (Begins command)
+    → Asks answers f g refuses v w tells p q (IsStopped Stops words)
+    ⊎ (HasFaultyFile answers f g o r sends w tells p q words ⊎ StopsMidway answers f g o r tells p q (IsBegun words))
+run_stopped answers sends refuses tells words command entered f g o r v w p q (inl a) =
+    inl (stopped_by Stops answers refuses tells words command entered f g v w p q a)
+run_stopped answers sends refuses tells words command entered f g o r v w p q (inr m) = inr (inr (record {
+  requests = m.requests;
+  printed = m.printed;
+  asked = m.asked;
+  took = m.took;
+  told = m.told;
+  begins = (command, entered, m.begins);
+}))
 
 one_or : (b : Bool) (n : ℕ) → (if b || true then 1 else n) ≡ 1
 one_or true n = refl

@@ -4,8 +4,7 @@ use Rattle.std.specs.Prelude.{◌≡◌, ℕ, List, [], ◌∷◌, ◌++◌, Boo
 use Rattle.std.specs.declared.vec.Vec.{Vec}
 use Rattle.std.specs.declared.alloc.Global.{Global}
 use Rattle.std.specs.Borrow.{Bor}
-use Rattle.runs.specs.Runs.{outcome_of}
-use Rattle.runs.specs.declared.ran.Ran.{Ran}
+use Rattle.runs.specs.Runs.{Outcome}
 use Rattle.image.specs.Texts.{image_fault_text}
 use Rattle.image.specs.Images.{IsImageFault}
 use Rattle.commands.specs.Requests.{IsSent, Request}
@@ -16,7 +15,10 @@ use Rattle.check_report.specs.Command.{Explains}
 use Rattle.check_report.specs.Several.{BreaksOff, ChecksAll, ChecksEach, IsTotals}
 use Rattle.build_command.specs.SourceFaults.{IsFaultless}
 use Rattle.build_command.specs.Commands.{AnswersBuild, IsBuildRemark, StopsApart}
-use Rattle.run_command.specs.Command.{IsReason, IsRefused, Runs, StopsRun, words_text}
+use Rattle.commands.specs.Streams.{BeginsFile}
+use Rattle.commands.specs.declared.numbers.WordForm.{WordForm}
+use Rattle.run_command.specs.Command.{BeginsRun, IsRefused, IsRunRemark, Runs, StopsRun, words_in}
+use Rattle.run_command.specs.declared.remarks.Counted.TheVariants.{Words, Steps}
 use Rattle.command_line.specs.Commands.{IsCommand}
 use Rattle.command_line.specs.declared.command.AskedBuild.{AskedBuild}
 use Rattle.command_line.specs.declared.command.Command.{Command}
@@ -27,13 +29,13 @@ use Rattle.driver.specs.Listings.{IsListing, IsOfImage}
 use Rattle.driver.specs.Stages.{IsStagesFault, stages_fault_text}
 
 -- what is printed of a run: its output, and how it ended
-abbrev pub PrintsRun : Ran → List ℕ → Type 0
-PrintsRun ran printed = printed ≡ words_text ran.output.items ++ (end_text ran.end ++ 10 ∷ [])
+abbrev pub PrintsRun : WordForm → Outcome → List ℕ → Type 0
+PrintsRun form o printed = printed ≡ words_in form o.output ++ (end_text o.end ++ 10 ∷ [])
 
 -- `mcc interp SOURCE`
-abbrev pub Interps : (source : List ℕ) → (depth steps : ℕ) → (status : ℕ) → List Request → List ℕ → Type 0
-Interps source depth steps =
-    AnswersFile (λ text ran. IsRun text depth steps (outcome_of ran)) PrintsRun (λ ran. end_status ran.end) source
+abbrev pub Interps : (source : List ℕ) → (depth steps : ℕ) → WordForm → (status : ℕ) → List Request → List ℕ → Type 0
+Interps source depth steps form =
+    AnswersFile (λ text o. IsRun text depth steps o) (PrintsRun form) (λ o. end_status o.end) source
 
 -- lines of printable ASCII
 abbrev pub IsPage : Vec ℕ Global → Type 0
@@ -59,8 +61,11 @@ Shows source = AnswersFile (λ text page. IsFaultless text × IsPage page) Print
 
 -- these where they ended by a fault
 abbrev pub StopsInterp : (source : List ℕ) → (depth steps : ℕ) → (silent refused : Type 0) → List Request → List ℕ → Type 0
-StopsInterp source depth steps =
-    StopsFile (λ text ran. IsRun text depth steps (outcome_of ran)) IsInterpFault interp_fault_text IsRefused source
+StopsInterp source depth steps = StopsFile (λ text o. IsRun text depth steps o) IsInterpFault interp_fault_text IsRefused source
+
+-- the same where memory was refused to the run
+abbrev pub BeginsInterp : (source : List ℕ) → (depth steps : ℕ) → WordForm → List Request → List ℕ → Type 0
+BeginsInterp source depth steps form = BeginsFile (λ text o. IsRun text depth steps o) (PrintsRun form) source
 
 abbrev pub StopsList : (image : List ℕ) → (asm : Bool) → (silent refused : Type 0) → List Request → List ℕ → Type 0
 StopsList image asm = StopsFile (IsImagePage asm) IsImageFault image_fault_text IsRefused image
@@ -73,9 +78,9 @@ abbrev pub Answers : Command → ℕ → List Request → List ℕ → Type 0
 Answers (Check file false) status requests printed = Checks file.now status requests printed
 Answers (Check file true) status requests printed = Explains file.now status requests printed
 Answers (CheckEach files explain) status requests printed = ChecksEach explain (map (λ s. s.now) files.items) status requests printed
-Answers (Interp r) status requests printed = Interps r.source.now r.depth r.steps status requests printed
+Answers (Interp r) status requests printed = Interps r.source.now r.depth r.steps r.form status requests printed
 Answers (Build b) status requests printed = AnswersBuild b.source.now b.image.now b.depth b.plain status requests printed
-Answers (Run r) status requests printed = Runs r.image.now r.steps status requests printed
+Answers (Run r) status requests printed = Runs r.image.now r.steps r.form status requests printed
 Answers (Listing image asm) status requests printed = Lists image.now asm status requests printed
 Answers (Show source stage function block dot) status requests printed = Shows source.now status requests printed
 Answers (NoChoice choice value) status requests printed = ⊥
@@ -91,10 +96,20 @@ Stops (Listing image asm) silent refused requests told = StopsList image.now asm
 Stops (Show source stage function block dot) silent refused requests told = StopsShow source.now silent refused requests told
 Stops (NoChoice choice value) silent refused requests told = (requests ≡ []) × (told ≡ no_choice_text) × silent
 
+-- a command that memory was refused to once it had begun to print: what was printed is a beginning of what it prints
+abbrev pub Begins : Command → List Request → List ℕ → Type 0
+Begins (Interp r) requests printed = BeginsInterp r.source.now r.depth r.steps r.form requests printed
+Begins (Run r) requests printed = BeginsRun r.image.now r.steps r.form requests printed
+Begins _ requests printed = ⊥
+
+-- the words are such a command
+abbrev pub IsBegun : List (List ℕ) → List Request → List ℕ → Type 0
+IsBegun words requests printed = (command : Command) × IsCommand words command × Begins command requests printed
+
 -- what a command tells beside its answer
 abbrev pub Remarks : Command → (status : ℕ) → List (List ℕ) → Type 0
-Remarks (Interp r) status told = IsReason status told
-Remarks (Run r) status told = IsReason status told
+Remarks (Interp r) status told = IsRunRemark Steps r.steps r.count status told
+Remarks (Run r) status told = IsRunRemark Words r.steps r.count status told
 Remarks (Build b) status told = IsBuildRemark status told
 Remarks (CheckEach files explain) status told = IsTotals explain (map (λ s. s.now) files.items) told
 Remarks _ status told = told ≡ []

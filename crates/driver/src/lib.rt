@@ -14,11 +14,13 @@
 
 mod choices;
 mod image_commands;
+mod interp_command;
 mod level_runs;
 mod listings;
 mod pages;
 mod program;
 mod reasons;
+mod running_source;
 mod show_commands;
 mod source_runs;
 mod texts;
@@ -31,10 +33,11 @@ pub use build_command::{
 pub use check_command::{CheckAnswer, CheckFault, check};
 pub use command_line::{AskedBuild, Command, words};
 pub use commands::{FileFault, Files};
+pub use interp_command::{end_status, tell_interp};
 pub use level_runs::{interp_blocks, interp_rtl};
 pub use listings::list_image;
 pub use messages::SourceFault;
-pub use program::{end_status, mcc, tell_interp};
+pub use program::mcc;
 pub use reasons::wrong_page;
 pub use run_command::{EndingLine, ending_status, print_run, run_image};
 pub use show_commands::{StagesFault, stages, tell_stages};

@@ -2,134 +2,28 @@
 ghost use Rattle.std.specs.Prelude.{◌≡◌, ◌≢◌, ◌≤◌, ◌⊎◌, [], map, true};
 ghost use Rattle.clap.specs.Words.{fault_of, takes};
 ghost use Rattle.command_line.specs.Commands.{mcc_app};
-ghost use Rattle.commands.specs.Requests.{Asks, Does, IsNothing, IsSent, TellsBeside, TellsLine};
+ghost use Rattle.commands.specs.Requests.{Asks, Does, IsNothing, IsSent, StopsMidway, TellsBeside};
 ghost use Rattle.command_line.specs.Programs.{EndsUntaken, HasMistake, IsAnswered, IsRemark, IsStopped};
 ghost use Rattle.check_command.specs.Command.{StopsCheck};
 ghost use Rattle.check_command.specs.Texts.{IsCheckStatus};
 ghost use Rattle.command_line.specs.declared.command.Command.TheVariants.{Check};
-ghost use Rattle.driver.specs.Program.{Answers, HasFaultyFile, NamesOneFile, Remarks, Shows, Stops, StopsShow};
-ghost use Rattle.driver.specs.Texts.{end_status, interp_fault_text};
+ghost use Rattle.driver.specs.Program.{Answers, HasFaultyFile, IsBegun, NamesOneFile, Remarks, Shows, Stops, StopsShow};
 
 use crate::choices::tell_choice;
 use crate::image_commands::ImageCommand;
+use crate::interp_command::interp_file;
 use crate::pages::Paged;
-use crate::reasons::wrong_page;
 use crate::show_commands::ShowCommand;
-use crate::source_runs::{InterpFault, interp};
-use crate::texts::EndLine;
-use build_command::{build_file, source_place};
+use build_command::build_file;
 use check_command::{answer_check, check_file};
 use check_report::{ExplainedAnswer, check_files};
 use command_line::{Command, words};
-use commands::{
-    BadFile, Complaints, FileCommand, Files, HostFault, Output, answer_file, tell_placed,
-    tell_words,
-};
-use run_command::{print_run, run_file, tell_page};
-use runs::{End, Ran};
+use commands::{Complaints, Files, Output, answer_file, tell_words};
+use run_command::run_file;
 use show::Asked;
 use std::alloc::Global;
 use std::sync::Wait;
 use std::thread::Threads;
-
-/// The status of a program's run.
-pub fn end_status(end: End) -> u8
-    ensures status { result ≡ end_status end }
-    ensures most { result ≤ 4 }
-    ensures not_wrong_words { result ≢ 2 }
-    ensures no_fault { result ≢ 1 }
-{
-    match end {
-        End::Done(_) => 0,
-        End::Wrong => 3,
-        End::More => 4,
-    }
-}
-
-/// Tells the line of a run's fault, and below it where it lies and what is said of it.
-pub fn tell_interp<E: Complaints>(
-    alloc: Global,
-    err: &mut E,
-    source: &str,
-    text: &[u8],
-    fault: InterpFault,
-) -> u8
-    ensures status { result ≡ 1 }
-    ensures told { TellsLine E.tells err.old (interp_fault_text fault) err.new }
-{
-    let found = match fault {
-        InterpFault::Source(found) => Some(found),
-        InterpFault::NoMemory => None,
-    };
-    let place = source_place(alloc, source, text, found);
-    tell_placed(alloc, err, &fault, &place)
-}
-
-/// `mcc interp`, with the source's name and the bounds.
-#[derive(Clone, Copy)]
-struct InterpCommand<'s> {
-    source: &'s str,
-    depth: u32,
-    steps: u64,
-}
-
-impl FileCommand for InterpCommand<'_> {
-    ghost use Rattle.runs.specs.Runs.{outcome_of};
-    ghost use Rattle.driver.specs.Interps.{IsInterpFault, IsRun};
-    ghost use Rattle.run_command.specs.Command.{IsReason, IsRefused};
-    ghost use Rattle.driver.specs.Program.{PrintsRun};
-
-    type Answer = Ran;
-
-    type Fault = InterpFault;
-
-    ghost answers = { λ s text ran. IsRun text s.depth s.steps (outcome_of ran) };
-
-    ghost faults = { λ s text fault. IsInterpFault text fault };
-
-    ghost prints = { λ s ran printed. PrintsRun ran printed };
-
-    ghost status = { λ ran. end_status ran.end };
-
-    ghost most = { 4 };
-
-    ghost line = { interp_fault_text };
-
-    ghost unprinted = { IsRefused };
-
-    ghost remarks = { λ s status told. IsReason status told };
-
-    fn work(&self, alloc: Global, bytes: &[u8]) -> Result<Ran, InterpFault> {
-        interp(alloc, bytes, self.depth, self.steps)
-    }
-
-    fn print<W: Output>(
-        &self,
-        _alloc: Global,
-        _bytes: &[u8],
-        answer: &Ran,
-        out: &mut W,
-    ) -> Result<u8, HostFault> {
-        match print_run(out, answer.output.as_slice(), &EndLine(answer.end)) {
-            Ok(()) => Ok(end_status(answer.end)),
-            Err(_) => Err(HostFault::CannotWrite),
-        }
-    }
-
-    fn remark<E: Complaints>(&self, alloc: Global, bytes: &[u8], answer: &Ran, err: &mut E) {
-        match answer.end {
-            End::Wrong => {
-                let page = wrong_page(alloc, self.source, bytes, self.depth, self.steps);
-                tell_page(err, page);
-            }
-            End::Done(_) | End::More => {}
-        }
-    }
-
-    fn tell<E: Complaints>(&self, alloc: Global, of: &BadFile<'_, InterpFault>, err: &mut E) -> u8 {
-        tell_interp(alloc, err, of.file, of.bytes, of.fault)
-    }
-}
 
 /// `mcc check FILE`, with `--explain` or without.
 fn check_one<F: Files, W: Output, E: Complaints>(
@@ -199,7 +93,9 @@ pub fn mcc<T: Threads + Wait + Sync, F: Files, W: Output, E: Complaints>(
         → Asks F.answers files.old files.new W.refuses out.old out.new E.tells err.old err.new
         (IsStopped Stops (map (λ s. s.now) args.entry.now))
         ⊎ HasFaultyFile F.answers files.old files.new (W.contents out.old) (W.contents out.new) W.sends out.new E.tells err.old err.new
-        (map (λ s. s.now) args.entry.now) }
+        (map (λ s. s.now) args.entry.now)
+        ⊎ StopsMidway F.answers files.old files.new (W.contents out.old) (W.contents out.new) E.tells err.old err.new
+        (IsBegun (map (λ s. s.now) args.entry.now)) }
     ensures wrong { result ≡ 2
         → (files.new ≡ files.old) × (out.new ≡ out.old)
         × (HasMistake (fault_of mcc_app (map (λ s. s.now) args.entry.now)) ⊎ NamesOneFile (map (λ s. s.now) args.entry.now)) }
@@ -214,20 +110,18 @@ pub fn mcc<T: Threads + Wait + Sync, F: Files, W: Output, E: Complaints>(
                 explain,
             },
         ) => { check_files(rt, alloc, names.as_slice(), explain, files, out, err) }
-        Ok(Command::Interp(asked)) => answer_file(
+        Ok(Command::Interp(asked)) => interp_file(alloc, asked, files, out, err),
+        Ok(Command::Build(asked)) => build_file(rt, alloc, &asked, files, out, err),
+        Ok(Command::Run(asked)) => run_file(
             alloc,
-            &InterpCommand {
-                source: asked.source,
-                depth: asked.depth,
-                steps: asked.steps,
-            },
-            asked.source,
+            asked.image,
+            asked.steps,
+            asked.form,
+            asked.count,
             files,
             out,
             err,
         ),
-        Ok(Command::Build(asked)) => build_file(rt, alloc, &asked, files, out, err),
-        Ok(Command::Run(asked)) => { run_file(alloc, asked.image, asked.steps, files, out, err) }
         Ok(Command::List { image, asm }) => {
             answer_file(alloc, &Paged(ImageCommand { asm }), image, files, out, err)
         }

@@ -23,8 +23,8 @@ impl Program for Mcc {
     ghost use Rattle.clap.specs.Words.{fault_of, takes};
     ghost use Rattle.command_line.specs.Commands.{mcc_app};
     ghost use Rattle.command_line.specs.Programs.{EndsUntaken, HasMistake, IsAnswered, IsRemark, IsStopped};
-    ghost use Rattle.commands.specs.Requests.{Asks, Does, IsSent, TellsBeside};
-    ghost use Rattle.driver.specs.Program.{Answers, HasFaultyFile, NamesOneFile, Remarks, Stops};
+    ghost use Rattle.commands.specs.Requests.{Asks, Does, IsSent, StopsMidway, TellsBeside};
+    ghost use Rattle.driver.specs.Program.{Answers, HasFaultyFile, IsBegun, NamesOneFile, Remarks, Stops};
 
     /// Runs `driver::mcc` over what its host has. The answer is the exit status.
     fn answer<T: Threads + Wait + Sync, F: Files, W: Output, E: Complaints>(
@@ -44,7 +44,9 @@ impl Program for Mcc {
             → Asks F.answers host.old.files host.new.files W.refuses host.old.out host.new.out E.tells host.old.err host.new.err
             (IsStopped Stops (map (λ s. s.now) host.old.words.now))
             ⊎ HasFaultyFile F.answers host.old.files host.new.files (W.contents host.old.out) (W.contents host.new.out) W.sends host.new.out
-            E.tells host.old.err host.new.err (map (λ s. s.now) host.old.words.now) }
+            E.tells host.old.err host.new.err (map (λ s. s.now) host.old.words.now)
+            ⊎ StopsMidway F.answers host.old.files host.new.files (W.contents host.old.out) (W.contents host.new.out) E.tells host.old.err host.new.err
+            (IsBegun (map (λ s. s.now) host.old.words.now)) }
         ensures wrong { result ≡ 2 → (host.new.files ≡ host.old.files) × (host.new.out ≡ host.old.out)
             × (HasMistake (fault_of mcc_app (map (λ s. s.now) host.old.words.now)) ⊎ NamesOneFile (map (λ s. s.now) host.old.words.now)) }
         ensures untaken { fault_of mcc_app (map (λ s. s.now) host.old.words.now) ≢ []

@@ -1,8 +1,8 @@
 //! Runs images on the machine: exactly its definition at each bound. `load` decodes each word once, a step takes constant time.
 //!
-//! Definitions: `specs/ImageRuns.antt`, `specs/Decoding.antt`.
-//! Contract: `load`, `Machine::step`, `run`, `Registers::perform`
-//! - `load`, `Machine::step` and `run` are exactly the machine from the image's start.
+//! Definitions: `specs/ImageRuns.antt`, `specs/Decoding.antt`, `specs/Portions.antt`.
+//! Contract: `load`, `Machine::step`, `Machine::go_on`, `run`, `Registers::perform`
+//! - `load`, `Machine::step`, `Machine::go_on` and `run` are exactly the machine from the image's start.
 //! - What a `Machine` shows is what it holds.
 #![tactic(auto)]
 

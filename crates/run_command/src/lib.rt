@@ -1,9 +1,9 @@
 //! The command `mcc run`.
 //!
 //! Definitions: `specs/ImageRuns.antt`, `specs/Command.antt`.
-//! Contract: `run_image`, `run_file`
-//! - `run_image` is exactly the image's run, if the bytes are an image's, and else the first test that fails.
-//! - `run_file` asks and prints accordingly.
+//! Contract: `run_image`, `stream`, `run_file`
+//! - `run_image` is exactly the image's run, or the first test that the bytes fail.
+//! - `stream` prints each portion of a run before the next one, and `run_file` asks and prints accordingly.
 //!
 //! | Tested | In |
 //! |---|---|

@@ -3,7 +3,7 @@ use Rattle.clap.specs.Words.{fault_of}
 use Rattle.command_line.specs.Commands.{IsCommand, mcc_app}
 use Rattle.command_line.specs.declared.command.Command.TheVariants.{Check, CheckEach, Interp, Build, Run, List as Listing, NoChoice, Show}
 use Rattle.command_line.proofs.Programs.{answered_by, ends_untaken, mistake_of, silent, stopped_by, stopped_before}
-use Rattle.driver.proofs.Lifted.{all_answered, all_counted, all_stopped, remarked}
+use Rattle.driver.proofs.Lifted.{all_answered, all_counted, all_stopped, or_begun, remarked, run_stopped}
 use Rattle.driver.specs.Program.{Answers, Remarks, Stops}
 use Rattle.driver.specs.Texts.{no_choice_text}
 use Rattle.driver.proofs.program.mcc.Goals as goal
@@ -41,29 +41,29 @@ returns-in-Ok-CheckEach-clause-quiet g c = λ taken other.
     c.as_slice.ensures.value c.check_files.ensures.each other)
 
 pub returns-in-Ok-CheckEach-clause-stopped : goal.returns-in-Ok-CheckEach-clause-stopped
-returns-in-Ok-CheckEach-clause-stopped g c =
-    all_stopped g.F.Files.answers g.W.Output.sends g.W.Output.refuses g.E.Complaints.tells c.in-Ok-CheckEach.explain c.check_files.result _ _ _ _ _ _ _ _ c.in-Ok-CheckEach.names _
+returns-in-Ok-CheckEach-clause-stopped g c = λ one.
+    or_begun (all_stopped g.F.Files.answers g.W.Output.sends g.W.Output.refuses g.E.Complaints.tells c.in-Ok-CheckEach.explain c.check_files.result _ _ _ _ _ _ _ _ c.in-Ok-CheckEach.names _
     c.as_slice.ensures.value _
     (subst (IsCommand (map (λ s. s.now) c.args.args.now)) c.in-Ok-CheckEach.field-0-is c.in-Ok-CheckEach.ensures.command)
-    c.check_files.ensures.each
+    c.check_files.ensures.each one)
 
 pub returns-in-Ok-Interp-clause-answered : goal.returns-in-Ok-Interp-clause-answered
 returns-in-Ok-Interp-clause-answered g c = λ taken other.
-    answered_by Answers g.F.Files.answers (map (λ s. s.now) c.args.args.now) c.answer_file.result (Interp c.in-Ok-Interp.asked)
+    answered_by Answers g.F.Files.answers (map (λ s. s.now) c.args.args.now) c.interp_file.result (Interp c.in-Ok-Interp.asked)
     (subst (IsCommand (map (λ s. s.now) c.args.args.now)) c.in-Ok-Interp.field-0-is c.in-Ok-Interp.ensures.command)
-    _ _ _ _ (c.answer_file.ensures.answered other)
+    _ _ _ _ (c.interp_file.ensures.answered other)
 
 pub returns-in-Ok-Interp-clause-quiet : goal.returns-in-Ok-Interp-clause-quiet
 returns-in-Ok-Interp-clause-quiet g c = λ taken other.
-    remarked g.E.Complaints.tells (map (λ s. s.now) c.args.args.now) c.answer_file.result (Interp c.in-Ok-Interp.asked)
+    remarked g.E.Complaints.tells (map (λ s. s.now) c.args.args.now) c.interp_file.result (Interp c.in-Ok-Interp.asked)
     (subst (IsCommand (map (λ s. s.now) c.args.args.now)) c.in-Ok-Interp.field-0-is c.in-Ok-Interp.ensures.command)
-    _ _ (c.answer_file.ensures.beside other)
+    _ _ (c.interp_file.ensures.beside other)
 
 pub returns-in-Ok-Interp-clause-stopped : goal.returns-in-Ok-Interp-clause-stopped
 returns-in-Ok-Interp-clause-stopped g c = λ one.
-    inl (stopped_by Stops g.F.Files.answers g.W.Output.refuses g.E.Complaints.tells (map (λ s. s.now) c.args.args.now) (Interp c.in-Ok-Interp.asked)
+    run_stopped g.F.Files.answers g.W.Output.sends g.W.Output.refuses g.E.Complaints.tells (map (λ s. s.now) c.args.args.now) (Interp c.in-Ok-Interp.asked)
     (subst (IsCommand (map (λ s. s.now) c.args.args.now)) c.in-Ok-Interp.field-0-is c.in-Ok-Interp.ensures.command)
-    _ _ _ _ _ _ (c.answer_file.ensures.stopped one))
+    _ _ _ _ _ _ _ _ (c.interp_file.ensures.stopped one)
 
 pub returns-in-Ok-Build-clause-answered : goal.returns-in-Ok-Build-clause-answered
 returns-in-Ok-Build-clause-answered g c = λ taken other.
@@ -116,27 +116,27 @@ returns-in-Ok-Run-clause-quiet g c = λ taken other.
 
 pub returns-in-Ok-Run-clause-stopped : goal.returns-in-Ok-Run-clause-stopped
 returns-in-Ok-Run-clause-stopped g c = λ one.
-    inl (stopped_by Stops g.F.Files.answers g.W.Output.refuses g.E.Complaints.tells (map (λ s. s.now) c.args.args.now) (Run c.in-Ok-Run.asked)
+    run_stopped g.F.Files.answers g.W.Output.sends g.W.Output.refuses g.E.Complaints.tells (map (λ s. s.now) c.args.args.now) (Run c.in-Ok-Run.asked)
     (subst (IsCommand (map (λ s. s.now) c.args.args.now)) c.in-Ok-Run.field-0-is c.in-Ok-Run.ensures.command)
-    _ _ _ _ _ _ (c.run_file.ensures.stopped one))
+    _ _ _ _ _ _ _ _ (c.run_file.ensures.stopped one)
 
 pub returns-in-Ok-List-clause-answered : goal.returns-in-Ok-List-clause-answered
 returns-in-Ok-List-clause-answered g c = λ taken other.
-    answered_by Answers g.F.Files.answers (map (λ s. s.now) c.args.args.now) c.answer_file-in-Ok-List.result (Listing c.in-Ok-List.image c.in-Ok-List.asm)
+    answered_by Answers g.F.Files.answers (map (λ s. s.now) c.args.args.now) c.answer_file.result (Listing c.in-Ok-List.image c.in-Ok-List.asm)
     (subst (IsCommand (map (λ s. s.now) c.args.args.now)) c.in-Ok-List.field-0-is c.in-Ok-List.ensures.command)
-    _ _ _ _ (c.answer_file-in-Ok-List.ensures.answered other)
+    _ _ _ _ (c.answer_file.ensures.answered other)
 
 pub returns-in-Ok-List-clause-quiet : goal.returns-in-Ok-List-clause-quiet
 returns-in-Ok-List-clause-quiet g c = λ taken other.
-    remarked g.E.Complaints.tells (map (λ s. s.now) c.args.args.now) c.answer_file-in-Ok-List.result (Listing c.in-Ok-List.image c.in-Ok-List.asm)
+    remarked g.E.Complaints.tells (map (λ s. s.now) c.args.args.now) c.answer_file.result (Listing c.in-Ok-List.image c.in-Ok-List.asm)
     (subst (IsCommand (map (λ s. s.now) c.args.args.now)) c.in-Ok-List.field-0-is c.in-Ok-List.ensures.command)
-    _ _ (c.answer_file-in-Ok-List.ensures.beside other)
+    _ _ (c.answer_file.ensures.beside other)
 
 pub returns-in-Ok-List-clause-stopped : goal.returns-in-Ok-List-clause-stopped
 returns-in-Ok-List-clause-stopped g c = λ one.
     inl (stopped_by Stops g.F.Files.answers g.W.Output.refuses g.E.Complaints.tells (map (λ s. s.now) c.args.args.now) (Listing c.in-Ok-List.image c.in-Ok-List.asm)
     (subst (IsCommand (map (λ s. s.now) c.args.args.now)) c.in-Ok-List.field-0-is c.in-Ok-List.ensures.command)
-    _ _ _ _ _ _ (c.answer_file-in-Ok-List.ensures.stopped one))
+    _ _ _ _ _ _ (c.answer_file.ensures.stopped one))
 
 pub returns-in-Ok-Show-clause-answered : goal.returns-in-Ok-Show-clause-answered
 returns-in-Ok-Show-clause-answered g c = λ taken other.

@@ -1,0 +1,61 @@
+use Rattle.std.proofs.Common.{◌≡◌, ℕ, List, [], ◌∷◌, ◌++◌, refl, sym, ap, ◌∙◌}
+use Rattle.runs.specs.Runs.{Outcome, outcome}
+use Rattle.c_types.specs.declared.typed.Typed.{Typed}
+use Rattle.c_types.specs.Shape.{program_of}
+use Rattle.c_types.specs.Typed.{SpellsTyped}
+use Rattle.c_typed.specs.Trees.{TypedProgram}
+use Rattle.c_typed.specs.Meaning.{Run, source_run, source_start, source_steps}
+use Rattle.c_run.specs.Portions.{state_of}
+use Rattle.c_run.specs.declared.portions.UnderWay.{UnderWay}
+use Rattle.commands.specs.declared.numbers.WordForm.{WordForm}
+use Rattle.commands.specs.Streams.{IsBeginning}
+use Rattle.run_command.specs.Command.{AreFirstLines, words_in}
+use Rattle.run_command.proofs.Streamed.{lines_on}
+use Rattle.driver.specs.Interps.{IsRun, comes_to}
+use Rattle.driver.specs.Program.{PrintsRun}
+use Rattle.driver.specs.Texts.{end_text}
+use Rattle.driver.proofs.interp_command.stream_source.Goals as goal
+
+ran : (text : List ℕ) (depth steps : ℕ) (p : TypedProgram) → SpellsTyped text p → IsRun text depth steps (source_run p depth steps)
+ran text depth steps p h = record { program = p; spelled = h; run = refl }
+
+-- the run of a program that just began is the program's
+same_run : (t : Typed) (m : UnderWay) (depth steps : ℕ) → state_of m ≡ source_start (program_of t) → m.program.now ≡ t → m.depth ≡ depth
+    → outcome (source_steps (program_of m.program.now) m.depth steps (state_of m)) ≡ source_run (program_of t) depth steps
+same_run t m depth steps start program depths =
+    ap (λ (s : Run). outcome (source_steps (program_of m.program.now) m.depth steps s)) start
+    ∙ ap (λ (x : Typed). outcome (source_steps (program_of x) m.depth steps (source_start (program_of t)))) program
+    ∙ ap (λ (d : ℕ). outcome (source_steps (program_of t) d steps (source_start (program_of t)))) depths
+
+begins : (text : List ℕ) (depth steps : ℕ) (form : WordForm) (t : Typed) (m : UnderWay) (printed : List ℕ) → SpellsTyped text (program_of t)
+    → state_of m ≡ source_start (program_of t) → m.program.now ≡ t → m.depth ≡ depth → AreFirstLines form (comes_to m steps).output printed
+    → IsBeginning (IsRun text depth steps) (PrintsRun form) printed
+begins text depth steps form t m printed h start program depths first =
+    let o = source_run (program_of t) depth steps in
+    let line = end_text o.end ++ 10 ∷ [] in
+    record {
+      answer = o;
+      answered = ran text depth steps (program_of t) h;
+      rest = words_in form first.rest ++ line;
+      prints = lines_on form (comes_to m steps).output printed line first
+          ∙ ap (λ (x : Outcome). words_in form x.output ++ line) (same_run t m depth steps start program depths);
+    }
+
+pub returns-in-Err-Unprinted-clause-broken : goal.returns-in-Err-Unprinted-clause-broken
+returns-in-Err-Unprinted-clause-broken g c =
+    let cut = rw c.in-Err-Unprinted.field-0-is at c.in-Err-Unprinted.ensures.cut in (
+      (
+        source_run (program_of c.in-Ok.typed) c.args.bounds.0 c.args.bounds.1,
+        ran c.args.text.now c.args.bounds.0 c.args.bounds.1 (program_of c.in-Ok.typed) c.in-Ok.ensures.typed,
+      ),
+      cut,
+    )
+
+pub returns-clause-broken : goal.returns-clause-broken
+returns-clause-broken g c =
+    let cut = rw c.in-Err-NoMemory.field-0-is at c.in-Err-NoMemory.ensures.cut in (
+      cut.0,
+      cut.1,
+      begins c.args.text.now c.args.bounds.0 c.args.bounds.1 c.args.form c.in-Ok.typed c.in-Ok-begin.run cut.0 c.in-Ok.ensures.typed
+          c.in-Ok-begin.ensures.start c.in-Ok-begin.ensures.program c.in-Ok-begin.ensures.depth cut.2,
+    )

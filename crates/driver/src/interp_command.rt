@@ -1,0 +1,184 @@
+// The command that runs a C program.
+
+ghost use Rattle.std.specs.Prelude.{◌≡◌, ◌≢◌, ◌≤◌, ◌⊎◌, IfErr, IfOk, OnOk};
+ghost use Rattle.commands.specs.Requests.{Asks, Does, IsSent, StopsMidway, TellsBeside, TellsLine, WasRefused};
+ghost use Rattle.commands.specs.Streams.{BreaksBy, TookAnswer};
+ghost use Rattle.run_command.specs.Command.{IsRunRemark};
+ghost use Rattle.run_command.specs.declared.remarks.Counted.TheVariants.{Steps};
+ghost use Rattle.driver.specs.Interps.{IsInterpFault, IsRun};
+ghost use Rattle.driver.specs.Program.{BeginsInterp, Interps, PrintsRun, StopsInterp};
+ghost use Rattle.driver.specs.Texts.{end_status, interp_fault_text};
+
+use crate::reasons::wrong_page;
+use crate::running_source::RunningSource;
+use crate::source_runs::InterpFault;
+use build_command::{source_place, typed_of};
+use c_run::begin;
+use command_line::AskedInterp;
+use commands::{
+    BadFile, Broken, Complaints, Files, Output, StreamCommand, WordForm, answer_stream, tell_placed,
+};
+use run_command::{Counted, Cut, Finish, Spent, stream, tell_run};
+use runs::End;
+use std::alloc::Global;
+
+/// The status of a program's run.
+pub fn end_status(end: End) -> u8
+    ensures status { result ≡ end_status end }
+    ensures most { result ≤ 4 }
+    ensures not_wrong_words { result ≢ 2 }
+    ensures no_fault { result ≢ 1 }
+{
+    match end {
+        End::Done(_) => 0,
+        End::Wrong => 3,
+        End::More => 4,
+    }
+}
+
+/// Tells the line of a run's fault, and below it where it lies and what is said of it.
+pub fn tell_interp<E: Complaints>(
+    alloc: Global,
+    err: &mut E,
+    source: &str,
+    text: &[u8],
+    fault: InterpFault,
+) -> u8
+    ensures status { result ≡ 1 }
+    ensures told { TellsLine E.tells err.old (interp_fault_text fault) err.new }
+{
+    let found = match fault {
+        InterpFault::Source(found) => Some(found),
+        InterpFault::NoMemory => None,
+    };
+    let place = source_place(alloc, source, text, found);
+    tell_placed(alloc, err, &fault, &place)
+}
+
+/// Runs the program that the text spells, and prints its output and how it ended.
+fn stream_source<W: Output>(
+    alloc: Global,
+    text: &[u8],
+    bounds: (u32, u64),
+    form: WordForm,
+    out: &mut W,
+) -> Result<Finish<End>, Broken<InterpFault>>
+    ensures took { IfOk result (λ f. TookAnswer (IsRun text.now bounds.0 bounds.1) (PrintsRun form) (λ o. end_status o.end) (W.contents out.old)
+        (W.contents out.new) (end_status f.end)) }
+    ensures count { IfOk result (λ f. f.count ≤ bounds.1) }
+    ensures sent { OnOk result (IsSent W.sends out.new) }
+    ensures broken { IfErr result (BreaksBy (IsRun text.now bounds.0 bounds.1) (PrintsRun form) (IsInterpFault text.now) (W.contents out.old)
+        (W.contents out.new) (out.new ≡ out.old) (WasRefused W.refuses out.new)) }
+{
+    let (depth, steps) = bounds;
+    let typed = match typed_of(alloc, text) {
+        Ok(typed) => typed,
+        Err(fault) => return Err(Broken::Faulty(InterpFault::Source(fault))),
+    };
+    let Ok(run) = begin(alloc, &typed, depth) else {
+        return Err(Broken::Faulty(InterpFault::NoMemory));
+    };
+    let mut running = RunningSource { run };
+    match stream(alloc, &mut running, form, steps, out) {
+        Ok(finish) => Ok(finish),
+        Err(Cut::Unprinted) => Err(Broken::Unprinted),
+        Err(Cut::NoMemory) => Err(Broken::Midway),
+    }
+}
+
+/// `mcc interp`, with what is asked of the run.
+#[derive(Clone, Copy)]
+struct InterpCommand<'s> {
+    asked: AskedInterp<'s>,
+}
+
+impl StreamCommand for InterpCommand<'_> {
+    ghost use Rattle.runs.specs.Runs.{Outcome};
+
+    type End = Finish<End>;
+
+    type Fault = InterpFault;
+
+    ghost Answer = { Outcome };
+
+    ghost answers = { λ s text o. IsRun text s.asked.depth s.asked.steps o };
+
+    ghost faults = { λ s text fault. IsInterpFault text fault };
+
+    ghost prints = { λ s o printed. PrintsRun s.asked.form o printed };
+
+    ghost status = { λ o. end_status o.end };
+
+    ghost end_status = { λ f. end_status f.end };
+
+    ghost most = { 4 };
+
+    ghost line = { interp_fault_text };
+
+    ghost knows = { λ s f. f.count ≤ s.asked.steps };
+
+    ghost remarks = { λ s status told. IsRunRemark Steps s.asked.steps s.asked.count status told };
+
+    fn stream<W: Output>(
+        &self,
+        alloc: Global,
+        bytes: &[u8],
+        out: &mut W,
+    ) -> Result<Finish<End>, Broken<InterpFault>> {
+        let bounds = (self.asked.depth, self.asked.steps);
+        stream_source(alloc, bytes, bounds, self.asked.form, out)
+    }
+
+    fn status_of(&self, end: &Finish<End>) -> u8 {
+        end_status(end.end)
+    }
+
+    fn remark<E: Complaints>(&self, alloc: Global, bytes: &[u8], end: &Finish<End>, err: &mut E) {
+        let asked = self.asked;
+        let page = match end.end {
+            End::Wrong => wrong_page(alloc, asked.source, bytes, asked.depth, asked.steps),
+            End::Done(_) | End::More => None,
+        };
+        let spent = Spent {
+            unit: Counted::Steps,
+            count: end.count,
+            most: asked.steps,
+            counts: asked.count,
+        };
+        tell_run(err, spent, end_status(end.end), page);
+    }
+
+    fn tell<E: Complaints>(&self, alloc: Global, of: &BadFile<'_, InterpFault>, err: &mut E) -> u8 {
+        tell_interp(alloc, err, of.file, of.bytes, of.fault)
+    }
+}
+
+/// Runs the C program of a file, prints what it writes, while it runs, and how it ended; the answer is the exit status.
+pub(crate) fn interp_file<F: Files, W: Output, E: Complaints>(
+    alloc: Global,
+    asked: AskedInterp<'_>,
+    files: &mut F,
+    out: &mut W,
+    err: &mut E,
+) -> u8
+    ensures most { result ≤ 4 }
+    ensures not_wrong_words { result ≢ 2 }
+    ensures answered { result ≢ 1 → Does F.answers files.old files.new (W.contents out.old) (W.contents out.new)
+        (Interps asked.source.now asked.depth asked.steps asked.form result) }
+    ensures sent { result ≢ 1 → IsSent W.sends out.new }
+    ensures beside { result ≢ 1 → TellsBeside E.tells err.old (IsRunRemark Steps asked.steps asked.count result) err.new }
+    ensures stopped { result ≡ 1
+        → Asks F.answers files.old files.new W.refuses out.old out.new E.tells err.old err.new
+        (StopsInterp asked.source.now asked.depth asked.steps)
+        ⊎ StopsMidway F.answers files.old files.new (W.contents out.old) (W.contents out.new) E.tells err.old err.new
+        (BeginsInterp asked.source.now asked.depth asked.steps asked.form) }
+{
+    answer_stream(
+        alloc,
+        &InterpCommand { asked },
+        asked.source,
+        files,
+        out,
+        err,
+    )
+}
