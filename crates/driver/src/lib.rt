@@ -16,6 +16,7 @@ mod choices;
 mod image_commands;
 mod interp_command;
 mod level_runs;
+mod levels;
 mod listings;
 mod pages;
 mod program;
