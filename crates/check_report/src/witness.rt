@@ -45,11 +45,25 @@ fn put_word(out: &mut Writer, word: u32) {
     out.put(&WordDigits(word));
 }
 
-/// The registers that are read, with their words at the start.
-fn put_start(out: &mut Writer, block: &Block, order: &Order, start: &Start) {
+/// Whether it is the register in which the two differ, which one of them may leave as it was.
+fn is_left(difference: &Difference, register: NonzeroReg) -> bool {
+    match *difference {
+        Difference::Register(r) => r == register.reg(),
+        _ => false,
+    }
+}
+
+/// The registers that are read or left, with their words at the start.
+fn put_start(
+    out: &mut Writer,
+    block: &Block,
+    order: &Order,
+    start: &Start,
+    difference: &Difference,
+) {
     for r in 1..32u8 {
         if let Some(register) = NonzeroReg::new(r)
-            && is_read(block, order, register)
+            && (is_read(block, order, register) || is_left(difference, register))
         {
             out.text("  ");
             out.put(&register.reg());
@@ -165,7 +179,7 @@ fn put_witness(
     difference: &Difference,
 ) -> Result<(), AllocError> {
     out.text("the order is wrong: it does otherwise from a start with\n");
-    put_start(out, block, order, start);
+    put_start(out, block, order, start, difference);
     put_rest(alloc, out, block, order, start)?;
     if let Some(left) = run_block(alloc, block, start, link)? {
         put_side(out, "block", &left, difference);

@@ -16,8 +16,8 @@ use mips_isa::Action;
 use std::alloc::{AllocError, Global};
 use words::Width;
 
-/// How many starts `find_start` tries at most; fewer for a block with many accesses of memory.
-pub const STARTS: u32 = 128;
+/// How many starts `find_start` tries at most; fewer for a long block or many accesses of memory.
+pub const STARTS: u32 = 64;
 
 // How often a start is changed until two accesses meet and no address is misaligned.
 const CHANGES: u32 = 8;
@@ -206,16 +206,19 @@ fn start_number(
     Ok(start)
 }
 
-// How many starts are tried for a block: a byte of memory takes as long as there are stores.
+// How many starts are tried for a block: fewer for a long one, and for one with many accesses, since a byte of memory takes as long as
+// there are stores.
 fn starts_for(block: &Block) -> u32 {
-    let mut accesses: u32 = 1;
+    let mut insts: u32 = 1;
+    let mut accesses: u32 = 0;
     for inst in block.insts() {
+        insts = insts.saturating_add(1);
         if access_of(&inst.action()).is_some() {
             accesses = accesses.saturating_add(1);
         }
     }
-    let few = 0x0004_0000 / accesses.saturating_mul(accesses).max(1);
-    few.max(16).min(STARTS)
+    let work = insts.saturating_add(accesses.saturating_mul(accesses) / 64);
+    (0x2000 / work.max(1)).max(8).min(STARTS)
 }
 
 // What a start with this link tells.
