@@ -20,10 +20,11 @@ function parse(line) {
   return { name, parts, registers: parts.filter(part => part[0] === '$').map(part => Number(part.slice(1))) };
 }
 
-// Registers, HI, LO, the bytes that were stored, and what fills the rest of memory; `load` is under way.
+// Registers, HI, LO, the bytes that were stored or told, and what fills the rest of memory; `load` is under way.
 class State {
-  constructor({ regs, high, low: least, filling }) {
-    Object.assign(this, { regs: [...regs], high, low: least, filling, bytes: new Map(), load: null, hold: 0 });
+  constructor({ regs, high, low: least, filling, words = [] }) {
+    const bytes = new Map(words.flatMap(([at, word]) => [24, 16, 8, 0].map((shift, k) => [at + k, (word >>> shift) & 255])));
+    Object.assign(this, { regs: [...regs], high, low: least, filling, bytes, load: null, hold: 0 });
   }
 
   read(part) {
@@ -161,7 +162,7 @@ export function differences(block, order) {
   return places(block, stored).map(([place, left], k) => [place, left, ordered[k][1]]).filter(([, a, b]) => a !== b);
 }
 
-// ---- starts: those that crates/counterexample tries, by their numbers (search.rt); so the memory of one is known by its registers
+// ---- starts: that which an answer tells, or one of a list by its number
 function mixed(word) {
   const a = low(word ^ (word << 13));
   const b = a ^ (a >>> 17);
@@ -195,29 +196,30 @@ function startNumber(block, number) {
   return { regs, high, low: least, filling: { base: fill, mask, factor: 0x9e3779b1, offset: least } };
 }
 
-// What `mcc check --explain` prints of a start: its registers, and what each side leaves; null where it prints none.
+// What `mcc check --explain` prints of a start: registers and words of memory, and what each side leaves; null where it prints none.
 export function parseStart(said) {
   const at = said.indexOf('the order is wrong');
   if (at < 0) return null;
   const lines = said.slice(at).split('\n').map(line => line.trim());
-  const registers = lines.map(line => /^\$(\d+) = (0x[0-9a-f]+)$/.exec(line)).filter(Boolean).map(([, r, word]) => [Number(r), Number(word)]);
-  const side = name => lines.find(line => line.startsWith(name + ': '))?.slice(name.length + 2) ?? '';
-  return { registers, block: side('block'), order: side('order') };
+  const numbers = pattern => lines.map(line => pattern.exec(line)).filter(Boolean).map(([, ...found]) => found.map(Number));
+  const [registers, words] = [/^\$(\d+) = (0x[0-9a-f]+)$/, /^the word at (0x[0-9a-f]+) = (0x[0-9a-f]+)$/].map(numbers);
+  const after = start => lines.find(line => line.startsWith(start))?.slice(start.length) ?? '';
+  return { registers, words, high: Number(after('hi = ')), low: Number(after('lo = ')), block: after('block: '), order: after('order: ') };
 }
 
-// A start from which to run both: that which the answer names, else the first from which they differ, else the first that isn't stuck.
+// A start from which to run both: that which the answer tells, else the first from which they differ, else the first that isn't stuck.
 export function chooseStart(block, order, said) {
-  const registers = parseStart(said)?.registers ?? [];
+  const told = parseStart(said);
+  const wordOfRegister = (_, r) => told.registers.find(([named]) => named === r)?.[1] ?? 0;
+  if (told) return { ...told, regs: Array.from({ length: 32 }, wordOfRegister), filling: { base: 0, mask: 0, factor: 0, offset: 0 } };
   let found = null;
   for (let number = 0; number < 512; number++) {
     const start = startNumber(block, number);
-    if (!registers.every(([r, word]) => start.regs[r] === word)) continue;
     const ran = runBlock(block, start);
     if (!ran.isStuck) found ??= start;
     if (found && (/^same|no start/.test(said) || differences(ran, runOrder(order, start)).length)) return start;
   }
-  const { regs, ...rest } = startNumber(block, 0);
-  return found ?? { ...rest, regs: regs.map((word, r) => registers.find(([named]) => named === r)?.[1] ?? word) };
+  return found ?? startNumber(block, 0);
 }
 
 // The registers that a block or an order reads before it writes them.

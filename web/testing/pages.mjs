@@ -290,7 +290,7 @@ function starts() {
   const said = 'differs $8\nblock: ($8 + 1)\norder: ($8 + 2)\nthe order is wrong: it does otherwise from a start with\n  $8 = 0x1000003c\n  $31 = 0x1000001c\n'
     + '  block: $8 = 0x1000003d\n  order: $8 = 0x1000003e\n';
   const named = parseStart(said);
-  judge('a start of an answer', JSON.stringify(named) === JSON.stringify({ registers: [[8, 0x1000003c], [31, 0x1000001c]], block: '$8 = 0x1000003d', order: '$8 = 0x1000003e' }), JSON.stringify(named));
+  judge('a start of an answer', JSON.stringify(named) === JSON.stringify({ registers: [[8, 0x1000003c], [31, 0x1000001c]], words: [], high: 0, low: 0, block: '$8 = 0x1000003d', order: '$8 = 0x1000003e' }), JSON.stringify(named));
   const start = chooseStart(pair.block, pair.order, said);
   const found = differences(runBlock(pair.block, start), runOrder(pair.order, start));
   judge('gives what the answer says', found.length === 1 && `${found[0][0]} = ${found[0][1]}` === named.block && `${found[0][0]} = ${found[0][2]}` === named.order, found);

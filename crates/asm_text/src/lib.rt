@@ -11,10 +11,12 @@
 ghost use Rattle.std.specs.Prelude.{All, IfOk};
 ghost use Rattle.block_text.specs.Shown.{IsShown};
 
-use block_text::{WIDTH, page_of};
+use block_text::page_of;
 use image::Image;
 use mips_code::decode;
-use mips_isa::{CODE_BASE, Control, Inst, ListedControl, Plain, branch_target, jump_target};
+use mips_isa::{
+    CODE_BASE, Control, DATA_BASE, Inst, ListedControl, Plain, branch_target, jump_target,
+};
 use std::alloc::{AllocError, Global};
 
 const HEAD: &str = "\
@@ -24,6 +26,13 @@ const HEAD: &str = "\
 .text
 .globl __start
 ";
+
+/// The name of an address.
+#[derive(Clone, Copy)]
+pub struct Label<'a> {
+    pub address: u32,
+    pub name: &'a str,
+}
 
 /// Where a branch or jump of an address leads, of those that name a place.
 fn target_of(control: &Control, address: u32) -> Option<u32> {
@@ -92,6 +101,31 @@ fn targets(alloc: Global, code: &[u32]) -> Result<Vec<bool>, AllocError> {
     Ok(marks)
 }
 
+/// Whether the source has a label of its own that may be this name.
+fn is_taken(name: &str) -> bool {
+    name == "__start" || (name.len() == 9 && name.starts_with("L"))
+}
+
+/// The first name of an address.
+fn name_at<'a>(labels: &[Label<'a>], address: u32) -> Option<&'a str> {
+    for label in labels {
+        if label.address == address && !is_taken(label.name) {
+            return Some(label.name);
+        }
+    }
+    None
+}
+
+/// The names of an address, each a global label.
+fn put_names(out: &mut String, labels: &[Label<'_>], address: u32) -> Result<(), AllocError> {
+    for label in labels {
+        if label.address == address && !is_taken(label.name) {
+            writeln!(out, ".globl {}\n{}:", label.name, label.name)?;
+        }
+    }
+    Ok(())
+}
+
 /// A word in eight hexadecimal digits.
 fn put_digits(out: &mut String, word: u32) -> Result<(), AllocError> {
     for shift in [28u32, 24, 20, 16, 12, 8, 4, 0] {
@@ -113,16 +147,20 @@ fn put_control(
     out: &mut String,
     control: Control,
     address: u32,
+    labels: &[Label<'_>],
 ) -> Result<(), AllocError> {
     let text = format!(in alloc; "{}", ListedControl { control, address })?;
-    match text.split_once("0x") {
-        Some((before, digits)) => {
-            out.push_str(before)?;
-            out.push_str("L")?;
-            out.push_str(digits)
-        }
-        None => out.push_str(text.as_str()),
+    let Some((before, digits)) = text.split_once("0x") else {
+        return out.push_str(text.as_str());
+    };
+    out.push_str(before)?;
+    if let Some(target) = target_of(&control, address)
+        && let Some(name) = name_at(labels, target)
+    {
+        return out.push_str(name);
     }
+    out.push_str("L")?;
+    out.push_str(digits)
 }
 
 fn put_word(out: &mut String, word: u32) -> Result<(), AllocError> {
@@ -138,17 +176,28 @@ fn put_plain(out: &mut String, plain: Plain) -> Result<(), AllocError> {
     write!(out, "{plain}")
 }
 
-fn put_form(alloc: Global, out: &mut String, form: Form, address: u32) -> Result<(), AllocError> {
+fn put_form(
+    alloc: Global,
+    out: &mut String,
+    form: Form,
+    address: u32,
+    labels: &[Label<'_>],
+) -> Result<(), AllocError> {
     out.push_str("    ")?;
     match form {
         Form::Plain(plain) => put_plain(out, plain)?,
-        Form::Control(control) => put_control(alloc, out, control, address)?,
+        Form::Control(control) => put_control(alloc, out, control, address, labels)?,
         Form::Word(word) => put_word(out, word)?,
     }
     out.push_str("\n")
 }
 
-fn put_code(alloc: Global, out: &mut String, image: &Image) -> Result<(), AllocError> {
+fn put_code(
+    alloc: Global,
+    out: &mut String,
+    image: &Image,
+    labels: &[Label<'_>],
+) -> Result<(), AllocError> {
     let code = image.code();
     let marks = targets(alloc, code)?;
     let mut address = CODE_BASE;
@@ -156,10 +205,17 @@ fn put_code(alloc: Global, out: &mut String, image: &Image) -> Result<(), AllocE
         if address == image.entry() {
             out.push_str("__start:\n")?;
         }
-        if marks.get(k).copied() == Some(true) {
+        put_names(out, labels, address)?;
+        if marks.get(k).copied() == Some(true) && name_at(labels, address).is_none() {
             put_label(out, address)?;
         }
-        put_form(alloc, out, form_of(*word, address, code.len()), address)?;
+        put_form(
+            alloc,
+            out,
+            form_of(*word, address, code.len()),
+            address,
+            labels,
+        )?;
         address = address.wrapping_add(4);
     }
     Ok(())
@@ -179,12 +235,15 @@ fn put_byte(out: &mut String, byte: u8) -> Result<(), AllocError> {
 }
 
 /// The data, four bytes a line, and those behind the last whole word.
-fn put_data(out: &mut String, bytes: &[u8]) -> Result<(), AllocError> {
+fn put_data(out: &mut String, bytes: &[u8], labels: &[Label<'_>]) -> Result<(), AllocError> {
     if bytes.is_empty() {
         return Ok(());
     }
     out.push_str(".data\n")?;
+    let mut address = DATA_BASE;
     for part in bytes.chunks(4) {
+        put_names(out, labels, address)?;
+        address = address.wrapping_add(4);
         if part.len() == 4 {
             out.push_str("    ")?;
             put_word(out, word_of(part))?;
@@ -198,12 +257,13 @@ fn put_data(out: &mut String, bytes: &[u8]) -> Result<(), AllocError> {
     Ok(())
 }
 
-/// The assembler source of an image.
-pub fn source(alloc: Global, image: &Image) -> Result<Vec<u8>, AllocError>
+/// The assembler source of an image, with labels where the image has names: functions at words of the code, globals at words of the
+/// data. A name that is like a label of the source itself (`__start`, `L` and eight digits) is left out.
+pub fn source(alloc: Global, image: &Image, labels: &[Label<'_>]) -> Result<Vec<u8>, AllocError>
     ensures { IfOk result (λ page. All IsShown page.items) }
 {
     let mut out = String::from_str(alloc, HEAD)?;
-    put_code(alloc, &mut out, image)?;
-    put_data(&mut out, image.bytes())?;
-    page_of(alloc, out.as_bytes(), WIDTH)
+    put_code(alloc, &mut out, image, labels)?;
+    put_data(&mut out, image.bytes(), labels)?;
+    page_of(alloc, out.as_bytes(), usize::MAX)
 }

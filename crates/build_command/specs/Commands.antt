@@ -1,5 +1,5 @@
 -- What the command `build` asks of its files, prints, tells and ends by.
-use Rattle.std.specs.Prelude.{◌≡◌, ◌≢◌, ◌⊎◌, ℕ, ◌+◌, List, [], ◌∷◌, ◌++◌, Bool, true, false, codes, decimal, ⊤}
+use Rattle.std.specs.Prelude.{◌≡◌, ◌≢◌, ◌⊎◌, ℕ, ◌+◌, List, [], ◌∷◌, ◌++◌, All, Bool, true, false, codes, decimal, ⊤}
 use Rattle.mblock.specs.Parts.{BlockParts, OrderParts}
 use Rattle.mblock.specs.declared.limits.TheConstants.{BLOCK_INSTS}
 use Rattle.image.specs.Texts.{counts_text}
@@ -8,7 +8,7 @@ use Rattle.sched_phase.specs.Phases.{IsPhase}
 use Rattle.commands.specs.Requests.{Request, reading_fault, writing_fault}
 use Rattle.commands.specs.declared.files.FileFault.{FileFault}
 use Rattle.commands.specs.Requests.Request.{Read, NotRead, Written, NotWritten}
-use Rattle.commands.specs.Texts.{host_fault_text}
+use Rattle.commands.specs.Texts.{IsShown, host_fault_text}
 use Rattle.commands.specs.declared.fault.HostFault.TheVariants.{CannotWrite}
 use Rattle.build_command.specs.Texts.{build_fault_text}
 use Rattle.build_command.specs.Builds.{IsScheduledBuild, IsPlain}
@@ -74,9 +74,9 @@ pub data AnswersBuild (source image : List ℕ) (depth : ℕ) (plain : Bool) (st
       → AnswersBuild source image depth plain status requests printed
   one_name : source ≡ image → status ≡ 2 → requests ≡ [] → printed ≡ [] → AnswersBuild source image depth plain status requests printed
 
--- what is told with it: nothing with a build
+-- what is told with it: with a build warnings, which steer no terminal
 abbrev pub IsBuildRemark : (status : ℕ) → List (List ℕ) → Type 0
-IsBuildRemark status told = ((status ≢ 2) × (told ≡ [])) ⊎ ((status ≡ 2) × (told ≡ one_name_text ∷ []))
+IsBuildRemark status told = ((status ≢ 2) × All (All IsShown) told) ⊎ ((status ≡ 2) × (told ≡ one_name_text ∷ []))
 
 -- a build that ended by a fault has two names
 abbrev pub StopsApart : (source image : List ℕ) → (depth : ℕ) → (plain : Bool) → (silent refused : Type 0) → List Request → List ℕ → Type 0

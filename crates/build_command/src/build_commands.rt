@@ -9,9 +9,11 @@ ghost use Rattle.build_command.specs.BuildFaults.{IsBuildFault};
 ghost use Rattle.build_command.specs.Commands.{AnswersBuild, Builds, IsBuildRemark, IsBuiltAs, StopsApart, StopsBuild, built_text, one_name_text};
 
 use crate::builds::{BuildFault, Built, Limit, build_plain};
+use crate::largest::largest_line;
 use crate::places::source_place;
 use crate::scheduled_builds::{BuildOpts, build, phase_of};
 use crate::texts::BuiltLine;
+use crate::warnings::tell_warnings;
 use command_line::AskedBuild;
 use commands::{
     Complaints, Files, HostFault, Output, read_file, tell_placed, tell_unprinted, tell_unread,
@@ -52,6 +54,19 @@ fn source_fault(fault: BuildFault) -> Option<SourceFault> {
     }
 }
 
+/// Tells what a limit is about, and which function has most code, if that is limited.
+fn tell_limit<E: Complaints>(alloc: Global, err: &mut E, text: &[u8], limit: Limit)
+    ensures { TellsBeside E.tells err.old (All (All IsShown)) err.new }
+{
+    let about = limit_text(limit);
+    err.line(&about);
+    if limit == Limit::Assembly
+        && let Some(line) = largest_line(alloc, text)
+    {
+        err.bytes(line.as_slice());
+    }
+}
+
 /// Tells the line of a build's fault, and below it where it lies and what is said of it, or what the limit is about.
 pub fn tell_build<E: Complaints>(
     alloc: Global,
@@ -68,8 +83,7 @@ pub fn tell_build<E: Complaints>(
     // what is said of the fault is let go before a limit's line
     drop(place);
     if let BuildFault::Limit(limit) = fault {
-        let about = limit_text(limit);
-        err.line(&about);
+        tell_limit(alloc, err, text, limit);
     }
     status
 }
@@ -126,7 +140,7 @@ fn build_apart<T: Threads + Wait + Sync, F: Files, W: Output, E: Complaints>(
     ensures answered { result ≢ 1 → Does F.answers files.old files.new (W.contents out.old) (W.contents out.new)
         (Builds asked.now.source.now asked.now.image.now asked.now.depth asked.now.plain result) }
     ensures sent { result ≢ 1 → IsSent W.sends out.new }
-    ensures quiet { result ≢ 1 → err.new ≡ err.old }
+    ensures beside { result ≢ 1 → TellsBeside E.tells err.old (All (All IsShown)) err.new }
     ensures stopped { result ≡ 1 → Asks F.answers files.old files.new W.refuses out.old out.new E.tells err.old err.new
         (StopsBuild asked.now.source.now asked.now.image.now asked.now.depth asked.now.plain) }
 {
@@ -142,7 +156,10 @@ fn build_apart<T: Threads + Wait + Sync, F: Files, W: Output, E: Complaints>(
         return tell_unwritten(alloc, err, asked.image, fault);
     }
     match print_built(out, asked.plain, &built) {
-        Ok(()) => 0,
+        Ok(()) => {
+            tell_warnings(alloc, err, asked.source, text.as_slice());
+            0
+        }
         Err(_) => tell_unprinted(err, HostFault::CannotWrite),
     }
 }

@@ -14,10 +14,13 @@
 
 mod build_commands;
 mod builds;
+mod largest;
 mod laws;
 mod places;
 mod scheduled_builds;
+mod shown;
 mod texts;
+mod warnings;
 
 pub use build_commands::{build_file, print_built, tell_build};
 pub use builds::{BuildFault, Built, Limit, build_plain, typed_of, unit_of};

@@ -13,6 +13,7 @@
 
 mod command;
 mod lines;
+mod operands;
 mod texts;
 mod verdicts;
 

@@ -3,6 +3,7 @@
 ghost use Rattle.std.specs.Prelude.{IfOk};
 ghost use Rattle.commands.specs.Texts.{IsPrintableExplanation};
 
+use crate::operands::hint_of_operands;
 use commands::Explanation;
 use std::alloc::{AllocError, Global};
 use std::str;
@@ -196,10 +197,6 @@ fn explain_instruction(alloc: Global, line: &[u8]) -> Result<Explanation, AllocE
     if line.is_empty() {
         return Explanation::new(alloc, "an empty line can't stand in a check text", None);
     }
-    if line.contains(&b'\r') {
-        let hint = Some("end each line by a line feed alone");
-        return Explanation::new(alloc, "a line has a carriage return", hint);
-    }
     if line.contains(&b'\t') {
         return Explanation::new(
             alloc,
@@ -215,7 +212,28 @@ fn explain_instruction(alloc: Global, line: &[u8]) -> Result<Explanation, AllocE
     }
     let word = shown_word(word);
     let message = format!(in alloc; "expected {word}{operands}")?;
-    Explanation::new(alloc, message.as_str(), Some(range))
+    match hint_of_operands(alloc, word.as_bytes(), line)? {
+        Some(hint) => Explanation::new(alloc, message.as_str(), Some(hint.as_str())),
+        None => Explanation::new(alloc, message.as_str(), Some(range)),
+    }
+}
+
+/// What is said of a line by how it begins or ends; None where that is right.
+fn fault_of_ends(line: &[u8]) -> Option<(&'static str, &'static str)> {
+    match line {
+        [.., b'\r'] => Some((
+            "the line ends with a carriage return",
+            "save the text with LF at the ends of its lines",
+        )),
+        [b' ' | b'\t', ..] => Some(("a line begins with a blank", "leave it out")),
+        _ if line.contains(&b'\r') => {
+            Some((
+                "a line has a carriage return",
+                "end each line by a line feed alone",
+            ))
+        }
+        _ => None,
+    }
 }
 
 fn explain_unknown(alloc: Global, word: &[u8]) -> Result<Explanation, AllocError>
@@ -265,6 +283,9 @@ pub(crate) fn explain_line(alloc: Global, text: &[u8], line: u32) -> Result<Expl
         let message = format!(in alloc; "{wanted} at the text's end")?;
         return Explanation::new(alloc, message.as_str(), None);
     };
+    if let Some((message, hint)) = fault_of_ends(bytes) {
+        return Explanation::new(alloc, message, Some(hint));
+    }
     match stage {
         Stage::InBlock(before) => explain_inside(alloc, bytes, before, BLOCK, "a block"),
         Stage::InOrder(before) => explain_inside(alloc, bytes, before, ORDER, "an order"),

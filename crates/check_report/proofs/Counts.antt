@@ -71,9 +71,9 @@ kept_is t (file ∷ files) room =
 
 pub kept_totals : (files : List CheckedFile) → length files < 2 ^ 64 → fold kept_after no_totals files ≡ totals_of files
 kept_totals files few = kept_is no_totals files (record {
-    same = omega (arith, few);
-    unclean = omega (arith, few);
-    differs = omega (arith, few);
-    full = omega (arith, few);
-    faulty = omega (arith, few);
+  same = omega (arith, few);
+  unclean = omega (arith, few);
+  differs = omega (arith, few);
+  full = omega (arith, few);
+  faulty = omega (arith, few);
 })

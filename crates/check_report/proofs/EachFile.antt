@@ -222,7 +222,7 @@ module _ {F E : Type 0} (answers : F → Request → F → Type 0) (tells : E �
   all_checked f g o p q c d e ns all t n same long few shown kept told =
       let these = shown.2 in
       let counts = these.counted ∙ kept_totals these.files (subst (λ (m : ℕ). m < 2 ^ 64)
-          (sym long ∙ (ap (λ (xs : List (List ℕ)). length xs) (sym (these.named ∙ same)) ∙ length-map these.files name_of)) few) in
+      (sym long ∙ (ap (λ (xs : List (List ℕ)). length xs) (sym (these.named ∙ same)) ∙ length-map these.files name_of)) few) in
       record {
         files = these.files;
         right = these.right;

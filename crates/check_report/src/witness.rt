@@ -1,7 +1,9 @@
 // A start that refutes an order, as lines.
 
 use block_text::Writer;
-use counterexample::{Departs, Difference, Left, Start, Witness, find_start, run_block, run_order};
+use counterexample::{
+    Departs, Difference, Left, Start, Witness, find_start, loaded_words, run_block, run_order,
+};
 use mblock::{Block, Exit, Order};
 use mips_isa::{NonzeroReg, Plain, WordDigits};
 use std::alloc::{AllocError, Global};
@@ -56,6 +58,44 @@ fn put_start(out: &mut Writer, block: &Block, order: &Order, start: &Start) {
             out.text("\n");
         }
     }
+}
+
+/// Whether one of them moves HI or LO, before a product or a division writes both.
+fn moves_before_product(insts: &[Plain]) -> bool {
+    for inst in insts {
+        if inst.action().is_product() {
+            return false;
+        }
+        if inst.action().is_move() {
+            return true;
+        }
+    }
+    false
+}
+
+/// HI and LO, if they are read, and the words of memory that are loaded.
+fn put_rest(
+    alloc: Global,
+    out: &mut Writer,
+    block: &Block,
+    order: &Order,
+    start: &Start,
+) -> Result<(), AllocError> {
+    if moves_before_product(block.insts()) || moves_before_product(order.insts()) {
+        out.text("  hi = ");
+        put_word(out, start.hi);
+        out.text("\n  lo = ");
+        put_word(out, start.lo);
+        out.text("\n");
+    }
+    for address in &loaded_words(alloc, block, order, start)? {
+        out.text("  the word at ");
+        put_word(out, *address);
+        out.text(" = ");
+        put_word(out, start.filling.word(*address / 4));
+        out.text("\n");
+    }
+    Ok(())
 }
 
 /// Where a side goes on.
@@ -126,6 +166,7 @@ fn put_witness(
 ) -> Result<(), AllocError> {
     out.text("the order is wrong: it does otherwise from a start with\n");
     put_start(out, block, order, start);
+    put_rest(alloc, out, block, order, start)?;
     if let Some(left) = run_block(alloc, block, start, link)? {
         put_side(out, "block", &left, difference);
     }

@@ -33,7 +33,8 @@ pub enum Level {
 }
 
 /// What is asked of a run of the C program of a file, with `depth` active calls at most (1 to 4096) and `steps` steps (below
-/// 2^32). The words of output have the form; `count` asks how many steps ran.
+/// 2^32). The words of output have the form; `count` asks how many steps ran, which is known
+/// at the level of C alone.
 #[derive(Clone, Copy)]
 pub struct AskedInterp<'a> {
     pub source: &'a str,
@@ -42,6 +43,7 @@ pub struct AskedInterp<'a> {
     pub level: Level,
     pub form: WordForm,
     pub count: bool,
+    ghost deep: { 1 ≤ depth },
 }
 
 /// What is asked of a run of the image of a file, for `steps` words at most (below 2^32). The words of output have the form;

@@ -131,7 +131,7 @@ const LEVEL_HELP: &str =
 const FORM_HELP: &str =
     "Print the output's words as signed, hex or unsigned numbers; unsigned if left out";
 
-const STEP_COUNT_HELP: &str = "Say on standard error how many steps ran";
+const STEP_COUNT_HELP: &str = "Say on standard error how many steps ran; of C alone";
 
 const WORD_COUNT_HELP: &str = "Say on standard error how many words ran";
 

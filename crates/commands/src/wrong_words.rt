@@ -13,7 +13,17 @@ use crate::host_faults::tell_unprinted;
 use crate::output::Output;
 use clap::Error;
 use clap::error::ErrorKind;
+use std::alloc::{AllocError, Global};
 use std::io;
+
+/// Words that other compilers take before the name of an image.
+const IMAGE_WORDS: &[&str] = &["-o", "--output"];
+
+/// What is said of them in place of clap's tip.
+const IMAGE_TIP: &str = "  tip: the image is the second name: mcc build SOURCE IMAGE\n";
+
+/// How clap's text on a build's words goes on behind its tip.
+const BUILD_USAGE: &str = "\nUsage: mcc build";
 
 /// Prints clap's text.
 fn print_help<W: Output>(out: &mut W, error: &Error) -> io::Result<()>
@@ -36,8 +46,34 @@ fn show_help<W: Output, E: Complaints>(error: &Error, out: &mut W, err: &mut E) 
     }
 }
 
+/// Clap's text with a tip of ours where its own misleads.
+fn text_with_tip(alloc: Global, error: &Error) -> Result<String, AllocError> {
+    let mut text = format!(in alloc; "{error}")?;
+    for word in IMAGE_WORDS {
+        let tip = format!(in alloc;
+            "  tip: to pass '{word}' as a value, use '-- {word}'\n{BUILD_USAGE}"
+        )?;
+        let ours = format!(in alloc; "{IMAGE_TIP}{BUILD_USAGE}")?;
+        text = text.as_str().replace(alloc, tip.as_str(), ours.as_str())?;
+    }
+    Ok(text)
+}
+
+/// Tells wrong words; clap's own text where memory is refused to ours.
+fn tell_mistake<E: Complaints>(alloc: Global, error: &Error, err: &mut E) {
+    match text_with_tip(alloc, error) {
+        Ok(text) => err.text(&text),
+        Err(_) => err.text(error),
+    }
+}
+
 /// Tells clap's text: help on standard output, wrong words on standard error. The answer is the exit status.
-pub fn tell_words<W: Output, E: Complaints>(error: &Error, out: &mut W, err: &mut E) -> u8
+pub fn tell_words<W: Output, E: Complaints>(
+    alloc: Global,
+    error: &Error,
+    out: &mut W,
+    err: &mut E,
+) -> u8
     ensures most { result ≤ 2 }
     ensures help { result ≡ 0 → IsHelp (kind_of error.now) }
     ensures sent { result ≡ 0 → IsSent W.sends out.new }
@@ -50,7 +86,7 @@ pub fn tell_words<W: Output, E: Complaints>(error: &Error, out: &mut W, err: &mu
         ErrorKind::OutOfMemory => tell(err, &HostFault::NoMemory),
         ErrorKind::DisplayHelp | ErrorKind::DisplayVersion => show_help(error, out, err),
         _ => {
-            err.text(error);
+            tell_mistake(alloc, error, err);
             2
         }
     }

@@ -24,7 +24,7 @@ pub(crate) fn byte_at_place(word: u32, place: usize) -> u8
 impl Filling {
     /// The word with this number: that at four times the number.
     #[tactic(auto, unfolding(crate::specs::Fillings::filled_word))]
-    fn word(&self, number: u32) -> u32
+    pub fn word(&self, number: u32) -> u32
         ensures { result ≡ filled_word self.now number }
     {
         let mixed = number.wrapping_mul(self.factor).wrapping_add(self.offset);

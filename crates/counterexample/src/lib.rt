@@ -6,11 +6,14 @@
 #![tactic(auto)]
 
 mod block;
+mod crossings;
 mod difference;
 mod filling;
 mod flow;
 mod left;
+mod loaded;
 mod memory;
+mod origins;
 mod registers;
 mod search;
 mod start;
@@ -21,8 +24,9 @@ pub use difference::Difference;
 pub use filling::Filling;
 pub use flow::run_order;
 pub use left::{Departs, Left};
+pub use loaded::loaded_words;
 pub use memory::{Memory, Stored};
 pub use registers::{Load, Registers};
-pub use search::{STARTS, Witness, find_among, find_start, start_number};
+pub use search::{STARTS, Witness, find_among, find_start};
 pub use start::Start;
 pub use verdict::{no_refuting_state_agrees, refute, refuted_orders_do_not_mean_their_blocks};

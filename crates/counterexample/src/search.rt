@@ -5,16 +5,22 @@ ghost use Rattle.counterexample.specs.declared.start.Start.{Start as AStart};
 ghost use Rattle.counterexample.specs.Views.{start_of};
 ghost use Rattle.counterexample.specs.Refuting.{Agrees, Refutes};
 
+use crate::crossings::crossings;
 use crate::difference::Difference;
 use crate::filling::Filling;
+use crate::origins::{Access, Origin, Pair, access_of, trace};
 use crate::start::Start;
 use crate::verdict::refute;
 use mblock::{Block, Order};
-use mips_isa::{Action, Reg};
+use mips_isa::Action;
 use std::alloc::{AllocError, Global};
+use words::Width;
 
-/// How many starts `find_start` tries.
-pub const STARTS: u32 = 512;
+/// How many starts `find_start` tries at most; fewer for a block with many accesses of memory.
+pub const STARTS: u32 = 128;
+
+// How often a start is changed until two accesses meet and no address is misaligned.
+const CHANGES: u32 = 8;
 
 // A return address in the code.
 const LINK: u32 = 0x0040_1234;
@@ -48,13 +54,14 @@ fn extreme(word: u32) -> u32 {
     }
 }
 
-// A word of the kind that a start has: an address near the base, any multiple of 4, one of these or an extreme word, any word.
+// A word of the kind that a start has: an address near the base, 0 or 1 or an extreme word, one of all these, any word.
 fn word_of_kind(kind: u32, base: u32, word: u32) -> u32 {
     let near = base.wrapping_add((word >> 8) & 0x7c);
-    let far = word & 0xffff_fffc;
     match (kind, word >> 30) {
         (0, _) | (2, 0) | (2, 1) => near,
-        (1, _) | (2, 2) => far,
+        (1, 0) | (1, 1) => (word >> 8) & 1,
+        (1, _) => extreme(word >> 8),
+        (2, 2) => word & 0xffff_fffc,
         (2, _) => extreme(word >> 8),
         _ => word,
     }
@@ -65,7 +72,7 @@ fn filling_of_kind(kind: u32, base: u32, word: u32) -> Filling {
         0 => (base, 0x7c),
         1 => (0x2000_0000, 0x00ff_fffc),
         2 => (base, 0xfc),
-        _ => (word, 0x00ff_ffff),
+        _ => (word, 0xffff_ffff),
     };
     Filling {
         base,
@@ -109,71 +116,106 @@ fn start_of_kind(kind: u32, base: u32, seed: u32) -> Start {
     }
 }
 
-// The base register and the offset of an access of memory.
-fn access_of(action: &Action) -> Option<(Reg, u32)> {
-    match *action {
-        Action::Loads { base, offset, .. } | Action::Stores { base, offset, .. } => {
-            Some((base, offset))
+// Makes what a word follows greater by a number; false where it follows nothing.
+fn shift(start: &mut Start, origin: Origin, by: u32) -> bool {
+    match origin {
+        Origin::Nothing => return false,
+        Origin::Held(r) => {
+            let index = r.index() as usize;
+            start.regs[index] = start.regs[index].wrapping_add(by);
         }
-        _ => None,
+        Origin::Filled => start.filling.base = start.filling.base.wrapping_add(by),
+    }
+    true
+}
+
+// How far the first access is from where it meets the second: a byte meets a word in one of its four bytes.
+fn distance(first: &Access, second: &Access, lane: u32) -> u32 {
+    let by = second.address.wrapping_sub(first.address);
+    match first.width {
+        Width::Byte => match second.width {
+            Width::Byte => by,
+            Width::Word => by.wrapping_add(lane),
+        },
+        Width::Word => match second.width {
+            Width::Byte => by.wrapping_sub(lane),
+            Width::Word => by,
+        },
     }
 }
 
-// How many accesses a block has.
-fn access_count(block: &Block) -> u32 {
-    let mut count: u32 = 0;
+// Makes two accesses meet, if their addresses follow different things; false where nothing was changed.
+fn meet(start: &mut Start, first: &Access, second: &Access, bits: u32) -> bool {
+    let by = distance(first, second, bits & 3);
+    if by == 0 || first.origin == second.origin {
+        return false;
+    }
+    let back = by.wrapping_neg();
+    if bits & 4 == 0 {
+        shift(start, first.origin, by) || shift(start, second.origin, back)
+    } else {
+        shift(start, second.origin, back) || shift(start, first.origin, by)
+    }
+}
+
+// Changes a start so that the block runs farther, or its two accesses meet; false where nothing was changed.
+fn change(
+    alloc: Global,
+    block: &Block,
+    start: &mut Start,
+    pair: Option<Pair>,
+    bits: u32,
+) -> Result<bool, AllocError> {
+    let traced = trace(alloc, block, start, pair, bits & 4 != 0)?;
+    if traced.is_stuck {
+        let Some(at) = traced.last else {
+            return Ok(false);
+        };
+        return Ok(shift(start, at.origin, (at.address & 3).wrapping_neg()));
+    }
+    let (Some(first), Some(second)) = (traced.first, traced.second) else {
+        return Ok(false);
+    };
+    Ok(meet(start, &first, &second, bits))
+}
+
+// The pair whose turn it is.
+fn pair_number(pairs: &[Pair], number: u32) -> Option<Pair> {
+    if pairs.is_empty() {
+        return None;
+    }
+    pairs.get((number / 2) as usize % pairs.len()).copied()
+}
+
+// The start with this number, of those for a block and pairs of its accesses that may meet.
+fn start_number(
+    alloc: Global,
+    block: &Block,
+    pairs: &[Pair],
+    number: u32,
+) -> Result<Start, AllocError> {
+    let base = base_of(block, number / 8 % 4);
+    let mut start = start_of_kind(number % 4, base, number.wrapping_add(0x2545_f491));
+    let pair = pair_number(pairs, number);
+    let bits = mixed(number.wrapping_add(0x1234_5678));
+    for _ in 0..CHANGES {
+        if !change(alloc, block, &mut start, pair, bits)? {
+            return Ok(start);
+        }
+    }
+    Ok(start)
+}
+
+// How many starts are tried for a block: a byte of memory takes as long as there are stores.
+fn starts_for(block: &Block) -> u32 {
+    let mut accesses: u32 = 1;
     for inst in block.insts() {
         if access_of(&inst.action()).is_some() {
-            count = count.saturating_add(1);
+            accesses = accesses.saturating_add(1);
         }
     }
-    count
-}
-
-// The base register and the offset of the access with this number.
-fn access_at(block: &Block, number: u32) -> Option<(Reg, u32)> {
-    let mut left = number;
-    for inst in block.insts() {
-        let access = access_of(&inst.action());
-        if access.is_some() {
-            if left == 0 {
-                return access;
-            }
-            left -= 1;
-        }
-    }
-    None
-}
-
-// Makes two accesses of the block meet, where their bases are two registers.
-fn meet(start: &mut Start, block: &Block, first: u32, second: u32) {
-    let (Some((p, c)), Some((q, d))) = (access_at(block, first), access_at(block, second)) else {
-        return;
-    };
-    let held = start.regs[q.index() as usize];
-    start.regs[p.index() as usize] = held.wrapping_add(d).wrapping_sub(c);
-}
-
-/// The start with this number.
-pub fn start_number(block: &Block, number: u32) -> Start {
-    let kind = number % 4;
-    let base = base_of(block, number / 8 % 4);
-    let mut start = start_of_kind(kind, base, number.wrapping_add(0x2545_f491));
-    let count = access_count(block);
-    if number % 8 < 4 && count > 0 {
-        let pair = mixed(number.wrapping_add(0x1234_5678));
-        meet(&mut start, block, pair % count, (pair >> 16) % count);
-    }
-    start
-}
-
-// The starts with the numbers below `STARTS`.
-fn starts_of(alloc: Global, block: &Block) -> Result<Vec<Start>, AllocError> {
-    let mut starts = Vec::new(alloc);
-    for number in 0..STARTS {
-        starts.push(start_number(block, number))?;
-    }
-    Ok(starts)
+    let few = 0x0004_0000 / accesses.saturating_mul(accesses).max(1);
+    few.max(16).min(STARTS)
 }
 
 // What a start with this link tells.
@@ -220,8 +262,27 @@ pub fn find_among(
     Ok(None)
 }
 
-/// A start of a fixed list that refutes that the order means the block; None where none of them does. `Err` only where memory is
-/// refused.
+// One of the starts for a block and pairs of its accesses that refutes that the order means the block.
+fn find_by(
+    alloc: Global,
+    block: &Block,
+    order: &Order,
+    pairs: &[Pair],
+) -> Result<Option<Witness>, AllocError>
+    ensures refutes { IfOk result (λ r. IfSome r (λ w. Refutes block.now order.now (start_of w.start) w.link w.difference)) }
+{
+    for number in 0..starts_for(block) {
+        let start = start_number(alloc, block, pairs, number)?;
+        let witness = find_among(alloc, block, order, &[start], LINK)?;
+        if witness.is_some() {
+            return Ok(witness);
+        }
+    }
+    Ok(None)
+}
+
+/// A start of a fixed list that refutes that the order means the block; None where none of them does. The list has starts in which
+/// two accesses meet that the order has the other way round. `Err` only where memory is refused.
 pub fn find_start(
     alloc: Global,
     block: &Block,
@@ -230,6 +291,6 @@ pub fn find_start(
     ensures refutes { IfOk result (λ r. IfSome r (λ w. Refutes block.now order.now (start_of w.start) w.link w.difference)) }
     ensures means { IfOk result (λ r. IfSome r (λ w. Means block.now order.now → ⊥)) }
 {
-    let starts = starts_of(alloc, block)?;
-    find_among(alloc, block, order, starts.as_slice(), LINK)
+    let pairs = crossings(alloc, block, order)?;
+    find_by(alloc, block, order, pairs.as_slice())
 }

@@ -1,4 +1,5 @@
 pub mod Interps
+pub mod Levels
 pub mod Texts
 pub mod Listings
 pub mod Stages

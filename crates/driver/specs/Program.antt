@@ -4,7 +4,7 @@ use Rattle.std.specs.Prelude.{◌≡◌, ℕ, List, [], ◌∷◌, ◌++◌, Boo
 use Rattle.std.specs.declared.vec.Vec.{Vec}
 use Rattle.std.specs.declared.alloc.Global.{Global}
 use Rattle.std.specs.Borrow.{Bor}
-use Rattle.runs.specs.Runs.{Outcome}
+use Rattle.runs.specs.Runs.{Outcome, outcome_of}
 use Rattle.image.specs.Texts.{image_fault_text}
 use Rattle.image.specs.Images.{IsImageFault}
 use Rattle.commands.specs.Requests.{IsSent, Request}
@@ -25,6 +25,12 @@ use Rattle.command_line.specs.declared.command.Command.{Command}
 use Rattle.command_line.specs.declared.command.Command.TheVariants.{Check, CheckEach, Interp, Build, Run, List as Listing, NoChoice, Show}
 use Rattle.driver.specs.Texts.{end_text, end_status, interp_fault_text, no_choice_text}
 use Rattle.driver.specs.Interps.{IsRun, IsInterpFault}
+use Rattle.build_command.specs.Texts.{build_fault_text}
+use Rattle.command_line.specs.declared.command.Level.{Level}
+use Rattle.command_line.specs.declared.command.Level.TheVariants as levels
+use Rattle.driver.specs.Levels.{IsFaultBelow, IsRunBelow}
+use Rattle.driver.specs.declared.levels.Below.{Below}
+use Rattle.driver.specs.declared.levels.Below.TheVariants as belows
 use Rattle.driver.specs.Listings.{IsListing, IsOfImage}
 use Rattle.driver.specs.Stages.{IsStagesFault, stages_fault_text}
 
@@ -36,6 +42,23 @@ PrintsRun form o printed = printed ≡ words_in form o.output ++ (end_text o.end
 abbrev pub Interps : (source : List ℕ) → (depth steps : ℕ) → WordForm → (status : ℕ) → List Request → List ℕ → Type 0
 Interps source depth steps form =
     AnswersFile (λ text o. IsRun text depth steps o) (PrintsRun form) (λ o. end_status o.end) source
+
+-- the same with `--at` a level below C
+abbrev pub InterpsBelow : Below → (source : List ℕ) → (depth steps : ℕ) → WordForm → (status : ℕ) → List Request → List ℕ → Type 0
+InterpsBelow below source depth steps form =
+    AnswersFile (λ text ran. IsRunBelow below text depth steps (outcome_of ran)) (λ ran. PrintsRun form (outcome_of ran))
+    (λ ran. end_status ran.end) source
+
+abbrev pub InterpsAt : Level → (source : List ℕ) → (depth steps : ℕ) → WordForm → (status : ℕ) → List Request → List ℕ → Type 0
+InterpsAt levels.C = Interps
+InterpsAt levels.Rtl = InterpsBelow belows.Rtl
+InterpsAt levels.Blocks = InterpsBelow belows.Blocks
+
+-- what is told beside it; steps are counted at the level of C alone
+abbrev pub IsInterpRemark : Level → (steps : ℕ) → (counts : Bool) → (status : ℕ) → List (List ℕ) → Type 0
+IsInterpRemark levels.C steps counts = IsRunRemark Steps steps counts
+IsInterpRemark levels.Rtl steps counts = IsRunRemark Steps steps false
+IsInterpRemark levels.Blocks steps counts = IsRunRemark Steps steps false
 
 -- lines of printable ASCII
 abbrev pub IsPage : Vec ℕ Global → Type 0
@@ -67,6 +90,20 @@ StopsInterp source depth steps = StopsFile (λ text o. IsRun text depth steps o)
 abbrev pub BeginsInterp : (source : List ℕ) → (depth steps : ℕ) → WordForm → List Request → List ℕ → Type 0
 BeginsInterp source depth steps form = BeginsFile (λ text o. IsRun text depth steps o) (PrintsRun form) source
 
+abbrev pub StopsBelow : Below → (source : List ℕ) → (depth steps : ℕ) → (silent refused : Type 0) → List Request → List ℕ → Type 0
+StopsBelow below source depth steps =
+    StopsFile (λ text ran. IsRunBelow below text depth steps (outcome_of ran)) (IsFaultBelow below depth) build_fault_text IsRefused source
+
+abbrev pub StopsInterpAt : Level → (source : List ℕ) → (depth steps : ℕ) → (silent refused : Type 0) → List Request → List ℕ → Type 0
+StopsInterpAt levels.C = StopsInterp
+StopsInterpAt levels.Rtl = StopsBelow belows.Rtl
+StopsInterpAt levels.Blocks = StopsBelow belows.Blocks
+
+abbrev pub BeginsInterpAt : Level → (source : List ℕ) → (depth steps : ℕ) → WordForm → List Request → List ℕ → Type 0
+BeginsInterpAt levels.C source depth steps form requests printed = BeginsInterp source depth steps form requests printed
+BeginsInterpAt levels.Rtl source depth steps form requests printed = ⊥
+BeginsInterpAt levels.Blocks source depth steps form requests printed = ⊥
+
 abbrev pub StopsList : (image : List ℕ) → (asm : Bool) → (silent refused : Type 0) → List Request → List ℕ → Type 0
 StopsList image asm = StopsFile (IsImagePage asm) IsImageFault image_fault_text IsRefused image
 
@@ -78,7 +115,7 @@ abbrev pub Answers : Command → ℕ → List Request → List ℕ → Type 0
 Answers (Check file false) status requests printed = Checks file.now status requests printed
 Answers (Check file true) status requests printed = Explains file.now status requests printed
 Answers (CheckEach files explain) status requests printed = ChecksEach explain (map (λ s. s.now) files.items) status requests printed
-Answers (Interp r) status requests printed = Interps r.source.now r.depth r.steps r.form status requests printed
+Answers (Interp r) status requests printed = InterpsAt r.level r.source.now r.depth r.steps r.form status requests printed
 Answers (Build b) status requests printed = AnswersBuild b.source.now b.image.now b.depth b.plain status requests printed
 Answers (Run r) status requests printed = Runs r.image.now r.steps r.form status requests printed
 Answers (Listing image asm) status requests printed = Lists image.now asm status requests printed
@@ -89,7 +126,7 @@ Answers (NoChoice choice value) status requests printed = ⊥
 abbrev pub Stops : Command → (silent refused : Type 0) → List Request → List ℕ → Type 0
 Stops (Check file explain) silent refused requests told = StopsCheck file.now silent refused requests told
 Stops (CheckEach files explain) silent refused requests told = BreaksOff explain (map (λ s. s.now) files.items) silent refused requests told
-Stops (Interp r) silent refused requests told = StopsInterp r.source.now r.depth r.steps silent refused requests told
+Stops (Interp r) silent refused requests told = StopsInterpAt r.level r.source.now r.depth r.steps silent refused requests told
 Stops (Build b) silent refused requests told = StopsApart b.source.now b.image.now b.depth b.plain silent refused requests told
 Stops (Run r) silent refused requests told = StopsRun r.image.now r.steps silent refused requests told
 Stops (Listing image asm) silent refused requests told = StopsList image.now asm silent refused requests told
@@ -98,7 +135,7 @@ Stops (NoChoice choice value) silent refused requests told = (requests ≡ []) �
 
 -- a command that memory was refused to once it had begun to print: what was printed is a beginning of what it prints
 abbrev pub Begins : Command → List Request → List ℕ → Type 0
-Begins (Interp r) requests printed = BeginsInterp r.source.now r.depth r.steps r.form requests printed
+Begins (Interp r) requests printed = BeginsInterpAt r.level r.source.now r.depth r.steps r.form requests printed
 Begins (Run r) requests printed = BeginsRun r.image.now r.steps r.form requests printed
 Begins _ requests printed = ⊥
 
@@ -108,7 +145,7 @@ IsBegun words requests printed = (command : Command) × IsCommand words command 
 
 -- what a command tells beside its answer
 abbrev pub Remarks : Command → (status : ℕ) → List (List ℕ) → Type 0
-Remarks (Interp r) status told = IsRunRemark Steps r.steps r.count status told
+Remarks (Interp r) status told = IsInterpRemark r.level r.steps r.count status told
 Remarks (Run r) status told = IsRunRemark Words r.steps r.count status told
 Remarks (Build b) status told = IsBuildRemark status told
 Remarks (CheckEach files explain) status told = IsTotals explain (map (λ s. s.now) files.items) told

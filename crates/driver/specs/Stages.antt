@@ -25,8 +25,10 @@ abbrev pub IsStagesFault : List ℕ → StagesFault → Type 0
 IsStagesFault text (faults.Build fault) = IsBuildFault text 1 fault ⊎ ((fault ≡ builds.Limit limits.Assembly) × IsFaultless text)
 IsStagesFault text faults.NoStage = IsFaultless text
 IsStagesFault text faults.NoFunction = IsFaultless text
+IsStagesFault text (faults.NoBlock first last) = IsFaultless text
 
 abbrev pub stages_fault_text : StagesFault → List ℕ
 stages_fault_text (faults.Build fault) = build_fault_text fault
 stages_fault_text faults.NoStage = codes "fault 18 NoStage"
 stages_fault_text faults.NoFunction = codes "fault 16 NoFunction"
+stages_fault_text (faults.NoBlock first last) = codes "fault 14 NoBlock"

@@ -32,7 +32,7 @@ fn source_of(alloc: Global, bytes: &[u8]) -> Result<Vec<u8>, ImageFault>
         Ok(image) => image,
         Err(fault) => return Err(fault),
     };
-    match source(alloc, &image) {
+    match source(alloc, &image, &[]) {
         Ok(page) => Ok(page),
         Err(_) => Err(ImageFault::NoMemory),
     }

@@ -15,6 +15,8 @@
 mod choices;
 mod image_commands;
 mod interp_command;
+mod level_runs;
+mod levels;
 mod listings;
 mod pages;
 mod program;
@@ -33,6 +35,7 @@ pub use check_command::{CheckAnswer, CheckFault, check};
 pub use command_line::{AskedBuild, Command, words};
 pub use commands::{FileFault, Files};
 pub use interp_command::{end_status, tell_interp};
+pub use level_runs::{interp_blocks, interp_rtl};
 pub use listings::list_image;
 pub use messages::SourceFault;
 pub use program::mcc;

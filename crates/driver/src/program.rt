@@ -11,7 +11,7 @@ ghost use Rattle.driver.specs.Program.{Answers, HasFaultyFile, IsBegun, NamesOne
 
 use crate::choices::tell_choice;
 use crate::image_commands::ImageCommand;
-use crate::interp_command::interp_file;
+use crate::levels::interp_at;
 use crate::pages::Paged;
 use crate::show_commands::ShowCommand;
 use build_command::build_file;
@@ -110,7 +110,7 @@ pub fn mcc<T: Threads + Wait + Sync, F: Files, W: Output, E: Complaints>(
                 explain,
             },
         ) => { check_files(rt, alloc, names.as_slice(), explain, files, out, err) }
-        Ok(Command::Interp(asked)) => interp_file(alloc, asked, files, out, err),
+        Ok(Command::Interp(asked)) => interp_at(alloc, asked, files, out, err),
         Ok(Command::Build(asked)) => build_file(rt, alloc, &asked, files, out, err),
         Ok(Command::Run(asked)) => run_file(
             alloc,
@@ -130,18 +130,19 @@ pub fn mcc<T: Threads + Wait + Sync, F: Files, W: Output, E: Complaints>(
                 source,
                 stage,
                 function,
-                block: _,
+                block,
                 dot,
             },
         ) => {
             let asked = Asked {
                 stage,
                 function,
+                block,
                 dot,
             };
             show_source(alloc, asked, source, files, out, err)
         }
         Ok(Command::NoChoice { choice, value }) => tell_choice(alloc, err, choice, value),
-        Err(error) => tell_words(&error, out, err),
+        Err(error) => tell_words(alloc, &error, out, err),
     }
 }

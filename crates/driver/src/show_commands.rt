@@ -33,6 +33,8 @@ pub enum StagesFault {
     NoStage,
     /// 16: the program has no function of this name.
     NoFunction,
+    /// 14: the function, or the program, has no block of this number: it has those from the first to the last.
+    NoBlock { first: usize, last: usize },
 }
 
 impl fmt::Display for StagesFault {
@@ -43,6 +45,7 @@ impl fmt::Display for StagesFault {
             StagesFault::Build(fault) => write!(f, "{fault}"),
             StagesFault::NoStage => f.write_str("fault 18 NoStage"),
             StagesFault::NoFunction => f.write_str("fault 16 NoFunction"),
+            StagesFault::NoBlock { .. } => f.write_str("fault 14 NoBlock"),
         }
     }
 }
@@ -50,7 +53,7 @@ impl fmt::Display for StagesFault {
 impl Error for StagesFault {}
 
 /// RTL of the program that the text spells.
-fn rtl_of(alloc: Global, text: &[u8]) -> Result<Rtl, BuildFault>
+pub(crate) fn rtl_of(alloc: Global, text: &[u8]) -> Result<Rtl, BuildFault>
     ensures spelled { IfOk result (IsRtlOf text.now) }
     ensures fault { IfErr result (IsBuildFault text.now 1) }
 {
@@ -97,6 +100,7 @@ fn shown_of(
         Ok(page) => Ok(page),
         Err(ShowFault::NoStage) => Err(StagesFault::NoStage),
         Err(ShowFault::NoFunction) => Err(StagesFault::NoFunction),
+        Err(ShowFault::NoBlock { first, last }) => Err(StagesFault::NoBlock { first, last }),
         Err(ShowFault::Limit) => Err(StagesFault::Build(BuildFault::Limit(Limit::Assembly))),
         Err(ShowFault::NoMemory) => Err(StagesFault::Build(BuildFault::NoMemory)),
     }
@@ -120,7 +124,7 @@ pub fn stages(alloc: Global, text: &[u8], asked: &Asked<'_>) -> Result<Vec<u8>, 
 
 /// What is said of a stage that isn't there.
 fn stage_lines(alloc: Global, stage: Option<&str>) -> Result<String, AllocError> {
-    let hint = "hint: stages are rtl, homes, blocks, orders, terms and listing\n";
+    let hint = "hint: stages are rtl, homes, blocks, orders, check, terms, listing and asm\n";
     match stage {
         Some(name) => format!(in alloc; "error: there is no stage '{name}'\n{hint}"),
         None => format!(in alloc; "error: there is no stage of this name\n{hint}"),
@@ -156,6 +160,28 @@ fn function_lines(
         lines.push_str("\n")?;
     }
     Ok(lines)
+}
+
+/// What is said of a block that isn't there.
+fn block_lines(
+    alloc: Global,
+    asked: &Asked<'_>,
+    first: usize,
+    last: usize,
+) -> Result<String, AllocError> {
+    let whose = match asked.function {
+        Some(name) => format!(in alloc; "the function '{name}'")?,
+        None => String::from_str(alloc, "the program")?,
+    };
+    let whose = whose.as_str();
+    match asked.block {
+        Some(number) => format!(in alloc;
+            "error: {whose} has no block {number}\nhint: it has {first} to {last}\n"
+        ),
+        None => format!(in alloc;
+            "error: {whose} has no block of this number\nhint: it has {first} to {last}\n"
+        ),
+    }
 }
 
 /// The line of a fault, and lines below it, if there are some.
@@ -194,6 +220,9 @@ fn tell_asked<E: Complaints>(
             fault,
             function_lines(alloc, text, asked.function),
         ),
+        StagesFault::NoBlock { first, last } => {
+            tell_with(alloc, err, fault, block_lines(alloc, asked, first, last))
+        }
     }
 }
 
@@ -211,6 +240,7 @@ pub fn tell_stages<E: Complaints>(
     let unknown = Asked {
         stage: None,
         function: None,
+        block: None,
         dot: false,
     };
     tell_asked(alloc, err, source, text, fault, &unknown)

@@ -11,7 +11,7 @@ pub use crate::told::REFUSED;
 use crate::told::{Told, put};
 use check_command::{print_answer, tell_check};
 use check_report::print_explained;
-use commands::tell;
+use commands::{WordForm, tell};
 use driver::{
     CheckFault, EndLine, EndingLine, check, end_status, ending_status, interp, list_image,
     print_run, run_image, stages, tell_interp, tell_stages, wrong_page,
@@ -131,7 +131,12 @@ pub extern "C" fn mcc_web_interp(
     match interp(alloc, text, depth, steps) {
         Ok(ran) => {
             let mut printed = Vec::new(alloc);
-            match print_run(&mut printed, ran.output.as_slice(), &EndLine(ran.end)) {
+            match print_run(
+                &mut printed,
+                WordForm::Unsigned,
+                ran.output.as_slice(),
+                &EndLine(ran.end),
+            ) {
                 Ok(()) => {
                     *status = end_status(ran.end);
                     put(out, printed.as_slice())
@@ -185,7 +190,12 @@ pub extern "C" fn mcc_web_run(
     match run_image(alloc, image, steps) {
         Ok(ran) => {
             let mut printed = Vec::new(alloc);
-            match print_run(&mut printed, ran.output.as_slice(), &EndingLine(ran.end)) {
+            match print_run(
+                &mut printed,
+                WordForm::Unsigned,
+                ran.output.as_slice(),
+                &EndingLine(ran.end),
+            ) {
                 Ok(()) => {
                     *status = ending_status(ran.end);
                     put(out, printed.as_slice())
@@ -243,6 +253,7 @@ pub extern "C" fn mcc_web_show(
     let asked = Asked {
         stage: name_of(stage),
         function: name_of(function),
+        block: None,
         dot: false,
     };
     match stages(alloc, text, &asked) {

@@ -1,8 +1,8 @@
 // What is said of numbers that are no constants, and of texts beyond a size.
 
 use crate::said::Said;
-use crate::source::{Source, back, front, is_word, shown_text, spelled_at};
-use c_tokens::MAX_TEXT;
+use crate::source::{NO_TOKEN, Source, back, before, front, is_word, shown_text, spelled_at};
+use c_tokens::{MAX_TEXT, Mark};
 
 /// The most tokens in a row without `;`, `{` or `}` (c_tokens).
 const MAX_RUN: usize = 1024;
@@ -117,10 +117,27 @@ fn reason(number: &[u8]) -> Reason {
     decimal_reason(number)
 }
 
+/// What is written in place of the least int; at file scope a minus and a constant are all that can stand.
+fn least_int_hint(source: &Source<'_>, k: usize) -> &'static str {
+    if source.open_before(k, Mark::LeftBrace, Mark::RightBrace) == NO_TOKEN {
+        "write 0x80000000, which becomes -2147483648 as an int"
+    } else {
+        "write -2147483647 - 1"
+    }
+}
+
+/// Why the number at a token is no constant.
+fn reason_at(source: &Source<'_>, number: &[u8], k: usize) -> Reason {
+    if number == b"2147483648".as_slice() && source.is(before(k, 1), Mark::Minus) {
+        return ("an int goes up to 2147483647", least_int_hint(source, k));
+    }
+    reason(number)
+}
+
 /// What is said of a number that is no constant.
-pub(crate) fn say_constant(said: &mut Said, text: &[u8], at: usize) {
-    let number = number(back(text, at));
-    let (why, hint) = reason(number);
+pub(crate) fn say_constant(said: &mut Said, source: &Source<'_>, at: usize) {
+    let number = number(back(source.text, at));
+    let (why, hint) = reason_at(source, number, source.index_of(at));
     said.say(shown_text(number));
     said.say(" is no constant: ");
     said.say(why);

@@ -105,8 +105,22 @@ const NOT_IN_COMMENTS: &[&[u8]] = &[b"\\", b"??"];
 /// What is said of a word or a sign that C has and the subset leaves out.
 const LEFT_OUT_HERE: &str = "isn't in this subset of C";
 
+/// What a text is that begins with a byte order mark, and what to do; None where it doesn't.
+fn mark_hint(text: &[u8]) -> Option<&'static str> {
+    match text {
+        [239, 187, 191, ..] => Some("save the file as UTF-8 without it"),
+        [255, 254, ..] | [254, 255, ..] => Some("the file is UTF-16: save it as ASCII"),
+        _ => None,
+    }
+}
+
 /// What is said of a byte that no text may have.
 pub(crate) fn say_byte(said: &mut Said, text: &[u8], at: usize) {
+    if at == 0
+        && let Some(hint) = mark_hint(text)
+    {
+        return said.say_both("the text begins with a byte order mark", hint);
+    }
     said.say("the byte ");
     said.say_number(text.get(at).copied().unwrap_or(0) as usize);
     said.say(" can't stand in a text");

@@ -1,4 +1,4 @@
-//! What is said of the errors of a C text: what is wrong, in plain words, and what to write instead.
+//! What is said of the errors of a C text, and warnings: what is wrong, in plain words, and what to write instead.
 //!
 //! Contract: `explain`
 //! - `explain` gives printable ASCII for each source and each error.
@@ -6,20 +6,27 @@
 //!
 //! | Tested | In |
 //! |---|---|
-//! | nearly each message and hint | tests/messages |
+//! | nearly each message, hint and warning | tests/messages |
 #![tactic(auto)]
 
+mod chains;
 mod constants;
 mod expected;
 mod fault;
+mod folded;
+mod headers;
 mod lexical;
+mod missing;
 mod more_tokens;
 mod names;
+mod near_names;
 mod said;
 mod source;
 mod statements;
 mod syntax;
 mod types;
+mod warning_walk;
+mod warnings;
 
 ghost use Rattle.std.specs.Prelude.{IfOk};
 ghost use Rattle.commands.specs.Texts.{IsPrintableExplanation};
@@ -32,12 +39,14 @@ use crate::names::{in_sight, names_before};
 use crate::said::Said;
 use crate::source::Source;
 use crate::syntax::say_syntax;
-use crate::types::say_kind;
+use crate::types::{say_kind, say_undeclared};
 use c_front::{FrontFault, FrontFaultKind};
+use c_statements::TypeFaultKind;
 use commands::Explanation;
 pub use fault::SourceFault;
 pub use statements::{PlacedStatement, placed_statements};
 use std::alloc::{AllocError, Global};
+pub use warnings::{Warning, warnings_of};
 
 fn say_front(
     alloc: Global,
@@ -56,7 +65,7 @@ fn say_front(
             let expected = expected_words(alloc, source, k)?;
             say_syntax(said, source, k, expected.as_slice());
         }
-        FrontFaultKind::Constant => say_constant(said, source.text, fault.at),
+        FrontFaultKind::Constant => say_constant(said, source, fault.at),
         FrontFaultKind::Size => say_size(said, source, fault.at),
         FrontFaultKind::NoMemory => said.say("memory was refused"),
     }
@@ -75,8 +84,12 @@ pub fn explain(alloc: Global, text: &[u8], fault: SourceFault) -> Result<Explana
         SourceFault::Types(fault) => {
             let k = source.index_of(fault.at);
             let names = names_before(alloc, &source, k)?;
-            let declared = in_sight(&source, names.as_slice(), k);
-            say_kind(&mut said, &source, fault.kind, k, declared);
+            if fault.kind == TypeFaultKind::Undeclared {
+                say_undeclared(alloc, &mut said, &source, names.as_slice(), k)?;
+            } else {
+                let declared = in_sight(&source, names.as_slice(), k);
+                say_kind(&mut said, &source, fault.kind, k, declared);
+            }
         }
     }
     said.end(alloc)

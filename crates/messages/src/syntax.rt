@@ -1,5 +1,7 @@
 // What is said of the first token that can't stand.
 
+use crate::headers::{NO_CASTS, type_hint};
+use crate::missing::hint_missing;
 use crate::said::Said;
 use crate::source::{NO_TOKEN, Source, TYPES, before};
 use c_tokens::{JumpWord, Mark, Token};
@@ -27,6 +29,8 @@ enum Fact {
     BehindAssign,
     /// This stands before the token before it.
     Second(Mark),
+    /// This stands before these two.
+    Third(Mark),
     /// Its statement or declaration begins with this.
     Begins(Mark),
     BeginsWithName,
@@ -72,7 +76,7 @@ const OPERATORS: &[Mark] = &[
 
 const POINTER_SIGNS: &[Mark] = &[Mark::Star, Mark::Ampersand, Mark::AndAnd];
 
-const CALL: &str = "a call stands alone or behind '=': int r; r = f(1); out(r);";
+const CALL: &str = "a call stands alone or behind 'name =': int r; r = f(1); out(r);";
 
 const CHAR: &str = "write int; an array of bytes stands at file scope: unsigned char line[80];";
 
@@ -95,7 +99,17 @@ const HINTS: &[(&[Fact], &str)] = &[
             Fact::BehindName,
             Fact::BeginsWithReturn,
         ],
-        "a call stands alone or behind '=': int r; r = f(1); return r;",
+        "a call stands alone or behind 'name =': int r; r = f(1); return r;",
+    ),
+    (
+        &[
+            Fact::In(Place::Function),
+            Fact::Is(Mark::LeftParen),
+            Fact::BehindName,
+            Fact::Second(Mark::Assign),
+            Fact::Third(Mark::RightBracket),
+        ],
+        "a call stands alone or behind 'name =': int r; r = f(1); a[0] = r;",
     ),
     (
         &[
@@ -131,7 +145,7 @@ const HINTS: &[(&[Fact], &str)] = &[
             Fact::Behind(Mark::LeftParen),
             Fact::In(Place::Function),
         ],
-        "there are no casts: an assignment converts, as unsigned u; u = x;",
+        NO_CASTS,
     ),
     (&[Fact::Is(Mark::Char)], CHAR),
     (
@@ -394,6 +408,7 @@ impl<'s, 't> Found<'s, 't> {
             Fact::BehindNoOperand => !self.is_behind_operand(),
             Fact::BehindAssign => self.is_behind_assign(),
             Fact::Second(mark) => source.is(before(self.token, 2), *mark),
+            Fact::Third(mark) => source.is(before(self.token, 3), *mark),
             Fact::Begins(mark) => source.is(self.first, *mark),
             Fact::BeginsWithName => source.is_name(self.first),
             Fact::BeginsWithType => source.is_one(self.first, TYPES),
@@ -470,5 +485,11 @@ pub(crate) fn say_syntax(said: &mut Said, source: &Source<'_>, k: usize, expecte
         said.say(found);
         said.say("'");
     }
-    said.hint(Found::new(source, k).first_hint(HINTS));
+    if hint_missing(said, source, k, expected) {
+        return;
+    }
+    said.hint(match type_hint(source, k) {
+        Some(hint) => hint,
+        None => Found::new(source, k).first_hint(HINTS),
+    });
 }

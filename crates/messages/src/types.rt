@@ -1,11 +1,14 @@
 // What is said of the faults of a program: names used as what they aren't, and what is missing or too much.
 
+use crate::headers::written_for;
 use crate::names::last_function;
+use crate::near_names::nearest;
 use crate::said::Said;
 use crate::source::{NO_TOKEN, Source, Told, before, behind, told_of};
 use c_statements::TypeFaultKind;
 use c_tokens::{Mark, Token};
 use commands::Spot;
+use std::alloc::{AllocError, Global};
 
 /// Names of C's library, and of its headers, with what to write.
 const LIBRARY: &[Told] = &[
@@ -39,10 +42,36 @@ fn elsewhere(source: &Source<'_>, k: usize) -> Option<usize> {
     None
 }
 
-fn say_undeclared(said: &mut Said, source: &Source<'_>, k: usize) {
+/// What is said of a name that no token declares.
+fn say_unknown(
+    alloc: Global,
+    said: &mut Said,
+    source: &Source<'_>,
+    names: &[usize],
+    k: usize,
+) -> Result<(), AllocError> {
+    let name = source.spelling(k);
+    if let Some(told) = told_of(LIBRARY, name).or(written_for(name)) {
+        said.hint(told);
+    } else if let Some(near) = nearest(alloc, source, names, k)? {
+        said.hint("did you mean '");
+        said.hint(near);
+        said.hint("'");
+    }
+    Ok(())
+}
+
+/// What is said of a name that isn't in sight, given the names that are.
+pub(crate) fn say_undeclared(
+    alloc: Global,
+    said: &mut Said,
+    source: &Source<'_>,
+    names: &[usize],
+    k: usize,
+) -> Result<(), AllocError> {
     said.say_name(source.token_text(k), "isn't declared");
     let Some(other) = elsewhere(source, k) else {
-        return said.hint(told_of(LIBRARY, source.spelling(k)).unwrap_or(""));
+        return say_unknown(alloc, said, source, names, k);
     };
     said.hint("'");
     said.hint(source.token_text(k));
@@ -53,6 +82,7 @@ fn say_undeclared(said: &mut Said, source: &Source<'_>, k: usize) {
     } else {
         " comes too late: put it before its first use"
     });
+    Ok(())
 }
 
 fn say_redeclared(said: &mut Said, source: &Source<'_>, k: usize, first: Option<usize>) {
@@ -109,7 +139,7 @@ fn say_function(said: &mut Said, name: &str, after: Option<Mark>) {
         Some(Mark::Assign) => said.say_name(name, "is a function: it can't be assigned to"),
         _ => {
             said.say_name(name, "is a function: call it");
-            said.hint("a call stands alone or behind '=': int r; r = f(1); out(r);");
+            said.hint("a call stands alone or behind 'name =': int r; r = f(1); out(r);");
         }
     }
 }
@@ -209,7 +239,7 @@ pub(crate) fn say_kind(
     declared: Option<usize>,
 ) {
     match kind {
-        TypeFaultKind::Undeclared => say_undeclared(said, source, k),
+        TypeFaultKind::Undeclared => said.say_name(source.token_text(k), "isn't declared"),
         TypeFaultKind::Redeclared => say_redeclared(said, source, k, declared),
         TypeFaultKind::Kind => say_other_kind(said, source, k, declared),
         TypeFaultKind::Count => say_other_count(said, source, k, declared),

@@ -1,7 +1,7 @@
 //! Runs images on the machine: exactly its definition at each bound. `load` decodes each word once, a step takes constant time.
 //!
 //! Definitions: `specs/ImageRuns.antt`, `specs/Decoding.antt`, `specs/Portions.antt`.
-//! Contract: `load`, `Machine::step`, `Machine::go_on`, `run`
+//! Contract: `load`, `Machine::step`, `Machine::go_on`, `run`, `Registers::perform`
 //! - `load`, `Machine::step`, `Machine::go_on` and `run` are exactly the machine from the image's start.
 //! - What a `Machine` shows is what it holds.
 #![tactic(auto)]
@@ -14,4 +14,4 @@ mod state;
 
 pub use machine::{Machine, MachineRan, load, run};
 pub use portions::{Portion, output_goes_before};
-pub use state::Load;
+pub use state::{Load, Registers};

@@ -1,18 +1,20 @@
 // Registers, HI, LO, and the load under way.
-ghost use Rattle.std.specs.Prelude.{◌≡◌, ℕ, None, true, slice_index, IfOk, IfErr};
+ghost use Rattle.std.specs.Prelude.{◌≡◌, ◌≤◌, ℕ, None, true, length, slice_index, IfOk, IfErr};
 ghost use Rattle.words.specs.Operators.{op_value, has_quotient};
 ghost use Rattle.mips_isa.specs.MemoryMap.{stack_end};
+ghost use Rattle.mips_isa.specs.Starting.{start_state};
 ghost use Rattle.mips_isa.specs.States.{read, put, is_aligned, is_open, load_at, store_at};
 ghost use Rattle.mips_isa.specs.Actions.{operand, address};
 ghost use Rattle.mips_isa.specs.Flows.{shown_state, pending_of, state_with_pending};
 ghost use Rattle.mips_machine.specs.Rules.{address_rule_of, place_rule_of, rule_told};
 ghost use Rattle.mips_machine.specs.Views.{state_of, pending_in};
 
-use crate::memory::Memory;
+use crate::memory::{Memory, memory_of};
 use mips_isa::{
     Action, NonzeroReg, Operand, Reg, Rule, STACK_END, product_high, product_low,
     quotient_operator, remainder_operator,
 };
+use std::alloc::{AllocError, Global};
 use words::{Operator, Width};
 
 /// What the last word loaded, which doesn't show yet.
@@ -193,10 +195,26 @@ impl Registers {
 }
 
 /// The registers at the start: register 29 is the end of the stack, the others are 0.
-pub fn first_registers() -> [u32; 32]
+fn first_registers() -> [u32; 32]
     ensures { slice_index result ≡ put (λ r. 0) 29 stack_end }
 {
     let mut regs = [0; 32];
     regs[29] = STACK_END;
     regs
+}
+
+impl Registers {
+    /// The state in which a program with these bytes of data starts.
+    pub fn first(alloc: Global, bytes: &[u8]) -> Result<Registers, AllocError>
+        requires { length bytes.now ≤ 1048576 }
+        ensures { IfOk result (λ r. state_of r ≡ start_state bytes.now) }
+    {
+        let memory = memory_of(alloc, bytes)?;
+        Ok(Registers {
+            regs: first_registers(),
+            hi: 0,
+            lo: 0,
+            memory,
+        })
+    }
 }

@@ -84,7 +84,7 @@ pub trait Resumable {
 }
 
 /// Prints each word in its form on a line.
-fn put_words<W: Output>(out: &mut W, form: WordForm, words: &[u32]) -> io::Result<()>
+pub(crate) fn put_words<W: Output>(out: &mut W, form: WordForm, words: &[u32]) -> io::Result<()>
     ensures lines { OnOk result (Appends (W.contents out.old) (W.contents out.new) (words_in form words.now)) }
     ensures refused { OnErr result (WasRefused W.refuses out.new) }
 {

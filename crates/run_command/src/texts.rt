@@ -3,10 +3,11 @@
 ghost use Rattle.std.specs.Prelude.{Some, [], ◌∷◌, ◌++◌, IfSome, OnErr, OnOk};
 ghost use Rattle.std.specs.Io.KnownBytes.{Appends};
 ghost use Rattle.commands.specs.Requests.{IsSent, WasRefused};
-ghost use Rattle.run_command.specs.Command.{words_text};
+ghost use Rattle.run_command.specs.Command.{words_in};
 ghost use Rattle.run_command.specs.Texts.{ending_text};
 
-use commands::Output;
+use crate::portions::put_words;
+use commands::{Output, WordForm};
 use mips_steps::Ending;
 use std::{fmt, io};
 
@@ -26,16 +27,19 @@ impl fmt::Display for EndingLine {
     }
 }
 
-/// Prints each word of output in unsigned decimal, and how the run ended, each on a line.
-pub fn print_run<W: Output, L: fmt::Display>(out: &mut W, output: &[u32], end: &L) -> io::Result<()>
+/// Prints each word of output in its form, and how the run ended, each on a line.
+pub fn print_run<W: Output, L: fmt::Display>(
+    out: &mut W,
+    form: WordForm,
+    output: &[u32],
+    end: &L,
+) -> io::Result<()>
     ensures sent { OnOk result (IsSent W.sends out.new) }
     ensures refused { OnErr result (WasRefused W.refuses out.new) }
     ensures lines { OnOk result (IfSome (L.output end.now)
-        (λ last. Appends (W.contents out.old) (W.contents out.new) (words_text output.now ++ (last ++ 10 ∷ [])))) }
+        (λ last. Appends (W.contents out.old) (W.contents out.new) (words_in form output.now ++ (last ++ 10 ∷ [])))) }
 {
-    for word in output {
-        out.put_line(word)?;
-    }
+    put_words(out, form, output)?;
     out.put_line(end)?;
     out.send()
 }

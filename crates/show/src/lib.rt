@@ -8,8 +8,10 @@
 //! | each stage of three programs | tests/show |
 #![tactic(auto)]
 
+mod asm;
 mod back_edges;
 mod blocks;
+mod check;
 mod dot;
 mod homes;
 mod listing;
@@ -20,5 +22,7 @@ mod program;
 mod rtl_text;
 mod stage;
 mod terms;
+mod wanted;
 
-pub use program::{Asked, ShowFault, Shown, show};
+pub use program::{Shown, show};
+pub use wanted::{Asked, ShowFault};

@@ -2,7 +2,7 @@
 
 use crate::blocks::{callee, put_heading, put_line};
 use crate::names::Names;
-use crate::numbers::Range;
+use crate::numbers::{Range, is_wanted};
 use block_text::Writer;
 use mblock::{Exit, Order, Unit};
 use rtl::RGlobal;
@@ -16,6 +16,11 @@ fn exit_words(exit: Exit) -> usize {
     }
 }
 
+/// How many words of code an order has.
+pub(crate) fn order_words(order: &Order) -> usize {
+    order.insts().len().saturating_add(exit_words(order.exit()))
+}
+
 /// What the parts of a listing are called.
 #[derive(Clone, Copy)]
 pub(crate) struct ListingView<'a> {
@@ -25,6 +30,8 @@ pub(crate) struct ListingView<'a> {
     pub(crate) globals: &'a [RGlobal],
     /// The function that is shown alone, by its number among the ranges.
     pub(crate) only: Option<usize>,
+    /// The block that is shown alone.
+    pub(crate) block: Option<usize>,
 }
 
 /// The lines of so many words, shown or left out.
@@ -64,12 +71,12 @@ impl<'a> ListingView<'a> {
         }
         let mut k = range.from;
         for order in range.of(orders) {
+            let is_shown = is_shown && is_wanted(self.block, k);
             if is_shown {
                 put_heading(out, k, callee(self.names, self.ranges, order.exit()));
                 out.text("\n");
             }
-            let words = order.insts().len().saturating_add(exit_words(order.exit()));
-            put_words(out, lines, words, is_shown);
+            put_words(out, lines, order_words(order), is_shown);
             k = k.saturating_add(1);
         }
     }

@@ -12,9 +12,21 @@ pub(crate) struct Range {
 }
 
 impl Range {
+    pub(crate) fn has(self, number: usize) -> bool {
+        self.from <= number && number < self.to
+    }
+
     /// What a list over all blocks has for these.
     pub(crate) fn of<'s, T>(self, all: &'s [T]) -> &'s [T] {
         all.get(self.from..self.to).unwrap_or(&[])
+    }
+}
+
+/// Whether a number is the one that is asked for, if one is.
+pub(crate) fn is_wanted(asked: Option<usize>, number: usize) -> bool {
+    match asked {
+        Some(only) => only == number,
+        None => true,
     }
 }
 

@@ -56,7 +56,8 @@ fn put_place(out: &mut Writer, place: Place) {
     }
 }
 
-fn proposed_order(alloc: Global, block: &Block) -> Result<Order, AllocError> {
+/// The order that the scheduler gives a block.
+pub(crate) fn proposed_order(alloc: Global, block: &Block) -> Result<Order, AllocError> {
     FilledOrder(ListOrder).reorder(alloc, block)
 }
 

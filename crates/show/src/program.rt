@@ -3,25 +3,31 @@
 ghost use Rattle.std.specs.Prelude.{All, IfOk};
 ghost use Rattle.block_text.specs.Shown.{IsShown};
 
+use crate::asm::labels_of;
 use crate::blocks::{callee, put_heading};
+use crate::check::put_check;
 use crate::dot::{put_blocks, put_rtl_blocks};
 use crate::homes::put_homes;
 use crate::listing::{ListingView, put_title};
 use crate::names::Names;
-use crate::numbers::{Range, functions_of, rtl_blocks_of};
+use crate::numbers::{Range, functions_of, is_wanted, rtl_blocks_of};
 use crate::orders::{put_needed, put_settled};
 use crate::rtl_text::RtlView;
 use crate::stage::Stage;
 use crate::terms::put_terms;
+use crate::wanted::{Asked, ShowFault, Wanted};
+use asm_text::source;
 use block_text::{WIDTH, Writer, page_of};
 use delay_filler::FilledOrder;
+use image::Image;
 use list_scheduler::ListOrder;
 use mblock::{Block, BlockNumber, Unit};
-use mips_asm::{AsmFault, assemble, list};
+use mips_asm::{assemble, list};
 use mips_homes::{Frame, Homed, place};
 use rtl::{RFunc, Rtl};
 use sched_phase::{PhaseOpts, Scheduled, schedule_one};
 use std::alloc::{AllocError, Global};
+use std::str;
 
 /// A program at its stages, with the text that it is of.
 #[derive(Clone, Copy)]
@@ -33,79 +39,6 @@ pub struct Shown<'a> {
     pub numbers: &'a [BlockNumber],
 }
 
-/// What is asked for.
-#[derive(Clone, Copy)]
-pub struct Asked<'a> {
-    /// One stage by its name, or RTL, blocks and orders of each function.
-    pub stage: Option<&'a str>,
-    /// One function, or all.
-    pub function: Option<&'a str>,
-    /// Graphs for Graphviz: of RTL where that stage is asked for, else of the unit's blocks.
-    pub dot: bool,
-}
-
-/// Why there is nothing to show.
-#[derive(Clone, Copy, Debug, PartialEq, Eq)]
-pub enum ShowFault {
-    /// There is no stage of this name.
-    NoStage,
-    /// The program has no function of this name.
-    NoFunction,
-    /// A function has more than 32,000 words of code, or the program more than 1,048,576: there is no listing.
-    Limit,
-    /// Memory was refused.
-    NoMemory,
-}
-
-impl From<AllocError> for ShowFault {
-    fn from(_refused: AllocError) -> ShowFault {
-        ShowFault::NoMemory
-    }
-}
-
-impl From<AsmFault> for ShowFault {
-    fn from(fault: AsmFault) -> ShowFault {
-        match fault {
-            AsmFault::Limit => ShowFault::Limit,
-            AsmFault::NoMemory => ShowFault::NoMemory,
-        }
-    }
-}
-
-/// What is asked for, by what it stands for.
-#[derive(Clone, Copy)]
-struct Wanted {
-    stage: Option<Stage>,
-    /// By its number among the ranges.
-    only: Option<usize>,
-    dot: bool,
-}
-
-impl Wanted {
-    /// What is asked for, if it is there.
-    fn of(names: &Names<'_>, asked: &Asked<'_>) -> Result<Wanted, ShowFault> {
-        let stage = match asked.stage {
-            None => None,
-            Some(name) => match Stage::from_name(name) {
-                Some(stage) => Some(stage),
-                None => return Err(ShowFault::NoStage),
-            },
-        };
-        let only = match asked.function {
-            None => None,
-            Some(name) => match names.function_named(name) {
-                Some(number) => Some(number.saturating_add(1)),
-                None => return Err(ShowFault::NoFunction),
-            },
-        };
-        Ok(Wanted {
-            stage,
-            only,
-            dot: asked.dot,
-        })
-    }
-}
-
 /// The frames of a program's functions, if their homes are wanted: otherwise none.
 fn frames_of(alloc: Global, rtl: &Rtl, wanted: &Wanted) -> Result<Vec<Frame>, AllocError> {
     if wanted.dot || wanted.stage != Some(Stage::Homes) {
@@ -115,15 +48,13 @@ fn frames_of(alloc: Global, rtl: &Rtl, wanted: &Wanted) -> Result<Vec<Frame>, Al
     Ok(frames)
 }
 
-/// The listing of a program's image, each block in its order; none where memory was refused to one of them, which would keep
-/// its own.
-fn listing_of(alloc: Global, scheduled: &Scheduled<'_>) -> Result<String, ShowFault> {
+/// A program's image, each block in its order; none where memory was refused to one of them, which would keep its own.
+fn image_of(alloc: Global, scheduled: &Scheduled<'_>) -> Result<Image, ShowFault> {
     if scheduled.report().no_memory > 0 {
         return Err(ShowFault::NoMemory);
     }
     let image = assemble(alloc, scheduled)?;
-    let listing = list(alloc, &image)?;
-    Ok(listing)
+    Ok(image)
 }
 
 /// A program with its names, its functions, and the frames that are wanted.
@@ -136,6 +67,8 @@ struct View<'a> {
     /// The functions' blocks of RTL.
     rtl_ranges: Vec<Range>,
     frames: Vec<Frame>,
+    /// The block that is shown alone.
+    block: Option<usize>,
 }
 
 impl<'a> View<'a> {
@@ -143,9 +76,9 @@ impl<'a> View<'a> {
         alloc: Global,
         shown: Shown<'a>,
         names: Names<'a>,
+        ranges: Vec<Range>,
         wanted: &Wanted,
     ) -> Result<View<'a>, AllocError> {
-        let ranges = functions_of(alloc, shown.unit)?;
         let rtl_ranges = rtl_blocks_of(alloc, shown.rtl.functions())?;
         let frames = frames_of(alloc, shown.rtl, wanted)?;
         Ok(View {
@@ -155,6 +88,7 @@ impl<'a> View<'a> {
             ranges,
             rtl_ranges,
             frames,
+            block: wanted.block,
         })
     }
 
@@ -192,7 +126,7 @@ impl<'a> View<'a> {
         if is_graph {
             put_rtl_blocks(self.alloc, out, &view, blocks)?;
         } else {
-            view.blocks(out, blocks);
+            view.blocks(out, blocks, self.block);
         }
         Ok(())
     }
@@ -225,9 +159,11 @@ impl<'a> View<'a> {
         let range = self.range(number);
         let mut k = range.from;
         for block in range.of(self.shown.unit.blocks()) {
-            let called = callee(&self.names, self.ranges.as_slice(), block.exit());
-            put_heading(out, k, called);
-            self.put_stage(out, stage, block)?;
+            if is_wanted(self.block, k) {
+                let called = callee(&self.names, self.ranges.as_slice(), block.exit());
+                put_heading(out, k, called);
+                self.put_stage(out, stage, block)?;
+            }
             k = k.saturating_add(1);
         }
         Ok(())
@@ -272,22 +208,64 @@ impl<'a> View<'a> {
         Ok(())
     }
 
-    fn put_listing(&self, out: &mut Writer, only: Option<usize>) -> Result<(), ShowFault> {
-        let Some(options) = PhaseOpts::new(1, 65536, 1024) else {
-            return Ok(());
-        };
-        let scheduler = FilledOrder(ListOrder);
-        let scheduled = schedule_one(self.alloc, self.shown.unit, options, &scheduler)?;
-        let listing = listing_of(self.alloc, &scheduled)?;
+    fn put_listing(
+        &self,
+        out: &mut Writer,
+        scheduled: &Scheduled<'_>,
+        only: Option<usize>,
+    ) -> Result<(), ShowFault> {
+        let image = image_of(self.alloc, scheduled)?;
+        let listing = list(self.alloc, &image)?;
         let view = ListingView {
             names: &self.names,
             unit: self.shown.unit,
             ranges: self.ranges.as_slice(),
             globals: self.shown.rtl.globals(),
             only,
+            block: self.block,
         };
         view.put(out, scheduled.orders(), listing.as_str());
         Ok(())
+    }
+
+    fn put_asm(&self, out: &mut Writer, scheduled: &Scheduled<'_>) -> Result<(), ShowFault> {
+        let image = image_of(self.alloc, scheduled)?;
+        let labels = labels_of(
+            self.alloc,
+            &self.names,
+            self.ranges.as_slice(),
+            scheduled.orders(),
+            self.shown.rtl.globals(),
+        )?;
+        let page = source(self.alloc, &image, labels.as_slice())?;
+        out.text(str::from_utf8(page.as_slice()).unwrap_or(""));
+        Ok(())
+    }
+
+    /// What is made of the whole image.
+    fn put_image(&self, out: &mut Writer, wanted: &Wanted) -> Result<(), ShowFault> {
+        let Some(options) = PhaseOpts::new(1, 65536, 1024) else {
+            return Ok(());
+        };
+        let scheduler = FilledOrder(ListOrder);
+        let scheduled = schedule_one(self.alloc, self.shown.unit, options, &scheduler)?;
+        if wanted.stage == Some(Stage::Asm) {
+            self.put_asm(out, &scheduled)
+        } else {
+            self.put_listing(out, &scheduled, wanted.only)
+        }
+    }
+
+    fn put_check(&self, out: &mut Writer, wanted: &Wanted) -> Result<(), AllocError> {
+        match self
+            .shown
+            .unit
+            .blocks()
+            .get(wanted.checked(self.ranges.as_slice()))
+        {
+            Some(block) => put_check(self.alloc, out, block),
+            None => Ok(()),
+        }
     }
 
     /// RTL, blocks and orders of a function.
@@ -338,10 +316,10 @@ impl<'a> View<'a> {
     /// The text of what is asked for.
     fn text(&self, wanted: &Wanted) -> Result<String, ShowFault> {
         let mut out = Writer::new(self.alloc);
-        if wanted.stage == Some(Stage::Listing) && !wanted.dot {
-            self.put_listing(&mut out, wanted.only)?;
-        } else {
-            self.put_all(&mut out, wanted)?;
+        match wanted.stage {
+            Some(Stage::Listing | Stage::Asm) if !wanted.dot => self.put_image(&mut out, wanted)?,
+            Some(Stage::Check) if !wanted.dot => self.put_check(&mut out, wanted)?,
+            _ => self.put_all(&mut out, wanted)?,
         }
         let text = out.end()?;
         Ok(text)
@@ -356,19 +334,24 @@ fn first_of(wanted: &Wanted) -> usize {
     }
 }
 
-/// What is asked for of a program: lines of printable ASCII, of at most 120 bytes but for graphs.
+/// How long lines are at most: what another program reads isn't cut.
+fn width_of(wanted: &Wanted) -> usize {
+    match wanted.stage {
+        Some(Stage::Asm) => usize::MAX,
+        _ => if wanted.dot { usize::MAX } else { WIDTH },
+    }
+}
+
+/// What is asked for of a program: lines of printable ASCII, of at most 120 bytes but for graphs and assembler source.
 pub fn show(alloc: Global, shown: Shown<'_>, asked: &Asked<'_>) -> Result<Vec<u8>, ShowFault>
     ensures { IfOk result (λ page. All IsShown page.items) }
 {
     let names = Names::read(alloc, shown.text)?;
-    let wanted = Wanted::of(&names, asked)?;
-    let view = View::of(alloc, shown, names, &wanted)?;
+    let ranges = functions_of(alloc, shown.unit)?;
+    let wanted = Wanted::of(&names, ranges.as_slice(), asked)?;
+    let view = View::of(alloc, shown, names, ranges, &wanted)?;
     let text = view.text(&wanted)?;
-    page_in(
-        alloc,
-        text.as_str(),
-        if asked.dot { usize::MAX } else { WIDTH },
-    )
+    page_in(alloc, text.as_str(), width_of(&wanted))
 }
 
 /// A text as it is shown, in lines of at most so many bytes.

@@ -1,6 +1,7 @@
 // RTL as text.
 
 use crate::names::Names;
+use crate::numbers::is_wanted;
 use block_text::Writer;
 use mblock::BlockNumber;
 use rtl::{Op, RBlock, RExit, RGlobal, RInst, Register};
@@ -163,13 +164,15 @@ impl<'a> RtlView<'a> {
         out.text(end);
     }
 
-    /// All blocks of a function.
-    pub(crate) fn blocks(&self, out: &mut Writer, blocks: &[RBlock]) {
+    /// The blocks of a function, or the one with this number.
+    pub(crate) fn blocks(&self, out: &mut Writer, blocks: &[RBlock], only: Option<usize>) {
         let mut k = 0u32;
         for block in blocks {
-            self.to(out, "  block ", k);
-            out.text("\n");
-            self.lines(out, block, "    ", "\n");
+            if is_wanted(only, self.number(k)) {
+                self.to(out, "  block ", k);
+                out.text("\n");
+                self.lines(out, block, "    ", "\n");
+            }
             k = k.saturating_add(1);
         }
     }

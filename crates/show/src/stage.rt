@@ -10,9 +10,13 @@ pub(crate) enum Stage {
     Blocks,
     /// As scheduled.
     Orders,
+    /// A block and its order as a check text.
+    Check,
     /// What each block leaves.
     Terms,
     Listing,
+    /// Assembler source.
+    Asm,
 }
 
 impl Stage {
@@ -22,8 +26,10 @@ impl Stage {
             Stage::Homes => "homes",
             Stage::Blocks => "blocks",
             Stage::Orders => "orders",
+            Stage::Check => "check",
             Stage::Terms => "terms",
             Stage::Listing => "listing",
+            Stage::Asm => "asm",
         }
     }
 
@@ -34,8 +40,10 @@ impl Stage {
             Stage::Homes,
             Stage::Blocks,
             Stage::Orders,
+            Stage::Check,
             Stage::Terms,
             Stage::Listing,
+            Stage::Asm,
         ] {
             if stage.name() == name {
                 return Some(stage);

@@ -1,11 +1,7 @@
-use Rattle.std.proofs.Common.{refl, inr}
-use Rattle.std.proofs.lemmas.List.Elements.{All-push}
-use Rattle.commands.specs.Texts.{IsShown}
-use Rattle.commands.proofs.Shown.{told_one}
 use Rattle.commands.proofs.Told.{line_on}
 use Rattle.build_command.specs.Texts.{build_fault_text}
 use Rattle.build_command.proofs.build_commands.tell_build.Goals as goal
 
 pub returns-in-Limit-clause-told : goal.returns-in-Limit-clause-told
-returns-in-Limit-clause-told g c = line_on g.E.Complaints.tells _ _ _ (build_fault_text c.args.fault) c.tell_placed-status.ensures.told
-    (told_one g.E.Complaints.tells _ _ _ c.line.ensures (All-push IsShown _ 10 c.limit_text-about.ensures (inr (inr refl))))
+returns-in-Limit-clause-told g c =
+    line_on g.E.Complaints.tells _ _ _ (build_fault_text c.args.fault) c.tell_placed-status.ensures.told c.tell_limit.ensures

@@ -49,21 +49,21 @@ returns-in-Ok-CheckEach-clause-stopped g c = λ one.
 
 pub returns-in-Ok-Interp-clause-answered : goal.returns-in-Ok-Interp-clause-answered
 returns-in-Ok-Interp-clause-answered g c = λ taken other.
-    answered_by Answers g.F.Files.answers (map (λ s. s.now) c.args.args.now) c.interp_file.result (Interp c.in-Ok-Interp.asked)
+    answered_by Answers g.F.Files.answers (map (λ s. s.now) c.args.args.now) c.interp_at.result (Interp c.in-Ok-Interp.asked)
     (subst (IsCommand (map (λ s. s.now) c.args.args.now)) c.in-Ok-Interp.field-0-is c.in-Ok-Interp.ensures.command)
-    _ _ _ _ (c.interp_file.ensures.answered other)
+    _ _ _ _ (c.interp_at.ensures.answered other)
 
 pub returns-in-Ok-Interp-clause-quiet : goal.returns-in-Ok-Interp-clause-quiet
 returns-in-Ok-Interp-clause-quiet g c = λ taken other.
-    remarked g.E.Complaints.tells (map (λ s. s.now) c.args.args.now) c.interp_file.result (Interp c.in-Ok-Interp.asked)
+    remarked g.E.Complaints.tells (map (λ s. s.now) c.args.args.now) c.interp_at.result (Interp c.in-Ok-Interp.asked)
     (subst (IsCommand (map (λ s. s.now) c.args.args.now)) c.in-Ok-Interp.field-0-is c.in-Ok-Interp.ensures.command)
-    _ _ (c.interp_file.ensures.beside other)
+    _ _ (c.interp_at.ensures.beside other)
 
 pub returns-in-Ok-Interp-clause-stopped : goal.returns-in-Ok-Interp-clause-stopped
 returns-in-Ok-Interp-clause-stopped g c = λ one.
     run_stopped g.F.Files.answers g.W.Output.sends g.W.Output.refuses g.E.Complaints.tells (map (λ s. s.now) c.args.args.now) (Interp c.in-Ok-Interp.asked)
     (subst (IsCommand (map (λ s. s.now) c.args.args.now)) c.in-Ok-Interp.field-0-is c.in-Ok-Interp.ensures.command)
-    _ _ _ _ _ _ _ _ (c.interp_file.ensures.stopped one)
+    _ _ _ _ _ _ _ _ (c.interp_at.ensures.stopped one)
 
 pub returns-in-Ok-Build-clause-answered : goal.returns-in-Ok-Build-clause-answered
 returns-in-Ok-Build-clause-answered g c = λ taken other.

@@ -1,0 +1,57 @@
+// Which words of memory runs from a start load.
+
+use crate::registers::Registers;
+use crate::start::Start;
+use mblock::{Block, Order};
+use mips_isa::{Action, Plain};
+use std::alloc::{AllocError, Global};
+
+/// The address of the word that an action loads, or loads a byte of.
+fn loaded_word(registers: &Registers, action: &Action) -> Option<u32> {
+    match *action {
+        Action::Loads { base, offset, .. } => {
+            let address = registers.read(base).wrapping_add(offset);
+            Some(address - address % 4)
+        }
+        _ => None,
+    }
+}
+
+fn put_new(words: &mut Vec<u32>, word: u32) -> Result<(), AllocError> {
+    if !words.contains(&word) {
+        words.push(word)?;
+    }
+    Ok(())
+}
+
+/// The words that instructions load, up to one that isn't safe.
+fn put_loaded(
+    words: &mut Vec<u32>,
+    registers: &mut Registers,
+    insts: &[Plain],
+) -> Result<(), AllocError> {
+    for inst in insts {
+        let action = inst.action();
+        if let Some(word) = loaded_word(registers, &action) {
+            put_new(words, word)?;
+        }
+        if !registers.act(action)? {
+            return Ok(());
+        }
+    }
+    Ok(())
+}
+
+/// The addresses of the words of memory that block and order load from a start, wholly or a byte of them: what these held then, and
+/// the registers, tell what both do.
+pub fn loaded_words(
+    alloc: Global,
+    block: &Block,
+    order: &Order,
+    start: &Start,
+) -> Result<Vec<u32>, AllocError> {
+    let mut words = Vec::new(alloc);
+    put_loaded(&mut words, &mut Registers::of(alloc, start), block.insts())?;
+    put_loaded(&mut words, &mut Registers::of(alloc, start), order.insts())?;
+    Ok(words)
+}

@@ -1,0 +1,188 @@
+// What the addresses of a block's accesses follow, in a run from a start.
+
+use crate::registers::Registers;
+use crate::start::Start;
+use mblock::Block;
+use mips_isa::{Action, Operand, Plain, Reg};
+use std::alloc::{AllocError, Global};
+use words::{Operator, Width};
+
+/// What a word follows: where that grows by a number, the word does too.
+#[derive(Clone, Copy, PartialEq, Eq)]
+pub(crate) enum Origin {
+    Nothing,
+    /// What the register holds at the start.
+    Held(Reg),
+    /// What fills memory.
+    Filled,
+}
+
+/// An access of memory in a run.
+#[derive(Clone, Copy)]
+pub(crate) struct Access {
+    pub(crate) width: Width,
+    pub(crate) address: u32,
+    pub(crate) origin: Origin,
+}
+
+/// How a block ran from a start.
+#[derive(Clone, Copy)]
+pub(crate) struct Traced {
+    /// It was stuck there; `last` is the access that it was stuck at, if it was one.
+    pub(crate) is_stuck: bool,
+    pub(crate) last: Option<Access>,
+    /// The accesses by the two instructions that were asked for.
+    pub(crate) first: Option<Access>,
+    pub(crate) second: Option<Access>,
+}
+
+/// Two instructions of a block, by their places.
+#[derive(Clone, Copy)]
+pub(crate) struct Pair {
+    pub(crate) first: usize,
+    pub(crate) second: usize,
+}
+
+/// The registers of a run, and what each follows.
+#[derive(Drop)]
+struct Tracing {
+    registers: Registers,
+    origins: [Origin; 32],
+    /// Of a sum's two parts the second counts.
+    takes_second: bool,
+}
+
+/// The width, the base and the offset of an access of memory.
+pub(crate) fn access_of(action: &Action) -> Option<(Width, Reg, u32)> {
+    match *action {
+        Action::Loads {
+            width,
+            base,
+            offset,
+            ..
+        }
+        | Action::Stores {
+            width,
+            base,
+            offset,
+            ..
+        } => Some((width, base, offset)),
+        _ => None,
+    }
+}
+
+impl Tracing {
+    fn of(alloc: Global, start: &Start, takes_second: bool) -> Tracing {
+        let mut origins = [Origin::Nothing; 32];
+        for r in 1..32u8 {
+            if let Some(register) = Reg::new(r) {
+                origins[r as usize] = Origin::Held(register);
+            }
+        }
+        Tracing {
+            registers: Registers::of(alloc, start),
+            origins,
+            takes_second,
+        }
+    }
+
+    fn origin(&self, r: Reg) -> Origin {
+        self.origins[r.index() as usize]
+    }
+
+    fn origin_of_sum(&self, a: Reg, b: Operand) -> Origin {
+        let first = self.origin(a);
+        let second = match b {
+            Operand::Held(r) => self.origin(r),
+            Operand::Fixed(_) => Origin::Nothing,
+        };
+        if first == Origin::Nothing || (self.takes_second && second != Origin::Nothing) {
+            second
+        } else {
+            first
+        }
+    }
+
+    /// The register that an action writes, and what it follows then.
+    fn origin_after(&self, action: &Action) -> Option<(Reg, Origin)> {
+        match *action {
+            Action::Computes { d, op, a, b } => {
+                let origin = match op {
+                    Operator::Addu => self.origin_of_sum(a, b),
+                    Operator::Subu => self.origin(a),
+                    _ => Origin::Nothing,
+                };
+                Some((d, origin))
+            }
+            Action::Loads { width, d, .. } => {
+                let origin = match width {
+                    Width::Word => Origin::Filled,
+                    Width::Byte => Origin::Nothing,
+                };
+                Some((d.reg(), origin))
+            }
+            Action::Sets { d, .. } | Action::MovesHigh { d } | Action::MovesLow { d } => {
+                Some((d, Origin::Nothing))
+            }
+            Action::Stores { .. } | Action::Multiplies { .. } | Action::Divides { .. } => None,
+        }
+    }
+
+    fn access(&self, action: &Action) -> Option<Access> {
+        let (width, base, offset) = access_of(action)?;
+        Some(Access {
+            width,
+            address: self.registers.read(base).wrapping_add(offset),
+            origin: self.origin(base),
+        })
+    }
+
+    /// Does an instruction; false where it isn't safe.
+    fn step(&mut self, inst: &Plain) -> Result<bool, AllocError> {
+        let action = inst.action();
+        let after = self.origin_after(&action);
+        if !self.registers.act(action)? {
+            return Ok(false);
+        }
+        if let Some((d, origin)) = after
+            && d.index() != 0
+        {
+            self.origins[d.index() as usize] = origin;
+        }
+        Ok(true)
+    }
+}
+
+/// Runs a block from a start, and gives the accesses of two of its instructions, if a pair is asked for.
+pub(crate) fn trace(
+    alloc: Global,
+    block: &Block,
+    start: &Start,
+    pair: Option<Pair>,
+    takes_second: bool,
+) -> Result<Traced, AllocError> {
+    let mut tracing = Tracing::of(alloc, start, takes_second);
+    let mut traced = Traced {
+        is_stuck: false,
+        last: None,
+        first: None,
+        second: None,
+    };
+    for (k, inst) in block.insts().iter().enumerate() {
+        let access = tracing.access(&inst.action());
+        if let Some(Pair { first, second }) = pair {
+            if k == first {
+                traced.first = access;
+            }
+            if k == second {
+                traced.second = access;
+            }
+        }
+        traced.last = access;
+        if !tracing.step(inst)? {
+            traced.is_stuck = true;
+            return Ok(traced);
+        }
+    }
+    Ok(traced)
+}

@@ -1,0 +1,151 @@
+// The command that runs a C program, at the level that is asked for.
+
+ghost use Rattle.std.specs.Prelude.{◌≡◌, ◌≢◌, ◌≤◌, ◌⊎◌, false};
+ghost use Rattle.commands.specs.Requests.{Asks, Does, IsSent, StopsMidway, TellsBeside};
+ghost use Rattle.run_command.specs.Command.{IsRunRemark};
+ghost use Rattle.run_command.specs.declared.remarks.Counted.TheVariants.{Steps};
+ghost use Rattle.driver.specs.Program.{BeginsInterpAt, InterpsAt, InterpsBelow, IsInterpRemark, StopsBelow, StopsInterpAt};
+
+use crate::interp_command::{end_status, interp_file};
+use crate::level_runs::{interp_blocks, interp_rtl};
+use crate::texts::EndLine;
+use build_command::{BuildFault, tell_build};
+use command_line::{AskedInterp, Level};
+use commands::{BadFile, Complaints, FileCommand, Files, HostFault, Output, answer_file};
+use run_command::{Counted, Spent, print_run, tell_run};
+use runs::Ran;
+use std::alloc::Global;
+
+/// A level below C.
+#[derive(Clone, Copy)]
+pub(crate) enum Below {
+    Rtl,
+    Blocks,
+}
+
+/// `mcc interp --at rtl` and `mcc interp --at blocks`.
+#[derive(Clone, Copy)]
+struct BelowCommand<'s> {
+    asked: AskedInterp<'s>,
+    below: Below,
+}
+
+impl FileCommand for BelowCommand<'_> {
+    ghost use Rattle.runs.specs.Runs.{outcome_of};
+    ghost use Rattle.build_command.specs.Texts.{build_fault_text};
+    ghost use Rattle.run_command.specs.Command.{IsRefused};
+    ghost use Rattle.driver.specs.Levels.{IsFaultBelow, IsRunBelow};
+    ghost use Rattle.driver.specs.Program.{PrintsRun};
+    ghost use Rattle.driver.specs.Texts.{end_status};
+
+    type Answer = Ran;
+
+    type Fault = BuildFault;
+
+    ghost answers = { λ s text ran. IsRunBelow s.below text s.asked.depth s.asked.steps (outcome_of ran) };
+
+    ghost faults = { λ s text fault. IsFaultBelow s.below s.asked.depth text fault };
+
+    ghost prints = { λ s ran printed. PrintsRun s.asked.form (outcome_of ran) printed };
+
+    ghost status = { λ ran. end_status ran.end };
+
+    ghost most = { 4 };
+
+    ghost line = { build_fault_text };
+
+    ghost unprinted = { IsRefused };
+
+    ghost remarks = { λ s status told. IsRunRemark Steps s.asked.steps false status told };
+
+    fn work(&self, alloc: Global, bytes: &[u8]) -> Result<Ran, BuildFault> {
+        let (depth, steps) = (self.asked.depth, self.asked.steps);
+        match self.below {
+            Below::Rtl => interp_rtl(alloc, bytes, depth, steps),
+            Below::Blocks => interp_blocks(alloc, bytes, depth, steps),
+        }
+    }
+
+    fn print<W: Output>(
+        &self,
+        _alloc: Global,
+        _bytes: &[u8],
+        answer: &Ran,
+        out: &mut W,
+    ) -> Result<u8, HostFault> {
+        let end = answer.end;
+        match print_run(
+            out,
+            self.asked.form,
+            answer.output.as_slice(),
+            &EndLine(end),
+        ) {
+            Ok(()) => Ok(end_status(end)),
+            Err(_) => Err(HostFault::CannotWrite),
+        }
+    }
+
+    fn remark<E: Complaints>(&self, _alloc: Global, _bytes: &[u8], answer: &Ran, err: &mut E) {
+        let spent = Spent {
+            unit: Counted::Steps,
+            count: 0,
+            most: self.asked.steps,
+            counts: false,
+        };
+        tell_run(err, spent, end_status(answer.end), None);
+    }
+
+    fn tell<E: Complaints>(&self, alloc: Global, of: &BadFile<'_, BuildFault>, err: &mut E) -> u8 {
+        tell_build(alloc, err, of.file, of.bytes, of.fault)
+    }
+}
+
+/// Runs the C program of a file at a level below C, and prints its output and how it ended; the answer is the exit status.
+fn interp_below<F: Files, W: Output, E: Complaints>(
+    alloc: Global,
+    asked: AskedInterp<'_>,
+    below: Below,
+    files: &mut F,
+    out: &mut W,
+    err: &mut E,
+) -> u8
+    ensures most { result ≤ 4 }
+    ensures not_wrong_words { result ≢ 2 }
+    ensures answered { result ≢ 1 → Does F.answers files.old files.new (W.contents out.old) (W.contents out.new)
+        (InterpsBelow below asked.source.now asked.depth asked.steps asked.form result) }
+    ensures sent { result ≢ 1 → IsSent W.sends out.new }
+    ensures beside { result ≢ 1 → TellsBeside E.tells err.old (IsRunRemark Steps asked.steps false result) err.new }
+    ensures stopped { result ≡ 1 → Asks F.answers files.old files.new W.refuses out.old out.new E.tells err.old err.new
+        (StopsBelow below asked.source.now asked.depth asked.steps) }
+{
+    let command = BelowCommand { asked, below };
+    answer_file(alloc, &command, asked.source, files, out, err)
+}
+
+/// Runs the C program of a file at the level that is asked for; the answer is the exit status.
+pub(crate) fn interp_at<F: Files, W: Output, E: Complaints>(
+    alloc: Global,
+    asked: AskedInterp<'_>,
+    files: &mut F,
+    out: &mut W,
+    err: &mut E,
+) -> u8
+    ensures most { result ≤ 4 }
+    ensures not_wrong_words { result ≢ 2 }
+    ensures answered { result ≢ 1 → Does F.answers files.old files.new (W.contents out.old) (W.contents out.new)
+        (InterpsAt asked.level asked.source.now asked.depth asked.steps asked.form result) }
+    ensures sent { result ≢ 1 → IsSent W.sends out.new }
+    ensures beside { result ≢ 1
+        → TellsBeside E.tells err.old (IsInterpRemark asked.level asked.steps asked.count result) err.new }
+    ensures stopped { result ≡ 1
+        → Asks F.answers files.old files.new W.refuses out.old out.new E.tells err.old err.new
+        (StopsInterpAt asked.level asked.source.now asked.depth asked.steps)
+        ⊎ StopsMidway F.answers files.old files.new (W.contents out.old) (W.contents out.new) E.tells err.old err.new
+        (BeginsInterpAt asked.level asked.source.now asked.depth asked.steps asked.form) }
+{
+    match asked.level {
+        Level::C => interp_file(alloc, asked, files, out, err),
+        Level::Rtl => interp_below(alloc, asked, Below::Rtl, files, out, err),
+        Level::Blocks => interp_below(alloc, asked, Below::Blocks, files, out, err),
+    }
+}

@@ -1,0 +1,75 @@
+// Hints that name what is missing further up in the text: a brace or a semicolon.
+
+use crate::said::Said;
+use crate::source::{NO_TOKEN, Source, TYPES, before, behind};
+use c_tokens::{Mark, Token};
+
+/// Whether a function's head stands at a token that can't stand: it is the `(` of `type name (`, or the `void` that such a head
+/// begins with.
+fn is_at_head(source: &Source<'_>, k: usize) -> bool {
+    let name = if source.is(k, Mark::Void) {
+        behind(k, 1)
+    } else {
+        before(k, 1)
+    };
+    source.is_name(name)
+        && source.is_one(before(name, 1), TYPES)
+        && source.is(behind(name, 1), Mark::LeftParen)
+}
+
+/// Names the brace that isn't closed where a function begins inside of another; false where that isn't so.
+fn hint_brace(said: &mut Said, source: &Source<'_>, k: usize) -> bool {
+    let brace = source.open_before(k, Mark::LeftBrace, Mark::RightBrace);
+    if brace == NO_TOKEN || !is_at_head(source, k) {
+        return false;
+    }
+    said.hint("functions don't stand in functions: the '{' of line ");
+    said.hint_number(source.spot(brace).line);
+    said.hint(" isn't closed");
+    true
+}
+
+/// Whether a statement or a declaration can begin with a token, or a block end.
+fn can_begin(source: &Source<'_>, k: usize) -> bool {
+    match source.token(k) {
+        Some(Token::The(mark)) => {
+            TYPES.contains(&mark)
+                || [
+                    Mark::LeftBrace,
+                    Mark::RightBrace,
+                    Mark::If,
+                    Mark::Else,
+                    Mark::While,
+                    Mark::For,
+                ]
+                .contains(&mark)
+        }
+        Some(Token::Name(_) | Token::Jump(_, _)) => true,
+        _ => false,
+    }
+}
+
+/// Names the line that lacks a `;` at its end; false where that isn't so.
+fn hint_semicolon(said: &mut Said, source: &Source<'_>, k: usize, expected: &[&str]) -> bool {
+    let last = before(k, 1);
+    if last == NO_TOKEN || !expected.contains(&"';'") || !can_begin(source, k) {
+        return false;
+    }
+    let line = source.spot(last).line;
+    if source.spot(k).line <= line {
+        return false;
+    }
+    said.hint("a ';' is missing at the end of line ");
+    said.hint_number(line);
+    true
+}
+
+/// Says what is missing before a token that can't stand; false where nothing is known.
+pub(crate) fn hint_missing(
+    said: &mut Said,
+    source: &Source<'_>,
+    k: usize,
+    expected: &[&str],
+) -> bool {
+    hint_brace(said, source, k) || hint_semicolon(said, source, k, expected)
+}

@@ -1,0 +1,50 @@
+// Warnings of a program without faults: what has no meaning in C and is plain to see.
+
+use crate::chains::chains;
+use crate::source::Source;
+use crate::warning_walk::Walk;
+use c_front::read;
+use c_tree::Declaration;
+use c_typed::{Function, Global as Variable};
+use std::alloc::{AllocError, Global};
+
+/// A warning with its place.
+#[derive(Drop)]
+pub struct Warning {
+    /// In bytes from the text's beginning.
+    pub at: usize,
+    /// One line.
+    pub message: String,
+}
+
+/// The warnings of a text that spells this program, in no order; nothing where it spells none. It descends into the text: run it
+/// on a thread with a large stack where the text may be hostile.
+pub fn warnings_of(
+    alloc: Global,
+    text: &[u8],
+    variables: &[Variable],
+    functions: &[Function],
+) -> Result<Vec<Warning>, AllocError> {
+    let source = Source::read(alloc, text)?;
+    let Ok(program) = read(alloc, text) else {
+        return Ok(Vec::new(alloc));
+    };
+    let mut walk = Walk::new(alloc, &source, variables);
+    let mut typed = functions.iter();
+    for declaration in &program.declarations {
+        if let Declaration::Function(function) = declaration
+            && let Some(typed) = typed.next()
+        {
+            walk.function(function, typed)?;
+        }
+    }
+    let mut warnings = walk.end();
+    for at in chains(alloc, &source)? {
+        let message = String::from_str(
+            alloc,
+            "a comparison of a comparison: a < b < c compares 0 or 1 with c",
+        )?;
+        warnings.push(Warning { at, message })?;
+    }
+    Ok(warnings)
+}

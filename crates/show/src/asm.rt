@@ -1,0 +1,63 @@
+// Where functions and globals are in an image.
+
+use crate::listing::order_words;
+use crate::names::Names;
+use crate::numbers::Range;
+use asm_text::Label;
+use mblock::Order;
+use mips_isa::{CODE_BASE, DATA_BASE};
+use rtl::RGlobal;
+use std::alloc::{AllocError, Global};
+
+/// The address behind so many words.
+fn behind(address: u32, words: usize) -> u32 {
+    let words = u32::try_from(words).unwrap_or(u32::MAX);
+    address.wrapping_add(words.wrapping_mul(4))
+}
+
+fn put_functions<'t>(
+    labels: &mut Vec<Label<'t>>,
+    names: &Names<'t>,
+    ranges: &[Range],
+    orders: &[Order],
+) -> Result<(), AllocError> {
+    let mut address = CODE_BASE;
+    for (number, range) in ranges.iter().enumerate() {
+        if number > 0 {
+            let name = names.function(number - 1);
+            labels.push(Label { address, name })?;
+        }
+        for order in range.of(orders) {
+            address = behind(address, order_words(order));
+        }
+    }
+    Ok(())
+}
+
+fn put_globals<'t>(
+    labels: &mut Vec<Label<'t>>,
+    names: &Names<'t>,
+    globals: &[RGlobal],
+) -> Result<(), AllocError> {
+    let mut address = DATA_BASE;
+    for (k, global) in globals.iter().enumerate() {
+        let name = names.global(k);
+        labels.push(Label { address, name })?;
+        address = behind(address, global.width.words_of(global.length) as usize);
+    }
+    Ok(())
+}
+
+/// The labels of a program's functions and globals.
+pub(crate) fn labels_of<'t>(
+    alloc: Global,
+    names: &Names<'t>,
+    ranges: &[Range],
+    orders: &[Order],
+    globals: &[RGlobal],
+) -> Result<Vec<Label<'t>>, AllocError> {
+    let mut labels = Vec::new(alloc);
+    put_functions(&mut labels, names, ranges, orders)?;
+    put_globals(&mut labels, names, globals)?;
+    Ok(labels)
+}
