@@ -75,10 +75,10 @@ fn stream_source<W: Output>(
         Ok(typed) => typed,
         Err(fault) => return Err(Broken::Faulty(InterpFault::Source(fault))),
     };
-    let Ok(run) = begin(alloc, &typed, depth) else {
+    let Ok(begun) = begin(alloc, &typed, depth) else {
         return Err(Broken::Faulty(InterpFault::NoMemory));
     };
-    let mut running = RunningSource { run };
+    let mut running = RunningSource { run: begun };
     match stream(alloc, &mut running, form, steps, out) {
         Ok(finish) => Ok(finish),
         Err(Cut::Unprinted) => Err(Broken::Unprinted),
@@ -164,14 +164,14 @@ pub(crate) fn interp_file<F: Files, W: Output, E: Complaints>(
     ensures most { result ≤ 4 }
     ensures not_wrong_words { result ≢ 2 }
     ensures answered { result ≢ 1 → Does F.answers files.old files.new (W.contents out.old) (W.contents out.new)
-        (Interps asked.source.now asked.depth asked.steps asked.form result) }
+        (Interps asked.entry.source.now asked.entry.depth asked.entry.steps asked.entry.form result) }
     ensures sent { result ≢ 1 → IsSent W.sends out.new }
-    ensures beside { result ≢ 1 → TellsBeside E.tells err.old (IsRunRemark Steps asked.steps asked.count result) err.new }
+    ensures beside { result ≢ 1 → TellsBeside E.tells err.old (IsRunRemark Steps asked.entry.steps asked.entry.count result) err.new }
     ensures stopped { result ≡ 1
         → Asks F.answers files.old files.new W.refuses out.old out.new E.tells err.old err.new
-        (StopsInterp asked.source.now asked.depth asked.steps)
+        (StopsInterp asked.entry.source.now asked.entry.depth asked.entry.steps)
         ⊎ StopsMidway F.answers files.old files.new (W.contents out.old) (W.contents out.new) E.tells err.old err.new
-        (BeginsInterp asked.source.now asked.depth asked.steps asked.form) }
+        (BeginsInterp asked.entry.source.now asked.entry.depth asked.entry.steps asked.entry.form) }
 {
     answer_stream(
         alloc,

@@ -1,7 +1,6 @@
 use Rattle.std.proofs.Common.{◌≡◌, ℕ, List, [], ◌∷◌, ◌++◌, refl, sym, ap, ◌∙◌}
 use Rattle.runs.specs.Runs.{Outcome, outcome}
-use Rattle.c_types.specs.declared.typed.Typed.{Typed}
-use Rattle.c_types.specs.Shape.{program_of}
+use Rattle.c_types.specs.Shape.{TypedParts, program_of}
 use Rattle.c_types.specs.Typed.{SpellsTyped}
 use Rattle.c_typed.specs.Trees.{TypedProgram}
 use Rattle.c_typed.specs.Meaning.{Run, source_run, source_start, source_steps}
@@ -20,14 +19,14 @@ ran : (text : List ℕ) (depth steps : ℕ) (p : TypedProgram) → SpellsTyped t
 ran text depth steps p h = record { program = p; spelled = h; run = refl }
 
 -- the run of a program that just began is the program's
-same_run : (t : Typed) (m : UnderWay) (depth steps : ℕ) → state_of m ≡ source_start (program_of t) → m.program.now ≡ t → m.depth ≡ depth
+same_run : (t : TypedParts) (m : UnderWay) (depth steps : ℕ) → state_of m ≡ source_start (program_of t) → m.program.now ≡ t → m.depth ≡ depth
     → outcome (source_steps (program_of m.program.now) m.depth steps (state_of m)) ≡ source_run (program_of t) depth steps
 same_run t m depth steps start program depths =
     ap (λ (s : Run). outcome (source_steps (program_of m.program.now) m.depth steps s)) start
-    ∙ ap (λ (x : Typed). outcome (source_steps (program_of x) m.depth steps (source_start (program_of t)))) program
+    ∙ ap (λ (x : TypedParts). outcome (source_steps (program_of x) m.depth steps (source_start (program_of t)))) program
     ∙ ap (λ (d : ℕ). outcome (source_steps (program_of t) d steps (source_start (program_of t)))) depths
 
-begins : (text : List ℕ) (depth steps : ℕ) (form : WordForm) (t : Typed) (m : UnderWay) (printed : List ℕ) → SpellsTyped text (program_of t)
+begins : (text : List ℕ) (depth steps : ℕ) (form : WordForm) (t : TypedParts) (m : UnderWay) (printed : List ℕ) → SpellsTyped text (program_of t)
     → state_of m ≡ source_start (program_of t) → m.program.now ≡ t → m.depth ≡ depth → AreFirstLines form (comes_to m steps).output printed
     → IsBeginning (IsRun text depth steps) (PrintsRun form) printed
 begins text depth steps form t m printed h start program depths first =
@@ -56,6 +55,6 @@ returns-clause-broken g c =
     let cut = rw c.in-Err-NoMemory.field-0-is at c.in-Err-NoMemory.ensures.cut in (
       cut.0,
       cut.1,
-      begins c.args.text.now c.args.bounds.0 c.args.bounds.1 c.args.form c.in-Ok.typed c.in-Ok-begin.run cut.0 c.in-Ok.ensures.typed
+      begins c.args.text.now c.args.bounds.0 c.args.bounds.1 c.args.form c.in-Ok.typed c.in-Ok-begin.begun cut.0 c.in-Ok.ensures.typed
           c.in-Ok-begin.ensures.start c.in-Ok-begin.ensures.program c.in-Ok-begin.ensures.depth cut.2,
     )

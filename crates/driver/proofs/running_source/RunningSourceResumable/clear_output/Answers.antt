@@ -11,7 +11,7 @@ use Rattle.driver.proofs.running_source.RunningSourceResumable.clear_output.Goal
 pub returns : goal.returns
 returns c = λ n.
     let old = c.args.self.now.run in
-    let new = c.clear_output.new.run in
+    let new = c.clear_output.new.self in
     let p = program_of old.program.now in
     let out = (outcome (state_of old)).output in
     let of : Outcome → RunOutcome End = λ o. record { end = o.end; output = o.output } in
