@@ -112,11 +112,11 @@ fn interp_below<F: Files, W: Output, E: Complaints>(
     ensures most { result ≤ 4 }
     ensures not_wrong_words { result ≢ 2 }
     ensures answered { result ≢ 1 → Does F.answers files.old files.new (W.contents out.old) (W.contents out.new)
-        (InterpsBelow below asked.source.now asked.depth asked.steps asked.form result) }
+        (InterpsBelow below asked.entry.source.now asked.entry.depth asked.entry.steps asked.entry.form result) }
     ensures sent { result ≢ 1 → IsSent W.sends out.new }
-    ensures beside { result ≢ 1 → TellsBeside E.tells err.old (IsRunRemark Steps asked.steps false result) err.new }
+    ensures beside { result ≢ 1 → TellsBeside E.tells err.old (IsRunRemark Steps asked.entry.steps false result) err.new }
     ensures stopped { result ≡ 1 → Asks F.answers files.old files.new W.refuses out.old out.new E.tells err.old err.new
-        (StopsBelow below asked.source.now asked.depth asked.steps) }
+        (StopsBelow below asked.entry.source.now asked.entry.depth asked.entry.steps) }
 {
     let command = BelowCommand { asked, below };
     answer_file(alloc, &command, asked.source, files, out, err)
@@ -133,15 +133,15 @@ pub(crate) fn interp_at<F: Files, W: Output, E: Complaints>(
     ensures most { result ≤ 4 }
     ensures not_wrong_words { result ≢ 2 }
     ensures answered { result ≢ 1 → Does F.answers files.old files.new (W.contents out.old) (W.contents out.new)
-        (InterpsAt asked.level asked.source.now asked.depth asked.steps asked.form result) }
+        (InterpsAt asked.entry.level asked.entry.source.now asked.entry.depth asked.entry.steps asked.entry.form result) }
     ensures sent { result ≢ 1 → IsSent W.sends out.new }
     ensures beside { result ≢ 1
-        → TellsBeside E.tells err.old (IsInterpRemark asked.level asked.steps asked.count result) err.new }
+        → TellsBeside E.tells err.old (IsInterpRemark asked.entry.level asked.entry.steps asked.entry.count result) err.new }
     ensures stopped { result ≡ 1
         → Asks F.answers files.old files.new W.refuses out.old out.new E.tells err.old err.new
-        (StopsInterpAt asked.level asked.source.now asked.depth asked.steps)
+        (StopsInterpAt asked.entry.level asked.entry.source.now asked.entry.depth asked.entry.steps)
         ⊎ StopsMidway F.answers files.old files.new (W.contents out.old) (W.contents out.new) E.tells err.old err.new
-        (BeginsInterpAt asked.level asked.source.now asked.depth asked.steps asked.form) }
+        (BeginsInterpAt asked.entry.level asked.entry.source.now asked.entry.depth asked.entry.steps asked.entry.form) }
 {
     match asked.level {
         Level::C => interp_file(alloc, asked, files, out, err),
