@@ -1,10 +1,35 @@
 // What words of the command line ask for.
 
+use command_line::{Choice, Level};
+use commands::WordForm;
 use driver::{Command, words};
 use std::alloc::Global;
 
 // A command's name and its texts, and its numbers, where a flag that is set is 1; both in the order of its fields.
 type Values<'a> = ([&'a str; 4], [u64; 5]);
+
+fn form_number(form: WordForm) -> u64 {
+    match form {
+        WordForm::Unsigned => 0,
+        WordForm::Signed => 1,
+        WordForm::Hex => 2,
+    }
+}
+
+fn level_number(level: Level) -> u64 {
+    match level {
+        Level::C => 0,
+        Level::Rtl => 1,
+        Level::Blocks => 2,
+    }
+}
+
+fn choice_name(choice: Choice) -> &'static str {
+    match choice {
+        Choice::Form => "as",
+        Choice::Level => "at",
+    }
+}
 
 // The values of a command, but those of several check texts, of which there is the name alone.
 fn values<'a>(command: &Command<'a>) -> Values<'a> {
@@ -13,13 +38,15 @@ fn values<'a>(command: &Command<'a>) -> Values<'a> {
             (["check", file, "", ""], [u64::from(explain), 0, 0, 0, 0])
         }
         Command::CheckEach { .. } => (["check each", "", "", ""], [0; 5]),
-        Command::Interp {
-            source,
-            depth,
-            steps,
-        } => (
-            ["interp", source, "", ""],
-            [u64::from(depth), steps, 0, 0, 0],
+        Command::Interp(asked) => (
+            ["interp", asked.source, "", ""],
+            [
+                u64::from(asked.depth),
+                asked.steps,
+                level_number(asked.level),
+                form_number(asked.form),
+                u64::from(asked.count),
+            ],
         ),
         Command::Build(asked) => (
             ["build", asked.source, asked.image, ""],
@@ -31,17 +58,39 @@ fn values<'a>(command: &Command<'a>) -> Values<'a> {
                 u64::from(asked.heads),
             ],
         ),
-        Command::Run { image, steps } => (["run", image, "", ""], [steps, 0, 0, 0, 0]),
+        Command::Run(asked) => (
+            ["run", asked.image, "", ""],
+            [
+                asked.steps,
+                form_number(asked.form),
+                u64::from(asked.count),
+                0,
+                0,
+            ],
+        ),
         Command::List { image, asm } => (["list", image, "", ""], [u64::from(asm), 0, 0, 0, 0]),
         Command::Show {
             source,
             stage,
             function,
+            block,
             dot,
         } => (
             ["show", source, stage.unwrap_or(""), function.unwrap_or("")],
-            [u64::from(dot), 0, 0, 0, 0],
+            [
+                u64::from(dot),
+                match block {
+                    Some(block) => u64::from(block) + 1,
+                    None => 0,
+                },
+                0,
+                0,
+                0,
+            ],
         ),
+        Command::NoChoice { choice, value } => {
+            (["no choice", choice_name(choice), value, ""], [0; 5])
+        }
     }
 }
 
@@ -73,6 +122,26 @@ const COMMANDS: &[Row] = &[
     (
         &["mcc", "show", "x.c", "--function", "f", "--stage=terms"],
         (["show", "x.c", "terms", "f"], [0; 5]),
+    ),
+    (
+        &["mcc", "show", "x.c", "--stage", "check", "--block", "0"],
+        (["show", "x.c", "check", ""], [0, 1, 0, 0, 0]),
+    ),
+    (
+        &["mcc", "run", "x", "--as", "hex", "--count"],
+        (["run", "x", "", ""], [1_000_000, 2, 1, 0, 0]),
+    ),
+    (
+        &["mcc", "run", "x", "--as=octal"],
+        (["no choice", "as", "octal", ""], [0; 5]),
+    ),
+    (
+        &["mcc", "interp", "x.c", "--at=rtl", "--as=signed"],
+        (["interp", "x.c", "", ""], [256, 1_000_000, 1, 1, 0]),
+    ),
+    (
+        &["mcc", "interp", "x.c", "--at", "C"],
+        (["no choice", "at", "C", ""], [0; 5]),
     ),
 ];
 
