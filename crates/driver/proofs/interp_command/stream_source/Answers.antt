@@ -1,4 +1,4 @@
-use Rattle.std.proofs.Common.{◌≡◌, ℕ, List, [], ◌∷◌, ◌++◌, refl, sym, ap, ◌∙◌}
+use Rattle.std.proofs.Common.{◌≡◌, ℕ, List, [], ◌∷◌, ◌++◌, refl, ap, ◌∙◌}
 use Rattle.runs.specs.Runs.{Outcome, outcome}
 use Rattle.c_types.specs.Shape.{TypedParts, program_of}
 use Rattle.c_types.specs.Typed.{SpellsTyped}

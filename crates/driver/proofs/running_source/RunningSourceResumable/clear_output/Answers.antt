@@ -1,4 +1,4 @@
-use Rattle.std.proofs.Common.{ℕ, ◌++◌, sym, ap, ◌∙◌}
+use Rattle.std.proofs.Common.{ℕ, sym, ap, ◌∙◌}
 use Rattle.runs.specs.Runs.{Outcome, outcome}
 use Rattle.runs.specs.declared.ran.End.{End}
 use Rattle.c_types.specs.Shape.{program_of}
