@@ -1,5 +1,5 @@
 -- A program's run in portions: what was written before it, and one step more of a portion.
-use Rattle.std.proofs.Common.{◌≡◌, ℕ, zero, suc, ◌+◌, ◌<◌, ◌≤◌, ◌++◌, Bool, true, false, cond, List, [], ◌∷◌, Option, Some, None, refl, sym, ap, ◌∙◌, arith}
+use Rattle.std.proofs.Common.{◌≡◌, ℕ, zero, suc, ◌+◌, ◌<◌, ◌++◌, true, false, cond, List, [], ◌∷◌, Option, Some, None, refl, sym, ap, ◌∙◌, arith}
 use Rattle.std.proofs.Common.{append_assoc, append-nil, inl, inr, ◌⊎◌, length, nat_lt, slice_get}
 use Rattle.runs.specs.Stores.{Places, Arrays, places_with}
 use Rattle.runs.specs.Runs.{Outcome, Running, Ended, Failed, with_value, outcome, steps}
@@ -7,7 +7,7 @@ use Rattle.runs.specs.Steps.{after_step, end_of, outcome_after}
 use Rattle.runs.specs.declared.reached.Reached.{Reached}
 use Rattle.runs.specs.declared.reached.Reached.TheVariants as Reach
 use Rattle.runs.specs.declared.ran.End.{End}
-use Rattle.runs.specs.declared.ran.End.TheVariants.{Done, Wrong, More}
+use Rattle.runs.specs.declared.ran.End.TheVariants.{More}
 use Rattle.runs.proofs.Running.{by-step}
 use Rattle.c_typed.specs.declared.tree.Destination.{Destination}
 use Rattle.c_typed.specs.declared.tree.Destination.TheVariants.{Local, Global as Variable}
