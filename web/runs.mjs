@@ -23,8 +23,8 @@ function parse(line) {
 // Registers, HI, LO, the bytes that were stored or told, and what fills the rest of memory; `load` is under way.
 class State {
   constructor({ regs, high, low: least, filling, words = [] }) {
-    const bytes = new Map(words.flatMap(([at, word]) => [24, 16, 8, 0].map((shift, k) => [at + k, (word >>> shift) & 255])));
-    Object.assign(this, { regs: [...regs], high, low: least, filling, bytes, load: null, hold: 0 });
+    Object.assign(this, { regs: [...regs], high, low: least, filling, bytes: new Map(), load: null, hold: 0 });
+    for (const [at, word] of words) for (let k = 0; k < 4; k++) this.bytes.set(at + k, (word >>> (24 - 8 * k)) & 255);
   }
 
   read(part) {
@@ -198,20 +198,18 @@ function startNumber(block, number) {
 
 // What `mcc check --explain` prints of a start: registers and words of memory, and what each side leaves; null where it prints none.
 export function parseStart(said) {
-  const at = said.indexOf('the order is wrong');
-  if (at < 0) return null;
-  const lines = said.slice(at).split('\n').map(line => line.trim());
-  const numbers = pattern => lines.map(line => pattern.exec(line)).filter(Boolean).map(([, ...found]) => found.map(Number));
-  const [registers, words] = [/^\$(\d+) = (0x[0-9a-f]+)$/, /^the word at (0x[0-9a-f]+) = (0x[0-9a-f]+)$/].map(numbers);
-  const after = start => lines.find(line => line.startsWith(start))?.slice(start.length) ?? '';
+  const [text] = /the order is wrong[^]*/.exec(said) ?? [];
+  if (!text) return null;
+  const after = start => new RegExp(`^ *${start}(.*)$`, 'm').exec(text)?.[1] ?? '';
+  const [registers, words] = [/^ *\$(\d+) = (\w+)$/gm, /^ *the word at (\w+) = (\w+)$/gm].map(line => Array.from(text.matchAll(line), found => found.slice(1).map(Number)));
   return { registers, words, high: Number(after('hi = ')), low: Number(after('lo = ')), block: after('block: '), order: after('order: ') };
 }
 
 // A start from which to run both: that which the answer tells, else the first from which they differ, else the first that isn't stuck.
 export function chooseStart(block, order, said) {
   const told = parseStart(said);
-  const wordOfRegister = (_, r) => told.registers.find(([named]) => named === r)?.[1] ?? 0;
-  if (told) return { ...told, regs: Array.from({ length: 32 }, wordOfRegister), filling: { base: 0, mask: 0, factor: 0, offset: 0 } };
+  const word = (_, r) => told.registers.find(([named]) => named === r)?.[1] ?? 0;
+  if (told) return { ...told, regs: Array.from({ length: 32 }, word), filling: { base: 0, mask: 0, factor: 0, offset: 0 } };
   let found = null;
   for (let number = 0; number < 512; number++) {
     const start = startNumber(block, number);
