@@ -1,5 +1,5 @@
 -- What a view shows, of the parts that its export has.
-use Rattle.std.proofs.Common.{◌≡◌, ◌≤◌, ◌+◌, ℕ, List, Some, ◌∙◌, ap, sym, subst}
+use Rattle.std.proofs.Common.{◌≡◌, ◌≤◌, ◌+◌, ℕ, List, Some, sym, subst}
 use Rattle.image.specs.Images.{ImageParts, IsImage, image_bytes}
 use Rattle.mips_steps.specs.Machines.{Machine, words_code}
 use Rattle.mips_machine.specs.ImageRuns.{start_machine}
