@@ -90,8 +90,8 @@ const VOID: &str = "a variable is int or unsigned";
 
 const STATEMENT: &str = "a statement is an assignment or a call: x = x + 1; f(x);";
 
-/// What is written in place of what C has and the subset leaves out: the first hint holds whose facts hold.
-const HINTS: &[(&[Fact], &str)] = &[
+/// What is written in place of calls that the subset leaves out. The first hint holds whose facts hold, of these and then of the others.
+const CALL_HINTS: &[(&[Fact], &str)] = &[
     (
         &[
             Fact::In(Place::Function),
@@ -119,6 +119,11 @@ const HINTS: &[(&[Fact], &str)] = &[
         ],
         CALL,
     ),
+];
+
+/// What is written in place of the rest that C has and the subset leaves out. (rattle 13f: `--backend rattle` has no room for all
+/// hints in one function)
+const HINTS: &[(&[Fact], &str)] = &[
     (
         &[
             Fact::In(Place::Function),
@@ -440,6 +445,19 @@ impl<'s, 't> Found<'s, 't> {
     }
 }
 
+/// The first hint about a call whose facts hold, or none.
+fn call_hint(found: &Found<'_, '_>) -> &'static str {
+    found.first_hint(CALL_HINTS)
+}
+
+/// The first hint whose facts hold, or none.
+fn hint_by_facts(found: &Found<'_, '_>) -> &'static str {
+    match call_hint(found) {
+        "" => found.first_hint(HINTS),
+        hint => hint,
+    }
+}
+
 /// Words in one list, as `a, b or c`.
 fn say_list(said: &mut Said, words: &[&str]) {
     for (n, word) in words.iter().enumerate() {
@@ -490,6 +508,6 @@ pub(crate) fn say_syntax(said: &mut Said, source: &Source<'_>, k: usize, expecte
     }
     said.hint(match type_hint(source, k) {
         Some(hint) => hint,
-        None => Found::new(source, k).first_hint(HINTS),
+        None => hint_by_facts(&Found::new(source, k)),
     });
 }
