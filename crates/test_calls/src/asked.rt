@@ -24,13 +24,6 @@ fn level_number(level: Level) -> u64 {
     }
 }
 
-fn choice_name(choice: Choice) -> &'static str {
-    match choice {
-        Choice::Form => "as",
-        Choice::Level => "at",
-    }
-}
-
 // The values of a command, but those of several check texts, of which there is the name alone.
 fn values<'a>(command: &Command<'a>) -> Values<'a> {
     match *command {
@@ -88,9 +81,10 @@ fn values<'a>(command: &Command<'a>) -> Values<'a> {
                 0,
             ],
         ),
-        Command::NoChoice { choice, value } => {
-            (["no choice", choice_name(choice), value, ""], [0; 5])
-        }
+        Command::NoChoice { choice, value } => match choice {
+            Choice::Form => (["no form", value, "", ""], [0; 5]),
+            Choice::Level => (["no level", value, "", ""], [0; 5]),
+        },
     }
 }
 
@@ -133,7 +127,7 @@ const COMMANDS: &[Row] = &[
     ),
     (
         &["mcc", "run", "x", "--as=octal"],
-        (["no choice", "as", "octal", ""], [0; 5]),
+        (["no form", "octal", "", ""], [0; 5]),
     ),
     (
         &["mcc", "interp", "x.c", "--at=rtl", "--as=signed"],
@@ -141,7 +135,7 @@ const COMMANDS: &[Row] = &[
     ),
     (
         &["mcc", "interp", "x.c", "--at", "C"],
-        (["no choice", "at", "C", ""], [0; 5]),
+        (["no level", "C", "", ""], [0; 5]),
     ),
 ];
 
