@@ -113,5 +113,14 @@ label_in kind content =
 abbrev pub label_with : ℕ → Option Label
 label_with w = label_in (w / 2 ^ 32) (w % 2 ^ 32)
 
+-- how many children each label stands over
+abbrev pub label_arity : Label → ℕ
+label_arity (Init origin) = 0
+label_arity Mem0 = 0
+label_arity (Const n) = 0
+label_arity (Op operator) = 2
+label_arity (Load w) = 2
+label_arity (Store w) = 3
+
 abbrev pub label_coding : Coding Label
-label_coding = record { word = label_word; is_label = is_label; label_with = label_with }
+label_coding = record { word = label_word; is_label = is_label; label_with = label_with; arity = label_arity }

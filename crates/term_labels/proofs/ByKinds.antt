@@ -14,4 +14,4 @@ by_kinds {L} k are = λ l e.
     let own = are l e in
     let read : k.label_in (joined (k.kind l) (k.content l) / 2 ^ 56) (joined (k.kind l) (k.content l) % 2 ^ 56) ≡ k.label_in (k.kind l) (k.content l) =
     λ i. k.label_in (kind_is (k.kind l) (k.content l) own.0 i) (content_is (k.kind l) (k.content l) own.0 i) in
-    read ∙ own.1
+    (read ∙ own.1, own.2)

@@ -2,14 +2,15 @@
 //!
 //! Definitions: `specs/Trees.antt`, `specs/Codings.antt`, `specs/Kinds.antt`.
 //! Contract: `Label`, `word_of`, `parts_of`
-//! - A type of labels gives each label a word, and reads the label back from it, so no two labels share one.
+//! - A type of labels gives each label a word, and reads the label back from it, so no two labels share one. Each has an arity, the number
+//!   of its children, which is three at most.
 #![tactic(auto)]
 
 mod parts;
 
 pub use parts::{parts_of, word_of};
 
-/// A type of labels: each has a word of 64 bits, and no two have one.
+/// A type of labels: each has a word of 64 bits, which no other has, and an arity, the number of children that it stands over.
 pub trait Label: Copy {
     ghost use Rattle.std.specs.Prelude.{◌≡◌, true};
     ghost use Rattle.term_labels.specs.Codings.{Coding, IsCoding};
