@@ -1,10 +1,10 @@
 -- The lemmas of `Callers`, for terms over labels of one type.
 use Rattle.std.specs.Prelude.{IfSome, IfNone, IfOk, IfErr}
-use Rattle.std.proofs.Common.{◌≡◌, ℕ, ◌&&◌, true, List, [], ◌∷◌, Option, Some, None, Result, Ok, Err, refl, sym, ap, ap₂, subst, ◌∙◌}
+use Rattle.std.proofs.Common.{◌≡◌, ℕ, suc, ◌≤◌, ◌&&◌, true, length, List, [], ◌∷◌, Option, Some, None, Result, Ok, Err, refl, sym, ap, ap₂, subst, ◌∙◌}
 use mathlib.Core.Logic.{◌↔◌}
 use Rattle.std.proofs.lemmas.Bool.{and_parts}
 use Rattle.std.proofs.lemmas.Option.{same_Some}
-use Rattle.term_labels.specs.Trees.{Tree, Trees, node, none, more, leaf, binary, ternary}
+use Rattle.term_labels.specs.Trees.{Tree, Trees, node, none, more, tree_count, leaf, binary, ternary}
 use Rattle.term_labels.specs.Codings.{Coding, IsCoding, words_of, all_words_of, is_tree, are_trees}
 use Rattle.term_labels.proofs.Codings as codings
 use Rattle.term_table.specs.Passes.{PassState, HasSeenAll}
@@ -26,6 +26,17 @@ proper_all c p [] none h = refl
 proper_all c p [] (more x xs) h = absurd h
 proper_all c p (t ∷ ts) none h = absurd h
 proper_all c p (t ∷ ts) (more x xs) h = ap₂ (λ a b. a && b) h.0.proper (proper_all c p ts xs h.1)
+
+-- there are as many terms as tickets
+pub count_of : {L : Type 0} (c : Coding L) (p : PassState) (ts : List ℕ) (xs : Trees L) → HaveTerms c p ts xs → tree_count xs ≡ length ts
+count_of c p [] none h = refl
+count_of c p [] (more x xs) h = absurd h
+count_of c p (t ∷ ts) none h = absurd h
+count_of c p (t ∷ ts) (more x xs) h = ap suc (count_of c p ts xs h.1)
+
+-- so few children as the words of a node have room for
+pub few_of : {L : Type 0} (c : Coding L) (l : L) (n : ℕ) → IsCoding c → c.is_label l ≡ true → n ≡ c.arity l → n ≤ 3
+few_of c l n is label e = subst (λ k. k ≤ 3) (sym e) (is l label).1
 
 pub seen_all : {L : Type 0} (c : Coding L) (p : PassState) (ts : List ℕ) → HasSeenTerms c p ts → HasSeenAll p ts
 seen_all c p [] h = tt
@@ -85,10 +96,10 @@ same_terms {L} {c} {p} {t} {u} {x} {y} is legal h k =
 
 -- what a call on words says of a label's word over the trees of terms
 module _ {L : Type 0} (c : Coding L) (p q : PassState) (l : L) (w : ℕ) (ts : List ℕ) (xs : Trees L) (is : c.is_label l ≡ true) (word : w ≡ c.word l)
-    (h : HaveTerms c p ts xs) where
+    (arity : length ts ≡ c.arity l) (h : HaveTerms c p ts xs) where
   made : (t : ℕ) → HasTree q t (node w (all_words_of c xs)) → HasTerm c q t (node l xs)
   made t tree = record {
-    proper = ap₂ (λ a b. a && b) is (proper_all c p ts xs h);
+    proper = codings.is_tree_of c l xs is (count_of c p ts xs h ∙ arity) (proper_all c p ts xs h);
     words = subst (λ n. HasTree q t (node n (all_words_of c xs))) word tree;
   }
 
@@ -141,11 +152,11 @@ children_back c q ts xs ws p e h = go ts xs p (subst (HaveTrees q ts) (sym e) h)
 pub read_label : {L : Type 0} {c : Coding L} {p q : PassState} {t w : ℕ} {ks : List ℕ} (x : Tree L) → IsCoding c → HasTerm c p t x
     → IsNode q w ks (words_of c x) → (l : L) × (c.label_with w ≡ Some l) × (c.word l ≡ w) × IsTermNode c q l ks x
 read_label {L} {c} {p} {q} {t} {w} {ks} (node l xs) is h n =
-    let parts = and_parts (c.is_label l) (are_trees c xs) h.proper in
+    let parts = codings.tree_parts c l xs h.proper in
     let e : node (c.word l) (all_words_of c xs) ≡ node w n.trees = n.tree in
     let word : c.word l ≡ w = cc in
     let rest : all_words_of c xs ≡ n.trees = cc in
-    (l, ap c.label_with (sym word) ∙ is l parts.0, word, record { trees = xs; tree = refl; have = children_back c q ks xs n.trees parts.1 rest n.have })
+    (l, ap c.label_with (sym word) ∙ (is l parts.0).0, word, record { trees = xs; tree = refl; have = children_back c q ks xs n.trees parts.2 rest n.have })
 
 module _ {L : Type 0} (c : Coding L) (is : IsCoding c) (p q : PassState) (t w : ℕ) (ks : List ℕ) (o : Option L) (decoded : o ≡ c.label_with w)
     (f : (x : Tree ℕ) → HasTree p t x → IsNode q w ks x) where
@@ -162,6 +173,13 @@ module _ {L : Type 0} (c : Coding L) (is : IsCoding c) (p q : PassState) (t w : 
 
     pub label_node : (x : Tree L) → HasTerm c p t x → IsTermNode c q l ks x
     label_node x h = let r = label_there x h in subst (λ k. IsTermNode c q k ks x) (same_Some r.0 l (sym r.1 ∙ some)) r.3
+
+    -- as many children as the label's arity
+    pub label_arity : HasSeenTerm c p t → length ks ≡ c.arity l
+    label_arity h =
+        let n = label_node h.term h.has in
+        let proper : is_tree c (node l n.trees) ≡ true = subst (λ y. is_tree c y ≡ true) n.tree h.has.proper in
+        sym (count_of c q ks n.trees n.have) ∙ (codings.tree_parts c l n.trees proper).1
 
     pub label_kids : HasSeenTerm c p t → HasSeenTerms c q ks
     label_kids h = let n = label_node h.term h.has in seen_terms c q ks n.trees n.have

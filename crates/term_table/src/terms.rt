@@ -2,10 +2,10 @@
 
 #![tactic(auto, using(crate::proofs::TermCallers::seen_all, crate::proofs::TermCallers::missing_term))]
 
-ghost use Rattle.std.specs.Prelude.{◌≡◌, ◌+◌, ◌≤◌, IfOk, IfErr, IfSome, IfNone, length};
+ghost use Rattle.std.specs.Prelude.{◌≡◌, ℕ, ◌+◌, ◌≤◌, ◌↔◌, IfOk, IfErr, IfSome, IfNone, length};
 ghost use Rattle.term_core.specs.declared.Call.TheVariants.{Find, Intern, Read};
 ghost use Rattle.term_labels.specs.Trees.{Tree, Trees, node};
-ghost use Rattle.term_table.specs.Passes.{IsOf, Answered, linked};
+ghost use Rattle.term_table.specs.Passes.{PassState, IsOf, Answered, linked};
 ghost use Rattle.term_table.specs.Trees.{Extends, HasLegalHistory};
 ghost use Rattle.term_table.specs.Terms.{HasTerm, HaveTerms, HasSeenTerm, HasSeenTerms, LacksTerm, IsTermNode};
 ghost use Rattle.term_table.specs.Answers.{intern_answer, intern_probes, sought_answer, node_answer};
@@ -16,7 +16,7 @@ use crate::ticket::Ticket;
 use smallvec::SmallVec;
 use term_labels::Label;
 
-/// The root of a term: its label, and the tickets of its children, none to three.
+/// The root of a term: its label, and the tickets of its children, as many as its arity.
 #[derive(Drop)]
 pub struct Node<L> {
     pub label: L,
@@ -24,8 +24,8 @@ pub struct Node<L> {
 }
 
 impl TermTable {
-    /// The ticket of the term of this label over the children's terms: the one that it has, if it is
-    /// there, else that of a node that the pass now links. The pass has seen the ticket from then on.
+    /// The ticket of the term of this label over the children's terms, as many as its arity: the one
+    /// that it has, if it is there, else that of a node that the pass now links. The pass has seen the ticket from then on.
     /// It links one term at most.
     ///
     /// `TableFull` exactly where the term is not there and the pass has itself linked as many terms
@@ -38,7 +38,7 @@ impl TermTable {
         children: &[Ticket],
     ) -> Result<Interned, TableFull>
         requires table { IsOf self.now pass.old }
-        requires few { length children.now ≤ 3 }
+        requires arity { length children.now ≡ L.coding.arity label }
         requires seen { HasSeenTerms L.coding pass.old children.now }
         ensures answered { Answered pass.old (Intern (L.coding.word label) children.now) (intern_answer result) pass.new }
         ensures probes { intern_probes result ≡ pass.new.probes }
@@ -63,7 +63,7 @@ impl TermTable {
     #[inline(always)]
     pub fn find<L: Label>(&self, pass: &mut Pass, label: L, children: &[Ticket]) -> Found
         requires table { IsOf self.now pass.old }
-        requires few { length children.now ≤ 3 }
+        requires arity { length children.now ≡ L.coding.arity label }
         requires seen { HasSeenTerms L.coding pass.old children.now }
         ensures answered { Answered pass.old (Find (L.coding.word label) children.now) (sought_answer result.ticket) pass.new }
         ensures probes { result.probes ≡ pass.new.probes }
@@ -94,6 +94,7 @@ impl TermTable {
         ensures extends { Extends pass.old pass.new }
         ensures legal { HasLegalHistory pass.new }
         ensures seen { HasSeenTerms L.coding pass.new result.children.items }
+        ensures arity { length result.children.items ≡ L.coding.arity result.label }
         ensures tree { (x : Tree L) → HasTerm L.coding pass.old ticket x
             → IsTermNode L.coding pass.new result.label result.children.items x }
         ensures stays { linked pass.new ≡ linked pass.old }
@@ -119,10 +120,17 @@ impl Pass {
     /// Whether two tickets that the pass has seen have one term over these labels: exactly where the
     /// tickets are equal.
     pub fn same_term<L: Label>(&self, first: Ticket, second: Ticket) -> bool
-        ensures { (x y : Tree L) → HasTerm L.coding self.now first x → HasTerm L.coding self.now second y → IsTrue result ↔ (x ≡ y) }
+        ensures legal { HasLegalHistory self.now }
+        ensures same { (x y : Tree L) → HasTerm L.coding self.now first x → HasTerm L.coding self.now second y → IsTrue result ↔ (x ≡ y) }
     {
         // The history of each pass is legal.
         let _ = self.linked();
         first == second
     }
 }
+
+/// Of two tickets that a pass has seen, the numbers are equal exactly where their terms over these labels are. A law: it computes
+/// nothing.
+pub fn same_terms_of<L: Label>()
+    ensures { (p : PassState) (t u : ℕ) (x y : Tree L) → HasLegalHistory p → HasTerm L.coding p t x → HasTerm L.coding p u y → (t ≡ u) ↔ (x ≡ y) }
+{}

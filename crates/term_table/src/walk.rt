@@ -7,7 +7,7 @@ ghost use Rattle.term_table.specs.Seats.{Serves, IsSameSeat, MayBegin};
 ghost use Rattle.term_table.specs.Calls.{Ended};
 ghost use Rattle.term_table.specs.Ends.{Done};
 ghost use Rattle.term_table.specs.Answers.{sought_answer};
-ghost use Rattle.term_table.specs.declared.limits.TheConstants.{MAX_HEADS};
+ghost use Rattle.term_table.specs.declared.limits.TheConstants.{LARGE_MAX_HEADS};
 ghost use Rattle.term_table.specs.declared.view.View.TheVariants.{Walking};
 
 use crate::nodes::Nodes;
@@ -36,7 +36,7 @@ fn mix_in(hash: u64, number: u64) -> u64
 // The hash with all but its low eight bits scattered over the heads: numbers in sequence stay in sequence, and strides
 // don't meet.
 fn scatter_hash(heads: u64, hash: u64) -> u64
-    requires { heads ≤ MAX_HEADS }
+    requires { heads ≤ LARGE_MAX_HEADS }
     ensures { result ≡ scattered heads hash }
 {
     (hash / 256).wrapping_mul(SCATTER) / 4294967296 * heads / 4294967296 + hash % 256
@@ -44,7 +44,7 @@ fn scatter_hash(heads: u64, hash: u64) -> u64
 
 // The chain of a term. Where it lies below the heads, as most do, nothing is divided.
 fn chain_at(heads: u64, word: u64, kids: &[Ticket]) -> u64
-    requires { (0 < heads) × (heads ≤ MAX_HEADS) }
+    requires { (0 < heads) × (heads ≤ LARGE_MAX_HEADS) }
     ensures value { result ≡ chain_of heads word kids.now }
     ensures range { result < heads }
 {

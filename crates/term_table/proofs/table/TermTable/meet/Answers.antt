@@ -1,9 +1,17 @@
-use Rattle.std.proofs.Common.{rules}
+use Rattle.std.proofs.Common.{subst, sym, ◌∙◌}
+use Rattle.term_table.specs.Passes.{Learned, Met}
+use Rattle.term_table.proofs.Meeting.{met}
 use Rattle.term_table.proofs.Callers.{extends_met_first, extends_met_second, still_of, legal_met_first, legal_met_second, first_learns, second_learns}
 use Rattle.term_table.proofs.table.TermTable.meet.Goals as goal
 
 pub returns-clause-met : goal.returns-clause-met
-returns-clause-met c = search rules
+returns-clause-met c =
+    let first = c.requires.first in
+    let second = c.requires.second in
+    let learned : Learned c.args.first.now c.note-note-2.result.seen c.learn-2.new.pass =
+    subst (λ p. Learned p c.note-note-2.result.seen c.learn-2.new.pass) c.note-note.ensures.same c.learn-2.ensures.learned in
+    subst (Met c.args.first.now c.args.second.now c.learn-2.new.pass) (sym c.note-note-2.ensures.same)
+    (met {p = c.args.first.now} {q = c.args.second.now} (first.2 ∙ sym second.2) c.note-note.ensures.seen c.learn.ensures.learned c.note-note-2.ensures.seen learned)
 
 pub returns-clause-extends : goal.returns-clause-extends
 returns-clause-extends c = let m = returns-clause-met c in (extends_met_first m, extends_met_second m)
