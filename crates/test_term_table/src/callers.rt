@@ -1,5 +1,6 @@
 //! Small callers of the table, with their contracts.
 ghost use Rattle.std.specs.Prelude.{◌≡◌, ◌+◌, ◌^◌, ◌<◌, All, IfSome, IfOk, IfErr};
+ghost use Rattle.sym_terms.specs.Labels.{label_arity};
 ghost use Rattle.sym_terms.specs.Trees.{leaf, binary};
 ghost use Rattle.term_table.specs.Passes.{IsOf, linked};
 ghost use Rattle.term_table.specs.Trees.{Extends};
@@ -21,7 +22,8 @@ pub fn take(table: &TermTable, passes: &mut Vec<Pass>) -> Option<Pass>
 
 /// Interns a term without children.
 pub fn intern_leaf(table: &TermTable, pass: &mut Pass, label: Label) -> Result<Interned, TableFull>
-    requires { IsOf table.now pass.old }
+    requires table { IsOf table.now pass.old }
+    requires arity { label_arity label ≡ 0 }
     ensures pass { IsOf table.now pass.new }
     ensures extends { Extends pass.old pass.new }
     ensures tree { IfOk result (λ i. HasTree pass.new i.ticket (leaf label)) }
@@ -38,7 +40,9 @@ pub fn intern_over(
     leaf_label: Label,
     over: Label,
 ) -> Result<(Ticket, Ticket), TableFull>
-    requires { IsOf table.now pass.old }
+    requires table { IsOf table.now pass.old }
+    requires leaf { label_arity leaf_label ≡ 0 }
+    requires over { label_arity over ≡ 2 }
     ensures pass { IsOf table.now pass.new }
     ensures extends { Extends pass.old pass.new }
     ensures first { IfOk result (λ t. HasTree pass.new t.0 (leaf leaf_label)) }
@@ -88,6 +92,7 @@ pub fn meet_and_read(
     requires first { IsOf table.now first.old }
     requires second { IsOf table.now second.old }
     requires seen { HasSeen first.old a × HasSeen first.old b }
+    requires over { label_arity over ≡ 2 }
 {
     table.meet(first, second);
     let node = table.read(second, b);

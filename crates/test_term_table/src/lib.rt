@@ -8,4 +8,8 @@ mod full_tests;
 #[cfg(test)]
 mod opened;
 #[cfg(test)]
+mod telling;
+#[cfg(test)]
+mod telling_tests;
+#[cfg(test)]
 mod tests;
