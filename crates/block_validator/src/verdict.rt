@@ -19,7 +19,7 @@ use crate::place::Place;
 use mblock::{Block, Order, Unclean, clean};
 use std::alloc::Global;
 use std::marker::Model;
-use sym_exec::{RunRoom, run_block, run_order};
+use sym_exec::{RunRoom, run_both};
 use term_table::{Pass, TableFull, TermTable};
 
 /// A lent block, and a clean order that has its terms in every place. Only `validate` makes one.
@@ -101,8 +101,7 @@ fn compare(
     pass: &mut Pass,
     block: &Block,
     order: &Order,
-    block_room: RunRoom,
-    order_room: RunRoom,
+    rooms: (RunRoom, RunRoom),
 ) -> Result<Option<Place>, TableFull>
     requires table { IsOf table.now pass.old }
     ensures exact { IfOk result (λ r. MatchOption r (SameTrees (block_trees block.now) (order_trees order.now))
@@ -112,8 +111,7 @@ fn compare(
     ensures pass { AfterInterns table.now pass.old result pass.new }
     ensures legal { HasLegalHistory pass.new }
 {
-    let first = run_block(table, pass, block, block_room)?;
-    let second = run_order(table, pass, order, order_room)?;
+    let (first, second) = run_both(table, pass, block, order, rooms)?;
     Ok(first_difference(&first, &second))
 }
 
@@ -171,7 +169,7 @@ pub fn validate<'a>(
     let (Ok(block_room), Ok(order_room)) = (RunRoom::new(alloc), RunRoom::new(alloc)) else {
         return Verdict::NoMemory;
     };
-    let compared = compare(table, pass, block, &order, block_room, order_room);
+    let compared = compare(table, pass, block, &order, (block_room, order_room));
     verdict_of(block, order, compared)
 }
 

@@ -5,3 +5,4 @@ pub mod Standing
 pub mod Stores
 pub mod MipsTerms
 pub mod Interners
+pub mod Starts

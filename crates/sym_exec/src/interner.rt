@@ -14,7 +14,8 @@ pub(crate) struct Interner<'t> {
 }
 
 impl<'t> Interner<'t> {
-    ghost use Rattle.std.specs.Prelude.{◌≡◌, ◌+◌, ◌≤◌, IfOk, OnErr};
+    ghost use Rattle.std.specs.Prelude.{◌≡◌, ◌+◌, ◌≤◌, IfOk, OnErr, length};
+    ghost use Rattle.sym_terms.specs.Labels.{label_arity};
     ghost use Rattle.sym_terms.specs.Trees.{Tree, leaf, binary, ternary};
     ghost use Rattle.term_table.specs.Passes.{linked};
     ghost use Rattle.term_table.specs.Trees.{HasLegalHistory};
@@ -31,6 +32,7 @@ impl<'t> Interner<'t> {
 
     /// The term of a label without children.
     pub(crate) fn leaf(&mut self, label: Label) -> Result<Ticket, TableFull>
+        requires { label_arity label ≡ 0 }
         ensures tree { IfOk result (λ t. HasTree self.new.pass.now t (leaf label)) }
         ensures absent { OnErr result (Lacks self.new.pass.now (leaf label)) }
         ensures legal { HasLegalHistory self.new.pass.now }
@@ -42,6 +44,7 @@ impl<'t> Interner<'t> {
     }
 
     pub(crate) fn binary(&mut self, label: Label, a: Ticket, b: Ticket) -> Result<Ticket, TableFull>
+        requires arity { label_arity label ≡ 2 }
         requires a { HasSeen self.old.pass.now a }
         requires b { HasSeen self.old.pass.now b }
         ensures seen { IfOk result (λ t. HasSeen self.new.pass.now t) }
@@ -63,6 +66,7 @@ impl<'t> Interner<'t> {
         b: Ticket,
         c: Ticket,
     ) -> Result<Ticket, TableFull>
+        requires arity { label_arity label ≡ 3 }
         requires a { HasSeen self.old.pass.now a }
         requires b { HasSeen self.old.pass.now b }
         requires c { HasSeen self.old.pass.now c }
@@ -83,6 +87,7 @@ impl<'t> Interner<'t> {
         requires { HasSeen self.old.pass.now ticket }
         ensures legal { HasLegalHistory self.new.pass.now }
         ensures seen { HaveSeen self.new.pass.now result.children.items }
+        ensures arity { length result.children.items ≡ label_arity result.label }
         ensures tree { (x : Tree) → HasTree self.old.pass.now ticket x → IsNode self.new.pass.now result.label result.children.items x }
         ensures pass { GoesOn self.old self.new }
         ensures stays { linked self.new.pass.now ≡ linked self.old.pass.now }

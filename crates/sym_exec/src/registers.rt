@@ -2,6 +2,7 @@
 ghost use Rattle.std.specs.Prelude.{◌≡◌, ℕ, ◌<◌, ◌+◌, ◌∷◌, [], OnOk, OnErr, IfOk, slice_index, vec_len};
 ghost use Rattle.mips_isa.specs.declared.action.Action.TheVariants.{Computes, Loads, Stores};
 ghost use Rattle.mips_isa.specs.States.{put};
+ghost use Rattle.sym_terms.specs.Labels.{label_arity};
 ghost use Rattle.sym_terms.specs.Trees.{Tree, leaf};
 ghost use Rattle.sym_exec.specs.MipsTerms.{HasSeen, HasTree, Lacks};
 ghost use Rattle.sym_exec.specs.Asked.{asked_by, LacksOne};
@@ -124,7 +125,8 @@ impl TermRegisters {
         d: Reg,
         label: Label,
     ) -> Result<(), TableFull>
-        requires { Known terms.old.pass.now self.old }
+        requires known { Known terms.old.pass.now self.old }
+        requires leaf { label_arity label ≡ 0 }
         ensures known { OnOk result (Known terms.new.pass.now self.new) }
         ensures hold { (t : TreeState) → Hold terms.old.pass.now self.old t
             → OnOk result (Hold terms.new.pass.now self.new (record t { regs = put t.regs d (leaf label) })) }

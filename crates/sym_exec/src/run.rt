@@ -1,5 +1,5 @@
 //! Blocks and orders, instruction by instruction.
-ghost use Rattle.std.specs.Prelude.{◌≡◌, ℕ, ◌+◌, ◌<◌, ◌≤◌, OnOk, OnErr, IfOk, map, length, vec_len};
+ghost use Rattle.std.specs.Prelude.{◌≡◌, ℕ, ◌+◌, ◌<◌, ◌≤◌, OnOk, OnErr, IfOk, ◌++◌, map, length, vec_len};
 ghost use Rattle.mips_isa.specs.declared.action.Action.{Action as AnAction};
 ghost use Rattle.mips_isa.specs.Actions.{action_of};
 ghost use Rattle.mblock.specs.BlockMeaning.{exit_shape};
@@ -20,6 +20,7 @@ ghost use Rattle.sym_exec.specs.Interners.{Interns};
 ghost use Rattle.sym_exec.specs.Growth.{growth_by, growth_by_all, growth_by_shape, stores_after, all_stores, code_growth};
 ghost use Rattle.sym_exec.specs.Growth.{block_growth, order_growth, GrowthHasBound};
 ghost use Rattle.sym_exec.specs.Stores.{IsChain, HasRoom, IsEmpty, Tracks};
+ghost use Rattle.sym_exec.specs.Starts.{IsStart, registers_of};
 
 use crate::interner::Interner;
 use crate::registers::{Access, TermRegisters};
@@ -198,25 +199,35 @@ fn start_registers(terms: &mut Interner) -> Result<TermRegisters, TableFull>
     Ok(TermRegisters { regs, hi, lo })
 }
 
-/// The same, with the memory at the start, which begins the chain of stores.
-fn start(terms: &mut Interner, lists: &mut RunLists) -> Result<TermRegisters, TableFull>
-    requires room { HasRoom lists.old }
-    requires empty { IsEmpty lists.old }
-    ensures known { IfOk result (Known terms.new.pass.now) }
-    ensures chain { OnOk result (IsChain terms.new.pass.now lists.new.chain) }
-    ensures room { HasRoom lists.new }
-    ensures none { vec_len lists.new.guards ≡ 0 }
-    ensures tracks { IfOk result (λ s. Tracks terms.new.pass.now s lists.new start_trees) }
+/// What registers, HI, LO and memory hold at the start.
+fn start(terms: &mut Interner) -> Result<TermPlaces, TableFull>
+    ensures start { IfOk result (IsStart terms.new.pass.now) }
     ensures absent { OnErr result (LacksOne terms.new.pass.now asked_first) }
     ensures legal { HasLegalHistory terms.new.pass.now }
     ensures pass { Interns terms.old result terms.new }
     ensures grows { linked terms.new.pass.now ≤ linked terms.old.pass.now + 35 }
+{
+    let TermRegisters { regs, hi, lo } = start_registers(terms)?;
+    let memory = terms.leaf(Label::Mem0)?;
+    Ok(TermPlaces {
+        regs,
+        hi,
+        lo,
+        memory,
+    })
+}
+
+/// The memory at the start begins the chain of stores.
+fn begin(start: &TermPlaces, lists: &mut RunLists)
+    requires room { HasRoom lists.old }
+    requires empty { IsEmpty lists.old }
+    ensures chain { (p : PassState) → IsStart p start.now → IsChain p lists.new.chain }
+    ensures tracks { (p : PassState) → IsStart p start.now → Tracks p (registers_of start.now) lists.new start_trees }
+    ensures room { HasRoom lists.new }
+    ensures none { vec_len lists.new.guards ≡ 0 }
     ensures stores { vec_len lists.new.chain.stores ≡ 0 }
 {
-    let registers = start_registers(terms)?;
-    let memory = terms.leaf(Label::Mem0)?;
-    lists.chain.memories.push_reserved(memory);
-    Ok(registers)
+    lists.chain.memories.push_reserved(start.memory);
 }
 
 /// The exit, with the tickets of what it reads.
@@ -313,24 +324,31 @@ fn run_slot(
     }
 }
 
-fn run_code(
+/// What code leaves from the start on.
+fn run_from(
     terms: &mut Interner,
+    start: &TermPlaces,
     insts: &[Plain],
     exit: &Exit,
     slot: &Option<Plain>,
     mut lists: RunLists,
 ) -> Result<SymState, TableFull>
+    requires start { IsStart terms.old.pass.now start.now }
     requires room { HasRoom lists }
     requires empty { IsEmpty lists }
     requires few { length insts.now ≤ ORDER_INSTS }
     ensures trees { IfOk result (λ s. StandsFor terms.new.pass.now s.places s.exit s.guards.items
         (code_trees (map action_of insts.now) exit.now (slot_actions slot.now))) }
     ensures absent { OnErr result (LacksOne terms.new.pass.now (code_asked (map action_of insts.now) exit.now (slot_actions slot.now))) }
-    ensures legal { HasLegalHistory terms.new.pass.now }
     ensures pass { Interns terms.old result terms.new }
-    ensures grows { linked terms.new.pass.now ≤ linked terms.old.pass.now + code_growth (map action_of insts.now) exit.now (slot_actions slot.now) }
+    ensures grows { linked terms.new.pass.now + 35 ≤ linked terms.old.pass.now + code_growth (map action_of insts.now) exit.now (slot_actions slot.now) }
 {
-    let mut registers = start(terms, &mut lists)?;
+    begin(start, &mut lists);
+    let mut registers = TermRegisters {
+        regs: start.regs,
+        hi: start.hi,
+        lo: start.lo,
+    };
     steps(terms, &mut registers, &mut lists, insts)?;
     let left = leave(&registers, exit);
     put_own(terms, &mut registers, exit)?;
@@ -347,6 +365,28 @@ fn run_code(
         exit: left,
         guards: lists.guards,
     })
+}
+
+/// What code leaves.
+fn run_code(
+    terms: &mut Interner,
+    insts: &[Plain],
+    exit: &Exit,
+    slot: &Option<Plain>,
+    lists: RunLists,
+) -> Result<SymState, TableFull>
+    requires room { HasRoom lists }
+    requires empty { IsEmpty lists }
+    requires few { length insts.now ≤ ORDER_INSTS }
+    ensures trees { IfOk result (λ s. StandsFor terms.new.pass.now s.places s.exit s.guards.items
+        (code_trees (map action_of insts.now) exit.now (slot_actions slot.now))) }
+    ensures absent { OnErr result (LacksOne terms.new.pass.now (code_asked (map action_of insts.now) exit.now (slot_actions slot.now))) }
+    ensures legal { HasLegalHistory terms.new.pass.now }
+    ensures pass { Interns terms.old result terms.new }
+    ensures grows { linked terms.new.pass.now ≤ linked terms.old.pass.now + code_growth (map action_of insts.now) exit.now (slot_actions slot.now) }
+{
+    let start = start(terms)?;
+    run_from(terms, &start, insts, exit, slot, lists)
 }
 
 /// The tickets of what a block leaves: those of its trees. The guards and stores go into `room`, so nothing is allocated.
@@ -398,6 +438,93 @@ pub fn run_order(
         &order.slot(),
         room.into_lists(),
     )
+}
+
+/// What a block leaves from the start on.
+fn run_block_from(
+    terms: &mut Interner,
+    start: &TermPlaces,
+    block: &Block,
+    room: RunRoom,
+) -> Result<SymState, TableFull>
+    requires { IsStart terms.old.pass.now start.now }
+    ensures trees { IfOk result (λ s. StandsFor terms.new.pass.now s.places s.exit s.guards.items (block_trees block.now)) }
+    ensures absent { OnErr result (LacksOne terms.new.pass.now (block_asked block.now)) }
+    ensures pass { Interns terms.old result terms.new }
+    ensures grows { linked terms.new.pass.now + 35 ≤ linked terms.old.pass.now + block_growth block.now }
+{
+    run_from(
+        terms,
+        start,
+        block.insts(),
+        &block.exit(),
+        &None,
+        room.into_lists(),
+    )
+}
+
+/// What an order leaves from the start on.
+fn run_order_from(
+    terms: &mut Interner,
+    start: &TermPlaces,
+    order: &Order,
+    room: RunRoom,
+) -> Result<SymState, TableFull>
+    requires { IsStart terms.old.pass.now start.now }
+    ensures trees { IfOk result (λ s. StandsFor terms.new.pass.now s.places s.exit s.guards.items (order_trees order.now)) }
+    ensures absent { OnErr result (LacksOne terms.new.pass.now (order_asked order.now)) }
+    ensures pass { Interns terms.old result terms.new }
+    ensures grows { linked terms.new.pass.now + 35 ≤ linked terms.old.pass.now + order_growth order.now }
+{
+    run_from(
+        terms,
+        start,
+        order.insts(),
+        &order.exit(),
+        &order.slot(),
+        room.into_lists(),
+    )
+}
+
+/// What a block and an order leave.
+fn run_pair(
+    terms: &mut Interner,
+    block: &Block,
+    order: &Order,
+    rooms: (RunRoom, RunRoom),
+) -> Result<(SymState, SymState), TableFull>
+    ensures block { IfOk result (λ s. StandsFor terms.new.pass.now s.0.places s.0.exit s.0.guards.items (block_trees block.now)) }
+    ensures order { IfOk result (λ s. StandsFor terms.new.pass.now s.1.places s.1.exit s.1.guards.items (order_trees order.now)) }
+    ensures absent { OnErr result (LacksOne terms.new.pass.now (block_asked block.now ++ order_asked order.now)) }
+    ensures legal { HasLegalHistory terms.new.pass.now }
+    ensures pass { Interns terms.old result terms.new }
+    ensures grows { linked terms.new.pass.now ≤ linked terms.old.pass.now + (block_growth block.now + order_growth order.now) }
+{
+    let start = start(terms)?;
+    let first = run_block_from(terms, &start, block, rooms.0)?;
+    let second = run_order_from(terms, &start, order, rooms.1)?;
+    Ok((first, second))
+}
+
+/// The tickets of what a block and an order leave, as `run_block` and `run_order` give them. The terms of the start are made
+/// once for both.
+pub fn run_both(
+    table: &TermTable,
+    pass: &mut Pass,
+    block: &Block,
+    order: &Order,
+    rooms: (RunRoom, RunRoom),
+) -> Result<(SymState, SymState), TableFull>
+    requires table { IsOf table.now pass.old }
+    ensures block { IfOk result (λ s. StandsFor pass.new s.0.places s.0.exit s.0.guards.items (block_trees block.now)) }
+    ensures order { IfOk result (λ s. StandsFor pass.new s.1.places s.1.exit s.1.guards.items (order_trees order.now)) }
+    ensures absent { OnErr result (LacksOne pass.new (block_asked block.now ++ order_asked order.now)) }
+    ensures grows { linked pass.new ≤ linked pass.old + (block_growth block.now + order_growth order.now) }
+    ensures legal { HasLegalHistory pass.new }
+    ensures pass { AfterInterns table.now pass.old result pass.new }
+{
+    let mut terms = Interner::new(table, pass);
+    run_pair(&mut terms, block, order, rooms)
 }
 
 /// What a run may link is at most quadratic in the number of its actions. A law: it computes nothing.

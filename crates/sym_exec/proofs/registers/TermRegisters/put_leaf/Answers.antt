@@ -5,7 +5,7 @@ use Rattle.sym_exec.proofs.registers.TermRegisters.put_leaf.Goals as goal
 pub returns-clause-known : goal.returns-clause-known
 returns-clause-known c =
     known_put c.args.d c.in_ok-value.value
-    (known_on c.in_ok-value.ensures.pass.later c.requires) (tree_seen c.in_ok-value.ensures.tree) c.set.ensures.value c.set.ensures.range c.set.ensures.count
+    (known_on c.in_ok-value.ensures.pass.later c.requires.known) (tree_seen c.in_ok-value.ensures.tree) c.set.ensures.value c.set.ensures.range c.set.ensures.count
 
 pub returns-clause-hold : goal.returns-clause-hold
 returns-clause-hold c =

@@ -8,13 +8,13 @@ use Rattle.sym_exec.proofs.Tracking.{tracks_on}
 use Rattle.sym_exec.specs.Asked.{asked_by_all, asked_first, asked_by_shape}
 use Rattle.mblock.specs.Clean.{slot_actions}
 use Rattle.sym_exec.proofs.Asked.{err_always, lacks_here, lacks_left, lacks_right}
-use Rattle.sym_exec.proofs.run.run_code.Goals as goal
+use Rattle.sym_exec.proofs.run.run_from.Goals as goal
 
 pub returns-clause-trees : goal.returns-clause-trees
 returns-clause-trees c =
     let t = all_trees (map action_of c.args.insts.now) start_trees in
     let u = exit_trees c.args.exit.now t in
-    let run = c.in_ok-steps.ensures.tracks start_trees c.in_ok-registers.ensures.tracks in
+    let run = c.in_ok-steps.ensures.tracks start_trees (c.begin.ensures.tracks _ c.requires.start) in
     let own = c.in_ok-put_own.ensures.pass.later in
     let put = tracks_on own run (c.in_ok-put_own.ensures.hold t run.hold) refl refl in
     let last = c.in_ok-run_slot.ensures.tracks u put in
@@ -30,58 +30,34 @@ pub run_slot-requires-clause-chain : goal.run_slot-requires-clause-chain
 run_slot-requires-clause-chain c = chain-on c.in_ok-put_own.ensures.pass.later c.in_ok-steps.ensures.chain
 
 pub returns-in_err-steps-clause-pass : goal.returns-in_err-steps-clause-pass
-returns-in_err-steps-clause-pass c = interns_by (goes_more (goes_on c.in_ok-registers.ensures.pass) (goes_on c.in_err-steps.ensures.pass)) (search rules)
+returns-in_err-steps-clause-pass c = interns_by (goes_on c.in_err-steps.ensures.pass) (search rules)
 
 pub returns-in_err-put_own-clause-pass : goal.returns-in_err-put_own-clause-pass
 returns-in_err-put_own-clause-pass c =
-    let ran = goes_more (goes_on c.in_ok-registers.ensures.pass) (goes_on c.in_ok-steps.ensures.pass) in
+    let ran = goes_on c.in_ok-steps.ensures.pass in
     interns_by (goes_more ran (goes_on c.in_err-put_own.ensures.pass)) (search rules)
 
 pub returns-in_err-run_slot-clause-pass : goal.returns-in_err-run_slot-clause-pass
 returns-in_err-run_slot-clause-pass c =
-    let ran = goes_more (goes_on c.in_ok-registers.ensures.pass) (goes_on c.in_ok-steps.ensures.pass) in
+    let ran = goes_on c.in_ok-steps.ensures.pass in
     let left = goes_more ran (goes_on c.in_ok-put_own.ensures.pass) in
     interns_by (goes_more left (goes_on c.in_err-run_slot.ensures.pass)) (search rules)
 
 pub returns-in_err-memory-clause-pass : goal.returns-in_err-memory-clause-pass
 returns-in_err-memory-clause-pass c =
-    let ran = goes_more (goes_on c.in_ok-registers.ensures.pass) (goes_on c.in_ok-steps.ensures.pass) in
+    let ran = goes_on c.in_ok-steps.ensures.pass in
     let left = goes_more ran (goes_more (goes_on c.in_ok-put_own.ensures.pass) (goes_on c.in_ok-run_slot.ensures.pass)) in
     interns_by (goes_more left (goes_on c.in_err-memory.ensures.pass)) (search rules)
 
 pub returns-clause-pass : goal.returns-clause-pass
 returns-clause-pass c =
-    let ran = goes_more (goes_on c.in_ok-registers.ensures.pass) (goes_on c.in_ok-steps.ensures.pass) in
+    let ran = goes_on c.in_ok-steps.ensures.pass in
     let left = goes_more ran (goes_more (goes_on c.in_ok-put_own.ensures.pass) (goes_on c.in_ok-run_slot.ensures.pass)) in
     interns_by (goes_more left (goes_on c.in_ok-memory.ensures.pass)) tt
 
-pub returns-in_err-steps-clause-legal : goal.returns-in_err-steps-clause-legal
-returns-in_err-steps-clause-legal c = c.in_err-steps.ensures.pass.later.legal c.in_ok-registers.ensures.legal
-
-pub returns-in_err-put_own-clause-legal : goal.returns-in_err-put_own-clause-legal
-returns-in_err-put_own-clause-legal c = (later_more c.in_ok-steps.ensures.pass.later c.in_err-put_own.ensures.pass.later).legal c.in_ok-registers.ensures.legal
-
-pub returns-in_err-run_slot-clause-legal : goal.returns-in_err-run_slot-clause-legal
-returns-in_err-run_slot-clause-legal c =
-    let left = later_more c.in_ok-steps.ensures.pass.later c.in_ok-put_own.ensures.pass.later in
-    (later_more left c.in_err-run_slot.ensures.pass.later).legal c.in_ok-registers.ensures.legal
-
-pub returns-in_err-memory-clause-legal : goal.returns-in_err-memory-clause-legal
-returns-in_err-memory-clause-legal c =
-    let left = later_more c.in_ok-steps.ensures.pass.later c.in_ok-put_own.ensures.pass.later in
-    (later_more left (later_more c.in_ok-run_slot.ensures.pass.later c.in_err-memory.ensures.pass.later)).legal c.in_ok-registers.ensures.legal
-
-pub returns-clause-legal : goal.returns-clause-legal
-returns-clause-legal c =
-    let left = later_more c.in_ok-steps.ensures.pass.later c.in_ok-put_own.ensures.pass.later in
-    (later_more left (later_more c.in_ok-run_slot.ensures.pass.later c.in_ok-memory.ensures.pass.later)).legal c.in_ok-registers.ensures.legal
-
-pub returns-in_err-registers-clause-absent : goal.returns-in_err-registers-clause-absent
-returns-in_err-registers-clause-absent c = err_always _ (lacks_left _ c.in_err-registers.ensures.absent)
-
 pub returns-in_err-steps-clause-absent : goal.returns-in_err-steps-clause-absent
 returns-in_err-steps-clause-absent c =
-    err_always _ (lacks_right asked_first (lacks_left _ (c.in_err-steps.ensures.absent start_trees c.in_ok-registers.ensures.tracks)))
+    err_always _ (lacks_right asked_first (lacks_left _ (c.in_err-steps.ensures.absent start_trees (c.begin.ensures.tracks _ c.requires.start))))
 
 pub returns-in_err-put_own-clause-absent : goal.returns-in_err-put_own-clause-absent
 returns-in_err-put_own-clause-absent c =
@@ -92,7 +68,7 @@ pub returns-in_err-run_slot-clause-absent : goal.returns-in_err-run_slot-clause-
 returns-in_err-run_slot-clause-absent c =
     let t = all_trees (map action_of c.args.insts.now) start_trees in
     let u = exit_trees c.args.exit.now t in
-    let run = c.in_ok-steps.ensures.tracks start_trees c.in_ok-registers.ensures.tracks in
+    let run = c.in_ok-steps.ensures.tracks start_trees (c.begin.ensures.tracks _ c.requires.start) in
     let put = tracks_on c.in_ok-put_own.ensures.pass.later run (c.in_ok-put_own.ensures.hold t run.hold) refl refl in
     err_always _ (lacks_right asked_first (lacks_right (asked_by_all (map action_of c.args.insts.now) start_trees)
     (lacks_right (asked_by_shape (exit_shape c.args.exit.now)) (lacks_left _ (c.in_err-run_slot.ensures.absent u put)))))
@@ -101,9 +77,12 @@ pub returns-in_err-memory-clause-absent : goal.returns-in_err-memory-clause-abse
 returns-in_err-memory-clause-absent c =
     let t = all_trees (map action_of c.args.insts.now) start_trees in
     let u = exit_trees c.args.exit.now t in
-    let run = c.in_ok-steps.ensures.tracks start_trees c.in_ok-registers.ensures.tracks in
+    let run = c.in_ok-steps.ensures.tracks start_trees (c.begin.ensures.tracks _ c.requires.start) in
     let put = tracks_on c.in_ok-put_own.ensures.pass.later run (c.in_ok-put_own.ensures.hold t run.hold) refl refl in
     let last = c.in_ok-run_slot.ensures.tracks u put in
     err_always _ (lacks_right asked_first (lacks_right (asked_by_all (map action_of c.args.insts.now) start_trees)
     (lacks_right (asked_by_shape (exit_shape c.args.exit.now)) (lacks_right (asked_by_all (slot_actions c.args.slot.now) u)
     (lacks_here (c.in_err-memory.ensures.absent _ last.memory))))))
+
+pub steps-requires-clause-chain : goal.steps-requires-clause-chain
+steps-requires-clause-chain c = c.begin.ensures.chain _ c.requires.start
