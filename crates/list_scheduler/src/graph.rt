@@ -1,6 +1,9 @@
 //! What has to stay before what in a block, and by how many words.
 use crate::access::{Access, access_of};
+use crate::accesses::Accesses;
+use crate::chains::{Chain, Chains};
 use crate::resources::Resources;
+use crate::uses::Uses;
 use mblock::Exit;
 use mips_isa::Plain;
 use std::alloc::{AllocError, Global};
@@ -15,25 +18,35 @@ pub struct Edge {
 }
 
 /// An instruction of the graph.
-#[derive(Drop)]
+#[derive(Clone, Copy)]
 pub struct Node {
     /// The instruction.
     pub inst: Plain,
-    reads: Resources,
-    writes: Resources,
-    access: Option<Access>,
-    // Whether it loads what an earlier store of the block, over the same base, stores in part.
-    meets: bool,
-    /// Those that have to stand behind it.
-    pub edges: Vec<Edge>,
+    /// Those that have to stand behind it. Who follows by way of others may be left out.
+    pub edges: Chain,
     /// How many that are not in their places yet have to stand before it.
     pub waits_for: u32,
     /// The first word at which it may stand, for the sake of those that are in their places.
     pub earliest: u32,
     /// The words from it to the end of the block, at least.
     pub height: u32,
-    /// Whether it is in its place.
-    pub is_placed: bool,
+}
+
+/// The instructions of a block.
+#[derive(Drop)]
+pub struct Graph {
+    pub nodes: Vec<Node>,
+    pub edges: Chains<Edge>,
+}
+
+/// The graph of a block up to some instruction.
+#[derive(Drop)]
+struct Builder {
+    graph: Graph,
+    uses: Uses,
+    accesses: Accesses,
+    // Room for the nodes that an access stands behind.
+    behind: Vec<usize>,
 }
 
 // The words from a load to who touches its register, from a move of HI or LO to a product, and else.
@@ -43,160 +56,171 @@ const PRODUCT_AFTER_MOVE: u32 = 3;
 
 const NEXT: u32 = 1;
 
-fn node_of(alloc: Global, inst: Plain) -> Node {
+fn node_of(inst: Plain) -> Node {
     Node {
         inst,
-        reads: Resources::read_by(&inst),
-        writes: Resources::written_by(&inst),
-        access: access_of(&inst),
-        meets: false,
-        edges: Vec::new(alloc),
+        edges: Chain::EMPTY,
         waits_for: 0,
         earliest: 0,
         height: NEXT,
-        is_placed: false,
     }
 }
 
-// By how many words an instruction has to stay behind an earlier one for a register's sake, 0 for none. Of the earlier
-// one's registers those are `open` that no instruction between them writes.
-fn words_between(first: &Node, second: &Node, open: Resources) -> u32 {
-    let touched = second.reads.union(second.writes);
-    let behind_result = if !first.writes.intersection(open).meets(touched) {
-        0
-    } else if first.inst.action().is_load() {
-        AFTER_LOAD
-    } else {
-        NEXT
-    };
-    let behind_reader = if !first.reads.intersection(open).meets(second.writes) {
-        0
-    } else if first.inst.action().is_move() {
-        PRODUCT_AFTER_MOVE
-    } else {
-        NEXT
-    };
-    behind_result.max(behind_reader)
-}
-
-// Whether the base of a later access holds the word that it held before the first instruction.
-fn keeps_base(first: &Node, later: &Access, between: Resources) -> bool {
-    !between.union(first.writes).meets(Resources::of(later.base))
-}
-
-// Whether the second loads what the first may have stored, over the same base.
-fn loads_stored(first: &Node, second: &Node, between: Resources) -> bool {
-    match (&first.access, &second.access) {
-        (Some(earlier), Some(later)) => {
-            earlier.stores
-                && !later.stores
-                && keeps_base(first, later, between)
-                && earlier.base == later.base
-                && !earlier.passes(later)
+impl Builder {
+    // An instruction of the graph stands before the one that comes next into it.
+    fn stand_before(
+        &mut self,
+        first: usize,
+        next: &mut Node,
+        words: u32,
+    ) -> Result<(), AllocError> {
+        let to = self.graph.nodes.len();
+        if let Some(node) = self.graph.nodes.get_mut(first) {
+            node.edges = self.graph.edges.push(node.edges, Edge { to, words })?;
+            next.waits_for = next.waits_for.saturating_add(1);
         }
-        _ => false,
+        Ok(())
     }
-}
 
-// Whether it loads what an earlier store may have stored, over the same base. Its value is a load from all that was stored
-// before, so it keeps its place among the stores.
-fn meets_store(nodes: &[Node], last: &Node) -> bool {
-    let mut between = Resources::NONE;
-    for first in nodes.iter().rev() {
-        if loads_stored(first, last, between) {
-            return true;
+    // Behind the last writer of each register that it touches.
+    fn link_behind_writers(
+        &mut self,
+        next: &mut Node,
+        touched: Resources,
+    ) -> Result<(), AllocError> {
+        let mut left = touched;
+        for _ in 0..Resources::COUNT {
+            let Some((resource, others)) = left.split() else {
+                break;
+            };
+            if let Some(writer) = self.uses.writer(resource) {
+                let loads = self
+                    .graph
+                    .nodes
+                    .get(writer)
+                    .is_some_and(|it| it.inst.action().is_load());
+                self.stand_before(writer, next, if loads { AFTER_LOAD } else { NEXT })?;
+            }
+            left = others;
         }
-        between = between.union(first.writes);
+        Ok(())
     }
-    false
-}
 
-// Whether two accesses have to stay in their order. Where the base was written between them nothing is known of it.
-fn must_stay(first: &Node, second: &Node, between: Resources) -> bool {
-    match (&first.access, &second.access) {
-        (Some(earlier), Some(later)) => {
-            if (second.meets && earlier.stores) || (first.meets && later.stores) {
-                true
-            } else if earlier.stores || later.stores {
-                !(keeps_base(first, later, between) && earlier.passes(later))
-            } else {
-                false
+    // Behind the readers of each register that it writes.
+    fn link_behind_readers(
+        &mut self,
+        next: &mut Node,
+        written: Resources,
+    ) -> Result<(), AllocError> {
+        let mut left = written;
+        for _ in 0..Resources::COUNT {
+            let Some((resource, others)) = left.split() else {
+                break;
+            };
+            let mut readers = self.uses.readers(resource);
+            for _ in 0..self.graph.nodes.len() {
+                let Some((reader, earlier)) = self.uses.split_last(readers) else {
+                    break;
+                };
+                let moves = self
+                    .graph
+                    .nodes
+                    .get(reader)
+                    .is_some_and(|it| it.inst.action().is_move());
+                self.stand_before(reader, next, if moves { PRODUCT_AFTER_MOVE } else { NEXT })?;
+                readers = earlier;
+            }
+            left = others;
+        }
+        Ok(())
+    }
+
+    // Behind the accesses that it has to stay behind.
+    fn link_behind_accesses(&mut self, next: &mut Node, access: Access) -> Result<(), AllocError> {
+        let base_written = self.uses.writer(access.base.index() as usize);
+        self.behind.clear();
+        self.accesses.take(
+            self.graph.nodes.len(),
+            access,
+            base_written,
+            &mut self.behind,
+        )?;
+        for k in 0..self.behind.len() {
+            if let Some(first) = self.behind.get(k).copied() {
+                self.stand_before(first, next, NEXT)?;
             }
         }
-        _ => false,
+        Ok(())
+    }
+
+    // One instruction more.
+    fn add(&mut self, inst: Plain) -> Result<(), AllocError> {
+        let mut next = node_of(inst);
+        let reads = Resources::read_by(&inst);
+        let writes = Resources::written_by(&inst);
+        self.link_behind_writers(&mut next, reads.union(writes))?;
+        self.link_behind_readers(&mut next, writes)?;
+        if let Some(access) = access_of(&inst) {
+            self.link_behind_accesses(&mut next, access)?;
+        }
+        self.uses.take(self.graph.nodes.len(), reads, writes)?;
+        self.graph.nodes.push(next)?;
+        Ok(())
     }
 }
 
-// The edge from an earlier instruction to the last one, if there is one.
-fn link(
-    first: &mut Node,
-    last: &mut Node,
-    to: usize,
-    between: Resources,
-) -> Result<(), AllocError> {
-    let open = Resources::ALL.difference(between);
-    let mut words = words_between(first, last, open);
-    if must_stay(first, last, between) {
-        words = words.max(NEXT);
+impl Graph {
+    // The words from a node to the end, those behind it having theirs. A load whose register the exit touches is two words
+    // before it.
+    fn height_of(&self, node: &Node, touched: Resources) -> u32 {
+        let mut height = NEXT;
+        if node.inst.action().is_load() && Resources::written_by(&node.inst).meets(touched) {
+            height = AFTER_LOAD + NEXT;
+        }
+        let mut edges = node.edges;
+        for _ in 0..self.edges.len() {
+            let Some((edge, others)) = self.edges.split_last(edges) else {
+                break;
+            };
+            if let Some(behind) = self.nodes.get(edge.to) {
+                height = height.max(behind.height.saturating_add(edge.words));
+            }
+            edges = others;
+        }
+        height
     }
-    if words > 0 {
-        first.edges.push(Edge { to, words })?;
-        last.waits_for = last.waits_for.saturating_add(1);
-    }
-    Ok(())
-}
 
-// The edges from earlier instructions to the last one.
-fn link_last(nodes: &mut [Node]) -> Result<(), AllocError> {
-    let Some((last, earlier)) = nodes.split_last_mut() else {
-        return Ok(());
-    };
-    let to = earlier.len();
-    last.meets = meets_store(earlier, last);
-    let mut between = Resources::NONE;
-    for first in earlier.iter_mut().rev() {
-        link(first, last, to, between)?;
-        between = between.union(first.writes);
-    }
-    Ok(())
-}
-
-// The words from a node to the end, those behind it having theirs. A load whose register the exit touches is two words
-// before it.
-fn height_of(nodes: &[Node], node: &Node, touched: Resources) -> u32 {
-    let mut height = NEXT;
-    if node.inst.action().is_load() && node.writes.meets(touched) {
-        height = AFTER_LOAD + NEXT;
-    }
-    for edge in &node.edges {
-        if let Some(behind) = nodes.get(edge.to) {
-            height = height.max(behind.height.saturating_add(edge.words));
+    // The height of each node, from the last one on.
+    fn set_heights(&mut self, exit: &Exit) {
+        let touched = Resources::touched_by_exit(exit);
+        for k in (0..self.nodes.len()).rev() {
+            let height = match self.nodes.get(k) {
+                Some(node) => self.height_of(node, touched),
+                None => NEXT,
+            };
+            if let Some(node) = self.nodes.get_mut(k) {
+                node.height = height;
+            }
         }
     }
-    height
-}
 
-// The height of each node, from the last one on.
-fn set_heights(nodes: &mut [Node], exit: &Exit) {
-    let touched = Resources::touched_by_exit(exit);
-    for k in (0..nodes.len()).rev() {
-        let height = match nodes.get(k) {
-            Some(node) => height_of(nodes, node, touched),
-            None => NEXT,
+    /// The graph of a block's instructions.
+    pub fn of(alloc: Global, insts: &[Plain], exit: &Exit) -> Result<Graph, AllocError> {
+        let most = insts.len().saturating_mul(2);
+        let mut builder = Builder {
+            graph: Graph {
+                nodes: Vec::with_capacity(alloc, insts.len())?,
+                edges: Chains::with_capacity(alloc, most)?,
+            },
+            uses: Uses::of_none(Chains::with_capacity(alloc, most)?),
+            accesses: Accesses::new(alloc),
+            behind: Vec::new(alloc),
         };
-        if let Some(node) = nodes.get_mut(k) {
-            node.height = height;
+        for inst in insts {
+            builder.add(*inst)?;
         }
+        let Builder { mut graph, .. } = builder;
+        graph.set_heights(exit);
+        Ok(graph)
     }
-}
-
-/// The graph of a block's instructions.
-pub fn graph(alloc: Global, insts: &[Plain], exit: &Exit) -> Result<Vec<Node>, AllocError> {
-    let mut nodes = Vec::with_capacity(alloc, insts.len())?;
-    for inst in insts {
-        nodes.push(node_of(alloc, *inst))?;
-        link_last(nodes.as_mut_slice())?;
-    }
-    set_heights(nodes.as_mut_slice(), exit);
-    Ok(nodes)
 }

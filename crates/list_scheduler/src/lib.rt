@@ -10,12 +10,15 @@
 #![tactic(auto)]
 
 mod access;
+mod accesses;
+mod chains;
 mod graph;
 mod hostile;
 mod list;
 mod needs;
 mod reorder;
 mod resources;
+mod uses;
 
 pub use access::{Access, access_of};
 pub use hostile::Hostile;

@@ -1,14 +1,15 @@
 //! The list scheduler.
 ghost use Rattle.std.specs.Prelude.{⊤};
 
-use crate::graph::{Edge, Node, graph};
+use crate::graph::{Edge, Graph, Node};
 use crate::needs::keep_needed;
 use crate::reorder::Reorder;
 use crate::resources::Resources;
 use mblock::{Block, Exit, ORDER_INSTS, Order, plain};
 use mips_isa::Plain;
 use std::alloc::{AllocError, Global};
-use std::mem;
+use std::cmp::Reverse;
+use std::collections::BinaryHeap;
 
 /// The list scheduler: of the instructions that may come next, the one with the longest way to the end, or the earlier one
 /// of two. A Nop stands only where none may come next, or before an exit that a load has to wait for.
@@ -21,8 +22,8 @@ impl Reorder for ListOrder {
     fn reorder(&self, alloc: Global, block: &Block) -> Result<Order, AllocError> {
         let exit = block.exit();
         let insts = keep_needed(alloc, block.insts())?;
-        let nodes = graph(alloc, insts.as_slice(), &exit)?;
-        let list = list_nodes(alloc, nodes, &exit)?;
+        let graph = Graph::of(alloc, insts.as_slice(), &exit)?;
+        let list = list_nodes(alloc, graph, &exit)?;
         let slot = if exit.has_slot() {
             Some(Plain::nop())
         } else {
@@ -35,43 +36,86 @@ impl Reorder for ListOrder {
     }
 }
 
-// The instruction to stand at a word: one that waits for no other, with the longest way to the end.
-fn best_at(nodes: &[Node], word: u32) -> Option<usize> {
-    let mut best = None;
-    let mut height = 0;
-    for (k, node) in nodes.iter().enumerate() {
-        let is_ready = !node.is_placed && node.waits_for == 0 && node.earliest <= word;
-        if is_ready && node.height > height {
-            best = Some(k);
-            height = node.height;
+// The instructions that wait for no other.
+#[derive(Drop)]
+struct Free {
+    // Those that may stand at the next word, the one with the longest way to the end first, of two the earlier one.
+    ready: BinaryHeap<(u32, Reverse<usize>)>,
+    // Those that may stand a word or two later.
+    soon: Vec<usize>,
+}
+
+impl Free {
+    // Those of a graph with no instruction in its place.
+    fn of(alloc: Global, nodes: &[Node]) -> Result<Free, AllocError> {
+        let mut soon = Vec::with_capacity(alloc, nodes.len())?;
+        for (k, node) in nodes.iter().enumerate() {
+            if node.waits_for == 0 {
+                soon.push(k)?;
+            }
         }
+        Ok(Free {
+            ready: BinaryHeap::with_capacity(alloc, nodes.len())?,
+            soon,
+        })
     }
-    best
+
+    // Those that may stand at this word are ready.
+    fn reach(&mut self, nodes: &[Node], word: u32) -> Result<(), AllocError> {
+        let mut later = 0;
+        for k in 0..self.soon.len() {
+            let Some(at) = self.soon.get(k).copied() else {
+                break;
+            };
+            let Some(node) = nodes.get(at) else {
+                break;
+            };
+            if node.earliest <= word {
+                self.ready.push((node.height, Reverse(at)))?;
+            } else {
+                if let Some(place) = self.soon.get_mut(later) {
+                    *place = at;
+                }
+                later = later.saturating_add(1);
+            }
+        }
+        self.soon.truncate(later);
+        Ok(())
+    }
 }
 
 // One that waited for an instruction which now stands at a word.
-fn release(nodes: &mut [Node], edge: Edge, word: u32) {
+fn release(nodes: &mut [Node], free: &mut Free, edge: Edge, word: u32) -> Result<(), AllocError> {
     if let Some(node) = nodes.get_mut(edge.to) {
         node.waits_for = node.waits_for.saturating_sub(1);
         node.earliest = node.earliest.max(word.saturating_add(edge.words));
+        if node.waits_for == 0 {
+            free.soon.push(edge.to)?;
+        }
     }
+    Ok(())
 }
 
 // The instruction of a node, or a Nop, stands at a word.
-fn place(alloc: Global, nodes: &mut [Node], best: Option<usize>, word: u32) -> Plain {
-    let Some(k) = best else {
-        return Plain::nop();
+fn place(
+    graph: &mut Graph,
+    free: &mut Free,
+    best: Option<usize>,
+    word: u32,
+) -> Result<Plain, AllocError> {
+    let Some(node) = best.and_then(|k| graph.nodes.get(k)) else {
+        return Ok(Plain::nop());
     };
-    let Some(node) = nodes.get_mut(k) else {
-        return Plain::nop();
-    };
-    node.is_placed = true;
     let inst = node.inst;
-    let edges = mem::replace(&mut node.edges, Vec::new(alloc));
-    for edge in edges {
-        release(nodes, edge, word);
+    let mut edges = node.edges;
+    for _ in 0..graph.edges.len() {
+        let Some((edge, others)) = graph.edges.split_last(edges) else {
+            break;
+        };
+        release(graph.nodes.as_mut_slice(), free, edge, word)?;
+        edges = others;
     }
-    inst
+    Ok(inst)
 }
 
 // A Nop behind a load whose register the exit touches.
@@ -90,18 +134,20 @@ fn finish(list: &mut Vec<Plain>, exit: &Exit) -> Result<(), AllocError> {
 }
 
 // The instructions of the graph word by word, one more than an order may have at most.
-fn list_nodes(alloc: Global, mut nodes: Vec<Node>, exit: &Exit) -> Result<Vec<Plain>, AllocError> {
-    let mut list = Vec::with_capacity(alloc, nodes.len())?;
-    let mut left = nodes.len();
+fn list_nodes(alloc: Global, mut graph: Graph, exit: &Exit) -> Result<Vec<Plain>, AllocError> {
+    let mut free = Free::of(alloc, graph.nodes.as_slice())?;
+    let mut list = Vec::with_capacity(alloc, graph.nodes.len())?;
+    let mut left = graph.nodes.len();
     for word in 0..=ORDER_INSTS as u32 {
         if left == 0 {
             break;
         }
-        let best = best_at(nodes.as_slice(), word);
+        free.reach(graph.nodes.as_slice(), word)?;
+        let best = free.ready.pop().map(|(_, Reverse(k))| k);
         if best.is_some() {
             left = left.saturating_sub(1);
         }
-        list.push(place(alloc, nodes.as_mut_slice(), best, word))?;
+        list.push(place(&mut graph, &mut free, best, word)?)?;
     }
     finish(&mut list, exit)?;
     Ok(list)

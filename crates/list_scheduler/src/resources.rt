@@ -18,6 +18,9 @@ impl Resources {
         bits: 0x3_ffff_fffe,
     };
 
+    /// How many numbers there are: registers have theirs, HI and LO come behind them.
+    pub const COUNT: usize = 34;
+
     const HIGH: Resources = Resources {
         bits: 0x1_0000_0000,
     };
@@ -57,6 +60,17 @@ impl Resources {
         Resources {
             bits: self.bits & other.bits,
         }
+    }
+
+    /// The number of one of them, and the others.
+    pub fn split(self) -> Option<(usize, Resources)> {
+        if self.bits == 0 {
+            return None;
+        }
+        let others = Resources {
+            bits: self.bits & (self.bits - 1),
+        };
+        Some((self.bits.trailing_zeros() as usize, others))
     }
 
     /// Whether there are none.
