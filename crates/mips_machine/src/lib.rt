@@ -10,8 +10,10 @@ mod code;
 mod machine;
 mod memory;
 mod portions;
+mod registers;
 mod state;
 
 pub use machine::{Machine, MachineRan, load, run};
 pub use portions::{Portion, output_goes_before};
-pub use state::{Load, Registers};
+pub use registers::Registers;
+pub use state::Load;

@@ -1,6 +1,6 @@
 // Data and stack, kept as words.
-ghost use Rattle.std.specs.Prelude.{replicate, IfOk, ◌≡◌, ℕ, ◌<◌, ◌≤◌, ◌+◌, ◌*◌, ◌-◌, ◌/◌, ◌^◌, slice_set, slice_index, Some, None, true};
-ghost use Rattle.std.specs.Prelude.{length, if◌then◌else◌, ◌==◌};
+ghost use Rattle.std.specs.Prelude.{IfOk, ◌≡◌, ℕ, ◌<◌, ◌≤◌, ◌+◌, ◌-◌, ◌/◌, ◌^◌, slice_index, true, []};
+ghost use Rattle.std.specs.Prelude.{length, vec_len, vec_capacity, if◌then◌else◌, ◌==◌};
 ghost use Rattle.mips_isa.specs.MemoryMap.{stack_base, stack_end};
 ghost use Rattle.mips_isa.specs.States.{is_open, byte_of, load_at, store_at};
 ghost use Rattle.mips_isa.specs.Starting.{words_mapped, first_bytes};
@@ -12,13 +12,13 @@ use words::Width;
 
 const STACK_WORDS: usize = ((STACK_END - STACK_BASE) / 4) as usize;
 
-/// The words of data and stack.
+/// The words of data and stack. The stack is kept from its end down, as far as it was written; there is room for all of it.
 #[derive(Drop)]
 pub struct Memory {
     pub globals: Vec<u32>,
     pub stack: Vec<u32>,
     ghost globals_fit: { length globals.items ≤ 262144 },
-    ghost stack_fits: { stack_base + 4 * length stack.items ≡ stack_end },
+    ghost stack_fits: { 4194304 ≤ vec_capacity stack },
 }
 
 fn word_of(words: &[u32], place: usize) -> u32
@@ -27,6 +27,38 @@ fn word_of(words: &[u32], place: usize) -> u32
     ensures range { result < 2 ^ 32 }
 {
     words[place]
+}
+
+// The word at a place, 0 behind those that are held.
+fn word_or_zero(words: &[u32], place: usize) -> u32
+    ensures value { result ≡ slice_index words.now place }
+    ensures range { result < 2 ^ 32 }
+{
+    match words.get(place) {
+        Some(word) => *word,
+        None => 0,
+    }
+}
+
+// The place of the stack's word that holds the byte at an address.
+fn stack_place(a: u32) -> usize
+    requires { a < stack_end }
+    ensures value { result ≡ (stack_end - 1 - a) / 4 }
+    ensures below { stack_base ≤ a → result < 4194304 }
+{
+    ((STACK_END - 1 - a) / 4) as usize
+}
+
+// Zeros up to a place.
+fn reach(stack: &mut Vec<u32>, place: usize)
+    requires { place < vec_capacity stack.old }
+    ensures held { place < length stack.new.items }
+    ensures same { (k : ℕ) → slice_index stack.new.items k ≡ slice_index stack.old.items k }
+    ensures room { vec_capacity stack.new ≡ vec_capacity stack.old }
+{
+    while stack.len() <= place {
+        stack.push_reserved(0);
+    }
 }
 
 // The byte at a place of a word, the highest first.
@@ -63,7 +95,7 @@ impl Memory {
         ensures range { result < 2 ^ 32 }
     {
         if STACK_BASE <= a {
-            word_of(&self.stack, ((a - STACK_BASE) / 4) as usize)
+            word_or_zero(&self.stack, stack_place(a))
         } else {
             word_of(&self.globals, ((a - DATA_BASE) / 4) as usize)
         }
@@ -77,7 +109,9 @@ impl Memory {
         ensures length { length self.new.globals.items ≡ length self.old.globals.items }
     {
         if STACK_BASE <= a {
-            self.stack[((a - STACK_BASE) / 4) as usize] = word;
+            let place = stack_place(a);
+            reach(&mut self.stack, place);
+            self.stack[place] = word;
         } else {
             self.globals[((a - DATA_BASE) / 4) as usize] = word;
         }
@@ -114,18 +148,12 @@ impl Memory {
     }
 }
 
-fn copies_of_zero(alloc: Global, count: usize) -> Result<Vec<u32>, AllocError>
-    ensures { IfOk result (λ v. v.items ≡ replicate count 0) }
+// A stack that holds nothing yet, with room for all of it.
+fn empty_stack(alloc: Global) -> Result<Vec<u32>, AllocError>
+    ensures items { IfOk result (λ v. v.items ≡ []) }
+    ensures room { IfOk result (λ v. 4194304 ≤ vec_capacity v) }
 {
-    vec![in alloc; 0; count]
-}
-
-// So many zeros, said of each: a numeral for the count must not meet `replicate`, which would compute.
-fn zeros(alloc: Global, count: usize) -> Result<Vec<u32>, AllocError>
-    ensures length { IfOk result (λ v. length v.items ≡ count) }
-    ensures zero { IfOk result (λ v. (k : ℕ) → slice_index v.items k ≡ 0) }
-{
-    copies_of_zero(alloc, count)
+    Vec::with_capacity(alloc, STACK_WORDS)
 }
 
 // A byte, 0 behind the end.
@@ -171,6 +199,6 @@ pub fn memory_of(alloc: Global, bytes: &[u8]) -> Result<Memory, AllocError>
     ensures bytes { IfOk result (λ m. bytes_in m.globals.items m.stack.items ≡ first_bytes bytes.now) }
 {
     let globals = words_of(alloc, bytes)?;
-    let stack = zeros(alloc, STACK_WORDS)?;
+    let stack = empty_stack(alloc)?;
     Ok(Memory { globals, stack })
 }

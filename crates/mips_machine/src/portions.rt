@@ -34,7 +34,7 @@ impl<'a> Machine<'a> {
                     words: ran,
                 });
             }
-            if outputs <= self.output.len() {
+            if outputs <= self.state.output.len() {
                 return Ok(Portion {
                     end: None,
                     words: ran,
@@ -52,7 +52,7 @@ impl<'a> Machine<'a> {
         ensures machine { machine_of self.new ≡ emptied (machine_of self.old) }
         ensures code { self.new.code ≡ self.old.code }
     {
-        self.output.clear();
+        self.state.output.clear();
     }
 }
 

@@ -1,15 +1,17 @@
-// Registers, HI, LO, and the load under way.
+// What actions do to registers, HI, LO and memory, and the load under way.
 ghost use Rattle.std.specs.Prelude.{◌≡◌, ◌≤◌, ℕ, None, true, length, slice_index, IfOk, IfErr};
 ghost use Rattle.words.specs.Operators.{op_value, has_quotient};
 ghost use Rattle.mips_isa.specs.MemoryMap.{stack_end};
 ghost use Rattle.mips_isa.specs.Starting.{start_state};
 ghost use Rattle.mips_isa.specs.States.{read, put, is_aligned, is_open, load_at, store_at};
+ghost use Rattle.mips_isa.specs.declared.action.Action.TheVariants.{Computes};
 ghost use Rattle.mips_isa.specs.Actions.{operand, address};
 ghost use Rattle.mips_isa.specs.Flows.{shown_state, pending_of, state_with_pending};
 ghost use Rattle.mips_machine.specs.Rules.{address_rule_of, place_rule_of, rule_told};
 ghost use Rattle.mips_machine.specs.Views.{state_of, pending_in};
 
-use crate::memory::{Memory, memory_of};
+use crate::memory::memory_of;
+use crate::registers::Registers;
 use mips_isa::{
     Action, NonzeroReg, Operand, Reg, Rule, STACK_END, product_high, product_low,
     quotient_operator, remainder_operator,
@@ -24,13 +26,20 @@ pub enum Load {
     Loaded { register: NonzeroReg, word: u32 },
 }
 
-/// The registers, HI, LO and the memory.
-#[derive(Drop)]
-pub struct Registers {
-    pub regs: [u32; 32],
-    pub hi: u32,
-    pub lo: u32,
-    pub memory: Memory,
+impl Load {
+    ghost use Rattle.std.specs.Prelude.{◌≡◌, false};
+    ghost use Rattle.mips_machine.specs.declared.state.Load.TheVariants.{Nothing};
+
+    // Whether a word is under way.
+    #[inline(always)]
+    pub(crate) fn is_some(&self) -> bool
+        ensures { result ≡ false → self.now ≡ Nothing }
+    {
+        match *self {
+            Load::Nothing => false,
+            Load::Loaded { .. } => true,
+        }
+    }
 }
 
 // The value of an operator, 0 where it has none.
@@ -56,14 +65,15 @@ fn is_aligned(width: Width, a: u32) -> bool
 
 impl Registers {
     /// What a register holds.
+    #[inline(always)]
     pub fn read(&self, r: Reg) -> u32
         ensures { result ≡ read 0 (state_of self.now).regs r }
     {
-        let index = r.index() as usize;
-        if index == 0 { 0 } else { self.regs[index] }
+        self.regs[r.index() as usize]
     }
 
     /// A register is written; register 0 loses the word.
+    #[inline(always)]
     pub fn put(&mut self, r: Reg, word: u32)
         ensures { state_of self.new ≡ record (state_of self.old) { regs = put (state_of self.old).regs r word } }
     {
@@ -131,6 +141,15 @@ impl Registers {
         }
     }
 
+    // A register takes the value of an operator.
+    #[inline(always)]
+    pub(crate) fn compute(&mut self, d: Reg, op: Operator, a: Reg, b: Operand)
+        ensures { state_of self.new ≡ shown_state (Computes d op a b) (state_of self.old) }
+    {
+        let word = value(op, self.read(a), self.operand(b));
+        self.put(d, word);
+    }
+
     /// Does an action, and gives what it loads. Where it breaks one of the rules on divisions and addresses, it isn't done and
     /// the least such rule is told.
     pub fn perform(&mut self, action: Action) -> Result<Load, Rule>
@@ -140,10 +159,7 @@ impl Registers {
         ensures err { IfErr result (λ r. state_of self.new ≡ state_of self.old) }
     {
         match action {
-            Action::Computes { d, op, a, b } => {
-                let word = value(op, self.read(a), self.operand(b));
-                self.put(d, word);
-            }
+            Action::Computes { d, op, a, b } => self.compute(d, op, a, b),
             Action::Sets { d, word } => self.put(d, word),
             Action::Loads {
                 width,
