@@ -2,7 +2,7 @@
 use Rattle.std.proofs.Common.{◌≡◌, ℕ, zero, suc, ◌+◌, ◌<◌, ◌++◌, true, false, cond, List, [], ◌∷◌, Option, Some, None, refl, sym, ap, ◌∙◌, arith}
 use Rattle.std.proofs.Common.{append_assoc, append-nil, inl, inr, ◌⊎◌, length, nat_lt, slice_get}
 use Rattle.runs.specs.Stores.{Places, Arrays, places_with}
-use Rattle.runs.specs.Runs.{Outcome, Running, Ended, Failed, with_value, outcome, steps}
+use Rattle.runs.specs.Runs.{Outcome, Running, Ended, Failed, with_value, outcome}
 use Rattle.runs.specs.Steps.{after_step, end_of, outcome_after}
 use Rattle.runs.specs.declared.reached.Reached.{Reached}
 use Rattle.runs.specs.declared.reached.Reached.TheVariants as Reach

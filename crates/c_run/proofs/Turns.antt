@@ -91,6 +91,14 @@ block-opened old mid new h s all slice e is opens slice-is pushed =
     popped new mid (Rest slice) pushed ∙ ap (λ xs. before_all (statements_of xs) k) slice-is
     ∙ sym (e ∙ ap (λ h. with_part h k) is ∙ ap (λ s. before (statement_of s) k) opens ∙ ap (λ s. before s k) (block-is all))
 
+-- a block that is put as the list that it is
+pub block-put : (old new : List Pending) (s : Bor TypedStatement) (all : Vec TypedStatement Global) (slice : Bor (List TypedStatement))
+    → s.now ≡ Block all → slice.now ≡ all.items → new ≡ old ++ Rest slice ∷ [] → todos new ≡ before (statement_of s.now) (todos old)
+block-put old new s all slice opens slice-is pushed =
+    let k = todos old in
+    popped new old (Rest slice) pushed ∙ ap (λ xs. before_all (statements_of xs) k) slice-is
+    ∙ sym (ap (λ s. before (statement_of s) k) opens ∙ ap (λ s. before s k) (block-is all))
+
 pub at-head : (old mid : List Pending) (h : Head) (s : Bor TypedStatement) (is_s : TypedStatement) → todos old ≡ with_head h (todos mid) → h ≡ Heads.Statement s
     → s.now ≡ is_s → todos old ≡ Do (statement_of is_s) ∷ todos mid
 at-head old mid h s is_s e is i = e ∙ ap (λ h. with_head h (todos mid)) is ∙ ap (λ s. Do (statement_of s) ∷ todos mid) i

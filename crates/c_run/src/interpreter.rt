@@ -9,7 +9,7 @@ ghost use Rattle.c_typed.specs.Meaning.{source_step};
 ghost use Rattle.runs.specs.Calls.{state_by, reached_by};
 ghost use Rattle.c_run.specs.Interpreter.{frame_of, Assigns, Calls, Returns, Does, DoesAtAnyDepth, DoesIn};
 
-use crate::pending::{Head, Pending, put, settle};
+use crate::pending::{Head, Pending, put, put_statement, settle};
 use crate::value::{arguments, value};
 use c_typed::{Destination, TypedExpression, TypedStatement};
 use c_types::Typed;
@@ -214,9 +214,9 @@ fn branch_on<'a>(
         return Ok(Reached::Failed);
     };
     if v == 0 {
-        put(&mut interpreter.frame.todo, Pending::One(second))?;
+        put_statement(&mut interpreter.frame.todo, second)?;
     } else {
-        put(&mut interpreter.frame.todo, Pending::One(first))?;
+        put_statement(&mut interpreter.frame.todo, first)?;
     }
     Ok(Reached::Going)
 }
@@ -237,7 +237,7 @@ fn repeat<'a>(
     };
     if v != 0 {
         put(&mut interpreter.frame.todo, Pending::Turn(last, again))?;
-        put(&mut interpreter.frame.todo, Pending::One(body))?;
+        put_statement(&mut interpreter.frame.todo, body)?;
     }
     Ok(Reached::Going)
 }

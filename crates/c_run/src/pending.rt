@@ -1,7 +1,8 @@
 // The statements that an active call still has to do.
 ghost use Rattle.std.specs.Prelude.{◌≡◌, ℕ, ◌++◌, ◌∷◌, [], OnOk, IfOk, None, length, ◌+◌, ◌≤◌};
 ghost use Rattle.runs.specs.Stores.{places_with};
-ghost use Rattle.c_typed.specs.Meaning.{next_point, Going};
+ghost use Rattle.c_typed.specs.Meaning.{before, next_point, Going};
+ghost use Rattle.c_typed.specs.Shape.{statement_of};
 ghost use Rattle.runs.specs.Kept.{places};
 ghost use Rattle.c_run.specs.Interpreter.{point_at, todos, with_head, with_part};
 ghost use Rattle.c_run.specs.Sizes.{weights, head_size};
@@ -35,25 +36,38 @@ pub(crate) fn put<'a>(todo: &mut Vec<Pending<'a>>, t: Pending<'a>) -> Result<(),
     Ok(())
 }
 
-// Takes a statement, which may be a list of them, or the end of a turn off the list.
-#[inline]
-fn take_one<'a>(todo: &mut Vec<Pending<'a>>) -> Result<Head<'a>, AllocError>
-    ensures same { IfOk result (λ h. todos todo.old.items ≡ with_part h (todos todo.new.items)) }
-    ensures less { IfOk result (λ h. weights todo.new.items + head_size h ≤ weights todo.old.items) }
+// A statement to do first; a block is the list that it is.
+pub(crate) fn put_statement<'a>(
+    todo: &mut Vec<Pending<'a>>,
+    s: &'a TypedStatement,
+) -> Result<(), AllocError>
+    ensures { OnOk result (todos todo.new.items ≡ before (statement_of s.now) (todos todo.old.items)) }
+{
+    match s {
+        TypedStatement::Block(all) => put(todo, Pending::Rest(all.as_slice())),
+        _ => put(todo, Pending::One(s)),
+    }
+}
+
+// Takes a statement, which may be a list of them, or the end of a turn off the list. A list stays where it is, one shorter.
+#[inline(always)]
+fn take_one<'a>(todo: &mut Vec<Pending<'a>>) -> Head<'a>
+    ensures same { todos todo.old.items ≡ with_part result (todos todo.new.items) }
+    ensures less { weights todo.new.items + head_size result ≤ weights todo.old.items }
 {
     while let Some(t) = todo.pop() {
         match t {
-            Pending::Turn(last, again) => return Ok(Head::Turn(last, again)),
-            Pending::One(s) => return Ok(Head::Statement(s)),
+            Pending::Turn(last, again) => return Head::Turn(last, again),
+            Pending::One(s) => return Head::Statement(s),
             Pending::Rest(all) => {
                 if let Some((s, rest)) = all.split_first() {
-                    put(todo, Pending::Rest(rest))?;
-                    return Ok(Head::Statement(s));
+                    todo.push_reserved(Pending::Rest(rest));
+                    return Head::Statement(s);
                 }
             }
         }
     }
-    Ok(Head::Nothing)
+    Head::Nothing
 }
 
 // Takes what comes first off the list.
@@ -62,7 +76,7 @@ fn take_first<'a>(todo: &mut Vec<Pending<'a>>) -> Result<Head<'a>, AllocError>
     ensures { IfOk result (λ h. todos todo.old.items ≡ with_head h (todos todo.new.items)) }
 {
     loop {
-        let head = take_one(todo)?;
+        let head = take_one(todo);
         match head {
             Head::Statement(s) => match s {
                 TypedStatement::Empty => {}
@@ -87,19 +101,18 @@ fn leave_turn(todo: &mut Vec<Pending>)
 }
 
 // To the end of the turn: where `continue` leads.
-fn to_turn(todo: &mut Vec<Pending>) -> Result<(), AllocError>
-    ensures { OnOk result (todos todo.new.items ≡ at_turn (todos todo.old.items)) }
+fn to_turn(todo: &mut Vec<Pending>)
+    ensures { todos todo.new.items ≡ at_turn (todos todo.old.items) }
 {
     while let Some(t) = todo.pop() {
         match t {
             Pending::Turn(_, _) => {
-                put(todo, t)?;
-                return Ok(());
+                todo.push_reserved(t);
+                return;
             }
             Pending::One(_) | Pending::Rest(_) => {}
         }
     }
-    Ok(())
 }
 
 // A local is unset.
@@ -132,7 +145,7 @@ pub(crate) fn settle<'a>(
             Head::Statement(s) => match s {
                 TypedStatement::Unset(number) => unset(locals, *number),
                 TypedStatement::Break => leave_turn(todo),
-                TypedStatement::Continue => to_turn(todo)?,
+                TypedStatement::Continue => to_turn(todo),
                 _ => return Ok(head),
             },
         }

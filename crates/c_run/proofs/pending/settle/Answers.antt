@@ -17,9 +17,9 @@ loop-head-preserved-in-Break c = break_settles c.loop-head.todo.items c.take_fir
 pub loop-head-smaller : goal.loop-head-smaller
 loop-head-smaller c = continue-shorter c.loop-head.todo.items c.take_first.new.todo.items c.to_turn.new.todo.items
     (at-head c.loop-head.todo.items c.take_first.new.todo.items c.in_ok-head.head c.in-Statement.s Continue c.in_ok-head.ensures c.in-Statement.is c.in-Continue.is)
-    c.in_ok-to_turn-in-Continue.ensures
+    c.to_turn.ensures
 
 pub loop-head-preserved : goal.loop-head-preserved
 loop-head-preserved c = continue_settles c.loop-head.todo.items c.take_first.new.todo.items c.to_turn.new.todo.items (places c.loop-head.locals)
     (at-head c.loop-head.todo.items c.take_first.new.todo.items c.in_ok-head.head c.in-Statement.s Continue c.in_ok-head.ensures c.in-Statement.is c.in-Continue.is)
-    c.in_ok-to_turn-in-Continue.ensures ∙ c.loop-head.invariant
+    c.to_turn.ensures ∙ c.loop-head.invariant

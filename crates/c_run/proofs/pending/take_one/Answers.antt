@@ -13,8 +13,8 @@ returns-in-One-clause-less c = one-less c.loop-t.todo.items c.pop.new.self.items
 
 pub returns-in-Some-split_first-clause-less : goal.returns-in-Some-split_first-clause-less
 returns-in-Some-split_first-clause-less c =
-    rest-less c.loop-t.todo.items c.pop.new.self.items c.put.new.todo.items c.in-Some.t c.in-Rest.all c.in-Some-split_first.rest c.in-Some-split_first.s _
-    c.in-Some.ensures.items c.in-Rest.is c.in-Some-split_first.ensures.cases.0 c.in_ok-put-in-Rest.ensures c.loop-t.invariant.less
+    rest-less c.loop-t.todo.items c.pop.new.self.items c.push_reserved.new.self.items c.in-Some.t c.in-Rest.all c.in-Some-split_first.rest c.in-Some-split_first.s _
+    c.in-Some.ensures.items c.in-Rest.is c.in-Some-split_first.ensures.cases.0 c.push_reserved.ensures.items c.loop-t.invariant.less
 
 pub loop-t-preserved : goal.loop-t-preserved
 loop-t-preserved c = record {
