@@ -27,7 +27,7 @@ abbrev pub may_begin : ℕ → List ℕ → Bool
 may_begin b [] = true
 may_begin b (a ∷ more) = nat_eq a b
 
-abbrev pub beginning : ℕ → List (List ℕ × Option Mark) → List (List ℕ × Option Mark)
+abbrev pub beginning : {A : Type 0} → ℕ → List (List ℕ × A) → List (List ℕ × A)
 beginning b [] = []
 beginning b (e ∷ es) = if may_begin b e.0 then e ∷ beginning b es else beginning b es
 

@@ -1,12 +1,12 @@
 // Words that are no identifiers: the keywords in use, and those that are refused (C99 6.4.1).
 ghost use Rattle.std.specs.Prelude.{◌≡◌, ◌<◌, length, take, map};
 ghost use Rattle.c_tokens.specs.Lexing.{word_lexeme, keyword_lexeme, keywords};
-ghost use Rattle.c_tokens.specs.Fronts.{word_length};
+ghost use Rattle.c_tokens.specs.Fronts.{beginning, word_length};
 ghost use Rattle.c_tokens.specs.Keywords.{keyword_of};
 ghost use Rattle.c_tokens.specs.Texts.{Fits};
 
 use crate::lexer::Lexeme;
-use crate::scan::{same, word_length};
+use crate::scan::{same, split, word_length};
 use crate::token::{JumpWord, Mark};
 
 /// What a keyword is: a mark, a word that leaves a place in the tree, or not in use.
@@ -24,54 +24,40 @@ pub struct Keyword {
     pub word: Reserved,
 }
 
-const KEYWORDS: [Keyword; 37] = [
+const WITH_I: [Keyword; 3] = [
     Keyword {
         spelling: b"int",
         word: Reserved::Marked(Mark::Int),
-    },
-    Keyword {
-        spelling: b"unsigned",
-        word: Reserved::Marked(Mark::Unsigned),
-    },
-    Keyword {
-        spelling: b"char",
-        word: Reserved::Marked(Mark::Char),
-    },
-    Keyword {
-        spelling: b"void",
-        word: Reserved::Marked(Mark::Void),
     },
     Keyword {
         spelling: b"if",
         word: Reserved::Marked(Mark::If),
     },
     Keyword {
-        spelling: b"else",
-        word: Reserved::Marked(Mark::Else),
+        spelling: b"inline",
+        word: Reserved::Unused,
+    },
+];
+
+const WITH_U: [Keyword; 2] = [
+    Keyword {
+        spelling: b"unsigned",
+        word: Reserved::Marked(Mark::Unsigned),
     },
     Keyword {
-        spelling: b"while",
-        word: Reserved::Marked(Mark::While),
+        spelling: b"union",
+        word: Reserved::Unused,
     },
+];
+
+const WITH_C: [Keyword; 4] = [
     Keyword {
-        spelling: b"for",
-        word: Reserved::Marked(Mark::For),
-    },
-    Keyword {
-        spelling: b"break",
-        word: Reserved::Jumping(JumpWord::Break),
+        spelling: b"char",
+        word: Reserved::Marked(Mark::Char),
     },
     Keyword {
         spelling: b"continue",
         word: Reserved::Jumping(JumpWord::Continue),
-    },
-    Keyword {
-        spelling: b"return",
-        word: Reserved::Jumping(JumpWord::Return),
-    },
-    Keyword {
-        spelling: b"auto",
-        word: Reserved::Unused,
     },
     Keyword {
         spelling: b"case",
@@ -81,6 +67,76 @@ const KEYWORDS: [Keyword; 37] = [
         spelling: b"const",
         word: Reserved::Unused,
     },
+];
+
+const WITH_V: [Keyword; 2] = [
+    Keyword {
+        spelling: b"void",
+        word: Reserved::Marked(Mark::Void),
+    },
+    Keyword {
+        spelling: b"volatile",
+        word: Reserved::Unused,
+    },
+];
+
+const WITH_E: [Keyword; 3] = [
+    Keyword {
+        spelling: b"else",
+        word: Reserved::Marked(Mark::Else),
+    },
+    Keyword {
+        spelling: b"enum",
+        word: Reserved::Unused,
+    },
+    Keyword {
+        spelling: b"extern",
+        word: Reserved::Unused,
+    },
+];
+
+const WITH_W: [Keyword; 1] = [Keyword {
+    spelling: b"while",
+    word: Reserved::Marked(Mark::While),
+}];
+
+const WITH_F: [Keyword; 2] = [
+    Keyword {
+        spelling: b"for",
+        word: Reserved::Marked(Mark::For),
+    },
+    Keyword {
+        spelling: b"float",
+        word: Reserved::Unused,
+    },
+];
+
+const WITH_B: [Keyword; 1] = [Keyword {
+    spelling: b"break",
+    word: Reserved::Jumping(JumpWord::Break),
+}];
+
+const WITH_R: [Keyword; 3] = [
+    Keyword {
+        spelling: b"return",
+        word: Reserved::Jumping(JumpWord::Return),
+    },
+    Keyword {
+        spelling: b"register",
+        word: Reserved::Unused,
+    },
+    Keyword {
+        spelling: b"restrict",
+        word: Reserved::Unused,
+    },
+];
+
+const WITH_A: [Keyword; 1] = [Keyword {
+    spelling: b"auto",
+    word: Reserved::Unused,
+}];
+
+const WITH_D: [Keyword; 3] = [
     Keyword {
         spelling: b"default",
         word: Reserved::Unused,
@@ -93,38 +149,19 @@ const KEYWORDS: [Keyword; 37] = [
         spelling: b"double",
         word: Reserved::Unused,
     },
-    Keyword {
-        spelling: b"enum",
-        word: Reserved::Unused,
-    },
-    Keyword {
-        spelling: b"extern",
-        word: Reserved::Unused,
-    },
-    Keyword {
-        spelling: b"float",
-        word: Reserved::Unused,
-    },
-    Keyword {
-        spelling: b"goto",
-        word: Reserved::Unused,
-    },
-    Keyword {
-        spelling: b"inline",
-        word: Reserved::Unused,
-    },
-    Keyword {
-        spelling: b"long",
-        word: Reserved::Unused,
-    },
-    Keyword {
-        spelling: b"register",
-        word: Reserved::Unused,
-    },
-    Keyword {
-        spelling: b"restrict",
-        word: Reserved::Unused,
-    },
+];
+
+const WITH_G: [Keyword; 1] = [Keyword {
+    spelling: b"goto",
+    word: Reserved::Unused,
+}];
+
+const WITH_L: [Keyword; 1] = [Keyword {
+    spelling: b"long",
+    word: Reserved::Unused,
+}];
+
+const WITH_S: [Keyword; 6] = [
     Keyword {
         spelling: b"short",
         word: Reserved::Unused,
@@ -149,18 +186,14 @@ const KEYWORDS: [Keyword; 37] = [
         spelling: b"switch",
         word: Reserved::Unused,
     },
-    Keyword {
-        spelling: b"typedef",
-        word: Reserved::Unused,
-    },
-    Keyword {
-        spelling: b"union",
-        word: Reserved::Unused,
-    },
-    Keyword {
-        spelling: b"volatile",
-        word: Reserved::Unused,
-    },
+];
+
+const WITH_T: [Keyword; 1] = [Keyword {
+    spelling: b"typedef",
+    word: Reserved::Unused,
+}];
+
+const WITH_UNDERSCORE: [Keyword; 3] = [
     Keyword {
         spelling: b"_Bool",
         word: Reserved::Unused,
@@ -174,6 +207,31 @@ const KEYWORDS: [Keyword; 37] = [
         word: Reserved::Unused,
     },
 ];
+
+/// The keywords that begin with a byte.
+fn beginning(first: u8) -> &'static [Keyword]
+    ensures { map keyword_of result.now ≡ beginning first keywords }
+{
+    match first {
+        b'i' => &WITH_I,
+        b'u' => &WITH_U,
+        b'c' => &WITH_C,
+        b'v' => &WITH_V,
+        b'e' => &WITH_E,
+        b'w' => &WITH_W,
+        b'f' => &WITH_F,
+        b'b' => &WITH_B,
+        b'r' => &WITH_R,
+        b'a' => &WITH_A,
+        b'd' => &WITH_D,
+        b'g' => &WITH_G,
+        b'l' => &WITH_L,
+        b's' => &WITH_S,
+        b't' => &WITH_T,
+        b'_' => &WITH_UNDERSCORE,
+        _ => &[],
+    }
+}
 
 fn lexeme_of_keyword(word: Reserved, length: usize) -> Lexeme
     ensures { result ≡ keyword_lexeme word length }
@@ -207,5 +265,8 @@ pub fn word(text: &[u8]) -> Lexeme
     ensures fits { Fits result (length text.now) }
 {
     let n = word_length(text);
-    look_up(&KEYWORDS, &text[..n])
+    let Some((first, _)) = split(text) else {
+        unreachable!();
+    };
+    look_up(beginning(first), &text[..n])
 }

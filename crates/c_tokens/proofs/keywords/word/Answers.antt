@@ -1,6 +1,17 @@
+use Rattle.std.proofs.Common.{◌<◌, subst, sym}
 use Rattle.c_tokens.specs.Lexing.{keywords}
+use Rattle.c_tokens.proofs.Beginning.{some_of, word_ends, word_there}
 use Rattle.c_tokens.proofs.Fitting.{looked-up-fits}
 use Rattle.c_tokens.proofs.keywords.word.Goals as goal
 
+pub returns-clause-same : goal.returns-clause-same
+returns-clause-same c =
+    word_ends _ _ _ _
+    (word_there _ _ _ _ _ _ c.look_up.ensures c.beginning.ensures (some_of _ c.in-Some.is c.split.ensures.some)
+    (subst (λ n. 0 < n) (sym c.word_length-n.ensures.same) c.requires)) c.word_length-n.ensures.same
+
 pub returns-clause-fits : goal.returns-clause-fits
-returns-clause-fits c = looked-up-fits keywords _ _ _ c.look_up.ensures c.word_length-n.ensures.same c.requires
+returns-clause-fits c =
+    looked-up-fits keywords _ _ _
+    (word_there _ _ _ _ _ _ c.look_up.ensures c.beginning.ensures (some_of _ c.in-Some.is c.split.ensures.some)
+    (subst (λ n. 0 < n) (sym c.word_length-n.ensures.same) c.requires)) c.word_length-n.ensures.same c.requires
