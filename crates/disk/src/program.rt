@@ -59,6 +59,15 @@ fn work<
     }
 }
 
+/// The most bytes that glibc asks the system for apart from its heap.
+const APART: usize = 32 << 20;
+
+/// Has the allocator reuse the memory of large lists: glibc takes from its heap what is smaller than a block that it gave back to the
+/// system (`M_MMAP_THRESHOLD` of mallopt(3)). Nothing changes if the block is refused.
+fn reuse_large_memory(alloc: Global) {
+    let _block: Result<Vec<u8>, _> = Vec::with_capacity(alloc, APART);
+}
+
 /// Has the program answer on a thread whose stack is as large as the texts ask that its words name. If no such thread can be
 /// had, memory was refused.
 fn work_apart<P: Program + Sync>(
@@ -95,6 +104,7 @@ pub fn run<P: Program + Sync>(
     threads: &(impl Threads + Wait + Sync),
     rt: &HostRuntime,
 ) -> ExitCode {
+    reuse_large_memory(rt.alloc());
     let mut err = rt.stderr();
     let owned = match owned_words(rt) {
         Ok(owned) => owned,
