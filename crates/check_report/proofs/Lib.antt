@@ -1,4 +1,4 @@
 pub mod FaultsShown
-pub mod OneReading
+pub mod OneFile
 pub mod Counts
 pub mod EachFile

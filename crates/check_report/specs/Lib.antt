@@ -2,4 +2,3 @@ pub mod Command
 pub mod Several
 -- words of private functions
 pub mod Line
-pub mod Stretch

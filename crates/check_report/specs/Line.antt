@@ -1,60 +1,22 @@
--- What is read and said of one of several files, as private functions see it.
-use Rattle.std.specs.Prelude.{◌≡◌, ◌<◌, ◌+◌, ◌-◌, ◌^◌, ◌⊎◌, ℕ, min, List, [], ◌∷◌, ◌++◌, Bool, true, ⊤, codes, length, get_or}
-use Rattle.std.specs.List.{FoldsTo}
-use Rattle.commands.specs.Requests.{Request, TellsLine, reading_fault}
-use Rattle.commands.specs.Requests.Request.{Read, NotRead}
+-- What is said of several files, one after another, as private functions see it.
+use Rattle.std.specs.Prelude.{◌≡◌, ◌+◌, ◌-◌, ◌^◌, ◌⊎◌, ℕ, min, List, [], ◌∷◌, ◌++◌, All, Bool, true, Option, codes, fold, map}
+use Rattle.std.specs.List.{FoldsTo, flat_map}
+use Rattle.std.specs.Io.KnownBytes.{Appends}
+use Rattle.commands.specs.Requests.{Request, TellsLine}
 use Rattle.commands.specs.Texts.{host_fault_text, shown_name}
-use Rattle.commands.specs.declared.files.FileFault.{FileFault}
 use Rattle.commands.specs.declared.fault.HostFault.TheVariants.{NoMemory}
-use Rattle.check_command.specs.Checks.{IsAnswerTo, IsCheckFault}
 use Rattle.check_report.specs.Command.{IsMore}
-use Rattle.check_report.specs.Several.{CheckedFile, IsRight, faults_of, more_of, name_of, request_of, said_of, status_of, worse}
+use Rattle.check_report.specs.Several.{CheckedFile, IsRight, faults_of, lines_of, more_of, name_of, no_totals, request_of, said_of, status_of, worse}
 use Rattle.check_report.specs.Several.CheckedFile.{Answered, Unexplained, Faulty, Unread}
 use Rattle.check_report.specs.declared.totals.Totals.{Totals}
 use Rattle.check_command.specs.Texts.{answer_text, check_fault_text, exit_status}
-use Rattle.check_report.specs.declared.readings.Reading.{Reading}
-use Rattle.check_report.specs.declared.readings.Reading.TheVariants as reads
 use Rattle.check_report.specs.declared.said.Said.{Said}
 use Rattle.check_report.specs.declared.said.Said.TheVariants as says
 use Rattle.check_report.specs.declared.said.FileLine.{FileLine}
 use Rattle.check_command.specs.declared.verdicts.CheckAnswer.{CheckAnswer}
 use Rattle.check_command.specs.declared.verdicts.CheckAnswer.TheVariants as answers
-use Rattle.check_command.specs.declared.verdicts.CheckFault.TheVariants.{Size}
 
--- what was read of the file of this name, by this request
-abbrev pub IsReading : List ℕ → Reading → Request → Type 0
-IsReading name (reads.Text text) request = request ≡ Read name text.items
-IsReading name reads.TooLong request = (text : List ℕ) × (2 ^ 20 < length text) × (request ≡ Read name text)
-IsReading name (reads.Failed fault) request = (why : FileFault) × (fault ≡ reading_fault why) × (request ≡ NotRead name why)
-
--- the same of files, in order
-abbrev pub AreRead : List (List ℕ) → List Reading → List Request → Type 0
-AreRead [] [] [] = ⊤
-AreRead [] [] (request ∷ requests) = ⊥
-AreRead [] (reading ∷ readings) requests = ⊥
-AreRead (name ∷ names) [] requests = ⊥
-AreRead (name ∷ names) (reading ∷ readings) [] = ⊥
-AreRead (name ∷ names) (reading ∷ readings) (request ∷ requests) = IsReading name reading request × AreRead names readings requests
-
--- what is said of what was read
-abbrev pub IsSaid : Reading → Said → Type 0
-IsSaid (reads.Text text) (says.Answer answer) = IsAnswerTo text.items answer
-IsSaid (reads.Text text) (says.Text fault) = IsCheckFault text.items fault
-IsSaid (reads.Text text) (says.Host fault) = ⊥
-IsSaid reads.TooLong (says.Answer answer) = ⊥
-IsSaid reads.TooLong (says.Text fault) = fault ≡ Size
-IsSaid reads.TooLong (says.Host fault) = ⊥
-IsSaid (reads.Failed why) (says.Answer answer) = ⊥
-IsSaid (reads.Failed why) (says.Text fault) = ⊥
-IsSaid (reads.Failed why) (says.Host fault) = fault ≡ why
-
--- the same at a place, and at each
-abbrev pub IsSaidAt : List Reading → ℕ → Said → Type 0
-IsSaidAt readings i said = (d : Reading) → IsSaid (get_or readings i d) said
-
-abbrev pub AreSaid : List Reading → List Said → Type 0
-AreSaid readings said = (i : ℕ) (d : Said) → i < length readings → IsSaidAt readings i (get_or said i d)
-
+-- what the line of a file says behind its name, and the status of that
 abbrev pub said_text : Said → List ℕ
 said_text (says.Answer answer) = answer_text answer
 said_text (says.Text fault) = check_fault_text fault
@@ -118,3 +80,14 @@ IsAnswerLine tells err_old err_new explain answer line =
     ((line.said ≡ says.Answer answer) × IsMore explain line.more.items × (err_new ≡ err_old))
     ⊎ ((line.said ≡ says.Host NoMemory) × (line.more.items ≡ []) × (explain ≡ true)
     × TellsLine tells err_old (host_fault_text NoMemory) err_new)
+
+-- the files of these names were checked, one after another, and have these totals
+pub record AreChecked {F E : Type 0} (answers : F → Request → F → Type 0) (old new : F) (out_old out_new : Option (List ℕ))
+    (tells : E → List ℕ → E → Type 0) (err_old err_new : E) (explain : Bool) (names : List (List ℕ)) (totals : Totals) : Type 0 where
+  pub files : List CheckedFile
+  pub right : All (IsRight explain) files
+  pub named : map name_of files ≡ names
+  pub asked : FoldsTo answers old (map request_of files) new
+  pub took : Appends out_old out_new (flat_map lines_of files)
+  pub told : FoldsTo (TellsLine tells) err_old (flat_map faults_of files) err_new
+  pub counted : totals ≡ fold kept_after no_totals files

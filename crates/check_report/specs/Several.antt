@@ -1,10 +1,10 @@
 -- What `mcc check FILE FILE ..` asks of its files, prints and ends by.
-use Rattle.std.specs.Prelude.{◌≡◌, ◌==◌, ◌||◌, ◌≤◌, if◌then◌else◌, ℕ, List, [], ◌∷◌, ◌++◌, All, Bool, true, Option, ⊤}
+use Rattle.std.specs.Prelude.{◌≡◌, ◌==◌, ◌||◌, if◌then◌else◌, ℕ, List, [], ◌∷◌, ◌++◌, All, Bool, true, Option, ⊤}
 use Rattle.std.specs.Prelude.{◌+◌, map, fold, length, max, codes, decimal}
-use Rattle.std.specs.List.{AllZip, FoldsTo, flat_map}
+use Rattle.std.specs.List.{FoldsTo, flat_map}
 use Rattle.std.specs.Io.KnownBytes.{Appends}
 use Rattle.commands.specs.Requests.{Request, TellsLine, reading_fault}
-use Rattle.commands.specs.Requests.Request.{Read, NotRead, Written, NotWritten}
+use Rattle.commands.specs.Requests.Request.{Read, NotRead}
 use Rattle.commands.specs.Texts.{host_fault_text, shown_name}
 use Rattle.commands.specs.declared.files.FileFault.{FileFault}
 use Rattle.commands.specs.declared.fault.HostFault.TheVariants.{CannotWrite, NoMemory}
@@ -137,16 +137,8 @@ abbrev pub first_told : List (List ℕ) → List ℕ
 first_told [] = host_fault_text CannotWrite
 first_told (line ∷ lines) = line
 
--- the request reads the file of this name
-abbrev pub Reads : List ℕ → Request → Type 0
-Reads name (Read file text) = file ≡ name
-Reads name (NotRead file fault) = file ≡ name
-Reads name (Written file text) = ⊥
-Reads name (NotWritten file text fault) = ⊥
-
--- standard output refused the lines of one of the files, or to send them on: the files up to it were read, and perhaps up to 63 more
--- after them, of which nothing was told; the first line that was told is that of the first fault of these files, or of that refusal
+-- standard output refused the lines of one of the files, or to send them on: the files up to it were read, and none after it; the
+-- first line that was told is that of the first fault of these files, or of that refusal
 pub data BreaksOff (explain : Bool) (names : List (List ℕ)) (silent refused : Type 0) : List Request → List ℕ → Type 0 where
-  breaks : (files : List CheckedFile) (ahead rest : List (List ℕ)) (behind : List Request) → All (IsRight explain) files
-      → map name_of files ++ (ahead ++ rest) ≡ names → AllZip Reads ahead behind → length ahead ≤ 63 → refused
-      → BreaksOff explain names silent refused (map request_of files ++ behind) (first_told (flat_map faults_of files))
+  breaks : (files : List CheckedFile) (rest : List (List ℕ)) → All (IsRight explain) files → map name_of files ++ rest ≡ names → refused
+      → BreaksOff explain names silent refused (map request_of files) (first_told (flat_map faults_of files))

@@ -3,8 +3,8 @@
 //! Definitions: `specs/Command.antt`, `specs/Several.antt`.
 //! Contract: `check_files`, `ExplainedAnswer`, `print_explained`
 //! - `--explain` prints the same answer, then printable lines.
-//! - Of several files each is read in order and has its own answer, whatever the number of workers. The status is the worst, and the last
-//!   line has the totals.
+//! - Of several files each is read, checked and printed before the next one is read. The status is the worst, and the last line has
+//!   the totals.
 //!
 //! | Tested | In |
 //! |---|---|
@@ -13,7 +13,6 @@
 
 mod command;
 mod explain;
-mod readings;
 mod said;
 mod several;
 mod totals;

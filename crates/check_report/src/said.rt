@@ -1,20 +1,18 @@
 // The line of one of several files: what it says, and the lines behind that.
 
-ghost use Rattle.std.specs.Prelude.{◌≡◌, ◌≢◌, ◌<◌, ◌≤◌, [], ◌∷◌, ◌++◌, length, true, Some, IfErr, IfOk, OnErr, OnOk};
+ghost use Rattle.std.specs.Prelude.{◌≡◌, [], true, Some, IfErr, IfOk, OnErr, OnOk};
 ghost use Rattle.std.specs.Io.KnownBytes.{Appends};
 ghost use Rattle.check_command.specs.Texts.{IsCheckStatus};
 ghost use Rattle.check_report.specs.Command.{IsMore};
-ghost use Rattle.check_report.specs.Line.{AreSaid, IsAnswerLine, IsChecked, IsReading, IsSaid, IsSaidAt};
-ghost use Rattle.check_report.specs.Line.{line_text, said_status, said_text};
+ghost use Rattle.check_report.specs.Line.{IsAnswerLine, IsChecked, line_text, said_status, said_text};
 ghost use Rattle.commands.specs.Requests.{Request, WasRefused};
+ghost use Rattle.commands.specs.Requests.Request.{Read};
 
 use crate::explain::explanation_lines;
-use crate::readings::Reading;
 use check_command::{CheckAnswer, CheckFault, check, status_of, tell_check};
-use commands::{Complaints, HostFault, Output, print_name, tell, tell_unread};
+use commands::{Complaints, Files, HostFault, Output, print_name, read_file, tell, tell_unread};
 use std::alloc::{AllocError, Global};
-use std::thread::{Threads, available_parallelism};
-use std::{fmt, io, thread};
+use std::{fmt, io};
 
 /// What the line of a file says behind its name.
 #[derive(Clone, Copy)]
@@ -54,54 +52,6 @@ impl Said {
             Said::Text(_) | Said::Host(_) => 1,
         }
     }
-}
-
-/// What is to be said of what was read of a file.
-fn judge(alloc: Global, reading: &Reading) -> Said
-    ensures { IsSaid reading.now result }
-{
-    match reading {
-        Reading::Text(text) => match check(alloc, text.as_slice()) {
-            Ok(answer) => Said::Answer(answer),
-            Err(fault) => Said::Text(fault),
-        },
-        Reading::TooLong => Said::Text(CheckFault::Size),
-        Reading::Failed(fault) => Said::Host(*fault),
-    }
-}
-
-/// As many workers as there are processors, one at least and 64 at most.
-fn workers(threads: &impl Threads) -> usize
-    ensures { (0 < result) × (result ≤ 64) }
-{
-    match available_parallelism(threads) {
-        Ok(count) => count.get().min(64),
-        Err(_) => 1,
-    }
-}
-
-/// What is to be said of each file, by as many workers as there are processors. Where a thread can't be had, one that is there does
-/// its work.
-pub(crate) fn judge_each<T: Threads + Sync>(
-    threads: &T,
-    alloc: Global,
-    readings: &[Reading],
-    said: &mut [Said],
-)
-    requires { length said.old ≡ length readings.now }
-    ensures places { length said.new ≡ length readings.now }
-    ensures each { AreSaid readings.now said.new }
-{
-    let workers = workers(threads);
-    thread::for_each_mut(
-        threads,
-        said,
-        workers,
-        &|i, one: &mut Said|
-            requires { i < length readings.now }
-            ensures { IsSaidAt readings.entry.now i one.exit.now }
-        { *one = judge(alloc, &readings[i]) },
-    );
 }
 
 /// The lines behind an answer; Err where memory is refused to an explanation.
@@ -153,27 +103,40 @@ fn answer_line<E: Complaints>(
     }
 }
 
-/// What is printed of a file; its fault, if it has one, is told.
-pub(crate) fn line_of<E: Complaints>(
+/// What is printed of a text; its fault, if it has one, is told.
+fn check_text<E: Complaints>(
     alloc: Global,
     name: &str,
     explain: bool,
-    reading: &Reading,
-    said: Said,
+    text: &[u8],
     err: &mut E,
 ) -> FileLine
-    requires { IsSaid reading.now said }
-    ensures { (r : Request) → IsReading name.now reading.now r → IsChecked r E.tells err.old err.new explain name.now result }
+    ensures { IsChecked (Read name.now text.now) E.tells err.old err.new explain name.now result }
 {
-    match said {
-        Said::Answer(answer) => answer_line(alloc, explain, reading.bytes(), answer, err),
-        Said::Text(fault) => {
-            let _one = tell_check(alloc, err, name, reading.bytes(), fault);
-            bare(alloc, said)
+    match check(alloc, text) {
+        Ok(answer) => answer_line(alloc, explain, text, answer, err),
+        Err(fault) => {
+            let _one = tell_check(alloc, err, name, text, fault);
+            bare(alloc, Said::Text(fault))
         }
-        Said::Host(fault) => {
+    }
+}
+
+/// Reads a file and checks its text. The answer is what is printed of it; its fault, if it has one, is told.
+pub(crate) fn check_one<F: Files, E: Complaints>(
+    alloc: Global,
+    name: &str,
+    explain: bool,
+    files: &mut F,
+    err: &mut E,
+) -> FileLine
+    ensures { (r : Request) × F.answers files.old r files.new × IsChecked r E.tells err.old err.new explain name.now result }
+{
+    match read_file(alloc, name, files) {
+        Ok(text) => check_text(alloc, name, explain, text.as_slice(), err),
+        Err(fault) => {
             let _one = tell_unread(alloc, err, name, fault);
-            bare(alloc, said)
+            bare(alloc, Said::Host(fault))
         }
     }
 }

@@ -70,9 +70,9 @@ fn show_source<F: Files, W: Output, E: Complaints>(
     answer_file(alloc, &command, source, files, out, err)
 }
 
-/// Does what the words ask for (the first is the program's name), over its files and two writers; a build and a check of several files
-/// start threads. The answer is the exit status: 0 for `same`, `done`, a build, a listing, stages and help, 1 for a fault, 2 for
-/// wrong words and a build onto its source, 4 for `more`, 3 for any other answer; of several check texts the worst.
+/// Does what the words ask for (the first is the program's name), over its files and two writers; a build starts threads. The answer
+/// is the exit status: 0 for `same`, `done`, a build, a listing, stages and help, 1 for a fault, 2 for wrong words and a build onto its
+/// source, 4 for `more`, 3 for any other answer; of several check texts the worst.
 pub fn mcc<T: Threads + Wait + Sync, F: Files, W: Output, E: Complaints>(
     rt: &T,
     alloc: Global,
@@ -109,7 +109,7 @@ pub fn mcc<T: Threads + Wait + Sync, F: Files, W: Output, E: Complaints>(
                 files: names,
                 explain,
             },
-        ) => { check_files(rt, alloc, names.as_slice(), explain, files, out, err) }
+        ) => check_files(alloc, names.as_slice(), explain, files, out, err),
         Ok(Command::Interp(asked)) => interp_at(alloc, asked, files, out, err),
         Ok(Command::Build(asked)) => build_file(rt, alloc, &asked, files, out, err),
         Ok(Command::Run(asked)) => run_file(
