@@ -7,10 +7,10 @@ ghost use Rattle.image.specs.Images.{IsImageFault};
 
 use crate::listings::list_image;
 use crate::pages::PageCommand;
-use asm_text::source;
 use commands::{BadFile, Complaints};
 use image::{ImageFault, read_image};
 use run_command::tell_image;
+use show::assembler_source;
 use std::alloc::Global;
 
 /// The listing of an image's bytes, if they are those of one.
@@ -32,7 +32,7 @@ fn source_of(alloc: Global, bytes: &[u8]) -> Result<Vec<u8>, ImageFault>
         Ok(image) => image,
         Err(fault) => return Err(fault),
     };
-    match source(alloc, &image, &[]) {
+    match assembler_source(alloc, &image, &[]) {
         Ok(page) => Ok(page),
         Err(_) => Err(ImageFault::NoMemory),
     }

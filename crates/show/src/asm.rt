@@ -1,9 +1,9 @@
 // Where functions and globals are in an image.
 
+use crate::assembler::Label;
 use crate::listing::order_words;
 use crate::names::Names;
 use crate::numbers::Range;
-use asm_text::Label;
 use mblock::Order;
 use mips_isa::{CODE_BASE, DATA_BASE};
 use rtl::RGlobal;

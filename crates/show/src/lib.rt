@@ -1,14 +1,16 @@
-//! What becomes of a C text, stage by stage, as text for people, by the public calls of the layers.
+//! What becomes of a C text, stage by stage, and of an image as assembler source, as text for people.
 //!
-//! Contract: `show`
-//! - What is printed is printable ASCII in lines, and the source spells a program without errors.
+//! Contract: `show`, `assembler_source`
+//! - What is printed is printable ASCII in lines. What `show` prints is of a source that spells a program without errors.
 //!
 //! | Tested | In |
 //! |---|---|
 //! | each stage of three programs | tests/show |
+//! | the assembler source has the image's words | tests/images/assembler.case, `.ci/machines` |
 #![tactic(auto)]
 
 mod asm;
+mod assembler;
 mod back_edges;
 mod blocks;
 mod check;
@@ -24,5 +26,6 @@ mod stage;
 mod terms;
 mod wanted;
 
+pub use assembler::assembler_source;
 pub use program::{Shown, show};
 pub use wanted::{Asked, ShowFault};

@@ -4,6 +4,7 @@ ghost use Rattle.std.specs.Prelude.{All, IfOk};
 ghost use Rattle.block_text.specs.Shown.{IsShown};
 
 use crate::asm::labels_of;
+use crate::assembler::assembler_source;
 use crate::blocks::{callee, put_heading};
 use crate::check::put_check;
 use crate::dot::{put_blocks, put_rtl_blocks};
@@ -16,7 +17,6 @@ use crate::rtl_text::RtlView;
 use crate::stage::Stage;
 use crate::terms::put_terms;
 use crate::wanted::{Asked, ShowFault, Wanted};
-use asm_text::source;
 use block_text::{WIDTH, Writer, page_of};
 use delay_filler::FilledOrder;
 use image::Image;
@@ -237,7 +237,7 @@ impl<'a> View<'a> {
             scheduled.orders(),
             self.shown.rtl.globals(),
         )?;
-        let page = source(self.alloc, &image, labels.as_slice())?;
+        let page = assembler_source(self.alloc, &image, labels.as_slice())?;
         out.text(str::from_utf8(page.as_slice()).unwrap_or(""));
         Ok(())
     }

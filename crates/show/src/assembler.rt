@@ -1,13 +1,4 @@
 //! Images as assembler source, for GNU as and for SPIM.
-//!
-//! Contract: `source`
-//! - `source` gives printable ASCII and line ends.
-//!
-//! | Tested | In |
-//! |---|---|
-//! | the source has the image's words | tests/images/assembler.case, `.ci/machines` |
-#![tactic(auto)]
-
 ghost use Rattle.std.specs.Prelude.{All, IfOk};
 ghost use Rattle.block_text.specs.Shown.{IsShown};
 
@@ -259,7 +250,11 @@ fn put_data(out: &mut String, bytes: &[u8], labels: &[Label<'_>]) -> Result<(), 
 
 /// The assembler source of an image, with labels where the image has names: functions at words of the code, globals at words of the
 /// data. A name that is like a label of the source itself (`__start`, `L` and eight digits) is left out.
-pub fn source(alloc: Global, image: &Image, labels: &[Label<'_>]) -> Result<Vec<u8>, AllocError>
+pub fn assembler_source(
+    alloc: Global,
+    image: &Image,
+    labels: &[Label<'_>],
+) -> Result<Vec<u8>, AllocError>
     ensures { IfOk result (λ page. All IsShown page.items) }
 {
     let mut out = String::from_str(alloc, HEAD)?;
