@@ -135,7 +135,7 @@ const STEP_COUNT_HELP: &str = "Say on standard error how many steps ran; of C al
 
 const WORD_COUNT_HELP: &str = "Say on standard error how many words ran";
 
-const BLOCK_HELP: &str = "The block that is shown alone, by its number";
+const BLOCK_HELP: &str = "One block alone, by its number; homes, asm and --dot show all";
 
 const WORDS_HELP: &str = "Words until the run stops: 0 to 4294967295, or 1000000 if left out";
 
@@ -143,9 +143,9 @@ const STATUS_HELP: &str = "\
 Exit status: 0 for `same`, `done`, a build, a listing, stages and help, 1 for a fault (`fault N NAME` on standard error), 2 for
 wrong words, 4 for `more`, 3 for any other answer.
 
-Examples: mcc check crates/example_files/data/slot-filled.check
-          mcc interp crates/example_files/data/squares.c
-          mcc build crates/example_files/data/squares.c squares.image --plain";
+Examples: mcc check examples/checks/slot-filled.check
+          mcc interp examples/programs/squares.c
+          mcc build examples/programs/squares.c squares.image --plain";
 
 const SOURCE: Part<'static> = Part {
     id: "SOURCE",
