@@ -1,6 +1,6 @@
 #!/usr/bin/env python3
 """A block, the order that is proposed for it, what moved, and the verdict. Draws block-NAME.svg for some of
-crates/example_files/data, with the verdicts of tests/examples/check.case, which the gate compares with `mcc check`."""
+examples/checks, with the verdicts of tests/examples/check.case, which the gate compares with `mcc check`."""
 import re
 
 from draw import TOP, box, line, main, svg, text
@@ -10,7 +10,7 @@ LEFT, RIGHT, WIDE, STEP, FIRST = 20, 330, 210, 27, 34
 
 
 def read(name):
-    said = (TOP / f"crates/example_files/data/{name}.check").read_text()
+    said = (TOP / f"examples/checks/{name}.check").read_text()
     block, order = said.removeprefix("block\n").split("order\n")
     return block.splitlines(), order.splitlines()
 

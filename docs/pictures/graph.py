@@ -1,5 +1,5 @@
 #!/usr/bin/env python3
-"""The graph of main of crates/example_files/data/squares.c, as RTL and as blocks. Draws graph.svg from what tests/show/graphs.case says
+"""The graph of main of examples/programs/squares.c, as RTL and as blocks. Draws graph.svg from what tests/show/graphs.case says
 that `mcc show --dot` prints."""
 import re
 

@@ -9,7 +9,7 @@ import { Mcc } from '../mcc.mjs';
 import { bytesOf } from './module.mjs';
 
 const [, , page, program] = process.argv;
-const DATA = new URL('../../crates/example_files/data/', import.meta.url).pathname;
+const DATA = new URL('../../examples/programs/', import.meta.url).pathname;
 const room = fs.mkdtempSync(path.join(os.tmpdir(), 'mcc-times-'));
 const [source, image] = ['program.c', 'program.image'].map(name => path.join(room, name));
 const STEPS = 1_000_000;

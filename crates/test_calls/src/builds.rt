@@ -1,5 +1,4 @@
 //! Builds of C programs, and what their images do.
-use c_programs::Program;
 use delay_filler::FilledOrder;
 use driver::{BuildOpts, Built, build, build_one, run_image};
 use list_scheduler::{ListOrder, Reorder};
@@ -9,6 +8,14 @@ use std::alloc::Global;
 use std::sync::Wait;
 use std::thread::Threads;
 use steal_pool::Open;
+
+/// A C program with its name and the words that it writes.
+#[derive(Clone, Copy, Debug)]
+pub struct Program {
+    pub name: &'static str,
+    pub text: &'static str,
+    pub output: &'static [u32],
+}
 
 /// A loop over the elements of an array.
 pub const LOOP: Program = Program {
@@ -24,8 +31,15 @@ const CALLS: Program = Program {
     output: &[255],
 };
 
-/// Both.
-pub const OWN: &[Program] = &[LOOP, CALLS];
+/// Loads and stores of words and bytes, products and divisions. gcc's build prints the word.
+const ARRAYS: Program = Program {
+    name: "arrays",
+    text: "unsigned a[8];unsigned char b[8];int main(void){int i;unsigned s=0;for(i=0;i<8;i=i+1){a[i]=i*i+3;b[i]=a[i]*37;}for(i=0;i<8;i=i+1)s=s*31+a[7-i]/(b[i]%5+1);out(s);return 0;}",
+    output: &[1_965_273_128],
+};
+
+/// All of them.
+pub const OWN: &[Program] = &[LOOP, CALLS, ARRAYS];
 
 /// The scheduler of `mcc build`.
 pub const SCHEDULER: FilledOrder<ListOrder> = FilledOrder(ListOrder);

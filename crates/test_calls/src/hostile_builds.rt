@@ -2,8 +2,7 @@
 //! process, by one worker without threads, by many, and a thousand of them.
 ghost use Rattle.std.specs.Prelude.{⊤};
 
-use crate::builds::{LOOP, NODES, OWN, SCHEDULER, built, built_by_one, counted, prints};
-use c_programs::{Program, programs};
+use crate::builds::{LOOP, NODES, OWN, Program, SCHEDULER, built, built_by_one, counted, prints};
 use driver::Built;
 use list_scheduler::{Hostile, Reorder};
 use mblock::{Block, Order, plain};
@@ -49,11 +48,6 @@ fn images_by_one_worker_run_as_their_source(rt: HostRuntime) {
     }
 }
 
-// The programs of these tests, and those of `c_programs`.
-fn all_programs() -> [&'static [Program]; 2] {
-    [OWN, programs()]
-}
-
 // The first of the programs whose image by two workers doesn't run as its source.
 fn first_wrong<T: Threads + Wait + Sync, R: Reorder + Sync>(
     threads: &T,
@@ -73,10 +67,8 @@ fn first_wrong<T: Threads + Wait + Sync, R: Reorder + Sync>(
 #[test]
 fn images_by_two_workers_run_as_their_source(rt: HostRuntime) {
     for kind in KINDS {
-        for &programs in all_programs().as_slice() {
-            let wrong = first_wrong(&rt, rt.alloc(), programs, kind);
-            assert!(rt; wrong.is_none(), "{kind:?}, {wrong:?}");
-        }
+        let wrong = first_wrong(&rt, rt.alloc(), OWN, kind);
+        assert!(rt; wrong.is_none(), "{kind:?}, {wrong:?}");
     }
 }
 
@@ -106,10 +98,8 @@ fn first_ordered<T: Threads + Wait + Sync>(
 
 #[test]
 fn refused_memory_is_counted_as_that(rt: HostRuntime) {
-    for &programs in all_programs().as_slice() {
-        let ordered = first_ordered(&rt, rt.alloc(), programs);
-        assert!(rt; ordered.is_none(), "{ordered:?}");
-    }
+    let ordered = first_ordered(&rt, rt.alloc(), OWN);
+    assert!(rt; ordered.is_none(), "{ordered:?}");
 }
 
 // Proposes the plain order.
@@ -178,10 +168,8 @@ fn first_unequal<T: Threads + Wait + Sync>(
 
 #[test]
 fn images_are_equal_for_any_number_of_workers(rt: HostRuntime) {
-    for &programs in all_programs().as_slice() {
-        let unequal = first_unequal(&rt, rt.alloc(), programs);
-        assert!(rt; unequal.is_none(), "{unequal:?}");
-    }
+    let unequal = first_unequal(&rt, rt.alloc(), OWN);
+    assert!(rt; unequal.is_none(), "{unequal:?}");
 }
 
 // How many of so many builds make the image of the first.
