@@ -7,15 +7,15 @@ use Rattle.example_terms.specs.declared.label.Op.TheVariants.{Constant, Variable
 use Rattle.example_terms.specs.Labels.{op_kinds}
 
 are_kinds : AreKinds op_kinds
-are_kinds (Constant n) e = (grind arith, grind arith)
-are_kinds (Variable v) e = (grind arith, grind arith)
-are_kinds Add e = (omega arith, refl)
-are_kinds Multiply e = (omega arith, refl)
-are_kinds Less e = (omega arith, refl)
-are_kinds Select e = (omega arith, refl)
-are_kinds Memory e = (omega arith, refl)
-are_kinds Load e = (omega arith, refl)
-are_kinds Store e = (omega arith, refl)
+are_kinds (Constant n) e = (grind arith, grind arith, omega arith)
+are_kinds (Variable v) e = (grind arith, grind arith, omega arith)
+are_kinds Add e = (omega arith, refl, omega arith)
+are_kinds Multiply e = (omega arith, refl, omega arith)
+are_kinds Less e = (omega arith, refl, omega arith)
+are_kinds Select e = (omega arith, refl, omega arith)
+are_kinds Memory e = (omega arith, refl, omega arith)
+are_kinds Load e = (omega arith, refl, omega arith)
+are_kinds Store e = (omega arith, refl, omega arith)
 
 pub op_back : IsCoding (coding_of op_kinds)
 op_back = by_kinds op_kinds are_kinds

@@ -1,6 +1,7 @@
 -- What blocks mean, and what terms mean.
 use Rattle.std.specs.Prelude.{ℕ, ◌+◌, ◌*◌, ◌%◌, ◌^◌, ◌==◌, nat_lt, if◌then◌else◌, List, [], ◌∷◌, ◌++◌, map, get_or}
-use Rattle.term_labels.specs.Trees.{Tree, Trees, node, none, more}
+use Rattle.term_values.specs.Meanings.{Algebra}
+use Rattle.example_terms.specs.Labels.{op_coding}
 use Rattle.example_terms.specs.declared.block.Instruction.{Instruction}
 use Rattle.example_terms.specs.declared.block.Block.{Block}
 use Rattle.example_terms.specs.declared.label.Op.{Op}
@@ -25,8 +26,11 @@ abbrev pub stored : ℕ → ℕ → (ℕ → ℕ) → ℕ → ℕ
 stored a v memory k = if k == a then v else memory k
 
 -- an operand that isn't there is 0
+abbrev pub nothing : Value
+nothing = record { word = 0; memory = λ _. 0 }
+
 abbrev pub at : List Value → ℕ → Value
-at xs k = get_or xs k (record { word = 0; memory = λ _. 0 })
+at xs k = get_or xs k nothing
 
 -- what an operator makes of its operands
 abbrev pub made : Op → Environment → List Value → Value
@@ -52,11 +56,6 @@ values_in = values_behind []
 abbrev pub meaning : Block → Environment → Value
 meaning b e = let xs = values_in b.instructions.items e in record { word = (at xs b.value).word; memory = (at xs b.memory).memory }
 
--- what a term means
-abbrev mutual
-  pub value_of : Tree Op → Environment → Value
-  value_of (node l xs) e = made l e (values_of xs e)
-
-  pub values_of : Trees Op → Environment → List Value
-  values_of none e = []
-  values_of (more x xs) e = value_of x e ∷ values_of xs e
+-- what terms mean
+abbrev pub op_algebra : Algebra Op Value Environment
+op_algebra = record { coding = op_coding; made = made }

@@ -1,7 +1,7 @@
 //! What makes a value: the operator of an instruction, and the label at the root of a term.
 ghost use Rattle.std.specs.Prelude.{◌≡◌, [], ◌∷◌, IfSome};
 ghost use Rattle.term_labels.specs.Kinds.{coding_of};
-ghost use Rattle.example_terms.specs.Labels.{op_kinds};
+ghost use Rattle.example_terms.specs.Labels.{op_kinds, op_arity};
 ghost use Rattle.example_terms.specs.Back.{op_back};
 ghost use Rattle.example_terms.specs.Meaning.{Environment, made, just};
 
@@ -31,6 +31,17 @@ pub enum Op {
 }
 
 impl Op {
+    /// How many operands it has.
+    pub fn arity(self) -> usize
+        ensures { result ≡ op_arity self }
+    {
+        match self {
+            Op::Constant(_) | Op::Variable(_) | Op::Memory => 0,
+            Op::Select | Op::Store => 3,
+            Op::Add | Op::Multiply | Op::Less | Op::Load => 2,
+        }
+    }
+
     /// What an operator on words makes of two; None for all others.
     pub fn word(self, a: u32, b: u32) -> Option<u32>
         ensures { IfSome result (λ n. (e : Environment) → made self e (just e a ∷ just e b ∷ []) ≡ just e n) }

@@ -1,11 +1,12 @@
 //! Blocks to tickets: a block is run on terms.
 ghost use Rattle.std.specs.Prelude.{◌≡◌, ◌<◌, ◌≤◌, ◌++◌, [], ◌∷◌, List, length, map, slice_index, IfOk, IfSome};
-ghost use Rattle.term_labels.specs.Trees.{Tree, Trees, node};
 ghost use Rattle.term_table.specs.Passes.{IsOf};
 ghost use Rattle.term_table.specs.Trees.{Extends};
-ghost use Rattle.example_terms.specs.Labels.{op_coding};
-ghost use Rattle.example_terms.specs.Meaning.{Environment, just, made, value_of, values_of};
-ghost use Rattle.example_terms.specs.Standing.{HasTree, HaveTrees, HasSeen, HasSeenAll, IsValue, StandsFor, HasRun, AreAt};
+ghost use Rattle.term_table.specs.Terms.{HasSeenTerm, HasSeenTerms};
+ghost use Rattle.term_values.specs.Meanings.{Means, AllMean};
+ghost use Rattle.example_terms.specs.Labels.{op_coding, op_arity};
+ghost use Rattle.example_terms.specs.Meaning.{Environment, Value, just, made, op_algebra};
+ghost use Rattle.example_terms.specs.Standing.{StandFor, HasRun, AreAt};
 
 use crate::block::{Block, Instruction, Place};
 use crate::label::Op;
@@ -19,7 +20,7 @@ use thiserror::Error;
 pub enum Fault {
     #[error("an instruction or the block names a place that has no value yet")]
     NoValue,
-    #[error("an instruction has more than three operands")]
+    #[error("an instruction has too few or too many operands")]
     Operands,
     #[error("a pass has linked as many terms as it may")]
     Full,
@@ -63,11 +64,8 @@ fn values_at(
     values: &[Ticket],
     places: &[Place],
 ) -> Result<SmallVec<Ticket, 3>, Fault>
-    ensures { IfOk result (λ found. AreAt values.now places.now found.items × (length found.items ≤ 3)) }
+    ensures { IfOk result (λ found. AreAt values.now places.now found.items × (length found.items ≡ length places.now)) }
 {
-    if places.len() > 3 {
-        return Err(Fault::Operands);
-    }
     let mut found = SmallVec::new(alloc);
     for i in 0..places.len() {
         let Ok(()) = found.push(value_at(values, places[i])?) else {
@@ -80,10 +78,10 @@ fn values_at(
 // The word of a term, where it is a constant.
 fn known(table: &TermTable, pass: &mut Pass, ticket: Ticket) -> Option<u32>
     requires own { IsOf table.now pass.old }
-    requires seen { HasSeen pass.old ticket }
+    requires seen { HasSeenTerm op_coding pass.old ticket }
     ensures own { IsOf table.now pass.new }
     ensures extends { Extends pass.old pass.new }
-    ensures word { (x : Tree Op) → HasTree pass.old ticket x → IfSome result (λ n. (e : Environment) → value_of x e ≡ just e n) }
+    ensures word { (f : Environment → Value) → Means op_algebra pass.old ticket f → IfSome result (λ n. (e : Environment) → f e ≡ just e n) }
 {
     match table.read::<Op>(pass, ticket).label {
         Op::Constant(n) => Some(n),
@@ -92,13 +90,14 @@ fn known(table: &TermTable, pass: &mut Pass, ticket: Ticket) -> Option<u32>
 }
 
 // The word that an operator makes of two terms, where both are constants.
+#[tactic(auto, using(term_table::proofs::TermCallers::interning))]
 fn fold_constants(table: &TermTable, pass: &mut Pass, op: Op, operands: &[Ticket]) -> Option<u32>
     requires own { IsOf table.now pass.old }
-    requires seen { HasSeenAll pass.old operands.now }
+    requires seen { HasSeenTerms op_coding pass.old operands.now }
     ensures own { IsOf table.now pass.new }
     ensures extends { Extends pass.old pass.new }
-    ensures word { (xs : Trees Op) → HaveTrees pass.old operands.now xs
-        → IfSome result (λ n. (e : Environment) → made op e (values_of xs e) ≡ just e n) }
+    ensures word { (fs : Environment → List Value) → AllMean op_algebra pass.old operands.now fs
+        → IfSome result (λ n. (e : Environment) → made op e (fs e) ≡ just e n) }
 {
     if operands.len() != 2 {
         return None;
@@ -109,6 +108,7 @@ fn fold_constants(table: &TermTable, pass: &mut Pass, op: Op, operands: &[Ticket
 }
 
 // The ticket of what an operator makes of these terms. Constants are folded.
+#[tactic(auto, using(term_table::proofs::TermCallers::interning, term_table::proofs::TermCallers::still_seen_terms))]
 fn make(
     table: &TermTable,
     pass: &mut Pass,
@@ -116,12 +116,12 @@ fn make(
     operands: &[Ticket],
 ) -> Result<Ticket, TableFull>
     requires own { IsOf table.now pass.old }
-    requires seen { HasSeenAll pass.old operands.now }
-    requires few { length operands.now ≤ 3 }
+    requires seen { HasSeenTerms op_coding pass.old operands.now }
+    requires arity { length operands.now ≡ op_arity op }
     ensures own { IsOf table.now pass.new }
     ensures extends { Extends pass.old pass.new }
-    ensures value { (xs : Trees Op) → HaveTrees pass.old operands.now xs
-        → IfOk result (λ t. IsValue pass.new t (λ e. made op e (values_of xs e))) }
+    ensures value { (fs : Environment → List Value) → AllMean op_algebra pass.old operands.now fs
+        → IfOk result (λ t. Means op_algebra pass.new t (λ e. made op e (fs e))) }
 {
     if let Some(word) = fold_constants(table, pass, op, operands) {
         return Ok(table.intern(pass, Op::Constant(word), &[])?.ticket);
@@ -139,10 +139,13 @@ fn step(
     _done: &[Instruction],
 ) -> Result<Ticket, Fault>
     requires own { IsOf table.now pass.old }
-    requires stands { StandsFor pass.old values.now _done.now }
+    requires stands { StandFor pass.old values.now _done.now }
     ensures own { IsOf table.now pass.new }
-    ensures stands { IfOk result (λ t. StandsFor pass.new (values.now ++ t ∷ []) (_done.now ++ instruction.now ∷ [])) }
+    ensures stands { IfOk result (λ t. StandFor pass.new (values.now ++ t ∷ []) (_done.now ++ instruction.now ∷ [])) }
 {
+    if instruction.operands.len() != instruction.op.arity() {
+        return Err(Fault::Operands);
+    }
     let operands = values_at(alloc, values, instruction.operands.as_slice())?;
     Ok(make(table, pass, instruction.op, operands.as_slice())?)
 }

@@ -27,10 +27,7 @@ pub fn validate(
 ) -> Result<bool, Fault>
     ensures { IfOk result (λ same. IsTrue same → (e : Environment) → meaning original.now e ≡ meaning optimised.now e) }
 {
-    let Ok((table, mut passes)) = TermTable::open(alloc, 2, TERMS, CHAINS) else {
-        return Err(Fault::NoMemory);
-    };
-    let (Some(second), Some(first)) = (passes.pop(), passes.pop()) else {
+    let Ok((table, first, second)) = TermTable::open_two(alloc, TERMS, CHAINS) else {
         return Err(Fault::NoMemory);
     };
     let (mut first, mut second) = both(rt, alloc, &table, (first, second), original, optimised)?;

@@ -1,14 +1,14 @@
-use Rattle.std.proofs.Common.{◌≡◌, [], ◌∷◌, ◌++◌, ◌+◌, take, refl, sym, ap, subst, ◌∙◌}
+use Rattle.std.proofs.Common.{◌≡◌, [], ◌∷◌, ◌++◌, ◌+◌, take, sym, ap, subst, ◌∙◌}
 use Rattle.std.proofs.lemmas.List.{take_all, take_more}
-use Rattle.term_labels.specs.Trees.{none}
-use Rattle.example_terms.specs.Standing.{HaveTrees, StandsFor}
-use Rattle.example_terms.proofs.Standing.{value_there}
+use Rattle.term_values.proofs.Meanings.{none_mean}
+use Rattle.example_terms.specs.Standing.{StandFor}
+use Rattle.example_terms.proofs.Standing.{there_means}
 use Rattle.example_terms.proofs.symbolic.run.Goals as goal
 
 pub loop-i-init : goal.loop-i-init
 loop-i-init c = (
   c.requires,
-  record { terms = none; have = subst (λ ts. HaveTrees c.args.pass ts none) (sym c.new-values.ensures.items) tt; values = λ e. refl },
+  subst (λ ts. StandFor c.args.pass ts []) (sym c.new-values.ensures.items) none_mean,
 )
 
 pub loop-i-preserved : goal.loop-i-preserved
@@ -20,16 +20,16 @@ loop-i-preserved c =
     let value = c.in_ok-value.value in
     let next : take i code ++ done ∷ [] ≡ take (i + 1) code
     = ap (λ x. take i code ++ x ∷ []) c.index-code-i.is ∙ sym (take_more code i done c.loop-i-test.true) in
-    let there = subst (λ ts. StandsFor q (ts ++ value ∷ []) (take i code ++ done ∷ [])) c.as_slice.ensures.value c.in_ok-value.ensures.stands in
-    let more = subst (StandsFor q (c.loop-i.values.items ++ value ∷ [])) next there in
-    (c.step.ensures.own, subst (λ ts. StandsFor q ts (take (i + 1) code)) (sym c.in-Ok.ensures.items) more)
+    let there = subst (λ ts. StandFor q (ts ++ value ∷ []) (take i code ++ done ∷ [])) c.as_slice.ensures.value c.in_ok-value.ensures.stands in
+    let more = subst (StandFor q (c.loop-i.values.items ++ value ∷ [])) next there in
+    (c.step.ensures.own, subst (λ ts. StandFor q ts (take (i + 1) code)) (sym c.in-Ok.ensures.items) more)
 
 pub returns : goal.returns
 returns c =
     let code = c.args.block.now.instructions.items in
-    let stands = subst (StandsFor c.loop-i.pass c.loop-i.values.items) (take_all c.loop-i.i c.as_slice-code.result.now c.loop-i-test.false ∙ c.as_slice-code.ensures.value) c.loop-i.invariant.1 in
+    let stands = subst (StandFor c.loop-i.pass c.loop-i.values.items) (take_all c.loop-i.i c.as_slice-code.result.now c.loop-i-test.false ∙ c.as_slice-code.ensures.value) c.loop-i.invariant.1 in
     record {
       own = c.loop-i.invariant.0;
-      value = value_there (subst (λ ts. StandsFor c.loop-i.pass ts code) (sym c.as_slice-2.ensures.value) stands) c.in_ok-value-2.ensures;
-      memory = value_there (subst (λ ts. StandsFor c.loop-i.pass ts code) (sym c.as_slice-3.ensures.value) stands) c.in_ok-memory.ensures;
+      value = there_means (subst (λ ts. StandFor c.loop-i.pass ts code) (sym c.as_slice-2.ensures.value) stands) c.in_ok-value-2.ensures;
+      memory = there_means (subst (λ ts. StandFor c.loop-i.pass ts code) (sym c.as_slice-3.ensures.value) stands) c.in_ok-memory.ensures;
     }
