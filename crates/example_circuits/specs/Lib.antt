@@ -1,0 +1,4 @@
+pub mod Gates
+pub mod Back
+pub mod Meaning
+pub mod Encoded
