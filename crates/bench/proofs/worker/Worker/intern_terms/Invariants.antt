@@ -1,6 +1,0 @@
-use Rattle.std.proofs.Common.{◌≡◌}
-use Rattle.bench.specs.Ready.{IsReady}
-use Rattle.bench.proofs.worker.Worker.intern_terms.Given as goal
-
-abbrev pub invariant-loop-i : goal.invariant-loop-i
-invariant-loop-i l = IsReady l.table l.self × (l.i-end ≡ l.self.until)

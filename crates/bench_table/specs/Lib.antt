@@ -1,0 +1,3 @@
+pub mod Labels
+pub mod Back
+pub mod Ready
