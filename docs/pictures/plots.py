@@ -1,7 +1,8 @@
 #!/usr/bin/env python3
-"""The plots of docs/FIGURES.md: words.svg from crates/bench/stdout, which the gate compares with a run, and docs/figures/gcc.csv;
-builds.svg, table.svg and workers.svg from the files of docs/figures with these names."""
+"""The plots of docs/FIGURES.md: words.svg from tests/builds/programs.case, which the gate compares with runs, and docs/figures/gcc.csv;
+builds.svg, runs.svg, table.svg and workers.svg from the files of docs/figures with these names."""
 import csv
+import math
 import re
 
 from draw import TOP, box, line, main, svg, text
@@ -32,40 +33,74 @@ def bars(title, groups, names, left=150, wide=420):
 
 
 def words():
-    said = (TOP / "crates/bench/stdout").read_text()
-    counts = {name: re.findall(rf"^  {name}: \d+ code words, (\d+) run", said, re.M) for name in ("plain", "scheduled")}
-    sums = [(f"mcc, {name}", sum(map(int, found))) for name, found in counts.items()]
+    said = (TOP / "tests/builds/programs.case").read_text()
+    counts = re.findall(r"^\w+ \| .* \| (\d+) \| (\d+)$", said, re.M)
+    sums = [(f"mcc, {name}", sum(map(int, found))) for name, found in zip(("plain", "scheduled"), zip(*counts))]
     sums += [(it["compiler"], int(it["words run"])) for it in rows("gcc")]
     groups = [(name, [round(count / 1e6, 2)]) for name, count in sums]
     return bars("Words that eight programs run, in millions (fewer is better)", groups, ["words"])
 
 
+def logarithmic(title, groups, unit, left=190, wide=420):
+    """Bars on a logarithmic axis, under a heading for each group of (label, value): ours in blue, the others in grey."""
+    values = [value for _, rows_ in groups for _, value in rows_]
+    low, high = math.floor(math.log10(min(values))), math.log10(max(values))
+    parts, y = [text(20, 20, title, "bold")], 30
+    for heading, rows_ in groups:
+        if heading:
+            y += 20
+            parts.append(text(20, y, heading, "small bold"))
+        for label, value in rows_:
+            y += 15
+            size = round(max(2, wide * (math.log10(value) - low) / (high - low)), 1)
+            parts += [text(left - 8, y + 4, label, "small", "end"), box(left, y - 5, size, 11, f"ink{int(label.startswith('mcc'))}", 1),
+                      text(left + size + 6, y + 4, f"{value:g} {unit}", "small dim")]
+    return svg(left + wide + 90, y + 18, title, parts)
+
+
 def builds():
     found = rows("builds")
-    sizes = [it for it in found[0] if it != "compiler"]
-    largest = sizes[-1]
-    groups = [(it["compiler"], [float(it[largest])]) for it in found]
-    return bars(f"Time of a build of {largest} of C, CPU ms (less is better)", groups, ["ms"], left=230)
+    groups = [(f"{size} of C", [(it["compiler"], float(it[size])) for it in found]) for size in found[0] if size != "compiler"]
+    return logarithmic("CPU time of a build (logarithmic, less is better)", groups, "ms")
+
+
+def runs():
+    found = rows("runs")
+    measured = [it for it in found[0] if it != "program"][0]
+    groups = [("", [(it["program"], float(it[measured])) for it in found])]
+    return logarithmic(f"CPU time of a run: {measured} (logarithmic, less is better)", groups, "ms")
 
 
 def table():
-    found = rows("table")
-    names = [it for it in found[0] if it != "table"]
-    groups = [(it["table"], [float(it[name]) for name in names]) for it in found]
-    return bars("Millions of interns a second, one thread (more is better)", groups, names, left=190)
+    """A line from new terms to the same again, for ours and for DashMap, on a logarithmic axis."""
+    title, left, ticks = "Millions of interns a second (to the right is better)", 190, [1, 2, 5, 10, 20, 50, 100, 200, 500]
+    across = lambda value: round(left + 420 * math.log(value, 500), 1)
+    parts = [text(20, 20, title, "bold"), *legend(["DashMap 5.4", "mcc's table"], 20, 42),
+             text(320, 42, "left end: new terms, right end: the same again", "small dim")]
+    y, group = 60, None
+    for it in rows("table"):
+        if it["terms"] != group:
+            group, y = it["terms"], y + 22
+            parts.append(text(20, y - 4, f"{int(group):,} terms", "small bold"))
+        threads = it["threads"] + " thread" + "s" * (it["threads"] != "1")
+        parts.append(text(left - 8, y + 13, f"{it['order']}, {threads}", "small", "end"))
+        for n, name in enumerate(["DashMap", "mcc"]):
+            ends = [float(it[f"{name} {when}"]) for when in ("new", "again") if it[f"{name} {when}"]]
+            if ends:
+                at = y + 6 + 7 * n
+                parts.append(line([(across(end), at) for end in ends], f"line{n}"))
+                parts += [box(across(end) - 3, at - 3, 6, 6, f"ink{n}", 3, f"{end:g}") for end in ends]
+        y += 22
+    parts += [it for tick in ticks for it in (line([(across(tick), 66), (across(tick), y + 2)], "line dash"),
+                                              text(across(tick), y + 16, tick, "small dim", "middle"))]
+    return svg(left + 450, y + 26, title, parts)
 
 
 def workers():
-    found, most, at = rows("workers"), 210, {"1": 90, "2": 250, "4": 410}
-    up = lambda value: round(250 - 190 * value / most, 1)
-    parts = [text(20, 20, "Checking 262,144 instructions, ms (less is better)", "bold"), line([(80, 250), (440, 250)])]
-    parts += [text(x, 268, f"{n} worker{'s' * (n != '1')}", "small", "middle") for n, x in at.items()]
-    parts += [text(72, up(v) + 4, v, "small dim", "end") for v in range(0, most, 50)]
-    for n, it in enumerate(found):
-        parts.append(line([(x, up(float(it[w]))) for w, x in at.items()], f"line{n}"))
-    parts += legend([f"blocks of {it['instructions']}" for it in found], 20, 42, 125)
-    return svg(640, 285, "Checking 262,144 instructions by 1, 2 and 4 workers", parts)
+    names = {"plain": "mcc --plain", "1": "1 worker"}
+    groups = [(names.get(it["workers"], it["workers"] + " workers"), [float(it["CPU ms"]), float(it["clock ms"])]) for it in rows("workers")]
+    return bars("A build of 1 MiB of C, ms (less is better)", groups, ["CPU time", "clock"])
 
 
 if __name__ == "__main__":
-    main({"words.svg": words(), "builds.svg": builds(), "table.svg": table(), "workers.svg": workers()})
+    main({"words.svg": words(), "builds.svg": builds(), "runs.svg": runs(), "table.svg": table(), "workers.svg": workers()})
