@@ -10,7 +10,7 @@ use Rattle.c_front.specs.Grammar.{Spells}
 abbrev pub Begins : List Token → Type 0
 Begins ts = (more : List Token) × (p : List Declaration) × Spells (ts ++ more) p
 
--- k is the place of the first token with which the tokens so far begin no program, or the number of tokens where they end too early
+-- k is the place of the first token with which the tokens so far begin no program. It is the number of tokens where they end too early
 pub record IsFirstWrong (ts : List Token) (k : ℕ) : Type 0 where
   pub within : k ≤ length ts
   pub before : Begins (take k ts)

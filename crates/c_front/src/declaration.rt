@@ -208,8 +208,8 @@ fn fault_at(tokens: &[Token], stop: ParseStop) -> SyntaxFault
     }
 }
 
-/// The declarations that the tokens spell, or the number of the first token with which the tokens so far begin no
-/// program (how many tokens there are, where they end too early).
+/// The declarations that the tokens spell, or the number of the first token with which the tokens so far begin no program. Where they end
+/// too early, that is how many there are.
 pub fn parse(alloc: Global, tokens: &[Token]) -> Result<Vec<Declaration>, SyntaxFault>
     ensures ok { IfOk result (λ all. Spells tokens.now (declarations_of all.items)) }
     ensures err { IfErr result (IsFault tokens.now) }

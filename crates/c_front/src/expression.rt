@@ -82,10 +82,8 @@ pub fn expression<'a>(alloc: Global, tokens: &'a [Token]) -> Parsed<'a, Expressi
     match starts(rest, Mark::Question) {
         Some(after) => {
             let (first, second, end) = choice(alloc, after)?;
-            Ok((
-                Expression::Conditional(Box::new(alloc, condition)?, first, second),
-                end,
-            ))
+            let parts = Box::new(alloc, (condition, first, second))?;
+            Ok((Expression::Conditional(parts), end))
         }
         None => Ok((condition, rest)),
     }
@@ -96,13 +94,13 @@ pub fn expression<'a>(alloc: Global, tokens: &'a [Token]) -> Parsed<'a, Expressi
 fn choice<'a>(
     alloc: Global,
     tokens: &'a [Token],
-) -> Result<(Box<Expression>, Box<Expression>, &'a [Token]), ParseStop<'a>>
-    ensures ok { IfOk result (λ r. IsChoiceRead tokens.now r.2.now (expression_of r.0.value) (expression_of r.1.value)) }
+) -> Result<(Expression, Expression, &'a [Token]), ParseStop<'a>>
+    ensures ok { IfOk result (λ r. IsChoiceRead tokens.now r.2.now (expression_of r.0) (expression_of r.1)) }
     ensures shorter { IfOk result (λ r. length r.2.now < length tokens.now) }
     ensures err { IfErr result (IsChoiceStuck tokens.now) }
 {
-    let (first, rest) = box_part(alloc, closed_expression(alloc, tokens, Mark::Colon))?;
-    let (second, end) = box_part(alloc, expression(alloc, rest))?;
+    let (first, rest) = closed_expression(alloc, tokens, Mark::Colon)?;
+    let (second, end) = expression(alloc, rest)?;
     Ok((first, second, end))
 }
 
@@ -136,8 +134,8 @@ fn operands<'a>(alloc: Global, level: usize, tokens: &'a [Token]) -> Parsed<'a, 
         if found > level {
             return Ok((left, rest));
         }
-        let (right, next) = box_part(alloc, tighter(alloc, found, after))?;
-        left = Expression::Binary(operator, Box::new(alloc, left)?, right);
+        let (right, next) = tighter(alloc, found, after)?;
+        left = Expression::Binary(operator, Box::new(alloc, (left, right))?);
         rest = next;
     }
 }

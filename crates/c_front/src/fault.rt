@@ -17,8 +17,8 @@ pub enum FrontFaultKind {
     Syntax,
     /// A number that is no constant.
     Constant,
-    /// The text is above 1,048,576 bytes, or more than 1,024 tokens stand in a row with no `;`, `{` or `}`, more than
-    /// 128 braces are open, or more than 512 `else` and `for` stand since no brace was open.
+    /// The text is above 1,048,576 bytes, or more than 1,024 tokens stand in a row with no `;`, `{` or `}`. Or more than 128 braces are
+    /// open, or more than 512 `else` and `for` stand since no brace was open.
     Size,
     /// Memory was refused; told at the text's length.
     NoMemory,

@@ -160,7 +160,7 @@ fn statement<'a>(alloc: Global, tokens: &'a [Token]) -> Parsed<'a, Statement>
             Mark::For => for_loop(alloc, rest),
             _ => Err(ParseStop::Syntax(tokens)),
         },
-        Token::Jump(word, at) => jump(alloc, word, at, rest),
+        Token::Jump(word, at) => jump(alloc, word, at as usize, rest),
         Token::Constant(_) => Err(ParseStop::Syntax(tokens)),
     }
 }

@@ -44,10 +44,14 @@ fn unreadable(text: &[u8]) -> Option<FrontFault>
 }
 
 /// The offset of the token of a number, or the text's length.
-fn place(length: usize, places: &[usize], k: usize) -> usize
+fn place(length: usize, places: &[u32], k: usize) -> usize
     ensures { result ≡ place_or length places.now k }
 {
-    if k < places.len() { places[k] } else { length }
+    if k < places.len() {
+        places[k] as usize
+    } else {
+        length
+    }
 }
 
 fn refusal(why: Refusal) -> FrontFaultKind
@@ -75,7 +79,7 @@ fn lexical(fault: LexFault, length: usize) -> FrontFault
     }
 }
 
-fn syntactic(fault: SyntaxFault, length: usize, places: &[usize]) -> FrontFault
+fn syntactic(fault: SyntaxFault, length: usize, places: &[u32]) -> FrontFault
     ensures { result ≡ syntactic_fault length places.now fault }
 {
     match fault {

@@ -109,7 +109,8 @@ fn missing_of_expression(
                 }),
             }
         }
-        TypedExpression::Binary(operator, integer_type, left, right) => {
+        TypedExpression::Binary(operator, integer_type, operands) => {
+            let (left, right) = &**operands;
             let Some(x) = value(left, locals, globals) else {
                 return missing_of_expression(left, locals, globals);
             };
@@ -129,11 +130,14 @@ fn missing_of_expression(
                 }),
             }
         }
-        TypedExpression::Conditional(_, test, first, second) => match value(test, locals, globals) {
-            None => missing_of_expression(test, locals, globals),
-            Some(0) => missing_of_expression(second, locals, globals),
-            Some(_) => missing_of_expression(first, locals, globals),
-        },
+        TypedExpression::Conditional(_, parts) => {
+            let (test, first, second) = &**parts;
+            match value(test, locals, globals) {
+                None => missing_of_expression(test, locals, globals),
+                Some(0) => missing_of_expression(second, locals, globals),
+                Some(_) => missing_of_expression(first, locals, globals),
+            }
+        }
     }
 }
 

@@ -110,7 +110,8 @@ pub(crate) fn value(
             let x = operand(part, locals, globals)?;
             unary_value(*operator, *integer_type, x)
         }
-        TypedExpression::Binary(operator, integer_type, left, right) => {
+        TypedExpression::Binary(operator, integer_type, operands) => {
+            let (left, right) = &**operands;
             let x = operand(left, locals, globals)?;
             match operator {
                 BinaryOp::LogicalAnd if x == 0 => return Some(0),
@@ -120,7 +121,8 @@ pub(crate) fn value(
             let y = operand(right, locals, globals)?;
             binary_value(*operator, *integer_type, x, y)
         }
-        TypedExpression::Conditional(_, test, first, second) => {
+        TypedExpression::Conditional(_, parts) => {
+            let (test, first, second) = &**parts;
             if operand(test, locals, globals)? == 0 {
                 operand(second, locals, globals)
             } else {

@@ -33,8 +33,8 @@ fn signature(named: Named) -> Option<(Target, usize, bool)>
     }
 }
 
-/// What a call with so many arguments goes to; `wanted` says that its result is used. A call of what isn't a function
-/// and a void result that is used are faults before another number of arguments than parameters, all at the name.
+/// What a call with so many arguments goes to; `wanted` says that its result is used. A call of what isn't a function and a void result
+/// that is used come before another number of arguments than parameters. All are at the name.
 pub fn callee(
     program: &Program,
     scopes: &Scopes,

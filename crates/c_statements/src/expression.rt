@@ -26,7 +26,10 @@ use std::alloc::Global;
 pub fn misuse(kind: TypeFaultKind, name: Identifier) -> TypeStop
     ensures { result ≡ Fault (record { kind = kind; at = name.at }) }
 {
-    TypeStop::Fault(TypeFault { kind, at: name.at })
+    TypeStop::Fault(TypeFault {
+        kind,
+        at: name.at as usize,
+    })
 }
 
 /// What a name stands for, if anything declares it.
@@ -98,12 +101,14 @@ pub fn expression(
         Expression::Unary(operator, inner) => {
             unary(alloc, *operator, expression(alloc, program, scopes, inner))
         }
-        Expression::Binary(operator, first, second) => {
+        Expression::Binary(operator, operands) => {
+            let (first, second) = &**operands;
             let left = expression(alloc, program, scopes, first);
             let right = expression(alloc, program, scopes, second);
             binary(alloc, *operator, left, right)
         }
-        Expression::Conditional(test, first, second) => {
+        Expression::Conditional(parts) => {
+            let (test, first, second) = &**parts;
             let test = expression(alloc, program, scopes, test);
             let yes = expression(alloc, program, scopes, first);
             let no = expression(alloc, program, scopes, second);

@@ -14,8 +14,8 @@ pub enum TypeFaultKind {
     Undeclared,
     /// A second declaration of a name in one scope.
     Redeclared,
-    /// A name that is used as what it isn't, a void result used, an array of length 0, a `return` that doesn't fit its
-    /// function, or a `main` that isn't `int main(void)`.
+    /// A name that is used as what it isn't, a void result used, or an array of length 0. Or a `return` that doesn't fit its function, or
+    /// a `main` that isn't `int main(void)`.
     Kind,
     /// Another number of arguments than parameters, or a fifth parameter.
     Count,

@@ -6,7 +6,6 @@ ghost use Rattle.c_statements.specs.Faults.{StopsTwo, both_of};
 ghost use Rattle.c_statements.specs.Made.{IsBinary, IsConditional, IsElement, IsUnary, MadeOfThree, MadeOfTwo};
 ghost use Rattle.c_typed.specs.Trees.{common_type, operation_type, prefix_type};
 
-use crate::compound::boxes;
 use crate::fault::{TypeStop, both};
 use c_tokens::IntegerType;
 use c_tree::{BinaryOp, UnaryOp};
@@ -82,9 +81,9 @@ pub fn binary(
     ensures ok { IfOk result (MadeOfTwo left right (IsBinary operator)) }
     ensures err { IfErr result (StopsTwo left right) }
 {
-    let (left, right) = boxes(alloc, left, right)?;
+    let (left, right) = both(left, right)?;
     let integer_type = operation(operator, left.integer_type(), right.integer_type());
-    Ok(TypedExpression::Binary(operator, integer_type, left, right))
+    Ok(TypedExpression::Binary(operator, integer_type, Box::new(alloc, (left, right))?))
 }
 
 /// A choice between two values by a test, in the common type of the values.
@@ -97,7 +96,7 @@ pub fn conditional(
     ensures ok { IfOk result (MadeOfThree test yes no IsConditional) }
     ensures err { IfErr result (StopsTwo test (both_of yes no)) }
 {
-    let (test, (yes, no)) = both(test, boxes(alloc, yes, no))?;
+    let (test, (yes, no)) = both(test, both(yes, no))?;
     let integer_type = common(yes.integer_type(), no.integer_type());
-    Ok(TypedExpression::Conditional(integer_type, Box::new(alloc, test)?, yes, no))
+    Ok(TypedExpression::Conditional(integer_type, Box::new(alloc, (test, yes, no))?))
 }

@@ -1,5 +1,5 @@
 -- The tokens of a text, the sizes that it keeps within, and why it is refused.
-use Rattle.std.specs.Prelude.{◌≡◌, ◌+◌, ◌-◌, ◌<◌, ◌≤◌, ℕ, suc, List, [], ◌∷◌, drop, Bool, true, false, nat_eq, nat_lt, ◌||◌, if◌then◌else◌}
+use Rattle.std.specs.Prelude.{◌≡◌, ◌+◌, ◌-◌, ◌<◌, ◌≤◌, ◌^◌, ℕ, suc, List, [], ◌∷◌, drop, Bool, true, false, nat_eq, nat_lt, ◌||◌, if◌then◌else◌}
 use Rattle.c_tokens.specs.declared.token.Token.{Token}
 use Rattle.c_tokens.specs.declared.token.Token.TheVariants.{Name, Constant, Jump, The}
 use Rattle.c_tokens.specs.declared.token.Mark.TheVariants.{Else, For, Semicolon, LeftBrace, RightBrace}
@@ -24,6 +24,11 @@ Fits (Sign m k) n = (0 < k) × (k ≤ n)
 Fits (Leap w k) n = (0 < k) × (k ≤ n)
 Fits (Refused k) n = k ≤ n
 Fits _ n = Unit {0}
+
+-- a word's length fits a token
+abbrev pub IsNarrow : Lexeme → Type 0
+IsNarrow (Word k) = k < 2 ^ 32
+IsNarrow _ = Unit {0}
 
 -- what a lexeme at a place is: a token, a separator, or a fault with its number and how much further on it is
 abbrev pub step_of : ℕ → Lexeme → Step

@@ -6,7 +6,7 @@ ghost use Rattle.c_tokens.specs.Keywords.{keyword_of};
 ghost use Rattle.c_tokens.specs.Texts.{Fits};
 
 use crate::lexer::Lexeme;
-use crate::scan::{same, split, word_length};
+use crate::scan::{split, word_length};
 use crate::token::{JumpWord, Mark};
 
 /// What a keyword is: a mark, a word that leaves a place in the tree, or not in use.
@@ -18,217 +18,36 @@ pub enum Reserved {
 }
 
 /// A keyword and what it is.
-#[derive(Clone, Copy)]
-pub struct Keyword {
-    pub spelling: &'static [u8],
-    pub word: Reserved,
-}
-
-const WITH_I: [Keyword; 3] = [
-    Keyword {
-        spelling: b"int",
-        word: Reserved::Marked(Mark::Int),
-    },
-    Keyword {
-        spelling: b"if",
-        word: Reserved::Marked(Mark::If),
-    },
-    Keyword {
-        spelling: b"inline",
-        word: Reserved::Unused,
-    },
-];
-
-const WITH_U: [Keyword; 2] = [
-    Keyword {
-        spelling: b"unsigned",
-        word: Reserved::Marked(Mark::Unsigned),
-    },
-    Keyword {
-        spelling: b"union",
-        word: Reserved::Unused,
-    },
-];
-
-const WITH_C: [Keyword; 4] = [
-    Keyword {
-        spelling: b"char",
-        word: Reserved::Marked(Mark::Char),
-    },
-    Keyword {
-        spelling: b"continue",
-        word: Reserved::Jumping(JumpWord::Continue),
-    },
-    Keyword {
-        spelling: b"case",
-        word: Reserved::Unused,
-    },
-    Keyword {
-        spelling: b"const",
-        word: Reserved::Unused,
-    },
-];
-
-const WITH_V: [Keyword; 2] = [
-    Keyword {
-        spelling: b"void",
-        word: Reserved::Marked(Mark::Void),
-    },
-    Keyword {
-        spelling: b"volatile",
-        word: Reserved::Unused,
-    },
-];
-
-const WITH_E: [Keyword; 3] = [
-    Keyword {
-        spelling: b"else",
-        word: Reserved::Marked(Mark::Else),
-    },
-    Keyword {
-        spelling: b"enum",
-        word: Reserved::Unused,
-    },
-    Keyword {
-        spelling: b"extern",
-        word: Reserved::Unused,
-    },
-];
-
-const WITH_W: [Keyword; 1] = [Keyword {
-    spelling: b"while",
-    word: Reserved::Marked(Mark::While),
-}];
-
-const WITH_F: [Keyword; 2] = [
-    Keyword {
-        spelling: b"for",
-        word: Reserved::Marked(Mark::For),
-    },
-    Keyword {
-        spelling: b"float",
-        word: Reserved::Unused,
-    },
-];
-
-const WITH_B: [Keyword; 1] = [Keyword {
-    spelling: b"break",
-    word: Reserved::Jumping(JumpWord::Break),
-}];
-
-const WITH_R: [Keyword; 3] = [
-    Keyword {
-        spelling: b"return",
-        word: Reserved::Jumping(JumpWord::Return),
-    },
-    Keyword {
-        spelling: b"register",
-        word: Reserved::Unused,
-    },
-    Keyword {
-        spelling: b"restrict",
-        word: Reserved::Unused,
-    },
-];
-
-const WITH_A: [Keyword; 1] = [Keyword {
-    spelling: b"auto",
-    word: Reserved::Unused,
-}];
-
-const WITH_D: [Keyword; 3] = [
-    Keyword {
-        spelling: b"default",
-        word: Reserved::Unused,
-    },
-    Keyword {
-        spelling: b"do",
-        word: Reserved::Unused,
-    },
-    Keyword {
-        spelling: b"double",
-        word: Reserved::Unused,
-    },
-];
-
-const WITH_G: [Keyword; 1] = [Keyword {
-    spelling: b"goto",
-    word: Reserved::Unused,
-}];
-
-const WITH_L: [Keyword; 1] = [Keyword {
-    spelling: b"long",
-    word: Reserved::Unused,
-}];
-
-const WITH_S: [Keyword; 6] = [
-    Keyword {
-        spelling: b"short",
-        word: Reserved::Unused,
-    },
-    Keyword {
-        spelling: b"signed",
-        word: Reserved::Unused,
-    },
-    Keyword {
-        spelling: b"sizeof",
-        word: Reserved::Unused,
-    },
-    Keyword {
-        spelling: b"static",
-        word: Reserved::Unused,
-    },
-    Keyword {
-        spelling: b"struct",
-        word: Reserved::Unused,
-    },
-    Keyword {
-        spelling: b"switch",
-        word: Reserved::Unused,
-    },
-];
-
-const WITH_T: [Keyword; 1] = [Keyword {
-    spelling: b"typedef",
-    word: Reserved::Unused,
-}];
-
-const WITH_UNDERSCORE: [Keyword; 3] = [
-    Keyword {
-        spelling: b"_Bool",
-        word: Reserved::Unused,
-    },
-    Keyword {
-        spelling: b"_Complex",
-        word: Reserved::Unused,
-    },
-    Keyword {
-        spelling: b"_Imaginary",
-        word: Reserved::Unused,
-    },
-];
+pub type Keyword = (&'static [u8], Reserved);
 
 /// The keywords that begin with a byte.
+#[rattlefmt::skip]
 fn beginning(first: u8) -> &'static [Keyword]
     ensures { map keyword_of result.now ≡ beginning first keywords }
 {
     match first {
-        b'i' => &WITH_I,
-        b'u' => &WITH_U,
-        b'c' => &WITH_C,
-        b'v' => &WITH_V,
-        b'e' => &WITH_E,
-        b'w' => &WITH_W,
-        b'f' => &WITH_F,
-        b'b' => &WITH_B,
-        b'r' => &WITH_R,
-        b'a' => &WITH_A,
-        b'd' => &WITH_D,
-        b'g' => &WITH_G,
-        b'l' => &WITH_L,
-        b's' => &WITH_S,
-        b't' => &WITH_T,
-        b'_' => &WITH_UNDERSCORE,
+        b'i' => &[(b"int", Reserved::Marked(Mark::Int)), (b"if", Reserved::Marked(Mark::If)), (b"inline", Reserved::Unused)],
+        b'u' => &[(b"unsigned", Reserved::Marked(Mark::Unsigned)), (b"union", Reserved::Unused)],
+        b'c' => &[
+            (b"char", Reserved::Marked(Mark::Char)), (b"continue", Reserved::Jumping(JumpWord::Continue)),
+            (b"case", Reserved::Unused), (b"const", Reserved::Unused),
+        ],
+        b'v' => &[(b"void", Reserved::Marked(Mark::Void)), (b"volatile", Reserved::Unused)],
+        b'e' => &[(b"else", Reserved::Marked(Mark::Else)), (b"enum", Reserved::Unused), (b"extern", Reserved::Unused)],
+        b'w' => &[(b"while", Reserved::Marked(Mark::While))],
+        b'f' => &[(b"for", Reserved::Marked(Mark::For)), (b"float", Reserved::Unused)],
+        b'b' => &[(b"break", Reserved::Jumping(JumpWord::Break))],
+        b'r' => &[(b"return", Reserved::Jumping(JumpWord::Return)), (b"register", Reserved::Unused), (b"restrict", Reserved::Unused)],
+        b'a' => &[(b"auto", Reserved::Unused)],
+        b'd' => &[(b"default", Reserved::Unused), (b"do", Reserved::Unused), (b"double", Reserved::Unused)],
+        b'g' => &[(b"goto", Reserved::Unused)],
+        b'l' => &[(b"long", Reserved::Unused)],
+        b's' => &[
+            (b"short", Reserved::Unused), (b"signed", Reserved::Unused), (b"sizeof", Reserved::Unused),
+            (b"static", Reserved::Unused), (b"struct", Reserved::Unused), (b"switch", Reserved::Unused),
+        ],
+        b't' => &[(b"typedef", Reserved::Unused)],
+        b'_' => &[(b"_Bool", Reserved::Unused), (b"_Complex", Reserved::Unused), (b"_Imaginary", Reserved::Unused)],
         _ => &[],
     }
 }
@@ -251,8 +70,8 @@ fn look_up(table: &[Keyword], word: &[u8]) -> Lexeme
     'table: while i > 0 {
         i -= 1;
         let entry = table[i];
-        if same(entry.spelling, word) {
-            found = lexeme_of_keyword(entry.word, word.len());
+        if entry.0 == word {
+            found = lexeme_of_keyword(entry.1, word.len());
         }
     }
     found

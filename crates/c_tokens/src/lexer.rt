@@ -5,7 +5,7 @@ ghost use Rattle.c_tokens.specs.Fronts.{lexeme_of, comment_lexeme, line_lexeme, 
 ghost use Rattle.c_tokens.specs.declared.token.Token.{Token};
 ghost use Rattle.c_tokens.specs.declared.sizes.TheConstants.{MAX_TEXT};
 ghost use Rattle.c_tokens.specs.declared.fault.Refusal.{Refusal};
-ghost use Rattle.c_tokens.specs.Texts.{Lexes, LexStops, IsStep, Fits, StepFits, step_of, IsLexFault};
+ghost use Rattle.c_tokens.specs.Texts.{Lexes, LexStops, IsStep, Fits, IsNarrow, StepFits, step_of, IsLexFault};
 
 use crate::constants::constant;
 use crate::fault::{LexFault, Refusal};
@@ -16,7 +16,7 @@ use crate::scan::{
 use crate::sign::sign;
 use crate::sizes::{Sizes, count};
 use crate::token::{Identifier, JumpWord, Literal, Mark, Token};
-use std::alloc::{AllocError, AllocFailed, Global};
+use std::alloc::Global;
 
 /// What stands at the front of a text: a word is a name, a sign a keyword, an operator or a bracket.
 #[derive(Clone, Copy)]
@@ -95,13 +95,17 @@ fn next(text: &[u8]) -> Lexeme
     sign(text)
 }
 
-fn step_at(at: usize, lexeme: Lexeme) -> Step
+fn step_at(at: u32, lexeme: Lexeme) -> Step
+    requires { IsNarrow lexeme }
     ensures { result ≡ step_of at lexeme }
 {
     match lexeme {
         Lexeme::End => Step::Done,
         Lexeme::Separator(n) => Step::Skip(n),
-        Lexeme::Word(n) => Step::Take(Token::Name(Identifier { at, length: n }), n),
+        Lexeme::Word(n) => {
+            let length = n as u32;
+            Step::Take(Token::Name(Identifier { at, length }), n)
+        }
         Lexeme::Numeral(literal, n) => Step::Take(Token::Constant(literal), n),
         Lexeme::Sign(mark, n) => Step::Take(Token::The(mark), n),
         Lexeme::Leap(word, n) => Step::Take(Token::Jump(word, at), n),
@@ -111,7 +115,7 @@ fn step_at(at: usize, lexeme: Lexeme) -> Step
 }
 
 /// The step at a place.
-fn next_step(at: usize, text: &[u8]) -> Step
+fn next_step(at: u32, text: &[u8]) -> Step
     requires { length text.now < 2 ^ 32 }
     ensures found { IsStep at text.now result }
     ensures fits { StepFits result (length text.now) }
@@ -120,7 +124,7 @@ fn next_step(at: usize, text: &[u8]) -> Step
 }
 
 /// The tokens of a text, and where they stand.
-pub fn lex(alloc: Global, text: &[u8]) -> Result<(Vec<Token>, Vec<usize>), LexFault>
+pub fn lex(alloc: Global, text: &[u8]) -> Result<(Vec<Token>, Vec<u32>), LexFault>
     requires { length text.now ≤ MAX_TEXT }
     ensures ok { IfOk result (λ r. Lexes 0 text.now [] r.0.items r.1.items) }
     ensures err { IfErr result (IsLexFault text.now) }
@@ -135,7 +139,8 @@ pub fn lex(alloc: Global, text: &[u8]) -> Result<(Vec<Token>, Vec<usize>), LexFa
         nested: 0,
     };
     'lexemes: loop {
-        match next_step(at, rest) {
+        let here = at as u32;
+        match next_step(here, rest) {
             Step::Done => return Ok((tokens, places)),
             Step::Skip(n) => {
                 rest = after(rest, n);
@@ -145,7 +150,7 @@ pub fn lex(alloc: Global, text: &[u8]) -> Result<(Vec<Token>, Vec<usize>), LexFa
                 None => return Err(LexFault::Refused(Refusal::BadSize, at)),
                 Some(new) => {
                     tokens.push(token)?;
-                    places.push(at)?;
+                    places.push(here)?;
                     sizes = new;
                     rest = after(rest, n);
                     at += n;
@@ -156,8 +161,8 @@ pub fn lex(alloc: Global, text: &[u8]) -> Result<(Vec<Token>, Vec<usize>), LexFa
     }
 }
 
-/// A text has one list of tokens at most, at one list of places, and none where it is refused, which it is for one
-/// reason at one place. A law: it computes nothing.
+/// A text has at most one list of tokens, at one list of places. It has none where it is refused, which it is for one reason at one
+/// place. A law: it computes nothing.
 pub fn one_lexing()
     ensures once { (text : List ℕ) (ts us : List Token) (ks js : List ℕ) → Lexes 0 text [] ts ks → Lexes 0 text [] us js
         → (ts ≡ us) × (ks ≡ js) }

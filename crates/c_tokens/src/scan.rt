@@ -1,14 +1,13 @@
 // Classes of bytes, and how far a run of one class goes.
 ghost use Rattle.std.specs.Prelude.{◌≡◌, ◌∷◌, [], false, ◌<◌, ◌≤◌, length, drop, IfNone, IfSome};
 ghost use Rattle.c_tokens.specs.Lexing.{goes_on, is_word, is_exponent, is_space, is_letter, is_digit, comment_length, escape_at, is_front};
-ghost use Rattle.c_tokens.specs.Lexing.{same_bytes};
 ghost use Rattle.c_tokens.specs.Fronts.{word_length, run_length, line_length};
 
 /// A byte that separates tokens: a space, a tab, LF or CR.
 pub fn is_space(byte: u8) -> bool
     ensures { result ≡ is_space byte }
 {
-    byte == b' ' || byte == b'\t' || byte == b'\n' || byte == b'\r'
+    matches!(byte, b' ' | b'\t' | b'\n' | b'\r')
 }
 
 /// A letter or `_`.
@@ -182,29 +181,6 @@ pub fn line_length(text: &[u8]) -> usize
                 n += 1;
                 rest = next;
             }
-        }
-    }
-}
-
-/// The two texts are the same.
-pub fn same(left: &[u8], right: &[u8]) -> bool
-    ensures { result ≡ same_bytes left.now right.now }
-{
-    let mut first = left;
-    let mut second = right;
-    'same: loop {
-        match split(first) {
-            None => return second.is_empty(),
-            Some((a, more)) => match split(second) {
-                None => return false,
-                Some((b, rest)) => {
-                    if a != b {
-                        return false;
-                    }
-                    first = more;
-                    second = rest;
-                }
-            },
         }
     }
 }

@@ -1,5 +1,5 @@
 // Operators and punctuators: the longest one at the front of a text (C99 6.4.6).
-ghost use Rattle.std.specs.Prelude.{◌≡◌, ◌<◌, ◌≤◌, length, map, Some};
+ghost use Rattle.std.specs.Prelude.{◌≡◌, length, map};
 ghost use Rattle.c_tokens.specs.Lexing.{is_front, signs};
 ghost use Rattle.c_tokens.specs.Fronts.{beginning, longest, longer, sign_lexeme};
 ghost use Rattle.c_tokens.specs.Spellings.{bytes_of, entry_of, maybe_entry_of};
@@ -20,140 +20,52 @@ pub enum Spelling {
 /// A spelling, and its mark if it is in use.
 pub type Entry = (Spelling, Option<Mark>);
 
-const LEFT_PAREN: [Entry; 1] = [(Spelling::One(b'('), Some(Mark::LeftParen))];
-
-const RIGHT_PAREN: [Entry; 1] = [(Spelling::One(b')'), Some(Mark::RightParen))];
-
-const LEFT_BRACE: [Entry; 1] = [(Spelling::One(b'{'), Some(Mark::LeftBrace))];
-
-const RIGHT_BRACE: [Entry; 1] = [(Spelling::One(b'}'), Some(Mark::RightBrace))];
-
-const LEFT_BRACKET: [Entry; 1] = [(Spelling::One(b'['), Some(Mark::LeftBracket))];
-
-const RIGHT_BRACKET: [Entry; 1] = [(Spelling::One(b']'), Some(Mark::RightBracket))];
-
-const SEMICOLON: [Entry; 1] = [(Spelling::One(b';'), Some(Mark::Semicolon))];
-
-const COMMA: [Entry; 1] = [(Spelling::One(b','), Some(Mark::Comma))];
-
-const EQUAL: [Entry; 2] = [
-    (Spelling::One(b'='), Some(Mark::Assign)),
-    (Spelling::Two(b'=', b'='), Some(Mark::EqualEqual)),
-];
-
-const QUESTION: [Entry; 2] = [
-    (Spelling::One(b'?'), Some(Mark::Question)),
-    (Spelling::Two(b'?', b'?'), None),
-];
-
-const COLON: [Entry; 1] = [(Spelling::One(b':'), Some(Mark::Colon))];
-
-const BAR: [Entry; 3] = [
-    (Spelling::Two(b'|', b'|'), Some(Mark::BarBar)),
-    (Spelling::One(b'|'), Some(Mark::Bar)),
-    (Spelling::Two(b'|', b'='), None),
-];
-
-const AMPERSAND: [Entry; 3] = [
-    (Spelling::Two(b'&', b'&'), Some(Mark::AndAnd)),
-    (Spelling::One(b'&'), Some(Mark::Ampersand)),
-    (Spelling::Two(b'&', b'='), None),
-];
-
-const CARET: [Entry; 2] = [
-    (Spelling::One(b'^'), Some(Mark::Caret)),
-    (Spelling::Two(b'^', b'='), None),
-];
-
-const BANG: [Entry; 2] = [
-    (Spelling::Two(b'!', b'='), Some(Mark::BangEqual)),
-    (Spelling::One(b'!'), Some(Mark::Bang)),
-];
-
-const LESS: [Entry; 4] = [
-    (Spelling::One(b'<'), Some(Mark::LessSign)),
-    (Spelling::Two(b'<', b'='), Some(Mark::LessEqual)),
-    (Spelling::Two(b'<', b'<'), Some(Mark::LessLess)),
-    (Spelling::Three(b'<', b'<', b'='), None),
-];
-
-const GREATER: [Entry; 4] = [
-    (Spelling::One(b'>'), Some(Mark::GreaterSign)),
-    (Spelling::Two(b'>', b'='), Some(Mark::GreaterEqual)),
-    (Spelling::Two(b'>', b'>'), Some(Mark::GreaterGreater)),
-    (Spelling::Three(b'>', b'>', b'='), None),
-];
-
-const PLUS: [Entry; 3] = [
-    (Spelling::One(b'+'), Some(Mark::Plus)),
-    (Spelling::Two(b'+', b'+'), None),
-    (Spelling::Two(b'+', b'='), None),
-];
-
-const MINUS: [Entry; 4] = [
-    (Spelling::One(b'-'), Some(Mark::Minus)),
-    (Spelling::Two(b'-', b'-'), None),
-    (Spelling::Two(b'-', b'='), None),
-    (Spelling::Two(b'-', b'>'), None),
-];
-
-const STAR: [Entry; 2] = [
-    (Spelling::One(b'*'), Some(Mark::Star)),
-    (Spelling::Two(b'*', b'='), None),
-];
-
-const SLASH: [Entry; 2] = [
-    (Spelling::One(b'/'), Some(Mark::Slash)),
-    (Spelling::Two(b'/', b'='), None),
-];
-
-const PERCENT: [Entry; 2] = [
-    (Spelling::One(b'%'), Some(Mark::Percent)),
-    (Spelling::Two(b'%', b'='), None),
-];
-
-const TILDE: [Entry; 1] = [(Spelling::One(b'~'), Some(Mark::Tilde))];
-
-const DOT: [Entry; 2] = [
-    (Spelling::One(b'.'), None),
-    (Spelling::Three(b'.', b'.', b'.'), None),
-];
-
-const HASH: [Entry; 2] = [
-    (Spelling::One(b'#'), None),
-    (Spelling::Two(b'#', b'#'), None),
-];
-
 /// The spellings that begin with a byte.
+#[rattlefmt::skip]
 fn beginning(first: u8) -> &'static [Entry]
     ensures { map entry_of result.now ≡ beginning first signs }
 {
     match first {
-        b'(' => &LEFT_PAREN,
-        b')' => &RIGHT_PAREN,
-        b'{' => &LEFT_BRACE,
-        b'}' => &RIGHT_BRACE,
-        b'[' => &LEFT_BRACKET,
-        b']' => &RIGHT_BRACKET,
-        b';' => &SEMICOLON,
-        b',' => &COMMA,
-        b'=' => &EQUAL,
-        b'?' => &QUESTION,
-        b':' => &COLON,
-        b'|' => &BAR,
-        b'&' => &AMPERSAND,
-        b'^' => &CARET,
-        b'!' => &BANG,
-        b'<' => &LESS,
-        b'>' => &GREATER,
-        b'+' => &PLUS,
-        b'-' => &MINUS,
-        b'*' => &STAR,
-        b'/' => &SLASH,
-        b'%' => &PERCENT,
-        b'~' => &TILDE,
-        b'.' => &DOT,
-        b'#' => &HASH,
+        b'(' => &[(Spelling::One(b'('), Some(Mark::LeftParen))],
+        b')' => &[(Spelling::One(b')'), Some(Mark::RightParen))],
+        b'{' => &[(Spelling::One(b'{'), Some(Mark::LeftBrace))],
+        b'}' => &[(Spelling::One(b'}'), Some(Mark::RightBrace))],
+        b'[' => &[(Spelling::One(b'['), Some(Mark::LeftBracket))],
+        b']' => &[(Spelling::One(b']'), Some(Mark::RightBracket))],
+        b';' => &[(Spelling::One(b';'), Some(Mark::Semicolon))],
+        b',' => &[(Spelling::One(b','), Some(Mark::Comma))],
+        b'=' => &[(Spelling::One(b'='), Some(Mark::Assign)), (Spelling::Two(b'=', b'='), Some(Mark::EqualEqual))],
+        b'?' => &[(Spelling::One(b'?'), Some(Mark::Question)), (Spelling::Two(b'?', b'?'), None)],
+        b':' => &[(Spelling::One(b':'), Some(Mark::Colon))],
+        b'|' => &[
+            (Spelling::Two(b'|', b'|'), Some(Mark::BarBar)), (Spelling::One(b'|'), Some(Mark::Bar)),
+            (Spelling::Two(b'|', b'='), None),
+        ],
+        b'&' => &[
+            (Spelling::Two(b'&', b'&'), Some(Mark::AndAnd)), (Spelling::One(b'&'), Some(Mark::Ampersand)),
+            (Spelling::Two(b'&', b'='), None),
+        ],
+        b'^' => &[(Spelling::One(b'^'), Some(Mark::Caret)), (Spelling::Two(b'^', b'='), None)],
+        b'!' => &[(Spelling::Two(b'!', b'='), Some(Mark::BangEqual)), (Spelling::One(b'!'), Some(Mark::Bang))],
+        b'<' => &[
+            (Spelling::One(b'<'), Some(Mark::LessSign)), (Spelling::Two(b'<', b'='), Some(Mark::LessEqual)),
+            (Spelling::Two(b'<', b'<'), Some(Mark::LessLess)), (Spelling::Three(b'<', b'<', b'='), None),
+        ],
+        b'>' => &[
+            (Spelling::One(b'>'), Some(Mark::GreaterSign)), (Spelling::Two(b'>', b'='), Some(Mark::GreaterEqual)),
+            (Spelling::Two(b'>', b'>'), Some(Mark::GreaterGreater)), (Spelling::Three(b'>', b'>', b'='), None),
+        ],
+        b'+' => &[(Spelling::One(b'+'), Some(Mark::Plus)), (Spelling::Two(b'+', b'+'), None), (Spelling::Two(b'+', b'='), None)],
+        b'-' => &[
+            (Spelling::One(b'-'), Some(Mark::Minus)), (Spelling::Two(b'-', b'-'), None),
+            (Spelling::Two(b'-', b'='), None), (Spelling::Two(b'-', b'>'), None),
+        ],
+        b'*' => &[(Spelling::One(b'*'), Some(Mark::Star)), (Spelling::Two(b'*', b'='), None)],
+        b'/' => &[(Spelling::One(b'/'), Some(Mark::Slash)), (Spelling::Two(b'/', b'='), None)],
+        b'%' => &[(Spelling::One(b'%'), Some(Mark::Percent)), (Spelling::Two(b'%', b'='), None)],
+        b'~' => &[(Spelling::One(b'~'), Some(Mark::Tilde))],
+        b'.' => &[(Spelling::One(b'.'), None), (Spelling::Three(b'.', b'.', b'.'), None)],
+        b'#' => &[(Spelling::One(b'#'), None), (Spelling::Two(b'#', b'#'), None)],
         _ => &[],
     }
 }

@@ -1,8 +1,8 @@
 /// A name where it stands in a text: its offset and its length, in bytes.
 #[derive(Clone, Copy, PartialEq, Eq)]
 pub struct Identifier {
-    pub at: usize,
-    pub length: usize,
+    pub at: u32,
+    pub length: u32,
 }
 
 /// The type of a constant or a variable: `int` or `unsigned int`.
@@ -76,6 +76,6 @@ pub enum Mark {
 pub enum Token {
     Name(Identifier),
     Constant(Literal),
-    Jump(JumpWord, usize),
+    Jump(JumpWord, u32),
     The(Mark),
 }

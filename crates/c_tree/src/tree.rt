@@ -45,8 +45,8 @@ pub enum Expression {
     Name(Identifier),
     Index(Identifier, Box<Expression>),
     Unary(UnaryOp, Box<Expression>),
-    Binary(BinaryOp, Box<Expression>, Box<Expression>),
-    Conditional(Box<Expression>, Box<Expression>, Box<Expression>),
+    Binary(BinaryOp, Box<(Expression, Expression)>),
+    Conditional(Box<(Expression, Expression, Expression)>),
 }
 
 /// A call: the name and its arguments.
@@ -126,8 +126,8 @@ pub struct FunctionDefinition {
     pub body: Vec<Item>,
 }
 
-/// A declaration at file scope: a variable with its first value, an array with the width of its elements, the type that
-/// one of them is read as (`int` for bytes) and its length, or a function.
+/// A declaration at file scope: a variable with its first value, an array, or a function. An array has the width of its elements, the
+/// type that one of them is read as (`int` for bytes), and its length.
 #[derive(Drop)]
 pub enum Declaration {
     Variable(IntegerType, Identifier, Option<Initial>),
@@ -148,13 +148,14 @@ impl Program {
         ensures { result.now ≡ spelling_of self.now.text.items name.at name.length }
     {
         let text = self.text.as_slice();
-        let after = if name.at < text.len() {
-            &text[name.at..]
+        let (at, length) = (name.at as usize, name.length as usize);
+        let after = if at < text.len() {
+            &text[at..]
         } else {
             &text[text.len()..]
         };
-        if name.length < after.len() {
-            &after[..name.length]
+        if length < after.len() {
+            &after[..length]
         } else {
             after
         }

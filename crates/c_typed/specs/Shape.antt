@@ -16,8 +16,8 @@ typed_expression_of (Local n k) = local n k
 typed_expression_of (Global n k) = global n k
 typed_expression_of (Element' n k p e) = element n k (typed_expression_of e)
 typed_expression_of (Unary' o k p e) = unary o k (typed_expression_of e)
-typed_expression_of (Binary' o k p l q r) = binary o k (typed_expression_of l) (typed_expression_of r)
-typed_expression_of (Conditional' k p c q a r b) = conditional k (typed_expression_of c) (typed_expression_of a) (typed_expression_of b)
+typed_expression_of (Binary' o k p l r) = binary o k (typed_expression_of l) (typed_expression_of r)
+typed_expression_of (Conditional' k p c a b) = conditional k (typed_expression_of c) (typed_expression_of a) (typed_expression_of b)
 
 abbrev pub typed_expressions_of : List TypedExpression → List Trees.TypedExpression
 typed_expressions_of [] = []

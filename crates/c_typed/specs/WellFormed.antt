@@ -1,5 +1,5 @@
--- What each typed program keeps, so that no layer above tests it again: names stand for what is there, calls fit their
--- functions, operators compute in the types of their operands, jumps stand in loops, and the sizes are within the limits.
+-- What each typed program keeps, so that no layer above tests it again: names stand for what is there, and calls fit their functions.
+-- Operators compute in the types of their operands, jumps stand in loops, and the sizes are within the limits.
 use Rattle.std.specs.Prelude.{◌≡◌, ◌<◌, ◌≤◌, ◌+◌, ℕ, List, [], ◌∷◌, Option, Some, None, Bool, true, false, length, is_some, slice_get, All}
 use Rattle.c_tokens.specs.declared.token.IntegerType.TheVariants.{SignedInt}
 use Rattle.words.specs.Widths.{words_of_elements}
@@ -13,8 +13,8 @@ use Rattle.c_typed.specs.Trees.{conditional, type_of, prefix_type, operation_typ
 use Rattle.c_typed.specs.Trees.{output, if_else, loop}
 use Rattle.c_typed.specs.Trees.{break_loop, continue_loop, return_with, no_statements, more_statements}
 
--- in a function with so many locals, each local and global is there, and an operator computes in the type that its
--- operands give (C99 6.3.1.8, 6.5)
+-- in a function with so many locals, each local and global is there. An operator computes in the type that its operands give (C99
+-- 6.3.1.8, 6.5)
 abbrev pub FitsExpression : TypedProgram → (locals : ℕ) → TypedExpression → Type 0
 FitsExpression p n (constant c) = Unit {0}
 FitsExpression p n (local x k) = x < n

@@ -16,8 +16,8 @@ pub enum TypedExpression {
     Global(usize, IntegerType),
     Element(usize, IntegerType, Box<TypedExpression>),
     Unary(UnaryOp, IntegerType, Box<TypedExpression>),
-    Binary(BinaryOp, IntegerType, Box<TypedExpression>, Box<TypedExpression>),
-    Conditional(IntegerType, Box<TypedExpression>, Box<TypedExpression>, Box<TypedExpression>),
+    Binary(BinaryOp, IntegerType, Box<(TypedExpression, TypedExpression)>),
+    Conditional(IntegerType, Box<(TypedExpression, TypedExpression, TypedExpression)>),
 }
 
 /// Where a value is stored: a local of the function, or a global variable.
@@ -46,9 +46,9 @@ pub enum TypedStatement {
     Return(Option<TypedExpression>),
 }
 
-/// A function: the type of its result, if it has one, the numbers of its parameters and of all its locals (the
-/// parameters are the first of them), and its body. The return at the end brace of a function without result, and the
-/// `return 0` at that of `main`, stand in the body as its last statement; control never leaves the body otherwise.
+/// A function: the type of its result, if it has one, and the numbers of its parameters and of all its locals, parameters first; and its
+/// body. The last statement is the return at the end brace of a function without result, or the `return 0` at that of `main`; control
+/// never leaves the body otherwise.
 #[derive(Drop)]
 pub struct Function {
     pub result: Option<IntegerType>,
@@ -57,8 +57,8 @@ pub struct Function {
     pub body: Vec<TypedStatement>,
 }
 
-/// A global variable or array: the width of its elements, how many there are, 1 for a variable, and the word that each of
-/// them keeps at first what its width lets it of.
+/// A global variable or array: the width and the number of its elements, 1 for a variable. Each keeps at first what its width lets it of
+/// the word.
 #[derive(Clone, Copy, PartialEq, Eq)]
 pub struct Global {
     pub width: Width,
@@ -77,7 +77,7 @@ impl TypedExpression {
             TypedExpression::Global(_, integer_type) => *integer_type,
             TypedExpression::Element(_, integer_type, _) => *integer_type,
             TypedExpression::Unary(_, integer_type, _) => *integer_type,
-            TypedExpression::Binary(operator, integer_type, _, _) => match operator {
+            TypedExpression::Binary(operator, integer_type, _) => match operator {
                 BinaryOp::Less
                 | BinaryOp::Greater
                 | BinaryOp::LessOrEqual
@@ -88,7 +88,7 @@ impl TypedExpression {
                 | BinaryOp::LogicalOr => IntegerType::SignedInt,
                 _ => *integer_type,
             },
-            TypedExpression::Conditional(integer_type, _, _, _) => *integer_type,
+            TypedExpression::Conditional(integer_type, _) => *integer_type,
         }
     }
 }

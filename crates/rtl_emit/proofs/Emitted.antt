@@ -3,6 +3,8 @@ use Rattle.std.proofs.Common.{◌≡◌, ℕ, List, sym, ◌∙◌, ap, subst, a
 use Rattle.c_tokens.specs.declared.token.IntegerType.{IntegerType}
 use Rattle.c_tree.specs.declared.tree.BinaryOp.{BinaryOp}
 use Rattle.c_tree.specs.declared.tree.UnaryOp.{UnaryOp}
+use Rattle.c_typed.specs.declared.tree.TypedExpression as Tree
+use Rattle.c_typed.specs.Shape.{typed_expression_of}
 use Rattle.c_typed.specs.Trees.{TypedExpression, element, unary, binary, conditional}
 use Rattle.rtl.specs.declared.operator.Op.TheVariants as O
 use Rattle.rtl.specs.declared.instruction.RInst.{RInst}
@@ -51,14 +53,17 @@ element_is a k i i' is ii = is ∙ ap (element a k) (sym ii)
 pub unary_is : {e : TypedExpression} (o o' : UnaryOp) (k : IntegerType) (a a' : TypedExpression) → e ≡ unary o k a → o ≡ o' → a' ≡ a → e ≡ unary o' k a'
 unary_is o o' k a a' is io ia = is ∙ ap (λ o. unary o k a) io ∙ ap (λ a. unary o' k a) (sym ia)
 
-pub binary_is : {e : TypedExpression} (o o' : BinaryOp) (k : IntegerType) (a b a' b' : TypedExpression) → e ≡ binary o k a b → o ≡ o' → a' ≡ a → b'
-    ≡ b → e ≡ binary o' k a' b'
-binary_is o o' k a b a' b' is io ia ib = is ∙ ap (λ o. binary o k a b) io ∙ ap (λ a. binary o' k a b) (sym ia) ∙ ap (λ b. binary o' k a' b) (sym ib)
+pub binary_is : {e : TypedExpression} (o o' : BinaryOp) (k : IntegerType) (p q : Tree.TypedExpression × Tree.TypedExpression)
+    → e ≡ binary o k (typed_expression_of p.0) (typed_expression_of p.1) → o ≡ o' → q ≡ p
+    → e ≡ binary o' k (typed_expression_of q.0) (typed_expression_of q.1)
+binary_is o o' k p q is io iq =
+    is ∙ ap (λ o. binary o k (typed_expression_of p.0) (typed_expression_of p.1)) io
+    ∙ ap (λ p. binary o' k (typed_expression_of p.0) (typed_expression_of p.1)) (sym iq)
 
-pub conditional_is : {e : TypedExpression} (k : IntegerType) (c a b c' a' b' : TypedExpression) → e ≡ conditional k c a b → c' ≡ c → a' ≡ a → b' ≡ b
-    → e ≡ conditional k c' a' b'
-conditional_is k c a b c' a' b' is ic ia ib =
-    is ∙ ap (λ c. conditional k c a b) (sym ic) ∙ ap (λ a. conditional k c' a b) (sym ia) ∙ ap (λ b. conditional k c' a' b) (sym ib)
+pub conditional_is : {e : TypedExpression} (k : IntegerType) (p q : Tree.TypedExpression × Tree.TypedExpression × Tree.TypedExpression)
+    → e ≡ conditional k (typed_expression_of p.0) (typed_expression_of p.1) (typed_expression_of p.2) → q ≡ p
+    → e ≡ conditional k (typed_expression_of q.0) (typed_expression_of q.1) (typed_expression_of q.2)
+conditional_is k p q is iq = is ∙ ap (λ p. conditional k (typed_expression_of p.0) (typed_expression_of p.1) (typed_expression_of p.2)) (sym iq)
 
 -- values
 

@@ -26,17 +26,14 @@ pub unary_weight : {e : TypedExpression} {o : UnaryOp} {k : IntegerType} {a a' :
     → weight e ≡ weight (typed_expression_of a') + 9
 unary_weight is ia = ap weight is ∙ ap (λ a. weight (typed_expression_of a) + 9) (sym ia)
 
-pub binary_weight : {e : TypedExpression} {o : BinaryOp} {k : IntegerType} {l r l' r' : Tree.TypedExpression}
-    → e ≡ binary o k (typed_expression_of l) (typed_expression_of r) → l' ≡ l → r' ≡ r
-    → weight e ≡ weight (typed_expression_of l') + weight (typed_expression_of r') + 9
-binary_weight {l = l} {r = r} {l' = l'} is il ir =
-    ap weight is ∙ ap (λ l. weight (typed_expression_of l) + weight (typed_expression_of r) + 9) (sym il)
-    ∙ ap (λ r. weight (typed_expression_of l') + weight (typed_expression_of r) + 9) (sym ir)
+pub binary_weight : {e : TypedExpression} {o : BinaryOp} {k : IntegerType} {p q : Tree.TypedExpression × Tree.TypedExpression}
+    → e ≡ binary o k (typed_expression_of p.0) (typed_expression_of p.1) → q ≡ p
+    → weight e ≡ weight (typed_expression_of q.0) + weight (typed_expression_of q.1) + 9
+binary_weight is iq = ap weight is ∙ ap (λ p. weight (typed_expression_of p.0) + weight (typed_expression_of p.1) + 9) (sym iq)
 
-pub conditional_weight : {e : TypedExpression} {k : IntegerType} {c a b c' a' b' : Tree.TypedExpression}
-    → e ≡ conditional k (typed_expression_of c) (typed_expression_of a) (typed_expression_of b) → c' ≡ c → a' ≡ a → b' ≡ b
-    → weight e ≡ weight (typed_expression_of c') + weight (typed_expression_of a') + weight (typed_expression_of b') + 9
-conditional_weight {a = a} {b = b} {c' = c'} {a' = a'} is ic ia ib =
-    ap weight is ∙ ap (λ c. weight (typed_expression_of c) + weight (typed_expression_of a) + weight (typed_expression_of b) + 9) (sym ic)
-    ∙ ap (λ a. weight (typed_expression_of c') + weight (typed_expression_of a) + weight (typed_expression_of b) + 9) (sym ia)
-    ∙ ap (λ b. weight (typed_expression_of c') + weight (typed_expression_of a') + weight (typed_expression_of b) + 9) (sym ib)
+pub conditional_weight : {e : TypedExpression} {k : IntegerType} {p q : Tree.TypedExpression × Tree.TypedExpression × Tree.TypedExpression}
+    → e ≡ conditional k (typed_expression_of p.0) (typed_expression_of p.1) (typed_expression_of p.2) → q ≡ p
+    → weight e ≡ weight (typed_expression_of q.0) + weight (typed_expression_of q.1) + weight (typed_expression_of q.2) + 9
+conditional_weight is iq =
+    ap weight is
+    ∙ ap (λ p. weight (typed_expression_of p.0) + weight (typed_expression_of p.1) + weight (typed_expression_of p.2) + 9) (sym iq)

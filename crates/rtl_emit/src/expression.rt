@@ -44,7 +44,7 @@ fn is_logical(e: &TypedExpression) -> bool
 {
     match e {
         TypedExpression::Unary(operator, _, _) => *operator == UnaryOp::Not,
-        TypedExpression::Binary(operator, _, _, _) => {
+        TypedExpression::Binary(operator, _, _) => {
             *operator == BinaryOp::LogicalAnd || *operator == BinaryOp::LogicalOr
         }
         _ => false,
@@ -75,10 +75,12 @@ pub fn value_into(
         TypedExpression::Global(number, _) => global_into(aim, *number),
         TypedExpression::Element(number, _, index) => element_into(aim, blocks, *number, index),
         TypedExpression::Unary(operator, _, part) => unary_into(aim, blocks, *operator, part),
-        TypedExpression::Binary(operator, integer_type, left, right) => {
+        TypedExpression::Binary(operator, integer_type, operands) => {
+            let (left, right) = &**operands;
             binary_into(aim, blocks, *operator, *integer_type, left, right)
         }
-        TypedExpression::Conditional(_, test, first, second) => {
+        TypedExpression::Conditional(_, parts) => {
+            let (test, first, second) = &**parts;
             conditional_into(aim, blocks, test, first, second)
         }
     }
@@ -320,7 +322,8 @@ pub fn condition(
             UnaryOp::Not => condition(alloc, blocks, part, targets.of_contrary(), free),
             _ => test(alloc, blocks, e, targets, free),
         },
-        TypedExpression::Binary(operator, integer_type, left, right) => {
+        TypedExpression::Binary(operator, integer_type, operands) => {
+            let (left, right) = &**operands;
             match form_of(*operator, *integer_type) {
                 Form::Logical { both } => {
                     logical_branches(alloc, blocks, both, left, right, targets, free)
@@ -336,7 +339,8 @@ pub fn condition(
                 }
             }
         }
-        TypedExpression::Conditional(_, test, first, second) => {
+        TypedExpression::Conditional(_, parts) => {
+            let (test, first, second) = &**parts;
             sides(alloc, blocks, test, first, second, targets, free)
         }
         _ => test(alloc, blocks, e, targets, free),

@@ -8,7 +8,7 @@
 //!
 //! | Tested | In |
 //! |---|---|
-//! | at most sixteen steps for each step of the source; the deepest sources | test_calls |
+//! | at most sixteen steps for each step of the source; the deepest sources | tests/c |
 #![tactic(auto)]
 
 mod context;

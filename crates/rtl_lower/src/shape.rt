@@ -33,7 +33,7 @@ fn is_equality(e: &TypedExpression) -> bool
 {
     match e {
         TypedExpression::Unary(operator, _, _) => *operator == UnaryOp::Not,
-        TypedExpression::Binary(operator, _, _, _) => *operator == BinaryOp::Equal,
+        TypedExpression::Binary(operator, _, _) => *operator == BinaryOp::Equal,
         _ => false,
     }
 }

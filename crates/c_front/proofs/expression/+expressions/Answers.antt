@@ -22,9 +22,9 @@ expression-returns-in_err-first-in-Some-clause-err t c =
     let h : IsStuck an_expression c.args.tokens.now c.in_err-first-in-Some.field-0.0 =
     expression-choice-stuck _ _ _ _ _ c.in_ok-condition.ensures.ok c.in-Some.ensures.some c.in_err-first-in-Some.ensures.err in search rules
 
-pub expression-returns-in_ok-new-in-Some-clause-ok : goal.expression-returns-in_ok-new-in-Some-clause-ok
-expression-returns-in_ok-new-in-Some-clause-ok t c =
-    rw c.in_ok-new-in-Some.ensures.ok (expression-choice _ _ _ _ _ _ _ c.in_ok-condition.ensures.ok c.in-Some.ensures.some c.in_ok-first-in-Some.ensures.ok)
+pub expression-returns-in_ok-parts-in-Some-clause-ok : goal.expression-returns-in_ok-parts-in-Some-clause-ok
+expression-returns-in_ok-parts-in-Some-clause-ok t c =
+    rw c.in_ok-parts-in-Some.ensures.ok (expression-choice _ _ _ _ _ _ _ c.in_ok-condition.ensures.ok c.in-Some.ensures.some c.in_ok-first-in-Some.ensures.ok)
 
 pub expression-returns-in-None-clause-ok : goal.expression-returns-in-None-clause-ok
 expression-returns-in-None-clause-ok t c = expression-alone _ _ _ c.in_ok-condition.ensures.ok c.in-None.ensures.none
@@ -80,17 +80,15 @@ operand-returns-in-Jump-clause-err t c = no-phrase (operands unary_expressions) 
 pub choice-returns-in_err-first-clause-err : goal.choice-returns-in_err-first-clause-err
 choice-returns-in_err-first-clause-err t c =
     let h : IsChoiceStuck c.args.tokens.now c.in_err-first.field-0.0 =
-    choice-first-stuck _ _ (stops _ _ _ c.in_err-first.ensures.err c.closed_expression.ensures.err tt) in search rules
+    choice-first-stuck _ _ c.in_err-first.ensures.err in search rules
 
 pub choice-returns-in_err-second-clause-err : goal.choice-returns-in_err-second-clause-err
 choice-returns-in_err-second-clause-err t c =
-    let first = IfOk-at_ok _ c.in_ok-first.ensures.ok c.closed_expression.ensures.ok in
     let h : IsChoiceStuck c.args.tokens.now c.in_err-second.field-0.0 =
-    choice-second-stuck _ _ _ _ first (stops _ _ _ c.in_err-second.ensures.err c.expression.ensures.err tt) in search rules
+    choice-second-stuck _ _ _ _ c.in_ok-first.ensures.ok c.in_err-second.ensures.err in search rules
 
 pub choice-returns-clause-ok : goal.choice-returns-clause-ok
-choice-returns-clause-ok t c =
-    choice-read _ _ _ _ _ (IfOk-at_ok _ c.in_ok-first.ensures.ok c.closed_expression.ensures.ok) (IfOk-at_ok _ c.in_ok-second.ensures.ok c.expression.ensures.ok)
+choice-returns-clause-ok t c = choice-read _ _ _ _ _ c.in_ok-first.ensures.ok c.in_ok-second.ensures.ok
 
 pub closed_expression-returns-clause-ok : goal.closed_expression-returns-clause-ok
 closed_expression-returns-clause-ok t c =
@@ -150,15 +148,14 @@ pub operands-returns-in_err-right-clause-err : goal.operands-returns-in_err-righ
 operands-returns-in_err-right-clause-err t c =
     let h : IsStuck (operands (above (level_of c.args.level))) c.args.tokens.now c.in_err-right.field-0.0 =
     climbs-more-stuck _ _ _ _ _ _ _ _ c.climbing.invariant c.in-Some.ensures.some c.if-found-level.false
-    (stops _ _ _ c.in_err-right.ensures.err c.tighter.ensures.err tt) in search rules
+    c.in_err-right.ensures.err in search rules
 
 pub operands-climbing-preserved : goal.operands-climbing-preserved
 operands-climbing-preserved t c =
     let e : length c.climbing.rest.now ≡ suc (length c.in-Some.after.now) = ap length c.in-Some.ensures.some.2 in
     let d : length c.climbing.rest.now < length c.args.tokens.now = c.climbing.invariant.shorter in
-    let f : length c.in_ok-right.next.now < length c.in-Some.after.now = IfOk-at_ok _ c.in_ok-right.ensures.ok c.tighter.ensures.shorter in
     rw c.in_ok-new.ensures.ok (climbs-more _ _ _ _ _ _ _ _ _ c.climbing.invariant c.in-Some.ensures.some c.if-found-level.false
-    (IfOk-at_ok _ c.in_ok-right.ensures.ok c.tighter.ensures.ok) (IfOk-at_ok _ c.in_ok-right.ensures.ok c.tighter.ensures.ends) (omega (arith, e, d, f)))
+    c.in_ok-right.ensures.ok c.in_ok-right.ensures.ends (omega (arith, e, d, c.in_ok-right.ensures.shorter)))
 
 pub expression-choice-requires : goal.expression-choice-requires
 expression-choice-requires t c =
@@ -167,14 +164,11 @@ expression-choice-requires t c =
 
 pub choice-expression-requires : goal.choice-expression-requires
 choice-expression-requires t c =
-    let b : length c.in_ok-first.rest.now < length c.args.tokens.now = IfOk-at_ok _ c.in_ok-first.ensures.ok c.closed_expression.ensures.shorter in
-    (omega (arith, b), tt)
+    (omega (arith, c.in_ok-first.ensures.shorter), tt)
 
 pub choice-returns-clause-shorter : goal.choice-returns-clause-shorter
 choice-returns-clause-shorter t c =
-    let a : length c.in_ok-first.rest.now < length c.args.tokens.now = IfOk-at_ok _ c.in_ok-first.ensures.ok c.closed_expression.ensures.shorter in
-    let b : length c.in_ok-second.end.now < length c.in_ok-first.rest.now = IfOk-at_ok _ c.in_ok-second.ensures.ok c.expression.ensures.shorter in
-    omega (arith, a, b)
+    omega (arith, c.in_ok-first.ensures.shorter, c.in_ok-second.ensures.shorter)
 
 pub operand-operand-requires : goal.operand-operand-requires
 operand-operand-requires t c =

@@ -40,9 +40,9 @@ returns-in-Unary t c =
 pub returns-in-Binary : goal.returns-in-Binary
 returns-in-Binary t c =
     let scope = environment_in c.args.program.now.text.items (scopes_of c.args.scopes.now) in
-    let left = expression_of c.deref-in-Binary.result.now in
-    let right = expression_of c.deref-in-Binary-2.result.now in
-    rw (c.in-Binary.is, sym c.deref-in-Binary.ensures, sym c.deref-in-Binary-2.ensures) (answers
+    let left = expression_of c.deref-in-Binary.result.now.0 in
+    let right = expression_of c.deref-in-Binary.result.now.1 in
+    rw (c.in-Binary.is, sym c.deref-in-Binary.ensures) (answers
     (binary-ok scope c.in-Binary.operator left right c.expression-left.result c.expression-right.result c.binary.result
     c.expression-left.ensures.ok c.expression-right.ensures.ok c.binary.ensures.ok)
     (tells-two (Faulty scope left) (Faulty scope right) c.expression-left.result c.expression-right.result (IsBinary c.in-Binary.operator) c.binary.result
@@ -51,12 +51,12 @@ returns-in-Binary t c =
 pub returns-in-Conditional : goal.returns-in-Conditional
 returns-in-Conditional t c =
     let scope = environment_in c.args.program.now.text.items (scopes_of c.args.scopes.now) in
-    let test = expression_of c.deref-in-Conditional.result.now in
-    let yes = expression_of c.deref-in-Conditional-2.result.now in
-    let no = expression_of c.deref-in-Conditional-3.result.now in
+    let test = expression_of c.deref-in-Conditional.result.now.0 in
+    let yes = expression_of c.deref-in-Conditional.result.now.1 in
+    let no = expression_of c.deref-in-Conditional.result.now.2 in
     let values = tells-both-of (Faulty scope yes) (Faulty scope no) c.expression-yes.result c.expression-no.result
     (tells c.expression-yes.ensures) (tells c.expression-no.ensures) in
-    rw (c.in-Conditional.is, sym c.deref-in-Conditional.ensures, sym c.deref-in-Conditional-2.ensures, sym c.deref-in-Conditional-3.ensures) (answers
+    rw (c.in-Conditional.is, sym c.deref-in-Conditional.ensures) (answers
     (conditional-ok scope test yes no c.expression-test.result c.expression-yes.result c.expression-no.result c.conditional.result
     c.expression-test.ensures.ok c.expression-yes.ensures.ok c.expression-no.ensures.ok c.conditional.ensures.ok)
     (tells-three (Faulty scope test)

@@ -38,14 +38,12 @@ value_into-returns-in-Unary t c =
 pub value_into-returns-in-Binary : goal.value_into-returns-in-Binary
 value_into-returns-in-Binary t c =
     value_along _ _ _ _ c.args.to c.args.free (spot c.args.after) _
-    (binary_is _ _ _ _ _ _ _ (ap typed_expression_of c.in-Binary.is) refl (ap typed_expression_of c.deref-in-Binary.ensures)
-    (ap typed_expression_of c.deref-in-Binary-2.ensures)) c.binary_into.ensures
+    (binary_is _ _ _ _ _ (ap typed_expression_of c.in-Binary.is) refl c.deref-in-Binary.ensures) c.binary_into.ensures
 
 pub value_into-returns-in-Conditional : goal.value_into-returns-in-Conditional
 value_into-returns-in-Conditional t c =
     value_along _ _ _ _ c.args.to c.args.free (spot c.args.after) _
-    (conditional_is _ _ _ _ _ _ _ (ap typed_expression_of c.in-Conditional.is) (ap typed_expression_of c.deref-in-Conditional.ensures)
-    (ap typed_expression_of c.deref-in-Conditional-2.ensures) (ap typed_expression_of c.deref-in-Conditional-3.ensures)) (c.conditional_into.ensures _)
+    (conditional_is _ _ _ (ap typed_expression_of c.in-Conditional.is) c.deref-in-Conditional.ensures) (c.conditional_into.ensures _)
 
 pub element_into-returns : goal.element_into-returns
 element_into-returns t c = λ k.
@@ -167,21 +165,18 @@ condition-returns-in-Not t c =
 pub condition-returns-in-Logical : goal.condition-returns-in-Logical
 condition-returns-in-Logical t c =
     branch_along _ _ _ _ c.args.targets _ _
-    (binary_is _ _ _ _ _ _ _ (ap typed_expression_of c.in-Binary.is) c.in-Logical.ensures.form (ap typed_expression_of c.deref-in-Logical.ensures)
-    (ap typed_expression_of c.deref-in-Logical-2.ensures)) (c.logical_branches.ensures _)
+    (binary_is _ _ _ _ _ (ap typed_expression_of c.in-Binary.is) c.in-Logical.ensures.form c.deref-in-Binary.ensures) (c.logical_branches.ensures _)
 
 pub condition-returns-else-targets : goal.condition-returns-else-targets
 condition-returns-else-targets t c =
     branch_along _ _ _ _ c.args.targets _ _
-    (binary_is _ _ _ _ _ _ _ (ap typed_expression_of c.in-Binary.is) refl (ap typed_expression_of c.deref-in-Plain.ensures)
-    (ap typed_expression_of c.deref-in-Plain-2.ensures))
+    (binary_is _ _ _ _ _ (ap typed_expression_of c.in-Binary.is) refl c.deref-in-Binary.ensures)
     (c.contrary_test.ensures _ _ c.in-Some.ensures.computes c.in-Plain.ensures.branches (sym c.in-Some.ensures.is) c.if-targets.false)
 
 pub condition-returns-in-Conditional : goal.condition-returns-in-Conditional
 condition-returns-in-Conditional t c =
     branch_along _ _ _ _ c.args.targets _ _
-    (conditional_is _ _ _ _ _ _ _ (ap typed_expression_of c.in-Conditional.is) (ap typed_expression_of c.deref-in-Conditional.ensures)
-    (ap typed_expression_of c.deref-in-Conditional-2.ensures) (ap typed_expression_of c.deref-in-Conditional-3.ensures)) (c.sides.ensures _)
+    (conditional_is _ _ _ (ap typed_expression_of c.in-Conditional.is) c.deref-in-Conditional.ensures) (c.sides.ensures _)
 
 pub contrary_test-returns : goal.contrary_test-returns
 contrary_test-returns t c = λ o k computes plain has unlikely.
@@ -235,25 +230,23 @@ value_into-unary_into-requires t c =
 
 pub value_into-binary_into-requires : goal.value_into-binary_into-requires
 value_into-binary_into-requires t c =
-    let w = binary_weight (ap typed_expression_of c.in-Binary.is) c.deref-in-Binary.ensures c.deref-in-Binary-2.ensures in (omega (arith, w), tt)
+    let w = binary_weight (ap typed_expression_of c.in-Binary.is) c.deref-in-Binary.ensures in (omega (arith, w), tt)
 
 pub value_into-conditional_into-requires : goal.value_into-conditional_into-requires
 value_into-conditional_into-requires t c =
-    let w = conditional_weight (ap typed_expression_of c.in-Conditional.is) c.deref-in-Conditional.ensures c.deref-in-Conditional-2.ensures
-    c.deref-in-Conditional-3.ensures in (omega (arith, w), tt)
+    let w = conditional_weight (ap typed_expression_of c.in-Conditional.is) c.deref-in-Conditional.ensures in (omega (arith, w), tt)
 
 pub condition-sides-requires : goal.condition-sides-requires
 condition-sides-requires t c =
-    let w = conditional_weight (ap typed_expression_of c.in-Conditional.is) c.deref-in-Conditional.ensures c.deref-in-Conditional-2.ensures
-    c.deref-in-Conditional-3.ensures in (omega (arith, w), tt)
+    let w = conditional_weight (ap typed_expression_of c.in-Conditional.is) c.deref-in-Conditional.ensures in (omega (arith, w), tt)
 
 pub condition-logical_branches-requires : goal.condition-logical_branches-requires
 condition-logical_branches-requires t c =
-    let w = binary_weight (ap typed_expression_of c.in-Binary.is) c.deref-in-Logical.ensures c.deref-in-Logical-2.ensures in (omega (arith, w), tt)
+    let w = binary_weight (ap typed_expression_of c.in-Binary.is) c.deref-in-Binary.ensures in (omega (arith, w), tt)
 
 pub condition-contrary_test-requires : goal.condition-contrary_test-requires
 condition-contrary_test-requires t c =
-    let w = binary_weight (ap typed_expression_of c.in-Binary.is) c.deref-in-Plain.ensures c.deref-in-Plain-2.ensures in (omega (arith, w), tt)
+    let w = binary_weight (ap typed_expression_of c.in-Binary.is) c.deref-in-Binary.ensures in (omega (arith, w), tt)
 
 pub unary_into-value_into-requires : goal.unary_into-value_into-requires
 unary_into-value_into-requires t c = (omega arith, tt)
