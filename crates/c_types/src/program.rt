@@ -245,13 +245,13 @@ fn type_program(alloc: Global, program: &Program) -> Result<Typed, TypeStop>
 
 /// The typed program of a program that was read, exactly where it has no fault; else the fault with the least offset,
 /// and of these the least number. Where memory is refused that is told in place of any of these, at the text's length.
-pub fn check(alloc: Global, program: Program) -> Result<Typed, TypeFault>
-    ensures ok { IfOk result (λ t. TypesProgram program.text.items (declarations_of program.declarations.items) (program_of t)) }
-    ensures none { IfOk result (λ t. HasNone (FaultyProgram program.text.items (declarations_of program.declarations.items))) }
-    ensures err { IfErr result (IsTypeFault program.text.items
-        (FaultyProgram program.text.items (declarations_of program.declarations.items))) }
+pub fn check(alloc: Global, program: &Program) -> Result<Typed, TypeFault>
+    ensures ok { IfOk result (λ t. TypesProgram program.now.text.items (declarations_of program.now.declarations.items) (program_of t)) }
+    ensures none { IfOk result (λ t. HasNone (FaultyProgram program.now.text.items (declarations_of program.now.declarations.items))) }
+    ensures err { IfErr result (IsTypeFault program.now.text.items
+        (FaultyProgram program.now.text.items (declarations_of program.now.declarations.items))) }
 {
-    match type_program(alloc, &program) {
+    match type_program(alloc, program) {
         Ok(typed) => Ok(typed),
         Err(TypeStop::Fault(fault)) => Err(fault),
         Err(TypeStop::NoMemory) => Err(TypeFault {
