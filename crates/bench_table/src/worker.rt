@@ -84,8 +84,7 @@ pub struct Part {
     pub order: Order,
 }
 
-/// A pass, the tickets of its leaves, how many terms there are, which of them are its own, and when it began and ended
-/// the last round.
+/// A pass, the tickets of its leaves, how many terms there are and which are its own, and when its last round began and ended.
 #[derive(Drop)]
 pub struct Worker {
     pub pass: Pass,

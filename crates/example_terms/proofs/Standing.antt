@@ -11,7 +11,8 @@ use Rattle.example_terms.specs.Standing.{AreAt, StandFor}
 
 pub there_means : {p : PassState} {ts : List ℕ} {fs : Environment → List Value} {t k : ℕ} → AllMean op_algebra p ts fs
     → (t ≡ slice_index ts k) × (k < length ts) → Means op_algebra p t (λ e. at (fs e) k)
-there_means {p} {ts} {fs} {t} {k} h there = subst (λ u. Means op_algebra p u (λ e. at (fs e) k)) (sym there.0) (means_at nothing k h there.1)
+there_means {p} {ts} {fs} {t} {k} h there = subst (λ u. Means op_algebra p u (λ e. at (fs e) k)) (sym there.0)
+    (means_at nothing k h there.1)
 
 -- the values at some places
 pub picked : {p : PassState} {all : List ℕ} {fs : Environment → List Value} (ks ts : List ℕ) → AllMean op_algebra p all fs → AreAt all ks ts
@@ -22,7 +23,8 @@ picked {p} {all} {fs} (k ∷ ks) [] h there = absurd there
 picked {p} {all} {fs} (k ∷ ks) (t ∷ ts) h there = first_means (there_means h (there.0, there.1)) (picked ks ts h there.2)
 
 -- one place more
-pub one_more : (all ks ts : List ℕ) (k t : ℕ) → AreAt all ks ts → t ≡ slice_index all k → k < length all → AreAt all (ks ++ k ∷ []) (ts ++ t ∷ [])
+pub one_more : (all ks ts : List ℕ) (k t : ℕ) → AreAt all ks ts → t ≡ slice_index all k → k < length all
+    → AreAt all (ks ++ k ∷ []) (ts ++ t ∷ [])
 one_more all [] [] k t h same lt = (same, lt, tt)
 one_more all [] (u ∷ us) k t h same lt = absurd h
 one_more all (j ∷ js) [] k t h same lt = absurd h

@@ -10,7 +10,7 @@ pub type Case = (
     &'static [(Op, &'static [Place])],
 );
 
-/// (x + 3 * 5) * (x + 3 * 5) + the words at x and at 15, each computed where it is used, which is then stored at x.
+/// (x + 3 * 5) * (x + 3 * 5) + the words at x and at 15, each computed where it is used. The sum is stored at x.
 const SUMS: &[(Op, &[Place])] = &[
     (Variable(7), &[]),
     (Constant(3), &[]),

@@ -81,7 +81,8 @@ fn known(table: &TermTable, pass: &mut Pass, ticket: Ticket) -> Option<u32>
     requires seen { HasSeenTerm op_coding pass.old ticket }
     ensures own { IsOf table.now pass.new }
     ensures extends { Extends pass.old pass.new }
-    ensures word { (f : Environment → Value) → Means op_algebra pass.old ticket f → IfSome result (λ n. (e : Environment) → f e ≡ just e n) }
+    ensures word { (f : Environment → Value) → Means op_algebra pass.old ticket f
+        → IfSome result (λ n. (e : Environment) → f e ≡ just e n) }
 {
     match table.read::<Op>(pass, ticket).label {
         Op::Constant(n) => Some(n),

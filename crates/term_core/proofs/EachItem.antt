@@ -1,7 +1,8 @@
--- What each item does, in each world that a list of items reaches.
+-- What each item does, in each world that a list of items reaches: it does one step of its pass (`Does`) and leaves the other passes, it
+-- changes at most one word, and of what two passes have seen, one is the beginning of the other.
 use prog.Atomic.{either}
 use Rattle.std.proofs.Common.{◌≡◌, ◌≢◌, ℕ, zero, suc, ◌+◌, ◌<◌, ◌≤◌, ◌==◌, ne_eqb, ◌⊎◌, Bool, true, false, cond, List, [], ◌∷◌, ◌++◌}
-use Rattle.std.proofs.Common.{slice_index, slice_set, refl, sym, ap, subst, ◌∙◌, inl, inr, ⊎_elim, arith, length}
+use Rattle.std.proofs.Common.{slice_index, slice_set, refl, sym, ap, subst, ◌∙◌, inl, inr, ⊎_elim, append-nil, arith, length}
 use mathlib.Core.Option.{some, none, some-ne-none, some-injective}
 use mathlib.Core.Option as O
 use lib.ListN.{get_elem?}
@@ -12,17 +13,18 @@ use Rattle.term_core.specs.declared.Stage.{Stage}
 use Rattle.term_core.specs.declared.Stage.TheVariants.{Idle, Looking, AtLink, AtContent, Writing, Linking, Reading}
 use Rattle.term_core.specs.declared.Walker.{Walker}
 use Rattle.term_core.specs.Terms.{StartsWith, Pair, pairs_of}
-use Rattle.term_core.specs.World.{Shape, World, Item, Choice, begins, looks, Turn, turn, place, first_stage, may_begin, call_start, step_start_at}
+use Rattle.term_core.specs.World.{Shape, World, Item, Choice, begins, looks, Turn, turn, place, first_stage, may_begin, call_start}
+use Rattle.term_core.specs.World.{step_start_at}
 use Rattle.term_core.specs.World.{step_start, is_idle, does, acts, steps, step, world_of}
-use Rattle.term_core.specs.Items.{link_loads, GoesOn, EndsCall, Does, EachItemDoes, OthersStand, SeenAgree}
+use Rattle.term_core.specs.Items.{link_loads, Does, EachItemDoes, OthersStand, SeenAgree}
 use Rattle.term_core.proofs.Kept.{Spot, Inv, Stands, step_start_has}
 use Rattle.term_core.proofs.Reaching.{keeps_all, lawful}
 use Rattle.term_core.proofs.Chains.{at_same, at_other, set_itself}
 use Rattle.term_core.specs.World.{place_at, becomes_at, link_of}
 use Rattle.term_core.specs.Items.{Links, Writes, WordsStay}
-use Rattle.term_core.proofs.Does.{Asks, Still, Over, tells, grows, same_by, append_none}
+use Rattle.term_core.proofs.Does.{Asks, tells, grows, same_by}
 
-set_there : {A : Type 0} (l : List A) (i : ℕ) (a b : A) → get_elem? l i ≡ some b → get_elem? (slice_set l i a) i ≡ some a
+pub set_there : {A : Type 0} (l : List A) (i : ℕ) (a b : A) → get_elem? l i ≡ some b → get_elem? (slice_set l i a) i ≡ some a
 set_there [] i a b e = absurd (some-ne-none b (sym e))
 set_there (x ∷ xs) zero a b e = refl
 set_there (x ∷ xs) (suc i) a b e = set_there xs i a b e
@@ -45,7 +47,8 @@ idle_loads (Reading t xs) e = refl
 
 chosen_seen : (s : Shape) (choice : Choice) (v : Walker) → (call_start s choice v).seen ≡ v.seen
 chosen_seen s (begins c) v =
-    elim (may_begin v.seen c) as (λ (k : Bool). (cond k (record v { stage = first_stage s c; probes = 0 }) v).seen ≡ v.seen) [ true ↦ refl | false ↦ refl ]
+    elim (may_begin v.seen c) as (λ (k : Bool). (cond k (record v { stage = first_stage s c; probes = 0 }) v).seen ≡ v.seen)
+    [ true ↦ refl | false ↦ refl ]
 chosen_seen s (looks n) v = refl
 
 begun_seen : (s : Shape) (choice : Choice) (v : Walker) (g : Stage) → (step_start_at s choice v g).seen ≡ v.seen
@@ -80,11 +83,13 @@ asks_begun s words ps chains choice v (Linking c a) i k e = subst Asks (sym i) t
 asks_begun s words ps chains choice v (Reading t xs) i k e = subst Asks (sym i) tt
 
 idle_if : (s : Shape) (c : Call) (v : Walker) (k : Bool)
-    → is_idle (cond k (record v { stage = first_stage s c; probes = 0 }) v).stage ≡ true → cond k (record v { stage = first_stage s c; probes = 0 }) v ≡ v
+    → is_idle (cond k (record v { stage = first_stage s c; probes = 0 }) v).stage ≡ true
+    → cond k (record v { stage = first_stage s c; probes = 0 }) v ≡ v
 idle_if s c v true e = let x : false ≡ true = sym (busy_first s c) ∙ e in absurd cc
 idle_if s c v false e = refl
 
-idle_begun : (s : Shape) (choice : Choice) (v : Walker) (g : Stage) → is_idle (step_start_at s choice v g).stage ≡ true → step_start_at s choice v g ≡ v
+idle_begun : (s : Shape) (choice : Choice) (v : Walker) (g : Stage) → is_idle (step_start_at s choice v g).stage ≡ true
+    → step_start_at s choice v g ≡ v
 idle_begun s (begins c) v Idle e = idle_if s c v (may_begin v.seen c) e
 idle_begun s (looks n) v Idle e = absurd cc
 idle_begun s choice v (Looking k) e = refl
@@ -98,32 +103,18 @@ module _ (s : Shape) (w : World) (by : ℕ) (b : Walker) where
   abbrev t : Turn
   t = turn s w.history (slice_index w.words (place s b)) b
 
-  said_so : Still b b.stage t ⊎ Over w.history b b.stage t → GoesOn w (steps s w by b) b t.walker ⊎ EndsCall w (steps s w by b) b t.walker
-  said_so d = ⊎_elim
-      (λ (p : Still b b.stage t). inl (ap (λ (x : List Entry). w.history ++ x) p.0 ∙ append_none w.history, p.1, p.2))
-      (λ (p : Over w.history b b.stage t). inr (record {
-        call = p.call;
-        answer = p.answer;
-        inside = p.inside;
-        history = ap (λ (x : List Entry). w.history ++ x) p.said;
-        mine = p.mine;
-        seen = p.seen ∙ sym (ap (λ (x : List Entry). w.history ++ x) p.said);
-        idle = p.idle;
-      }))
-      d
-
-  busy_does : Asks b.stage → StartsWith w.history b.seen → Does w (steps s w by b) b t.walker
+  busy_does : Asks b.stage → StartsWith w.history b.seen → Does w.history (steps s w by b).history b t.walker
   busy_does asks step_start = let told = tells s w.history (slice_index w.words (place s b)) b b.stage asks in record {
     by = same_by s w.history (slice_index w.words (place s b)) b b.stage;
     seen = grows s w.history (slice_index w.words (place s b)) b b.stage step_start;
-    said = said_so told.0;
-    probes = told.1;
+    said = told.said;
+    probes = told.probes;
   }
 
-still_does : (w : World) (b : Walker) → is_idle b.stage ≡ true → Does w w b b
-still_does w b e = record {
+still_does : (h : List Entry) (b : Walker) → is_idle b.stage ≡ true → Does h h b b
+still_does h b e = record {
   by = refl;
-  seen = ([], sym (append_none b.seen));
+  seen = ([], sym (append-nil b.seen));
   said = inl (refl, refl, refl);
   probes = let z = idle_loads b.stage e in omega arith;
 }
@@ -135,21 +126,23 @@ module _ (s : Shape) (w : World) (inv : Inv s w) (i : Item) (v v' : Walker) (her
   step_is : step s w i ≡ acts s w i.by b
   step_is = ap (λ (o : O.Option Walker). does s w i o) here
 
-  it_does : (k : Bool) → is_idle b.stage ≡ k → get_elem? (cond k w (steps s w i.by b)).passes i.by ≡ some v' → Does w (cond k w (steps s w i.by b)) b v'
+  it_does : (k : Bool) → is_idle b.stage ≡ k → get_elem? (cond k w (steps s w i.by b)).passes i.by ≡ some v'
+      → Does w.history (cond k w (steps s w i.by b)).history b v'
   it_does true e after =
       let same : b ≡ v = idle_begun s i.choice v v.stage e in
       let u : v ≡ v' = some-injective v v' (sym here ∙ after) in
-      subst (λ (x : Walker). Does w w b x) (same ∙ u) (still_does w b e)
+      subst (λ (x : Walker). Does w.history w.history b x) (same ∙ u) (still_does w.history b e)
   it_does false e after =
       let st = inv.passes i.by v here in
-      let u : (turn s w.history (slice_index w.words (place s b)) b).walker ≡ v' = some-injective _ v' (sym (set_there w.passes i.by _ v here) ∙ after) in
-      subst (λ (x : Walker). Does w (steps s w i.by b) b x) u (busy_does s w i.by b
+      let u : (turn s w.history (slice_index w.words (place s b)) b).walker ≡ v' =
+      some-injective _ v' (sym (set_there w.passes i.by _ v here) ∙ after) in
+      subst (λ (x : Walker). Does w.history (steps s w i.by b).history b x) u (busy_does s w i.by b
       (asks_begun s w.words (pairs_of w.history) inv.chains i.choice v v.stage refl st.spot e)
       (subst (λ (x : List Entry). StartsWith w.history x) (sym (begun_seen s i.choice v v.stage)) st.begins))
 
-  does_it : get_elem? (step s w i).passes i.by ≡ some v' → Does w (step s w i) b v'
+  does_it : get_elem? (step s w i).passes i.by ≡ some v' → Does w.history (step s w i).history b v'
   does_it after =
-      subst (λ (x : World). Does w x b v') (sym step_is)
+      subst (λ (x : World). Does w.history x.history b v') (sym step_is)
       (it_does (is_idle b.stage) refl (subst (λ (x : World). get_elem? x.passes i.by ≡ some v') step_is after))
 
 pub each_item_does : EachItemDoes
@@ -160,7 +153,8 @@ others_if : (s : Shape) (w : World) (i : Item) (by : ℕ) (b : Walker) (k : Bool
 others_if s w i by b true ne = refl
 others_if s w i by b false ne = set_else w.passes i.by by _ ne
 
-others_of : (s : Shape) (w : World) (i : Item) (by : ℕ) (o : O.Option Walker) → by ≢ i.by → get_elem? (does s w i o).passes by ≡ get_elem? w.passes by
+others_of : (s : Shape) (w : World) (i : Item) (by : ℕ) (o : O.Option Walker) → by ≢ i.by
+    → get_elem? (does s w i o).passes by ≡ get_elem? w.passes by
 others_of s w i by none ne = refl
 others_of s w i by (some v) ne = others_if s w i by (step_start s i.choice v) (is_idle (step_start s i.choice v).stage) ne
 
@@ -201,7 +195,8 @@ either_none : (x y : ℕ) → x ≡ 0 → either (x == 0) y x ≡ y
 either_none x y e = subst (λ (z : ℕ). either (z == 0) y z ≡ y) (sym e) refl
 
 either_some : (x y m : ℕ) → x ≡ suc m → either (x == 0) y x ≡ x
-either_some x y m e = subst (λ (z : ℕ). either (z == 0) y z ≡ z) (sym e) (ap (λ (b : Bool). either b y (suc m)) (ne_eqb (suc m) 0 (λ q. absurd (omega arith))))
+either_some x y m e = subst (λ (z : ℕ). either (z == 0) y z ≡ z) (sym e)
+    (ap (λ (b : Bool). either b y (suc m)) (ne_eqb (suc m) 0 (λ q. absurd (omega arith))))
 
 -- a step that makes of a word what it was
 loads_only : (words : List ℕ) (p a : ℕ) → slice_index (slice_set words p (slice_index words p)) a ≡ slice_index words a
@@ -229,7 +224,8 @@ module _ (s : Shape) (w : World) (inv : Inv s w) (by : ℕ) (v : Walker) (st : S
       }))
   linking c l i (suc m) f (inl e) =
       inl (ap (λ (h : Stage). slice_index (At h) a) i
-      ∙ ap (λ (x : ℕ). slice_index (slice_set w.words l x) a) (either_some (slice_index w.words l) (suc v.own) m f) ∙ loads_only w.words l a)
+      ∙ ap (λ (x : ℕ). slice_index (slice_set w.words l x) a) (either_some (slice_index w.words l) (suc v.own) m f)
+      ∙ loads_only w.words l a)
 
   -- what the step of the pass itself does, from its stage
   of_stage : (g : Stage) → v.stage ≡ g → Spot s w.words (pairs_of w.history) inv.chains v g → Fine (steps s w by v)
@@ -299,6 +295,7 @@ pub words_stay : WordsStay
 words_stay s items i v a ok here =
     let w : World = world_of s items in
     let inv = keeps_all s items ok in
-    let low : place s v < length w.words = let q = ((lawful s items ok).sees i.by v here).1.within in let l = inv.shared.long in omega arith in
+    let low : place s v < length w.words = let q = ((lawful s items ok).sees i.by v here).1.within in let l = inv.shared.long in
+    omega arith in
     subst (λ (x : World). Fine s w inv i.by v (inv.passes i.by v here) a low x) (sym (step_is s w inv i v v here))
     (fine s w inv i v here a low (is_idle (step_start s i.choice v).stage) refl)

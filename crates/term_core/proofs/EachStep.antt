@@ -1,6 +1,6 @@
 -- Each step of a pass that is at work keeps what every list of items keeps.
-use Rattle.std.proofs.Common.{◌≡◌, ℕ, zero, suc, ◌+◌, ◌-◌, ◌*◌, ◌<◌, ◌≤◌, ◌≢◌, ◌==◌, ◌&&◌, ◌⊎◌, Bool, true, false, cond, List, [], ◌∷◌}
-use Rattle.std.proofs.Common.{◌++◌, length, take, drop, slice_index, slice_set, replicate, Option, Some, None, refl, sym, ap, subst, ◌∙◌}
+use Rattle.std.proofs.Common.{◌≡◌, ℕ, zero, suc, ◌+◌, ◌-◌, ◌*◌, ◌<◌, ◌≤◌, ◌≢◌, ◌==◌, ◌⊎◌, Bool, true, false, cond, List, [], ◌∷◌}
+use Rattle.std.proofs.Common.{◌++◌, length, take, drop, slice_index, slice_set, Option, Some, None, refl, sym, ap, subst, ◌∙◌}
 use Rattle.std.proofs.Common.{inl, inr, ⊎_elim, append_assoc, append-nil, length-append, length-set, eq-eqb, ne_eqb, max, arith}
 use Rattle.std.proofs.lemmas.List.{append_cancel_left}
 use native.Mathlib.Decide.{ℕ_discrete}
@@ -16,19 +16,21 @@ use Rattle.term_core.specs.declared.Entry.{Entry}
 use Rattle.term_core.specs.declared.Stage.{Stage}
 use Rattle.term_core.specs.declared.Stage.TheVariants.{Idle, Looking, AtLink, AtContent, Writing, Linking, Reading}
 use Rattle.term_core.specs.declared.Walker.{Walker}
+use Rattle.term_core.specs.declared.TheConstants.{CONTENT_WORDS, LAST_WORD}
 use Rattle.term_labels.specs.WordTrees.{Tree}
 use Rattle.term_core.specs.Terms.{Pair, tree_at, tree_over, node_if, is_there, pair_if, added_by, adds, pairs_of, Has}
 use Rattle.term_core.specs.Terms.{MayAnswer, calls_by}
-use Rattle.term_core.specs.World.{Shape, IsShape, World, Item, Choice, begins, looks, Turn, world_of, world_after, start, step, does, acts}
-use Rattle.term_core.specs.World.{steps, step_start, step_start_at, call_start, may_begin, all_occur, at_most_three, first_stage, is_idle, place}
-use Rattle.term_core.specs.World.{place_at, becomes, becomes_at, turn, turn_at, goes, ends, entry, follows, turn_without_node, turn_of_exchange, content}
-use Rattle.term_core.specs.World.{hit, answer_of, fresh, fresh_from, link_of}
-use Rattle.term_core.proofs.Replay.{IsThere, One, one_of, there_from, tree_later, pairs_append, pairs_more, same_from, legal_front, tree_more}
-use Rattle.term_core.proofs.Chains.{Mem, mem_here, mem_cases, Linked, end_of, end_cases, end_snoc, linked_rest, linked_none, linked_some}
-use Rattle.term_core.proofs.Chains.{linked_frame, at_same, at_other, set_itself}
+use Rattle.term_core.specs.World.{Shape, IsShape, World, begins, Turn}
+use Rattle.term_core.specs.World.{is_idle}
+use Rattle.term_core.specs.World.{place_at, becomes_at, turn_at, goes, ends, entry, follows, turn_without_node}
+use Rattle.term_core.specs.World.{turn_of_exchange, content}
+use Rattle.term_core.specs.World.{hit, answer_of, link_of}
+use Rattle.term_core.proofs.Replay.{IsThere, one_of}
+use Rattle.term_core.proofs.Chains.{Mem, mem_here, mem_cases, Linked, end_of, end_snoc, linked_rest, linked_none, linked_some}
+use Rattle.term_core.proofs.Chains.{linked_frame, at_same, at_other}
 use Rattle.term_core.proofs.Kept.{word, SameAs, home, Shared, Walk, OnLink, OnContent, OnWriting, OnLinking, OnReading, Spot, Stands, Inv}
 use Rattle.term_core.proofs.Kept.{Change, stands_at, Searches, Interns, chain_of, label_of, kids_of}
-use Rattle.term_core.proofs.Keys.{content_is, matched, missing, over, tree_of}
+use Rattle.term_core.proofs.Keys.{matched, missing, over, tree_of}
 use Rattle.term_core.proofs.Turns.{combine, no_change, quiet_change, quiet, loaded, loaded_end, ended}
 use Rattle.term_core.proofs.Joining.{linked_step}
 
@@ -57,12 +59,14 @@ module _ (s : Shape) (ok : IsShape s) (w : World) (inv : Inv s w) (p : ℕ) (v :
   Next a t x = Inv s (record { words = slice_set w.words a x; passes = slice_set w.passes p t.walker; history = w.history ++ t.said })
 
   long_enough : (c : ℕ) (pre post : List ℕ) → chains c ≡ pre ++ post → length pre ≤ length ps
-  long_enough c pre post e = let f = inv.shared.few c in let g : length (chains c) ≡ length (pre ++ post) = ap length e in omega (arith, length-append pre post)
+  long_enough c pre post e = let f = inv.shared.few c in let g : length (chains c) ≡ length (pre ++ post) = ap length e in
+      omega (arith, length-append pre post)
 
   move : (a : ℕ) (g : Stage) (q : ℕ) → q ≤ length ps + 1 → Spot s w.words ps chains (record b { stage = g; probes = q }) g
       → Next a (goes (record b { probes = q }) g) (slice_index w.words a)
   move a g q few k =
-      loaded s w inv p v at b same_room st a (slice_set w.passes p (record b { stage = g; probes = q })) (quiet s w inv p v at b same_room st g q few k)
+      loaded s w inv p v at b same_room st a (slice_set w.passes p (record b { stage = g; probes = q }))
+      (quiet s w inv p v at b same_room st g q few k)
 
   finish : (a : ℕ) (c : Call) (ans : Answer) (q : ℕ) → q ≤ length ps + 1 → adds ps b.by c ans ≡ [] → MayAnswer s.nodes ps b.by c ans
       → Next a (ends w.history (record b { probes = q }) c ans) (slice_index w.words a)
@@ -102,7 +106,8 @@ module _ (s : Shape) (ok : IsShape s) (w : World) (inv : Inv s w) (p : ℕ) (v :
       absent = missing s w.words ps chains inv.shared b (Intern l ks) wr k.pre k.post k.walk (one_of s.nodes w.history inv.legal) e
 
       written : (wr : Bool) → OnLink s w.words ps chains b (Intern l ks) wr a → 0 < b.room
-          → Next a (goes (record b { probes = suc b.probes }) (cond wr (Linking (Intern l ks) a) (Writing (Intern l ks) a 0))) (slice_index w.words a)
+          → Next a (goes (record b { probes = suc b.probes }) (cond wr (Linking (Intern l ks) a) (Writing (Intern l ks) a 0)))
+          (slice_index w.words a)
       written true k r = let f = long_enough (chain_of s (Intern l ks)) k.pre k.post k.walk.split in let g = k.probes in
           move a (Linking (Intern l ks) a) (suc b.probes) (omega arith) (record {
             pre = k.pre;
@@ -156,33 +161,38 @@ module _ (s : Shape) (ok : IsShape s) (w : World) (inv : Inv s w) (p : ℕ) (v :
         probes = (let g = k.probes in omega arith);
       })
 
-  all_alike : (k i n : ℕ) (row : List ℕ) → i ≡ 3 → ((j : ℕ) → j < i → word s w.words k j ≡ slice_index row j)
+  all_alike : (k i n : ℕ) (row : List ℕ) → i ≡ LAST_WORD → ((j : ℕ) → j < i → word s w.words k j ≡ slice_index row j)
       → word s w.words k i ≡ slice_index row i → SameAs s w.words k row
-  all_alike k i n row e f g j lt = dite (ℕ_discrete j i) (λ q. subst (λ (x : ℕ). word s w.words k x ≡ slice_index row x) (sym q) g) (λ ne. f j (omega arith))
+  all_alike k i n row e f g j lt = dite (ℕ_discrete j i) (λ q. subst (λ (x : ℕ). word s w.words k x ≡ slice_index row x) (sym q) g)
+      (λ ne. f j (omega arith))
 
   compare : (c : Call) (wr : Bool) (k i : ℕ) → OnContent s w.words ps chains b c wr k i
       → Next (link_of s k + 1 + i)
       (cond (word s w.words k i == slice_index (content c) i)
-      (cond (i == 3) (ends w.history b c (hit c k)) (goes b (AtContent c wr k (suc i)))) (goes b (AtLink c wr (link_of s k))))
+      (cond (i == LAST_WORD) (ends w.history b c (hit c k)) (goes b (AtContent c wr k (suc i)))) (goes b (AtLink c wr (link_of s k))))
       (slice_index w.words (link_of s k + 1 + i))
   compare c wr k i o = dite (ℕ_discrete (word s w.words k i) (slice_index (content c) i))
-      (λ e. subst (λ (x : Bool). Next a (cond x yes_turn no_turn) (slice_index w.words a)) (sym (eq-eqb (word s w.words k i) (slice_index (content c) i) e))
-      (dite (ℕ_discrete i 3)
+      (λ e. subst (λ (x : Bool). Next a (cond x yes_turn no_turn) (slice_index w.words a))
+      (sym (eq-eqb (word s w.words k i) (slice_index (content c) i) e))
+      (dite (ℕ_discrete i LAST_WORD)
       (λ last. subst (λ (x : Bool). Next a (cond x (ends w.history b c (hit c k)) (goes b (AtContent c wr k (suc i))))
-      (slice_index w.words a)) (sym (eq-eqb i 3 last))
+      (slice_index w.words a)) (sym (eq-eqb i LAST_WORD last))
       (let m = found (all_alike k i 0 (content c) last o.alike e) in
-      finish a c (hit c k) b.probes st.probes (adds_hit ps b.by c k _ o.walk.searches m) (answers_hit s.nodes ps b.by c k _ o.walk.searches is_over m)))
+      finish a c (hit c k) b.probes st.probes (adds_hit ps b.by c k _ o.walk.searches m)
+      (answers_hit s.nodes ps b.by c k _ o.walk.searches is_over m)))
       (λ more. subst (λ (x : Bool). Next a (cond x (ends w.history b c (hit c k)) (goes b (AtContent c wr k (suc i))))
-      (slice_index w.words a)) (sym (ne_eqb i 3 more))
+      (slice_index w.words a)) (sym (ne_eqb i LAST_WORD more))
       (let lt = o.below in move a (AtContent c wr k (suc i)) b.probes st.probes (record {
         pre = o.pre;
         post = o.post;
         walk = o.walk;
         below = omega arith;
-        alike = λ j l. dite (ℕ_discrete j i) (λ q. subst (λ (x : ℕ). word s w.words k x ≡ slice_index (content c) x) (sym q) e) (λ ne. o.alike j (omega arith));
+        alike = λ j l. dite (ℕ_discrete j i) (λ q. subst (λ (x : ℕ). word s w.words k x ≡ slice_index (content c) x) (sym q) e)
+            (λ ne. o.alike j (omega arith));
         probes = o.probes;
       })))))
-      (λ ne. subst (λ (x : Bool). Next a (cond x yes_turn no_turn) (slice_index w.words a)) (sym (ne_eqb (word s w.words k i) (slice_index (content c) i) ne))
+      (λ ne. subst (λ (x : Bool). Next a (cond x yes_turn no_turn) (slice_index w.words a))
+      (sym (ne_eqb (word s w.words k i) (slice_index (content c) i) ne))
       (move a (AtLink c wr (link_of s k)) b.probes st.probes (record {
         pre = o.pre ++ k ∷ [];
         post = o.post;
@@ -207,7 +217,7 @@ module _ (s : Shape) (ok : IsShape s) (w : World) (inv : Inv s w) (p : ℕ) (v :
       a = link_of s k + 1 + i
 
       yes_turn : Turn
-      yes_turn = cond (i == 3) (ends w.history b c (hit c k)) (goes b (AtContent c wr k (suc i)))
+      yes_turn = cond (i == LAST_WORD) (ends w.history b c (hit c k)) (goes b (AtContent c wr k (suc i)))
 
       no_turn : Turn
       no_turn = goes b (AtLink c wr (link_of s k))
@@ -240,12 +250,13 @@ module _ (s : Shape) (ok : IsShape s) (w : World) (inv : Inv s w) (p : ℕ) (v :
     room_there = let l = inv.shared.long in let o = own_low in let lt = k.below in omega arith
 
     not_own : (t : ℕ) → IsThere ps t → t ≢ b.own
-    not_own t h q = let e : tree_at ps t ≡ None = subst (λ (x : ℕ). tree_at ps x ≡ None) (sym q) own_free in let f : None ≡ Some h.0 = sym e ∙ h.1 in cc
+    not_own t h q = let e : tree_at ps t ≡ None = subst (λ (x : ℕ). tree_at ps x ≡ None) (sym q) own_free in let f : None ≡ Some h.0 = sym e
+        ∙ h.1 in cc
 
     off_link : (t : ℕ) → link_of s t ≢ here
     off_link t q = let lt = k.below in absurd (omega arith)
 
-    elsewhere : (t j : ℕ) → j < 4 → t ≢ b.own → word s words' t j ≡ word s w.words t j
+    elsewhere : (t j : ℕ) → j < CONTENT_WORDS → t ≢ b.own → word s words' t j ≡ word s w.words t j
     elsewhere t j lt ne = at_other w.words here (link_of s t + 1 + j) (slice_index (content c) i) (λ q. let l = k.below in ne (omega arith))
 
     outside : (t : ℕ) → (t < p * s.nodes) ⊎ (p * s.nodes + s.nodes ≤ t) → t ≢ b.own
@@ -263,7 +274,8 @@ module _ (s : Shape) (ok : IsShape s) (w : World) (inv : Inv s w) (p : ℕ) (v :
         let x = elsewhere t 0 (omega arith) ne in let y = elsewhere t 1 (omega arith) ne in let z = elsewhere t 2 (omega arith) ne in
         let u = elsewhere t 3 (omega arith) ne in
         λ i. s.chain (x i)
-        (Rattle.term_core.specs.World.kid_in (y i) (Rattle.term_core.specs.World.kid_in (z i) (Rattle.term_core.specs.World.kid_in (u i) [])))
+        (Rattle.term_core.specs.World.kid_in (y i) (Rattle.term_core.specs.World.kid_in (z i)
+        (Rattle.term_core.specs.World.kid_in (u i) [])))
 
     shared' : Shared s words' ps chains
     shared' = record {
@@ -285,8 +297,10 @@ module _ (s : Shape) (ok : IsShape s) (w : World) (inv : Inv s w) (p : ℕ) (v :
 
     alike' : (j : ℕ) → j < suc i → word s words' b.own j ≡ slice_index (content c) j
     alike' j lt = dite (ℕ_discrete j i)
-        (λ q. subst (λ (x : ℕ). word s words' b.own x ≡ slice_index (content c) x) (sym q) (at_same w.words here (slice_index (content c) i) room_there))
-        (λ ne. at_other w.words here (link_of s b.own + 1 + j) (slice_index (content c) i) (λ q. ne (omega arith)) ∙ k.alike j (omega arith))
+        (λ q. subst (λ (x : ℕ). word s words' b.own x ≡ slice_index (content c) x) (sym q)
+        (at_same w.words here (slice_index (content c) i) room_there))
+        (λ ne. at_other w.words here (link_of s b.own + 1 + j) (slice_index (content c) i) (λ q. ne (omega arith))
+        ∙ k.alike j (omega arith))
 
     -- the walk, also where the node has all its words
     walk' : (x : Bool) → (x ≡ true → Interns c × (0 < b.room) × SameAs s words' b.own (content c))
@@ -300,16 +314,23 @@ module _ (s : Shape) (ok : IsShape s) (w : World) (inv : Inv s w) (p : ℕ) (v :
       differ = λ t m same. k.walk.differ t m
           (λ j lt. sym (elsewhere t j lt
           (not_own t ((inv.shared.back (chain_of s c) t
-          (subst (λ (l : List ℕ). Mem t l) (sym k.walk.split) (Rattle.term_core.proofs.Chains.mem_left t k.pre k.post m))).1))) ∙ same j lt);
+          (subst (λ (l : List ℕ). Mem t l) (sym k.walk.split) (Rattle.term_core.proofs.Chains.mem_left t k.pre k.post m))).1)))
+          ∙ same j lt);
       wrote = wrote;
     }
 
-    next_stage : (x : Bool) → (i == 3) ≡ x
-        → Spot s words' ps chains (record b { stage = cond x (Linking c a) (Writing c a (suc i)) }) (cond x (Linking c a) (Writing c a (suc i)))
+    next_stage : (x : Bool) → (i == LAST_WORD) ≡ x
+        → Spot s words' ps chains (record b { stage = cond x (Linking c a) (Writing c a (suc i)) })
+        (cond x (Linking c a) (Writing c a (suc i)))
     next_stage true e = record {
       pre = k.pre;
       post = k.post;
-      walk = walk' true (λ _. (k.interns, k.room, (λ j lt. let q = Rattle.term_core.proofs.Replay.eqb_eq i 3 e in alike' j (omega arith))));
+      walk = walk' true (λ _. (
+        k.interns,
+        k.room,
+        (λ j lt. let q = Rattle.term_core.proofs.Replay.eqb_eq i LAST_WORD e in
+            alike' j (omega arith)),
+      ));
       place_is = k.place_is;
       probes = k.probes;
     }
@@ -320,20 +341,21 @@ module _ (s : Shape) (ok : IsShape s) (w : World) (inv : Inv s w) (p : ℕ) (v :
       place_is = k.place_is;
       interns = k.interns;
       room = k.room;
-      below = (let l = k.below in let ne : i ≢ 3 = λ q. absurd (let f : true ≡ false = sym (eq-eqb i 3 q) ∙ e in cc) in omega arith);
+      below = (let l = k.below in let ne : i ≢ LAST_WORD = λ q. absurd (let f : true ≡ false = sym (eq-eqb i LAST_WORD q) ∙ e in cc) in
+          omega arith);
       alike = alike';
       probes = k.probes;
     }
 
-    wrote_step : Next here (goes b (cond (i == 3) (Linking c a) (Writing c a (suc i)))) (slice_index (content c) i)
+    wrote_step : Next here (goes b (cond (i == LAST_WORD) (Linking c a) (Writing c a (suc i)))) (slice_index (content c) i)
     wrote_step =
-        let u : Walker = record b { stage = cond (i == 3) (Linking c a) (Writing c a (suc i)) } in
+        let u : Walker = record b { stage = cond (i == LAST_WORD) (Linking c a) (Writing c a (suc i)) } in
         let Q : List Entry → Type 0 = λ h. Inv s (record { words = words'; passes = slice_set w.passes p u; history = h }) in
         subst Q (sym (append-nil w.history))
         (combine s w inv p v at words' w.history chains u change inv.legal shared' (ap (λ (n : ℕ). n + length ps) same_room)
         (stands_at s w.words words' w.history chains p b u.stage b.probes st.probes
         (λ n lo hi. let f = st.free n lo hi in (at_other w.words here (link_of s n) (slice_index (content c) i) (off_link n) ∙ f.0, f.1))
-        (next_stage (i == 3) refl) st))
+        (next_stage (i == LAST_WORD) refl) st))
 
   -- the exchange
   exchange : (c : Call) (a n : ℕ) → slice_index w.words a ≡ n → (k : OnLinking s w.words ps chains b c a)
@@ -354,16 +376,16 @@ module _ (s : Shape) (ok : IsShape s) (w : World) (inv : Inv s w) (p : ℕ) (v :
 
   read_on : (t n : ℕ) (xs : List ℕ) → n ≡ word s w.words t (length xs) → (k : OnReading s w.words ps b t xs)
       → Next (link_of s t + 1 + length xs)
-      (cond (length xs == 3) (ends w.history b (Read t) (answer_of (xs ++ n ∷ []))) (goes b (Reading t (xs ++ n ∷ []))))
+      (cond (length xs == LAST_WORD) (ends w.history b (Read t) (answer_of (xs ++ n ∷ []))) (goes b (Reading t (xs ++ n ∷ []))))
       (slice_index w.words (link_of s t + 1 + length xs))
-  read_on t n xs e k = dite (ℕ_discrete (length xs) 3)
+  read_on t n xs e k = dite (ℕ_discrete (length xs) LAST_WORD)
       (λ last. subst (λ (x : Bool). Next a
       (cond x (ends w.history b (Read t) (answer_of (xs ++ n ∷ []))) (goes b (Reading t (xs ++ n ∷ [])))) (slice_index w.words a))
-      (sym (eq-eqb (length xs) 3 last))
+      (sym (eq-eqb (length xs) LAST_WORD last))
       (finish a (Read t) (answer_of (xs ++ n ∷ [])) b.probes st.probes refl (answers last)))
       (λ more. subst (λ (x : Bool). Next a
       (cond x (ends w.history b (Read t) (answer_of (xs ++ n ∷ []))) (goes b (Reading t (xs ++ n ∷ [])))) (slice_index w.words a))
-      (sym (ne_eqb (length xs) 3 more))
+      (sym (ne_eqb (length xs) LAST_WORD more))
       (move a (Reading t (xs ++ n ∷ [])) b.probes st.probes (record {
         there = k.there;
         below = let lt = k.below in omega (arith, length-append xs (n ∷ []));
@@ -375,14 +397,16 @@ module _ (s : Shape) (ok : IsShape s) (w : World) (inv : Inv s w) (p : ℕ) (v :
       a = link_of s t + 1 + length xs
 
       by_index : (xs : List ℕ) (n j : ℕ)
-          → ((j < length xs) × (slice_index (xs ++ n ∷ []) j ≡ slice_index xs j)) ⊎ ((j ≡ length xs) × (slice_index (xs ++ n ∷ []) j ≡ n)) ⊎ (length xs < j)
+          → ((j < length xs) × (slice_index (xs ++ n ∷ []) j ≡ slice_index xs j)) ⊎ ((j ≡ length xs) × (slice_index (xs ++ n ∷ []) j ≡ n))
+          ⊎ (length xs < j)
       by_index [] n zero = inr (inl (refl, refl))
       by_index [] n (suc j) = inr (inr (omega arith))
       by_index (x ∷ xs) n zero = inl (omega arith, refl)
       by_index (x ∷ xs) n (suc j) =
           ⊎_elim (λ (h : (j < length xs) × (slice_index (xs ++ n ∷ []) j ≡ slice_index xs j)). inl ((let l = h.0 in omega arith), h.1))
           (λ (g : ((j ≡ length xs) × (slice_index (xs ++ n ∷ []) j ≡ n)) ⊎ (length xs < j)). inr
-          (⊎_elim (λ (h : (j ≡ length xs) × (slice_index (xs ++ n ∷ []) j ≡ n)). inl (ap suc h.0, h.1)) (λ (l : length xs < j). inr (omega arith)) g))
+          (⊎_elim (λ (h : (j ≡ length xs) × (slice_index (xs ++ n ∷ []) j ≡ n)). inl (ap suc h.0, h.1))
+          (λ (l : length xs < j). inr (omega arith)) g))
           (by_index xs n j)
 
       loaded_word : (j : ℕ) → j ≤ length xs → slice_index (xs ++ n ∷ []) j ≡ word s w.words t j
@@ -392,13 +416,14 @@ module _ (s : Shape) (ok : IsShape s) (w : World) (inv : Inv s w) (p : ℕ) (v :
           (λ (l : length xs < j). absurd (omega arith)) g)
           (by_index xs n j)
 
-      answers : length xs ≡ 3 → MayAnswer s.nodes ps b.by (Read t) (answer_of (xs ++ n ∷ []))
+      answers : length xs ≡ LAST_WORD → MayAnswer s.nodes ps b.by (Read t) (answer_of (xs ++ n ∷ []))
       answers last =
           let x = k.there in
           let o = (inv.shared.there t x.0 x.1).0 in
           let y0 = loaded_word 0 (omega arith) in let y1 = loaded_word 1 (omega arith) in let y2 = loaded_word 2 (omega arith) in let y3 =
           loaded_word 3 (omega arith) in
-          let l : slice_index (xs ++ n ∷ []) 0 ≡ o.label = y0 ∙ Rattle.term_core.proofs.Keys.label_is s w.words t o.label o.kids o.three o.holds in
+          let l : slice_index (xs ++ n ∷ []) 0 ≡ o.label = y0
+          ∙ Rattle.term_core.proofs.Keys.label_is s w.words t o.label o.kids o.three o.holds in
           let ks : Rattle.term_core.specs.World.kid_in (slice_index (xs ++ n ∷ []) 1)
           (Rattle.term_core.specs.World.kid_in (slice_index (xs ++ n ∷ []) 2)
           (Rattle.term_core.specs.World.kid_in (slice_index (xs ++ n ∷ []) 3) [])) ≡ o.kids
@@ -409,14 +434,17 @@ module _ (s : Shape) (ok : IsShape s) (w : World) (inv : Inv s w) (p : ℕ) (v :
           subst (MayAnswer s.nodes ps b.by (Read t)) (sym said) (x.0, x.1, ap (node_if o.label) o.kids_are ∙ ap Some (sym o.tree_is))
 
   -- a look: the pass sees more of the history
-  look_on : (k : ℕ) → Next 0 (record { walker = record b { stage = Idle; seen = take (max k (length b.seen)) w.history }; said = [] }) (slice_index w.words 0)
+  look_on : (k : ℕ) → Next 0 (record { walker = record b { stage = Idle; seen = take (max k (length b.seen)) w.history }; said = [] })
+      (slice_index w.words 0)
   look_on k = loaded s w inv p v at b same_room st 0 (slice_set w.passes p u)
-      (combine s w inv p v at w.words w.history chains u (no_change s w inv p v at) inv.legal inv.shared (ap (λ (n : ℕ). n + length ps) same_room) (record {
+      (combine s w inv p v at w.words w.history chains u (no_change s w inv p v at) inv.legal inv.shared
+      (ap (λ (n : ℕ). n + length ps) same_room) (record {
         owns = st.owns;
         tells = record {
           begins = (drop m w.history, sym (take_drop w.history m));
           own_calls = ap (λ (h : List Entry). calls_by p h) seen_is
-              ∙ (Rattle.term_core.proofs.Replay.calls_append p b.seen (take more.0 rest) ∙ ((λ i. st.own_calls i ++ none_later i) ∙ append-nil b.mine));
+              ∙ (Rattle.term_core.proofs.Replay.calls_append p b.seen (take more.0 rest)
+              ∙ ((λ i. st.own_calls i ++ none_later i) ∙ append-nil b.mine));
           all_calls = st.all_calls;
           count = st.count;
         };
@@ -471,7 +499,8 @@ module _ (s : Shape) (ok : IsShape s) (w : World) (inv : Inv s w) (p : ℕ) (v :
 
   -- each single step
   pub each : (g : Stage) → Spot s w.words ps chains b g → is_idle g ≡ false
-      → Next (place_at s b g) (turn_at s w.history (slice_index w.words (place_at s b g)) b g) (becomes_at b g (slice_index w.words (place_at s b g)))
+      → Next (place_at s b g) (turn_at s w.history (slice_index w.words (place_at s b g)) b g)
+      (becomes_at b g (slice_index w.words (place_at s b g)))
   each Idle k busy = absurd (let f : true ≡ false = busy in cc)
   each (Looking n) k busy = look_on n
   each (AtLink c wr a) k busy = follow c wr a (slice_index w.words a) refl k

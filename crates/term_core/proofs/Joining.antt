@@ -1,6 +1,7 @@
--- The step that links a node.
-use Rattle.std.proofs.Common.{◌≡◌, ℕ, zero, suc, ◌+◌, ◌-◌, ◌*◌, ◌<◌, ◌≤◌, ◌≢◌, ◌==◌, ◌⊎◌, Bool, true, false, cond, List, [], ◌∷◌, ◌++◌}
-use Rattle.std.proofs.Common.{length, slice_index, slice_set, Option, Some, None, refl, sym, ap, subst, ◌∙◌, inl, inr, ⊎_elim, append_assoc}
+-- The one step that adds a term: the exchange that links a pass's own node at the end of a chain. The world keeps its invariant (`Inv` of
+-- `Kept`) with one pair more, that of the node's tree, which had no ticket before.
+use Rattle.std.proofs.Common.{◌≡◌, ℕ, suc, ◌+◌, ◌-◌, ◌*◌, ◌<◌, ◌≤◌, ◌≢◌, ◌==◌, ◌⊎◌, Bool, true, cond, List, [], ◌∷◌, ◌++◌}
+use Rattle.std.proofs.Common.{length, slice_index, slice_set, Option, Some, None, refl, sym, ap, subst, ◌∙◌, inl, inr, ⊎_elim}
 use Rattle.std.proofs.Common.{append-nil, length-append, length-set, eq-eqb, ne_eqb, arith}
 use native.Mathlib.Decide.{ℕ_discrete}
 use mathlib.Core.Logic.{dite}
@@ -11,9 +12,10 @@ use Rattle.term_core.specs.declared.Call.TheVariants.{Intern, Find, Read}
 use Rattle.term_core.specs.declared.Answer.TheVariants.{Ticket}
 use Rattle.term_core.specs.declared.Entry.{Entry}
 use Rattle.term_core.specs.declared.Walker.{Walker}
+use Rattle.term_core.specs.declared.TheConstants.{CONTENT_WORDS}
 use Rattle.term_labels.specs.WordTrees.{Tree}
-use Rattle.term_core.specs.Terms.{Pair, tree_at, trees_at, tree_over, is_there, pair_if, added_by, adds, pairs_of, Has}
-use Rattle.term_core.specs.World.{Shape, IsShape, World, link_of, content, content_of, entry, ends}
+use Rattle.term_core.specs.Terms.{Pair, tree_at, tree_over, is_there, pair_if, added_by, adds, pairs_of, Has}
+use Rattle.term_core.specs.World.{Shape, IsShape, World, link_of, content_of, entry, ends}
 use Rattle.term_core.proofs.Replay.{IsThere, one_of, maybe, tree_more, tree_new, trees_more, added_append}
 use Rattle.term_core.proofs.Chains.{Mem, mem_left, mem_here, mem_cases, Linked, end_of, end_cases, at_end, at_other, linked_rest}
 use Rattle.term_core.proofs.Chains.{linked_other, linked_longer, linked_none}
@@ -96,7 +98,8 @@ module _ (s : Shape) (ok : IsShape s) (w : World) (inv : Inv s w) (p : ℕ) (v :
   -- the link word a is the head's, or one of a node that is there
   a_cases : (a ≡ C) ⊎ ((n : ℕ) × Mem n (inv.chains C) × (a ≡ link_of s n))
   a_cases = ⊎_elim (λ e. inl (a_is ∙ e))
-      (λ (g : (n : ℕ) × Mem n (inv.chains C) × (end_of s C (inv.chains C) ≡ link_of s n)). inr (g.0, g.1, a_is ∙ g.2)) (end_cases s C (inv.chains C))
+      (λ (g : (n : ℕ) × Mem n (inv.chains C) × (end_of s C (inv.chains C) ≡ link_of s n)). inr (g.0, g.1, a_is ∙ g.2))
+      (end_cases s C (inv.chains C))
 
   there_or : (t : ℕ) → tree_at ps t ≡ None → IsThere ps t → ⊥
   there_or t e h = let f : None ≡ Some h.0 = sym e ∙ h.1 in cc
@@ -110,20 +113,21 @@ module _ (s : Shape) (ok : IsShape s) (w : World) (inv : Inv s w) (p : ℕ) (v :
       there_or t none (subst (λ (n : ℕ). IsThere ps n) same h))
       a_cases
 
-  off_content : (t i : ℕ) → i < 4 → link_of s t + 1 + i ≢ a
+  off_content : (t i : ℕ) → i < CONTENT_WORDS → link_of s t + 1 + i ≢ a
   off_content t i lt q = ⊎_elim
       (λ (e : a ≡ C). let l = C_low in absurd (omega arith))
       (λ (g : (n : ℕ) × Mem n (inv.chains C) × (a ≡ link_of s n)). let e = g.2 in absurd (omega arith))
       a_cases
 
-  content_same : (t i : ℕ) → i < 4 → word s words' t i ≡ word s w.words t i
+  content_same : (t i : ℕ) → i < CONTENT_WORDS → word s words' t i ≡ word s w.words t i
   content_same t i lt = at_other w.words a (link_of s t + 1 + i) (suc own) (off_content t i lt)
 
   home_same : (t : ℕ) → home s words' t ≡ home s w.words t
   home_same t =
       let x = content_same t 0 (omega arith) in let y = content_same t 1 (omega arith) in let z = content_same t 2 (omega arith) in let u =
       content_same t 3 (omega arith) in
-      λ i. s.chain (x i) (Rattle.term_core.specs.World.kid_in (y i) (Rattle.term_core.specs.World.kid_in (z i) (Rattle.term_core.specs.World.kid_in (u i) [])))
+      λ i. s.chain (x i) (Rattle.term_core.specs.World.kid_in (y i)
+      (Rattle.term_core.specs.World.kid_in (z i) (Rattle.term_core.specs.World.kid_in (u i) [])))
 
   absent : Has ps T → ⊥
   absent = missing s w.words ps inv.chains inv.shared b c true k.pre k.post k.walk (one_of s.nodes w.history inv.legal) none_left
@@ -132,7 +136,8 @@ module _ (s : Shape) (ok : IsShape s) (w : World) (inv : Inv s w) (p : ℕ) (v :
   is_over = over s w.words ps inv.chains inv.shared b c true k.pre k.post k.walk
 
   pairs_is : pairs_of h' ≡ ps ++ pair ∷ []
-  pairs_is = pairs_are s w inv p v at b same_room st c (Ticket own) ∙ ap (λ (l : List Pair). ps ++ l) (adds_new ps b.by c own T interns free.1 is_over)
+  pairs_is = pairs_are s w inv p v at b same_room st c (Ticket own)
+      ∙ ap (λ (l : List Pair). ps ++ l) (adds_new ps b.by c own T interns free.1 is_over)
 
   new_tree : tree_at (ps ++ pair ∷ []) own ≡ Some T
   new_tree = tree_new ps (pair ∷ []) own free.1 ∙ ap (λ (x : Bool). cond x (Some T) None) (eq-eqb own own refl)
@@ -166,7 +171,8 @@ module _ (s : Shape) (ok : IsShape s) (w : World) (inv : Inv s w) (p : ℕ) (v :
       let low_there : end_of s C (inv.chains C) < length w.words = subst (λ (x : ℕ). x < length w.words) a_is a_low in
       let ne : link_of s own ≢ end_of s C (inv.chains C) = λ q. off_link own free.1 (q ∙ sym a_is) in
       let l = linked_longer s w.words own C (inv.chains C) low_there zero_there free.0 ne (inv.shared.rows C C_low) in
-      subst (λ (n : ℕ). Linked s words' n (chains' n)) (sym e) (subst (λ (x : List ℕ). Linked s words' C x) (sym chain_here) (subst P (sym a_is) l)))
+      subst (λ (n : ℕ). Linked s words' n (chains' n)) (sym e)
+      (subst (λ (x : List ℕ). Linked s words' C x) (sym chain_here) (subst P (sym a_is) l)))
       (λ ne. subst (λ (x : List ℕ). Linked s words' i x) (sym (chain_else i ne))
       (linked_other s w.words a (suc own) i (inv.chains i) z (ends_apart i lt ne) (inv.shared.rows i lt)))
     where
@@ -184,12 +190,14 @@ module _ (s : Shape) (ok : IsShape s) (w : World) (inv : Inv s w) (p : ℕ) (v :
           (end_cases s i (inv.chains i))
 
   own_same : SameAs s words' own (content_of (label_of c) (kids_of c))
-  own_same i lt = content_same own i lt ∙ ((k.walk.wrote refl).2 i lt ∙ ap (λ (row : List ℕ). slice_index row i) (content_is c k.walk.searches))
+  own_same i lt = content_same own i lt ∙ ((k.walk.wrote refl).2 i lt
+      ∙ ap (λ (row : List ℕ). slice_index row i) (content_is c k.walk.searches))
 
   home_own : home s words' own ≡ C
   home_own = home_is s words' own (label_of c) (kids_of c) k.walk.three own_same
 
-  there : (t : ℕ) (x : Tree) → tree_at (ps ++ pair ∷ []) t ≡ Some x → Stored s words' (ps ++ pair ∷ []) t x × Mem t (chains' (home s words' t))
+  there : (t : ℕ) (x : Tree) → tree_at (ps ++ pair ∷ []) t ≡ Some x
+      → Stored s words' (ps ++ pair ∷ []) t x × Mem t (chains' (home s words' t))
   there t x e = ⊎_elim
       (λ (none : tree_at ps t ≡ None). dite (ℕ_discrete t own)
       (λ q.
@@ -209,7 +217,8 @@ module _ (s : Shape) (ok : IsShape s) (w : World) (inv : Inv s w) (p : ℕ) (v :
           holds = own_same;
           low = low;
         },
-        subst (λ (n : ℕ). Mem own (chains' n)) (sym home_own) (subst (λ (l : List ℕ). Mem own l) (sym chain_here) (mem_here own (inv.chains C) [])),
+        subst (λ (n : ℕ). Mem own (chains' n)) (sym home_own)
+            (subst (λ (l : List ℕ). Mem own l) (sym chain_here) (mem_here own (inv.chains C) [])),
       )))
       (λ ne. absurd (let f : None ≡ Some x = sym (other_tree t ne none) ∙ e in cc)))
       (λ (old : (y : Tree) × (tree_at ps t ≡ Some y)).
@@ -230,7 +239,8 @@ module _ (s : Shape) (ok : IsShape s) (w : World) (inv : Inv s w) (p : ℕ) (v :
           low = o.low;
         },
         subst (λ (n : ℕ). Mem t (chains' n)) (sym (home_same t))
-            (subst (λ (l : List ℕ). Mem t l) (sym (grows (home s w.words t)).1) (mem_left t (inv.chains (home s w.words t)) (grows (home s w.words t)).0 r.1)),
+            (subst (λ (l : List ℕ). Mem t l) (sym (grows (home s w.words t)).1)
+            (mem_left t (inv.chains (home s w.words t)) (grows (home s w.words t)).0 r.1)),
       ))
       (maybe (tree_at ps t))
 
@@ -291,9 +301,11 @@ module _ (s : Shape) (ok : IsShape s) (w : World) (inv : Inv s w) (p : ℕ) (v :
     grows = grows;
   })
       (legal_after s w inv p v at b same_room st c (Ticket own) (answers_new s.nodes ps b.by c own T interns free.1 is_over absent
-      (let q = st.count in let r = some_room in let e : added_by b.by ps ≡ added_by p ps = ap (λ (n : ℕ). added_by n ps) st.number in omega arith)))
+      (let q = st.count in let r = some_room in let e : added_by b.by ps ≡ added_by p ps = ap (λ (n : ℕ). added_by n ps) st.number in
+      omega arith)))
       (subst In (sym pairs_is) shared')
-      (let l : length (pairs_of h') ≡ length (ps ++ pair ∷ []) = ap length pairs_is in let r = some_room in omega (arith, length-append ps (pair ∷ [])))
+      (let l : length (pairs_of h') ≡ length (ps ++ pair ∷ []) = ap length pairs_is in let r = some_room in
+      omega (arith, length-append ps (pair ∷ [])))
       (record {
         owns = record {
           number = st.number;

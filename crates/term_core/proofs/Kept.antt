@@ -1,6 +1,6 @@
 -- What every step keeps: the words hold the chains of the nodes that the history has, and each pass stands where its walk is right.
-use Rattle.std.proofs.Common.{◌≡◌, ℕ, zero, suc, ◌+◌, ◌*◌, ◌<◌, ◌≤◌, ◌≢◌, ◌==◌, ◌&&◌, ◌⊎◌, Bool, true, false, cond, List, [], ◌∷◌, ◌++◌}
-use Rattle.std.proofs.Common.{length, slice_index, slice_set, Option, Some, None, refl, sym, ap, subst, ◌∙◌, inl, inr, ⊎_elim, append_assoc}
+use Rattle.std.proofs.Common.{◌≡◌, ℕ, suc, ◌+◌, ◌*◌, ◌<◌, ◌≤◌, ◌≢◌, ◌⊎◌, Bool, true, false, List, [], ◌∷◌, ◌++◌}
+use Rattle.std.proofs.Common.{length, slice_index, Some, None, sym, ap, subst, ◌∙◌, inl, inr, ⊎_elim, append_assoc}
 use Rattle.std.proofs.Common.{append-nil, arith}
 use mathlib.Core.Option.{some}
 use lib.ListN.{get_elem?}
@@ -10,9 +10,11 @@ use Rattle.term_core.specs.declared.Entry.{Entry}
 use Rattle.term_core.specs.declared.Stage.{Stage}
 use Rattle.term_core.specs.declared.Stage.TheVariants.{Idle, Looking, AtLink, AtContent, Writing, Linking, Reading}
 use Rattle.term_core.specs.declared.Walker.{Walker}
+use Rattle.term_core.specs.declared.TheConstants.{CONTENT_WORDS}
 use Rattle.term_labels.specs.WordTrees.{Tree, Trees, node}
 use Rattle.term_core.specs.Terms.{Pair, tree_at, trees_at, added_by, pairs_of, IsLegal, calls_by, StartsWith}
 use Rattle.term_core.specs.World.{Shape, World, Choice, link_of, kid_in, content_of, content, at_most_three, call_start, step_start_at}
+use Rattle.term_core.specs.World.{word_count}
 use Rattle.term_core.proofs.Replay.{IsThere}
 use Rattle.term_core.proofs.Chains.{Mem, Linked, end_of}
 
@@ -21,7 +23,7 @@ abbrev pub word : Shape → List ℕ → ℕ → ℕ → ℕ
 word s words t i = slice_index words (link_of s t + 1 + i)
 
 abbrev pub SameAs : Shape → List ℕ → ℕ → List ℕ → Type 0
-SameAs s words t row = (i : ℕ) → i < 4 → word s words t i ≡ slice_index row i
+SameAs s words t row = (i : ℕ) → i < CONTENT_WORDS → word s words t i ≡ slice_index row i
 
 abbrev pub kids_at : Shape → List ℕ → ℕ → List ℕ
 kids_at s words t = kid_in (word s words t 1) (kid_in (word s words t 2) (kid_in (word s words t 3) []))
@@ -50,7 +52,7 @@ pub record Shared (s : Shape) (words : List ℕ) (ps : List Pair) (chains : ℕ 
   pub there : (t : ℕ) (x : Tree) → tree_at ps t ≡ Some x → Stored s words ps t x × Mem t (chains (home s words t))
   pub back : (c t : ℕ) → Mem t (chains c) → (home s words t ≡ c) × IsThere ps t
   pub few : (c : ℕ) → length (chains c) ≤ length ps
-  pub long : length words ≡ s.heads + 5 * (s.workers * s.nodes)
+  pub long : length words ≡ word_count s
 
 abbrev pub label_of : Call → ℕ
 label_of (Intern l ks) = l
@@ -76,7 +78,8 @@ abbrev pub chain_of : Shape → Call → ℕ
 chain_of s c = s.chain (label_of c) (kids_of c)
 
 -- the nodes pre of the chain were compared and differ, and post is the rest; of its own node and room
-pub record Walk (s : Shape) (words : List ℕ) (ps : List Pair) (chains : ℕ → List ℕ) (own room : ℕ) (c : Call) (w : Bool) (pre post : List ℕ) : Type 0 where
+pub record Walk (s : Shape) (words : List ℕ) (ps : List Pair) (chains : ℕ → List ℕ) (own room : ℕ) (c : Call) (w : Bool)
+    (pre post : List ℕ) : Type 0 where
   pub searches : Searches c
   pub trees : Trees
   pub known : trees_at ps (kids_of c) ≡ Some trees
@@ -85,18 +88,20 @@ pub record Walk (s : Shape) (words : List ℕ) (ps : List Pair) (chains : ℕ �
   pub differ : (t : ℕ) → Mem t pre → SameAs s words t (content c) → ⊥
   pub wrote : w ≡ true → Interns c × (0 < room) × SameAs s words own (content c)
 
-pub record OnLink (s : Shape) (words : List ℕ) (ps : List Pair) (chains : ℕ → List ℕ) (v : Walker) (c : Call) (w : Bool) (a : ℕ) : Type 0 where
+pub record OnLink (s : Shape) (words : List ℕ) (ps : List Pair) (chains : ℕ → List ℕ) (v : Walker) (c : Call) (w : Bool)
+    (a : ℕ) : Type 0 where
   pub pre : List ℕ
   pub post : List ℕ
   pub walk : Walk s words ps chains v.own v.room c w pre post
   pub place_is : a ≡ end_of s (chain_of s c) pre
   pub probes : v.probes ≤ length pre
 
-pub record OnContent (s : Shape) (words : List ℕ) (ps : List Pair) (chains : ℕ → List ℕ) (v : Walker) (c : Call) (w : Bool) (k i : ℕ) : Type 0 where
+pub record OnContent (s : Shape) (words : List ℕ) (ps : List Pair) (chains : ℕ → List ℕ) (v : Walker) (c : Call) (w : Bool)
+    (k i : ℕ) : Type 0 where
   pub pre : List ℕ
   pub post : List ℕ
   pub walk : Walk s words ps chains v.own v.room c w pre (k ∷ post)
-  pub below : i < 4
+  pub below : i < CONTENT_WORDS
   pub alike : (j : ℕ) → j < i → word s words k j ≡ slice_index (content c) j
   pub probes : v.probes ≤ length pre + 1
 
@@ -107,7 +112,7 @@ pub record OnWriting (s : Shape) (words : List ℕ) (ps : List Pair) (chains : �
   pub place_is : a ≡ end_of s (chain_of s c) pre
   pub interns : Interns c
   pub room : 0 < v.room
-  pub below : i < 4
+  pub below : i < CONTENT_WORDS
   pub alike : (j : ℕ) → j < i → word s words v.own j ≡ slice_index (content c) j
   pub probes : v.probes ≤ length pre + 1
 
@@ -120,7 +125,7 @@ pub record OnLinking (s : Shape) (words : List ℕ) (ps : List Pair) (chains : �
 
 pub record OnReading (s : Shape) (words : List ℕ) (ps : List Pair) (v : Walker) (t : ℕ) (xs : List ℕ) : Type 0 where
   pub there : IsThere ps t
-  pub below : length xs < 4
+  pub below : length xs < CONTENT_WORDS
   pub alike : (j : ℕ) → j < length xs → slice_index xs j ≡ word s words t j
   pub probes : v.probes ≡ 0
 
@@ -208,7 +213,8 @@ pub record Change (s : Shape) (p : ℕ) (words words' : List ℕ) (h h' : List E
   pub none : (t : ℕ) → tree_at (pairs_of h) t ≡ None → (t < p * s.nodes) ⊎ (p * s.nodes + s.nodes ≤ t) → tree_at (pairs_of h') t ≡ None
   pub links : (t : ℕ) → tree_at (pairs_of h) t ≡ None → (t < p * s.nodes) ⊎ (p * s.nodes + s.nodes ≤ t)
       → slice_index words' (link_of s t) ≡ slice_index words (link_of s t)
-  pub contents : (t : ℕ) → IsThere (pairs_of h) t ⊎ ((t < p * s.nodes) ⊎ (p * s.nodes + s.nodes ≤ t)) → (i : ℕ) → i < 4 → word s words' t i ≡ word s words t i
+  pub contents : (t : ℕ) → IsThere (pairs_of h) t ⊎ ((t < p * s.nodes) ⊎ (p * s.nodes + s.nodes ≤ t)) → (i : ℕ) → i < CONTENT_WORDS
+      → word s words' t i ≡ word s words t i
   pub grows : (c : ℕ) → (more : List ℕ) × (chains' c ≡ chains c ++ more)
 
 -- trees of tickets that stay where single trees stay
@@ -224,8 +230,10 @@ trees_stay ps qs m (t ∷ ts) xs e =
 -- the ranges of two passes are apart
 pub apart : (p q n k : ℕ) → q ≢ p → q * n ≤ k → k < q * n + n → (k < p * n) ⊎ (p * n + n ≤ k)
 apart p q n k ne lo hi = ⊎_elim
-    (λ (lt : q < p). inl (let m : suc q * n ≤ p * n = Rattle.std.proofs.Common.mul-le-mul_right n lt in omega (arith, Rattle.std.proofs.Common.suc-mul q n)))
-    (λ (lt : p < q). inr (let m : suc p * n ≤ q * n = Rattle.std.proofs.Common.mul-le-mul_right n lt in omega (arith, Rattle.std.proofs.Common.suc-mul p n)))
+    (λ (lt : q < p). inl (let m : suc q * n ≤ p * n = Rattle.std.proofs.Common.mul-le-mul_right n lt in
+    omega (arith, Rattle.std.proofs.Common.suc-mul q n)))
+    (λ (lt : p < q). inr (let m : suc p * n ≤ q * n = Rattle.std.proofs.Common.mul-le-mul_right n lt in
+    omega (arith, Rattle.std.proofs.Common.suc-mul p n)))
     (either_side q p ne)
   where
     either_side : (q p : ℕ) → q ≢ p → (q < p) ⊎ (p < q)
@@ -235,14 +243,16 @@ module _ (s : Shape) (p : ℕ) (words words' : List ℕ) (h h' : List Entry) (ch
     (d : Change s p words words' h h' chains chains') (sh : Shared s words (pairs_of h) chains) where
   -- a walk goes on, if its own node stays
   pub walk_stays : (v : Walker) (c : Call) (w : Bool) (pre post : List ℕ)
-      → (w ≡ true → (i : ℕ) → i < 4 → word s words' v.own i ≡ word s words v.own i) → Walk s words (pairs_of h) chains v.own v.room c w pre post
+      → (w ≡ true → (i : ℕ) → i < CONTENT_WORDS → word s words' v.own i ≡ word s words v.own i)
+      → Walk s words (pairs_of h) chains v.own v.room c w pre post
       → Walk s words' (pairs_of h') chains' v.own v.room c w pre (post ++ (d.grows (chain_of s c)).0)
   walk_stays v c w pre post own k = record {
     searches = k.searches;
     trees = k.trees;
     known = trees_stay (pairs_of h) (pairs_of h') d.trees (kids_of c) k.trees k.known;
     three = k.three;
-    split = (d.grows (chain_of s c)).1 ∙ (ap (λ (l : List ℕ). l ++ (d.grows (chain_of s c)).0) k.split ∙ append_assoc pre post (d.grows (chain_of s c)).0);
+    split = (d.grows (chain_of s c)).1 ∙ (ap (λ (l : List ℕ). l ++ (d.grows (chain_of s c)).0) k.split
+        ∙ append_assoc pre post (d.grows (chain_of s c)).0);
     differ = λ t m same. k.differ t m
         (λ i lt. sym (d.contents t
         (inl ((sh.back (chain_of s c) t
@@ -254,7 +264,7 @@ module _ (s : Shape) (p : ℕ) (words words' : List ℕ) (h h' : List Entry) (ch
     far : (k : ℕ) → v.own ≤ k → k < v.own + v.room → (k < p * s.nodes) ⊎ (p * s.nodes + s.nodes ≤ k)
     far k lo hi = let r = st.range in let b = st.base in apart p q s.nodes k ne (omega arith) (omega arith)
 
-    own_stays : 0 < v.room → (i : ℕ) → i < 4 → word s words' v.own i ≡ word s words v.own i
+    own_stays : 0 < v.room → (i : ℕ) → i < CONTENT_WORDS → word s words' v.own i ≡ word s words v.own i
     own_stays some_room i lt = d.contents v.own (inr (far v.own (omega arith) (omega arith))) i lt
 
     spot_stays : (g : Stage) → Spot s words (pairs_of h) chains v g → Spot s words' (pairs_of h') chains' v g
@@ -275,7 +285,8 @@ module _ (s : Shape) (p : ℕ) (words words' : List ℕ) (h h' : List Entry) (ch
       alike = λ j lt. let b = k.below in
           d.contents n (inl
           ((sh.back (chain_of s c) n
-          (subst (λ (l : List ℕ). Mem n l) (sym k.walk.split) (Rattle.term_core.proofs.Chains.mem_here n k.pre k.post))).1)) j (omega arith) ∙ k.alike j lt;
+          (subst (λ (l : List ℕ). Mem n l) (sym k.walk.split) (Rattle.term_core.proofs.Chains.mem_here n k.pre k.post))).1)) j (omega arith)
+          ∙ k.alike j lt;
       probes = k.probes;
     }
     spot_stays (Writing c a i) k = record {
@@ -307,7 +318,11 @@ module _ (s : Shape) (p : ℕ) (words words' : List ℕ) (h h' : List Entry) (ch
     stands_still = record {
       owns = st.owns;
       tells = record {
-        begins = (st.begins.0 ++ d.said, d.says ∙ (ap (λ (l : List Entry). l ++ d.said) st.begins.1 ∙ append_assoc v.seen st.begins.0 d.said));
+        begins = (
+          st.begins.0 ++ d.said,
+          d.says ∙ (ap (λ (l : List Entry). l ++ d.said) st.begins.1
+              ∙ append_assoc v.seen st.begins.0 d.said),
+        );
         own_calls = st.own_calls;
         all_calls = ap (calls_by q) d.says
             ∙ (Rattle.term_core.proofs.Replay.calls_append q h d.said

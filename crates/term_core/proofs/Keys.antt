@@ -25,7 +25,8 @@ content_is (Intern l ks) h = refl
 content_is (Find l ks) h = refl
 content_is (Read t) h = absurd h
 
-module _ (s : Shape) (words : List ℕ) (t : ℕ) (l : ℕ) (ks : List ℕ) (three : at_most_three ks ≡ true) (same : SameAs s words t (content_of l ks)) where
+module _ (s : Shape) (words : List ℕ) (t : ℕ) (l : ℕ) (ks : List ℕ) (three : at_most_three ks ≡ true)
+    (same : SameAs s words t (content_of l ks)) where
   pub label_is : word s words t 0 ≡ l
   label_is = same 0 (omega arith)
 
@@ -54,8 +55,10 @@ module _ (s : Shape) (words : List ℕ) (ps : List Pair) (chains : ℕ → List 
       let st = (sh.there t at.0 at.1).0 in
       let P : List ℕ → Type 0 = λ row. SameAs s words t row in
       let mine : SameAs s words t (content_of (label_of c) (kids_of c)) = subst P (content_is c k.searches) same in
-      let l : st.label ≡ label_of c = sym (label_is s words t st.label st.kids st.three st.holds) ∙ label_is s words t (label_of c) (kids_of c) k.three mine in
-      let ks : st.kids ≡ kids_of c = sym (kids_is s words t st.label st.kids st.three st.holds) ∙ kids_is s words t (label_of c) (kids_of c) k.three mine in
+      let l : st.label ≡ label_of c = sym (label_is s words t st.label st.kids st.three st.holds)
+      ∙ label_is s words t (label_of c) (kids_of c) k.three mine in
+      let ks : st.kids ≡ kids_of c = sym (kids_is s words t st.label st.kids st.three st.holds)
+      ∙ kids_is s words t (label_of c) (kids_of c) k.three mine in
       let q : Some st.trees ≡ Some k.trees = sym st.kids_are ∙ (ap (trees_at ps) ks ∙ k.known) in
       let ts : st.trees ≡ k.trees = cc in
       at.1 ∙ ap Some (st.tree_is ∙ (λ i. node (l i) (ts i)))
@@ -71,8 +74,10 @@ module _ (s : Shape) (words : List ℕ) (ps : List Pair) (chains : ℕ → List 
       let ts : k.trees ≡ st.trees = cc in
       let ks : st.kids ≡ kids_of c = one_kids ps one st.kids (kids_of c) st.trees st.kids_are (k.known ∙ ap Some ts) in
       let P : List ℕ → Type 0 = λ row. SameAs s words t row in
-      let same : SameAs s words t (content c) = subst P (sym (content_is c k.searches)) (subst P (λ i. content_of (sym l i) (ks i)) st.holds) in
+      let same : SameAs s words t (content c) = subst P (sym (content_is c k.searches))
+      (subst P (λ i. content_of (sym l i) (ks i)) st.holds) in
       let mine : SameAs s words t (content_of (label_of c) (kids_of c)) = subst P (content_is c k.searches) same in
       let h : home s words t ≡ chain_of s c = home_is s words t (label_of c) (kids_of c) k.three mine in
       let Q : List ℕ → Type 0 = λ l. Mem t l in
-      k.differ t (subst Q (k.split ∙ (ap (λ (l : List ℕ). pre ++ l) none ∙ append-nil pre)) (subst (λ (x : ℕ). Mem t (chains x)) h r.1)) same
+      k.differ t (subst Q (k.split ∙ (ap (λ (l : List ℕ). pre ++ l) none ∙ append-nil pre))
+      (subst (λ (x : ℕ). Mem t (chains x)) h r.1)) same

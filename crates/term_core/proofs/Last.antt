@@ -30,7 +30,8 @@ added_row ps by l ks t x over none = ap (λ (o : Option Tree). cond (is_there o)
 
 -- a ticket that an intern answers has the tree of the call
 pub ticket_tree : (n : ℕ) (ps : List Pair) (by : ℕ) (l : ℕ) (ks : List ℕ) (t : ℕ) (x : Tree)
-    → MayAnswer n ps by (Intern l ks) (Ticket t) → tree_over ps l ks ≡ Some x → tree_at (ps ++ adds ps by (Intern l ks) (Ticket t)) t ≡ Some x
+    → MayAnswer n ps by (Intern l ks) (Ticket t) → tree_over ps l ks ≡ Some x
+    → tree_at (ps ++ adds ps by (Intern l ks) (Ticket t)) t ≡ Some x
 ticket_tree n ps by l ks t x ans over = (⊎_elim
     (λ (e : tree_at ps t ≡ Some ans.0). tree_more ps (adds ps by (Intern l ks) (Ticket t)) t ans.0 e)
     (λ (e : (Has ps ans.0 → ⊥) × (tree_at ps t ≡ None) × (added_by by ps < n)).
@@ -42,14 +43,18 @@ silent : (n : ℕ) (ps : List Pair) (by : ℕ) → added_by by ps ≤ n → adde
 silent n ps by low = let e : added_by by (ps ++ []) ≡ added_by by ps + 0 = added_append by ps [] in omega arith
 
 -- an entry leaves no pass with more than `nodes` pairs of its own
-adds_low : (n : ℕ) (ps : List Pair) (by q : ℕ) (c : Call) (a : Answer) → MayAnswer n ps q c a → added_by by ps ≤ n → added_by by (ps ++ adds ps q c a) ≤ n
-adds_low n ps by q (Intern l ks) (Ticket t) ans low = subst (λ (k : ℕ). k ≤ n) (sym (added_append by ps (adds ps q (Intern l ks) (Ticket t)))) (⊎_elim
+adds_low : (n : ℕ) (ps : List Pair) (by q : ℕ) (c : Call) (a : Answer) → MayAnswer n ps q c a → added_by by ps ≤ n
+    → added_by by (ps ++ adds ps q c a) ≤ n
+adds_low n ps by q (Intern l ks) (Ticket t) ans low =
+    subst (λ (k : ℕ). k ≤ n) (sym (added_append by ps (adds ps q (Intern l ks) (Ticket t)))) (⊎_elim
     (λ (e : tree_at ps t ≡ Some ans.0).
-    let row : adds ps q (Intern l ks) (Ticket t) ≡ [] = ap (λ (o : Option Tree). cond (is_there o) [] (pair_if (tree_over ps l ks) t q)) e in
+    let row : adds ps q (Intern l ks) (Ticket t) ≡ [] =
+    ap (λ (o : Option Tree). cond (is_there o) [] (pair_if (tree_over ps l ks) t q)) e in
     let none : added_by by (adds ps q (Intern l ks) (Ticket t)) ≡ 0 = ap (added_by by) row in
     omega arith)
     (λ (e : (Has ps ans.0 → ⊥) × (tree_at ps t ≡ None) × (added_by q ps < n)).
-    let row : added_by by (adds ps q (Intern l ks) (Ticket t)) ≡ cond (q == by) 1 0 = ap (added_by by) (added_row ps q l ks t ans.0 ans.1 e.1) in
+    let row : added_by by (adds ps q (Intern l ks) (Ticket t)) ≡ cond (q == by) 1 0 =
+    ap (added_by by) (added_row ps q l ks t ans.0 ans.1 e.1) in
     one (q == by) refl row e.2)
     ans.2)
   where

@@ -17,7 +17,8 @@ module _ (s : Shape) (ok : IsShape s) (w : World) (inv : Inv s w) where
   there_in c t m = (inv.shared.back c t m).1
 
   -- the link behind the nodes that a walk has passed
-  end_reached : (c : Call) (pre post : List ℕ) (a : ℕ) → inv.chains (chain_of s c) ≡ pre ++ post → a ≡ end_of s (chain_of s c) pre → IsReachedLink s w a
+  end_reached : (c : Call) (pre post : List ℕ) (a : ℕ) → inv.chains (chain_of s c) ≡ pre ++ post → a ≡ end_of s (chain_of s c) pre
+      → IsReachedLink s w a
   end_reached c pre post a split at = ⊎_elim
       (λ (e : end_of s (chain_of s c) pre ≡ chain_of s c). let low = ok.1 (label_of c) (kids_of c) in inl (omega arith))
       (λ (e : (n : ℕ) × Mem n pre × (end_of s (chain_of s c) pre ≡ link_of s n)).

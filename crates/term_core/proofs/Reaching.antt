@@ -1,7 +1,7 @@
 -- What every list of items keeps.
-use Rattle.std.proofs.Common.{◌≡◌, ℕ, zero, suc, ◌+◌, ◌-◌, ◌*◌, ◌<◌, ◌≤◌, ◌≢◌, ◌==◌, ◌&&◌, ◌⊎◌, Bool, true, false, cond, List, [], ◌∷◌}
-use Rattle.std.proofs.Common.{◌++◌, length, take, drop, slice_index, slice_set, replicate, Option, Some, None, refl, sym, ap, subst, ◌∙◌}
-use Rattle.std.proofs.Common.{inl, inr, ⊎_elim, append_assoc, append-nil, length-append, length-set, eq-eqb, ne_eqb, max, arith}
+use Rattle.std.proofs.Common.{◌≡◌, ℕ, zero, suc, ◌+◌, ◌-◌, ◌*◌, ◌<◌, ◌≤◌, ◌&&◌, ◌⊎◌, Bool, true, false, cond, List, [], ◌∷◌}
+use Rattle.std.proofs.Common.{◌++◌, length, slice_index, replicate, Some, None, refl, sym, ap, subst, ◌∙◌}
+use Rattle.std.proofs.Common.{⊎_elim, append-nil, arith}
 use Rattle.std.proofs.lemmas.List.{length-replicate, append_cancel_left}
 use mathlib.Core.Option.{some, none, some-injective, some-ne-none}
 use lib.ListN.{get_elem?}
@@ -11,17 +11,17 @@ use Rattle.term_core.specs.declared.Entry.{Entry}
 use Rattle.term_core.specs.declared.Stage.{Stage}
 use Rattle.term_core.specs.declared.Stage.TheVariants.{Idle, Looking, AtLink, AtContent, Writing, Linking, Reading}
 use Rattle.term_core.specs.declared.Walker.{Walker}
-use Rattle.term_labels.specs.WordTrees.{Tree, Trees, node}
-use Rattle.term_core.specs.Terms.{Pair, tree_at, trees_at, tree_over, node_if, is_there, pair_if, added_by, adds, pairs_of, pairs_from, Has}
-use Rattle.term_core.specs.Terms.{MayAnswer, IsLegal, calls_by, StartsWith, occurs}
+use Rattle.term_labels.specs.WordTrees.{Trees}
+use Rattle.term_core.specs.Terms.{Pair, tree_at, trees_at, added_by, pairs_of}
+use Rattle.term_core.specs.Terms.{IsLegal, calls_by, occurs}
 use Rattle.term_core.specs.World.{Shape, IsShape, World, Item, Choice, begins, looks, world_of, world_after, start, step, does, acts}
 use Rattle.term_core.specs.World.{steps, step_start_at, call_start, may_begin, all_occur, at_most_three, first_stage, is_idle}
 use Rattle.term_core.specs.World.{place_at}
 use Rattle.term_core.specs.World.{fresh, fresh_from, link_of}
+use Rattle.term_core.specs.World.{word_count}
 use Rattle.term_core.specs.Law.{Sees, Lawful}
-use Rattle.term_core.proofs.Replay.{IsThere, One, one_of, there_from, tree_later, pairs_append, pairs_more, same_from, legal_front, tree_more}
-use Rattle.term_core.proofs.Chains.{Mem, mem_here, mem_cases, Linked, end_of, end_cases, end_snoc, linked_rest, linked_none, linked_some}
-use Rattle.term_core.proofs.Chains.{linked_frame, at_same, at_other, set_itself}
+use Rattle.term_core.proofs.Replay.{IsThere, there_from, tree_later, pairs_append, same_from, legal_front}
+use Rattle.term_core.proofs.Chains.{Mem, mem_here, end_of, end_cases}
 use Rattle.term_core.proofs.Kept.{OnLink, Spot, Stands, at_stage, step_start_has, Inv}
 use Rattle.term_core.proofs.Kept.{Searches, chain_of, label_of, kids_of, rooms}
 use Rattle.term_core.proofs.EachStep.{each}
@@ -45,7 +45,8 @@ module _ (s : Shape) (ok : IsShape s) (w : World) (inv : Inv s w) (p : ℕ) (v :
 
   known : (t : ℕ) → occurs v.seen t ≡ true → IsThere (pairs_of w.history) t
   known t e =
-      let legal : IsLegal s.nodes v.seen = legal_front s.nodes [] v.seen st.begins.0 (subst (λ (h : List Entry). IsLegal s.nodes h) st.begins.1 inv.legal) in
+      let legal : IsLegal s.nodes v.seen = legal_front s.nodes [] v.seen st.begins.0
+      (subst (λ (h : List Entry). IsLegal s.nodes h) st.begins.1 inv.legal) in
       let r = there_from s.nodes [] v.seen t legal e in (
         r.0,
         subst (λ (l : List Pair). tree_at l t ≡ Some r.0) (sym (ap pairs_of st.begins.1 ∙ pairs_append [] v.seen st.begins.0))
@@ -86,7 +87,12 @@ module _ (s : Shape) (ok : IsShape s) (w : World) (inv : Inv s w) (p : ℕ) (v :
   begun_call (Intern l ks) e = with_spot (AtLink (Intern l ks) false (s.chain l ks)) 0 (omega arith) (at_start (Intern l ks) tt e)
   begun_call (Find l ks) e = with_spot (AtLink (Find l ks) false (s.chain l ks)) 0 (omega arith) (at_start (Find l ks) tt e)
   begun_call (Read t) e =
-      with_spot (Reading t []) 0 (omega arith) (record { there = known t e; below = omega arith; alike = λ j lt. absurd (omega arith); probes = refl })
+      with_spot (Reading t []) 0 (omega arith) (record {
+        there = known t e;
+        below = omega arith;
+        alike = λ j lt. absurd (omega arith);
+        probes = refl;
+      })
 
   looking : (n : ℕ) → Stands s w.words w.history inv.chains p (record v { stage = Looking n })
   looking n = with_spot (Looking n) v.probes st.probes tt
@@ -111,7 +117,8 @@ module _ (s : Shape) (ok : IsShape s) (w : World) (inv : Inv s w) (p : ℕ) (v :
       busy_or true e = inv
       busy_or false e = each s ok w inv p v at b r sb b.stage sb.spot e
 
-  begins_or : (c : Call) (x : Bool) → may_begin v.seen c ≡ x → Inv s (acts s w p (cond x (record v { stage = first_stage s c; probes = 0 }) v))
+  begins_or : (c : Call) (x : Bool) → may_begin v.seen c ≡ x
+      → Inv s (acts s w p (cond x (record v { stage = first_stage s c; probes = 0 }) v))
   begins_or c true e = go_on (With (first_stage s c) 0) refl (begun_call c e)
   begins_or c false e = go_on v refl st
 
@@ -142,7 +149,11 @@ rooms_fresh s by (suc n) = let r = rooms_fresh s (suc by) n in omega (arith, Rat
 
 fresh_at : (s : Shape) (from n k : ℕ) (v : Walker) → get_elem? (fresh_from s from n) k ≡ some v → (k < n) × (v ≡ fresh s (from + k))
 fresh_at s from zero k v e = absurd (some-ne-none v (sym e))
-fresh_at s from (suc n) zero v e = (omega arith, sym (some-injective (fresh s from) v e) ∙ ap (fresh s) (sym (Rattle.std.proofs.Common.add-zero from)))
+fresh_at s from (suc n) zero v e = (
+  omega arith,
+  sym (some-injective (fresh s from) v e)
+      ∙ ap (fresh s) (sym (Rattle.std.proofs.Common.add-zero from)),
+)
 fresh_at s from (suc n) (suc k) v e = let r = fresh_at s (suc from) n k v e in (omega (arith, r.0), r.1 ∙ ap (fresh s) (omega arith))
 
 starts : (s : Shape) → IsShape s → Inv s (start s)
@@ -150,11 +161,11 @@ starts s ok = record {
   chains = λ c. [];
   legal = tt;
   shared = record {
-    rows = λ c lt. all_zero (s.heads + 5 * (s.workers * s.nodes)) c;
+    rows = λ c lt. all_zero (word_count s) c;
     there = λ t x e. absurd (let f : None ≡ Some x = e in cc);
     back = λ c t m. absurd m;
     few = λ c. omega arith;
-    long = length-replicate (s.heads + 5 * (s.workers * s.nodes)) 0;
+    long = length-replicate (word_count s) 0;
   };
   total = let r = rooms_fresh s 0 s.workers in omega arith;
   passes = λ by v e.
@@ -169,7 +180,7 @@ starts s ok = record {
           count = omega arith;
         };
         probes = omega arith;
-        free = λ k lo hi. (all_zero (s.heads + 5 * (s.workers * s.nodes)) (link_of s k), refl);
+        free = λ k lo hi. (all_zero (word_count s) (link_of s k), refl);
         spot = tt;
       });
 }
@@ -177,7 +188,8 @@ starts s ok = record {
 pub keeps_all : (s : Shape) (items : List Item) → IsShape s → Inv s (world_of s items)
 keeps_all s items ok = world_after_keeps s ok (start s) (starts s ok) items
 
-module _ (s : Shape) (ok : IsShape s) (w : World) (inv : Inv s w) (p : ℕ) (v : Walker) (st : Stands s w.words w.history inv.chains p v) where
+module _ (s : Shape) (ok : IsShape s) (w : World) (inv : Inv s w) (p : ℕ) (v : Walker)
+    (st : Stands s w.words w.history inv.chains p v) where
   total_low : length (pairs_of w.history) ≤ s.workers * s.nodes
   total_low = let t = inv.total in omega arith
 
@@ -190,7 +202,8 @@ module _ (s : Shape) (ok : IsShape s) (w : World) (inv : Inv s w) (p : ℕ) (v :
   node_below : (c t : ℕ) → Mem t (inv.chains c) → t < s.workers * s.nodes
   node_below c t m = let h = (inv.shared.back c t m).1 in (inv.shared.there t h.0 h.1).0.low
 
-  end_below : (c : Call) (pre post : List ℕ) → inv.chains (chain_of s c) ≡ pre ++ post → end_of s (chain_of s c) pre < s.heads + 5 * (s.workers * s.nodes)
+  end_below : (c : Call) (pre post : List ℕ) → inv.chains (chain_of s c) ≡ pre ++ post
+      → end_of s (chain_of s c) pre < word_count s
   end_below c pre post e = ⊎_elim
       (λ (q : end_of s (chain_of s c) pre ≡ chain_of s c). let l = ok.1 (label_of c) (kids_of c) in omega arith)
       (λ (g : (n : ℕ) × Mem n pre × (end_of s (chain_of s c) pre ≡ link_of s n)). let q = g.2 in let l =
@@ -198,14 +211,17 @@ module _ (s : Shape) (ok : IsShape s) (w : World) (inv : Inv s w) (p : ℕ) (v :
       (subst (λ (x : List ℕ). Mem g.0 x) (sym e) (Rattle.term_core.proofs.Chains.mem_left g.0 pre post g.1)) in omega arith)
       (end_cases s (chain_of s c) pre)
 
-  within : (g : Stage) → Spot s w.words (pairs_of w.history) inv.chains v g → place_at s v g < s.heads + 5 * (s.workers * s.nodes)
+  within : (g : Stage) → Spot s w.words (pairs_of w.history) inv.chains v g → place_at s v g < word_count s
   within Idle k = let h = ok.0 in omega arith
   within (Looking n) k = let h = ok.0 in omega arith
-  within (AtLink c wr a) k = subst (λ (x : ℕ). x < s.heads + 5 * (s.workers * s.nodes)) (sym k.place_is) (end_below c k.pre k.post k.walk.split)
+  within (AtLink c wr a) k = subst (λ (x : ℕ). x < word_count s) (sym k.place_is)
+      (end_below c k.pre k.post k.walk.split)
   within (AtContent c wr n i) k = let l =
-      node_below (chain_of s c) n (subst (λ (x : List ℕ). Mem n x) (sym k.walk.split) (mem_here n k.pre k.post)) in let b = k.below in omega arith
+      node_below (chain_of s c) n (subst (λ (x : List ℕ). Mem n x) (sym k.walk.split) (mem_here n k.pre k.post)) in let b = k.below in
+      omega arith
   within (Writing c a i) k = let l = own_below k.room in let b = k.below in omega arith
-  within (Linking c a) k = subst (λ (x : ℕ). x < s.heads + 5 * (s.workers * s.nodes)) (sym k.place_is) (end_below c k.pre k.post k.walk.split)
+  within (Linking c a) k = subst (λ (x : ℕ). x < word_count s) (sym k.place_is)
+      (end_below c k.pre k.post k.walk.split)
   within (Reading t xs) k = let h = k.there in let l = (inv.shared.there t h.0 h.1).0.low in let b = k.below in omega arith
 
   rest_silent : calls_by p st.begins.0 ≡ []
@@ -218,7 +234,8 @@ module _ (s : Shape) (ok : IsShape s) (w : World) (inv : Inv s w) (p : ℕ) (v :
   count_same : added_by v.by (pairs_of w.history) ≡ added_by v.by (pairs_of v.seen)
   count_same = ap (λ (h : List Entry). added_by v.by (pairs_of h)) st.begins.1
       ∙ (ap (added_by v.by) (pairs_append [] v.seen st.begins.0)
-      ∙ Rattle.term_core.proofs.Replay.added_silent v.by (pairs_of v.seen) st.begins.0 (ap (λ (n : ℕ). calls_by n st.begins.0) st.number ∙ rest_silent))
+      ∙ Rattle.term_core.proofs.Replay.added_silent v.by (pairs_of v.seen) st.begins.0
+      (ap (λ (n : ℕ). calls_by n st.begins.0) st.number ∙ rest_silent))
 
   low_at : IsLegal s.nodes v.seen → (t : ℕ) → occurs v.seen t ≡ true → t < s.workers * s.nodes
   low_at legal t o =
@@ -230,7 +247,8 @@ module _ (s : Shape) (ok : IsShape s) (w : World) (inv : Inv s w) (p : ℕ) (v :
 
   pub sees_all : Sees s w.history v
   sees_all =
-      let legal : IsLegal s.nodes v.seen = legal_front s.nodes [] v.seen st.begins.0 (subst (λ (h : List Entry). IsLegal s.nodes h) st.begins.1 inv.legal) in
+      let legal : IsLegal s.nodes v.seen = legal_front s.nodes [] v.seen st.begins.0
+      (subst (λ (h : List Entry). IsLegal s.nodes h) st.begins.1 inv.legal) in
       record {
         begins = st.begins;
         legal = legal;
@@ -238,7 +256,8 @@ module _ (s : Shape) (ok : IsShape s) (w : World) (inv : Inv s w) (p : ℕ) (v :
         all = ap (λ (n : ℕ). calls_by n w.history) st.number ∙ st.all_calls;
         same = λ t u p q. ((λ e. ap (tree_at (pairs_of v.seen)) e), (λ e. same_from s.nodes v.seen legal t u p q e));
         count = ap (λ (n : ℕ). added_by n (pairs_of w.history) + v.room) st.number ∙ st.count;
-        seen_count = ap (λ (n : ℕ). n + v.room) (sym count_same) ∙ (ap (λ (n : ℕ). added_by n (pairs_of w.history) + v.room) st.number ∙ st.count);
+        seen_count = ap (λ (n : ℕ). n + v.room) (sym count_same)
+            ∙ (ap (λ (n : ℕ). added_by n (pairs_of w.history) + v.room) st.number ∙ st.count);
         low = λ t o. low_at legal t o;
         probes = st.probes;
         pairs = total_low;

@@ -10,8 +10,10 @@ use Rattle.term_core.specs.declared.Call.{Call}
 use Rattle.term_core.specs.declared.Stage.{Stage}
 use Rattle.term_core.specs.declared.Stage.TheVariants.{Linking}
 use Rattle.term_core.specs.declared.Walker.{Walker}
+use Rattle.term_core.specs.declared.TheConstants.{CONTENT_WORDS}
 use Rattle.term_core.specs.Terms.{tree_at, pairs_of}
-use Rattle.term_core.specs.World.{Shape, IsShape, World, Item, link_of, step_start, is_idle, does, steps, step, world_after, start, world_of}
+use Rattle.term_core.specs.World.{Shape, IsShape, World, Item, link_of, step_start, is_idle, does, steps, step, world_after, start}
+use Rattle.term_core.specs.World.{world_of}
 use Rattle.term_core.specs.Items.{Links, Writes, IsLink, LinksStay, ContentStays}
 use Rattle.term_core.proofs.Replay.{pairs_append, tree_later}
 use Rattle.term_core.proofs.Chains.{Mem, end_of, end_cases}
@@ -23,7 +25,8 @@ world_after-append : (s : Shape) (w : World) (xs ys : List Item) → world_after
 world_after-append s w [] ys = refl
 world_after-append s w (x ∷ xs) ys = world_after-append s (step s w x) xs ys
 
-history_if : (s : Shape) (w : World) (by : ℕ) (b : Walker) (k : Bool) → (rest : List Entry) × ((cond k w (steps s w by b)).history ≡ w.history ++ rest)
+history_if : (s : Shape) (w : World) (by : ℕ) (b : Walker) (k : Bool)
+    → (rest : List Entry) × ((cond k w (steps s w by b)).history ≡ w.history ++ rest)
 history_if s w by b true = ([], sym (append-nil w.history))
 history_if s w by b false = (_, refl)
 
@@ -38,7 +41,7 @@ tree_stays s w i t x e =
     subst (λ (l : List Entry). tree_at (pairs_of l) t ≡ Some x) (sym h.1)
     (ap (λ ps. tree_at ps t) (pairs_append [] w.history h.0) ∙ tree_later (pairs_of w.history) h.0 t x e)
 
-not_content : (s : Shape) (a n k : ℕ) → IsLink s a → k < 4 → a ≡ link_of s n + 1 + k → ⊥
+not_content : (s : Shape) (a n k : ℕ) → IsLink s a → k < CONTENT_WORDS → a ≡ link_of s n + 1 + k → ⊥
 not_content s a n k l lt e = ⊎_elim (λ (b : a < s.heads). omega arith) (λ (b : (m : ℕ) × (a ≡ link_of s m)). let f = b.1 in omega arith) l
 
 is_link : (s : Shape) (c pre_end : ℕ) (pre : List ℕ) → c < s.heads → pre_end ≡ end_of s c pre → IsLink s pre_end
@@ -69,8 +72,9 @@ module _ (s : Shape) (items : List Item) (i : Item) (ok : IsShape s) where
       d)
       (words_stay s items i v a ok here)
 
-  one_content : (o : O.Option Walker) → get_elem? w.passes i.by ≡ o → (t : ℕ) (x : Tree) (k : ℕ) → k < 4
-      → tree_at (pairs_of w.history) t ≡ Some x → slice_index (step s w i).words (link_of s t + 1 + k) ≡ slice_index w.words (link_of s t + 1 + k)
+  one_content : (o : O.Option Walker) → get_elem? w.passes i.by ≡ o → (t : ℕ) (x : Tree) (k : ℕ) → k < CONTENT_WORDS
+      → tree_at (pairs_of w.history) t ≡ Some x → slice_index (step s w i).words (link_of s t + 1 + k)
+      ≡ slice_index w.words (link_of s t + 1 + k)
   one_content none here t x k lt e = ap (λ (p : O.Option Walker). slice_index (does s w i p).words (link_of s t + 1 + k)) here
   one_content (some v) here t x k lt e = ⊎_elim
       (λ (same : slice_index (step s w i).words (link_of s t + 1 + k) ≡ slice_index w.words (link_of s t + 1 + k)). same)
@@ -92,13 +96,16 @@ snoc s items i = world_after-append s (start s) items (i ∷ [])
 pub links_stay : LinksStay
 links_stay s items [] a n ok l e = ap (λ (is : List Item). slice_index (world_of s is).words a) (append-nil items) ∙ e
 links_stay s items (i ∷ more) a n ok l e =
-    let next = ap (λ (w : World). slice_index w.words a) (snoc s items i) ∙ one_link s items i ok (get_elem? (world_of s items).passes i.by) refl a n l e in
-    ap (λ (is : List Item). slice_index (world_of s is).words a) (sym (append_assoc items (i ∷ []) more)) ∙ links_stay s (items ++ i ∷ []) more a n ok l next
+    let next = ap (λ (w : World). slice_index w.words a) (snoc s items i)
+    ∙ one_link s items i ok (get_elem? (world_of s items).passes i.by) refl a n l e in
+    ap (λ (is : List Item). slice_index (world_of s is).words a) (sym (append_assoc items (i ∷ []) more))
+    ∙ links_stay s (items ++ i ∷ []) more a n ok l next
 
 pub content_stays : ContentStays
 content_stays s items [] t x k ok lt e = ap (λ (is : List Item). slice_index (world_of s is).words (link_of s t + 1 + k)) (append-nil items)
 content_stays s items (i ∷ more) t x k ok lt e =
-    let there = subst (λ (w : World). tree_at (pairs_of w.history) t ≡ Some x) (sym (snoc s items i)) (tree_stays s (world_of s items) i t x e) in
+    let there = subst (λ (w : World). tree_at (pairs_of w.history) t ≡ Some x) (sym (snoc s items i))
+    (tree_stays s (world_of s items) i t x e) in
     ap (λ (is : List Item). slice_index (world_of s is).words (link_of s t + 1 + k)) (sym (append_assoc items (i ∷ []) more))
     ∙ (content_stays s (items ++ i ∷ []) more t x k ok lt there
     ∙ (ap (λ (w : World). slice_index w.words (link_of s t + 1 + k)) (snoc s items i)

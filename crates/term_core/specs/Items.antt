@@ -3,14 +3,17 @@ use Rattle.std.specs.Prelude.{◌≡◌, ◌≢◌, ℕ, suc, ◌+◌, ◌<◌, 
 use mathlib.Core.Option.{some}
 use Rattle.term_labels.specs.WordTrees.{Tree}
 use lib.ListN.{get_elem?}
+use Rattle.term_core.specs.declared.TheConstants.{CONTENT_WORDS}
 use Rattle.term_core.specs.declared.Call.{Call}
 use Rattle.term_core.specs.declared.Call.TheVariants.{Read}
 use Rattle.term_core.specs.declared.Answer.{Answer}
+use Rattle.term_core.specs.declared.Entry.{Entry}
 use Rattle.term_core.specs.declared.Walker.{Walker}
 use Rattle.term_core.specs.declared.Stage.{Stage}
 use Rattle.term_core.specs.declared.Stage.TheVariants.{Idle, Looking, AtLink, AtContent, Writing, Linking, Reading}
 use Rattle.term_core.specs.Terms.{StartsWith, pairs_of, tree_at}
 use Rattle.term_core.specs.World.{Shape, World, Item, IsShape, Kind, load_link, load_content, store_content, exchange_link, kind, place}
+use Rattle.term_core.specs.World.{entry}
 use Rattle.term_core.specs.World.{step_start, step, world_of, link_of}
 
 -- the call that a pass is inside
@@ -33,30 +36,32 @@ link_loads (Writing c a i) = 0
 link_loads (Linking c a) = 0
 link_loads (Reading t xs) = 0
 
--- the call goes on and nothing is said, or it ends: its entry is the last of the history, which its pass has then seen whole
-abbrev pub GoesOn : World → World → Walker → Walker → Type 0
-GoesOn w w' b v = (w'.history ≡ w.history) × (v.mine ≡ b.mine) × (call_in v.stage ≡ call_in b.stage)
+-- A pass that was inside the call `c`, and is b before and v after: the call goes on and nothing is said. Or it ends: its entry is the
+-- last of the history, which its pass has then seen whole
+abbrev pub GoesOn : List Entry → List Entry → Option Call → Walker → Walker → Type 0
+GoesOn h h' c b v = (h' ≡ h) × (v.mine ≡ b.mine) × (call_in v.stage ≡ c)
 
-pub record EndsCall (w w' : World) (b v : Walker) : Type 0 where
+pub record EndsCall (h h' : List Entry) (c : Option Call) (b v : Walker) : Type 0 where
   pub call : Call
   pub answer : Answer
-  pub inside : call_in b.stage ≡ Some call
-  pub history : w'.history ≡ w.history ++ record { by = b.by; call = call; answer = answer } ∷ []
-  pub mine : v.mine ≡ b.mine ++ record { by = b.by; call = call; answer = answer } ∷ []
-  pub seen : v.seen ≡ w'.history
+  pub inside : c ≡ Some call
+  pub history : h' ≡ h ++ entry b call answer ∷ []
+  pub mine : v.mine ≡ b.mine ++ entry b call answer ∷ []
+  pub seen : v.seen ≡ h'
   pub idle : v.stage ≡ Idle
 
--- `b` is the pass after it has begun what the item chose
-pub record Does (w w' : World) (b v : Walker) : Type 0 where
+-- What an item does to the pass that it names: its number stays, and what it had seen stays the beginning of what it has seen. Its call
+-- goes on or ends, and its probes grow by the loads of a link. `b` is the pass after it has begun what the item chose
+pub record Does (h h' : List Entry) (b v : Walker) : Type 0 where
   pub by : v.by ≡ b.by
   pub seen : StartsWith v.seen b.seen
-  pub said : GoesOn w w' b v ⊎ EndsCall w w' b v
+  pub said : GoesOn h h' (call_in b.stage) b v ⊎ EndsCall h h' (call_in b.stage) b v
   pub probes : v.probes ≡ b.probes + link_loads b.stage
 
 abbrev pub EachItemDoes : Type 0
 EachItemDoes = (s : Shape) (items : List Item) (i : Item) (v v' : Walker) → IsShape s
     → get_elem? (world_of s items).passes i.by ≡ some v → get_elem? (step s (world_of s items) i).passes i.by ≡ some v'
-    → Does (world_of s items) (step s (world_of s items) i) (step_start s i.choice v) v'
+    → Does (world_of s items).history (step s (world_of s items) i).history (step_start s i.choice v) v'
 
 abbrev pub OthersStand : Type 0
 OthersStand = (s : Shape) (items : List Item) (i : Item) (by : ℕ) → by ≢ i.by
@@ -68,8 +73,8 @@ SeenAgree = (s : Shape) (items : List Item) (p q : ℕ) (v u : Walker) → IsSha
     → get_elem? (world_of s items).passes p ≡ some v → get_elem? (world_of s items).passes q ≡ some u
     → StartsWith v.seen u.seen ⊎ StartsWith u.seen v.seen
 
--- A word that an item changes is a link that was none and becomes the node of the pass, or a content word of the pass's next node, which
--- no ticket names yet
+-- A word that an item changes is a link that was none and becomes the node of the pass. Or it is a content word of the pass's next node,
+-- which no ticket names yet
 pub record Links (s : Shape) (w w' : World) (v : Walker) (a : ℕ) : Type 0 where
   pub call : Call
   pub stage : v.stage ≡ Linking call a
@@ -78,7 +83,7 @@ pub record Links (s : Shape) (w w' : World) (v : Walker) (a : ℕ) : Type 0 wher
 
 pub record Writes (s : Shape) (w : World) (v : Walker) (a : ℕ) : Type 0 where
   pub index : ℕ
-  pub below : index < 4
+  pub below : index < CONTENT_WORDS
   pub place : a ≡ link_of s v.own + 1 + index
   pub unused : tree_at (pairs_of w.history) v.own ≡ None
 
@@ -98,7 +103,7 @@ LinksStay = (s : Shape) (items more : List Item) (a n : ℕ) → IsShape s → I
 
 -- the four content words of a linked node, which the history names by a ticket, never change
 abbrev pub ContentStays : Type 0
-ContentStays = (s : Shape) (items more : List Item) (t : ℕ) (x : Tree) (k : ℕ) → IsShape s → k < 4
+ContentStays = (s : Shape) (items more : List Item) (t : ℕ) (x : Tree) (k : ℕ) → IsShape s → k < CONTENT_WORDS
     → tree_at (pairs_of (world_of s items).history) t ≡ Some x
     → slice_index (world_of s (items ++ more)).words (link_of s t + 1 + k) ≡ slice_index (world_of s items).words (link_of s t + 1 + k)
 
@@ -112,7 +117,7 @@ pub record IsContentWord (s : Shape) (w : World) (a : ℕ) : Type 0 where
   pub tree : Tree
   pub linked : tree_at (pairs_of w.history) node ≡ Some tree
   pub index : ℕ
-  pub below : index < 4
+  pub below : index < CONTENT_WORDS
   pub place : a ≡ link_of s node + 1 + index
 
 -- the word that a step of this kind may be on

@@ -1,3 +1,4 @@
+pub mod Numbers
 pub mod Terms
 pub mod World
 pub mod Law

@@ -1,10 +1,11 @@
--- Passes and words, and the single steps: S1 loads a link, S2 loads a content word, S3 stores a content word of a node of one's own that
--- is not linked, S4 exchanges a link from none to one's own node.
+-- Passes and words, and the single steps: S1 loads a link. S2 loads a content word. S3 stores a content word of a node of one's own that
+-- isn't linked. S4 exchanges a link from none to one's own node.
 use Rattle.std.specs.Prelude.{ℕ, zero, suc, ◌+◌, ◌-◌, ◌*◌, ◌<◌, ◌==◌, ◌&&◌, Bool, true, false, cond, List, [], ◌∷◌, ◌++◌, length, take, max}
 use Rattle.std.specs.Prelude.{slice_index, slice_set, replicate}
 use mathlib.Core.Option.{Option, some, none}
 use lib.ListN.{get_elem?}
 use prog.Atomic.{either}
+use Rattle.term_core.specs.declared.TheConstants.{NODE_WORDS, LAST_WORD}
 use Rattle.term_core.specs.declared.Call.{Call}
 use Rattle.term_core.specs.declared.Call.TheVariants.{Intern, Find, Read}
 use Rattle.term_core.specs.declared.Answer.{Answer}
@@ -25,9 +26,13 @@ pub record Shape : Type 0 where
 abbrev pub IsShape : Shape → Type 0
 IsShape s = (0 < s.heads) × ((label : ℕ) (kids : List ℕ) → s.chain label kids < s.heads)
 
--- a node has five words: its link, its label, and a word for each of three children
+-- where the words of the node n begin: its link, then its content words
 abbrev pub link_of : Shape → ℕ → ℕ
-link_of s n = s.heads + 5 * n
+link_of s n = s.heads + NODE_WORDS * n
+
+-- how many words there are: a link for each chain, and the words of each node
+abbrev pub word_count : Shape → ℕ
+word_count s = s.heads + NODE_WORDS * (s.workers * s.nodes)
 
 -- a child's ticket and one, or none
 abbrev pub kid_word : List ℕ → ℕ → ℕ
@@ -47,9 +52,13 @@ abbrev pub kid_in : ℕ → List ℕ → List ℕ
 kid_in zero ks = ks
 kid_in (suc k) ks = k ∷ ks
 
--- what the four content words say
+-- the children that the content words of a node say
+abbrev pub kids_in : List ℕ → List ℕ
+kids_in words = kid_in (slice_index words 1) (kid_in (slice_index words 2) (kid_in (slice_index words 3) []))
+
+-- what they say
 abbrev pub answer_of : List ℕ → Answer
-answer_of words = Node (slice_index words 0) (kid_in (slice_index words 1) (kid_in (slice_index words 2) (kid_in (slice_index words 3) [])))
+answer_of words = Node (slice_index words 0) (kids_in words)
 
 abbrev pub all_occur : List Entry → List ℕ → Bool
 all_occur h [] = true
@@ -183,11 +192,12 @@ turn_at s h n v Idle = goes v Idle
 turn_at s h n v (Looking k) = record { walker = record v { stage = Idle; seen = take (max k (length v.seen)) h }; said = [] }
 turn_at s h n v (AtLink c w a) = follows h (record v { probes = suc v.probes }) c w a n
 turn_at s h n v (AtContent c w k i) =
-    cond (n == slice_index (content c) i) (cond (i == 3) (ends h v c (hit c k)) (goes v (AtContent c w k (suc i))))
+    cond (n == slice_index (content c) i) (cond (i == LAST_WORD) (ends h v c (hit c k)) (goes v (AtContent c w k (suc i))))
     (goes v (AtLink c w (link_of s k)))
-turn_at s h n v (Writing c a i) = goes v (cond (i == 3) (Linking c a) (Writing c a (suc i)))
+turn_at s h n v (Writing c a i) = goes v (cond (i == LAST_WORD) (Linking c a) (Writing c a (suc i)))
 turn_at s h n v (Linking c a) = turn_of_exchange h v c a n
-turn_at s h n v (Reading t xs) = cond (length xs == 3) (ends h v (Read t) (answer_of (xs ++ n ∷ []))) (goes v (Reading t (xs ++ n ∷ [])))
+turn_at s h n v (Reading t xs) = cond (length xs == LAST_WORD) (ends h v (Read t) (answer_of (xs ++ n ∷ [])))
+    (goes v (Reading t (xs ++ n ∷ [])))
 
 abbrev pub turn : Shape → List Entry → ℕ → Walker → Turn
 turn s h n v = turn_at s h n v v.stage
@@ -227,7 +237,7 @@ fresh_from s by zero = []
 fresh_from s by (suc n) = fresh s by ∷ fresh_from s (suc by) n
 
 abbrev pub start : Shape → World
-start s = record { words = replicate (s.heads + 5 * (s.workers * s.nodes)) 0; passes = fresh_from s 0 s.workers; history = [] }
+start s = record { words = replicate (word_count s) 0; passes = fresh_from s 0 s.workers; history = [] }
 
 -- the world that a list of items reaches
 abbrev pub world_of : Shape → List Item → World

@@ -9,9 +9,27 @@
 ghost use Rattle.std.specs.Prelude.{◌≡◌, ℕ, List};
 ghost use Rattle.term_core.specs.World.{Shape, Item, IsShape, world_of};
 ghost use Rattle.term_core.specs.Law.{Lawful};
+ghost use Rattle.term_core.specs.Numbers.{CountsAreTheseNumbers};
 ghost use Rattle.term_core.specs.Items.{EachItemDoes, OthersStand, SeenAgree, WordsStay, LinksStay, ContentStays, EachStepHasItsPlace};
 
 use std::collections::LinkedList;
+
+/// How many children a node has at most.
+pub const MAX_CHILDREN: usize = 3;
+
+/// The content words of a node: its label's word, then one for each child that it may have.
+pub const CONTENT_WORDS: usize = MAX_CHILDREN + 1;
+
+/// The index of the last content word.
+pub const LAST_WORD: usize = CONTENT_WORDS - 1;
+
+/// All words of a node: its link, and its content words.
+pub const NODE_WORDS: u64 = 5;
+
+/// Each of these counts is the number that specs/Numbers.antt tells, so a change of one is a change there. A law: it computes nothing.
+pub fn counts_are_these_numbers()
+    ensures { CountsAreTheseNumbers }
+{}
 
 /// A call on the table. Children and tickets are numbers.
 pub enum Call {
@@ -62,8 +80,8 @@ pub enum Stage {
     Reading(u64, LinkedList<u64>),
 }
 
-/// One pass: its number, its next own node, how many it has left, the history that it has seen, its
-/// own finished calls, the links that its call has loaded so far, and where it stands.
+/// One pass: its number, its next own node, and how many it has left. Also the history that it has seen, its own finished calls, the
+/// links that its call has loaded, and where it stands.
 pub struct Walker {
     pub by: u64,
     pub own: u64,
@@ -77,18 +95,15 @@ pub struct Walker {
 /// What every list of items keeps, for any number of passes and nodes and any function that picks
 /// the chain of a call.
 ///
-/// `lawful`: the history is legal, and of each pass, what it has seen is a legal beginning of the
-/// history with each of its own calls once, two tickets in it are equal exactly when their trees
-/// are, and its loads of links are at most the pairs and one. `does`: an item ends a call with
-/// exactly one entry, of this call and its answer, which its pass has then seen; or it goes on and
-/// says nothing; what was seen stays its beginning, and the probes grow by one exactly at the load
-/// of a link. `others`: no other pass changes. `agree`: of what two passes have seen, one is the
-/// beginning of the other. `words`: a word that an item changes is a link, from none to the pass's
-/// own node, or a content word of the pass's next node, which is not linked yet. `links`, `content`:
-/// so a link that names a node names it for ever, and the content of a linked node never changes,
-/// whatever items follow. `places`: a load of a link and an exchange are at the head of a chain or at
-/// the link of a linked node, a load of content at a content word of a linked node, and a store at one
-/// of the pass's next node, which is not linked.
+/// `lawful`: the history is legal. What a pass has seen is a legal beginning of it, with each of the pass's own calls once. Two tickets
+/// in it are equal exactly if their trees are. The pass's loads of links are at most the pairs and one. `does`: an item ends a call with
+/// exactly one entry, of this call and its answer, which its pass has then seen; or it goes on and says nothing; what was seen stays its
+/// beginning, and the probes grow by one exactly at the load of a link. `others`: no other pass changes. `agree`: of what two passes have
+/// seen, one is the beginning of the other. `words`: a word that an item changes is a link, from none to the pass's own node. Or it is a
+/// content word of the pass's next node, which isn't linked yet. `links`, `content`: so a link that names a node names it for ever, and
+/// the content of a linked node never changes, whatever items follow. `places`: a load of a link and an exchange are at the head of a
+/// chain or at the link of a linked node. A load of content is at a content word of a linked node, a store at one of the pass's next
+/// node, which isn't linked.
 pub fn any_schedule()
     ensures lawful { (shape : Shape) (items : List Item) → IsShape shape → Lawful shape (world_of shape items) }
     ensures does { EachItemDoes }

@@ -2,8 +2,7 @@
 use Rattle.std.specs.Prelude.{◌≡◌, ℕ, ◌+◌, ◌*◌, ◌/◌, ◌%◌, ◌^◌, ◌<◌, ◌≤◌, Bool, true, Option, Some}
 use Rattle.term_labels.specs.Codings.{Coding}
 
--- the kind and the content of each label, the label of a kind and a content, which labels a program can make, and how many children each
--- stands over
+-- the kind and content of each label, the label of a kind and content, which labels a program can make, and their arities
 pub record Kinds (L : Type 0) : Type 0 where
   pub kind : L → ℕ
   pub content : L → ℕ

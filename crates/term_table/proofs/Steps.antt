@@ -1,6 +1,6 @@
 -- What the single steps of a call tell.
 use Rattle.std.proofs.Common.{◌≡◌, ℕ, zero, suc, ◌+◌, ◌-◌, ◌*◌, ◌<◌, ◌≤◌, ◌≢◌, ◌==◌, Bool, true, false, cond, List, [], ◌∷◌, ◌++◌}
-use Rattle.std.proofs.Common.{slice_index, refl, sym, ap, subst, ◌∙◌, ne_eqb, eq-eqb, arith}
+use Rattle.std.proofs.Common.{refl, sym, ap, subst, ◌∙◌, ne_eqb, eq-eqb, arith}
 use Rattle.atomic_table.specs.Table.{Me}
 use Rattle.term_core.specs.declared.Entry.{Entry}
 use Rattle.term_core.specs.declared.Answer.{Answer}
@@ -8,110 +8,47 @@ use Rattle.term_core.specs.declared.Answer.TheVariants.{Full}
 use Rattle.term_core.specs.declared.Stage.TheVariants.{Idle, AtLink, AtContent, Writing, Linking}
 use Rattle.term_core.specs.declared.Call.{Call}
 use Rattle.term_core.specs.declared.Walker.{Walker}
-use Rattle.term_core.specs.World.{Shape, begins, step_start, step_start_at, turn, Turn, goes, ends, content, hit, link_of}
+use Rattle.term_core.specs.World.{Shape, begins, step_start, step_start_at, turn, Turn, goes, ends}
+use Rattle.term_core.specs.Terms.{StartsWith, calls_by, added_by, pairs_of}
 use Rattle.term_core.specs.Law.{Sees}
 use Rattle.term_table.specs.declared.view.View.{View}
 use Rattle.term_table.specs.declared.view.View.TheVariants.{Walking}
 use Rattle.term_table.specs.Rule.{Moved, MovedFrom}
-use Rattle.term_table.specs.Calls.{Ready, inside, at, Ended, Arrived}
+use Rattle.term_table.specs.Calls.{inside, at, Ended, Arrived}
 use Rattle.term_core.specs.declared.Call.TheVariants.{Intern}
 use Rattle.term_core.specs.World.{follows, turn_without_node, may_begin, first_stage}
-
-abbrev stays : {S : Type 0} → View → List (ℕ × S) → Me S View → Type 0
-stays u l me = me ≡ (u, l)
 
 pub paired : {S : Type 0} (me : Me S View) (u : View) (l : List (ℕ × S)) → me.0 ≡ u → me.1 ≡ l → me ≡ (u, l)
 paired me u l p q = λ i. (p i, q i)
 
 -- the end of a call
-pub ended : (s : Shape) (v x : Walker) (told h : List Entry) (c : Call) (a : Answer) (u : View) → x.by ≡ v.by → x.seen ≡ v.seen → x.mine ≡ v.mine
-    → Rattle.term_core.specs.Terms.StartsWith h v.seen → u ≡ Walking (ends h x c a).walker told
+pub ended : (s : Shape) (v x : Walker) (told h : List Entry) (c : Call) (a : Answer) (u : View) → x.by ≡ v.by → x.seen ≡ v.seen
+    → x.mine ≡ v.mine
+    → StartsWith h v.seen → u ≡ Walking (ends h x c a).walker told
     → Sees s (h ++ (ends h x c a).said) (ends h x c a).walker → Ended s v told c a x.own x.room x.probes u
 ended s v x told h c a u by seen mine front view sees = record {
   walker = (ends h x c a).walker;
   view = view;
-  called = record {
+  answered = λ id. record {
     between = front.0;
     seen = ap (λ (l : List Entry). l ++ record { by = x.by; call = c; answer = a } ∷ []) front.1
         ∙ ap (λ (k : ℕ). (v.seen ++ front.0) ++ record { by = k; call = c; answer = a } ∷ []) by;
     mine = (λ i. mine i ++ record { by = by i; call = c; answer = a } ∷ []);
     legal = sees.legal;
-    own = ap (λ (k : ℕ). Rattle.term_core.specs.Terms.calls_by k (ends h x c a).walker.seen) (sym by) ∙ sees.own;
-    count = ap (λ (k : ℕ). Rattle.term_core.specs.Terms.added_by k
-        (Rattle.term_core.specs.Terms.pairs_of (ends h x c a).walker.seen) + x.room) (sym by) ∙ sees.count;
+    own = ap (λ (k : ℕ). calls_by k (ends h x c a).walker.seen) (sym by) ∙ sees.own;
     same = sees.same;
     probes = sees.probes;
-    by = by;
-    idle = refl;
+    pass = (refl, by, refl, refl, refl);
   };
+  idle = refl;
+  legal = sees.legal;
+  count = ap (λ (k : ℕ). added_by k (pairs_of (ends h x c a).walker.seen) + x.room) (sym by) ∙ sees.count;
   low = sees.low;
+  by_is = by;
   own_is = refl;
   room_is = refl;
   probes_is = refl;
 }
-
-module _ {S : Type 0} (s : Shape) (c : Call) (v : Walker) (told : List Entry) (p : ℕ) where
-  pub ready_store : (me : Me S View) (a i word new : ℕ) → me ≡ at v told (Writing c a i) p → word ≡ link_of s v.own + 1 + i
-      → new ≡ slice_index (content c) i → Ready s (begins c) me.0 word (λ n. new) (λ n. new)
-  ready_store me a i word new is place_is new_is =
-      let P : Me S View → Type 0 = λ x. Ready s (begins c) x.0 word (λ n. new) (λ n. new) in
-      subst P (sym is) (refl, place_is, (λ n. new_is), (λ h n. refl))
-
-  pub stored : (me me' : Me S View) (a i n : ℕ) → me ≡ at v told (Writing c a i) p → MovedFrom s (begins c) me.0 n me'.0 → me'.1 ≡ me.1
-      → me' ≡ at v told (cond (i == 3) (Linking c a) (Writing c a (suc i))) p
-  stored me me' a i n is m rest =
-      let P : Me S View → Type 0 = λ x. MovedFrom s (begins c) x.0 n me'.0 in
-      let d = subst P is m in
-      paired me' _ [] d.view (rest ∙ ap (λ (x : Me S View). x.1) is)
-
-  pub ready_content : (me : Me S View) (w : Bool) (k i word : ℕ) → me ≡ at v told (AtContent c w k i) p → word ≡ link_of s k + 1 + i
-      → Ready s (begins c) me.0 word (λ n. n) (λ n. n)
-  ready_content me w k i word is place_is =
-      let P : Me S View → Type 0 = λ x. Ready s (begins c) x.0 word (λ n. n) (λ n. n) in
-      subst P (sym is) (refl, place_is, (λ n. refl), (λ h n. refl))
-
-  pub differs : (me me' : Me S View) (w : Bool) (k i n : ℕ) → me ≡ at v told (AtContent c w k i) p → MovedFrom s (begins c) me.0 n me'.0
-      → me'.1 ≡ me.1 → n ≢ slice_index (content c) i
-      → me' ≡ at v told (AtLink c w (link_of s k)) p
-  differs me me' w k i n is m rest ne =
-      let P : Me S View → Type 0 = λ x. MovedFrom s (begins c) x.0 n me'.0 in
-      let d = subst P is m in
-      let x : Walker = inside v (AtContent c w k i) p in
-      let same : Turn → Bool → Turn = λ t b. cond b t (goes x (AtLink c w (link_of s k))) in
-      paired me' _ []
-      (d.view ∙ ap (λ (b : Bool). Walking
-      (same (cond (i == 3) (ends d.history x c (hit c k)) (goes x (AtContent c w k (suc i)))) b).walker told) (ne_eqb n (slice_index (content c) i) ne))
-      (rest ∙ ap (λ (x : Me S View). x.1) is)
-
-  pub more : (me me' : Me S View) (w : Bool) (k i n : ℕ) → me ≡ at v told (AtContent c w k i) p → MovedFrom s (begins c) me.0 n me'.0
-      → me'.1 ≡ me.1 → n ≡ slice_index (content c) i → (i == 3) ≡ false
-      → me' ≡ at v told (AtContent c w k (suc i)) p
-  more me me' w k i n is m rest eq low =
-      let P : Me S View → Type 0 = λ x. MovedFrom s (begins c) x.0 n me'.0 in
-      let d = subst P is m in
-      let x : Walker = inside v (AtContent c w k i) p in
-      paired me' _ []
-      (d.view ∙ ap (λ (b : Bool). Walking
-      (cond b (cond (i == 3) (ends d.history x c (hit c k)) (goes x (AtContent c w k (suc i))))
-      (goes x (AtLink c w (link_of s k)))).walker told) (eq-eqb n (slice_index (content c) i) eq)
-      ∙ ap (λ (b : Bool). Walking (cond b (ends d.history x c (hit c k)) (goes x (AtContent c w k (suc i)))).walker told) low)
-      (rest ∙ ap (λ (x : Me S View). x.1) is)
-
-  -- the last content word is the call's too
-  pub matches : (me me' : Me S View) (w : Bool) (k i n : ℕ) → me ≡ at v told (AtContent c w k i) p → MovedFrom s (begins c) me.0 n me'.0
-      → n ≡ slice_index (content c) i → (i == 3) ≡ true
-      → Ended s v told c (hit c k) v.own v.room p me'.0
-  matches me me' w k i n is m eq last =
-      let P : Me S View → Type 0 = λ x. MovedFrom s (begins c) x.0 n me'.0 in
-      let d = subst P is m in
-      let x : Walker = inside v (AtContent c w k i) p in
-      let t : Turn → Type 0 = λ t. (me'.0 ≡ Walking t.walker told) × Sees s (d.history ++ t.said) t.walker in
-      let e : turn s d.history n x ≡ ends d.history x c (hit c k) =
-      ap (λ (b : Bool). cond b (cond (i == 3) (ends d.history x c (hit c k)) (goes x (AtContent c w k (suc i))))
-      (goes x (AtLink c w (link_of s k)))) (eq-eqb n (slice_index (content c) i) eq)
-      ∙ ap (λ (b : Bool). cond b (ends d.history x c (hit c k)) (goes x (AtContent c w k (suc i)))) last in
-      let r = subst t e (d.view, d.sees) in
-      ended s v x told d.history c (hit c k) me'.0 refl refl refl d.begins r.0 r.1
 
 -- the facts of a link that was loaded
 module _ (s : Shape) (l : ℕ) (ks : List ℕ) (v : Walker) (told : List Entry) (p : ℕ) (wr : Bool) (a : ℕ) where
@@ -121,7 +58,7 @@ module _ (s : Shape) (l : ℕ) (ks : List ℕ) (v : Walker) (told : List Entry) 
   abbrev x : Walker
   x = inside v (AtLink c wr a) (suc p)
 
-  after_follows : (h : List Entry) (n : ℕ) (u : View) → Rattle.term_core.specs.Terms.StartsWith h v.seen
+  after_follows : (h : List Entry) (n : ℕ) (u : View) → StartsWith h v.seen
       → u ≡ Walking (follows h x c wr a n).walker told → Sees s (h ++ (follows h x c wr a n).said) (follows h x c wr a n).walker
       → Arrived s v told c wr a n (suc p) u
   after_follows h zero u front view sees = record {
@@ -133,7 +70,8 @@ module _ (s : Shape) (l : ℕ) (ks : List ℕ) (v : Walker) (told : List Entry) 
         ended s v x told h c Full u refl refl refl front q.0 q.1;
     free = λ z r.
         let ne : v.room ≢ 0 = omega arith in
-        view ∙ ap (λ (b : Bool). Walking (cond b (ends h x c Full) (goes x (cond wr (Linking c a) (Writing c a 0)))).walker told) (ne_eqb v.room 0 ne);
+        view ∙ ap (λ (b : Bool). Walking (cond b (ends h x c Full) (goes x (cond wr (Linking c a) (Writing c a 0)))).walker told)
+        (ne_eqb v.room 0 ne);
     some = λ z. absurd (omega arith);
     few = few_of (v.room == 0) sees;
     own_low = low_of (v.room == 0) sees;
@@ -185,5 +123,7 @@ next_arrived {S} s c v told wr a n p me u call is m =
     let l = call.0 in let ks = call.1 in
     let T : Call → Me S View → Type 0 = λ k x. MovedFrom s (begins k) x.0 n u in
     let d : Moved s (begins (Intern l ks)) (inside v (AtLink (Intern l ks) wr a) p) told n u =
-    subst (λ (k : Call). MovedFrom s (begins k) (Walking (inside v (AtLink k wr a) p) told) n u) call.2 (subst (λ (x : Me S View). T c x) is m) in
-    subst (λ (k : Call). Arrived s v told k wr a n (suc p) u) (sym call.2) (after_follows s l ks v told p wr a d.history n u d.begins d.view d.sees)
+    subst (λ (k : Call). MovedFrom s (begins k) (Walking (inside v (AtLink k wr a) p) told) n u) call.2
+    (subst (λ (x : Me S View). T c x) is m) in
+    subst (λ (k : Call). Arrived s v told k wr a n (suc p) u) (sym call.2)
+    (after_follows s l ks v told p wr a d.history n u d.begins d.view d.sees)

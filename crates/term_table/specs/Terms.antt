@@ -1,14 +1,15 @@
--- What a pass knows of the terms over labels of one type: a term is told by a tree of words.
-use Rattle.std.specs.Prelude.{◌≡◌, ℕ, true, List, [], ◌∷◌}
+-- What a pass knows of the terms over labels of one type. The table knows a term by its tree of words.
+use Rattle.std.specs.Prelude.{◌≡◌, ℕ, true, List, [], ◌∷◌, Some}
 use Rattle.term_labels.specs.Trees.{Tree, Trees, node, none, more}
 use Rattle.term_labels.specs.Codings.{Coding, words_of, is_tree}
-use Rattle.term_table.specs.Passes.{PassState}
-use Rattle.term_table.specs.Trees as words
+use Rattle.term_core.specs.Terms.{pairs_of, tree_at}
+use Rattle.term_table.specs.Passes.{PassState, HasSeen}
 
 -- the pass has seen the ticket, and its term is x
 pub record HasTerm {L : Type 0} (c : Coding L) (p : PassState) (t : ℕ) (x : Tree L) : Type 0 where
   pub proper : is_tree c x ≡ true
-  pub words : words.HasTree p t (words_of c x)
+  pub seen : HasSeen p t
+  pub tree : tree_at (pairs_of p.seen) t ≡ Some (words_of c x)
 
 -- the tickets have these terms, one by one
 abbrev pub HaveTerms : {L : Type 0} → Coding L → PassState → List ℕ → Trees L → Type 0
@@ -28,7 +29,7 @@ HasSeenTerms c p (t ∷ ts) = HasSeenTerm c p t × HasSeenTerms c p ts
 
 -- no ticket has the term in what the pass has seen
 abbrev pub LacksTerm : {L : Type 0} → Coding L → PassState → Tree L → Type 0
-LacksTerm c p x = words.IsAbsent p (words_of c x)
+LacksTerm c p x = (t : ℕ) → tree_at (pairs_of p.seen) t ≡ Some (words_of c x) → ⊥
 
 -- the term is the label over the terms of these tickets
 pub record IsTermNode {L : Type 0} (c : Coding L) (p : PassState) (label : L) (children : List ℕ) (x : Tree L) : Type 0 where

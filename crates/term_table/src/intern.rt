@@ -1,10 +1,10 @@
 //! A walk along a chain, which links a node of one's own where the term is not there.
 //!
-//! Here and in `seek.rt` a parameter whose name begins with an underscore serves the contracts alone: it tells where in
-//! its walk the pass is.
-ghost use Rattle.std.specs.Prelude.{◌≡◌, ℕ, suc, ◌+◌, ◌-◌, ◌<◌, true, false, List, [], slice_index};
+//! Here and in `seek.rt` a `Walk` says where a pass stands. `same_word` takes it for its contract alone.
+ghost use Rattle.std.specs.Prelude.{◌≡◌, ℕ, suc, ◌+◌, ◌-◌, ◌<◌, true, false, List, [], slice_index, IfSome, IfNone};
 ghost use Rattle.term_core.specs.declared.Stage.TheVariants.{AtLink, AtContent, Writing, Linking};
 ghost use Rattle.term_core.specs.declared.Answer.TheVariants.{Ticket};
+ghost use Rattle.term_core.specs.declared.TheConstants.{CONTENT_WORDS, LAST_WORD};
 ghost use Rattle.term_core.specs.World.{content, link_of, hit};
 ghost use Rattle.term_table.specs.Rule.{node_count, word_count};
 ghost use Rattle.term_table.specs.Seats.{Serves, IsSameSeat, MayBegin};
@@ -15,30 +15,35 @@ ghost use Rattle.term_table.specs.declared.view.View.TheVariants.{Walking};
 
 use crate::nodes::Nodes;
 use crate::rule::Act;
-use crate::view::{InternEnd, View};
+use crate::view::{InternEnd, View, Walk};
 use atomic_table::Seat;
+use term_core::{CONTENT_WORDS, LAST_WORD};
 
 impl Nodes {
     // Fills a node of one's own that is not linked.
     pub(crate) fn write_node<C: Act>(
         &self,
         seat: &mut Seat<(), View>,
-        words: &[u64; 4],
+        words: &[u64; CONTENT_WORDS],
         own: u64,
-        _link: u64,
-        _probes: u64,
-    )
+        walk: Walk,
+    ) -> Walk
         requires table { Serves self.now C.shape seat.old }
         requires words { words.now ≡ content C.call }
         requires own { (own ≡ C.start.own) × (own < node_count self.now.size) }
-        requires before { seat.old.me ≡ at C.start C.told (Writing C.call _link 0) _probes }
+        requires before { seat.old.me ≡ at C.start C.told (Writing C.call walk.link 0) walk.probes }
         ensures table { seat.new.table_id ≡ seat.old.table_id }
-        ensures after { seat.new.me ≡ at C.start C.told (Linking C.call _link) _probes }
+        ensures after { seat.new.me ≡ at C.start C.told (Linking C.call walk.link) walk.probes }
+        ensures walk { result ≡ record walk { written = true } }
     {
         self.store::<C>(seat, self.content_place(own, 0), words[0]);
         self.store::<C>(seat, self.content_place(own, 1), words[1]);
         self.store::<C>(seat, self.content_place(own, 2), words[2]);
         self.store::<C>(seat, self.content_place(own, 3), words[3]);
+        Walk {
+            written: true,
+            ..walk
+        }
     }
 
     // Compares one content word of a node.
@@ -48,19 +53,21 @@ impl Nodes {
         expected: u64,
         node: u64,
         index: u64,
-        _written: bool,
-        _probes: u64,
+        walk: Walk,
     ) -> bool
         requires table { Serves self.now C.shape seat.old }
-        requires word { (expected ≡ slice_index (content C.call) index) × (index < 4) }
+        requires word { (expected ≡ slice_index (content C.call) index) × (index < CONTENT_WORDS) }
         requires node { node < node_count self.now.size }
-        requires before { seat.old.me ≡ at C.start C.told (AtContent C.call _written node index) _probes }
+        requires before { seat.old.me ≡ at C.start C.told (AtContent C.call walk.written node index) walk.probes }
         ensures table { IsSameSeat seat.old seat.new }
-        ensures more { result ≡ true → index < 3 → seat.new.me ≡ at C.start C.told (AtContent C.call _written node (suc index)) _probes }
-        ensures same { result ≡ true → index ≡ 3
-            → Ended C.shape C.start C.told C.call (hit C.call node) C.start.own C.start.room _probes seat.new.me.0 }
-        ensures differs { result ≡ false → seat.new.me ≡ at C.start C.told (AtLink C.call _written (link_of C.shape node)) _probes }
+        ensures more { result ≡ true → index < LAST_WORD
+            → seat.new.me ≡ at C.start C.told (AtContent C.call walk.written node (suc index)) walk.probes }
+        ensures same { result ≡ true → index ≡ LAST_WORD
+            → Ended C.shape C.start C.told C.call (hit C.call node) C.start.own C.start.room walk.probes seat.new.me.0 }
+        ensures differs { result ≡ false
+            → seat.new.me ≡ at C.start C.told (AtLink C.call walk.written (link_of C.shape node)) walk.probes }
     {
+        let _ = walk;
         let found = self.load::<C>(seat, self.content_place(node, index));
         found == expected
     }
@@ -79,74 +86,72 @@ impl Nodes {
     }
 
     // Loads the next link.
-    pub(crate) fn next_link<C: Act>(
-        &self,
-        seat: &mut Seat<(), View>,
-        link: u64,
-        _written: bool,
-        _probes: u64,
-    ) -> u64
+    pub(crate) fn next_link<C: Act>(&self, seat: &mut Seat<(), View>, walk: Walk) -> u64
         requires table { Serves self.now C.shape seat.old }
-        requires link { link < word_count self.now.size }
+        requires link { walk.link < word_count self.now.size }
         requires call { (l : ℕ) × (ks : List ℕ) × (C.call ≡ Intern l ks) }
-        requires before { seat.old.me ≡ at C.start C.told (AtLink C.call _written link) _probes }
+        requires before { seat.old.me ≡ at C.start C.told (AtLink C.call walk.written walk.link) walk.probes }
         ensures table { IsSameSeat seat.old seat.new }
-        ensures found { Arrived C.shape C.start C.told C.call _written link result (suc _probes) seat.new.me.0 }
+        ensures found { Arrived C.shape C.start C.told C.call walk.written walk.link result (suc walk.probes) seat.new.me.0 }
     {
-        self.load::<C>(seat, link)
+        self.load::<C>(seat, walk.link)
     }
 
     // Links one's own node, where none was linked; else answers what was.
-    pub(crate) fn join<C: Act>(
-        &self,
-        seat: &mut Seat<(), View>,
-        link: u64,
-        own: u64,
-        _probes: u64,
-    ) -> u64
+    pub(crate) fn join<C: Act>(&self, seat: &mut Seat<(), View>, walk: Walk, own: u64) -> u64
         requires table { Serves self.now C.shape seat.old }
-        requires link { link < word_count self.now.size }
+        requires link { walk.link < word_count self.now.size }
         requires own { (own ≡ C.start.own) × (own < node_count self.now.size) }
-        requires before { seat.old.me ≡ at C.start C.told (Linking C.call link) _probes }
+        requires before { seat.old.me ≡ at C.start C.told (Linking C.call walk.link) walk.probes }
         ensures table { IsSameSeat seat.old seat.new }
-        ensures linked { result ≡ 0 → Ended C.shape C.start C.told C.call (Ticket own) (own + 1) (C.start.room - 1) _probes seat.new.me.0 }
-        ensures lost { 0 < result → (seat.new.me.0 ≡ Walking (inside C.start (AtContent C.call true (result - 1) 0) _probes) C.told)
+        ensures linked { result ≡ 0
+            → Ended C.shape C.start C.told C.call (Ticket own) (own + 1) (C.start.room - 1) walk.probes seat.new.me.0 }
+        ensures lost { 0 < result → (seat.new.me.0 ≡ Walking (inside C.start (AtContent C.call true (result - 1) 0) walk.probes) C.told)
             × (result - 1 < node_count self.now.size) }
     {
-        self.link::<C>(seat, link, own + 1)
+        self.link::<C>(seat, walk.link, own + 1)
     }
 
-    // Compares the content of a node word by word.
+    // Compares the content of a node word by word. Where it differs, the walk goes on at the node's link.
     pub(crate) fn same_content<C: Act>(
         &self,
         seat: &mut Seat<(), View>,
-        words: &[u64; 4],
+        words: &[u64; CONTENT_WORDS],
         node: u64,
-        _written: bool,
-        _probes: u64,
-    ) -> bool
+        walk: Walk,
+    ) -> Option<Walk>
         requires table { Serves self.now C.shape seat.old }
         requires words { words.now ≡ content C.call }
         requires node { node < node_count self.now.size }
-        requires before { seat.old.me ≡ at C.start C.told (AtContent C.call _written node 0) _probes }
+        requires before { seat.old.me ≡ at C.start C.told (AtContent C.call walk.written node 0) walk.probes }
         ensures table { IsSameSeat seat.old seat.new }
-        ensures same { result ≡ true
-            → Ended C.shape C.start C.told C.call (hit C.call node) C.start.own C.start.room _probes seat.new.me.0 }
-        ensures differs { result ≡ false → seat.new.me ≡ at C.start C.told (AtLink C.call _written (link_of C.shape node)) _probes }
+        ensures same { IfNone result
+            (Ended C.shape C.start C.told C.call (hit C.call node) C.start.own C.start.room walk.probes seat.new.me.0) }
+        ensures differs { IfSome result
+            (λ w. seat.new.me ≡ at C.start C.told (AtLink C.call walk.written (link_of C.shape node)) walk.probes) }
+        ensures next { IfSome result (λ w. w ≡ record walk { link = link_of C.shape node }) }
     {
-        for i in 0..3 {
-            if !self.same_word::<C>(seat, words[i], node, i as u64, _written, _probes) {
-                return false;
+        let next = Walk {
+            link: self.link_place(node),
+            ..walk
+        };
+        for i in 0..LAST_WORD {
+            if !self.same_word::<C>(seat, words[i], node, i as u64, walk) {
+                return Some(next);
             }
         }
-        self.same_word::<C>(seat, words[3], node, 3, _written, _probes)
+        if self.same_word::<C>(seat, words[LAST_WORD], node, LAST_WORD as u64, walk) {
+            None
+        } else {
+            Some(next)
+        }
     }
 
     // A whole intern.
     pub(crate) fn intern_as<C: Act>(
         &self,
         seat: &mut Seat<(), View>,
-        words: &[u64; 4],
+        words: &[u64; CONTENT_WORDS],
         chain: u64,
         own: u64,
         room: u64,
@@ -161,31 +166,32 @@ impl Nodes {
         ensures table { IsSameSeat seat.old seat.new }
         ensures ended { Done C.shape C.start C.told C.call result.0 result.1 seat.new.me.0 }
     {
-        let mut link = chain;
-        let mut written = false;
-        let mut probes = 1;
+        let mut walk = Walk {
+            link: chain,
+            written: false,
+            probes: 1,
+        };
         let mut found = self.first_link::<C>(seat, chain);
         loop {
             if found == 0 {
                 if room == 0 {
-                    return (InternEnd::NoRoom, probes);
+                    return (InternEnd::NoRoom, walk.probes);
                 }
-                if !written {
-                    self.write_node::<C>(seat, words, own, link, probes);
-                    written = true;
+                if !walk.written {
+                    walk = self.write_node::<C>(seat, words, own, walk);
                 }
-                found = self.join::<C>(seat, link, own, probes);
+                found = self.join::<C>(seat, walk, own);
                 if found == 0 {
-                    return (InternEnd::Linked, probes);
+                    return (InternEnd::Linked, walk.probes);
                 }
             }
             let node = found - 1;
-            if self.same_content::<C>(seat, words, node, written, probes) {
-                return (InternEnd::Hit(node), probes);
-            }
-            link = self.link_place(node);
-            found = self.next_link::<C>(seat, link, written, probes);
-            probes += 1;
+            let Some(next) = self.same_content::<C>(seat, words, node, walk) else {
+                return (InternEnd::Hit(node), walk.probes);
+            };
+            walk = next;
+            found = self.next_link::<C>(seat, walk);
+            walk.probes += 1;
         }
     }
 }

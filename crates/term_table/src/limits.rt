@@ -24,6 +24,18 @@ pub struct Limits {
     pub heads: u64,
 }
 
+// The limits of `open`.
+pub(crate) const LIMITS: Limits = Limits {
+    nodes: MAX_NODES,
+    heads: MAX_HEADS,
+};
+
+// The limits of `open_large`.
+pub(crate) const LARGE_LIMITS: Limits = Limits {
+    nodes: LARGE_MAX_NODES,
+    heads: LARGE_MAX_HEADS,
+};
+
 /// Each limit is the number that specs/Numbers.antt tells, so a change of one is a change there. A law: it computes nothing.
 pub fn limits_are_these_numbers()
     ensures { LimitsAreTheseNumbers }

@@ -3,6 +3,7 @@ ghost use Rattle.std.specs.Prelude.{◌≡◌, ℕ, suc, ◌<◌, false, List, [
 ghost use Rattle.term_core.specs.declared.Stage.TheVariants.{AtLink, Reading};
 ghost use Rattle.term_core.specs.declared.Call.TheVariants.{Find, Read};
 ghost use Rattle.term_core.specs.World.{content, answer_of};
+ghost use Rattle.term_core.specs.declared.TheConstants.{CONTENT_WORDS, LAST_WORD};
 ghost use Rattle.term_table.specs.Rule.{node_count, word_count};
 ghost use Rattle.term_table.specs.Seats.{Serves, IsSameSeat, MayBegin};
 ghost use Rattle.term_table.specs.Calls.{at, Ended, Sought};
@@ -11,8 +12,9 @@ ghost use Rattle.term_table.specs.declared.view.View.TheVariants.{Walking};
 
 use crate::nodes::Nodes;
 use crate::rule::Act;
-use crate::view::View;
+use crate::view::{View, Walk};
 use atomic_table::Seat;
+use term_core::CONTENT_WORDS;
 
 impl Nodes {
     // Begins a find: loads the head of its chain.
@@ -29,27 +31,22 @@ impl Nodes {
     }
 
     // Loads the next link.
-    pub(crate) fn next_seen<C: Act>(
-        &self,
-        seat: &mut Seat<(), View>,
-        link: u64,
-        _probes: u64,
-    ) -> u64
+    pub(crate) fn next_seen<C: Act>(&self, seat: &mut Seat<(), View>, walk: Walk) -> u64
         requires table { Serves self.now C.shape seat.old }
-        requires link { link < word_count self.now.size }
+        requires link { walk.link < word_count self.now.size }
         requires call { (l : ℕ) × (ks : List ℕ) × (C.call ≡ Find l ks) }
-        requires before { seat.old.me ≡ at C.start C.told (AtLink C.call false link) _probes }
+        requires before { seat.old.me ≡ at C.start C.told (AtLink C.call false walk.link) walk.probes }
         ensures table { IsSameSeat seat.old seat.new }
-        ensures found { Sought C.shape C.start C.told C.call result (suc _probes) seat.new.me.0 }
+        ensures found { Sought C.shape C.start C.told C.call result (suc walk.probes) seat.new.me.0 }
     {
-        self.load::<C>(seat, link)
+        self.load::<C>(seat, walk.link)
     }
 
     // A whole find: the node, if there is one, and how many links were loaded.
     pub(crate) fn find_as<C: Act>(
         &self,
         seat: &mut Seat<(), View>,
-        words: &[u64; 4],
+        words: &[u64; CONTENT_WORDS],
         chain: u64,
     ) -> (Option<u64>, u64)
         requires table { Serves self.now C.shape seat.old }
@@ -61,18 +58,23 @@ impl Nodes {
         ensures table { IsSameSeat seat.old seat.new }
         ensures ended { Ended C.shape C.start C.told C.call (sought_answer result.0) C.start.own C.start.room result.1 seat.new.me.0 }
     {
-        let mut probes = 1;
+        let mut walk = Walk {
+            link: chain,
+            written: false,
+            probes: 1,
+        };
         let mut found = self.first_seen::<C>(seat, chain);
         loop {
             if found == 0 {
-                return (None, probes);
+                return (None, walk.probes);
             }
             let node = found - 1;
-            if self.same_content::<C>(seat, words, node, false, probes) {
-                return (Some(node), probes);
-            }
-            found = self.next_seen::<C>(seat, self.link_place(node), probes);
-            probes += 1;
+            let Some(next) = self.same_content::<C>(seat, words, node, walk) else {
+                return (Some(node), walk.probes);
+            };
+            walk = next;
+            found = self.next_seen::<C>(seat, walk);
+            walk.probes += 1;
         }
     }
 
@@ -94,18 +96,22 @@ impl Nodes {
         requires table { Serves self.now C.shape seat.old }
         requires node { node < node_count self.now.size }
         requires call { C.call ≡ Read node }
-        requires few { length row.now < 4 }
+        requires few { length row.now < CONTENT_WORDS }
         requires before { seat.old.me ≡ at C.start C.told (Reading node row.now) 0 }
         ensures table { IsSameSeat seat.old seat.new }
-        ensures more { length row.now < 3 → seat.new.me ≡ at C.start C.told (Reading node (row.now ++ result ∷ [])) 0 }
-        ensures last { length row.now ≡ 3
+        ensures more { length row.now < LAST_WORD → seat.new.me ≡ at C.start C.told (Reading node (row.now ++ result ∷ [])) 0 }
+        ensures last { length row.now ≡ LAST_WORD
             → Ended C.shape C.start C.told C.call (answer_of (row.now ++ result ∷ [])) C.start.own C.start.room 0 seat.new.me.0 }
     {
         self.load::<C>(seat, self.content_place(node, row.len() as u64))
     }
 
     // The four content words of a node.
-    pub(crate) fn read_as<C: Act>(&self, seat: &mut Seat<(), View>, node: u64) -> [u64; 4]
+    pub(crate) fn read_as<C: Act>(
+        &self,
+        seat: &mut Seat<(), View>,
+        node: u64,
+    ) -> [u64; CONTENT_WORDS]
         requires table { Serves self.now C.shape seat.old }
         requires node { node < node_count self.now.size }
         requires call { C.call ≡ Read node }

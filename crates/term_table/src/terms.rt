@@ -1,6 +1,6 @@
 //! The calls on terms over labels of one's own type.
 
-#![tactic(auto, using(crate::proofs::TermCallers::seen_all, crate::proofs::TermCallers::missing_term))]
+#![tactic(auto, using(crate::proofs::TermCallers::seen_all))]
 
 ghost use Rattle.std.specs.Prelude.{◌≡◌, ℕ, ◌+◌, ◌≤◌, ◌↔◌, IfOk, IfErr, IfSome, IfNone, length};
 ghost use Rattle.term_core.specs.declared.Call.TheVariants.{Find, Intern, Read};
@@ -14,13 +14,14 @@ use crate::pass::Pass;
 use crate::table::{Found, Interned, TableFull, TermTable};
 use crate::ticket::Ticket;
 use smallvec::SmallVec;
+use term_core::MAX_CHILDREN;
 use term_labels::Label;
 
 /// The root of a term: its label, and the tickets of its children, as many as its arity.
 #[derive(Drop)]
 pub struct Node<L> {
     pub label: L,
-    pub children: SmallVec<Ticket, 3>,
+    pub children: SmallVec<Ticket, MAX_CHILDREN>,
 }
 
 impl TermTable {
@@ -132,5 +133,6 @@ impl Pass {
 /// Of two tickets that a pass has seen, the numbers are equal exactly where their terms over these labels are. A law: it computes
 /// nothing.
 pub fn same_terms_of<L: Label>()
-    ensures { (p : PassState) (t u : ℕ) (x y : Tree L) → HasLegalHistory p → HasTerm L.coding p t x → HasTerm L.coding p u y → (t ≡ u) ↔ (x ≡ y) }
+    ensures { (p : PassState) (t u : ℕ) (x y : Tree L) → HasLegalHistory p → HasTerm L.coding p t x → HasTerm L.coding p u y
+        → (t ≡ u) ↔ (x ≡ y) }
 {}

@@ -17,8 +17,8 @@ pub fn meaning_lasts<L, V, E>()
     ensures { (a : Algebra L V E) → MeaningLasts a }
 {}
 
-/// The ticket that a table gives to a label over children means what the label makes of their meanings, and the children of a term
-/// that was read have the values that its label makes its value of. A law: it computes nothing.
+/// The ticket of a label over children means what the label makes of their meanings. The children of a term that was read have the values
+/// that its label makes its value of. A law: it computes nothing.
 pub fn labels_make_meanings<L, V, E>()
     ensures { (a : Algebra L V E) → LabelsMakeMeanings a }
 {}

@@ -33,7 +33,7 @@ pub fn intern_leaf(table: &TermTable, pass: &mut Pass, label: Label) -> Result<I
 }
 
 /// Interns a leaf, and a term over it twice.
-#[tactic(auto, using(term_table::proofs::Callers::interning))]
+#[tactic(auto, using(term_table::proofs::TermCallers::interning))]
 pub fn intern_over(
     table: &TermTable,
     pass: &mut Pass,
@@ -134,9 +134,8 @@ pub fn constants_probes(table: &TermTable, pass: &mut Pass, count: u32, shift: u
     sum
 }
 
-/// How many links are loaded to intern the sums of the constant `n` and each constant below `count`,
-/// without those that are loaded for the constants.
-#[tactic(auto, using(term_table::proofs::Callers::interning))]
+/// How many links are loaded to intern the sums of the constant `n` and each constant below `count`, the constants' own left out.
+#[tactic(auto, using(term_table::proofs::TermCallers::interning))]
 pub fn sums_probes(table: &TermTable, pass: &mut Pass, n: u32, count: u32) -> Result<u64, TableFull>
     requires { IsOf table.now pass.old }
     ensures { IsOf table.now pass.new }

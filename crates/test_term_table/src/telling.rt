@@ -88,6 +88,7 @@ pub fn tell_constants<H: Home>(
 }
 
 // Whether what was told is the constant `n`, which the pass then finds under the same ticket.
+#[tactic(auto, using(term_table::proofs::TermCallers::learns_seen_term))]
 fn is_constant<H: Home>(table: &TermTable, pass: &mut Pass, told: Told<H>, n: u32) -> bool
     requires home { table.now ≡ H.table }
     requires table { IsOf table.now pass.old }

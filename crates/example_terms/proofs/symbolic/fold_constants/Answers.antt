@@ -22,4 +22,5 @@ returns-clause-word c = λ fs mean.
     let y = c.in_ok-second.ensures.word _ (still_means c.known-first.ensures.extends (there_means mean (at_1, omega (arith, long)))) in
     let words : (e : Environment) → just e c.in_ok-first.field-0 ∷ just e c.in_ok-second.field-0 ∷ [] ≡ fs e
     = λ e. ap₂ (λ v w. v ∷ w ∷ []) (sym (x e)) (sym (y e)) ∙ two_values nothing (fs e) (all_mean_length mean e ∙ long) in
-    subst (λ (f : Environment → Value). IfSome c.word.result (λ n. (e : Environment) → f e ≡ just e n)) (λ i. λ e. made c.args.op e (words e i)) c.word.ensures
+    subst (λ (f : Environment → Value). IfSome c.word.result (λ n. (e : Environment) → f e ≡ just e n))
+    (λ i. λ e. made c.args.op e (words e i)) c.word.ensures

@@ -6,7 +6,8 @@ use Rattle.example_terms.proofs.symbolic.make.Goals as goal
 
 pub returns-in-Some-clause-value : goal.returns-in-Some-clause-value
 returns-in-Some-clause-value c = λ fs mean.
-    let word = subst (λ r. IfSome r (λ n. (e : Environment) → made c.args.op e (fs e) ≡ just e n)) c.in-Some.is (c.fold_constants.ensures.word fs mean) in
+    let word = subst (λ r. IfSome r (λ n. (e : Environment) → made c.args.op e (fs e) ≡ just e n)) c.in-Some.is
+    (c.fold_constants.ensures.word fs mean) in
     means_as (λ e. sym (word e)) (interned_means c.in_ok-intern.ensures.tree (none_mean {p = c.fold_constants.new.pass}))
 
 pub returns-clause-value : goal.returns-clause-value

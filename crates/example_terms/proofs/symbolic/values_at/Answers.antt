@@ -11,6 +11,7 @@ loop-i-preserved c =
     let i = c.loop-i.i in
     let found = c.loop-i.found.items in
     let ticket = c.in_ok-value_at.field-0 in
-    let there = one_more all (take i places) found (get_or places i 0) ticket c.loop-i.invariant.0 c.in_ok-value_at.ensures.0 c.in_ok-value_at.ensures.1 in
+    let there = one_more all (take i places) found
+    (get_or places i 0) ticket c.loop-i.invariant.0 c.in_ok-value_at.ensures.0 c.in_ok-value_at.ensures.1 in
     let more = subst (λ ks. AreAt all ks (found ++ ticket ∷ [])) (sym (take_more places i 0 c.loop-i-test.true)) there in
     (subst (AreAt all (take (i + 1) places)) (sym c.in-Ok.ensures.ok) more, omega (arith, c.in-Ok.ensures.len, c.loop-i.invariant.1))

@@ -9,6 +9,8 @@ returns-then-same_term c = λ yes e.
     let later = c.meet.ensures.extends.1 in
     let first = c.requires.first in
     let second = c.requires.second in
-    let words = same_means c.same_term.ensures.same (learns_means learns first.value) (still_means later second.value) c.if-same_term.true e in
-    let memories = same_means c.same_term-then-same_term.ensures.same (learns_means learns first.memory) (still_means later second.memory) yes e in
+    let words = same_means c.same_term.ensures.same (learns_means learns first.value)
+    (still_means later second.value) c.if-same_term.true e in
+    let memories = same_means c.same_term-then-same_term.ensures.same (learns_means learns first.memory)
+    (still_means later second.memory) yes e in
     ap₂ (λ (x y : Value). record { word = x.word; memory = y.memory }) words memories

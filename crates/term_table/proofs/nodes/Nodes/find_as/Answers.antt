@@ -6,4 +6,4 @@ pub same_content-requires-clause-before : goal.same_content-requires-clause-befo
 same_content-requires-clause-before g c =
     let some : 0 < c.loop-found.found = search rules in
     let at = c.loop-found.invariant.2.some some in
-    paired c.loop-found.seat.me _ _ at.0 c.loop-found.invariant.1
+    rw c.loop-found.invariant.3 (paired c.loop-found.seat.me _ _ at.0 c.loop-found.invariant.1)

@@ -2,33 +2,20 @@ use Rattle.std.proofs.Common.{◌≡◌, List, ap, subst}
 use Rattle.atomic_table.specs.Table.{Me}
 use Rattle.term_core.specs.declared.Entry.{Entry}
 use Rattle.term_core.specs.declared.Walker.{Walker}
-use Rattle.term_core.specs.Terms.{StartsWith}
 use Rattle.term_table.specs.declared.view.View.{View}
 use Rattle.term_table.specs.Calls.{walker_of, told_of}
 use Rattle.term_table.specs.Meets.{Saw}
-use Rattle.term_table.specs.Rule.{node_count}
-use Rattle.term_table.proofs.Meeting.{saw_in, is_pass}
+use Rattle.term_table.proofs.Meeting.{is_pass}
 use Rattle.term_table.proofs.nodes.Nodes.learn_as.Goals as goal
 
 pub returns-clause-saw : goal.returns-clause-saw
 returns-clause-saw g c =
-    let size = c.args.self.now.size in
     let walker : Me (Unit {0}) View → Walker = λ m. walker_of m.0 in
     let told : Me (Unit {0}) View → List Entry = λ m. told_of m.0 in
     let begins : walker c.inform.new.seat.me ≡ walker c.args.seat.now.me = ap walker c.inform.ensures.told in
     let knows : told c.inform.new.seat.me ≡ told c.args.note.me = ap told c.inform.ensures.told in
-    let saw = c.see.ensures.saw in
-    let P : Walker → List Entry → Type 0 = λ v h. Saw size.nodes (node_count size) v h saw.0 (walker c.see.new.seat.me) in
-    saw_in size.nodes (node_count size) _ _ saw.0 _ (subst (λ v. P v (told c.args.note.me)) begins (subst (P (walker c.inform.new.seat.me)) knows saw.1))
-
-pub returns-clause-told : goal.returns-clause-told
-returns-clause-told g c =
-    let walker : Me (Unit {0}) View → Walker = λ m. walker_of m.0 in
-    let told : Me (Unit {0}) View → List Entry = λ m. told_of m.0 in
-    let begins : walker c.inform.new.seat.me ≡ walker c.args.seat.now.me = ap walker c.inform.ensures.told in
-    let knows : told c.inform.new.seat.me ≡ told c.args.note.me = ap told c.inform.ensures.told in
-    let Q : Walker → List Entry → Type 0 = λ v h. StartsWith h v.seen → (walker c.see.new.seat.me).seen ≡ h in
-    subst (λ v. Q v (told c.args.note.me)) begins (subst (Q (walker c.inform.new.seat.me)) knows c.see.ensures.told)
+    let P : Walker → List Entry → Type 0 = λ v h. Saw g.C.Act.shape v h (walker c.see.new.seat.me) in
+    subst (λ v. P v (told c.args.note.me)) begins (subst (P (walker c.inform.new.seat.me)) knows c.see.ensures.saw)
 
 pub returns-clause-pass : goal.returns-clause-pass
 returns-clause-pass g c = is_pass c.see.new.seat.me _ _ c.see.ensures.pass

@@ -1,10 +1,11 @@
 use Rattle.std.proofs.Common.{arith, rules}
-use Rattle.term_table.proofs.Public.{hit_low, linked_low, has_one}
-use Rattle.term_table.proofs.Callers.{extends_answered, answer_seen, intern_tree, full_linked, full_absent}
+use Rattle.term_table.proofs.Public.{hit_low, linked_low}
+use Rattle.term_table.proofs.Callers.{extends_answered, full_linked}
 use Rattle.term_table.proofs.table.TermTable.intern_word.Goals as goal
 
 pub new-ticket-requires : goal.new-ticket-requires
-new-ticket-requires c = let low = hit_low _ _ _ _ _ _ _ _ c.intern_with-end.ensures.ended _ c.in-Hit.is in let small = c.self.inside.nodes.small in omega arith
+new-ticket-requires c = let low = hit_low _ _ _ _ _ _ _ _ c.intern_with-end.ensures.ended _ c.in-Hit.is in
+    let small = c.self.inside.nodes.small in omega arith
 
 pub overflow_add-pass : goal.overflow_add-pass
 overflow_add-pass c = let low = linked_low _ _ _ _ _ _ _ _ c.intern_with-end.ensures.ended c.in-Linked.is in let own =
@@ -20,12 +21,6 @@ returns-clause-answered c = search rules
 pub returns-clause-extends : goal.returns-clause-extends
 returns-clause-extends c = extends_answered (returns-clause-answered c)
 
-pub returns-clause-seen : goal.returns-clause-seen
-returns-clause-seen c = answer_seen (returns-clause-answered c) _ (has_one _)
-
-pub returns-clause-tree : goal.returns-clause-tree
-returns-clause-tree c = λ xs h. intern_tree (returns-clause-answered c) h
-
 pub returns-in-NoRoom-clause-answered : goal.returns-in-NoRoom-clause-answered
 returns-in-NoRoom-clause-answered c = search rules
 
@@ -34,6 +29,3 @@ returns-in-NoRoom-clause-extends c = extends_answered (returns-in-NoRoom-clause-
 
 pub returns-in-NoRoom-clause-full : goal.returns-in-NoRoom-clause-full
 returns-in-NoRoom-clause-full c = full_linked (returns-in-NoRoom-clause-answered c)
-
-pub returns-in-NoRoom-clause-absent : goal.returns-in-NoRoom-clause-absent
-returns-in-NoRoom-clause-absent c = λ xs h. full_absent (returns-in-NoRoom-clause-answered c) h

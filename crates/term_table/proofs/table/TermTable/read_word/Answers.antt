@@ -1,5 +1,5 @@
 use Rattle.std.proofs.Common.{arith, rules}
-use Rattle.term_table.proofs.Callers.{extends_answered, read_seen, read_node}
+use Rattle.term_table.proofs.Callers.{extends_answered}
 use Rattle.term_table.proofs.Public.{read_low}
 use Rattle.term_table.proofs.table.TermTable.read_word.Goals as goal
 
@@ -14,9 +14,3 @@ returns-clause-answered c = search rules
 
 pub returns-clause-extends : goal.returns-clause-extends
 returns-clause-extends c = extends_answered (returns-clause-answered c)
-
-pub returns-clause-seen : goal.returns-clause-seen
-returns-clause-seen c = read_seen (returns-clause-answered c)
-
-pub returns-clause-tree : goal.returns-clause-tree
-returns-clause-tree c = λ x h. read_node (returns-clause-answered c) h
