@@ -31,7 +31,9 @@ use Rattle.mips_emit.specs.declared.comparison.Asked.{Asked}
 use Rattle.mips_emit.specs.declared.comparison.Asked.TheVariants.{Nothing, Branched, Returned}
 use Rattle.mips_emit.specs.declared.comparison.Comparison.{Comparison}
 use Rattle.mips_emit.specs.Frames.{AreFrameHomes}
-use Rattle.mips_emit.specs.Locations.{Locations, Facts, known_in, locations_of, location_at, operand}
+use Rattle.mips_homes.specs.declared.homed.SlotCopy.{SlotCopy}
+use Rattle.mips_homes.specs.Copies.{copy_of}
+use Rattle.mips_emit.specs.Locations.{Locations, in_frame, Facts, known_in, locations_of, location_at, operand}
 use Rattle.mips_emit.specs.Code.{nop, fetch, seat, op_code}
 use Rattle.mips_emit.specs.Comparisons.{is_known_zero, is_immediate, opposite_if, form_of, opposite_op, code_by_form, comparison_code, is_asked, is_passing}
 use Rattle.mips_emit.specs.Comparisons.{form_for, operator_comparison, comparison_of, last_with, is_result, returned}
@@ -290,15 +292,15 @@ module _ (most total : ℕ) (gs : List RGlobal) (starts : ℕ → ℕ) where
       decides_for (Returned c) op form is e = subst (Given op) (same_Some InResult form is) (in_result op e)
 
   module _ (g : Arrays) (fs : List Stored) (hs : List Home) (P : Run → Type 0) (out : List ℕ) (failed : P (Failed out)) where
-    abbrev comparison_at : Facts → Op → (d a b : ℕ) → Form → Comparison
-    comparison_at facts op d a b form = record {
+    abbrev comparison_at : List SlotCopy → Facts → Op → (d a b : ℕ) → Form → Comparison
+    comparison_at copies facts op d a b form = record {
       result = d;
       op = op;
       form = form;
       left = known_in facts a;
       right = known_in facts b;
-      x = operand (locations_of hs) facts a;
-      y = operand (locations_of hs) facts b;
+      x = operand (locations_of copies hs) facts a;
+      y = operand (locations_of copies hs) facts b;
     }
 
     -- what a comparison leaves that is one with the branch behind it
@@ -306,14 +308,14 @@ module _ (most total : ℕ) (gs : List RGlobal) (starts : ℕ → ℕ) where
     Leaves facts registers top s go m = (q u : ℕ) (s' : State) → 1 ≤ length (comparison_code m) → RunsTo (comparison_code m) s s'
         → Stands most total gs starts (hide (waiting facts q u).lazy (places_with registers q (Some u))) g (top ∷ fs) s'
         → IsLazy (waiting facts q u).lazy (places_with registers q (Some u))
-        → IsLast (last_with (Some m) None) hs (places_with registers q (Some u)) top.slots s'
+        → IsLast (last_with (Some m) None) top.copies hs (places_with registers q (Some u)) top.slots s'
         → P (go (places_with registers q (Some u)) top.slots g)
 
     compares_bin : (asked : Asked) (op : Op) (d a b : ℕ) (facts : Facts) (form : Form) (registers : Places) (top : Stored) (s : State)
-        (go : Places → Places → Arrays → Run) → form_for asked op (known_in facts a) (known_in facts b) ≡ Some form → is_passing (locations_of hs d) ≡ true
-        → AreFrameHomes hs top.count → IsKnown (known_in facts) hs registers top.slots → IsLazy facts.lazy registers
+        (go : Places → Places → Arrays → Run) → form_for asked op (known_in facts a) (known_in facts b) ≡ Some form → is_passing (locations_of top.copies hs d) ≡ true
+        → AreFrameHomes hs top.copies top.count → IsKnown (known_in facts) hs registers top.slots → IsLazy facts.lazy registers
         → Stands most total gs starts (hide facts.lazy registers) g (top ∷ fs) s
-        → Leaves facts registers top s go (comparison_at facts op d a b form)
+        → Leaves facts registers top s go (comparison_at top.copies facts op d a b form)
         → P (with_inst gs (Bin op d a b) hs registers top.slots g out go)
     compares_bin asked op d a b facts form registers top s go is passing ok k lz h f =
         value_or_failed P (read_home hs registers top.slots a) out _ failed (λ v ev.
@@ -322,8 +324,8 @@ module _ (most total : ℕ) (gs : List RGlobal) (starts : ℕ → ℕ) where
         let known = known_in facts in
         let vb = operand_below most total gs starts facts.lazy registers g top fs s h lz hs a v ok ev in
         let wb = operand_below most total gs starts facts.lazy registers g top fs s h lz hs b w ok ew in
-        let z = decides_for (hide facts.lazy registers) g top fs s h v w u (known_in facts a) (known_in facts b) (operand (locations_of hs) facts a)
-        (operand (locations_of hs) facts b) (operand_means most total gs starts facts.lazy registers g top fs s h lz known hs a v ok k ev).1
+        let z = decides_for (hide facts.lazy registers) g top fs s h v w u (known_in facts a) (known_in facts b) (operand (locations_of top.copies hs) facts a)
+        (operand (locations_of top.copies hs) facts b) (operand_means most total gs starts facts.lazy registers g top fs s h lz known hs a v ok k ev).1
         (operand_means most total gs starts facts.lazy registers g top fs s h lz known hs b w ok k ew).1
         (λ s h. (operand_means most total gs starts facts.lazy registers g top fs s h lz known hs a v ok k ev).0)
         (λ s h. (operand_means most total gs starts facts.lazy registers g top fs s h lz known hs b w ok k ew).0)
@@ -331,15 +333,19 @@ module _ (most total : ℕ) (gs : List RGlobal) (starts : ℕ → ℕ) where
         write u (result-word op v w u vb wb eu) z (slice_get hs d) refl passing)))
       where
         m : Comparison
-        m = comparison_at facts op d a b form
+        m = comparison_at top.copies facts op d a b form
 
         write : (u : ℕ) → u < 2 ^ 32
             → Decided (hide facts.lazy registers) g top fs s h (code_by_form form op (known_in facts a) (known_in facts b)
-            (operand (locations_of hs) facts a) (operand (locations_of hs) facts b)) form (operand (locations_of hs) facts a) (operand (locations_of hs) facts b) u
-            → (o : Option Home) → slice_get hs d ≡ o → is_passing (location_at o) ≡ true
+            (operand (locations_of top.copies hs) facts a) (operand (locations_of top.copies hs) facts b)) form (operand (locations_of top.copies hs) facts a) (operand (locations_of top.copies hs) facts b) u
+            → (o : Option Home) → slice_get hs d ≡ o → is_passing (location_at top.copies o) ≡ true
             → P (with_value o out (λ h. write_at h registers top.slots u (λ r s. go r s g)))
         write u below z None at passes_by = absurd (true≢false (sym passes_by))
-        write u below z (Some (Slot j)) at passes_by = absurd (true≢false (sym passes_by))
+        write u below z (Some (Slot j)) at passes_by = absurd (never (copy_of top.copies j) passes_by)
+          where
+            never : (c : Option ℕ) → is_passing (Some (in_frame j c)) ≡ true → ⊥
+            never None e = true≢false (sym e)
+            never (Some r) e = true≢false (sym e)
         write u below z (Some (Reg q)) at passes_by =
             let there : read_home hs (places_with registers q (Some u)) top.slots d ≡ Some u =
             ap (λ o. chain o (in_home (places_with registers q (Some u)) top.slots)) at ∙ ap (λ b. if b then Some u else registers q) (eq-eqb q q refl) in
@@ -348,7 +354,7 @@ module _ (most total : ℕ) (gs : List RGlobal) (starts : ℕ → ℕ) where
             z.to (λ r c e. shown_told facts.lazy registers q u r c e) z.stands)
             (lazy_told facts.lazy registers q u (not_true (is_lasting q) passes_by) below lz)
             (record {
-              fresh = none_fresh hs (places_with registers q (Some u)) top.slots z.to;
+              fresh = none_fresh top.copies hs (places_with registers q (Some u)) top.slots z.to;
               comparison = λ n c same holds.
                   subst (λ (n : Comparison). read_home hs (places_with registers q (Some u)) top.slots n.result ≡ Some c → passes n.form n.x n.y z.to ≡ not (nat_eq c 0))
                   (same_Some m n same) (λ here. z.tells ∙ ap (λ u. not (nat_eq u 0)) (same_Some u c (sym there ∙ here))) holds;
@@ -358,8 +364,8 @@ module _ (most total : ℕ) (gs : List RGlobal) (starts : ℕ → ℕ) where
             })
 
     pub compares : (i : RInst) (facts : Facts) (asked : Asked) (m : Comparison) (registers : Places) (top : Stored) (s : State)
-        (go : Places → Places → Arrays → Run) → comparison_of (locations_of hs) facts asked i ≡ Some m
-        → AreFrameHomes hs top.count → IsKnown (known_in facts) hs registers top.slots → IsLazy facts.lazy registers
+        (go : Places → Places → Arrays → Run) → comparison_of (locations_of top.copies hs) facts asked i ≡ Some m
+        → AreFrameHomes hs top.copies top.count → IsKnown (known_in facts) hs registers top.slots → IsLazy facts.lazy registers
         → Stands most total gs starts (hide facts.lazy registers) g (top ∷ fs) s → Leaves facts registers top s go m
         → P (with_inst gs i hs registers top.slots g out go)
     compares (Const d w) facts asked m registers top s go e ok k lz h f = absurd (none-some m e)
@@ -367,19 +373,19 @@ module _ (most total : ℕ) (gs : List RGlobal) (starts : ℕ → ℕ) where
     compares (Load d a i) facts asked m registers top s go e ok k lz h f = absurd (none-some m e)
     compares (Store a i b) facts asked m registers top s go e ok k lz h f = absurd (none-some m e)
     compares (Bin op d a b) facts asked m registers top s go e ok k lz h f =
-        go1 (is_asked asked d && is_passing (locations_of hs d)) refl e
+        go1 (is_asked asked d && is_passing (locations_of top.copies hs d)) refl e
       where
         Goal : Type 0
         Goal = P (with_inst gs (Bin op d a b) hs registers top.slots g out go)
 
-        go2 : is_passing (locations_of hs d) ≡ true → (o : Option Form) → form_for asked op (known_in facts a) (known_in facts b) ≡ o
-            → operator_comparison d op (known_in facts a) (known_in facts b) (operand (locations_of hs) facts a) (operand (locations_of hs) facts b) o ≡ Some m → Goal
+        go2 : is_passing (locations_of top.copies hs d) ≡ true → (o : Option Form) → form_for asked op (known_in facts a) (known_in facts b) ≡ o
+            → operator_comparison d op (known_in facts a) (known_in facts b) (operand (locations_of top.copies hs) facts a) (operand (locations_of top.copies hs) facts b) o ≡ Some m → Goal
         go2 passing None is e = absurd (none-some m e)
         go2 passing (Some form) is e =
             compares_bin asked op d a b facts form registers top s go is passing ok k lz h (subst (Leaves facts registers top s go) (sym (same_Some _ m e)) f)
 
-        go1 : (t : Bool) → (is_asked asked d && is_passing (locations_of hs d)) ≡ t
-            → (if t then operator_comparison d op (known_in facts a) (known_in facts b) (operand (locations_of hs) facts a) (operand (locations_of hs) facts b)
+        go1 : (t : Bool) → (is_asked asked d && is_passing (locations_of top.copies hs d)) ≡ t
+            → (if t then operator_comparison d op (known_in facts a) (known_in facts b) (operand (locations_of top.copies hs) facts a) (operand (locations_of top.copies hs) facts b)
             (form_for asked op (known_in facts a) (known_in facts b)) else None) ≡ Some m → Goal
         go1 false t e = absurd (none-some m e)
-        go1 true t e = go2 (and_second (is_asked asked d) (is_passing (locations_of hs d)) t) (form_for asked op (known_in facts a) (known_in facts b)) refl e
+        go1 true t e = go2 (and_second (is_asked asked d) (is_passing (locations_of top.copies hs d)) t) (form_for asked op (known_in facts a) (known_in facts b)) refl e

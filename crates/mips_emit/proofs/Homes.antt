@@ -1,6 +1,6 @@
 -- Locations are read and written.
 use Rattle.std.proofs.Common.{◌≡◌, ◌≢◌, ℕ, ◌+◌, ◌*◌, ◌/◌, ◌%◌, ◌^◌, ◌<◌, ◌≤◌, Bool, true, false, List, [], ◌∷◌, ◌++◌, map, length, length-append}
-use Rattle.std.proofs.Common.{Option, Some, None, refl, sym, ap, ◌∙◌, subst, arith, eq-eqb, eqb-true, nat_eq}
+use Rattle.std.proofs.Common.{Option, Some, None, refl, sym, ap, ◌∙◌, subst, arith, eq-eqb, ne_eqb, eqb-true, nat_eq}
 use Rattle.std.specs.Prelude.{if◌then◌else◌, not, slice_get}
 use Rattle.std.proofs.lemmas.Bool.{eqb-false}
 use Rattle.std.proofs.lemmas.Option.{same_Some, none-some}
@@ -23,7 +23,9 @@ use Rattle.mips_homes.specs.HomedRun.{is_lasting, Run, Failed, with_value, in_ho
 use Rattle.mips_homes.specs.declared.homed.Home.{Home}
 use Rattle.mips_homes.specs.declared.homed.Home.TheVariants.{Reg, Slot}
 use Rattle.mips_homes.specs.declared.homed.Frame.{Frame}
-use Rattle.mips_emit.specs.declared.location.Location.TheVariants.{Held, InSlot}
+use Rattle.mips_homes.specs.declared.homed.SlotCopy.{SlotCopy}
+use Rattle.mips_homes.specs.Copies.{copy_of}
+use Rattle.mips_emit.specs.declared.location.Location.TheVariants.{Held, InSlot, Copied}
 use Rattle.mips_emit.specs.declared.location.Source.{Source}
 use Rattle.mips_emit.specs.declared.location.Source.TheVariants.{Zero, Word, From}
 use Rattle.mips_emit.specs.declared.comparison.Form.{Form}
@@ -32,7 +34,7 @@ use Rattle.mips_emit.specs.declared.comparison.Comparison.{Comparison}
 use Rattle.mips_emit.specs.declared.facts.Last.{Last}
 use Rattle.mips_emit.specs.Frames.{IsHome, AreFrameHomes, IsFrame}
 use Rattle.mips_emit.specs.Comparisons.{no_last, is_result}
-use Rattle.mips_emit.specs.Locations.{known_in, no_facts, location_at, in_slot, fresh_source, source}
+use Rattle.mips_emit.specs.Locations.{known_in, no_facts, in_frame, location_at, in_slot, fresh_source, source}
 use Rattle.mips_emit.specs.declared.location.Location.{Location}
 use Rattle.mips_emit.specs.Locations.{inner_of, lazy_const, lazy_none, lazy_at, lazy_source, word_source}
 use Rattle.mips_emit.specs.Elements.{width_of, width_bytes, place_in, address_of_place}
@@ -40,7 +42,7 @@ use Rattle.mips_emit.specs.Code.{nop, const_code, is_small, half, constant, li, 
 use Rattle.mips_emit.proofs.Runs.{RunsTo, runs_none, runs_then}
 use Rattle.mips_emit.proofs.View.{word_at, set_word, shown_other, word_here, word_other, word_below, set_at_words, IsTarget, inner_is, read_register}
 use Rattle.mips_emit.proofs.View.{read_other, moves, loads_word, stores_word, Sets, set_sets, li_sets}
-use Rattle.mips_emit.proofs.Stands.{Stored, size_of, with_slots, StackHolds, stack_same, stack_top, Linked, Stands, open_stack}
+use Rattle.mips_emit.proofs.Stands.{Stored, size_of, with_slots, StackHolds, stack_same, stack_top, FrameHolds, LeafHolds, Linked, linked_kept, Stands, open_stack}
 
 -- words that pseudo-registers hold
 pub record IsKnown (known : Places) (hs : List Home) (registers slots : Places) : Type 0 where
@@ -134,10 +136,10 @@ kept_beside places r v q w ne e = go (nat_eq q r) refl
     go true t = absurd (ne (eqb-true q r t))
 
 -- a pseudo-register is written
-pub known_register : (known : Places) (hs : List Home) (count : ℕ) (registers slots : Places) (x r v : ℕ) (o : Option ℕ) → AreFrameHomes hs count
+pub known_register : (known : Places) (hs : List Home) (copies : List SlotCopy) (count : ℕ) (registers slots : Places) (x r v : ℕ) (o : Option ℕ) → AreFrameHomes hs copies count
     → slice_get hs x ≡ Some (Reg r) → ((w : ℕ) → o ≡ Some w → w ≡ v) → IsKnown known hs registers slots
     → IsKnown (places_with known x o) hs (places_with registers r (Some v)) slots
-known_register known hs count registers slots x r v o ok there is h = record { by = λ y w e. by y w (nat_eq y x) refl e }
+known_register known hs copies count registers slots x r v o ok there is h = record { by = λ y w e. by y w (nat_eq y x) refl e }
   where
     other : (y w : ℕ) → y ≢ x → (p : Option Home) → slice_get hs y ≡ p → chain p (in_home registers slots) ≡ Some w
         → chain p (in_home (places_with registers r (Some v)) slots) ≡ Some w
@@ -153,10 +155,10 @@ known_register known hs count registers slots x r v o ok there is h = record { b
         ∙ ap (λ b. if b then Some v else registers r) (eq-eqb r r refl) ∙ ap Some (sym (is w e))
     by y w false t e = other y w (eqb-false y x t) (slice_get hs y) refl (h.by y w e)
 
-known_slot : (known : Places) (hs : List Home) (count : ℕ) (registers slots : Places) (x k v : ℕ) (o : Option ℕ) → AreFrameHomes hs count
+known_slot : (known : Places) (hs : List Home) (copies : List SlotCopy) (count : ℕ) (registers slots : Places) (x k v : ℕ) (o : Option ℕ) → AreFrameHomes hs copies count
     → slice_get hs x ≡ Some (Slot k) → ((w : ℕ) → o ≡ Some w → w ≡ v) → IsKnown known hs registers slots
     → IsKnown (places_with known x o) hs registers (places_with slots k (Some v))
-known_slot known hs count registers slots x k v o ok there is h = record { by = λ y w e. by y w (nat_eq y x) refl e }
+known_slot known hs copies count registers slots x k v o ok there is h = record { by = λ y w e. by y w (nat_eq y x) refl e }
   where
     other : (y w : ℕ) → y ≢ x → (p : Option Home) → slice_get hs y ≡ p → chain p (in_home registers slots) ≡ Some w
         → chain p (in_home registers (places_with slots k (Some v))) ≡ Some w
@@ -173,11 +175,11 @@ known_slot known hs count registers slots x k v o ok there is h = record { by = 
     by y w false t e = other y w (eqb-false y x t) (slice_get hs y) refl (h.by y w e)
 
 -- the word of a pseudo-register is in its inner temporary
-pub record IsFresh (fresh : Option ℕ) (hs : List Home) (registers slots : Places) (s : State) : Type 0 where
-  pub by : (x w : ℕ) → fresh ≡ Some x → read_home hs registers slots x ≡ Some w → s.regs (inner_of (location_at (slice_get hs x))) ≡ w
+pub record IsFresh (fresh : Option ℕ) (copies : List SlotCopy) (hs : List Home) (registers slots : Places) (s : State) : Type 0 where
+  pub by : (x w : ℕ) → fresh ≡ Some x → read_home hs registers slots x ≡ Some w → s.regs (inner_of (location_at copies (slice_get hs x))) ≡ w
 
-pub none_fresh : (hs : List Home) (registers slots : Places) (s : State) → IsFresh None hs registers slots s
-none_fresh hs registers slots s = record { by = λ x w e. absurd (none-some x e) }
+pub none_fresh : (copies : List SlotCopy) (hs : List Home) (registers slots : Places) (s : State) → IsFresh None copies hs registers slots s
+none_fresh copies hs registers slots s = record { by = λ x w e. absurd (none-some x e) }
 
 -- whether the branch for a comparison is taken
 abbrev pub passes : Form → Source → Source → State → Bool
@@ -189,14 +191,14 @@ passes ByOpposite x y s = pair_passes Equal (read 0 s.regs 3) (read 0 s.regs 0)
 passes InResult x y s = pair_passes NotEqual (read 0 s.regs 2) (read 0 s.regs 0)
 
 -- what an exit can use of the last instruction
-pub record IsLast (last : Last) (hs : List Home) (registers slots : Places) (s : State) : Type 0 where
-  pub fresh : IsFresh last.fresh hs registers slots s
+pub record IsLast (last : Last) (copies : List SlotCopy) (hs : List Home) (registers slots : Places) (s : State) : Type 0 where
+  pub fresh : IsFresh last.fresh copies hs registers slots s
   pub comparison : (m : Comparison) (v : ℕ) → last.comparison ≡ Some m → read_home hs registers slots m.result ≡ Some v
       → passes m.form m.x m.y s ≡ not (nat_eq v 0)
   pub result : (m : Comparison) (v : ℕ) → last.comparison ≡ Some m → is_result m.form ≡ true → read_home hs registers slots m.result ≡ Some v → s.regs 2 ≡ v
 
-pub none_last : (hs : List Home) (registers slots : Places) (s : State) → IsLast no_last hs registers slots s
-none_last hs registers slots s = record { fresh = none_fresh hs registers slots s; comparison = λ m v e. absurd (none-some m e); result = λ m v e. absurd (none-some m e) }
+pub none_last : (copies : List SlotCopy) (hs : List Home) (registers slots : Places) (s : State) → IsLast no_last copies hs registers slots s
+none_last copies hs registers slots s = record { fresh = none_fresh copies hs registers slots s; comparison = λ m v e. absurd (none-some m e); result = λ m v e. absurd (none-some m e) }
 
 -- one more known word, and two words less
 pub known_with : (known : Places) (hs : List Home) (registers slots : Places) (b w : ℕ) → read_home hs registers slots b ≡ Some w
@@ -230,12 +232,14 @@ abbrev pub Denotes : ℕ → State → Source → ℕ → Type 0
 Denotes count s Zero v = v ≡ 0
 Denotes count s (Word w) v = (w ≡ v) × (w < 2 ^ 32)
 Denotes count s (From (Held r)) v = read 0 s.regs r ≡ v
+Denotes count s (From (Copied r k)) v = read 0 s.regs r ≡ v
 Denotes count s (From (InSlot k)) v = (k < count) × (word_at s (s.regs 29 + 4 * k) ≡ v)
 
 -- an operand that isn't in a register below 4
 abbrev pub IsAway : Source → Type 0
 IsAway (From (Held r)) = 4 ≤ r
 IsAway (From (InSlot k)) = Unit {0}
+IsAway (From (Copied r k)) = 4 ≤ r
 IsAway Zero = Unit {0}
 IsAway (Word w) = Unit {0}
 
@@ -243,6 +247,7 @@ pub seat_kept : (x : Source) (t u : ℕ) (f f' : ℕ → ℕ) → IsAway x → t
 seat_kept Zero t u f f' away ne low same = refl
 seat_kept (Word w) t u f f' away ne low same = read_other f f' t (λ _. same t ne)
 seat_kept (From (Held r)) t u f f' away ne low same = read_other f f' r (λ _. same r (omega (arith, away, low)))
+seat_kept (From (Copied r k)) t u f f' away ne low same = read_other f f' r (λ _. same r (omega (arith, away, low)))
 seat_kept (From (InSlot k)) t u f f' away ne low same = read_other f f' t (λ _. same t ne)
 
 pub longer : (a b : List Plain) → 1 ≤ length a → 1 ≤ length (a ++ b)
@@ -269,11 +274,13 @@ bring_some t Zero = omega arith
 bring_some t (Word w) = li_some t w
 bring_some t (From (Held r)) = omega arith
 bring_some t (From (InSlot k)) = omega arith
+bring_some t (From (Copied r k)) = omega arith
 
 -- an operand that isn't in register t, and what it means after a write of that
 abbrev pub IsApart : ℕ → Source → Type 0
 IsApart t (From (Held r)) = r ≢ t
 IsApart t (From (InSlot k)) = Unit {0}
+IsApart t (From (Copied r k)) = r ≢ t
 IsApart t Zero = Unit {0}
 IsApart t (Word w) = Unit {0}
 
@@ -282,6 +289,7 @@ pub denotes_kept : (count t v : ℕ) (x : Source) (s : State) (f : ℕ → ℕ) 
 denotes_kept count t v Zero s f ne apart same d = d
 denotes_kept count t v (Word w) s f ne apart same d = d
 denotes_kept count t v (From (Held r)) s f ne apart same d = read_other s.regs f r (λ _. same r apart) ∙ d
+denotes_kept count t v (From (Copied r k)) s f ne apart same d = read_other s.regs f r (λ _. same r apart) ∙ d
 denotes_kept count t v (From (InSlot k)) s f ne apart same d = (d.0, ap (λ p. word_at s (p + 4 * k)) (same 29 (λ e. ne (sym e))) ∙ d.1)
 
 -- a register that isn't the location itself
@@ -289,6 +297,7 @@ abbrev pub IsElsewhere : Option Location → ℕ → Type 0
 IsElsewhere None q = Unit {0}
 IsElsewhere (Some (Held r)) q = q ≢ r
 IsElsewhere (Some (InSlot k)) q = Unit {0}
+IsElsewhere (Some (Copied r k)) q = q ≢ r
 
 -- instructions that end in a write of register d, from a state m that they have reached but for it
 pub record Ends (is : List Plain) (s m : State) (d v : ℕ) : Type 0 where
@@ -302,13 +311,13 @@ pub record Ends (is : List Plain) (s m : State) (d v : ℕ) : Type 0 where
 pub runs_nop : (s : State) → RunsTo (nop ∷ []) s s
 runs_nop s = record { ends = refl }
 
-pub frame_homes : (most : ℕ) (f : Frame) → IsFrame most f → AreFrameHomes f.homes.items f.slots
+pub frame_homes : (most : ℕ) (f : Frame) → IsFrame most f → AreFrameHomes f.homes.items f.copies.items f.slots
 frame_homes most f ok = ok.homes
 
 module _ (most total : ℕ) (gs : List RGlobal) (starts : ℕ → ℕ) where
   -- registers, HI and LO change, but not 28 and 29
   pub stands_with : (registers registers' : Places) (g : Arrays) (fs : List Stored) (s : State) (f : ℕ → ℕ) (hi lo : ℕ)
-      → IsWords (record s { regs = f; hi = hi; lo = lo }) → Linked fs (f 31) → f 29 ≡ s.regs 29 → f 28 ≡ s.regs 28
+      → IsWords (record s { regs = f; hi = hi; lo = lo }) → Linked fs registers' f → f 29 ≡ s.regs 29 → f 28 ≡ s.regs 28
       → ((r v : ℕ) → 4 ≤ r → r < 28 → registers' r ≡ Some v → f r ≡ v) → Stands most total gs starts registers g fs s
       → Stands most total gs starts registers' g fs (record s { regs = f; hi = hi; lo = lo })
   stands_with registers registers' g fs s f hi lo words linked pointer middle held h = record {
@@ -329,10 +338,11 @@ module _ (most total : ℕ) (gs : List RGlobal) (starts : ℕ → ℕ) where
       → ((q v : ℕ) → registers' q ≡ Some v → registers q ≡ Some v) → Stands most total gs starts registers g fs s
       → Stands most total gs starts registers' g fs s
   fewer_stand registers registers' g fs s some h =
-      stands_with registers registers' g fs s s.regs s.hi s.lo h.words h.linked refl refl (λ r v low high is. h.held r v low high (some r v is)) h
+      stands_with registers registers' g fs s s.regs s.hi s.lo h.words
+      (linked_kept fs registers registers' s.regs s.regs refl (λ r low high. refl) some h.linked) refl refl (λ r v low high is. h.held r v low high (some r v is)) h
 
   -- registers that are no homes change
-  pub call_kept : (registers : Places) (g : Arrays) (fs : List Stored) (s : State) (f : ℕ → ℕ) → IsWords (record s { regs = f }) → Linked fs (f 31)
+  pub call_kept : (registers : Places) (g : Arrays) (fs : List Stored) (s : State) (f : ℕ → ℕ) → IsWords (record s { regs = f }) → Linked fs registers f
       → ((r : ℕ) → 4 ≤ r → r < 30 → f r ≡ s.regs r) → Stands most total gs starts registers g fs s
       → Stands most total gs starts registers g fs (record s { regs = f })
   call_kept registers g fs s f words linked same h =
@@ -345,13 +355,13 @@ module _ (most total : ℕ) (gs : List RGlobal) (starts : ℕ → ℕ) where
       → Stands most total gs starts registers g fs (record s { regs = c.regs })
   passing_kept registers g fs is s t v above low c h =
       stands_with registers registers g fs s c.regs s.hi s.lo (run_words (map action_of is) s (record s { regs = c.regs }) h.words (c.runs).ends)
-      (subst (Linked fs) (sym (c.others 31 (omega (arith, low)))) h.linked) (c.others 29 (omega (arith, low))) (c.others 28 (omega (arith, low)))
+      (linked_kept fs registers registers s.regs c.regs (c.others 31 (omega (arith, low))) (λ r up high. c.others r (omega (arith, low, up))) (λ q w e. e) h.linked) (c.others 29 (omega (arith, low))) (c.others 28 (omega (arith, low)))
       (λ r w ql qh at. (let up = above r w at in c.others r (omega (arith, low, up))) ∙ h.held r w ql qh at) h
 
   pub words_kept : (registers : Places) (g : Arrays) (fs : List Stored) (s : State) (f : ℕ → ℕ) → IsWords (record s { regs = f })
       → ((r : ℕ) → 4 ≤ r → r < 32 → f r ≡ s.regs r) → Stands most total gs starts registers g fs s
       → Stands most total gs starts registers g fs (record s { regs = f })
-  words_kept registers g fs s f words same h = call_kept registers g fs s f words (subst (Linked fs) (sym (same 31 (omega arith) (omega arith))) h.linked)
+  words_kept registers g fs s f words same h = call_kept registers g fs s f words (linked_kept fs registers registers s.regs f (same 31 (omega arith) (omega arith)) (λ r low high. same r (omega (arith, low)) (omega (arith, high))) (λ q w e. e) h.linked)
       (λ r low high. same r low (omega (arith, high))) h
 
   pub regs_kept : (registers : Places) (g : Arrays) (fs : List Stored) (is : List Plain) (s : State) (f : ℕ → ℕ) → RunsTo is s (record s { regs = f })
@@ -377,17 +387,15 @@ module _ (most total : ℕ) (gs : List RGlobal) (starts : ℕ → ℕ) where
     brings t v Zero ok d = set_sets (move_code t 0 ∷ []) s t 0 v ok (sym d) (moves s t 0 h.words)
     brings t v (Word w) ok d = subst (λ v. Sets (li t w) s t v) d.0 (li_sets s t w ok d.1)
     brings t v (From (Held r)) ok d = set_sets (move_code t r ∷ []) s t (read 0 s.regs r) v ok d (moves s t r h.words)
+    brings t v (From (Copied r k)) ok d = set_sets (move_code t r ∷ []) s t (read 0 s.regs r) v ok d (moves s t r h.words)
     brings t v (From (InSlot k)) ok d =
         let lt = d.0 in
         let at = frame_open (4 * k) (omega arith) (omega (arith, lt)) in
         set_sets (load_word_at t (4 * k) ∷ []) s t (word_at s (s.regs 29 + 4 * k)) v ok d.1 (loads_word s t (4 * k) at.0 at.1)
 
     -- the same, but for an operand that is there already
-    pub carries : (t v : ℕ) (x : Source) → IsTarget t → Denotes top.count s x v → Sets (carry t x) s t v
-    carries t v Zero ok d = brings t v Zero ok d
-    carries t v (Word w) ok d = brings t v (Word w) ok d
-    carries t v (From (InSlot k)) ok d = brings t v (From (InSlot k)) ok d
-    carries t v (From (Held r)) ok d = by (nat_eq r t) refl
+    carried : (t v r : ℕ) → IsTarget t → read 0 s.regs r ≡ v → Sets (carry t (From (Held r))) s t v
+    carried t v r ok d = by (nat_eq r t) refl
       where
         by : (b : Bool) → nat_eq r t ≡ b → Sets (if b then [] else bring t (From (Held r))) s t v
         by true e = record {
@@ -397,6 +405,13 @@ module _ (most total : ℕ) (gs : List RGlobal) (starts : ℕ → ℕ) where
           others = λ q ne. refl;
         }
         by false e = brings t v (From (Held r)) ok d
+
+    pub carries : (t v : ℕ) (x : Source) → IsTarget t → Denotes top.count s x v → Sets (carry t x) s t v
+    carries t v Zero ok d = brings t v Zero ok d
+    carries t v (Word w) ok d = brings t v (Word w) ok d
+    carries t v (From (Copied r k)) ok d = carried t v r ok d
+    carries t v (From (InSlot k)) ok d = brings t v (From (InSlot k)) ok d
+    carries t v (From (Held r)) ok d = carried t v r ok d
 
     -- a register below 4 is written
     pub sets_kept : (is : List Plain) (t v : ℕ) → t < 4 → (c : Sets is s t v) → Stands most total gs starts registers g (top ∷ fs) (record s { regs = c.regs })
@@ -423,16 +438,23 @@ module _ (most total : ℕ) (gs : List RGlobal) (starts : ℕ → ℕ) where
     fetches t v Zero low high d = record { regs = s.regs; runs = runs_none s; here = sym d; others = λ r ne. refl; stands = h }
     fetches t v (Word w) low high d = loaded (li t w) t v low high (brings t v (Word w) (record { low = low; high = omega (arith, high) }) d)
     fetches t v (From (Held r)) low high d = record { regs = s.regs; runs = runs_none s; here = d; others = λ r ne. refl; stands = h }
+    fetches t v (From (Copied r k)) low high d = record { regs = s.regs; runs = runs_none s; here = d; others = λ r ne. refl; stands = h }
     fetches t v (From (InSlot k)) low high d = loaded (load_word_at t (4 * k) ∷ []) t v low high
         (brings t v (From (InSlot k)) (record { low = low; high = omega (arith, high) }) d)
 
     -- a home register is written
-    pub register_written : (r v : ℕ) (regs : ℕ → ℕ) → 4 ≤ r → r < 28 → v < 2 ^ 32 → regs r ≡ v → ((q : ℕ) → q ≢ r → regs q ≡ s.regs q)
+    pub register_written : (r v : ℕ) (regs : ℕ → ℕ) → 4 ≤ r → r < 28 → ((k : ℕ) → copy_of top.copies k ≡ Some r → ⊥) → v < 2 ^ 32 → regs r ≡ v
+        → ((q : ℕ) → q ≢ r → regs q ≡ s.regs q)
         → Stands most total gs starts (places_with registers r (Some v)) g (top ∷ fs) (record s { regs = regs })
-    register_written r v regs low high below is others =
+    register_written r v regs low high no_copy below is others =
         stands_with registers (places_with registers r (Some v)) g (top ∷ fs) s regs s.hi s.lo
         (record { regs = λ q. word q (nat_eq q r) refl; hi = (h.words).hi; lo = (h.words).lo; memory = (h.words).memory })
-        (λ leaf. (let ne : 31 ≢ r = omega (arith, high) in others 31 ne) ∙ h.linked leaf)
+        (λ leaf. let l = h.linked leaf in record {
+          link = (let ne : 31 ≢ r = omega (arith, high) in others 31 ne) ∙ l.link;
+          range = l.range;
+          copied = λ k q w copy at. others q (λ e. no_copy k (copy ∙ ap Some e)) ∙ l.copied k q w copy at;
+          idle = λ k q copy. ap (λ b. if b then Some v else registers q) (ne_eqb q r (λ e. no_copy k (copy ∙ ap Some e))) ∙ l.idle k q copy;
+        })
         (let ne : 29 ≢ r = omega (arith, high) in others 29 ne) (let ne : 28 ≢ r = omega (arith, high) in others 28 ne)
         (λ q w ql qh at. by q w ql qh (nat_eq q r) refl at) h
       where
@@ -444,9 +466,9 @@ module _ (most total : ℕ) (gs : List RGlobal) (starts : ℕ → ℕ) where
         by q w ql qh true e at = ap regs (eqb-true q r e) ∙ is ∙ same_Some v w at
         by q w ql qh false e at = others q (eqb-false q r e) ∙ h.held q w ql qh at
 
-    pub slot_written : (k v : ℕ) → k < top.count → v < 2 ^ 32 → Stands most total gs starts registers g
+    pub slot_written : (k v : ℕ) → k < top.count → v < 2 ^ 32 → ((r : ℕ) → copy_of top.copies k ≡ Some r → s.regs r ≡ v) → Stands most total gs starts registers g
         (with_slots top (places_with top.slots k (Some v)) ∷ fs) (set_word s (s.regs 29 + 4 * k) v)
-    slot_written k v lt below =
+    slot_written k v lt below shown =
         let a = s.regs 29 + 4 * k in
         let s' = set_word s a v in
         let low = h.room in
@@ -465,6 +487,7 @@ module _ (most total : ℕ) (gs : List RGlobal) (starts : ℕ → ℕ) where
               link = λ calls. (let ne : s.regs 29 + 4 * (top.count + length top.saved) ≢ s.regs 29 + 4 * k = omega (arith, lt) in
                   word_other s a v (s.regs 29 + 4 * (top.count + length top.saved)) ne) ∙ (h.stack.0).link calls;
               fits = (h.stack.0).fits;
+              alone = (h.stack.0).alone;
             },
             stack_same most (word_at s) (word_at s') (s.regs 29 + size_of top) fs
                 (λ b le. let ne : b ≢ s.regs 29 + 4 * k = omega (arith, le, lt) in word_other s a v b ne) h.stack.1,
@@ -476,10 +499,20 @@ module _ (most total : ℕ) (gs : List RGlobal) (starts : ℕ → ℕ) where
               (stack_apart (width_of gs b) a (place_in gs starts b i) total (omega (arith, low)) (omega (arith, up, lt)) (h.inside b i w at) few)
               ∙ h.elements b i w at;
           places = h.places;
-          linked = h.linked;
+          linked = λ leaf. let l = h.linked leaf in record {
+            link = l.link;
+            range = l.range;
+            copied = λ j r w copy at. copied l j r w copy (nat_eq j k) refl at;
+            idle = l.idle;
+          };
           gp = h.gp;
         }
       where
+        copied : LeafHolds top registers s.regs → (j r w : ℕ) → copy_of top.copies j ≡ Some r → (b : Bool) → nat_eq j k ≡ b
+            → (if b then Some v else top.slots j) ≡ Some w → s.regs r ≡ w
+        copied l j r w copy true e at = shown r (sym (ap (copy_of top.copies) (eqb-true j k e)) ∙ copy) ∙ same_Some v w at
+        copied l j r w copy false e at = l.copied j r w copy at
+
         by : (j w : ℕ) → j < top.count → (b : Bool) → nat_eq j k ≡ b → (if b then Some v else top.slots j) ≡ Some w
             → word_at (set_word s (s.regs 29 + 4 * k) v) (s.regs 29 + 4 * j) ≡ w
         by j w jl true e at =
@@ -490,6 +523,107 @@ module _ (most total : ℕ) (gs : List RGlobal) (starts : ℕ → ℕ) where
             let apart : j ≢ k = eqb-false j k e in
             let ne : s.regs 29 + 4 * j ≢ s.regs 29 + 4 * k = omega (arith, apart) in
             word_other s (s.regs 29 + 4 * k) v (s.regs 29 + 4 * j) ne ∙ (h.stack.0).slots j w jl at
+
+  module _ (registers : Places) (g : Arrays) (top : Stored) (fs : List Stored) (s : State) (h : Stands most total gs starts registers g (top ∷ fs) s) where
+    -- fewer slots are known
+    fewer_slots : (slots : Places) → ((k v : ℕ) → slots k ≡ Some v → top.slots k ≡ Some v)
+        → Stands most total gs starts registers g (with_slots top slots ∷ fs) s
+    fewer_slots slots some = record {
+      words = h.words;
+      mapped = h.mapped;
+      held = h.held;
+      stack = (
+        record {
+          slots = λ k v lt is. (h.stack.0).slots k v lt (some k v is);
+          aside = (h.stack.0).aside;
+          link = (h.stack.0).link;
+          fits = (h.stack.0).fits;
+          alone = (h.stack.0).alone;
+        },
+        h.stack.1,
+      );
+      room = h.room;
+      aligned = h.aligned;
+      elements = h.elements;
+      places = h.places;
+      linked = λ leaf. let l = h.linked leaf in record {
+        link = l.link;
+        range = l.range;
+        copied = λ k r v c is. l.copied k r v c (some k v is);
+        idle = l.idle;
+      };
+      gp = h.gp;
+    }
+
+    -- only a leaf has copies
+    pub copy_holds : (k r : ℕ) → copy_of top.copies k ≡ Some r → LeafHolds top registers s.regs
+    copy_holds k r c = go top.leaf refl
+      where
+        go : (b : Bool) → top.leaf ≡ b → LeafHolds top registers s.regs
+        go true e = h.linked e
+        go false e = absurd (none-some r (sym (ap (λ copies. copy_of copies k) ((h.stack.0).alone e)) ∙ c))
+
+  module _ (registers : Places) (g : Arrays) (top : Stored) (fs : List Stored) (s : State) (h : Stands most total gs starts registers g (top ∷ fs) s)
+      (hs : List Home) (ok : AreFrameHomes hs top.copies top.count) (k r v : ℕ) (copy : copy_of top.copies k ≡ Some r) (lt : k < top.count)
+      (below : v < 2 ^ 32) (regs : ℕ → ℕ) (is : regs r ≡ v) (others : (q : ℕ) → q ≢ r → regs q ≡ s.regs q) where
+    unset : Places
+    unset = places_with top.slots k None
+
+    changed : Stored
+    changed = with_slots top (places_with top.slots k None)
+
+    -- the register of a copy is written: then nothing is known of the slot
+    copy_changed : Stands most total gs starts registers g (with_slots top (places_with top.slots k None) ∷ fs) (record s { regs = regs })
+    copy_changed =
+        let l = copy_holds registers g top fs s h k r copy in
+        let range = l.range k r copy in
+        stands_with registers registers g (with_slots top (places_with top.slots k None) ∷ fs) s regs s.hi s.lo
+        (record { regs = λ q. word q (nat_eq q r) refl; hi = (h.words).hi; lo = (h.words).lo; memory = (h.words).memory })
+        (λ leaf. record {
+          link = (let ne : 31 ≢ r = omega (arith, range.1) in others 31 ne) ∙ l.link;
+          range = l.range;
+          copied = λ j q w c at. copied l j q w c (nat_eq j k) refl at;
+          idle = l.idle;
+        })
+        (let ne : 29 ≢ r = omega (arith, range.1) in others 29 ne) (let ne : 28 ≢ r = omega (arith, range.1) in others 28 ne)
+        (λ q w ql qh at. others q (λ e. none-some w (sym (l.idle k r copy) ∙ ap registers (sym e) ∙ at)) ∙ h.held q w ql qh at)
+        (fewer_slots registers g top fs s h (places_with top.slots k None) (λ j w at. some j w (nat_eq j k) at))
+      where
+        word : (q : ℕ) (b : Bool) → nat_eq q r ≡ b → regs q < 2 ^ 32
+        word q true e = subst (λ v. v < 2 ^ 32) (sym (ap regs (eqb-true q r e) ∙ is)) below
+        word q false e = subst (λ v. v < 2 ^ 32) (sym (others q (eqb-false q r e))) ((h.words).regs q)
+
+        some : (j w : ℕ) (b : Bool) → (if b then None else top.slots j) ≡ Some w → top.slots j ≡ Some w
+        some j w true at = absurd (none-some w at)
+        some j w false at = at
+
+        copied : LeafHolds top registers s.regs → (j q w : ℕ) → copy_of top.copies j ≡ Some q → (b : Bool) → nat_eq j k ≡ b
+            → (if b then None else top.slots j) ≡ Some w → regs q ≡ w
+        copied l j q w c true e at = absurd (none-some w at)
+        copied l j q w c false e at =
+            others q (λ same. eqb-false j k e ((ok.copied).once j k r (c ∙ ap Some same) copy)) ∙ l.copied j q w c at
+
+    -- and then the slot
+    copy_stored : (RunsTo (store_word_at r (4 * k) ∷ []) (record s { regs = regs }) (set_word (record s { regs = regs }) (regs 29 + 4 * k) v))
+        × Stands most total gs starts registers g (with_slots top (places_with top.slots k (Some v)) ∷ fs)
+        (set_word (record s { regs = regs }) (regs 29 + 4 * k) v)
+    copy_stored =
+        let s1 : State = record s { regs = regs } in
+        let gone = with_slots top (places_with top.slots k None) in
+        let range = (ok.copied).range k r copy in
+        let place = frame_open registers g gone fs s1 copy_changed (4 * k) (omega arith) (omega (arith, lt)) in
+        let st = slot_written registers g gone fs s1 copy_changed k v lt below
+        (λ q c. ap regs (same_Some q r (sym c ∙ copy)) ∙ is) in (
+          subst (λ u. RunsTo (store_word_at r (4 * k) ∷ []) s1 (set_word s1 (s1.regs 29 + 4 * k) u))
+              (read_register regs r (omega (arith, range.0)) ∙ is) (stores_word s1 r (4 * k) place.0 place.1),
+          fewer_slots registers g (with_slots top (places_with (places_with top.slots k None) k (Some v))) fs (set_word s1 (regs 29 + 4 * k) v) st
+              (places_with top.slots k (Some v)) (λ j w at. same j w (nat_eq j k) at),
+        )
+      where
+        same : (j w : ℕ) (b : Bool) → (if b then Some v else top.slots j) ≡ Some w
+            → (if b then Some v else (if b then None else top.slots j)) ≡ Some w
+        same j w true at = at
+        same j w false at = at
 
   module _ (lazy registers : Places) (g : Arrays) (top : Stored) (fs : List Stored) (s : State)
       (h : Stands most total gs starts (hide lazy registers) g (top ∷ fs) s) (is_lazy : IsLazy lazy registers) where
@@ -504,7 +638,7 @@ module _ (most total : ℕ) (gs : List RGlobal) (starts : ℕ → ℕ) where
         by (Some w) e = subst (λ v. v < 2 ^ 32) (same_Some w v (sym (is_lazy.holds r w e) ∙ is)) (is_lazy.below r w e)
     home_below (Slot k) v ok is = subst (λ v. v < 2 ^ 32) ((h.stack.0).slots k v ok is) (word_below s (s.regs 29 + 4 * k) h.words)
 
-    pub operand_below : (hs : List Home) (x v : ℕ) → AreFrameHomes hs top.count → read_home hs registers top.slots x ≡ Some v → v < 2 ^ 32
+    pub operand_below : (hs : List Home) (x v : ℕ) → AreFrameHomes hs top.copies top.count → read_home hs registers top.slots x ≡ Some v → v < 2 ^ 32
     operand_below hs x v ok e = go (slice_get hs x) refl e
       where
         go : (o : Option Home) → slice_get hs x ≡ o → chain o (in_home registers top.slots) ≡ Some v → v < 2 ^ 32
@@ -515,10 +649,10 @@ module _ (most total : ℕ) (gs : List RGlobal) (starts : ℕ → ℕ) where
     Means x v = Denotes top.count s x v × IsAway x
 
     -- an operand is what the pseudo-register holds
-    pub operand_means : (known : Places) (hs : List Home) (x v : ℕ) → AreFrameHomes hs top.count → IsKnown known hs registers top.slots
+    pub operand_means : (known : Places) (hs : List Home) (x v : ℕ) → AreFrameHomes hs top.copies top.count → IsKnown known hs registers top.slots
         → read_home hs registers top.slots x ≡ Some v
-        → Denotes top.count s (lazy_source (lazy_at lazy (location_at (slice_get hs x))) (source (known x) (location_at (slice_get hs x)))) v
-        × IsAway (lazy_source (lazy_at lazy (location_at (slice_get hs x))) (source (known x) (location_at (slice_get hs x))))
+        → Denotes top.count s (lazy_source (lazy_at lazy (location_at top.copies (slice_get hs x))) (source (known x) (location_at top.copies (slice_get hs x)))) v
+        × IsAway (lazy_source (lazy_at lazy (location_at top.copies (slice_get hs x))) (source (known x) (location_at top.copies (slice_get hs x))))
     operand_means known hs x v ok k e = go (slice_get hs x) (known x) refl refl e
       where
         word_means : (w : ℕ) → w ≡ v → w < 2 ^ 32 → (b : Bool) → nat_eq w 0 ≡ b → Means (if b then Zero else Word w) v
@@ -540,38 +674,49 @@ module _ (most total : ℕ) (gs : List RGlobal) (starts : ℕ → ℕ) where
             let same : w ≡ v = same_Some w v (sym (k.by x w kp) ∙ ap (λ o. chain o (in_home registers top.slots)) is ∙ e) in
             either r w same (nat_eq w 0) refl (held_means r (ok.by x (Reg r) is) lz e)
 
-        slot : (q : ℕ) → slice_get hs x ≡ Some (Slot q) → top.slots q ≡ Some v → (p : Option ℕ) → known x ≡ p → Means (source p (Some (InSlot q))) v
-        slot q is e None kp = (let lt = ok.by x (Slot q) is in ((lt, (h.stack.0).slots q v lt e), tt))
-        slot q is e (Some w) kp =
+        copied_means : (q r : ℕ) → top.slots q ≡ Some v → copy_of top.copies q ≡ Some r → Means (From (Held r)) v
+        copied_means q r e copy =
+            let range = (ok.copied).range q r copy in
+            let l = copy_holds (hide lazy registers) g top fs s h q r copy in
+            (read_register s.regs r (omega (arith, range.0)) ∙ l.copied q r v copy e, omega (arith, range.0))
+
+        slot : (q : ℕ) → slice_get hs x ≡ Some (Slot q) → top.slots q ≡ Some v → (p : Option ℕ) → known x ≡ p → (c : Option ℕ) → copy_of top.copies q ≡ c
+            → Means (lazy_source (lazy_at lazy (Some (in_frame q c))) (source p (Some (in_frame q c)))) v
+        slot q is e None kp None copy = (let lt = ok.by x (Slot q) is in ((lt, (h.stack.0).slots q v lt e), tt))
+        slot q is e None kp (Some r) copy = copied_means q r e copy
+        slot q is e (Some w) kp (Some r) copy =
+            let same : w ≡ v = same_Some w v (sym (k.by x w kp) ∙ ap (λ o. chain o (in_home registers top.slots)) is ∙ e) in
+            either r w same (nat_eq w 0) refl (copied_means q r e copy)
+        slot q is e (Some w) kp None copy =
             let same : w ≡ v = same_Some w v (sym (k.by x w kp) ∙ ap (λ o. chain o (in_home registers top.slots)) is ∙ e) in
             let below : v < 2 ^ 32 = home_below (Slot q) v (ok.by x (Slot q) is) e in
             word_means w same (omega (arith, same, below)) (nat_eq w 0) refl
 
         go : (o : Option Home) (p : Option ℕ) → slice_get hs x ≡ o → known x ≡ p → chain o (in_home registers top.slots) ≡ Some v
-            → Means (lazy_source (lazy_at lazy (location_at o)) (source p (location_at o))) v
+            → Means (lazy_source (lazy_at lazy (location_at top.copies o)) (source p (location_at top.copies o))) v
         go None p is kp e = absurd (none-some v e)
         go (Some (Reg r)) p is kp e = reg r is e (lazy r) p refl kp
-        go (Some (Slot q)) p is kp e = slot q is e p kp
+        go (Some (Slot q)) p is kp e = slot q is e p kp (copy_of top.copies q) refl
 
     -- an operand of an exit
-    pub last_means : (known : Places) (fresh : Option ℕ) (hs : List Home) (x v : ℕ) → AreFrameHomes hs top.count → IsKnown known hs registers top.slots
-        → IsFresh fresh hs registers top.slots s → read_home hs registers top.slots x ≡ Some v
-        → Denotes top.count s (fresh_source fresh x (inner_of (location_at (slice_get hs x)))
-        (lazy_source (lazy_at lazy (location_at (slice_get hs x))) (source (known x) (location_at (slice_get hs x))))) v
+    pub last_means : (known : Places) (fresh : Option ℕ) (hs : List Home) (x v : ℕ) → AreFrameHomes hs top.copies top.count → IsKnown known hs registers top.slots
+        → IsFresh fresh top.copies hs registers top.slots s → read_home hs registers top.slots x ≡ Some v
+        → Denotes top.count s (fresh_source fresh x (inner_of (location_at top.copies (slice_get hs x)))
+        (lazy_source (lazy_at lazy (location_at top.copies (slice_get hs x))) (source (known x) (location_at top.copies (slice_get hs x))))) v
     last_means known fresh hs x v ok k f e = go fresh refl
       where
         other : Source
-        other = lazy_source (lazy_at lazy (location_at (slice_get hs x))) (source (known x) (location_at (slice_get hs x)))
+        other = lazy_source (lazy_at lazy (location_at top.copies (slice_get hs x))) (source (known x) (location_at top.copies (slice_get hs x)))
 
         t : ℕ
-        t = inner_of (location_at (slice_get hs x))
+        t = inner_of (location_at top.copies (slice_get hs x))
 
         go : (o : Option ℕ) → fresh ≡ o → Denotes top.count s (fresh_source o x t other) v
         go None is = (operand_means known hs x v ok k e).0
         go (Some y) is = test (nat_eq y x) refl
           where
             test : (b : Bool) → nat_eq y x ≡ b → Denotes top.count s (if b then From (Held t) else other) v
-            test true same = read_register s.regs t (inner_is (location_at (slice_get hs x))).low ∙ f.by x v (is ∙ ap Some (eqb-true y x same)) e
+            test true same = read_register s.regs t (inner_is (location_at top.copies (slice_get hs x))).low ∙ f.by x v (is ∙ ap Some (eqb-true y x same)) e
             test false same = (operand_means known hs x v ok k e).0
 
   module _ (registers : Places) (g : Arrays) (top : Stored) (fs : List Stored) (s : State) (h : Stands most total gs starts registers g (top ∷ fs) s) where
@@ -606,13 +751,13 @@ module _ (most total : ℕ) (gs : List RGlobal) (starts : ℕ → ℕ) where
     GoOn P go is s0 known x o hs l fresh = (registers' slots' : Places) (s' : State) → 1 ≤ length is → RunsTo is s0 s'
         → Stands most total gs starts (hide (lazy_none l lazy) registers') g (with_slots top slots' ∷ fs) s'
         → IsLazy (lazy_none l lazy) registers' → IsKnown (places_with known x o) hs registers' slots'
-        → IsFresh fresh hs registers' slots' s' → P (go registers' slots')
+        → IsFresh fresh top.copies hs registers' slots' s' → P (go registers' slots')
 
     -- a result, computed into the register for its location
     pub finishes : (P : Run → Type 0) (go : Places → Places → Run) (hs : List Home) (x v : ℕ) (o : Option ℕ) (out : List ℕ) (known : Places)
-        (is : List Plain) (s0 : State) → Ends is s0 s (into (location_at (slice_get hs x))) v → 1 ≤ length is → ((w : ℕ) → o ≡ Some w → w ≡ v)
-        → AreFrameHomes hs top.count → IsKnown known hs registers top.slots → P (Failed out)
-        → GoOn P go (is ++ finish (location_at (slice_get hs x))) s0 known x o hs (location_at (slice_get hs x)) (in_slot (location_at (slice_get hs x)) x)
+        (is : List Plain) (s0 : State) → Ends is s0 s (into (location_at top.copies (slice_get hs x))) v → 1 ≤ length is → ((w : ℕ) → o ≡ Some w → w ≡ v)
+        → AreFrameHomes hs top.copies top.count → IsKnown known hs registers top.slots → P (Failed out)
+        → GoOn P go (is ++ finish (location_at top.copies (slice_get hs x))) s0 known x o hs (location_at top.copies (slice_get hs x)) (in_slot (location_at top.copies (slice_get hs x)) x)
         → P (write_home hs registers top.slots x v out go)
     finishes P go hs x v o out known is s0 e some said ok k failed f = by (slice_get hs x) refl e f
       where
@@ -620,22 +765,22 @@ module _ (most total : ℕ) (gs : List RGlobal) (starts : ℕ → ℕ) where
         slot_read j at = ap (λ p. chain p (in_home registers (places_with top.slots j (Some v)))) at
             ∙ ap (λ b. if b then Some v else top.slots j) (eq-eqb j j refl)
 
-        slot_inner : (j c : ℕ) → slice_get hs x ≡ Some (Slot j) → x ≡ c → inner_of (location_at (slice_get hs c)) ≡ inner_of (Some (InSlot j))
-        slot_inner j c at same = ap (λ y. inner_of (location_at (slice_get hs y))) (sym same) ∙ ap (λ p. inner_of (location_at p)) at
+        slot_inner : (j c : ℕ) → slice_get hs x ≡ Some (Slot j) → copy_of top.copies j ≡ None → x ≡ c
+            → inner_of (location_at top.copies (slice_get hs c)) ≡ inner_of (Some (InSlot j))
+        slot_inner j c at none same = ap (λ y. inner_of (location_at top.copies (slice_get hs y))) (sym same)
+            ∙ ap (λ p. inner_of (location_at top.copies p)) at ∙ ap (λ c. inner_of (Some (in_frame j c))) none
 
-        by : (p : Option Home) → slice_get hs x ≡ p → Ends is s0 s (into (location_at p)) v
-            → GoOn P go (is ++ finish (location_at p)) s0 known x o hs (location_at p) (in_slot (location_at p) x)
-            → P (with_value p out (λ h. write_at h registers top.slots v go))
-        by None at e f = failed
-        by (Some (Reg r)) at e f =
-            let range = ok.by x (Reg r) at in
-            let low = range.0 in
-            f (places_with registers r (Some v)) top.slots (record s { regs = e.regs }) (longer is [] some)
-            (runs_then e.runs (runs_none (record s { regs = e.regs })))
-            (written r v (record s { regs = e.regs }) (register_written (hide lazy registers) g top fs s h r v e.regs range.0 range.1 e.below e.here e.others))
-            (lazy_written lazy registers r (Some v) is_lazy)
-            (known_register known hs top.count registers top.slots x r v o ok at said k) (record { by = λ c w is. absurd (none-some c is) })
-        by (Some (Slot j)) at e f =
+        slot : (j : ℕ) → slice_get hs x ≡ Some (Slot j) → (c : Option ℕ) → copy_of top.copies j ≡ c → Ends is s0 s (into (Some (in_frame j c))) v
+            → GoOn P go (is ++ finish (Some (in_frame j c))) s0 known x o hs (Some (in_frame j c)) (in_slot (Some (in_frame j c)) x)
+            → P (go registers (places_with top.slots j (Some v)))
+        slot j at (Some r) copy e f =
+            let lt = ok.by x (Slot j) at in
+            let s1 : State = record s { regs = e.regs } in
+            let c = copy_stored (hide lazy registers) g top fs s h hs ok j r v copy lt e.below e.regs e.here e.others in
+            f registers (places_with top.slots j (Some v)) (set_word s1 (e.regs 29 + 4 * j) v) (longer is (store_word_at r (4 * j) ∷ []) some)
+            (runs_then e.runs c.0) c.1 is_lazy (known_slot known hs top.copies top.count registers top.slots x j v o ok at said k)
+            (record { by = λ c w is. absurd (none-some c is) })
+        slot j at None none e f =
             let lt = ok.by x (Slot j) at in
             let s1 : State = record s { regs = e.regs } in
             let t = inner_of (Some (InSlot j)) in
@@ -647,15 +792,29 @@ module _ (most total : ℕ) (gs : List RGlobal) (starts : ℕ → ℕ) where
             (read_register e.regs t is_inner.low ∙ e.here) (stores_word s1 t (4 * j) place.0 place.1) in
             f registers (places_with top.slots j (Some v)) (set_word s1 (s1.regs 29 + 4 * j) v) (longer is (store_word_at t (4 * j) ∷ []) some)
             (runs_then e.runs store)
-            (slot_written (hide lazy registers) g top fs s1 st j v lt e.below) is_lazy
-            (known_slot known hs top.count registers top.slots x j v o ok at said k)
+            (slot_written (hide lazy registers) g top fs s1 st j v lt e.below (λ r c. absurd (none-some r (sym none ∙ c)))) is_lazy
+            (known_slot known hs top.copies top.count registers top.slots x j v o ok at said k)
             (record {
-              by = λ c w is there. ap e.regs (slot_inner j c at (same_Some x c is)) ∙ e.here ∙ same_Some v w (sym (slot_read j at)
+              by = λ c w is there. ap e.regs (slot_inner j c at none (same_Some x c is)) ∙ e.here ∙ same_Some v w (sym (slot_read j at)
                   ∙ ap (read_home hs registers (places_with top.slots j (Some v))) (same_Some x c is) ∙ there);
             })
 
+        by : (p : Option Home) → slice_get hs x ≡ p → Ends is s0 s (into (location_at top.copies p)) v
+            → GoOn P go (is ++ finish (location_at top.copies p)) s0 known x o hs (location_at top.copies p) (in_slot (location_at top.copies p) x)
+            → P (with_value p out (λ h. write_at h registers top.slots v go))
+        by None at e f = failed
+        by (Some (Reg r)) at e f =
+            let range = ok.by x (Reg r) at in
+            let low = range.0 in
+            f (places_with registers r (Some v)) top.slots (record s { regs = e.regs }) (longer is [] some)
+            (runs_then e.runs (runs_none (record s { regs = e.regs })))
+            (written r v (record s { regs = e.regs }) (register_written (hide lazy registers) g top fs s h r v e.regs range.0 range.1 (λ k c. (ok.copied).idle x k r at c) e.below e.here e.others))
+            (lazy_written lazy registers r (Some v) is_lazy)
+            (known_register known hs top.copies top.count registers top.slots x r v o ok at said k) (record { by = λ c w is. absurd (none-some c is) })
+        by (Some (Slot j)) at e f = slot j at (copy_of top.copies j) refl e f
+
     module _ (P : Run → Type 0) (go : Places → Places → Run) (hs : List Home) (x v : ℕ) (o : Option ℕ) (known : Places) (y : Source)
-        (d : Denotes top.count s y v) (below : v < 2 ^ 32) (said : (w : ℕ) → o ≡ Some w → w ≡ v) (ok : AreFrameHomes hs top.count)
+        (d : Denotes top.count s y v) (below : v < 2 ^ 32) (said : (w : ℕ) → o ≡ Some w → w ≡ v) (ok : AreFrameHomes hs top.copies top.count)
         (k : IsKnown known hs registers top.slots) where
       -- an operand into a register
       puts_held : (r : ℕ) → slice_get hs x ≡ Some (Reg r) → Go P go (put_at (Some (Held r)) y) s known x o hs (Some (Held r))
@@ -665,14 +824,22 @@ module _ (most total : ℕ) (gs : List RGlobal) (starts : ℕ → ℕ) where
           let low = range.0 in
           let c = brings (hide lazy registers) g top fs s h r v y (record { low = omega (arith, low); high = omega (arith, range.1) }) d in
           f (places_with registers r (Some v)) top.slots (record s { regs = c.regs }) (bring_some r y) c.runs
-          (written r v (record s { regs = c.regs }) (register_written (hide lazy registers) g top fs s h r v c.regs range.0 range.1 below c.here c.others))
+          (written r v (record s { regs = c.regs }) (register_written (hide lazy registers) g top fs s h r v c.regs range.0 range.1 (λ k q. (ok.copied).idle x k r at q) below c.here c.others))
           (lazy_written lazy registers r (Some v) is_lazy)
-          (known_register known hs top.count registers top.slots x r v o ok at said k)
+          (known_register known hs top.copies top.count registers top.slots x r v o ok at said k)
 
       -- and into a slot
-      puts_slot : (j : ℕ) → slice_get hs x ≡ Some (Slot j) → Go P go (put_at (Some (InSlot j)) y) s known x o hs (Some (InSlot j))
-          → P (go registers (places_with top.slots j (Some v)))
-      puts_slot j at f =
+      puts_slot : (j : ℕ) → slice_get hs x ≡ Some (Slot j) → (c : Option ℕ) → copy_of top.copies j ≡ c
+          → Go P go (put_at (Some (in_frame j c)) y) s known x o hs (Some (in_frame j c)) → P (go registers (places_with top.slots j (Some v)))
+      puts_slot j at (Some r) copy f =
+          let lt = ok.by x (Slot j) at in
+          let range = (ok.copied).range j r copy in
+          let c = brings (hide lazy registers) g top fs s h r v y (record { low = omega (arith, range.0); high = omega (arith, range.1) }) d in
+          let s1 : State = record s { regs = c.regs } in
+          let m = copy_stored (hide lazy registers) g top fs s h hs ok j r v copy lt below c.regs c.here c.others in
+          f registers (places_with top.slots j (Some v)) (set_word s1 (c.regs 29 + 4 * j) v) (longer (bring r y) (store_word_at r (4 * j) ∷ []) (bring_some r y))
+          (runs_then c.runs m.0) m.1 is_lazy (known_slot known hs top.copies top.count registers top.slots x j v o ok at said k)
+      puts_slot j at None none f =
           let lt = ok.by x (Slot j) at in
           let t = inner_of (Some (InSlot j)) in
           let is_inner = inner_is (Some (InSlot j)) in
@@ -684,29 +851,29 @@ module _ (most total : ℕ) (gs : List RGlobal) (starts : ℕ → ℕ) where
           (stores_word s1 (seat t y) (4 * j) place.0 place.1) in
           f registers (places_with top.slots j (Some v)) (set_word s1 (s1.regs 29 + 4 * j) v)
           (longer_behind (fetch t y) (store_word_at (seat t y) (4 * j) ∷ []) (omega arith)) (runs_then c.runs store)
-          (slot_written (hide lazy registers) g top fs s1 c.stands j v lt below) is_lazy
-          (known_slot known hs top.count registers top.slots x j v o ok at said k)
+          (slot_written (hide lazy registers) g top fs s1 c.stands j v lt below (λ r c. absurd (none-some r (sym none ∙ c)))) is_lazy
+          (known_slot known hs top.copies top.count registers top.slots x j v o ok at said k)
 
     -- an operand into a location
     pub puts : (P : Run → Type 0) (go : Places → Places → Run) (hs : List Home) (x v : ℕ) (o : Option ℕ) (out : List ℕ) (known : Places) (y : Source)
-        → Denotes top.count s y v → v < 2 ^ 32 → ((w : ℕ) → o ≡ Some w → w ≡ v) → AreFrameHomes hs top.count → IsKnown known hs registers top.slots
+        → Denotes top.count s y v → v < 2 ^ 32 → ((w : ℕ) → o ≡ Some w → w ≡ v) → AreFrameHomes hs top.copies top.count → IsKnown known hs registers top.slots
         → P (Failed out)
-        → Go P go (put_at (location_at (slice_get hs x)) y) s known x o hs (location_at (slice_get hs x))
+        → Go P go (put_at (location_at top.copies (slice_get hs x)) y) s known x o hs (location_at top.copies (slice_get hs x))
         → P (write_home hs registers top.slots x v out go)
     puts P go hs x v o out known y d below said ok k failed f = by (slice_get hs x) refl f
       where
-        by : (p : Option Home) → slice_get hs x ≡ p → Go P go (put_at (location_at p) y) s known x o hs (location_at p)
+        by : (p : Option Home) → slice_get hs x ≡ p → Go P go (put_at (location_at top.copies p) y) s known x o hs (location_at top.copies p)
             → P (with_value p out (λ h. write_at h registers top.slots v go))
         by None at f = failed
         by (Some (Reg r)) at f = puts_held P go hs x v o known y d below said ok k r at f
-        by (Some (Slot j)) at f = puts_slot P go hs x v o known y d below said ok k j at f
+        by (Some (Slot j)) at f = puts_slot P go hs x v o known y d below said ok k j at (copy_of top.copies j) refl f
 
     -- a register into a location
     pub arrives : (P : Run → Type 0) (go : Places → Places → Run) (hs : List Home) (x v t : ℕ) (out : List ℕ)
-        → 1 < t → s.regs t ≡ v → v < 2 ^ 32 → AreFrameHomes hs top.count → P (Failed out)
-        → ((registers' slots' : Places) (s' : State) → RunsTo (arrive (location_at (slice_get hs x)) t) s s'
-        → Stands most total gs starts (hide (lazy_none (location_at (slice_get hs x)) lazy) registers') g (with_slots top slots' ∷ fs) s'
-        → ((q : ℕ) → q < 28 → IsElsewhere (location_at (slice_get hs x)) q → s'.regs q ≡ s.regs q) → P (go registers' slots'))
+        → 1 < t → s.regs t ≡ v → v < 2 ^ 32 → AreFrameHomes hs top.copies top.count → P (Failed out)
+        → ((registers' slots' : Places) (s' : State) → RunsTo (arrive (location_at top.copies (slice_get hs x)) t) s s'
+        → Stands most total gs starts (hide (lazy_none (location_at top.copies (slice_get hs x)) lazy) registers') g (with_slots top slots' ∷ fs) s'
+        → ((q : ℕ) → q < 28 → IsElsewhere (location_at top.copies (slice_get hs x)) q → s'.regs q ≡ s.regs q) → P (go registers' slots'))
         → P (write_home hs registers top.slots x v out go)
     arrives P go hs x v t out low is below ok failed f = by (slice_get hs x) refl f
       where
@@ -714,9 +881,9 @@ module _ (most total : ℕ) (gs : List RGlobal) (starts : ℕ → ℕ) where
         shows = read_register s.regs t (omega (arith, low)) ∙ is
 
         by : (p : Option Home) → slice_get hs x ≡ p
-            → ((registers' slots' : Places) (s' : State) → RunsTo (arrive (location_at p) t) s s'
-            → Stands most total gs starts (hide (lazy_none (location_at p) lazy) registers') g (with_slots top slots' ∷ fs) s'
-            → ((q : ℕ) → q < 28 → IsElsewhere (location_at p) q → s'.regs q ≡ s.regs q) → P (go registers' slots'))
+            → ((registers' slots' : Places) (s' : State) → RunsTo (arrive (location_at top.copies p) t) s s'
+            → Stands most total gs starts (hide (lazy_none (location_at top.copies p) lazy) registers') g (with_slots top slots' ∷ fs) s'
+            → ((q : ℕ) → q < 28 → IsElsewhere (location_at top.copies p) q → s'.regs q ≡ s.regs q) → P (go registers' slots'))
             → P (with_value p out (λ h. write_at h registers top.slots v go))
         by None at f = failed
         by (Some (Reg r)) at f =
@@ -724,24 +891,39 @@ module _ (most total : ℕ) (gs : List RGlobal) (starts : ℕ → ℕ) where
             let low = range.0 in
             let c = carries (hide lazy registers) g top fs s h r v (From (Held t)) (record { low = omega (arith, low); high = omega (arith, range.1) }) shows in
             f (places_with registers r (Some v)) top.slots (record s { regs = c.regs }) c.runs
-            (written r v (record s { regs = c.regs }) (register_written (hide lazy registers) g top fs s h r v c.regs range.0 range.1 below c.here c.others))
+            (written r v (record s { regs = c.regs }) (register_written (hide lazy registers) g top fs s h r v c.regs range.0 range.1 (λ k q. (ok.copied).idle x k r at q) below c.here c.others))
             (λ q qh ne. c.others q ne)
-        by (Some (Slot j)) at f =
-            let lt = ok.by x (Slot j) at in
-            let place = frame_open (hide lazy registers) g top fs s h (4 * j) (omega arith) (omega (arith, lt)) in
-            let store : RunsTo (store_word_at t (4 * j) ∷ []) s (set_word s (s.regs 29 + 4 * j) v) =
-            subst (λ u. RunsTo (store_word_at t (4 * j) ∷ []) s (set_word s (s.regs 29 + 4 * j) u)) shows
-            (stores_word s t (4 * j) place.0 place.1) in
-            f registers (places_with top.slots j (Some v)) (set_word s (s.regs 29 + 4 * j) v) store
-            (slot_written (hide lazy registers) g top fs s h j v lt below) (λ q qh ne. refl)
+        by (Some (Slot j)) at f = slot j at (copy_of top.copies j) refl f
+          where
+            slot : (j : ℕ) → slice_get hs x ≡ Some (Slot j) → (c : Option ℕ) → copy_of top.copies j ≡ c
+                → ((registers' slots' : Places) (s' : State) → RunsTo (arrive (Some (in_frame j c)) t) s s'
+                → Stands most total gs starts (hide (lazy_none (Some (in_frame j c)) lazy) registers') g (with_slots top slots' ∷ fs) s'
+                → ((q : ℕ) → q < 28 → IsElsewhere (Some (in_frame j c)) q → s'.regs q ≡ s.regs q) → P (go registers' slots'))
+                → P (go registers (places_with top.slots j (Some v)))
+            slot j at (Some r) copy f =
+                let lt = ok.by x (Slot j) at in
+                let range = (ok.copied).range j r copy in
+                let c = carries (hide lazy registers) g top fs s h r v (From (Held t)) (record { low = omega (arith, range.0); high = omega (arith, range.1) })
+                shows in
+                let s1 : State = record s { regs = c.regs } in
+                let m = copy_stored (hide lazy registers) g top fs s h hs ok j r v copy lt below c.regs c.here c.others in
+                f registers (places_with top.slots j (Some v)) (set_word s1 (c.regs 29 + 4 * j) v) (runs_then c.runs m.0) m.1 (λ q qh ne. c.others q ne)
+            slot j at None none f =
+                let lt = ok.by x (Slot j) at in
+                let place = frame_open (hide lazy registers) g top fs s h (4 * j) (omega arith) (omega (arith, lt)) in
+                let store : RunsTo (store_word_at t (4 * j) ∷ []) s (set_word s (s.regs 29 + 4 * j) v) =
+                subst (λ u. RunsTo (store_word_at t (4 * j) ∷ []) s (set_word s (s.regs 29 + 4 * j) u)) shows
+                (stores_word s t (4 * j) place.0 place.1) in
+                f registers (places_with top.slots j (Some v)) (set_word s (s.regs 29 + 4 * j) v) store
+                (slot_written (hide lazy registers) g top fs s h j v lt below (λ r c. absurd (none-some r (sym none ∙ c)))) (λ q qh ne. refl)
 
     -- a constant, which needn't be put into a passing register yet
     pub tells : (P : Run → Type 0) (go : Places → Places → Run) (hs : List Home) (x v : ℕ) (out : List ℕ) (known : Places)
-        → v < 2 ^ 32 → AreFrameHomes hs top.count → IsKnown known hs registers top.slots → P (Failed out)
-        → ((registers' slots' : Places) (s' : State) → 1 ≤ length (const_code (location_at (slice_get hs x)) v)
-        → RunsTo (const_code (location_at (slice_get hs x)) v) s s'
-        → Stands most total gs starts (hide (lazy_const (location_at (slice_get hs x)) v lazy) registers') g (with_slots top slots' ∷ fs) s'
-        → IsLazy (lazy_const (location_at (slice_get hs x)) v lazy) registers' → IsKnown (places_with known x (Some v)) hs registers' slots'
+        → v < 2 ^ 32 → AreFrameHomes hs top.copies top.count → IsKnown known hs registers top.slots → P (Failed out)
+        → ((registers' slots' : Places) (s' : State) → 1 ≤ length (const_code (location_at top.copies (slice_get hs x)) v)
+        → RunsTo (const_code (location_at top.copies (slice_get hs x)) v) s s'
+        → Stands most total gs starts (hide (lazy_const (location_at top.copies (slice_get hs x)) v lazy) registers') g (with_slots top slots' ∷ fs) s'
+        → IsLazy (lazy_const (location_at top.copies (slice_get hs x)) v lazy) registers' → IsKnown (places_with known x (Some v)) hs registers' slots'
         → P (go registers' slots'))
         → P (write_home hs registers top.slots x v out go)
     tells P go hs x v out known below ok k failed f = by (slice_get hs x) refl f
@@ -771,9 +953,13 @@ module _ (most total : ℕ) (gs : List RGlobal) (starts : ℕ → ℕ) where
             (fewer_stand (hide lazy registers) (hide (places_with lazy r (Some v)) (places_with registers r (Some v))) g (top ∷ fs) s
             (λ q w e. shown_told lazy registers r v q w e) h)
             (lazy_told lazy registers r v passes below is_lazy)
-            (known_register known hs top.count registers top.slots x r v (Some v) ok at said k)
+            (known_register known hs top.copies top.count registers top.slots x r v (Some v) ok at said k)
 
-        by : (p : Option Home) → slice_get hs x ≡ p → Told (location_at p) → P (with_value p out (λ h. write_at h registers top.slots v go))
+        by : (p : Option Home) → slice_get hs x ≡ p → Told (location_at top.copies p) → P (with_value p out (λ h. write_at h registers top.slots v go))
         by None at f = failed
         by (Some (Reg r)) at f = reg r at (is_lasting r) refl f
-        by (Some (Slot j)) at f = puts_slot P go hs x v (Some v) known (word_source v) (word (nat_eq v 0) refl) below said ok k j at f
+        by (Some (Slot j)) at f = slot (copy_of top.copies j) refl f
+          where
+            slot : (c : Option ℕ) → copy_of top.copies j ≡ c → Told (Some (in_frame j c)) → P (go registers (places_with top.slots j (Some v)))
+            slot None none f = puts_slot P go hs x v (Some v) known (word_source v) (word (nat_eq v 0) refl) below said ok k j at None none f
+            slot (Some r) copy f = puts_slot P go hs x v (Some v) known (word_source v) (word (nat_eq v 0) refl) below said ok k j at (Some r) copy f

@@ -28,13 +28,15 @@ use Rattle.mips_homes.specs.HomedRun.{Run, Failed, with_value, read_home, with_i
 use Rattle.mips_homes.specs.declared.homed.Home.{Home}
 use Rattle.mips_homes.specs.declared.homed.Home.TheVariants.{Reg, Slot}
 use Rattle.mips_emit.specs.declared.limits.TheConstants.{KEPT_FACTS}
-use Rattle.mips_emit.specs.declared.location.Location.TheVariants.{Held, InSlot}
+use Rattle.mips_emit.specs.declared.location.Location.TheVariants.{Held, InSlot, Copied}
 use Rattle.mips_emit.specs.declared.location.Source.{Source}
 use Rattle.mips_emit.specs.declared.product.ShiftedSum.{ShiftedSum}
 use Rattle.mips_emit.specs.declared.location.Source.TheVariants.{Zero, Word, From}
 use Rattle.mips_emit.specs.declared.facts.Fact.{Fact}
 use Rattle.mips_emit.specs.Frames.{AreFrameHomes}
-use Rattle.mips_emit.specs.Locations.{Facts, known_of, known_in, with_fact, learned, location_at, locations_of}
+use Rattle.mips_homes.specs.declared.homed.SlotCopy.{SlotCopy}
+use Rattle.mips_homes.specs.Copies.{copy_of}
+use Rattle.mips_emit.specs.Locations.{in_frame, Facts, known_of, known_in, with_fact, learned, location_at, locations_of}
 use Rattle.mips_emit.specs.Locations.{last_of, inner_of, word_source, operand}
 use Rattle.mips_emit.specs.Elements.{width_of, width_bytes, element_place, place_in, address_of_place, data_middle, direct, near, base_code}
 use Rattle.mips_emit.specs.Elements.{base_offset, element_base, element_offset}
@@ -89,13 +91,17 @@ ends_set is s m d v w ok run e lt = record {
     put' : (ℕ → ℕ) → ℕ → ℕ → ℕ → ℕ
     put' = Rattle.mips_isa.specs.States.put
 
-into_target : (hs : List Home) (count x : ℕ) → AreFrameHomes hs count → IsTarget (into (location_at (slice_get hs x)))
-into_target hs count x ok = go (slice_get hs x) refl
+into_target : (hs : List Home) (copies : List SlotCopy) (count x : ℕ) → AreFrameHomes hs copies count → IsTarget (into (location_at copies (slice_get hs x)))
+into_target hs copies count x ok = go (slice_get hs x) refl
   where
-    go : (o : Option Home) → slice_get hs x ≡ o → IsTarget (into (location_at o))
+    slot : (k : ℕ) (c : Option ℕ) → copy_of copies k ≡ c → IsTarget (into (Some (in_frame k c)))
+    slot k None e = inner_target (Some (InSlot k))
+    slot k (Some r) e = (let range = (ok.copied).range k r e in record { low = omega (arith, range.0); high = omega (arith, range.1) })
+
+    go : (o : Option Home) → slice_get hs x ≡ o → IsTarget (into (location_at copies o))
     go None e = inner_target None
     go (Some (Reg r)) e = (let range = ok.by x (Reg r) e in record { low = omega (arith, range.0); high = omega (arith, range.1) })
-    go (Some (Slot k)) e = inner_target (Some (InSlot k))
+    go (Some (Slot k)) e = slot k (copy_of copies k) refl
 
 word_means : (count w v : ℕ) (s : State) → w ≡ v → w < 2 ^ 32 → Denotes count s (word_source w) v
 word_means count w v s e lt = go (nat_eq w 0) refl
@@ -114,6 +120,7 @@ seat_apart Zero away = λ e. absurd (omega (arith, e))
 seat_apart (Word w) away = λ e. absurd (omega (arith, e))
 seat_apart (From (Held r)) away = λ e. absurd (omega (arith, e, away))
 seat_apart (From (InSlot k)) away = λ e. absurd (omega (arith, e))
+seat_apart (From (Copied r k)) away = λ e. absurd (omega (arith, e, away))
 
 module _ (most total : ℕ) (gs : List RGlobal) (starts : ℕ → ℕ) where
   -- HI and LO change
@@ -327,30 +334,30 @@ module _ (most total : ℕ) (gs : List RGlobal) (starts : ℕ → ℕ) where
 
   module _ (g : Arrays) (fs : List Stored) (hs : List Home) (P : Run → Type 0) (out : List ℕ) (failed : P (Failed out)) where
     pub performs : (i : RInst) (facts : Facts) (registers : Places) (top : Stored) (s : State) (go : Places → Places → Arrays → Run)
-        → AreFrameHomes hs top.count → IsKnown (known_in facts) hs registers top.slots → IsLazy facts.lazy registers
+        → AreFrameHomes hs top.copies top.count → IsKnown (known_in facts) hs registers top.slots → IsLazy facts.lazy registers
         → Stands most total gs starts (hide facts.lazy registers) g (top ∷ fs) s
-        → ((registers' slots' : Places) (g' : Arrays) (s' : State) → 1 ≤ length (inst_code gs starts (locations_of hs) facts i)
-        → RunsTo (inst_code gs starts (locations_of hs) facts i) s s' → Stands most total gs starts (hide (learned (locations_of hs) i facts).lazy registers') g' (with_slots top slots' ∷ fs) s'
-        → IsLazy (learned (locations_of hs) i facts).lazy registers' → IsKnown (known_in (learned (locations_of hs) i facts)) hs registers' slots' → IsLast (last_of (locations_of hs) facts i) hs registers' slots' s'
+        → ((registers' slots' : Places) (g' : Arrays) (s' : State) → 1 ≤ length (inst_code gs starts (locations_of top.copies hs) facts i)
+        → RunsTo (inst_code gs starts (locations_of top.copies hs) facts i) s s' → Stands most total gs starts (hide (learned (locations_of top.copies hs) i facts).lazy registers') g' (with_slots top slots' ∷ fs) s'
+        → IsLazy (learned (locations_of top.copies hs) i facts).lazy registers' → IsKnown (known_in (learned (locations_of top.copies hs) i facts)) hs registers' slots' → IsLast (last_of (locations_of top.copies hs) facts i) top.copies hs registers' slots' s'
         → P (go registers' slots' g'))
         → P (with_inst gs i hs registers top.slots g out go)
     performs (Const d w) facts registers top s go ok k lz h f =
         tells most total gs starts facts.lazy registers g top fs s h lz P (λ r s. go r s g) hs d (wrap w) out (known_in facts) (omega arith) ok k failed
-        (λ r' s' to some e st lz' kn. f r' s' g to some e st lz' (fact_known hs r' s' facts d (Some (wrap w)) kn) (none_last hs r' s' to))
+        (λ r' s' to some e st lz' kn. f r' s' g to some e st lz' (fact_known hs r' s' facts d (Some (wrap w)) kn) (none_last top.copies hs r' s' to))
     performs (Move d a) facts registers top s go ok k lz h f =
         value_or_failed P (read_home hs registers top.slots a) out _ failed (λ v e.
         let x = operand_means most total gs starts facts.lazy registers g top fs s h lz (known_in facts) hs a v ok k e in
         puts most total gs starts facts.lazy registers g top fs s h lz P (λ r s. go r s g) hs d v (known_in facts a) out (known_in facts)
-        (operand (locations_of hs) facts a) x.0 (operand_below most total gs starts facts.lazy registers g top fs s h lz hs a v ok e)
+        (operand (locations_of top.copies hs) facts a) x.0 (operand_below most total gs starts facts.lazy registers g top fs s h lz hs a v ok e)
         (λ u is. same_Some u v (sym (k.by a u is) ∙ e)) ok k failed
-        (λ r' s' to some e st lz' kn. f r' s' g to some e st lz' (fact_known hs r' s' facts d (known_in facts a) kn) (none_last hs r' s' to)))
+        (λ r' s' to some e st lz' kn. f r' s' g to some e st lz' (fact_known hs r' s' facts d (known_in facts a) kn) (none_last top.copies hs r' s' to)))
     performs (Bin op d a b) facts registers top s go ok k lz h f =
         value_or_failed P (read_home hs registers top.slots a) out _ failed (λ v ev.
         value_or_failed P (read_home hs registers top.slots b) out _ failed (λ w ew.
         value_or_failed P (op_result op v w) out _ failed (λ u eu.
         let known = known_in facts in
-        let z = computes (hide facts.lazy registers) g top fs s h op (inner_of (locations_of hs d)) (into (locations_of hs d)) v w u (known_in facts a)
-        (known_in facts b) (operand (locations_of hs) facts a) (operand (locations_of hs) facts b) (inner_is (locations_of hs d)) (into_target hs top.count d ok)
+        let z = computes (hide facts.lazy registers) g top fs s h op (inner_of (locations_of top.copies hs d)) (into (locations_of top.copies hs d)) v w u (known_in facts a)
+        (known_in facts b) (operand (locations_of top.copies hs) facts a) (operand (locations_of top.copies hs) facts b) (inner_is (locations_of top.copies hs d)) (into_target hs top.copies top.count d ok)
         (operand_means most total gs starts facts.lazy registers g top fs s h lz known hs a v ok k ev).1
         (operand_means most total gs starts facts.lazy registers g top fs s h lz known hs b w ok k ew).1
         (λ s h. (operand_means most total gs starts facts.lazy registers g top fs s h lz known hs a v ok k ev).0)
@@ -360,8 +367,8 @@ module _ (most total : ℕ) (gs : List RGlobal) (starts : ℕ → ℕ) where
         (operand_below most total gs starts facts.lazy registers g top fs s h lz hs a v ok ev)
         (operand_below most total gs starts facts.lazy registers g top fs s h lz hs b w ok ew) eu in
         finishes most total gs starts facts.lazy registers g top fs z.to z.stands lz P (λ r s. go r s g) hs d u (Some u) out (places_with known b (Some w))
-        (op_code op (inner_of (locations_of hs d)) (into (locations_of hs d)) (known_in facts a) (known_in facts b)
-        (operand (locations_of hs) facts a) (operand (locations_of hs) facts b)) s z.ends z.some
+        (op_code op (inner_of (locations_of top.copies hs d)) (into (locations_of top.copies hs d)) (known_in facts a) (known_in facts b)
+        (operand (locations_of top.copies hs) facts a) (operand (locations_of top.copies hs) facts b)) s z.ends z.some
         (λ c is. sym (same_Some u c is)) ok (known_with known hs registers top.slots b w ew k) failed
         (λ r' s' to some e st lz' kn new. f r' s' g to some e st lz' (fact_known hs r' s' facts d None
         (known_without known hs r' s' b w d u (λ c is. same_Some c w (sym (k.by b c is) ∙ ew)) kn))
@@ -370,20 +377,20 @@ module _ (most total : ℕ) (gs : List RGlobal) (starts : ℕ → ℕ) where
         value_or_failed P (read_home hs registers top.slots i) out _ failed (λ v ev.
         value_or_failed P (element_at g a v) out _ failed (λ w there.
         let known = known_in facts in
-        let x = operand (locations_of hs) facts i in
+        let x = operand (locations_of top.copies hs) facts i in
         let width = width_of gs a in
         let o = direct width (starts a) (known_in facts i) in
         let p = elements (hide facts.lazy registers) g top fs s h (known_in facts i) x a v w (operand_means most total gs starts facts.lazy registers g top fs s h lz known hs i v ok k ev).1
         (λ s h. (operand_means most total gs starts facts.lazy registers g top fs s h lz known hs i v ok k ev).0) (λ u is. same_Some u v (sym (k.by i u is) ∙ ev)) there in
         let to = p.to in
         let at = address_of_place (place_in gs starts a v) in
-        let d' = into (locations_of hs d) in
+        let d' = into (locations_of top.copies hs d) in
         let load = loads_at width to d' (element_base o) (element_offset (starts a) o) at p.here p.ok in
         let value : shown_at width to at ≡ w = (p.stands).elements a v w there in
         let below : w < 2 ^ 32 = subst (λ w. w < 2 ^ 32) value (shown_below width to at (p.stands).words) in
         let is = element_code width (starts a) o x ++ element_load width d' (starts a) o ∷ [] in
         finishes most total gs starts facts.lazy registers g top fs to p.stands lz P (λ r s. go r s g) hs d w None out known is s
-        (ends_set is s to d' (shown_at width to at) w (into_target hs top.count d ok) (runs_then p.runs load) value below)
+        (ends_set is s to d' (shown_at width to at) w (into_target hs top.copies top.count d ok) (runs_then p.runs load) value below)
         (longer_behind (element_code width (starts a) o x) _ (omega arith)) (λ w e. absurd (none-some w e)) ok k failed
         (λ r' s' to some e st lz' kn new. f r' s' g to some e st lz' (fact_known hs r' s' facts d None kn)
         (record { fresh = new; comparison = λ m v' is. absurd (none-some m is); result = λ m v' is. absurd (none-some m is) }))))
@@ -395,8 +402,8 @@ module _ (most total : ℕ) (gs : List RGlobal) (starts : ℕ → ℕ) where
         let known = known_in facts in
         let width = width_of gs a in
         let at_g = stored_at g a v c g' eg in
-        let x = operand (locations_of hs) facts i in
-        let y = operand (locations_of hs) facts b in
+        let x = operand (locations_of top.copies hs) facts i in
+        let y = operand (locations_of top.copies hs) facts b in
         let o = direct width (starts a) (known_in facts i) in
         let p = elements (hide facts.lazy registers) g top fs s h (known_in facts i) x a v at_g.old
         (operand_means most total gs starts facts.lazy registers g top fs s h lz known hs i v ok k ev).1
@@ -415,4 +422,4 @@ module _ (most total : ℕ) (gs : List RGlobal) (starts : ℕ → ℕ) where
         (longer_behind (fetch 2 y) (last ∷ []) (omega arith))) (runs_then p.runs (runs_then z.runs store'))
         (data_written most total gs starts (hide facts.lazy registers) g (top ∷ fs) to a v w g' (operand_below most total gs starts facts.lazy registers g top fs s h lz hs b w ok ew)
         (ap (arrays_with g a v) (sym (kept_is gs a w c ec)) ∙ eg) z.stands) lz k
-        (none_last hs registers top.slots (set_at width to at w))))))
+        (none_last top.copies hs registers top.slots (set_at width to at w))))))

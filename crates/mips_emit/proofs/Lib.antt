@@ -8,6 +8,7 @@ pub mod Products
 pub mod Insts
 pub mod Comparing
 pub mod Tables
+pub mod Newest
 pub mod Left
 pub mod Emitted
 pub mod Stopping

@@ -1,6 +1,7 @@
 -- How a state of the machine holds homes, frames and globals.
 use Rattle.std.proofs.Common.{◌≡◌, ℕ, ◌+◌, ◌*◌, ◌/◌, ◌%◌, ◌<◌, ◌≤◌, ◌⊎◌, Bool, true, false, ◌&&◌, List, [], ◌∷◌, length, Some, refl, ap, ap₂, ◌∙◌}
-use Rattle.std.proofs.Common.{arith, eq-eqb, lt-ltb, le-leb}
+use Rattle.std.proofs.Common.{arith, eq-eqb, lt-ltb, le-leb, Option, None, sym}
+use Rattle.std.proofs.lemmas.Option.{none-some}
 use Rattle.std.specs.Prelude.{nat_lt, nat_le, ◌||◌, slice_get}
 use Rattle.words.specs.declared.width.Width.{Width}
 use Rattle.words.specs.declared.width.Width.TheVariants.{Word, Byte}
@@ -9,6 +10,8 @@ use Rattle.mips_isa.specs.States.{State, IsWords, is_aligned, is_open}
 use Rattle.mips_isa.specs.Starting.{data_base, stack_base, stack_end, is_mapped}
 use Rattle.mblock.specs.declared.limits.TheConstants.{UNIT_BYTES}
 use Rattle.rtl.specs.declared.block.RGlobal.{RGlobal}
+use Rattle.mips_homes.specs.declared.homed.SlotCopy.{SlotCopy}
+use Rattle.mips_homes.specs.Copies.{copy_of}
 use Rattle.mips_emit.specs.Frames.{link_words}
 use Rattle.mips_emit.specs.Elements.{width_of, element_place, place_in, place_behind, address_of_place, data_middle}
 use Rattle.mips_emit.proofs.View.{word_at, shown_at}
@@ -16,6 +19,7 @@ use Rattle.mips_emit.proofs.View.{word_at, shown_at}
 -- a frame: the slots, the registers put aside, then the link
 pub record Stored : Type 0 where
   pub leaf : Bool
+  pub copies : List SlotCopy
   pub count : ℕ
   pub saved : List ℕ
   pub slots : Places
@@ -26,13 +30,14 @@ abbrev pub size_of : Stored → ℕ
 size_of f = 4 * (f.count + length f.saved + link_words f.leaf)
 
 abbrev pub with_slots : Stored → Places → Stored
-with_slots f slots = record { leaf = f.leaf; count = f.count; saved = f.saved; slots = slots; aside = f.aside; link = f.link }
+with_slots f slots = record { leaf = f.leaf; copies = f.copies; count = f.count; saved = f.saved; slots = slots; aside = f.aside; link = f.link }
 
 pub record FrameHolds (most : ℕ) (m : ℕ → ℕ) (at : ℕ) (f : Stored) : Type 0 where
   pub slots : (k v : ℕ) → k < f.count → f.slots k ≡ Some v → m (at + 4 * k) ≡ v
   pub aside : (j r v : ℕ) → slice_get f.saved j ≡ Some r → f.aside r ≡ Some v → m (at + 4 * (f.count + j)) ≡ v
   pub link : f.leaf ≡ false → m (at + 4 * (f.count + length f.saved)) ≡ f.link
   pub fits : size_of f ≤ most
+  pub alone : f.leaf ≡ false → f.copies ≡ []
 
 -- the frames from an address up to the top of the stack
 abbrev pub StackHolds : ℕ → (ℕ → ℕ) → ℕ → List Stored → Type 0
@@ -45,6 +50,7 @@ frame_same most m m' at f same h = record {
   aside = λ j r v there is. same (at + 4 * (f.count + j)) (omega arith) ∙ h.aside j r v there is;
   link = λ calls. same (at + 4 * (f.count + length f.saved)) (omega arith) ∙ h.link calls;
   fits = h.fits;
+  alone = h.alone;
 }
 
 pub stack_same : (most : ℕ) (m m' : ℕ → ℕ) (at : ℕ) (fs : List Stored) → ((b : ℕ) → at ≤ b → m' b ≡ m b) → StackHolds most m at fs → StackHolds most m' at fs
@@ -68,10 +74,32 @@ stack_room most m at (f ∷ fs) h =
     let e : length (f ∷ fs) * most ≡ most + length fs * most = omega arith in
     omega (arith, rest, fits, e)
 
--- in a leaf the link is still in register 31
-abbrev pub Linked : List Stored → ℕ → Type 0
-Linked [] x = Unit {0}
-Linked (f ∷ fs) x = f.leaf ≡ true → x ≡ f.link
+-- in a leaf the link is still in register 31, and registers that no home is hold the copies of slots
+pub record LeafHolds (f : Stored) (registers : Places) (regs : ℕ → ℕ) : Type 0 where
+  pub link : regs 31 ≡ f.link
+  pub range : (k r : ℕ) → copy_of f.copies k ≡ Some r → (8 ≤ r) × (r < 28)
+  pub copied : (k r v : ℕ) → copy_of f.copies k ≡ Some r → f.slots k ≡ Some v → regs r ≡ v
+  pub idle : (k r : ℕ) → copy_of f.copies k ≡ Some r → registers r ≡ None
+
+abbrev pub Linked : List Stored → Places → (ℕ → ℕ) → Type 0
+Linked [] registers regs = Unit {0}
+Linked (f ∷ fs) registers regs = f.leaf ≡ true → LeafHolds f registers regs
+
+-- so it is where other registers change, and no more of them are known
+none_fewer : (o o' : Option ℕ) → ((v : ℕ) → o' ≡ Some v → o ≡ Some v) → o ≡ None → o' ≡ None
+none_fewer o None some none = refl
+none_fewer o (Some v) some none = absurd (none-some v (sym none ∙ some v refl))
+
+pub linked_kept : (fs : List Stored) (registers registers' : Places) (regs regs' : ℕ → ℕ) → regs' 31 ≡ regs 31
+    → ((r : ℕ) → 8 ≤ r → r < 28 → regs' r ≡ regs r) → ((q v : ℕ) → registers' q ≡ Some v → registers q ≡ Some v)
+    → Linked fs registers regs → Linked fs registers' regs'
+linked_kept [] registers registers' regs regs' link same some h = tt
+linked_kept (f ∷ fs) registers registers' regs regs' link same some h = λ leaf. (let l = h leaf in record {
+  link = link ∙ l.link;
+  range = l.range;
+  copied = λ k r v is at. (let range = l.range k r is in same r range.0 range.1) ∙ l.copied k r v is at;
+  idle = λ k r is. none_fewer (registers r) (registers' r) (λ v e. some r v e) (l.idle k r is);
+})
 
 -- the elements lie in the data, of so many bytes, and apart
 pub record LieApart (total : ℕ) (gs : List RGlobal) (starts : ℕ → ℕ) (g : Arrays) : Type 0 where
@@ -92,7 +120,7 @@ pub record Stands (most total : ℕ) (gs : List RGlobal) (starts : ℕ → ℕ) 
   pub elements : (a i v : ℕ) → element_at g a i ≡ Some v → shown_at (width_of gs a) s (address_of_place (place_in gs starts a i)) ≡ v
   pub places : LieApart total gs starts g
   pub open places use {inside, apart, even, few}
-  pub linked : Linked fs (s.regs 31)
+  pub linked : Linked fs registers s.regs
   pub gp : s.regs 28 ≡ data_middle
 
 -- an address in the stack

@@ -22,7 +22,7 @@ use Rattle.mips_isa.specs.Actions.{sign_extension, imm_operator, alu_operator, a
 use Rattle.mips_isa.proofs.Memory.{load_same, load-past-store}
 use Rattle.mips_isa.proofs.StateWords as words
 use Rattle.mips_emit.specs.declared.location.Location.{Location}
-use Rattle.mips_emit.specs.declared.location.Location.TheVariants.{Held, InSlot}
+use Rattle.mips_emit.specs.declared.location.Location.TheVariants.{Held, InSlot, Copied}
 use Rattle.mips_emit.specs.Locations.{inner_of}
 use Rattle.mips_emit.specs.Elements.{width_bytes, element_place, address_of_place, data_middle, near, page, low, scaled, scaled_seat, base_sum}
 use Rattle.mips_emit.specs.Elements.{base_code, base_offset}
@@ -70,6 +70,7 @@ pub inner_is : (l : Option Location) → IsInner (inner_of l)
 inner_is None = first_inner
 inner_is (Some (Held r)) = record { low = omega arith; high = omega arith; apart = λ e. absurd (omega (arith, e)) }
 inner_is (Some (InSlot k)) = record { low = omega arith; high = omega arith; apart = λ e. absurd (omega (arith, e)) }
+inner_is (Some (Copied r k)) = record { low = omega arith; high = omega arith; apart = λ e. absurd (omega (arith, e)) }
 
 pub inner_target : (l : Option Location) → IsTarget (inner_of l)
 inner_target l = (let is = inner_is l in record { low = is.low; high = omega (arith, is.high) })

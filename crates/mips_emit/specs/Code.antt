@@ -22,7 +22,7 @@ use Rattle.rtl.specs.declared.instruction.RInst.TheVariants.{Const, Move, Bin, L
 use Rattle.rtl.specs.declared.block.RGlobal.{RGlobal}
 use Rattle.mips_homes.specs.HomedRun.{is_lasting}
 use Rattle.mips_emit.specs.declared.location.Location.{Location}
-use Rattle.mips_emit.specs.declared.location.Location.TheVariants.{Held, InSlot}
+use Rattle.mips_emit.specs.declared.location.Location.TheVariants.{Held, InSlot, Copied}
 use Rattle.mips_emit.specs.declared.location.Source.{Source}
 use Rattle.mips_emit.specs.declared.product.ShiftedSum.{ShiftedSum}
 use Rattle.mips_emit.specs.declared.operation.Selection.{Selection}
@@ -70,12 +70,14 @@ fetch t Zero = []
 fetch t (Word w) = li t w
 fetch t (From (Held r)) = []
 fetch t (From (InSlot k)) = load_word_at t (4 * k) ∷ []
+fetch t (From (Copied r k)) = []
 
 abbrev pub seat : ℕ → Source → ℕ
 seat t Zero = 0
 seat t (Word w) = t
 seat t (From (Held r)) = r
 seat t (From (InSlot k)) = t
+seat t (From (Copied r k)) = r
 
 -- an operand into a register of its own
 abbrev pub bring : ℕ → Source → List Plain
@@ -83,6 +85,7 @@ bring t Zero = move_code t 0 ∷ []
 bring t (Word w) = li t w
 bring t (From (Held r)) = move_code t r ∷ []
 bring t (From (InSlot k)) = load_word_at t (4 * k) ∷ []
+bring t (From (Copied r k)) = move_code t r ∷ []
 
 -- the same, but nothing where the operand is in that register
 abbrev pub stays : ℕ → Source → Bool
@@ -90,6 +93,7 @@ stays t Zero = false
 stays t (Word w) = false
 stays t (From (Held r)) = nat_eq r t
 stays t (From (InSlot k)) = false
+stays t (From (Copied r k)) = nat_eq r t
 
 abbrev pub carry : ℕ → Source → List Plain
 carry t x = if stays t x then [] else bring t x
@@ -99,23 +103,27 @@ abbrev pub into : Option Location → ℕ
 into None = inner_of None
 into (Some (Held r)) = r
 into (Some (InSlot k)) = inner_of (Some (InSlot k))
+into (Some (Copied r k)) = r
 
 abbrev pub finish : Option Location → List Plain
 finish None = []
 finish (Some (Held r)) = []
 finish (Some (InSlot k)) = store_word_at (inner_of (Some (InSlot k))) (4 * k) ∷ []
+finish (Some (Copied r k)) = store_word_at r (4 * k) ∷ []
 
 -- an operand into a location
 abbrev pub put_at : Option Location → Source → List Plain
 put_at None x = []
 put_at (Some (Held r)) x = bring r x
 put_at (Some (InSlot k)) x = fetch (inner_of (Some (InSlot k))) x ++ store_word_at (seat (inner_of (Some (InSlot k))) x) (4 * k) ∷ []
+put_at (Some (Copied r k)) x = bring r x ++ store_word_at r (4 * k) ∷ []
 
 -- a register into a location
 abbrev pub arrive : Option Location → ℕ → List Plain
 arrive None t = []
 arrive (Some (Held r)) t = carry r (From (Held t))
 arrive (Some (InSlot k)) t = store_word_at t (4 * k) ∷ []
+arrive (Some (Copied r k)) t = carry r (From (Held t)) ++ store_word_at r (4 * k) ∷ []
 
 -- ---- operators
 
@@ -212,8 +220,8 @@ turned_less_of LeS d q known = immediate_of LtS d q known
 turned_less_of LeU d q known = immediate_of LtU d q known
 turned_less_of _ d q known = None
 
--- an operator into register d: with a word on the right, or on the left, or with a word on the left of a test that is then
--- turned, or on two registers. The left operand goes through register t, the right one through 2
+-- an operator into register d: with a word on the right or on the left, with a word on the left of a test that is then turned, or on two
+-- registers. The left operand goes through register t, the right one through 2
 abbrev pub code_by_less : Op → (t d : ℕ) → (less : Option Plain) → Source → Source → List Plain
 code_by_less op t d None x y = fetch t x ++ (fetch 2 y ++ operation op d (seat t x) (seat 2 y))
 code_by_less op t d (Some i) x y = fetch 2 y ++ i ∷ Logic Xori d d 1 ∷ []
@@ -305,6 +313,7 @@ abbrev pub const_code : Option Location → ℕ → List Plain
 const_code None w = []
 const_code (Some (Held r)) w = if is_lasting r then bring r (word_source w) else nop ∷ []
 const_code (Some (InSlot k)) w = put_at (Some (InSlot k)) (word_source w)
+const_code (Some (Copied r k)) w = put_at (Some (Copied r k)) (word_source w)
 
 abbrev pub inst_code : List RGlobal → (starts : ℕ → ℕ) → Locations → Facts → RInst → List Plain
 inst_code globals starts at facts (Const d w) = const_code (at d) (wrap w)

@@ -1,5 +1,5 @@
--- Operators that are one with the exit behind them (comparisons with a branch on their result, any with a return of it), and
--- the code of several instructions.
+-- Operators that are one with the exit behind them: comparisons with a branch on their result, any with a return of it. And the code of
+-- several instructions.
 use Rattle.std.specs.Prelude.{ℕ, Bool, true, false, not, ◌&&◌, nat_eq, if◌then◌else◌, List, [], ◌∷◌, ◌++◌, Option, Some, None, slice_index}
 use Rattle.mips_isa.specs.declared.inst.PairTest.TheVariants.{Equal, NotEqual}
 use Rattle.mips_isa.specs.declared.inst.ZeroTest.TheVariants.{AtMostZero, AboveZero, BelowZero, AtLeastZero}
@@ -14,7 +14,7 @@ use Rattle.rtl.specs.declared.block.RGlobal.{RGlobal}
 use Rattle.mips_homes.specs.HomedRun.{is_lasting}
 use Rattle.mips_homes.specs.declared.homed.Frame.{Frame}
 use Rattle.mips_emit.specs.declared.location.Location.{Location}
-use Rattle.mips_emit.specs.declared.location.Location.TheVariants.{Held, InSlot}
+use Rattle.mips_emit.specs.declared.location.Location.TheVariants.{Held, InSlot, Copied}
 use Rattle.mips_emit.specs.declared.location.Source.{Source}
 use Rattle.mips_emit.specs.declared.comparison.Form.{Form}
 use Rattle.mips_emit.specs.declared.comparison.Form.TheVariants.{OnPair, OnLeft, OnRight, ByResult, ByOpposite, InResult}
@@ -109,6 +109,7 @@ abbrev pub is_passing : Option Location → Bool
 is_passing None = false
 is_passing (Some (Held r)) = not (is_lasting r)
 is_passing (Some (InSlot k)) = false
+is_passing (Some (Copied r k)) = false
 
 abbrev pub operator_comparison : ℕ → Op → (left right : Option ℕ) → Source → Source → Option Form → Option Comparison
 operator_comparison d op l r x y None = None

@@ -3,6 +3,9 @@ use Rattle.std.specs.Prelude.{◌≡◌, ℕ, ◌+◌, ◌*◌, ◌<◌, ◌≤�
 use Rattle.mips_homes.specs.declared.homed.Home.{Home}
 use Rattle.mips_homes.specs.declared.homed.Home.TheVariants.{Reg, Slot}
 use Rattle.mips_homes.specs.declared.homed.Frame.{Frame}
+use Rattle.mips_homes.specs.declared.homed.SlotCopy.{SlotCopy}
+use Rattle.mips_homes.specs.Copies.{copy_of}
+use Rattle.mips_homes.specs.HomedRun.{is_lasting}
 use Rattle.mips_emit.specs.declared.limits.TheConstants.{FRAME_BYTES}
 
 -- a register 4 to 27, or one of so many slots
@@ -10,10 +13,18 @@ abbrev pub IsHome : (slots : ℕ) → Home → Type 0
 IsHome slots (Reg r) = (4 ≤ r) × (r < 28)
 IsHome slots (Slot k) = k < slots
 
--- homes in a frame with so many slots, and no two pseudo-registers share one
-pub record AreFrameHomes (homes : List Home) (slots : ℕ) : Type 0 where
+-- copies of slots are in registers 8 to 27 that no function keeps, each slot's in its own, and none is a home
+pub record AreCopies (copies : List SlotCopy) (homes : List Home) : Type 0 where
+  pub range : (k r : ℕ) → copy_of copies k ≡ Some r → (8 ≤ r) × (r < 28)
+  pub passing : (k r : ℕ) → copy_of copies k ≡ Some r → is_lasting r ≡ false
+  pub once : (j k r : ℕ) → copy_of copies j ≡ Some r → copy_of copies k ≡ Some r → j ≡ k
+  pub idle : (x k r : ℕ) → slice_get homes x ≡ Some (Reg r) → copy_of copies k ≡ Some r → ⊥
+
+-- homes in a frame with so many slots and these copies, and no two pseudo-registers share one
+pub record AreFrameHomes (homes : List Home) (copies : List SlotCopy) (slots : ℕ) : Type 0 where
   pub by : (x : ℕ) (h : Home) → slice_get homes x ≡ Some h → IsHome slots h
   pub apart : (x y : ℕ) (h : Home) → slice_get homes x ≡ Some h → slice_get homes y ≡ Some h → x ≡ y
+  pub copied : AreCopies copies homes
 
 -- what a frame takes at most: a word for each slot, for each register that is saved, and for the link
 abbrev pub frame_size : Frame → ℕ
@@ -24,10 +35,10 @@ abbrev pub link_words : (leaf : Bool) → ℕ
 link_words true = 0
 link_words false = 1
 
--- homes are registers 4 to 27 and slots of the frame, the registers that are saved are among 16 to 23, and the frame has at
--- most so many bytes
+-- homes are registers 4 to 27 and slots of the frame. The registers that are saved are among 16 to 23, and the frame has at most so many
+-- bytes
 pub record IsFrame (most : ℕ) (f : Frame) : Type 0 where
-  pub homes : AreFrameHomes f.homes.items f.slots
+  pub homes : AreFrameHomes f.homes.items f.copies.items f.slots
   pub saved : (j r : ℕ) → slice_get f.saved.items j ≡ Some r → (16 ≤ r) × (r < 24)
   pub fits : frame_size f ≤ most
 

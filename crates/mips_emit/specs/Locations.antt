@@ -1,17 +1,19 @@
 -- Where pseudo-registers are, and which words they are known to hold.
-use Rattle.std.specs.Prelude.{ℕ, ◌+◌, ◌-◌, ◌*◌, ◌%◌, ◌≤◌, Option, Some, None, List, [], ◌∷◌, take, nat_eq, if◌then◌else◌}
+use Rattle.std.specs.Prelude.{ℕ, ◌+◌, ◌-◌, ◌*◌, ◌%◌, ◌≤◌, Option, Some, None, List, [], ◌∷◌, take, reverse, nat_eq, if◌then◌else◌}
 use Rattle.std.specs.Prelude.{slice_get}
 use Rattle.words.specs.Words.{wrap}
 use Rattle.runs.specs.Stores.{Places, places_with, chain}
 use Rattle.rtl.specs.declared.instruction.RInst.{RInst}
 use Rattle.rtl.specs.declared.instruction.RInst.TheVariants.{Const, Move, Bin, Load, Store}
 use Rattle.mips_homes.specs.HomedRun.{is_lasting}
+use Rattle.mips_homes.specs.Copies.{copy_of}
+use Rattle.mips_homes.specs.declared.homed.SlotCopy.{SlotCopy}
 use Rattle.mips_homes.specs.declared.homed.Home.{Home}
 use Rattle.mips_homes.specs.declared.homed.Home.TheVariants.{Reg, Slot}
 use Rattle.mips_homes.specs.declared.homed.Frame.{Frame}
 use Rattle.mips_emit.specs.declared.limits.TheConstants.{FRAME_BYTES, KEPT_FACTS}
 use Rattle.mips_emit.specs.declared.location.Location.{Location}
-use Rattle.mips_emit.specs.declared.location.Location.TheVariants.{Held, InSlot}
+use Rattle.mips_emit.specs.declared.location.Location.TheVariants.{Held, InSlot, Copied}
 use Rattle.mips_emit.specs.declared.location.Source.{Source}
 use Rattle.mips_emit.specs.declared.location.Source.TheVariants.{Zero, Word, From}
 use Rattle.mips_emit.specs.declared.facts.Fact.{Fact}
@@ -24,19 +26,24 @@ use Rattle.mips_emit.specs.declared.facts.Last.{Last}
 abbrev pub Locations : Type 0
 Locations = ℕ → Option Location
 
-abbrev pub location_of : Home → Location
-location_of (Reg r) = Held r
-location_of (Slot k) = InSlot k
+-- a slot, with its copy if it has one
+abbrev pub in_frame : (slot : ℕ) → (copy : Option ℕ) → Location
+in_frame k None = InSlot k
+in_frame k (Some r) = Copied r k
+
+abbrev pub location_of : List SlotCopy → Home → Location
+location_of copies (Reg r) = Held r
+location_of copies (Slot k) = in_frame k (copy_of copies k)
 
 -- the location at a home that may be absent
-abbrev pub location_at : Option Home → Option Location
-location_at o = chain o (λ h. Some (location_of h))
+abbrev pub location_at : List SlotCopy → Option Home → Option Location
+location_at copies o = chain o (λ h. Some (location_of copies h))
 
-abbrev pub locations_of : List Home → Locations
-locations_of homes x = location_at (slice_get homes x)
+abbrev pub locations_of : List SlotCopy → List Home → Locations
+locations_of copies homes x = location_at copies (slice_get homes x)
 
 abbrev pub locations : Frame → Locations
-locations f = locations_of f.homes.items
+locations f = locations_of f.copies.items f.homes.items
 
 -- the inner temporary of a location: the register in which the left operand is fetched of what goes there, and in which that is computed
 -- if it goes to a slot. It is 1 and 3 in turn, so that code for one location needn't wait for that of the one before. Register 1 also has
@@ -45,6 +52,7 @@ abbrev pub inner_of : Option Location → ℕ
 inner_of None = 1
 inner_of (Some (Held r)) = 3 - 2 * (r % 2)
 inner_of (Some (InSlot k)) = 1 + 2 * (k % 2)
+inner_of (Some (Copied r k)) = 3 - 2 * (r % 2)
 
 -- ---- words that are known
 
@@ -65,16 +73,18 @@ known_in facts = known_of facts.known
 abbrev pub with_fact : ℕ → Option ℕ → List Fact → List Fact
 with_fact x word facts = take KEPT_FACTS ((let f : Fact = record { register = x; word = word } in f) ∷ facts)
 
--- a constant isn't put into a passing register; what is put anywhere else is there
+-- a constant isn't put into a passing register, unless that is a copy; what is put anywhere else is there
 abbrev pub lazy_const : Option Location → ℕ → Places → Places
 lazy_const None w lazy = lazy
 lazy_const (Some (Held r)) w lazy = places_with lazy r (if is_lasting r then None else Some w)
 lazy_const (Some (InSlot k)) w lazy = lazy
+lazy_const (Some (Copied r k)) w lazy = lazy
 
 abbrev pub lazy_none : Option Location → Places → Places
 lazy_none None lazy = lazy
 lazy_none (Some (Held r)) lazy = places_with lazy r None
 lazy_none (Some (InSlot k)) lazy = lazy
+lazy_none (Some (Copied r k)) lazy = lazy
 
 -- what is known after an instruction
 abbrev pub learned : Locations → RInst → Facts → Facts
@@ -97,9 +107,13 @@ told (Some o) = o
 abbrev pub word_in : List (Option ℕ) → Places
 word_in table q = told (slice_get table q)
 
+-- the last of some facts, the newest first
+abbrev pub newest : List Fact → List Fact
+newest facts = take KEPT_FACTS (reverse facts)
+
 -- the same as the code has it
 abbrev pub facts_of : Knowledge → Facts
-facts_of k = record { known = k.known.items; lazy = word_in k.lazy }
+facts_of k = record { known = newest k.known.items; lazy = word_in k.lazy }
 
 -- at the head of a block
 abbrev pub no_facts : Facts
@@ -112,6 +126,7 @@ abbrev pub in_slot : Option Location → ℕ → Option ℕ
 in_slot None x = None
 in_slot (Some (Held r)) x = None
 in_slot (Some (InSlot k)) x = Some x
+in_slot (Some (Copied r k)) x = None
 
 abbrev pub fresh_of : Locations → RInst → Option ℕ
 fresh_of at (Const d w) = None
@@ -129,12 +144,15 @@ last_of at facts i = record { fresh = fresh_of at i; comparison = None }
 abbrev pub known_source : ℕ → Option Location → Source
 known_source w (Some (Held r)) = From (Held r)
 known_source w (Some (InSlot k)) = Word w
+known_source w (Some (Copied r k)) = From (Held r)
 known_source w None = Word w
 
 -- an operand, from the word that it is known to hold and where it is
 abbrev pub source : (known : Option ℕ) → Option Location → Source
 source None None = Zero
-source None (Some l) = From l
+source None (Some (Held r)) = From (Held r)
+source None (Some (InSlot k)) = From (InSlot k)
+source None (Some (Copied r k)) = From (Held r)
 source (Some w) o = if nat_eq w 0 then Zero else known_source w o
 
 -- a word as an operand
@@ -146,6 +164,7 @@ abbrev pub lazy_at : Places → Option Location → Option ℕ
 lazy_at lazy None = None
 lazy_at lazy (Some (Held r)) = lazy r
 lazy_at lazy (Some (InSlot k)) = None
+lazy_at lazy (Some (Copied r k)) = None
 
 abbrev pub lazy_source : Option ℕ → Source → Source
 lazy_source None x = x
@@ -167,6 +186,7 @@ last_operand at facts fresh x = fresh_source fresh x (inner_of (at x)) (operand 
 abbrev pub FitsLocation : Location → Type 0
 FitsLocation (Held r) = Unit {0}
 FitsLocation (InSlot k) = 4 * k ≤ FRAME_BYTES
+FitsLocation (Copied r k) = 4 * k ≤ FRAME_BYTES
 
 abbrev pub FitsPlace : Option Location → Type 0
 FitsPlace None = Unit {0}

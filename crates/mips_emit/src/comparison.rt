@@ -287,6 +287,7 @@ fn is_passing(place: Option<Location>) -> bool
         Some(location) => match location {
             Location::Held(r) => !is_lasting(r),
             Location::InSlot(_) => false,
+            Location::Copied(_, _) => false,
         },
     }
 }

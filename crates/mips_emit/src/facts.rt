@@ -5,7 +5,7 @@ ghost use Rattle.mips_emit.specs.Frames.{IsReachable};
 ghost use Rattle.runs.specs.Stores.{places_with};
 ghost use Rattle.mips_homes.specs.HomedRun.{is_lasting};
 ghost use Rattle.mips_emit.specs.Locations.{known_of, known_in, facts_of, no_facts, word_in, lazy_at, lazy_const, lazy_none};
-ghost use Rattle.mips_emit.specs.Locations.{with_fact, learned, in_slot, fresh_of};
+ghost use Rattle.mips_emit.specs.Locations.{newest, with_fact, learned, in_slot, fresh_of};
 ghost use Rattle.mips_emit.specs.Comparisons.{last_with};
 ghost use Rattle.mips_emit.specs.Locations.{locations, operand, last_operand, FitsSource};
 
@@ -32,7 +32,7 @@ pub struct Last {
     pub comparison: Option<Comparison>,
 }
 
-/// What is known within a block: words of pseudo-registers, the newest first, and by the numbers of registers the words that
+/// What is known within a block: words of pseudo-registers, the newest last, and by the numbers of registers the words that
 /// these should hold but don't yet.
 #[derive(Drop)]
 pub struct Knowledge {
@@ -68,13 +68,14 @@ impl Last {
     };
 }
 
-// The word that a pseudo-register is known to hold, by these facts.
+// The word that a pseudo-register is known to hold, by the last of these facts.
 fn known_of(facts: &[Fact], x: Register) -> Option<u32>
-    ensures { result ≡ known_of facts.now x }
+    ensures { result ≡ known_of (newest facts.now) x }
 {
-    for fact in facts {
-        if x == fact.register {
-            return fact.word;
+    let forgotten = facts.len().saturating_sub(KEPT_FACTS);
+    for i in (forgotten..facts.len()).rev() {
+        if x == facts[i].register {
+            return facts[i].word;
         }
     }
     None
@@ -107,6 +108,7 @@ fn lazy_at(table: &[Option<u32>], place: Option<Location>) -> Option<u32>
         Some(location) => match location {
             Location::Held(r) => lazy_in(table, r),
             Location::InSlot(_) => None,
+            Location::Copied(_, _) => None,
         },
     }
 }
@@ -138,6 +140,7 @@ fn tell_lazy(table: &mut [Option<u32>; 32], place: Option<Location>, word: u32)
                 put_lazy(table, r, told);
             }
             Location::InSlot(_) => {}
+            Location::Copied(_, _) => {}
         },
     }
 }
@@ -152,17 +155,17 @@ fn clear_lazy(table: &mut [Option<u32>; 32], place: Option<Location>)
         Some(location) => match location {
             Location::Held(r) => put_lazy(table, r, None),
             Location::InSlot(_) => {}
+            Location::Copied(_, _) => {}
         },
     }
 }
 
-// One more fact, the newest first; the oldest are forgotten.
+// One more fact, the newest.
 fn put_fact(facts: &mut Vec<Fact>, register: Register, word: Option<u32>) -> Result<(), AllocError>
-    ensures is { OnOk result (facts.new.items ≡ with_fact register word facts.old.items) }
+    ensures is { OnOk result (newest facts.new.items ≡ with_fact register word (newest facts.old.items)) }
     ensures kept { OnErr result (facts.new.items ≡ facts.old.items) }
 {
-    facts.insert(0, Fact { register, word })?;
-    facts.truncate(KEPT_FACTS);
+    facts.push(Fact { register, word })?;
     Ok(())
 }
 

@@ -55,6 +55,7 @@ fn emit_const(
         Some(location) => match location {
             Location::Held(r) => emit_held(code, r, word),
             Location::InSlot(_) => emit_put(code, Some(location), &word_source(word)),
+            Location::Copied(_, _) => emit_put(code, Some(location), &word_source(word)),
         },
     }
 }

@@ -1,22 +1,25 @@
 // Where pseudo-registers are, and what operands are.
 
-ghost use Rattle.std.specs.Prelude.{◌≡◌, ◌*◌, ◌≤◌, ◌<◌};
+ghost use Rattle.std.specs.Prelude.{◌≡◌, ℕ, ◌*◌, ◌≤◌, ◌<◌, Some, None};
 ghost use Rattle.mips_emit.specs.declared.limits.TheConstants.{FRAME_BYTES};
 ghost use Rattle.mips_emit.specs.Frames.{IsHome, IsReachable};
-ghost use Rattle.mips_emit.specs.Locations.{location_of, locations, inner_of, known_source, source, word_source};
+ghost use Rattle.mips_homes.specs.Copies.{copy_of};
+ghost use Rattle.mips_emit.specs.Locations.{in_frame, location_of, locations, inner_of, known_source, source, word_source};
 ghost use Rattle.mips_emit.specs.Locations.{FitsLocation, FitsPlace, FitsSource};
 
-use mips_homes::{Frame, Home};
+use mips_homes::{Frame, Home, SlotCopy};
 use mips_isa::NonzeroReg;
 use rtl::Register;
 
-/// Where a pseudo-register is: in a register, or in a slot of the frame.
+/// Where a pseudo-register is: in a register, or in a slot of the frame, of which a register may hold a copy.
 #[derive(Clone, Copy)]
 pub enum Location {
     /// A register that can be written.
     Held(NonzeroReg),
     /// A word of the frame, from the stack pointer on.
     InSlot(u32),
+    /// A register with a copy of such a word, and the word.
+    Copied(NonzeroReg, u32),
 }
 
 /// What an operand is.
@@ -42,16 +45,42 @@ pub fn register(number: u8) -> NonzeroReg
     }
 }
 
+// The register that holds a copy of a slot.
+fn copy_of(copies: &[SlotCopy], k: u32) -> Option<u8>
+    ensures { result ≡ copy_of copies.now k }
+{
+    for c in copies {
+        if k == c.slot {
+            return Some(c.register);
+        }
+    }
+    None
+}
+
+// A slot, with its copy if it has one.
+fn in_frame(copies: &[SlotCopy], k: u32) -> Location
+    requires slot { 4 * k ≤ FRAME_BYTES }
+    requires range { (r : ℕ) → copy_of copies.now k ≡ Some r → (8 ≤ r) × (r < 28) }
+    ensures value { result ≡ in_frame k (copy_of copies.now k) }
+    ensures fits { FitsLocation result }
+{
+    match copy_of(copies, k) {
+        Some(r) => Location::Copied(register(r), k),
+        None => Location::InSlot(k),
+    }
+}
+
 // A home as a location.
-fn location_of(home: Home, slots: u32) -> Location
+fn location_of(home: Home, copies: &[SlotCopy], slots: u32) -> Location
     requires few { 4 * slots ≤ FRAME_BYTES }
     requires home { IsHome slots home }
-    ensures value { result ≡ location_of home }
+    requires range { (k r : ℕ) → copy_of copies.now k ≡ Some r → (8 ≤ r) × (r < 28) }
+    ensures value { result ≡ location_of copies.now home }
     ensures fits { FitsLocation result }
 {
     match home {
         Home::Reg(r) => Location::Held(register(r)),
-        Home::Slot(k) => Location::InSlot(k),
+        Home::Slot(k) => in_frame(copies, k),
     }
 }
 
@@ -62,7 +91,7 @@ pub(crate) fn locate(frame: &Frame, x: Register) -> Option<Location>
     ensures fits { FitsPlace result }
 {
     match frame.homes.get(x as usize) {
-        Some(home) => Some(location_of(*home, frame.slots)),
+        Some(home) => Some(location_of(*home, frame.copies.as_slice(), frame.slots)),
         None => None,
     }
 }
@@ -77,6 +106,7 @@ pub(crate) fn inner_of(place: Option<Location>) -> NonzeroReg
         Some(location) => match location {
             Location::Held(r) => register(3 - 2 * (r.index() % 2)),
             Location::InSlot(k) => register(1 + 2 * (k % 2) as u8),
+            Location::Copied(r, _) => register(3 - 2 * (r.index() % 2)),
         },
     }
 }
@@ -93,6 +123,24 @@ fn known_source(word: u32, place: Option<Location>) -> Source
         Some(location) => match location {
             Location::Held(_) => Source::From(location),
             Location::InSlot(_) => Source::Word(word),
+            Location::Copied(r, _) => Source::From(Location::Held(r)),
+        },
+    }
+}
+
+// What an operand is of which no word is known.
+fn unknown_source(place: Option<Location>) -> Source
+    requires { FitsPlace place }
+    ensures value { result ≡ source None place }
+    ensures fits { FitsSource result }
+{
+    match place {
+        None => Source::Zero,
+        // (rattle 13f: a nested pattern through another crate's type ends in "a bug in rattle": CONTRIBUTING.md)
+        Some(location) => match location {
+            Location::Held(_) => Source::From(location),
+            Location::InSlot(_) => Source::From(location),
+            Location::Copied(r, _) => Source::From(Location::Held(r)),
         },
     }
 }
@@ -104,10 +152,7 @@ pub(crate) fn source_of(known: Option<u32>, place: Option<Location>) -> Source
     ensures fits { FitsSource result }
 {
     match known {
-        None => match place {
-            None => Source::Zero,
-            Some(location) => Source::From(location),
-        },
+        None => unknown_source(place),
         Some(0) => Source::Zero,
         Some(word) => known_source(word, place),
     }

@@ -133,8 +133,8 @@ fn first_of(op: Op, rd: Reg, rs: Reg, rt: Reg) -> Plain
     }
 }
 
-// The second one, where it takes two: the result of a product or division, a test that the second operand isn't less than the
-// first, and a test of equality, which is one of the difference.
+// The second one, where it takes two: the result of a product or division, a test that the second operand isn't less than the first, and
+// a test of equality, by the difference.
 fn second_of(op: Op, rd: Reg) -> Option<Plain>
     ensures { (a b : ℕ) → drop 1 (operation op rd a b) ≡ as_list result }
 {

@@ -23,6 +23,7 @@ pub fn emit_fetch(code: &mut Vec<Plain>, t: NonzeroReg, x: &Source) -> Result<()
         Source::From(location) => match location {
             Location::Held(_) => Ok(()),
             Location::InSlot(k) => emit_load_word(code, t, 4 * *k),
+            Location::Copied(_, _) => Ok(()),
         },
     }
 }
@@ -37,6 +38,7 @@ pub fn seat(t: NonzeroReg, x: &Source) -> Reg
         Source::From(location) => match location {
             Location::Held(r) => r.reg(),
             Location::InSlot(_) => t.reg(),
+            Location::Copied(r, _) => r.reg(),
         },
     }
 }
@@ -52,6 +54,7 @@ pub(crate) fn emit_bring(code: &mut Vec<Plain>, t: NonzeroReg, x: &Source) -> Re
         Source::From(location) => match location {
             Location::Held(r) => emit_move(code, t.reg(), r.reg()),
             Location::InSlot(k) => emit_load_word(code, t, 4 * *k),
+            Location::Copied(r, _) => emit_move(code, t.reg(), r.reg()),
         },
     }
 }
@@ -77,6 +80,7 @@ fn stays(t: NonzeroReg, x: &Source) -> bool
         Source::From(location) => match location {
             Location::Held(r) => *r == t,
             Location::InSlot(_) => false,
+            Location::Copied(r, _) => *r == t,
         },
     }
 }
@@ -91,6 +95,7 @@ pub(crate) fn into_of(place: Option<Location>) -> NonzeroReg
         Some(location) => match location {
             Location::Held(r) => r,
             Location::InSlot(_) => inner_of(Some(location)),
+            Location::Copied(r, _) => r,
         },
     }
 }
@@ -106,6 +111,7 @@ pub(crate) fn emit_finish(code: &mut Vec<Plain>, place: Option<Location>) -> Res
         Some(location) => match location {
             Location::Held(_) => Ok(()),
             Location::InSlot(k) => emit_store_word(code, inner_of(Some(location)).reg(), 4 * k),
+            Location::Copied(r, k) => emit_store_word(code, r.reg(), 4 * k),
         },
     }
 }
@@ -130,6 +136,10 @@ pub(crate) fn emit_put(
                 emit_fetch(code, inner, x)?;
                 emit_store_word(code, seat(inner, x), 4 * k)
             }
+            Location::Copied(r, k) => {
+                emit_bring(code, r, x)?;
+                emit_store_word(code, r.reg(), 4 * k)
+            }
         },
     }
 }
@@ -149,6 +159,10 @@ pub(crate) fn emit_arrive(
         Some(location) => match location {
             Location::Held(r) => emit_carry(code, r, &Source::From(Location::Held(t))),
             Location::InSlot(k) => emit_store_word(code, t.reg(), 4 * k),
+            Location::Copied(r, k) => {
+                emit_carry(code, r, &Source::From(Location::Held(t)))?;
+                emit_store_word(code, r.reg(), 4 * k)
+            }
         },
     }
 }

@@ -91,10 +91,10 @@ module _ (g : Global) where
       function (suc (suc k)) d lt = absurd (omega (arith, lt))
 
   abbrev chosen : Frame
-  chosen = record { homes = one (Reg 16); saved = one 16; slots = 0 }
+  chosen = record { homes = one (Reg 16); saved = one 16; slots = 0; copies = none }
 
   abbrev placed : Frame
-  placed = record { homes = one (Reg 8); saved = none; slots = 0 }
+  placed = record { homes = one (Reg 8); saved = none; slots = 0; copies = none }
 
   abbrev leaking : Homed
   leaking = record { rtl = record { ref_ptr = (0, 0); now = program }; frames = two placed placed }
@@ -151,10 +151,10 @@ module _ (g : Global) where
       → IsPlacedFor func frame
   is_placed func frame zero e f = subst (λ func. IsPlacedFor func frame) (same_Some caller func e)
       (subst (IsPlacedFor caller) (same_Some placed frame f)
-      (record { choice = chosen; is = is_choice caller refl refl; placed = record { homes = refl; saved = refl; slots = refl } }))
+      (record { choice = chosen; is = is_choice caller refl refl; placed = record { homes = refl; saved = refl; slots = refl; copies = refl } }))
   is_placed func frame (suc zero) e f = subst (λ func. IsPlacedFor func frame) (same_Some callee func e)
       (subst (IsPlacedFor callee) (same_Some placed frame f)
-      (record { choice = chosen; is = is_choice callee refl refl; placed = record { homes = refl; saved = refl; slots = refl } }))
+      (record { choice = chosen; is = is_choice callee refl refl; placed = record { homes = refl; saved = refl; slots = refl; copies = refl } }))
   is_placed func frame (suc (suc i)) e f = absurd (none-some func e)
 
   are_placed : ArePlaced leaking

@@ -7,14 +7,12 @@ use Rattle.mips_homes.specs.Choice.{IsChoice, HaveFrames}
 use Rattle.mips_homes.specs.HomedRun.{is_in}
 use Rattle.mips_homes.specs.Locals.{is_local}
 use Rattle.mips_homes.specs.Hints.{hint}
+pub use Rattle.mips_homes.specs.Passing.{passing_registers, is_register, lives_in}
+use Rattle.mips_homes.specs.Copies.{copies_for}
 use Rattle.mips_homes.specs.declared.homed.Home.{Home}
 use Rattle.mips_homes.specs.declared.homed.Home.TheVariants.{Reg, Slot}
 use Rattle.mips_homes.specs.declared.homed.Frame.{Frame}
 use Rattle.mips_homes.specs.declared.homed.Homed.{Homed}
-
--- registers 8 to 15 and 24 to 27
-abbrev pub passing_registers : List ℕ
-passing_registers = 8 ∷ 9 ∷ 10 ∷ 11 ∷ 12 ∷ 13 ∷ 14 ∷ 15 ∷ 24 ∷ 25 ∷ 26 ∷ 27 ∷ []
 
 -- the first of these registers that isn't taken
 abbrev pub first_free : (taken : List ℕ) → List ℕ → Option ℕ
@@ -40,15 +38,6 @@ places_from local hint x taken (h ∷ hs) =
     home_or (if local x then free_register taken (hint x) else None) h
     ∷ places_from local hint (suc x) (also taken (if local x then free_register taken (hint x) else None)) hs
 
-abbrev pub is_register : Home → ℕ → Bool
-is_register (Reg q) r = nat_eq q r
-is_register (Slot k) r = false
-
--- whether one lives in a register
-abbrev pub lives_in : List Home → ℕ → Bool
-lives_in [] r = false
-lives_in (h ∷ hs) r = if is_register h r then true else lives_in hs r
-
 -- the registers that are still homes
 abbrev pub still_saved : List Home → List ℕ → List ℕ
 still_saved hs [] = []
@@ -68,6 +57,7 @@ pub record IsPlaced (n : ℕ) (bs : List RBlock) (c f : Frame) : Type 0 where
   pub homes : f.homes.items ≡ places_from (is_local bs) (hint n bs) 0 [] c.homes.items
   pub saved : f.saved.items ≡ still_saved f.homes.items c.saved.items
   pub slots : f.slots ≡ (if some_slot f.homes.items then c.slots else 0)
+  pub copies : f.copies.items ≡ copies_for bs f.homes.items
 
 pub record IsPlacedFor (func : RFunc) (f : Frame) : Type 0 where
   pub choice : Frame

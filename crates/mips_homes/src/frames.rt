@@ -69,6 +69,7 @@ pub fn frame_of(alloc: Global, func: &RFunc) -> Result<Frame, AllocError>
         homes,
         saved,
         slots: slots as u32,
+        copies: Vec::new(alloc),
     })
 }
 

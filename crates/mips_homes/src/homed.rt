@@ -10,12 +10,20 @@ pub enum Home {
     Slot(u32),
 }
 
-/// The homes of a function, the registers that it saves, and how many slots its frame has.
+/// A slot of the frame, and a register that holds a copy of its word.
+#[derive(Clone, Copy, Debug, PartialEq, Eq)]
+pub struct SlotCopy {
+    pub slot: u32,
+    pub register: u8,
+}
+
+/// The homes of a function, the registers that it saves, how many slots its frame has, and which of these have copies.
 #[derive(Drop)]
 pub struct Frame {
     pub homes: Vec<Home>,
     pub saved: Vec<u8>,
     pub slots: u32,
+    pub copies: Vec<SlotCopy>,
 }
 
 /// A program, and a frame for each function.

@@ -1,13 +1,14 @@
 //! Homes of pseudo-registers: registers, slots of the frame, or registers of one block.
 //!
-//! Definitions: `specs/Choice.antt`, `specs/Hints.antt`, `specs/Places.antt`, `specs/Laws.antt`.
+//! Definitions: `specs/Choice.antt`, `specs/Hints.antt`, `specs/Copies.antt`, `specs/Places.antt`, `specs/Laws.antt`.
 //! Contract: `homes`, `place`, `each_homed_run_is_the_run`, `each_choice_never_forgets`
 //! - `homes` puts the eight pseudo-registers with most mentions into $16 to $23 and each other one into a slot.
-//! - `place` moves those that are local to their blocks to registers that no function keeps.
+//! - `place` moves those local to blocks to registers that no function keeps. A leaf's slots have copies there.
 //! - Over either the run is the program's at each bound.
 #![tactic(auto)]
 
 mod best;
+mod copies;
 mod counts;
 mod frames;
 mod hints;
@@ -16,7 +17,8 @@ mod laws;
 mod locals;
 mod places;
 
+pub use copies::is_leaf;
 pub use frames::{frame_of, homes};
-pub use homed::{Frame, Home, Homed};
+pub use homed::{Frame, Home, Homed, SlotCopy};
 pub use laws::{each_choice_never_forgets, each_homed_run_is_the_run};
 pub use places::place;

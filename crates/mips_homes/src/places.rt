@@ -10,6 +10,7 @@ ghost use Rattle.mips_homes.specs.Places.{first_free, free_register, home_or, al
 ghost use Rattle.mips_homes.specs.Walks.{TellsLocals, TellsReaches};
 ghost use Rattle.mips_homes.specs.Places.{is_slot, some_slot, IsPlaced, IsPlacedFor, ArePlaced};
 
+use crate::copies::copies_for;
 use crate::frames::frame_of;
 use crate::hints::{hint, reach_of, reaches};
 use crate::homed::{Frame, Home, Homed};
@@ -138,8 +139,8 @@ fn is_register(home: Home, r: u8) -> bool
     }
 }
 
-// Whether one lives in a register.
-fn lives_in(homes: &[Home], r: u8) -> bool
+/// Whether one lives in a register.
+pub(crate) fn lives_in(homes: &[Home], r: u8) -> bool
     ensures { result ≡ lives_in homes.now r }
 {
     for home in homes {
@@ -202,10 +203,12 @@ fn frame_with_places(
     } else {
         0
     };
+    let copies = copies_for(alloc, blocks, homes.as_slice())?;
     Ok(Frame {
         homes,
         saved,
         slots,
+        copies,
     })
 }
 

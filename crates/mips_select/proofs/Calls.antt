@@ -17,7 +17,7 @@ use Rattle.mips_isa.specs.Starting.{stack_base, stack_end}
 use Rattle.mips_isa.specs.Actions.{action_of}
 use Rattle.mblock.proofs.StateWords.{run_words}
 use Rattle.rtl.specs.declared.block.RGlobal.{RGlobal}
-use Rattle.mips_homes.specs.HomedRun.{Activation, is_in, registers_at_entry, registers_at_return}
+use Rattle.mips_homes.specs.HomedRun.{Activation, is_in, is_lasting, registers_at_entry, registers_at_return}
 use Rattle.mips_homes.specs.declared.homed.Frame.{Frame}
 use Rattle.mips_homes.proofs.Located.{also_in}
 use Rattle.mips_emit.specs.declared.limits.TheConstants.{FRAME_BYTES}
@@ -33,7 +33,7 @@ use Rattle.mips_select.proofs.Frames.{InStack, AreKept, saves_run, restores_run}
 use Rattle.mips_select.proofs.Emitted.{kept, kept_words}
 
 abbrev pub stored_frame : Bool → Frame → Places → Places → ℕ → Stored
-stored_frame leaf f slots aside link = record { leaf = leaf; count = f.slots; saved = f.saved.items; slots = slots; aside = aside; link = link }
+stored_frame leaf f slots aside link = record { leaf = leaf; copies = f.copies.items; count = f.slots; saved = f.saved.items; slots = slots; aside = aside; link = link }
 
 -- the frames of waiting activations, with their links
 abbrev pub frames_of : List Activation → List ℕ → List Stored
@@ -41,10 +41,10 @@ frames_of [] ls = []
 frames_of (a ∷ rest) [] = []
 frames_of (a ∷ rest) (l ∷ ls) = stored_frame false a.frame a.slots a.aside l ∷ frames_of rest ls
 
-pub linked_frames : (ws : List Activation) (ls : List ℕ) (x : ℕ) → Linked (frames_of ws ls) x
-linked_frames [] ls x = tt
-linked_frames (a ∷ ws) [] x = tt
-linked_frames (a ∷ ws) (l ∷ ls) x = λ leaf. absurd (true≢false (sym leaf))
+pub linked_frames : (ws : List Activation) (ls : List ℕ) (registers : Places) (regs : ℕ → ℕ) → Linked (frames_of ws ls) registers regs
+linked_frames [] ls registers regs = tt
+linked_frames (a ∷ ws) [] registers regs = tt
+linked_frames (a ∷ ws) (l ∷ ls) registers regs = λ leaf. absurd (true≢false (sym leaf))
 
 in_list : (xs : List ℕ) (q : ℕ) → is_in xs q ≡ true → (j : ℕ) × (slice_get xs j ≡ Some q)
 in_list [] q e = absurd (true≢false (sym e))
@@ -123,6 +123,10 @@ module _ (most : ℕ) (f : Frame) (ok : IsFrame most f) where
   bytes_fit true = (let fits = ok.fits in omega (arith, fits))
   bytes_fit false = ok.fits
 
+unset : (b : Bool) (o : Option ℕ) → o ≡ None → (if b then None else o) ≡ None
+unset true o e = refl
+unset false o e = e
+
 cleared_some : (b : Bool) (o : Option ℕ) (v : ℕ) → (if b then None else o) ≡ Some v → o ≡ Some v
 cleared_some true o v e = absurd (none-some v e)
 cleared_some false o v e = e
@@ -175,8 +179,9 @@ module _ (most total : ℕ) (gs : List RGlobal) (starts : ℕ → ℕ) (small : 
     pub stands : Stands most total gs starts (registers_at_entry f.saved.items r) g (stored_frame leaf f unset_places r link ∷ fs) to
 
   pub enters : (r : Places) (g : Arrays) (fs : List Stored) (s : State) (leaf : Bool) (f : Frame) (link : ℕ) → IsFrame most f → s.regs 31 ≡ link
+      → (leaf ≡ false → f.copies.items ≡ []) → ((q : ℕ) → is_lasting q ≡ false → r q ≡ None)
       → stack_base + most ≤ s.regs 29 → Stands most total gs starts r g fs s → Entered r g fs s leaf f link
-  enters r g fs s leaf f link ok is_link room h =
+  enters r g fs s leaf f link ok is_link alone passing room h =
       let up = stack_top most (word_at s) (s.regs 29) fs h.stack in
       let size = frame_bytes leaf f in
       let fits = bytes_fit most f ok leaf in
@@ -222,6 +227,7 @@ module _ (most total : ℕ) (gs : List RGlobal) (starts : ℕ → ℕ) (small : 
                   ap (word_at to) place ∙ saved.here (length f.saved.items) 31 (ap (λ leaf. slice_get (kept leaf f) (length f.saved.items)) calls
                   ∙ get_last f.saved.items 31) ∙ low.others 31 (λ e. absurd (omega (arith, e))) ∙ is_link;
               fits = fits;
+              alone = alone;
             },
             subst (λ p. StackHolds most (word_at to) p fs) (sym down)
                 (stack_same most (word_at s) (word_at to) (s.regs 29) fs (λ b le. saved.others Word b
@@ -237,7 +243,12 @@ module _ (most total : ℕ) (gs : List RGlobal) (starts : ℕ → ℕ) (small : 
               (omega (arith, lt, long, down, up)) inside few)
               ∙ h.elements a i w at;
           places = h.places;
-          linked = λ _. low.others 31 (λ e. absurd (omega (arith, e))) ∙ is_link;
+          linked = λ _. record {
+            link = low.others 31 (λ e. absurd (omega (arith, e))) ∙ is_link;
+            range = ((ok.homes).copied).range;
+            copied = λ k q v c at. absurd (none-some v at);
+            idle = λ k q c. unset (is_in f.saved.items q) (r q) (passing q (((ok.homes).copied).passing k q c));
+          };
           gp = low.others 28 (λ e. absurd (omega (arith, e))) ∙ h.gp;
         };
       }
@@ -251,7 +262,7 @@ module _ (most total : ℕ) (gs : List RGlobal) (starts : ℕ → ℕ) (small : 
     pub stands : Stands most total gs starts (registers_at_return f.saved.items aside r) g fs to
 
   pub leaves_frame : (r : Places) (g : Arrays) (fs : List Stored) (s : State) (leaf : Bool) (f : Frame) (slots aside : Places) (link : ℕ) → IsFrame most f
-      → ((x : ℕ) → Linked fs x) → Stands most total gs starts r g (stored_frame leaf f slots aside link ∷ fs) s → Left r g fs s leaf f aside link
+      → ((registers : Places) (regs : ℕ → ℕ) → Linked fs registers regs) → Stands most total gs starts r g (stored_frame leaf f slots aside link ∷ fs) s → Left r g fs s leaf f aside link
   leaves_frame r g fs s leaf f slots aside link ok linked h =
       let up = stack_top most (word_at s) (s.regs 29 + frame_bytes leaf f) fs h.stack.1 in
       let fits = bytes_fit most f ok leaf in
@@ -294,7 +305,7 @@ module _ (most total : ℕ) (gs : List RGlobal) (starts : ℕ → ℕ) (small : 
           aligned = omega (arith, pointer, a4, size4);
           elements = h.elements;
           places = h.places;
-          linked = linked (lift.regs 31);
+          linked = linked (registers_at_return f.saved.items aside r) lift.regs;
           gp = lift.others 28 (λ e. absurd (omega (arith, e))) ∙ back.others 28 (kept_in most f ok leaf 28 false
               (saved_other most f ok 28 (inr (omega arith))) (λ e. absurd (omega (arith, e)))) ∙ h.gp;
         };
@@ -311,7 +322,7 @@ module _ (most total : ℕ) (gs : List RGlobal) (starts : ℕ → ℕ) (small : 
       -- the link comes from the frame, or was in register 31 all the time
       link_back : (regs : ℕ → ℕ) → ((q : ℕ) → is_in (kept leaf f) q ≡ false → regs q ≡ s.regs q) → ((q v : ℕ) → is_in (kept leaf f) q ≡ true → ((j : ℕ)
           → slice_get (kept leaf f) j ≡ Some q → word_at s (s.regs 29 + 4 * f.slots + 4 * j) ≡ v) → regs q ≡ v) → (b : Bool) → leaf ≡ b → regs 31 ≡ link
-      link_back regs others inside true is = others 31 (ap (λ leaf. is_in (kept leaf f) 31) is ∙ saved_other most f ok 31 (inr (omega arith))) ∙ h.linked is
+      link_back regs others inside true is = others 31 (ap (λ leaf. is_in (kept leaf f) 31) is ∙ saved_other most f ok 31 (inr (omega arith))) ∙ (h.linked is).link
       link_back regs others inside false is = inside 31 link (ap (λ leaf. is_in (kept leaf f) 31) is
           ∙ also_in f.saved.items 31) (λ j there. link_at is j 31 refl (kept_case most f ok leaf j 31 there))
 

@@ -1,6 +1,6 @@
 -- At most how many machine instructions stand for an instruction, an exit and the beginning of a function.
-use Rattle.std.proofs.Common.{◌≡◌, ℕ, zero, suc, ◌+◌, ◌*◌, ◌≤◌, Bool, true, false, List, [], ◌∷◌, ◌++◌, length, length-append, Option, Some, None, arith}
-use Rattle.std.specs.Prelude.{◌/◌, ◌%◌, nat_eq, nat_lt, if◌then◌else◌}
+use Rattle.std.proofs.Common.{◌≡◌, ℕ, zero, suc, ◌+◌, ◌*◌, ◌≤◌, Bool, true, false, List, [], ◌∷◌, ◌++◌, length, length-append, Option, Some, None, arith, sym, subst, refl}
+use Rattle.std.specs.Prelude.{slice_get, ◌/◌, ◌%◌, nat_eq, nat_lt, if◌then◌else◌}
 use Rattle.words.specs.Words.{wrap}
 use Rattle.words.specs.declared.width.Width.{Width}
 use Rattle.words.specs.declared.width.Width.TheVariants.{Word, Byte}
@@ -17,9 +17,11 @@ use Rattle.rtl.specs.declared.instruction.RExit.{RExit}
 use Rattle.rtl.specs.declared.instruction.RExit.TheVariants.{Goto, Branch, Call, Return, Out}
 use Rattle.rtl.specs.declared.block.RGlobal.{RGlobal}
 use Rattle.mips_homes.specs.HomedRun.{is_lasting}
+use Rattle.mips_homes.specs.declared.homed.Home.{Home}
+use Rattle.mips_homes.specs.declared.homed.Home.TheVariants.{Reg, Slot}
 use Rattle.mips_homes.specs.declared.homed.Frame.{Frame}
 use Rattle.mips_emit.specs.declared.location.Location.{Location}
-use Rattle.mips_emit.specs.declared.location.Location.TheVariants.{Held, InSlot}
+use Rattle.mips_emit.specs.declared.location.Location.TheVariants.{Held, InSlot, Copied}
 use Rattle.mips_emit.specs.declared.location.Source.{Source}
 use Rattle.mips_emit.specs.declared.location.Source.TheVariants.{Zero, Word as Known, From}
 use Rattle.mips_emit.specs.declared.comparison.Asked.{Asked}
@@ -27,7 +29,7 @@ use Rattle.mips_emit.specs.declared.comparison.Comparison.{Comparison}
 use Rattle.mips_emit.specs.declared.comparison.Form.{Form}
 use Rattle.mips_emit.specs.declared.comparison.Form.TheVariants.{OnPair, OnLeft, OnRight, ByResult, ByOpposite, InResult}
 use Rattle.mips_emit.specs.declared.facts.Last.{Last}
-use Rattle.mips_emit.specs.Locations.{Locations, Facts, locations, known_in, learned, operand, last_operand, inner_of, word_source}
+use Rattle.mips_emit.specs.Locations.{Locations, Facts, location_at, locations_of, locations, known_in, learned, operand, last_operand, inner_of, word_source}
 use Rattle.mips_emit.specs.Elements.{direct, scaled, base_sum, scaled_seat, width_of, page, address_of_place}
 use Rattle.mips_emit.specs.Code.{constant, is_small, half, li, fetch, seat, bring, stays, carry, into, finish, put_at, arrive, operation, code_by_less}
 use Rattle.mips_emit.specs.Code.{code_by_left, code_by_right, code_by_word, multiple_of, multiple_code, code_by_multiple, op_code, element_code}
@@ -36,7 +38,7 @@ use Rattle.mips_emit.specs.Comparisons.{code_by_form, opposite_op, comparison_of
 use Rattle.mips_emit.specs.Comparisons.{tested, returned, return_code}
 use Rattle.mips_select.specs.declared.prologue.Way.{Way}
 use Rattle.mips_select.specs.declared.prologue.Way.TheVariants.{Save, Restore}
-use Rattle.mips_select.specs.Code.{frame_words, frame_link, frame_bytes, step_of, stack_step, saves, restores, link_save, link_load, lowers}
+use Rattle.mips_select.specs.Code.{frame_words, frame_link, frame_bytes, step_of, stack_step, saves, restores, link_save, link_load, lowers, raises}
 use Rattle.mips_select.specs.Code.{parameters_code, prologue, epilogue, exit_code, result_code}
 use Rattle.mips_select.specs.Emittable.{HasFewArguments}
 
@@ -71,12 +73,14 @@ fetch_few t Zero = omega arith
 fetch_few t (Known w) = li_few t w
 fetch_few t (From (Held r)) = omega arith
 fetch_few t (From (InSlot k)) = omega arith
+fetch_few t (From (Copied r k)) = omega arith
 
 bring_few : (t : ℕ) (x : Source) → length (bring t x) ≤ 2
 bring_few t Zero = omega arith
 bring_few t (Known w) = li_few t w
 bring_few t (From (Held r)) = omega arith
 bring_few t (From (InSlot k)) = omega arith
+bring_few t (From (Copied r k)) = omega arith
 
 carry_few : (t : ℕ) (x : Source) → length (carry t x) ≤ 2
 carry_few t x = either (stays t x) 2 [] (bring t x) (omega arith) (bring_few t x)
@@ -85,16 +89,30 @@ finish_few : (o : Option Location) → length (finish o) ≤ 1
 finish_few None = omega arith
 finish_few (Some (Held r)) = omega arith
 finish_few (Some (InSlot k)) = omega arith
+finish_few (Some (Copied r k)) = omega arith
 
 put_few : (o : Option Location) (x : Source) → length (put_at o x) ≤ 8
 put_few None x = omega arith
 put_few (Some (Held r)) x = let n = bring_few r x in omega (arith, n)
+put_few (Some (Copied r k)) x = one_behind _ 2 8 (bring r x) (bring_few r x) (omega arith)
 put_few (Some (InSlot k)) x = one_behind _ 2 8 (fetch (inner_of (Some (InSlot k))) x) (fetch_few (inner_of (Some (InSlot k))) x) (omega arith)
 
-arrive_few : (o : Option Location) (t : ℕ) → length (arrive o t) ≤ 1
+-- two, of which the second is the store of a copy
+arrive_few : (o : Option Location) (t : ℕ) → length (arrive o t) ≤ 2
 arrive_few None t = omega arith
-arrive_few (Some (Held r)) t = either (stays r (From (Held t))) 1 [] (bring r (From (Held t))) (omega arith) (omega arith)
+arrive_few (Some (Held r)) t = either (stays r (From (Held t))) 2 [] (bring r (From (Held t))) (omega arith) (omega arith)
 arrive_few (Some (InSlot k)) t = omega arith
+arrive_few (Some (Copied r k)) t =
+    one_behind _ 1 2 (carry r (From (Held t))) (either (stays r (From (Held t))) 1 [] (bring r (From (Held t))) (omega arith) (omega arith)) (omega arith)
+
+-- and one where no slot has a copy
+arrive_one : (hs : List Home) (x t : ℕ) → length (arrive (locations_of [] hs x) t) ≤ 1
+arrive_one hs x t = by (slice_get hs x)
+  where
+    by : (o : Option Home) → length (arrive (location_at [] o) t) ≤ 1
+    by None = omega arith
+    by (Some (Reg r)) = either (stays r (From (Held t))) 1 [] (bring r (From (Held t))) (omega arith) (omega arith)
+    by (Some (Slot k)) = omega arith
 
 -- ---- operators
 
@@ -170,6 +188,7 @@ const_few None w = omega arith
 const_few (Some (Held r)) w =
     let few = bring_few r (word_source w) in
     either (is_lasting r) 8 (bring r (word_source w)) (nop ∷ []) (omega (arith, few)) (omega arith)
+const_few (Some (Copied r k)) w = put_few (Some (Copied r k)) (word_source w)
 const_few (Some (InSlot k)) w = put_few (Some (InSlot k)) (word_source w)
 
 inst_few : (globals : List RGlobal) (starts : ℕ → ℕ) (at : Locations) (facts : Facts) (i : RInst) → length (inst_code globals starts at facts i) ≤ 8
@@ -221,14 +240,10 @@ words_many : (way : Way) (at : ℕ) (rs : List ℕ) → length (frame_words way 
 words_many way at [] = omega arith
 words_many way at (r ∷ rs) = let n = words_many way (at + 4) rs in omega (arith, n)
 
-link_few : (way : Way) (leaf : Bool) (f : Frame) → length (frame_link way leaf f) ≤ 1
-link_few way true f = omega arith
-link_few way false f = omega arith
-
 step_few : (way : Way) (n : ℕ) → length (stack_step way n) ≤ 1
 step_few way n = either (nat_eq n 0) 1 [] (Imm Addiu 29 29 (step_of way n) ∷ []) (omega arith) (omega arith)
 
-parameters_few : (at : Locations) (t x n : ℕ) → length (parameters_code at t x n) ≤ n
+parameters_few : (at : Locations) (t x n : ℕ) → length (parameters_code at t x n) ≤ 2 * n
 parameters_few at t x zero = omega arith
 parameters_few at t x (suc n) =
     let one = arrive_few (at x) t in
@@ -236,22 +251,59 @@ parameters_few at t x (suc n) =
     let sum = length-append (arrive (at x) t) (parameters_code at (suc t) (suc x) n) in
     omega (arith, one, rest, sum)
 
-pub prologue_few : (leaf : Bool) (f : Frame) (n : ℕ) → length f.saved.items ≤ 8 → n ≤ 4 → length (prologue leaf f n) ≤ 14
-prologue_few leaf f n eight four =
-    let saved = words_many Save (4 * f.slots) f.saved.items in
-    let parameters = parameters_few (locations f) 4 0 n in
-    let few : length (saves (4 * f.slots) f.saved.items) ≤ 8 = omega (arith, saved, eight) in
-    let moved : length (parameters_code (locations f) 4 0 n) ≤ 4 = omega (arith, parameters, four) in
-    joined _ 1 13 14 (lowers (frame_bytes leaf f)) (step_few Save (frame_bytes leaf f))
-    (joined _ 9 4 13 (saves (4 * f.slots) f.saved.items ++ link_save leaf f)
-    (joined _ 8 1 9 (saves (4 * f.slots) f.saved.items) few (link_few Save leaf f) (omega arith)) moved (omega arith)) (omega arith)
+parameters_one : (hs : List Home) (t x n : ℕ) → length (parameters_code (locations_of [] hs) t x n) ≤ n
+parameters_one hs t x zero = omega arith
+parameters_one hs t x (suc n) =
+    let one = arrive_one hs x t in
+    let rest = parameters_one hs (suc t) (suc x) n in
+    let sum = length-append (arrive (locations_of [] hs x) t) (parameters_code (locations_of [] hs) (suc t) (suc x) n) in
+    omega (arith, one, rest, sum)
 
-epilogue_few : (leaf : Bool) (f : Frame) → length f.saved.items ≤ 8 → length (epilogue leaf f) ≤ 10
+-- a leaf has no link, but it may have copies of its parameters; what it has more at its beginning it has less at a return
+abbrev pub prologue_most : Bool → ℕ
+prologue_most true = 17
+prologue_most false = 14
+
+abbrev pub exit_most : Bool → ℕ
+exit_most true = 11
+exit_most false = 12
+
+prologue_by : (leaf : Bool) (f : Frame) (n p most : ℕ) → length f.saved.items ≤ 8 → length (parameters_code (locations f) 4 0 n) ≤ p
+    → 9 + length (frame_link Save leaf f) + p ≤ most → length (prologue leaf f n) ≤ most
+prologue_by leaf f n p most eight moved room =
+    let saved = words_many Save (4 * f.slots) f.saved.items in
+    let down = step_few Save (frame_bytes leaf f) in
+    let a = length-append (lowers (frame_bytes leaf f)) ((saves (4 * f.slots) f.saved.items ++ link_save leaf f) ++ parameters_code (locations f) 4 0 n) in
+    let b = length-append (saves (4 * f.slots) f.saved.items ++ link_save leaf f) (parameters_code (locations f) 4 0 n) in
+    let c = length-append (saves (4 * f.slots) f.saved.items) (link_save leaf f) in
+    omega (arith, saved, eight, moved, room, down, a, b, c)
+
+pub prologue_few : (leaf : Bool) (f : Frame) (n : ℕ) → length f.saved.items ≤ 8 → n ≤ 4 → (leaf ≡ false → f.copies.items ≡ [])
+    → length (prologue leaf f n) ≤ prologue_most leaf
+prologue_few true f n eight four alone =
+    let moved = parameters_few (locations f) 4 0 n in
+    prologue_by true f n 8 17 eight (omega (arith, moved, four)) (omega arith)
+prologue_few false f n eight four alone =
+    let moved : length (parameters_code (locations f) 4 0 n) ≤ n =
+    subst (λ copies. length (parameters_code (locations_of copies f.homes.items) 4 0 n) ≤ n) (sym (alone refl)) (parameters_one f.homes.items 4 0 n) in
+    prologue_by false f n 4 14 eight (omega (arith, moved, four)) (omega arith)
+
+-- an epilogue, and two instructions for what is returned
+epilogue_few : (leaf : Bool) (f : Frame) → length f.saved.items ≤ 8 → length (epilogue leaf f) + 2 ≤ exit_most leaf
 epilogue_few leaf f eight =
     let saved = words_many Restore (4 * f.slots) f.saved.items in
-    let few : length (restores (4 * f.slots) f.saved.items) ≤ 8 = omega (arith, saved, eight) in
-    joined _ 9 1 10 (restores (4 * f.slots) f.saved.items ++ link_load leaf f)
-    (joined _ 8 1 9 (restores (4 * f.slots) f.saved.items) few (link_few Restore leaf f) (omega arith)) (step_few Restore (frame_bytes leaf f)) (omega arith)
+    let up = step_few Restore (frame_bytes leaf f) in
+    let b = length-append (restores (4 * f.slots) f.saved.items ++ link_load leaf f) (raises (frame_bytes leaf f)) in
+    let c = length-append (restores (4 * f.slots) f.saved.items) (link_load leaf f) in
+    by leaf (length (epilogue leaf f)) (length (link_load leaf f)) (omega (arith, saved, up, b, c, eight)) (link_most leaf)
+  where
+    link_most : (leaf : Bool) → length (link_load leaf f) + 11 ≤ exit_most leaf
+    link_most true = omega arith
+    link_most false = omega arith
+
+    by : (leaf : Bool) (n link : ℕ) → n ≤ 9 + link → link + 11 ≤ exit_most leaf → n + 2 ≤ exit_most leaf
+    by true n link le most = omega (arith, le, most)
+    by false n link le most = omega (arith, le, most)
 
 arguments_few : (at : Locations) (facts : Facts) (t : ℕ) (xs : List ℕ) → length (arguments_code at facts t xs) ≤ 2 * length xs
 arguments_few at facts t [] = omega arith
@@ -269,19 +321,39 @@ return_few : (b : Bool) (x : Source) → length (return_code b x) ≤ 2
 return_few true x = omega arith
 return_few false x = carry_few 2 x
 
+-- what stands behind the block of a call
+abbrev pub behind_most : RExit → ℕ
+behind_most (Call g xs d next) = 2
+behind_most (Goto b) = 0
+behind_most (Branch c t e) = 0
+behind_most (Return o) = 0
+behind_most (Out x next) = 0
+
+ten_most : (leaf : Bool) (n : ℕ) → n ≤ 10 → n ≤ exit_most leaf
+ten_most true n le = omega (arith, le)
+ten_most false n le = omega (arith, le)
+
 pub exit_few : (leaf : Bool) (f : Frame) (facts : Facts) (last : Last) (x : RExit) → length f.saved.items ≤ 8 → HasFewArguments x
-    → length (exit_code leaf f facts last x) ≤ 12
-exit_few leaf f facts last (Goto b) eight few = omega arith
+    → length (exit_code leaf f facts last x) + behind_most x ≤ exit_most leaf
+exit_few leaf f facts last (Goto b) eight few = ten_most leaf 0 (omega arith)
 exit_few leaf f facts last (Branch c t e) eight few =
-    let n = branch_few (tested last.comparison c) (last_operand (locations f) facts last.fresh c) in omega (arith, n)
+    let code = branch_code (tested last.comparison c) (last_operand (locations f) facts last.fresh c) in
+    let n = branch_few (tested last.comparison c) (last_operand (locations f) facts last.fresh c) in
+    ten_most leaf (length code + 0) (omega (arith, n))
 exit_few leaf f facts last (Call g xs d next) eight few =
-    let n = arguments_few (locations f) facts 4 xs.items in omega (arith, n, few)
+    let n = arguments_few (locations f) facts 4 xs.items in
+    ten_most leaf (length (arguments_code (locations f) facts 4 xs.items) + 2) (omega (arith, n, few))
 exit_few leaf f facts last (Return None) eight few = let n = epilogue_few leaf f eight in omega (arith, n)
 exit_few leaf f facts last (Return (Some x)) eight few =
-    joined _ 2 10 12 (return_code (returned last.comparison x) (last_operand (locations f) facts last.fresh x))
-    (return_few (returned last.comparison x) (last_operand (locations f) facts last.fresh x)) (epilogue_few leaf f eight) (omega arith)
-exit_few leaf f facts last (Out x next) eight few = let n = carry_few 4 (last_operand (locations f) facts last.fresh x) in omega (arith, n)
+    let code = return_code (returned last.comparison x) (last_operand (locations f) facts last.fresh x) in
+    let n = return_few (returned last.comparison x) (last_operand (locations f) facts last.fresh x) in
+    let m = epilogue_few leaf f eight in
+    let sum = length-append code (epilogue leaf f) in
+    omega (arith, n, m, sum)
+exit_few leaf f facts last (Out x next) eight few =
+    let n = carry_few 4 (last_operand (locations f) facts last.fresh x) in
+    ten_most leaf (length (carry 4 (last_operand (locations f) facts last.fresh x)) + 0) (omega (arith, n))
 
-pub result_few : (at : Locations) (o : Option ℕ) → length (result_code at o) ≤ 1
+pub result_few : (at : Locations) (o : Option ℕ) → length (result_code at o) ≤ 2
 result_few at None = omega arith
 result_few at (Some d) = arrive_few (at d) 2

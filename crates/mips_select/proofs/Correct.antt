@@ -23,7 +23,7 @@ use Rattle.mips_select.specs.Laws.{EachUnitKeepsRuns}
 use Rattle.mips_select.proofs.Linked.{program_well}
 use Rattle.mips_select.proofs.Theorem.{keep_homed_runs}
 use Rattle.mips_select.proofs.Placed.{program_selected}
-use Rattle.mips_select.proofs.FrameSizes.{are_frames, are_seated}
+use Rattle.mips_select.proofs.FrameSizes.{are_frames, are_seated, are_alone}
 
 -- before long blocks are cut
 pub blocks_come_to : (h : Homed) (depth : ℕ) → IsProgram h.rtl.now → ArePlaced h → FramesFit h.rtl.now depth
@@ -31,7 +31,7 @@ pub blocks_come_to : (h : Homed) (depth : ℕ) → IsProgram h.rtl.now → ArePl
     (rtl_run h.rtl.now depth r)
 blocks_come_to h depth ok choices fit r right =
     let same : homed_run h depth r ≡ rtl_run h.rtl.now depth r = places_keep_runs h choices depth r in
-    let selected = program_selected h depth (largest_frame (h.rtl.now).functions) ok (are_frames h choices) (are_seated h choices) fit.frames fit.stack in
+    let selected = program_selected h depth (largest_frame (h.rtl.now).functions) ok (are_frames h choices) (are_seated h choices) (are_alone h choices) fit.frames fit.stack in
     subst (ComesTo (program_blocks h) (start_state (padded_bytes (h.rtl.now).globals)) r) same
     (keep_homed_runs h depth (program_blocks h) selected r (subst (λ (o : Outcome). o.end ≢ Wrong) (sym same) right))
 

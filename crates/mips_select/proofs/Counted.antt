@@ -1,5 +1,5 @@
 -- At most how many blocks the unit of a program has.
-use Rattle.std.proofs.Common.{◌≡◌, ℕ, suc, ◌+◌, ◌-◌, ◌*◌, ◌≤◌, Bool, true, false, List, [], ◌∷◌, ◌++◌, length, length-append, Option, Some, None}
+use Rattle.std.proofs.Common.{◌≡◌, ℕ, suc, ◌+◌, ◌-◌, ◌*◌, ◌<◌, ◌≤◌, Bool, true, false, List, [], ◌∷◌, ◌++◌, length, length-append, Option, Some, None}
 use Rattle.std.proofs.Common.{refl, arith, nat_eq, eqb-true}
 use Rattle.std.specs.Prelude.{if◌then◌else◌, slice_get}
 use Rattle.mblock.specs.Parts.{BlockParts}
@@ -24,9 +24,11 @@ use Rattle.mips_select.specs.Heads.{head_at, heads_of, is_leaf, namings, unnamed
 use Rattle.mips_select.specs.Laws.{EachUnitIsCounted}
 use Rattle.mips_select.specs.Limits.{insts_in, most_blocks_for}
 use Rattle.mips_select.specs.Whole.{behind, next_of, blocks_from, blocks_in, lead_blocks, place_in, function_blocks, function_size, functions_blocks, program_blocks, entry_of}
-use Rattle.mips_select.proofs.CodeSizes.{insts_few, prologue_few, exit_few, result_few}
-use Rattle.mips_select.proofs.FrameSizes.{placed_eight}
+use Rattle.mips_select.proofs.CodeSizes.{insts_few, prologue_most, prologue_few, exit_most, exit_few, behind_most, result_few}
+use Rattle.mips_select.proofs.FrameSizes.{placed_eight, are_alone}
+use Rattle.mips_select.proofs.Lists.{all_at}
 use Rattle.mips_select.proofs.Selecting.{functions_emittable}
+use Rattle.rtl.specs.Programs.{IsFunction}
 
 -- the instructions of blocks
 abbrev words_in : List BlockParts → ℕ
@@ -60,11 +62,11 @@ both xs ys a b c d x y =
 -- ---- one function
 
 module _ (globals : List RGlobal) (starts entry place : ℕ → ℕ) (leaf : Bool) (heads : ℕ → Head) (f : Frame) (n : ℕ)
-    (eight : length f.saved.items ≤ 8) (four : n ≤ 4) where
-  behind_few : (x : RExit) → Few (behind heads place f x) 1 1
+    (eight : length f.saved.items ≤ 8) (four : n ≤ 4) (alone : leaf ≡ false → f.copies.items ≡ []) where
+  behind_few : (x : RExit) → Few (behind heads place f x) 1 (behind_most x)
   behind_few (Call g xs d next) = by (resumes d (heads next))
     where
-      by : (b : Bool) → Few (if b then [] else after_block f d (place next) ∷ []) 1 1
+      by : (b : Bool) → Few (if b then [] else after_block f d (place next) ∷ []) 1 2
       by true = record { blocks_few = omega arith; words_few = omega arith }
       by false = let m = result_few (locations f) d in record { blocks_few = omega arith; words_few = omega (arith, m) }
   behind_few (Goto b) = record { blocks_few = omega arith; words_few = omega arith }
@@ -73,8 +75,8 @@ module _ (globals : List RGlobal) (starts entry place : ℕ → ℕ) (leaf : Boo
   behind_few (Out x next) = record { blocks_few = omega arith; words_few = omega arith }
 
   own_few : (j m : ℕ) (b : RBlock) → HasFewArguments b.exit
-      → length (own_block globals starts entry place leaf f (head_code leaf f n (heads j)) m b).insts
-      ≤ length (head_code leaf f n (heads j)) + (12 + 8 * length b.insts.items)
+      → length (own_block globals starts entry place leaf f (head_code leaf f n (heads j)) m b).insts + behind_most b.exit
+      ≤ length (head_code leaf f n (heads j)) + (exit_most leaf + 8 * length b.insts.items)
   own_few j m b few =
       let facts = known_after (locations f) b.insts.items no_facts in
       let last = last_after (locations f) (asked_of b.exit) no_facts b.insts.items no_last in
@@ -88,80 +90,85 @@ module _ (globals : List RGlobal) (starts entry place : ℕ → ℕ) (leaf : Boo
   one_few : (k j : ℕ) (b : RBlock) (bs : List RBlock) (blocks words : ℕ) → HasFewArguments b.exit
       → Few (blocks_from globals starts entry place leaf heads f n (k + count heads b.exit) (suc j) bs) blocks words
       → Few (blocks_from globals starts entry place leaf heads f n k j (b ∷ bs)) (2 + blocks)
-      (length (head_code leaf f n (heads j)) + (13 + 8 * length b.insts.items) + words)
+      (length (head_code leaf f n (heads j)) + (exit_most leaf + 8 * length b.insts.items) + words)
   one_few k j b bs blocks words few rest =
       let own = own_few j (next_of heads place k b.exit) b few in
-      let more = both (behind heads place f b.exit) (blocks_from globals starts entry place leaf heads f n (k + count heads b.exit) (suc j) bs) 1 1
-      blocks words (behind_few b.exit) rest in
+      let more = both (behind heads place f b.exit) (blocks_from globals starts entry place leaf heads f n (k + count heads b.exit) (suc j) bs) 1
+      (behind_most b.exit) blocks words (behind_few b.exit) rest in
       record { blocks_few = omega (arith, more.blocks_few); words_few = omega (arith, own, more.words_few) }
 
-  -- those behind the first begin with one instruction at most
-  rest_few : ((j : ℕ) → length (head_code leaf f n (heads (suc j))) ≤ 1) → (k j : ℕ) (bs : List RBlock)
+  -- what an exit has at most, and a prologue with it
+  most : (leaf : Bool) → (exit_most leaf ≤ 12) × (prologue_most leaf + exit_most leaf ≤ 28)
+  most true = (omega arith, omega arith)
+  most false = (omega arith, omega arith)
+
+  -- those behind the first begin with two instructions at most
+  rest_few : ((j : ℕ) → length (head_code leaf f n (heads (suc j))) ≤ 2) → (k j : ℕ) (bs : List RBlock)
       → ((i : ℕ) (b : RBlock) → slice_get bs i ≡ Some b → HasFewArguments b.exit)
       → Few (blocks_from globals starts entry place leaf heads f n k (suc j) bs) (2 * length bs) (14 * length bs + 8 * insts_in bs)
   rest_few small k j [] few = record { blocks_few = omega arith; words_few = omega arith }
   rest_few small k j (b ∷ bs) few =
       let head = small j in
+      let exit = (most leaf).0 in
       let rest = rest_few small (k + count heads b.exit) (suc j) bs (λ i c e. few (suc i) c e) in
       let all = one_few k (suc j) b bs (2 * length bs) (14 * length bs + 8 * insts_in bs) (few 0 b refl) rest in
-      record { blocks_few = omega (arith, all.blocks_few); words_few = omega (arith, head, all.words_few) }
-
-  all_few : ((j : ℕ) → length (head_code leaf f n (heads (suc j))) ≤ 1) → (k : ℕ) (bs : List RBlock)
-      → ((i : ℕ) (b : RBlock) → slice_get bs i ≡ Some b → HasFewArguments b.exit)
-      → Few (blocks_from globals starts entry place leaf heads f n k 0 bs) (2 * length bs)
-      ((length (head_code leaf f n (heads 0)) - 1) + (14 * length bs + 8 * insts_in bs))
-  all_few small k [] few = record { blocks_few = omega arith; words_few = omega arith }
-  all_few small k (b ∷ bs) few =
-      let rest = rest_few small (k + count heads b.exit) 0 bs (λ i c e. few (suc i) c e) in
-      let all = one_few k 0 b bs (2 * length bs) (14 * length bs + 8 * insts_in bs) (few 0 b refl) rest in
-      record { blocks_few = omega (arith, all.blocks_few); words_few = omega (arith, all.words_few) }
+      record { blocks_few = omega (arith, all.blocks_few); words_few = omega (arith, head, exit, all.words_few) }
 
   -- the prologue is in a block of its own, or at the head of the first
-  lead_few : (h : Head) (first : ℕ) → (length (lead_blocks leaf h f n first) ≤ 1)
-      × (words_in (lead_blocks leaf h f n first) + (length (head_code leaf f n h) - 1) ≤ 14)
-  lead_few Bare first = let m = prologue_few leaf f n eight four in (omega arith, omega (arith, m))
-  lead_few Enters first = let m = prologue_few leaf f n eight four in (omega arith, omega (arith, m))
-  lead_few (Takes d) first =
-      let m = prologue_few leaf f n eight four in
-      let r = result_few (locations f) (Some d) in
-      (omega arith, omega (arith, m, r))
+  lead_few : (o : Option Naming) (first : ℕ) → (length (lead_blocks leaf (head_at 0 o) f n first) ≤ 1)
+      × (words_in (lead_blocks leaf (head_at 0 o) f n first) + length (head_code leaf f n (head_at 0 o)) ≤ prologue_most leaf)
+  lead_few None first = let m = prologue_few leaf f n eight four alone in (omega arith, omega (arith, m))
+  lead_few (Some Unnamed) first = let m = prologue_few leaf f n eight four alone in (omega arith, omega (arith, m))
+  lead_few (Some (Called None)) first = let m = prologue_few leaf f n eight four alone in (omega arith, omega (arith, m))
+  lead_few (Some (Called (Some d))) first = let m = prologue_few leaf f n eight four alone in (omega arith, omega (arith, m))
+  lead_few (Some Jumped) first = let m = prologue_few leaf f n eight four alone in (omega arith, omega (arith, m))
 
-later_head : (leaf : Bool) (f : Frame) (n : ℕ) (l : List Naming) (j : ℕ) → length (head_code leaf f n (head_at (suc j) (slice_get l (suc j)))) ≤ 1
+later_head : (leaf : Bool) (f : Frame) (n : ℕ) (l : List Naming) (j : ℕ) → length (head_code leaf f n (head_at (suc j) (slice_get l (suc j)))) ≤ 2
 later_head leaf f n l j = by (slice_get l (suc j))
   where
-    by : (o : Option Naming) → length (head_code leaf f n (head_at (suc j) o)) ≤ 1
+    by : (o : Option Naming) → length (head_code leaf f n (head_at (suc j) o)) ≤ 2
     by None = omega arith
     by (Some Unnamed) = at (nat_eq (suc j) 0) refl
       where
-        at : (b : Bool) → nat_eq (suc j) 0 ≡ b → length (head_code leaf f n (if b then Enters else Bare)) ≤ 1
+        at : (b : Bool) → nat_eq (suc j) 0 ≡ b → length (head_code leaf f n (if b then Enters else Bare)) ≤ 2
         at true e = let is = eqb-true (suc j) 0 e in absurd (omega (arith, is))
         at false e = omega arith
     by (Some (Called None)) = omega arith
     by (Some (Called (Some d))) = at (nat_eq (suc j) 0)
       where
-        at : (b : Bool) → length (head_code leaf f n (if b then Bare else Takes d)) ≤ 1
+        at : (b : Bool) → length (head_code leaf f n (if b then Bare else Takes d)) ≤ 2
         at true = omega arith
         at false = result_few (locations f) (Some d)
     by (Some Jumped) = omega arith
 
 function_few : (globals : List RGlobal) (starts entry : ℕ → ℕ) (n k : ℕ) (bs : List RBlock) (f : Frame) → length f.saved.items ≤ 8 → n ≤ 4
-    → ((i : ℕ) (b : RBlock) → slice_get bs i ≡ Some b → HasFewArguments b.exit)
+    → (is_leaf bs ≡ false → f.copies.items ≡ []) → 0 < length bs → ((i : ℕ) (b : RBlock) → slice_get bs i ≡ Some b → HasFewArguments b.exit)
     → Few (blocks_in globals starts entry n k bs f) (1 + 2 * length bs) (14 + 14 * length bs + 8 * insts_in bs)
-function_few globals starts entry n k bs f eight four few =
-    let heads = heads_of bs in
-    let leaf = is_leaf bs in
-    let place = place_in k bs in
-    let lead = lead_few globals starts entry place leaf heads f n eight four (heads 0) (place 0) in
-    let all = all_few globals starts entry place leaf heads f n eight four (λ j. later_head leaf f n (namings bs (unnamed bs)) j) (k + lead_in heads) bs few in
-    let b = length-append (lead_blocks leaf (heads 0) f n (place 0)) (blocks_from globals starts entry place leaf heads f n (k + lead_in heads) 0 bs) in
-    let w = words_append (lead_blocks leaf (heads 0) f n (place 0)) (blocks_from globals starts entry place leaf heads f n (k + lead_in heads) 0 bs) in
-    record { blocks_few = omega (arith, lead.0, all.blocks_few, b); words_few = omega (arith, lead.1, all.words_few, w) }
+function_few globals starts entry n k [] f eight four alone some few = absurd (omega (arith, some))
+function_few globals starts entry n k (b ∷ bs) f eight four alone some few =
+    let all = b ∷ bs in
+    let heads = heads_of all in
+    let leaf = is_leaf all in
+    let place = place_in k all in
+    let naming = slice_get (namings all (unnamed all)) 0 in
+    let small = later_head leaf f n (namings all (unnamed all)) in
+    let lead = lead_few globals starts entry place leaf heads f n eight four alone naming (place 0) in
+    let fits = (most globals starts entry place leaf heads f n eight four alone leaf).1 in
+    let rest = rest_few globals starts entry place leaf heads f n eight four alone (λ j. small j) (k + lead_in heads + count heads b.exit) 0 bs
+    (λ i c e. few (suc i) c e) in
+    let first = one_few globals starts entry place leaf heads f n eight four alone (k + lead_in heads) 0 b bs (2 * length bs)
+    (14 * length bs + 8 * insts_in bs) (few 0 b refl) rest in
+    let m = length-append (lead_blocks leaf (heads 0) f n (place 0)) (blocks_from globals starts entry place leaf heads f n (k + lead_in heads) 0 all) in
+    let w = words_append (lead_blocks leaf (heads 0) f n (place 0)) (blocks_from globals starts entry place leaf heads f n (k + lead_in heads) 0 all) in
+    record { blocks_few = omega (arith, lead.0, first.blocks_few, m); words_few = omega (arith, lead.1, fits, first.words_few, w) }
 
 -- ---- the program
 
 record IsFew (func : RFunc) (f : Frame) : Type 0 where
   eight : length f.saved.items ≤ 8
   four : func.parameters ≤ 4
+  alone : is_leaf func.blocks.items ≡ false → f.copies.items ≡ []
+  some : 0 < length func.blocks.items
   few : (i : ℕ) (b : RBlock) → slice_get func.blocks.items i ≡ Some b → HasFewArguments b.exit
 
 functions_few : (globals : List RGlobal) (starts entry : ℕ → ℕ) (k : ℕ) (funcs : List RFunc) (fs : List Frame)
@@ -171,7 +178,7 @@ functions_few globals starts entry k [] fs each = omega arith
 functions_few globals starts entry k (func ∷ funcs) [] each = omega arith
 functions_few globals starts entry k (func ∷ funcs) (f ∷ fs) each =
     let is = each 0 func f refl refl in
-    let one = function_few globals starts entry func.parameters k func.blocks.items f is.eight is.four is.few in
+    let one = function_few globals starts entry func.parameters k func.blocks.items f is.eight is.four is.alone is.some is.few in
     let cut = total_few (function_blocks globals starts entry k func f) in
     let rest = functions_few globals starts entry (k + function_size func) funcs fs (λ i g h eg eh. each (suc i) g h eg eh) in
     let sum = total_append (function_blocks globals starts entry k func f) (functions_blocks globals starts entry (k + function_size func) funcs fs) in
@@ -186,6 +193,8 @@ each_counted h ok places =
     let few = functions_few p.globals starts entry 2 p.functions h.frames.items (λ i func f there at. record {
       eight = placed_eight func f (places.by i func f there at);
       four = (emittable.by i func there).parameters;
+      alone = are_alone h places i func f there at;
+      some = (all_at (IsFunction p.functions (length p.globals)) p.functions i func ok.functions there).entry;
       few = λ b block e. ((emittable.by i func there).blocks.by b block e).exit;
     }) in
     let long = length-split_from 512 (first_piece_of 512 (program_blocks h)) 0 (program_blocks h) in

@@ -15,7 +15,10 @@ use Rattle.mips_homes.specs.Hints.{blocks_reach}
 use Rattle.mips_homes.specs.Places.{some_slot, IsPlacedFor, ArePlaced}
 use Rattle.mips_homes.proofs.Located.{PassesIn, within, seated, case_of, places_long_as, placed_apart, still_was, still_few, has_slot, same_register}
 use Rattle.mips_emit.specs.declared.limits.TheConstants.{FRAME_BYTES}
-use Rattle.mips_emit.specs.Frames.{IsHome, IsFrame}
+use Rattle.mips_homes.specs.Passing.{passing_registers}
+use Rattle.mips_homes.specs.Copies.{is_leaf, unused, copies_onto}
+use Rattle.mips_emit.specs.Frames.{IsHome, AreCopies, frame_size, IsFrame}
+use Rattle.mips_select.proofs.Copied.{copies_are}
 use Rattle.mips_split.proofs.Places.{block_there}
 use Rattle.mips_select.specs.declared.limits.TheConstants.{STACK_BYTES}
 use Rattle.mips_select.specs.Emittable.{AreReachable}
@@ -49,6 +52,12 @@ few (suc m) (suc n) f below apart =
     g_apart i j li lj true false eb ec e = (let no : n ≡ j = apart n j (omega arith) (omega (arith, lj)) e in absurd (omega (arith, no, lj)))
     g_apart i j li lj false true eb ec e = (let no : i ≡ n = apart i n (omega (arith, li)) (omega arith) e in absurd (omega (arith, no, li)))
     g_apart i j li lj false false eb ec e = apart i j (omega (arith, li)) (omega (arith, lj)) e
+
+-- the frame of a choice is within reach
+record IsFitting (most : ℕ) (f : Frame) : Type 0 where
+  by : (x : ℕ) (h : Home) → slice_get f.homes.items x ≡ Some h → IsHome f.slots h
+  saved : (j r : ℕ) → slice_get f.saved.items j ≡ Some r → (16 ≤ r) × (r < 24)
+  fits : frame_size f ≤ most
 
 module _ (func : RFunc) (f : Frame) (ok : IsChoice func f) where
   saved_at : (j : ℕ) → j < length f.saved.items → slice_get f.saved.items j ≡ Some (slice_index f.saved.items j)
@@ -103,9 +112,9 @@ module _ (func : RFunc) (f : Frame) (ok : IsChoice func f) where
           homes in
           ok.saved_once i j (slice_index f.saved.items i) (saved_at i li) (saved_at j lj ∙ ap Some same)
 
-  pub is_frame : (most : ℕ) → frame_bytes_of func ≤ most → IsFrame most f
+  is_frame : (most : ℕ) → frame_bytes_of func ≤ most → IsFitting most f
   is_frame most le = record {
-    homes = record { by = λ x h there. home x h there; apart = ok.apart };
+    by = λ x h there. home x h there;
     saved = saved_range;
     fits = (let eight = saved_eight in let all = saved_few in let slots = ok.slots in omega (arith, eight, all, slots, le));
   }
@@ -125,14 +134,18 @@ placed_eight func f q =
 -- with local pseudo-registers in passing registers
 placed_is_frame : (func : RFunc) (f : Frame) → IsPlacedFor func f → (most : ℕ) → frame_bytes_of func ≤ most → IsFrame most f
 placed_is_frame func f q most le = record {
-  homes = record { by = λ x h there. home x h there (case_of func q.choice f q.is q.placed x h there); apart = placed_apart func q.choice f q.is q.placed };
+  homes = record {
+    copied = subst (λ copies. AreCopies copies f.homes.items) (sym (q.placed).copies) (copies_are func.blocks.items f.homes.items);
+    by = λ x h there. home x h there (case_of func q.choice f q.is q.placed x h there);
+    apart = placed_apart func q.choice f q.is q.placed;
+  };
   saved = λ j r there. (let w = still_was f.homes.items (q.choice).saved.items j r (sym (ap (λ l. slice_get l j) (q.placed).saved) ∙ there) in
       was.saved w.0 r w.1);
   fits = (let fits = was.fits in let few = still_few f.homes.items (q.choice).saved.items in let same = ap length (q.placed).saved in
       let slots = slots_few in omega (arith, fits, few, same, slots));
 }
   where
-    was : IsFrame most q.choice
+    was : IsFitting most q.choice
     was = is_frame func q.choice q.is most le
 
     slots_few : f.slots ≤ (q.choice).slots
@@ -146,10 +159,17 @@ placed_is_frame func f q most le = record {
         → IsHome f.slots h
     home x (Reg r) there e = within func q.choice f q.is q.placed x r there
     home x (Slot k) there (inl e) =
-        let lt = (was.homes).by x (Slot k) e in
+        let lt = was.by x (Slot k) e in
         let slots : f.slots ≡ (q.choice).slots = (q.placed).slots ∙ ap (λ c. if c then (q.choice).slots else 0) (has_slot f.homes.items x k there) in
         omega (arith, lt, slots)
     home x (Slot k) there (inr p) = (let range = within func q.choice f q.is q.placed x p.r (there ∙ ap Some p.is) in subst (IsHome f.slots) (sym p.is) range)
+
+-- a function with calls has no copies
+pub are_alone : (h : Homed) → ArePlaced h → (g : ℕ) (func : RFunc) (f : Frame) → slice_get (h.rtl.now).functions g ≡ Some func
+    → slice_get h.frames.items g ≡ Some f → is_leaf func.blocks.items ≡ false → f.copies.items ≡ []
+are_alone h ok g func f there at calls =
+    ((ok.by g func f there at).placed).copies
+    ∙ ap (λ b. if b then copies_onto (unused f.homes.items passing_registers) [] f.homes.items else []) calls
 
 -- ---- the largest one
 

@@ -12,7 +12,8 @@ use Rattle.mips_isa.specs.Starting.{stack_base, stack_end, is_mapped}
 use Rattle.rtl.specs.declared.block.RGlobal.{RGlobal}
 use Rattle.mips_homes.specs.HomedRun.{Run, Failed, read_home, read_homes, write_homes, is_in}
 use Rattle.mips_homes.specs.declared.homed.Home.{Home}
-use Rattle.mips_emit.specs.declared.location.Location.TheVariants.{Held, InSlot}
+use Rattle.mips_homes.specs.declared.homed.SlotCopy.{SlotCopy}
+use Rattle.mips_emit.specs.declared.location.Location.TheVariants.{Held, InSlot, Copied}
 use Rattle.mips_emit.specs.declared.location.Source.TheVariants.{Zero, Word}
 use Rattle.mips_emit.specs.Frames.{AreFrameHomes}
 use Rattle.mips_emit.specs.declared.location.Location.{Location}
@@ -179,81 +180,84 @@ module _ (most total : ℕ) (gs : List RGlobal) (starts : ℕ → ℕ) where
       by : (l : Option Location) (q v : ℕ) → registers q ≡ Some v → hide (lazy_none l (λ q. None)) registers q ≡ Some v
       by None q v is = is
       by (Some (InSlot k)) q v is = is
+      by (Some (Copied r k)) q v is = is
       by (Some (Held r)) q v is = held (nat_eq q r) q v is
 
-  pub record Arguments (registers : Places) (g : Arrays) (fs : List Stored) (s : State) (hs : List Home) (facts : Facts) (t : ℕ) (xs vs : List ℕ) : Type 0 where
+  pub record Arguments (registers : Places) (g : Arrays) (fs : List Stored) (s : State) (copies : List SlotCopy) (hs : List Home) (facts : Facts) (t : ℕ) (xs vs : List ℕ) : Type 0 where
     pub regs : ℕ → ℕ
-    pub runs : RunsTo (arguments_code (locations_of hs) facts t xs) s (record s { regs = regs })
+    pub runs : RunsTo (arguments_code (locations_of copies hs) facts t xs) s (record s { regs = regs })
     pub here : (j v : ℕ) → slice_get vs j ≡ Some v → regs (t + j) ≡ v
     pub others : (r : ℕ) → r < t → regs r ≡ s.regs r
     pub stands : Stands most total gs starts registers g fs (record s { regs = regs })
 
   -- arguments as operands, before the first is moved
-  abbrev pub AllDenote : ℕ → State → List Home → Facts → (xs vs : List ℕ) → Type 0
-  AllDenote count s hs facts [] [] = Unit {0}
-  AllDenote count s hs facts [] (v ∷ vs) = ⊥
-  AllDenote count s hs facts (x ∷ xs) [] = ⊥
-  AllDenote count s hs facts (x ∷ xs) (v ∷ vs) = Denotes count s (operand (locations_of hs) facts x) v × AllDenote count s hs facts xs vs
+  abbrev pub AllDenote : ℕ → State → List SlotCopy → List Home → Facts → (xs vs : List ℕ) → Type 0
+  AllDenote count s copies hs facts [] [] = Unit {0}
+  AllDenote count s copies hs facts [] (v ∷ vs) = ⊥
+  AllDenote count s copies hs facts (x ∷ xs) [] = ⊥
+  AllDenote count s copies hs facts (x ∷ xs) (v ∷ vs) = Denotes count s (operand (locations_of copies hs) facts x) v × AllDenote count s copies hs facts xs vs
 
   pub all_denote : (registers : Places) (g : Arrays) (top : Stored) (fs : List Stored) (s : State) (hs : List Home) (facts : Facts) (xs vs : List ℕ)
-      → AreFrameHomes hs top.count → IsKnown (known_in facts) hs registers top.slots → IsLazy facts.lazy registers
+      → AreFrameHomes hs top.copies top.count → IsKnown (known_in facts) hs registers top.slots → IsLazy facts.lazy registers
       → Stands most total gs starts (hide facts.lazy registers) g (top ∷ fs) s → read_homes hs registers top.slots xs ≡ Some vs
-      → AllDenote top.count s hs facts xs vs
+      → AllDenote top.count s top.copies hs facts xs vs
   all_denote registers g top fs s hs facts [] [] ok k lz h e = tt
   all_denote registers g top fs s hs facts [] (v ∷ vs) ok k lz h e = (let none : [] ≡ v ∷ vs = same_Some [] (v ∷ vs) e in let no = ap length none in absurd (omega (arith, no)))
   all_denote registers g top fs s hs facts (x ∷ xs) vs ok k lz h e =
       first (λ ws rest. all_denote registers g top fs s hs facts xs ws ok k lz h rest) (read_home hs registers top.slots x) refl e
     where
       Again : Type 0
-      Again = (ws : List ℕ) → read_homes hs registers top.slots xs ≡ Some ws → AllDenote top.count s hs facts xs ws
+      Again = (ws : List ℕ) → read_homes hs registers top.slots xs ≡ Some ws → AllDenote top.count s top.copies hs facts xs ws
 
       first : Again → (o : Option ℕ) → read_home hs registers top.slots x ≡ o → chain o
-          (λ v. chain (read_homes hs registers top.slots xs) (λ vs. Some (v ∷ vs))) ≡ Some vs → AllDenote top.count s hs facts (x ∷ xs) vs
+          (λ v. chain (read_homes hs registers top.slots xs) (λ vs. Some (v ∷ vs))) ≡ Some vs → AllDenote top.count s top.copies hs facts (x ∷ xs) vs
       first again None there e = absurd (none-some vs e)
       first again (Some v) there e = second (read_homes hs registers top.slots xs) refl e
         where
           second : (o : Option (List ℕ)) → read_homes hs registers top.slots xs ≡ o → chain o (λ vs. Some (v ∷ vs)) ≡ Some vs
-              → AllDenote top.count s hs facts (x ∷ xs) vs
+              → AllDenote top.count s top.copies hs facts (x ∷ xs) vs
           second None rest e = absurd (none-some vs e)
-          second (Some ws) rest e = subst (AllDenote top.count s hs facts (x ∷ xs)) (same_Some (v ∷ ws) vs e) (
+          second (Some ws) rest e = subst (AllDenote top.count s top.copies hs facts (x ∷ xs)) (same_Some (v ∷ ws) vs e) (
             (operand_means most total gs starts facts.lazy registers g top fs s h lz (known_in facts) hs x v ok k there).0,
             again ws rest,
           )
 
   -- an operand isn't in a register below its own
-  operand_apart : (l : Option Location) (z k : Option ℕ) (t t' : ℕ) → t < t' → IsBehind l t' → IsApart t (lazy_source z (source k l))
-  operand_apart l (Some w) k t t' lt behind = by (nat_eq w 0)
+  operand_apart : (l : Option Location) (z k : Option ℕ) (t t' : ℕ) → t < t' → t < 8 → IsBehind l t' → IsApart t (lazy_source z (source k l))
+  operand_apart l (Some w) k t t' lt few behind = by (nat_eq w 0)
     where
       by : (b : Bool) → IsApart t (if b then Zero else Word w)
       by true = tt
       by false = tt
-  operand_apart None None None t t' lt behind = tt
-  operand_apart (Some (Held r)) None None t t' lt behind = λ e. absurd (omega (arith, lt, behind, e))
-  operand_apart (Some (InSlot j)) None None t t' lt behind = tt
-  operand_apart l None (Some w) t t' lt behind = by l behind (nat_eq w 0)
+  operand_apart None None None t t' lt few behind = tt
+  operand_apart (Some (Held r)) None None t t' lt few behind = λ e. absurd (omega (arith, lt, behind, e))
+  operand_apart (Some (InSlot j)) None None t t' lt few behind = tt
+  operand_apart (Some (Copied r j)) None None t t' lt few behind = λ e. absurd (omega (arith, few, behind, e))
+  operand_apart l None (Some w) t t' lt few behind = by l behind (nat_eq w 0)
     where
       by : (l : Option Location) → IsBehind l t' → (b : Bool) → IsApart t (if b then Zero else known_source w l)
       by l behind true = tt
       by None behind false = tt
       by (Some (Held r)) behind false = λ e. absurd (omega (arith, lt, behind, e))
       by (Some (InSlot j)) behind false = tt
+      by (Some (Copied r j)) behind false = λ e. absurd (omega (arith, few, behind, e))
 
   -- the arguments that are left, after a register below theirs was written
-  still_denote : (count t v : ℕ) (s : State) (f : ℕ → ℕ) (hs : List Home) (facts : Facts) (t' : ℕ) (xs vs : List ℕ) → t < t' → t < 8
-      → AreInOrder (locations_of hs) t' xs → ((q : ℕ) → q ≢ t → f q ≡ s.regs q) → AllDenote count s hs facts xs vs
-      → AllDenote count (record s { regs = f }) hs facts xs vs
-  still_denote count t v s f hs facts t' [] [] lt few order same d = tt
-  still_denote count t v s f hs facts t' [] (w ∷ ws) lt few order same d = absurd d
-  still_denote count t v s f hs facts t' (x ∷ xs) [] lt few order same d = absurd d
-  still_denote count t v s f hs facts t' (x ∷ xs) (w ∷ ws) lt few order same d = (
-    denotes_kept count t w (operand (locations_of hs) facts x) s f (λ e. absurd (omega (arith, few, e)))
-        (operand_apart (locations_of hs x) (lazy_at facts.lazy (locations_of hs x)) (known_in facts x) t t' lt order.0) same d.0,
-    still_denote count t v s f hs facts (suc t') xs ws (omega (arith, lt)) few order.1 same d.1,
+  still_denote : (count t v : ℕ) (s : State) (f : ℕ → ℕ) (copies : List SlotCopy) (hs : List Home) (facts : Facts) (t' : ℕ) (xs vs : List ℕ) → t < t' → t < 8
+      → AreInOrder (locations_of copies hs) t' xs → ((q : ℕ) → q ≢ t → f q ≡ s.regs q) → AllDenote count s copies hs facts xs vs
+      → AllDenote count (record s { regs = f }) copies hs facts xs vs
+  still_denote count t v s f copies hs facts t' [] [] lt few order same d = tt
+  still_denote count t v s f copies hs facts t' [] (w ∷ ws) lt few order same d = absurd d
+  still_denote count t v s f copies hs facts t' (x ∷ xs) [] lt few order same d = absurd d
+  still_denote count t v s f copies hs facts t' (x ∷ xs) (w ∷ ws) lt few order same d = (
+    denotes_kept count t w (operand (locations_of copies hs) facts x) s f (λ e. absurd (omega (arith, few, e)))
+        (operand_apart (locations_of copies hs x) (lazy_at facts.lazy (locations_of copies hs x)) (known_in facts x) t t' lt few order.0) same d.0,
+    still_denote count t v s f copies hs facts (suc t') xs ws (omega (arith, lt)) few order.1 same d.1,
   )
 
   pub arguments : (registers : Places) (g : Arrays) (top : Stored) (fs : List Stored) (s : State) (hs : List Home) (facts : Facts) (t : ℕ) (xs vs : List ℕ)
-      → ((q w : ℕ) → registers q ≡ Some w → 8 ≤ q) → 0 < t → t + length xs ≤ 8 → AreInOrder (locations_of hs) t xs
-      → AllDenote top.count s hs facts xs vs → Stands most total gs starts registers g (top ∷ fs) s → Arguments registers g (top ∷ fs) s hs facts t xs vs
+      → ((q w : ℕ) → registers q ≡ Some w → 8 ≤ q) → 0 < t → t + length xs ≤ 8 → AreInOrder (locations_of top.copies hs) t xs
+      → AllDenote top.count s top.copies hs facts xs vs → Stands most total gs starts registers g (top ∷ fs) s → Arguments registers g (top ∷ fs) s top.copies hs facts t xs vs
   arguments registers g top fs s hs facts t [] [] above low high order d h = record {
     regs = s.regs;
     runs = runs_none s;
@@ -264,10 +268,10 @@ module _ (most total : ℕ) (gs : List RGlobal) (starts : ℕ → ℕ) where
   arguments registers g top fs s hs facts t [] (v ∷ vs) above low high order d h = absurd d
   arguments registers g top fs s hs facts t (x ∷ xs) [] above low high order d h = absurd d
   arguments registers g top fs s hs facts t (x ∷ xs) (v ∷ vs) above low high order d h =
-      let one = carries most total gs starts registers g top fs s h t v (operand (locations_of hs) facts x)
+      let one = carries most total gs starts registers g top fs s h t v (operand (locations_of top.copies hs) facts x)
       (record { low = low; high = omega (arith, high) }) d.0 in
-      let st = passing_kept most total gs starts registers g (top ∷ fs) (carry t (operand (locations_of hs) facts x)) s t v above (omega (arith, high)) one h in
-      let left = still_denote top.count t v s one.regs hs facts (suc t) xs vs (omega arith) (omega (arith, high)) order.1 one.others d.1 in
+      let st = passing_kept most total gs starts registers g (top ∷ fs) (carry t (operand (locations_of top.copies hs) facts x)) s t v above (omega (arith, high)) one h in
+      let left = still_denote top.count t v s one.regs top.copies hs facts (suc t) xs vs (omega arith) (omega (arith, high)) order.1 one.others d.1 in
       let more = arguments registers g top fs (record s { regs = one.regs }) hs facts (suc t) xs vs above (omega arith) (omega (arith, high)) order.1 left st in
       record {
         regs = more.regs;
@@ -277,7 +281,7 @@ module _ (most total : ℕ) (gs : List RGlobal) (starts : ℕ → ℕ) where
         stands = more.stands;
       }
     where
-      by : (f : ℕ → ℕ) → f t ≡ v → (more : Arguments registers g (top ∷ fs) (record s { regs = f }) hs facts (suc t) xs vs) → (j w : ℕ)
+      by : (f : ℕ → ℕ) → f t ≡ v → (more : Arguments registers g (top ∷ fs) (record s { regs = f }) top.copies hs facts (suc t) xs vs) → (j w : ℕ)
           → slice_get (v ∷ vs) j ≡ Some w → more.regs (t + j) ≡ w
       by f here more zero w at =
           let place : t + 0 ≡ t = omega arith in
@@ -292,12 +296,13 @@ module _ (most total : ℕ) (gs : List RGlobal) (starts : ℕ → ℕ) where
   elsewhere (Some (Held r)) t q lt few (inl le) = λ e. absurd (omega (arith, lt, le, e))
   elsewhere (Some (Held r)) t q lt few (inr le) = λ e. absurd (omega (arith, few, le, e))
   elsewhere (Some (InSlot k)) t q lt few clear = tt
+  elsewhere (Some (Copied r k)) t q lt few le = λ e. absurd (omega (arith, few, le, e))
 
   module _ (g : Arrays) (fs : List Stored) (hs : List Home) (P : Run → Type 0) (out : List ℕ) (failed : P (Failed out)) where
-    pub parameters : (vs : List ℕ) (t x : ℕ) (registers : Places) (top : Stored) (s : State) (go : Places → Places → Run) → AreFrameHomes hs top.count
-        → 1 < t → t + length vs ≤ 8 → AreClear (locations_of hs) t x (length vs) → ((j v : ℕ) → slice_get vs j ≡ Some v → s.regs (t + j) ≡ v)
+    pub parameters : (vs : List ℕ) (t x : ℕ) (registers : Places) (top : Stored) (s : State) (go : Places → Places → Run) → AreFrameHomes hs top.copies top.count
+        → 1 < t → t + length vs ≤ 8 → AreClear (locations_of top.copies hs) t x (length vs) → ((j v : ℕ) → slice_get vs j ≡ Some v → s.regs (t + j) ≡ v)
         → Stands most total gs starts registers g (top ∷ fs) s
-        → ((registers' slots' : Places) (s' : State) → RunsTo (parameters_code (locations_of hs) t x (length vs)) s s'
+        → ((registers' slots' : Places) (s' : State) → RunsTo (parameters_code (locations_of top.copies hs) t x (length vs)) s s'
         → Stands most total gs starts registers' g (with_slots top slots' ∷ fs) s' → P (go registers' slots'))
         → P (write_homes hs registers top.slots x vs out go)
     parameters [] t x registers top s go ok low high clear here h f = f registers top.slots s (runs_none s) h
@@ -309,7 +314,7 @@ module _ (most total : ℕ) (gs : List RGlobal) (starts : ℕ → ℕ) where
         (λ r1 slots1 s1 e1 h1 same.
         parameters vs (suc t) (suc x) r1 (with_slots top slots1) s1 go ok (omega (arith, low)) (omega (arith, high)) clear.1
         (λ j w there. (let next : suc t + j ≡ t + suc j = omega arith in let within = slice_get_within vs j w there in
-        same (suc t + j) (omega (arith, high, within)) (elsewhere (locations_of hs x) t (suc t + j) (omega arith) (omega (arith, high, within)) clear.0)
+        same (suc t + j) (omega (arith, high, within)) (elsewhere (locations_of top.copies hs x) t (suc t + j) (omega arith) (omega (arith, high, within)) clear.0)
         ∙ ap s.regs next) ∙ here (suc j) w there)
-        (all_shown (location_at (slice_get hs x)) r1 g (with_slots top slots1 ∷ fs) s1 h1)
+        (all_shown (location_at top.copies (slice_get hs x)) r1 g (with_slots top slots1 ∷ fs) s1 h1)
         (λ r2 slots2 s2 e2 h2. f r2 slots2 s2 (runs_then e1 e2) h2))

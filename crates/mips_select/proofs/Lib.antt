@@ -12,6 +12,7 @@ mod Simulation
 mod Theorem
 mod Lists
 mod Placed
+mod Copied
 mod FrameSizes
 mod Correct
 mod Selecting

@@ -19,7 +19,8 @@ use Rattle.mips_homes.specs.declared.homed.Frame.{Frame}
 use Rattle.mips_homes.specs.declared.homed.Homed.{Homed}
 use Rattle.mips_emit.specs.declared.limits.TheConstants.{FRAME_BYTES}
 use Rattle.mips_emit.specs.Frames.{IsFrame}
-use Rattle.mips_emit.specs.Locations.{location_at, locations}
+use Rattle.mips_homes.specs.Copies.{copy_of}
+use Rattle.mips_emit.specs.Locations.{in_frame, location_at, locations}
 use Rattle.mips_split.proofs.Places.{HasAt, has_head, has_tail, has_front, has_back}
 use Rattle.mips_select.specs.declared.heads.Naming.{Naming}
 use Rattle.mips_select.specs.declared.heads.Naming.TheVariants.{Unnamed, Called, Jumped}
@@ -47,30 +48,38 @@ AreSeated func f = (x r : ℕ) → slice_get f.homes.items x ≡ Some (Reg r)
     → (8 ≤ r) ⊎ ((blocks_reach func.blocks.items x + 3 ≤ r) × (x < func.parameters → r ≡ 4 + x))
 
 -- so no argument and no parameter is lost
-in_order : (f : Frame) (t : ℕ) (xs : List ℕ) → ((j x r : ℕ) → slice_get xs j ≡ Some x → slice_get f.homes.items x ≡ Some (Reg r) → t + j ≤ r)
+in_order : (f : Frame) (t : ℕ) (xs : List ℕ) → ((k r : ℕ) → copy_of f.copies.items k ≡ Some r → (8 ≤ r) × (r < 28)) → ((j x r : ℕ) → slice_get xs j ≡ Some x → slice_get f.homes.items x ≡ Some (Reg r) → t + j ≤ r)
     → AreInOrder (locations f) t xs
-in_order f t [] behind = tt
-in_order f t (x ∷ xs) behind =
-    (here (slice_get f.homes.items x) refl, in_order f (suc t) xs (λ j y r e there. (let le = behind (suc j) y r e there in omega (arith, le))))
+in_order f t [] range behind = tt
+in_order f t (x ∷ xs) range behind =
+    (here (slice_get f.homes.items x) refl, in_order f (suc t) xs range (λ j y r e there. (let le = behind (suc j) y r e there in omega (arith, le))))
   where
-    here : (o : Option Home) → slice_get f.homes.items x ≡ o → IsBehind (location_at o) t
+    slot : (k : ℕ) (c : Option ℕ) → copy_of f.copies.items k ≡ c → IsBehind (Some (in_frame k c)) t
+    slot k None e = tt
+    slot k (Some r) e = (range k r e).0
+
+    here : (o : Option Home) → slice_get f.homes.items x ≡ o → IsBehind (location_at f.copies.items o) t
     here None e = tt
     here (Some (Reg r)) e = (let le = behind 0 x r refl e in omega (arith, le))
-    here (Some (Slot k)) e = tt
+    here (Some (Slot k)) e = slot k (copy_of f.copies.items k) refl
 
-are_clear : (func : RFunc) (f : Frame) → AreSeated func f → (t x n : ℕ) → t ≡ 4 + x → x + n ≤ func.parameters → AreClear (locations f) t x n
-are_clear func f seated t x zero at few = tt
-are_clear func f seated t x (suc n) at few =
-    (here (slice_get f.homes.items x) refl, are_clear func f seated (suc t) (suc x) n (omega (arith, at)) (omega (arith, few)))
+are_clear : (func : RFunc) (f : Frame) → ((k r : ℕ) → copy_of f.copies.items k ≡ Some r → (8 ≤ r) × (r < 28)) → AreSeated func f → (t x n : ℕ) → t ≡ 4 + x → x + n ≤ func.parameters → AreClear (locations f) t x n
+are_clear func f range seated t x zero at few = tt
+are_clear func f range seated t x (suc n) at few =
+    (here (slice_get f.homes.items x) refl, are_clear func f range seated (suc t) (suc x) n (omega (arith, at)) (omega (arith, few)))
   where
     comes : (r : ℕ) → (8 ≤ r) ⊎ ((blocks_reach func.blocks.items x + 3 ≤ r) × (x < func.parameters → r ≡ 4 + x)) → (r ≤ t) ⊎ (8 ≤ r)
     comes r (inl high) = inr high
     comes r (inr is) = (let same = is.1 (omega (arith, few)) in inl (omega (arith, same, at)))
 
-    here : (o : Option Home) → slice_get f.homes.items x ≡ o → IsClear (location_at o) t
+    slot : (k : ℕ) (c : Option ℕ) → copy_of f.copies.items k ≡ c → IsClear (Some (in_frame k c)) t
+    slot k None e = tt
+    slot k (Some r) e = (range k r e).0
+
+    here : (o : Option Home) → slice_get f.homes.items x ≡ o → IsClear (location_at f.copies.items o) t
     here None e = tt
     here (Some (Reg r)) e = comes r (seated x r e)
-    here (Some (Slot k)) e = tt
+    here (Some (Slot k)) e = slot k (copy_of f.copies.items k) refl
 
 abbrev IsOrdered : Frame → RExit → Type 0
 IsOrdered f (Call g xs d next) = AreInOrder (locations f) 4 xs.items
@@ -79,24 +88,25 @@ IsOrdered f (Branch c t e) = Unit {0}
 IsOrdered f (Return o) = Unit {0}
 IsOrdered f (Out x next) = Unit {0}
 
-ordered : (functions : List RFunc) (globals blocks : ℕ) (func : RFunc) (f : Frame) (x : RExit) → AreSeated func f
+ordered : (functions : List RFunc) (globals blocks : ℕ) (func : RFunc) (f : Frame) (x : RExit)
+    → ((k r : ℕ) → copy_of f.copies.items k ≡ Some r → (8 ≤ r) × (r < 28)) → AreSeated func f
     → ((y : ℕ) → exit_reach x y ≤ blocks_reach func.blocks.items y) → All (programs.IsFunction functions globals) functions
     → programs.IsExit functions blocks x → IsOrdered f x
-ordered functions globals blocks func f (Call g xs d next) seated covers all ok =
+ordered functions globals blocks func f (Call g xs d next) range seated covers all ok =
     let callee = ok.0 in
     let few = (all_at (programs.IsFunction functions globals) functions g callee.callee all callee.there).parameters in
     let takes = callee.takes in
-    in_order f 4 xs.items (λ j y r at there. (let lt = slice_get_within xs.items j y at in
+    in_order f 4 xs.items range (λ j y r at there. (let lt = slice_get_within xs.items j y at in
     behind j y r (omega (arith, lt, few, takes)) (reach_covers 0 xs.items j y at) (covers y) (seated y r there)))
   where
     behind : (j y r : ℕ) → j < 4 → 0 + suc j ≤ reach_from 0 xs.items y → reach_from 0 xs.items y ≤ blocks_reach func.blocks.items y
         → (8 ≤ r) ⊎ ((blocks_reach func.blocks.items y + 3 ≤ r) × (y < func.parameters → r ≡ 4 + y)) → 4 + j ≤ r
     behind j y r lt one two (inl high) = omega (arith, lt, high)
     behind j y r lt one two (inr is) = (let le = is.0 in omega (arith, one, two, le))
-ordered functions globals blocks func f (Goto b) seated covers all ok = tt
-ordered functions globals blocks func f (Branch c t e) seated covers all ok = tt
-ordered functions globals blocks func f (Return o) seated covers all ok = tt
-ordered functions globals blocks func f (Out x next) seated covers all ok = tt
+ordered functions globals blocks func f (Goto b) range seated covers all ok = tt
+ordered functions globals blocks func f (Branch c t e) range seated covers all ok = tt
+ordered functions globals blocks func f (Return o) range seated covers all ok = tt
+ordered functions globals blocks func f (Out x next) range seated covers all ok = tt
 
 -- a leaf has no call
 abbrev IsFine : Bool → RExit → Type 0
@@ -237,8 +247,10 @@ no_take bs d e = go (slice_get (namings bs (unnamed bs)) 0) e
 
 pub program_selected : (h : Homed) (depth most : ℕ) → IsProgram h.rtl.now → ((g : ℕ) (f : Frame) → slice_get h.frames.items g ≡ Some f → IsFrame most f)
     → ((g : ℕ) (func : RFunc) (f : Frame) → slice_get (h.rtl.now).functions g ≡ Some func → slice_get h.frames.items g ≡ Some f → AreSeated func f)
+    → ((g : ℕ) (func : RFunc) (f : Frame) → slice_get (h.rtl.now).functions g ≡ Some func → slice_get h.frames.items g ≡ Some f
+    → is_leaf func.blocks.items ≡ false → f.copies.items ≡ [])
     → most ≤ FRAME_BYTES → depth * most ≤ STACK_BYTES → IsSelected h depth (program_blocks h)
-program_selected h depth most ok frames seated small room = record {
+program_selected h depth most ok frames seated alone small room = record {
   entry = entry_of (h.rtl.now).functions;
   most = most;
   program = ok;
@@ -260,7 +272,7 @@ program_selected h depth most ok frames seated small room = record {
       let front = lead_length leaf (heads 0) f n (place_in k bs 0) in
       let is = all_at (programs.IsFunction p.functions (length p.globals)) p.functions g func ok.functions there_f in
       let exit_ordered : (b : ℕ) (block : RBlock) → slice_get bs b ≡ Some block → IsOrdered f block.exit = λ b block at.
-      ordered p.functions (length p.globals) (length bs) func f block.exit (seated g func f there_f f_there) (λ y. blocks_cover bs b block y at) ok.functions
+      ordered p.functions (length p.globals) (length bs) func f block.exit (((frames g f f_there).homes).copied).range (seated g func f there_f f_there) (λ y. blocks_cover bs b block y at) ok.functions
       (all_at (programs.IsBlock p.functions (length p.globals) (length bs)) bs b block is.blocks at).exit in
       let behind_lead : k + length lead ≡ k + lead_in heads = omega (arith, front) in
       let has' : HasAt whole (k + lead_in heads) more = subst (λ m. HasAt whole m more) behind_lead (has_back whole k lead more has) in
@@ -278,7 +290,8 @@ program_selected h depth most ok frames seated small room = record {
         };
         frame = frames g f f_there;
         parameters = is.parameters;
-        clear = are_clear func f (seated g func f there_f f_there) 4 0 n refl (omega arith);
+        clear = are_clear func f (((frames g f f_there).homes).copied).range (seated g func f there_f f_there) 4 0 n refl (omega arith);
+        alone = alone g func f there_f f_there;
       };
   small = small;
   room = room;

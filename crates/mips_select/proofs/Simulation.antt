@@ -144,7 +144,7 @@ module _ (h : Homed) (depth : ℕ) (blocks : List BlockParts) (ok : IsSelected h
     pub code : CodeAt leaf a.frame place head (known_after (locations a.frame) a.code.insts facts) (last_after (locations a.frame) (asked_of a.code.exit) facts a.code.insts last) number a.code.exit
     pub is_known : IsKnown (known_in facts) a.frame.homes.items r a.slots
     pub is_lazy : IsLazy facts.lazy r
-    pub is_last : IsLast last a.frame.homes.items r a.slots state
+    pub is_last : IsLast last a.frame.copies.items a.frame.homes.items r a.slots state
     pub placed : Placed leaf a.frame place head a.blocks
     pub frame : IsFrame ok.most a.frame
     pub stands : Stand (hide facts.lazy r) g (stored_frame leaf a.frame a.slots a.aside link ∷ frames_of ws below) state
@@ -230,7 +230,7 @@ module _ (h : Homed) (depth : ℕ) (blocks : List BlockParts) (ok : IsSelected h
           is_known = nothing_known a.frame.homes.items r slots;
           is_lazy = none_lazy r;
           is_last =
-              none_last a.frame.homes.items r slots s;
+              none_last a.frame.copies.items a.frame.homes.items r slots s;
           placed = placed;
           frame = frame;
           stands = st;
@@ -245,15 +245,15 @@ module _ (h : Homed) (depth : ℕ) (blocks : List BlockParts) (ok : IsSelected h
   pub entered : (p : Point) (f : ℕ) (func : RFunc) (frame : Frame) → IsFunction blocks gs starts ok.entry ok.most f func frame
       → (r : Places) (arrays : Arrays) (ws : List Activation) (link : ℕ) (result_to : Option ℕ) (below : List ℕ) (vs : List ℕ) (s : State) (out : List ℕ)
       → ((form : BlockParts) → slice_get blocks (ok.entry f) ≡ Some form → Lead 1 p (At (ok.entry f) form.insts s out))
-      → Stand r arrays (frames_of ws below) s → s.regs 31 ≡ link → ((j v : ℕ) → slice_get vs j ≡ Some v → s.regs (4 + j) ≡ v) → length vs ≡ func.parameters
+      → Stand r arrays (frames_of ws below) s → ((q : ℕ) → is_lasting q ≡ false → r q ≡ None) → s.regs 31 ≡ link → ((j v : ℕ) → slice_get vs j ≡ Some v → s.regs (4 + j) ≡ v) → length vs ≡ func.parameters
       → suc (length ws) * ok.most ≤ STACK_BYTES → Waits link result_to ws below
       → Reach 1 p (write_homes frame.homes.items (registers_at_entry frame.saved.items r) unset_places 0 vs out (λ r' s'.
       state_at_block 0 (new_activation func.blocks.items frame s' r result_to) r' s' ws arrays out))
-  entered p f func frame is r arrays ws link result_to below vs s out enter st is_link here count deep waits =
+  entered p f func frame is r arrays ws link result_to below vs s out enter st passing is_link here count deep waits =
       let few = is.parameters in
       let room : stack_base + ok.most ≤ s.regs 29 = enough_room (s.regs 29) (length ws)
       (stack_room ok.most (word_at s) (s.regs 29) (frames_of ws below) st.stack) (as_deep link result_to ws below waits) in
-      let e = enters ok.most total gs starts ok.small r arrays (frames_of ws below) s is.leaf frame link is.frame is_link room st in
+      let e = enters ok.most total gs starts ok.small r arrays (frames_of ws below) s is.leaf frame link is.frame is_link is.alone passing room st in
       parameters ok.most total gs starts arrays (frames_of ws below) frame.homes.items (λ run. Reach 1 p run) out tt vs 4 0
       (registers_at_entry frame.saved.items r) (stored_frame is.leaf frame unset_places r link) e.to
       (λ r' s'. state_at_block 0 (new_activation func.blocks.items frame s' r result_to) r' s' ws arrays out)
@@ -368,7 +368,7 @@ module _ (h : Homed) (depth : ℕ) (blocks : List BlockParts) (ok : IsSelected h
               c.exit) (sym m.code) (code_at false w.frame m.place m.head m.next m.first m.block m.at);
           is_known = nothing_known w.frame.homes.items r' slots';
           is_lazy = none_lazy r';
-          is_last = none_last w.frame.homes.items r' slots' s';
+          is_last = none_last w.frame.copies.items w.frame.homes.items r' slots' s';
           placed = m.placed;
           frame = m.frame;
           stands = st';
@@ -424,7 +424,7 @@ module _ (h : Homed) (depth : ℕ) (blocks : List BlockParts) (ok : IsSelected h
           (frames_of ws ls) s st (none_lazy (registers_at_return a.frame.saved.items a.aside r)) (λ run. Reach 1 p run) again w.frame.homes.items x v 2 out
           (omega arith) two (subst (λ v. v < 2 ^ 32) two ((st.words).regs 2)) (frame_homes ok.most w.frame m.frame) tt
           (λ r' slots' s' e st' same. f r' slots' s' e
-          (all_shown ok.most total gs starts (location_at (slice_get w.frame.homes.items x)) r' g (stored_frame false w.frame slots' w.aside l ∷ frames_of ws ls) s' st')))
+          (all_shown ok.most total gs starts (location_at w.frame.copies.items (slice_get w.frame.homes.items x)) r' g (stored_frame false w.frame slots' w.aside l ∷ frames_of ws ls) s' st')))
 
   -- behind a block only lasting registers are known, and none of them has a word to come
   settled : (lazy r : Places) (g : Arrays) (fs : List Stored) (s : State) → IsLazy lazy r → Stand (hide lazy r) g fs s → Stand (lasting r) g fs s
@@ -439,7 +439,7 @@ module _ (h : Homed) (depth : ℕ) (blocks : List BlockParts) (ok : IsSelected h
   exits : (leaf : Bool) (x : RExit) (facts : Facts) (last : Last) (a : Activation) (k : ℕ) (link : ℕ) (below : List ℕ) (place : ℕ → ℕ) (head : ℕ
       → List Plain) (ws : List Activation) (r : Places) (g : Arrays) (out : List ℕ) (s : State)
       → CodeAt leaf a.frame place head facts last k x → IsKnown (known_in facts) a.frame.homes.items r a.slots → IsLazy facts.lazy r
-      → IsLast last a.frame.homes.items r a.slots s → Placed leaf a.frame place head a.blocks → IsFrame ok.most a.frame
+      → IsLast last a.frame.copies.items a.frame.homes.items r a.slots s → Placed leaf a.frame place head a.blocks → IsFrame ok.most a.frame
       → Waits link a.result_to ws below → Stand (hide facts.lazy r) g (stored_frame leaf a.frame a.slots a.aside link ∷ frames_of ws below) s
       → Reach 1 (At k (exit_code leaf a.frame facts last x) s out) (state_after_exit h depth x a r ws g out)
   exits leaf (Goto b) facts last a k link below place head ws r g out s c kn lz new placed frame waits st =
@@ -615,7 +615,7 @@ module _ (h : Homed) (depth : ℕ) (blocks : List BlockParts) (ok : IsSelected h
       (entered (At k [] s1 out) f func callee is (lasting r) g (waiting block ∷ ws) (links k) result_to (link ∷ below) vs s2 out
       (λ form there. departs k c.form (E.Call (ok.entry f) c.next) s1 out (At (ok.entry f) form.insts s2 out) c.there c.exit
       (λ n. ap (λ o. outcome_at_block (ok.entry f) o (items blocks links n) s2 out) there))
-      st2 (put_here s1.regs 31 (links k) (record { low = omega arith; high = omega arith }))
+      st2 (λ q passes. ap (λ b. if b then r q else None) passes) (put_here s1.regs 31 (links k) (record { low = omega arith; high = omega arith }))
       (λ j v there. (let low = slice_get_within vs j v there in put_other s1.regs 31 (links k) (4 + j) (omega (arith, low, count, few))) ∙ args.here j v there)
       count (room_for (suc (length ws)) (ltb-true (length (waiting block ∷ ws)) depth deep)) (resumes, waits)))))))
     where
@@ -658,7 +658,7 @@ module _ (h : Homed) (depth : ℕ) (blocks : List BlockParts) (ok : IsSelected h
 
       -- the match where some instructions are left
       matched : (is : List RInst) (facts : Facts) (last : Last) (r' slots' : Places) (g' : Arrays) (s' : State) → Coded is facts last
-          → IsKnown (known_in facts) a.frame.homes.items r' slots' → IsLazy facts.lazy r' → IsLast last a.frame.homes.items r' slots' s'
+          → IsKnown (known_in facts) a.frame.homes.items r' slots' → IsLazy facts.lazy r' → IsLast last a.frame.copies.items a.frame.homes.items r' slots' s'
           → Stand (hide facts.lazy r') g' (stored_frame m.leaf a.frame slots' a.aside m.link ∷ frames_of ws m.below) s'
           → Match r' (at_code a slots' (record { insts = is; exit = a.code.exit })) ws g' out (at is facts last s')
       matched is facts last r' slots' g' s' code known lazy fresh stands = record {

@@ -151,7 +151,7 @@ module _ (h : Homed) (depth : ℕ) (blocks : List BlockParts) (ok : IsSelected h
       (entered h depth blocks ok links tells (At 0 [] s0 []) (h.rtl.now).main func frame is unset_places arrays [] (links 0) None [] [] s1 []
       (λ form there. departs h depth blocks ok links tells 0 (start_block (ok.entry (h.rtl.now).main)) (E.Call (ok.entry (h.rtl.now).main) 1) s0 []
       (At (ok.entry (h.rtl.now).main) form.insts s1 []) ok.start refl (λ n. ap
-      (λ o. outcome_at_block (ok.entry (h.rtl.now).main) o (items blocks links n) s1 []) there)) st1
+      (λ o. outcome_at_block (ok.entry (h.rtl.now).main) o (items blocks links n) s1 []) there)) st1 (λ q passes. refl)
       (put_here s0.regs 31 (links 0) (record { low = omega arith; high = omega arith })) (λ j v at. absurd (none-some v at)) (sym none)
       (omega (arith, small)) found))))
     where

@@ -7,6 +7,7 @@ use Rattle.rtl.specs.declared.instruction.RExit.{RExit}
 use Rattle.rtl.specs.declared.instruction.RExit.TheVariants.{Goto, Branch, Call, Return, Out}
 use Rattle.rtl.specs.declared.block.RBlock.{RBlock}
 use Rattle.rtl.specs.declared.block.RFunc.{RFunc}
+pub use Rattle.mips_homes.specs.Copies.{calls_none, is_leaf}
 use Rattle.mips_select.specs.declared.heads.Naming.{Naming}
 use Rattle.mips_select.specs.declared.heads.Naming.TheVariants.{Unnamed, Called, Jumped}
 use Rattle.mips_select.specs.declared.heads.Head.{Head}
@@ -80,15 +81,3 @@ lead_of (Takes d) = 1
 -- how many blocks stand before those of the blocks of a function
 abbrev pub lead_in : (ℕ → Head) → ℕ
 lead_in heads = lead_of (heads 0)
-
--- a function without calls
-abbrev pub calls_none : RExit → Bool
-calls_none (Call g xs d next) = false
-calls_none (Goto b) = true
-calls_none (Branch c t e) = true
-calls_none (Return o) = true
-calls_none (Out x next) = true
-
-abbrev pub is_leaf : List RBlock → Bool
-is_leaf [] = true
-is_leaf (b ∷ bs) = if calls_none b.exit then is_leaf bs else false

@@ -17,7 +17,7 @@ use Rattle.mips_homes.specs.declared.homed.Homed.{Homed}
 use Rattle.mips_homes.specs.HomedRun.{homed_run}
 use Rattle.mips_emit.specs.declared.limits.TheConstants.{FRAME_BYTES}
 use Rattle.mips_emit.specs.declared.location.Location.{Location}
-use Rattle.mips_emit.specs.declared.location.Location.TheVariants.{Held, InSlot}
+use Rattle.mips_emit.specs.declared.location.Location.TheVariants.{Held, InSlot, Copied}
 use Rattle.mips_emit.specs.Locations.{Locations, locations}
 use Rattle.mips_emit.specs.Frames.{IsFrame}
 use Rattle.mips_select.specs.declared.limits.TheConstants.{STACK_BYTES}
@@ -29,6 +29,7 @@ abbrev pub IsBehind : Option Location → ℕ → Type 0
 IsBehind None t = Unit {0}
 IsBehind (Some (Held r)) t = t ≤ r
 IsBehind (Some (InSlot k)) t = Unit {0}
+IsBehind (Some (Copied r k)) t = 8 ≤ r
 
 abbrev pub AreInOrder : Locations → (t : ℕ) → List ℕ → Type 0
 AreInOrder at t [] = Unit {0}
@@ -39,6 +40,7 @@ abbrev pub IsClear : Option Location → ℕ → Type 0
 IsClear None t = Unit {0}
 IsClear (Some (Held r)) t = (r ≤ t) ⊎ (8 ≤ r)
 IsClear (Some (InSlot k)) t = Unit {0}
+IsClear (Some (Copied r k)) t = 8 ≤ r
 
 abbrev pub AreClear : Locations → (t x n : ℕ) → Type 0
 AreClear at t x zero = Unit {0}
@@ -50,8 +52,8 @@ KeepHomedRuns h depth blocks =
     (r : ℕ) → (homed_run h depth r).end ≢ Wrong → ComesTo blocks (start_state (padded_bytes (h.rtl.now).globals)) r (homed_run h depth r)
 
 module _ (blocks : List BlockParts) (globals : List RGlobal) (starts entry : ℕ → ℕ) where
-  -- what an exit needs: a leaf has no calls, and no argument is lost before it is moved; a block to which it goes has no head, but that a
-  -- call may go on at a block that begins with the store of its result
+  -- what an exit needs: a leaf has no calls, and no argument is lost before it is moved; a block to which it goes has no head. But a call
+  -- may go on at a block that begins with the store of its result
   abbrev pub GoesOn : Bool → Frame → (place : ℕ → ℕ) → (head : ℕ → List Plain) → ℕ → RExit → Type 0
   GoesOn leaf f place head n (Call g xs d next) =
       ((leaf ≡ false) × AreInOrder (locations f) 4 xs.items)
@@ -83,6 +85,7 @@ module _ (blocks : List BlockParts) (globals : List RGlobal) (starts entry : ℕ
     pub frame : IsFrame most f
     pub parameters : func.parameters ≤ MAX_PARAMETERS
     pub clear : AreClear (locations f) 4 0 func.parameters
+    pub alone : leaf ≡ false → f.copies.items ≡ []
 
 pub record IsSelected (h : Homed) (depth : ℕ) (blocks : List BlockParts) : Type 0 where
   pub entry : ℕ → ℕ

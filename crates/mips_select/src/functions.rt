@@ -10,14 +10,14 @@ ghost use Rattle.mips_select.specs.Whole.{size_of_blocks, blocks_from, lead_bloc
 ghost use Rattle.mips_select.specs.Whole.{functions_blocks};
 
 use crate::code::emit_block;
-use crate::heads::{Head, Naming, count_of, head_at, is_leaf, lead_in};
+use crate::heads::{Head, Naming, count_of, head_at, lead_in};
 use crate::numbers::{number, number_at, number_blocks};
 use crate::plan::{Linkage, Plan};
 use crate::prologue::emit_prologue;
 use crate::push::push;
 use mblock::{BlockNumber, Exit};
 use mips_emit::{Knowledge, emit_constant};
-use mips_homes::Frame;
+use mips_homes::{Frame, is_leaf};
 use mips_isa::{AluOp, DATA_BASE, Plain, Reg};
 use mips_split::LongBlock;
 use rtl::{RBlock, RFunc};

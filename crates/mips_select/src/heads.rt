@@ -1,8 +1,7 @@
 // What blocks begin with, from how the exits of their function name them.
 
 ghost use Rattle.std.specs.Prelude.{◌≡◌, ◌≤◌, IfOk, slice_set, slice_get};
-ghost use Rattle.mips_select.specs.Heads.{naming_with_call, note, namings, unnamed, head_at, heads_in, resumes, count, lead_in, calls_none};
-ghost use Rattle.mips_select.specs.Heads.{is_leaf};
+ghost use Rattle.mips_select.specs.Heads.{naming_with_call, note, namings, unnamed, head_at, heads_in, resumes, count, lead_in};
 
 use rtl::{RBlock, RExit, Register};
 use std::alloc::{AllocError, Global};
@@ -161,30 +160,5 @@ pub(crate) fn lead_in(table: &[Naming]) -> usize
         Head::Bare => 1,
         Head::Enters => 0,
         Head::Takes(_) => 1,
-    }
-}
-
-// Whether a function calls none.
-pub(crate) fn is_leaf(blocks: &[RBlock]) -> bool
-    ensures { result ≡ is_leaf blocks.now }
-{
-    for b in blocks {
-        if !calls_none(&b.exit) {
-            return false;
-        }
-    }
-    true
-}
-
-// Whether an exit is no call.
-fn calls_none(exit: &RExit) -> bool
-    ensures { result ≡ calls_none exit.now }
-{
-    match exit {
-        RExit::Call(_, _, _, _) => false,
-        RExit::Goto(_) => true,
-        RExit::Branch(_, _, _) => true,
-        RExit::Return(_) => true,
-        RExit::Out(_, _) => true,
     }
 }

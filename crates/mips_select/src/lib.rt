@@ -9,7 +9,7 @@
 //!
 //! | Tested | In |
 //! |---|---|
-//! | units compared with RTL's runs: 40 live variables, long blocks, recursion, bytes, limits | test_calls |
+//! | images compared with RTL's runs: each operator on known and loaded words, long blocks, 128 locals, bytes | tests/builds, tests/c |
 #![tactic(auto)]
 
 mod code;

@@ -1,6 +1,7 @@
-use Rattle.std.proofs.Common.{◌≡◌, drop}
-use Rattle.mips_emit.specs.Locations.{known_of}
+use Rattle.std.proofs.Common.{◌≡◌, ◌-◌, take}
+use Rattle.std.specs.Prelude.{reverse}
+use Rattle.mips_emit.specs.Locations.{known_of, newest}
 use Rattle.mips_emit.proofs.facts.known_of.Given as goal
 
-abbrev pub invariant-loop-fact : goal.invariant-loop-fact
-invariant-loop-fact l = known_of (drop l.fact-index l.facts) l.x ≡ known_of l.facts l.x
+abbrev pub invariant-loop-i : goal.invariant-loop-i
+invariant-loop-i l = known_of (take (l.i - l.forgotten) (reverse (take l.i l.facts))) l.x ≡ known_of (newest l.facts) l.x
