@@ -170,8 +170,8 @@ impl Builder {
 }
 
 impl Graph {
-    // The words from a node to the end, those behind it having theirs. A load whose register the exit touches is two words
-    // before it.
+    // The words from a node to the end, those behind it having theirs. A load whose register the exit's first word touches is
+    // two words before it.
     fn height_of(&self, node: &Node, touched: Resources) -> u32 {
         let mut height = NEXT;
         if node.inst.action().is_load() && Resources::written_by(&node.inst).meets(touched) {
@@ -192,7 +192,7 @@ impl Graph {
 
     // The height of each node, from the last one on.
     fn set_heights(&mut self, exit: &Exit) {
-        let touched = Resources::touched_by_exit(exit);
+        let touched = Resources::touched_at_exit(exit);
         for k in (0..self.nodes.len()).rev() {
             let height = match self.nodes.get(k) {
                 Some(node) => self.height_of(node, touched),

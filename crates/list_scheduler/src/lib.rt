@@ -1,6 +1,7 @@
-//! A list scheduler (Gibbons and Muchnick, 1986), not trusted: a caller checks each order against its block. `Hostile` proposes wrong ones.
+//! A list scheduler (Gibbons and Muchnick, 1986), and delay slots filled with an instruction of the block (Gross and Hennessy, 1982). Neither
+//! is trusted: a caller checks each order against its block. `Hostile` proposes wrong ones.
 //!
-//! Contract: `Reorder`, `ListOrder`
+//! Contract: `Reorder`, `ListOrder`, `FilledOrder`
 //! - A `Reorder` returns, and its answer is one that its `proposes` allows.
 //! - For the schedulers here that is any order.
 //!
@@ -12,16 +13,20 @@
 mod access;
 mod accesses;
 mod chains;
+mod filled;
 mod graph;
 mod hostile;
 mod list;
 mod needs;
 mod reorder;
 mod resources;
+mod slot;
 mod uses;
 
 pub use access::{Access, access_of};
+pub use filled::FilledOrder;
 pub use hostile::Hostile;
 pub use list::ListOrder;
 pub use reorder::Reorder;
 pub use resources::Resources;
+pub use slot::fill;

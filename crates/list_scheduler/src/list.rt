@@ -118,12 +118,12 @@ fn place(
     Ok(inst)
 }
 
-// A Nop behind a load whose register the exit touches.
+// A Nop behind a load whose register the exit's first word touches.
 fn finish(list: &mut Vec<Plain>, exit: &Exit) -> Result<(), AllocError> {
     let waits = match list.last() {
         Some(inst) => {
             inst.action().is_load()
-                && Resources::written_by(inst).meets(Resources::touched_by_exit(exit))
+                && Resources::written_by(inst).meets(Resources::touched_at_exit(exit))
         }
         None => false,
     };

@@ -141,8 +141,12 @@ impl Resources {
         }
     }
 
-    /// What an exit reads before its slot runs, and what its first word writes.
-    pub fn touched_by_exit(exit: &Exit) -> Resources {
-        Resources::read_by_exit(exit).union(Resources::written_by_exit(exit))
+    /// What the first word of an exit reads and writes. That of Out and Halt puts a number into register 2; register 4 is
+    /// read a word later.
+    pub fn touched_at_exit(exit: &Exit) -> Resources {
+        match exit {
+            Exit::Out(_) | Exit::Halt => Resources::written_by_exit(exit),
+            _ => Resources::read_by_exit(exit).union(Resources::written_by_exit(exit)),
+        }
     }
 }

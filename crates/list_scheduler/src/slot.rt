@@ -1,5 +1,6 @@
 //! One slot is filled.
-use list_scheduler::{Access, Resources, access_of};
+use crate::access::{Access, access_of};
+use crate::resources::Resources;
 use mblock::{Block, Order, clean};
 use mips_isa::Plain;
 use std::alloc::{AllocError, Global};

@@ -1,8 +1,8 @@
 //! A scheduler whose slots are filled.
 ghost use Rattle.std.specs.Prelude.{⊤};
 
+use crate::reorder::Reorder;
 use crate::slot::fill;
-use list_scheduler::Reorder;
 use mblock::{Block, Order};
 use std::alloc::{AllocError, Global};
 
