@@ -4,3 +4,4 @@ pub mod Places
 pub mod Portions
 pub mod Rules
 pub mod Views
+pub mod UnitViews

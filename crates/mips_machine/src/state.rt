@@ -43,6 +43,7 @@ impl Load {
 }
 
 // The value of an operator, 0 where it has none.
+#[inline(always)]
 #[tactic(auto, unfolding(words::specs::Operators::op_value))]
 fn value(op: Operator, a: u32, b: u32) -> u32
     ensures { result ≡ op_value op a b }
@@ -83,6 +84,7 @@ impl Registers {
         }
     }
 
+    #[inline(always)]
     fn operand(&self, o: Operand) -> u32
         ensures { result ≡ operand (state_of self.now) o }
     {
@@ -93,6 +95,7 @@ impl Registers {
     }
 
     /// The address of a load or a store.
+    #[inline(always)]
     #[tactic(auto, unfolding(words::specs::Operators::op_value))]
     pub fn address(&self, base: Reg, offset: u32) -> u32
         ensures { result ≡ address (state_of self.now) base offset }
@@ -101,6 +104,7 @@ impl Registers {
     }
 
     // The rule that forbids to read or write at an address.
+    #[inline(always)]
     fn address_broken(&self, width: Width, a: u32) -> Option<Rule>
         ensures rule { result ≡ address_rule_of width a (state_of self.now) }
         ensures open { result ≡ None → is_open width (state_of self.now).mapped a ≡ true }
@@ -115,6 +119,7 @@ impl Registers {
     }
 
     // The word or the byte at an address.
+    #[inline(always)]
     pub(crate) fn load(&self, width: Width, a: u32) -> Result<u32, Rule>
         ensures rule { address_rule_of width a (state_of self.now) ≡ rule_told result }
         ensures word { IfOk result (λ w. w ≡ load_at width (state_of self.now).mapped (state_of self.now).memory a) }
@@ -126,6 +131,7 @@ impl Registers {
     }
 
     // Writes the word or its low byte at an address.
+    #[inline(always)]
     fn store(&mut self, width: Width, a: u32, word: u32) -> Result<(), Rule>
         ensures rule { address_rule_of width a (state_of self.old) ≡ rule_told result }
         ensures state { IfOk result (λ u. state_of self.new
@@ -152,6 +158,7 @@ impl Registers {
 
     /// Does an action, and gives what it loads. Where it breaks one of the rules on divisions and addresses, it isn't done and
     /// the least such rule is told.
+    #[inline(always)]
     pub fn perform(&mut self, action: Action) -> Result<Load, Rule>
         ensures rule { place_rule_of action (state_of self.old) ≡ rule_told result }
         ensures state { IfOk result (λ load. state_of self.new ≡ shown_state action (state_of self.old)) }

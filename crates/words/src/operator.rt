@@ -69,6 +69,7 @@ pub(crate) fn shift_keeping_sign(a: u32, amount: u32) -> u32
 
 impl Operator {
     /// The value at two words; None exactly for a division without one.
+    #[inline(always)]
     pub fn value(self, a: u32, b: u32) -> Option<u32>
         ensures { result ≡ value_of self a b }
     {

@@ -7,11 +7,11 @@ ghost use Rattle.mblock.specs.UnitRuns.{Next, item, unit_run, return_block_of, o
 ghost use Rattle.mblock.specs.declared.exit.Exit.TheVariants.{Out};
 ghost use Rattle.mblock.specs.BlockMeaning.{exit_effect};
 ghost use Rattle.mips_machine.specs.Views.{state_of};
-ghost use Rattle.unit_machine.specs.UnitViews.{link_of, ends_or, comes_to};
+ghost use Rattle.mips_machine.specs.UnitViews.{link_of, ends_or, comes_to};
 
+use crate::registers::Registers;
 use mblock::{Block, BlockNumber, Exit, Unit};
 use mips_isa::{Action, Plain, Reg};
-use mips_machine::Registers;
 use runs::{End, Ran};
 use std::alloc::{AllocError, Global};
 

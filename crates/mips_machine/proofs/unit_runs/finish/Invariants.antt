@@ -1,6 +1,6 @@
 use Rattle.std.proofs.Common.{◌≡◌, ◌-◌}
-use Rattle.unit_machine.specs.UnitViews.{comes_to}
-use Rattle.unit_machine.proofs.unit_runs.finish.Given as goal
+use Rattle.mips_machine.specs.UnitViews.{comes_to}
+use Rattle.mips_machine.proofs.unit_runs.finish.Given as goal
 
 -- what is left of the items gives the whole
 abbrev pub invariant-loop : goal.invariant-loop

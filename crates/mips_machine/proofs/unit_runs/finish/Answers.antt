@@ -1,7 +1,7 @@
 use Rattle.std.proofs.Common.{ap, ◌∙◌}
-use Rattle.unit_machine.specs.UnitViews.{ends_or, comes_to}
-use Rattle.unit_machine.proofs.UnitSteps.{unit_goes_on, unit_ends}
-use Rattle.unit_machine.proofs.unit_runs.finish.Goals as goal
+use Rattle.mips_machine.specs.UnitViews.{ends_or, comes_to}
+use Rattle.mips_machine.proofs.UnitSteps.{unit_goes_on, unit_ends}
+use Rattle.mips_machine.proofs.unit_runs.finish.Goals as goal
 
 pub returns-in-Some : goal.returns-in-Some
 returns-in-Some c =
