@@ -99,8 +99,8 @@ impl<'t> Names<'t> {
     }
 
     fn spelling(&self, name: Identifier) -> &'t str {
-        let rest = self.text.get(name.at..).unwrap_or(b"");
-        let bytes = rest.get(..name.length).unwrap_or(b"");
+        let rest = self.text.get(name.at as usize..).unwrap_or(b"");
+        let bytes = rest.get(..name.length as usize).unwrap_or(b"");
         str::from_utf8(bytes).unwrap_or("?")
     }
 

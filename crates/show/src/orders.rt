@@ -5,9 +5,8 @@ ghost use Rattle.term_table.specs.Passes.{IsOf};
 
 use block_text::{ExitLine, Writer, put_insts, put_order};
 use block_validator::{Place, Verdict, validate};
-use check_report::put_found;
-use delay_filler::FilledOrder;
-use list_scheduler::{ListOrder, Reorder};
+use check_command::put_found;
+use list_scheduler::{FilledOrder, ListOrder, Reorder};
 use mblock::{Block, Order, plain};
 use std::alloc::{AllocError, Global};
 use term_table::{Pass, TermTable};

@@ -3,13 +3,14 @@
 ghost use Rattle.std.specs.Prelude.{◌≡◌, [], true, Some, IfErr, IfOk, OnErr, OnOk};
 ghost use Rattle.std.specs.Io.KnownBytes.{Appends};
 ghost use Rattle.check_command.specs.Texts.{IsCheckStatus};
-ghost use Rattle.check_report.specs.Command.{IsMore};
-ghost use Rattle.check_report.specs.Line.{IsAnswerLine, IsChecked, line_text, said_status, said_text};
+ghost use Rattle.check_command.specs.Explained.{IsMore};
+ghost use Rattle.check_command.specs.FileLine.{IsAnswerLine, IsChecked, line_text, said_status, said_text};
 ghost use Rattle.commands.specs.Requests.{Request, WasRefused};
 ghost use Rattle.commands.specs.Requests.Request.{Read};
 
+use crate::command::{status_of, tell_check};
 use crate::explain::explanation_lines;
-use check_command::{CheckAnswer, CheckFault, check, status_of, tell_check};
+use crate::verdicts::{CheckAnswer, CheckFault, check};
 use commands::{Complaints, Files, HostFault, Output, print_name, read_file, tell, tell_unread};
 use std::alloc::{AllocError, Global};
 use std::{fmt, io};

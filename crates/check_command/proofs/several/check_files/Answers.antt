@@ -1,9 +1,9 @@
 use Rattle.std.proofs.Common.{◌+◌, List, ℕ, [], Bor, map, length, take, drop, append-nil, None, inl, inr, refl, rules, subst, sym}
 use Rattle.std.proofs.lemmas.List.{length-map, take-append-drop}
-use Rattle.check_report.specs.Line.{AreChecked, totals_said}
-use Rattle.check_report.specs.declared.totals.Totals.{Totals}
-use Rattle.check_report.proofs.EachFile.{all_checked, broken, next_at, none_yet, unprinted, whole}
-use Rattle.check_report.proofs.several.check_files.Goals as goal
+use Rattle.check_command.specs.FileLine.{AreChecked, totals_said}
+use Rattle.check_command.specs.declared.totals.Totals.{Totals}
+use Rattle.check_command.proofs.EachFile.{all_checked, broken, next_at, none_yet, unprinted, whole}
+use Rattle.check_command.proofs.several.check_files.Goals as goal
 
 pub loop-name-init : goal.loop-name-init
 loop-name-init g c = (

@@ -3,10 +3,10 @@ use Rattle.std.proofs.Common.{◌≡◌, ℕ, suc, ◌+◌, ◌<◌, ◌^◌, Li
 use Rattle.std.proofs.Math.Nat.{min-eq_left}
 use Rattle.check_command.specs.declared.verdicts.CheckAnswer.{CheckAnswer}
 use Rattle.check_command.specs.declared.verdicts.CheckAnswer.TheVariants as answers
-use Rattle.check_report.specs.Line.{keep_answer, keep_fault, keep_file, kept_after, one_more}
-use Rattle.check_report.specs.Several.{CheckedFile, count_answer, count_fault, count_file, no_totals, status_of, totals_after, totals_of, worse}
-use Rattle.check_report.specs.Several.CheckedFile.{Answered, Unexplained, Faulty, Unread}
-use Rattle.check_report.specs.declared.totals.Totals.{Totals}
+use Rattle.check_command.specs.FileLine.{keep_answer, keep_fault, keep_file, kept_after, one_more}
+use Rattle.check_command.specs.Several.{CheckedFile, count_answer, count_fault, count_file, no_totals, status_of, totals_after, totals_of, worse}
+use Rattle.check_command.specs.Several.CheckedFile.{Answered, Unexplained, Faulty, Unread}
+use Rattle.check_command.specs.declared.totals.Totals.{Totals}
 
 -- each count has room for so many more
 record HasRoom (t : Totals) (n : ℕ) : Type 0 where

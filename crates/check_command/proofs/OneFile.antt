@@ -10,10 +10,10 @@ use Rattle.check_command.specs.Checks.{IsAnswerTo, IsCheckFault}
 use Rattle.check_command.specs.Texts.{check_fault_text}
 use Rattle.check_command.specs.declared.verdicts.CheckAnswer.{CheckAnswer}
 use Rattle.check_command.specs.declared.verdicts.CheckFault.{CheckFault}
-use Rattle.check_report.specs.Line.{IsAnswerLine, IsChecked, said_text, totals_said}
-use Rattle.check_report.specs.Several.CheckedFile.{Answered, Faulty, Unexplained, Unread}
-use Rattle.check_report.specs.declared.said.FileLine.{FileLine}
-use Rattle.check_report.specs.declared.said.Said.TheVariants as says
+use Rattle.check_command.specs.FileLine.{IsAnswerLine, IsChecked, said_text, totals_said}
+use Rattle.check_command.specs.Several.CheckedFile.{Answered, Faulty, Unexplained, Unread}
+use Rattle.check_command.specs.declared.said.FileLine.{FileLine}
+use Rattle.check_command.specs.declared.said.Said.TheVariants as says
 
 module _ {E : Type 0} (tells : E → List ℕ → E → Type 0) (d e : E) (explain : Bool) (name : List ℕ) (line : FileLine) where
   pub answer_checked : (text : List ℕ) (answer : CheckAnswer) → IsAnswerTo text answer → IsAnswerLine tells d e explain answer line

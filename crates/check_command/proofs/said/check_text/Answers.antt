@@ -1,5 +1,5 @@
-use Rattle.check_report.proofs.OneFile.{answer_checked, fault_checked}
-use Rattle.check_report.proofs.said.check_text.Goals as goal
+use Rattle.check_command.proofs.OneFile.{answer_checked, fault_checked}
+use Rattle.check_command.proofs.said.check_text.Goals as goal
 
 pub returns-in-Ok : goal.returns-in-Ok
 returns-in-Ok g c =

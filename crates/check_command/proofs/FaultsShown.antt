@@ -8,8 +8,8 @@ use Rattle.commands.specs.declared.fault.HostFault.TheVariants.{NoMemory}
 use Rattle.commands.proofs.Shown.{host_fault}
 use Rattle.check_command.specs.Texts.{check_fault_text}
 use Rattle.check_command.proofs.Shown.{check_fault}
-use Rattle.check_report.specs.Several.{CheckedFile, IsRight, faults_of}
-use Rattle.check_report.specs.Several.CheckedFile.{Answered, Unexplained, Faulty, Unread}
+use Rattle.check_command.specs.Several.{CheckedFile, IsRight, faults_of}
+use Rattle.check_command.specs.Several.CheckedFile.{Answered, Unexplained, Faulty, Unread}
 
 one : (line : List ℕ) → All IsShown line → All (All IsShown) (line ∷ [])
 one line shown = All-cons (All IsShown) line [] shown (All-nil (All IsShown))

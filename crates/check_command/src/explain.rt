@@ -3,12 +3,12 @@
 ghost use Rattle.std.specs.Prelude.{All, IfOk};
 ghost use Rattle.block_text.specs.Shown.{IsShown};
 
+use crate::verdicts::{CheckAnswer, LONGEST};
 use crate::witness::put_found;
 use block_text::{
     ExitLine, ReadFault, WIDTH, Writer, block_place_text, order_place_text, page_of, put_insts,
 };
 use block_validator::Place;
-use check_command::{CheckAnswer, LONGEST};
 use check_text::{PairFault, Text, read};
 use mblock::{Block, Exit, Order, Unclean};
 use mips_isa::{Action, Plain, Reg};

@@ -5,14 +5,14 @@ use Rattle.std.specs.Io.KnownBytes.{Appends}
 use Rattle.commands.specs.Requests.{Request, TellsLine}
 use Rattle.commands.specs.Texts.{host_fault_text, shown_name}
 use Rattle.commands.specs.declared.fault.HostFault.TheVariants.{NoMemory}
-use Rattle.check_report.specs.Command.{IsMore}
-use Rattle.check_report.specs.Several.{CheckedFile, IsRight, faults_of, lines_of, more_of, name_of, no_totals, request_of, said_of, status_of, worse}
-use Rattle.check_report.specs.Several.CheckedFile.{Answered, Unexplained, Faulty, Unread}
-use Rattle.check_report.specs.declared.totals.Totals.{Totals}
+use Rattle.check_command.specs.Explained.{IsMore}
+use Rattle.check_command.specs.Several.{CheckedFile, IsRight, faults_of, lines_of, more_of, name_of, no_totals, request_of, said_of, status_of, worse}
+use Rattle.check_command.specs.Several.CheckedFile.{Answered, Unexplained, Faulty, Unread}
+use Rattle.check_command.specs.declared.totals.Totals.{Totals}
 use Rattle.check_command.specs.Texts.{answer_text, check_fault_text, exit_status}
-use Rattle.check_report.specs.declared.said.Said.{Said}
-use Rattle.check_report.specs.declared.said.Said.TheVariants as says
-use Rattle.check_report.specs.declared.said.FileLine.{FileLine}
+use Rattle.check_command.specs.declared.said.Said.{Said}
+use Rattle.check_command.specs.declared.said.Said.TheVariants as says
+use Rattle.check_command.specs.declared.said.FileLine.{FileLine}
 use Rattle.check_command.specs.declared.verdicts.CheckAnswer.{CheckAnswer}
 use Rattle.check_command.specs.declared.verdicts.CheckAnswer.TheVariants as answers
 

@@ -2,12 +2,12 @@
 
 ghost use Rattle.std.specs.Prelude.{◌≡◌, Some};
 ghost use Rattle.check_command.specs.Texts.{IsCheckStatus};
-ghost use Rattle.check_report.specs.Line.{keep_fault, totals_said};
-ghost use Rattle.check_report.specs.Several.{no_totals, totals_text, worse};
-ghost use Rattle.check_report.specs.declared.said.Said.TheVariants as says;
+ghost use Rattle.check_command.specs.FileLine.{keep_fault, totals_said};
+ghost use Rattle.check_command.specs.Several.{no_totals, totals_text, worse};
+ghost use Rattle.check_command.specs.declared.said.Said.TheVariants as says;
 
 use crate::said::Said;
-use check_command::CheckAnswer;
+use crate::verdicts::CheckAnswer;
 use std::fmt;
 
 /// How many files have which answer, and the worst status.

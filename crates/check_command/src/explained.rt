@@ -3,12 +3,13 @@
 ghost use Rattle.std.specs.Prelude.{◌≡◌, ◌≢◌, [], ◌∷◌, ◌++◌, IfOk, IfErr, OnErr, OnOk};
 ghost use Rattle.std.specs.Io.KnownBytes.{Appends};
 ghost use Rattle.check_command.specs.Texts.{IsCheckStatus, answer_text, exit_status};
-ghost use Rattle.check_report.specs.Command.{TookExplained};
+ghost use Rattle.check_command.specs.Explained.{TookExplained};
 ghost use Rattle.commands.specs.Requests.{IsSent, LeavesOutput, WasRefused};
 ghost use Rattle.commands.specs.declared.fault.HostFault.TheVariants.{CannotRead};
 
+use crate::command::{AnswerPrinter, status_of};
 use crate::explain::explanation_lines;
-use check_command::{AnswerPrinter, CheckAnswer, status_of};
+use crate::verdicts::CheckAnswer;
 use commands::{HostFault, Output};
 use std::alloc::Global;
 use std::io;
@@ -52,7 +53,7 @@ pub fn print_explained<W: Output>(
 pub struct ExplainedAnswer;
 
 impl AnswerPrinter for ExplainedAnswer {
-    ghost use Rattle.check_report.specs.Command.{PrintsExplained};
+    ghost use Rattle.check_command.specs.Explained.{PrintsExplained};
 
     ghost prints = { PrintsExplained };
 

@@ -1,7 +1,7 @@
 use Rattle.std.proofs.Common.{map, take}
 use Rattle.check_command.specs.Texts.{IsCheckStatus}
-use Rattle.check_report.specs.Line.{AreChecked}
-use Rattle.check_report.proofs.several.check_files.Given as goal
+use Rattle.check_command.specs.FileLine.{AreChecked}
+use Rattle.check_command.proofs.several.check_files.Given as goal
 
 abbrev pub invariant-loop-name : goal.invariant-loop-name
 invariant-loop-name g l =

@@ -1,6 +1,6 @@
 use Rattle.commands.specs.Requests.Request.{NotRead}
-use Rattle.check_report.proofs.OneFile.{unread_checked}
-use Rattle.check_report.proofs.said.check_one.Goals as goal
+use Rattle.check_command.proofs.OneFile.{unread_checked}
+use Rattle.check_command.proofs.said.check_one.Goals as goal
 
 pub returns-in-Err : goal.returns-in-Err
 returns-in-Err g c =

@@ -2,7 +2,7 @@
 
 ghost use Rattle.std.specs.Prelude.{◌≡◌, ◌⊎◌, map};
 ghost use Rattle.check_command.specs.Texts.{IsCheckStatus};
-ghost use Rattle.check_report.specs.Several.{BreaksOff, ChecksAll};
+ghost use Rattle.check_command.specs.Several.{BreaksOff, ChecksAll};
 ghost use Rattle.commands.specs.Requests.{Asks, IsSent};
 
 use crate::said::{check_one, print_line};

@@ -9,12 +9,12 @@ use Rattle.commands.specs.Texts.{host_fault_text, shown_name}
 use Rattle.commands.specs.declared.files.FileFault.{FileFault}
 use Rattle.commands.specs.declared.fault.HostFault.TheVariants.{CannotWrite, NoMemory}
 use Rattle.check_command.specs.Checks.{IsAnswerTo, IsCheckFault}
-use Rattle.check_report.specs.Command.{IsMore}
+use Rattle.check_command.specs.Explained.{IsMore}
 use Rattle.check_command.specs.Texts.{answer_text, check_fault_text, exit_status}
 use Rattle.check_command.specs.declared.verdicts.CheckAnswer.{CheckAnswer}
 use Rattle.check_command.specs.declared.verdicts.CheckAnswer.TheVariants as answers
 use Rattle.check_command.specs.declared.verdicts.CheckFault.{CheckFault}
-use Rattle.check_report.specs.declared.totals.Totals.{Totals}
+use Rattle.check_command.specs.declared.totals.Totals.{Totals}
 
 -- what became of one of the files: its text has an answer, with the lines behind that, or an answer for whose lines memory was
 -- refused, or a fault; or it couldn't be read

@@ -12,13 +12,13 @@ use Rattle.commands.specs.Texts.{IsShown, host_fault_text, shown_name}
 use Rattle.commands.specs.declared.fault.HostFault.TheVariants.{CannotWrite}
 use Rattle.commands.proofs.Told.{folds_on, line_on, lines_on}
 use Rattle.commands.proofs.Shown.{host_fault}
-use Rattle.check_report.proofs.Counts.{kept_totals}
-use Rattle.check_report.proofs.FaultsShown.{of_files}
-use Rattle.check_report.specs.Line.{AreChecked, IsChecked, kept_after, line_text, said_text, totals_said}
-use Rattle.check_report.specs.Several.{BreaksOff, CheckedFile, ChecksAll, IsRight, faults_of, first_told, lines_of, name_of, no_totals, request_of, said_of, status_of, totals_text, worse}
-use Rattle.check_report.specs.Several.BreaksOff.{breaks}
-use Rattle.check_report.specs.declared.totals.Totals.{Totals}
-use Rattle.check_report.specs.declared.said.FileLine.{FileLine}
+use Rattle.check_command.proofs.Counts.{kept_totals}
+use Rattle.check_command.proofs.FaultsShown.{of_files}
+use Rattle.check_command.specs.FileLine.{AreChecked, IsChecked, kept_after, line_text, said_text, totals_said}
+use Rattle.check_command.specs.Several.{BreaksOff, CheckedFile, ChecksAll, IsRight, faults_of, first_told, lines_of, name_of, no_totals, request_of, said_of, status_of, totals_text, worse}
+use Rattle.check_command.specs.Several.BreaksOff.{breaks}
+use Rattle.check_command.specs.declared.totals.Totals.{Totals}
+use Rattle.check_command.specs.declared.said.FileLine.{FileLine}
 
 -- the first of the lines, the last of which was just told
 pub first_line : {E : Type 0} (tells : E → List ℕ → E → Type 0) (p q r : E) (lines : List (List ℕ)) → All (All IsShown) lines

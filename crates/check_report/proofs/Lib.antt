@@ -1,4 +1,0 @@
-pub mod FaultsShown
-pub mod OneFile
-pub mod Counts
-pub mod EachFile

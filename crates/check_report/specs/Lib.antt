@@ -1,4 +1,0 @@
-pub mod Command
-pub mod Several
--- words of private functions
-pub mod Line
