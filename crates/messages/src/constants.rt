@@ -1,7 +1,7 @@
 // What is said of numbers that are no constants, and of texts beyond a size.
 
 use crate::said::Said;
-use crate::source::{NO_TOKEN, Source, back, before, front, is_word, shown_text, spelled_at};
+use crate::source::{Source, back, before, front, is_word, shown_text, spelled_at};
 use c_tokens::{MAX_TEXT, Mark};
 
 /// The most tokens in a row without `;`, `{` or `}` (c_tokens).
@@ -119,7 +119,10 @@ fn reason(number: &[u8]) -> Reason {
 
 /// What is written in place of the least int; at file scope a minus and a constant are all that can stand.
 fn least_int_hint(source: &Source<'_>, k: usize) -> &'static str {
-    if source.open_before(k, Mark::LeftBrace, Mark::RightBrace) == NO_TOKEN {
+    if source
+        .open_before(k, Mark::LeftBrace, Mark::RightBrace)
+        .is_none()
+    {
         "write 0x80000000, which becomes -2147483648 as an int"
     } else {
         "write -2147483647 - 1"

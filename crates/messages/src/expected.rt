@@ -1,8 +1,8 @@
 // Which tokens can stand where a text goes wrong.
 //
-// A fault of syntax lies at the first token with which the tokens so far begin no program, and what stands before the
-// declaration that is open there doesn't matter to it. So a token can stand there exactly where that declaration up to
-// the place, followed by the token, has no fault at the token.
+// A fault of syntax lies at the first token with which the tokens so far begin no program. What stands before the declaration that is
+// open there doesn't matter. So a token can stand there exactly where that declaration up to the place, followed by the token, has no
+// fault at the token.
 
 use crate::source::{Source, back, front};
 use c_front::{FrontFaultKind, read};

@@ -1,6 +1,6 @@
 // What is written in place of the names of C's headers stdint.h, stdbool.h, stddef.h and limits.h.
 
-use crate::source::{NO_TOKEN, Source, Told, before, told_of};
+use crate::source::{Source, Told, before, told_of};
 use c_tokens::Mark;
 
 /// What is written in place of a cast.
@@ -99,14 +99,13 @@ fn is_behind_cast(source: &Source<'_>, k: usize) -> bool {
         && !is_declared_somewhere(source, source.spelling(name))
 }
 
-/// What is written in place of a token, or of the one before it, that names a type of these headers, or of a cast to one.
+/// What to write in place of a type of these headers, or of a cast to one, if a token or the one before names it.
 pub(crate) fn type_hint(source: &Source<'_>, k: usize) -> Option<&'static str> {
     if is_behind_cast(source, k) {
         return Some(NO_CASTS);
     }
     for token in [k, before(k, 1)] {
-        if token != NO_TOKEN
-            && source.is_name(token)
+        if source.is_name(token)
             && let Some(told) = told_of(TYPES, source.spelling(token))
         {
             if is_declared_somewhere(source, source.spelling(token)) {

@@ -1,7 +1,7 @@
 // What is said of bytes that begin no token, and of what C has and this subset leaves out.
 
 use crate::said::Said;
-use crate::source::{NO_TOKEN, Source, Told, back, before, front, shown_text, spelled_at, told_of};
+use crate::source::{Source, Told, back, before, front, shown_text, spelled_at, told_of};
 
 const NO_DIRECTIVES: &str = "there is no preprocessor: leave the line out";
 
@@ -190,8 +190,10 @@ fn say_quoted(said: &mut Said, text: &[u8], at: usize) {
 
 /// Whether the offset lies inside a comment: behind the last token stands one that isn't closed before it.
 fn is_in_comment(source: &Source<'_>, at: usize) -> bool {
-    let last = before(source.index_of(at), 1);
-    let from = if last == NO_TOKEN { 0 } else { source.at(last) };
+    let from = match source.index_of(at) {
+        0 => 0,
+        k => source.at(before(k, 1)),
+    };
     let mut is_inside = false;
     for pair in back(front(source.text, at), from).windows(2) {
         match pair {

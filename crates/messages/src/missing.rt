@@ -1,7 +1,7 @@
 // Hints that name what is missing further up in the text: a brace or a semicolon.
 
 use crate::said::Said;
-use crate::source::{NO_TOKEN, Source, TYPES, before, behind};
+use crate::source::{Source, TYPES, before, behind};
 use c_tokens::{Mark, Token};
 
 /// Whether a function's head stands at a token that can't stand: it is the `(` of `type name (`, or the `void` that such a head
@@ -19,8 +19,10 @@ fn is_at_head(source: &Source<'_>, k: usize) -> bool {
 
 /// Names the brace that isn't closed where a function begins inside of another; false where that isn't so.
 fn hint_brace(said: &mut Said, source: &Source<'_>, k: usize) -> bool {
-    let brace = source.open_before(k, Mark::LeftBrace, Mark::RightBrace);
-    if brace == NO_TOKEN || !is_at_head(source, k) {
+    let Some(brace) = source.open_before(k, Mark::LeftBrace, Mark::RightBrace) else {
+        return false;
+    };
+    if !is_at_head(source, k) {
         return false;
     }
     said.hint("functions don't stand in functions: the '{' of line ");
@@ -51,11 +53,10 @@ fn can_begin(source: &Source<'_>, k: usize) -> bool {
 
 /// Names the line that lacks a `;` at its end; false where that isn't so.
 fn hint_semicolon(said: &mut Said, source: &Source<'_>, k: usize, expected: &[&str]) -> bool {
-    let last = before(k, 1);
-    if last == NO_TOKEN || !expected.contains(&"';'") || !can_begin(source, k) {
+    if k == 0 || !expected.contains(&"';'") || !can_begin(source, k) {
         return false;
     }
-    let line = source.spot(last).line;
+    let line = source.spot(before(k, 1)).line;
     if source.spot(k).line <= line {
         return false;
     }

@@ -1,6 +1,6 @@
 // The names that a text declares, up to a place: in a text that spells a program, as c_types has them.
 
-use crate::source::{NO_TOKEN, Source, before, behind};
+use crate::source::{Source, before, behind};
 use c_tokens::Mark;
 use std::alloc::{AllocError, Global};
 
@@ -46,13 +46,13 @@ pub(crate) fn in_sight(source: &Source<'_>, names: &[usize], k: usize) -> Option
     found
 }
 
-/// The function that is declared last before a token: at a place inside a function that one; no token where there is none.
-pub(crate) fn last_function(source: &Source<'_>, k: usize) -> usize {
+/// The function that is declared last before a token: at a place inside a function that one.
+pub(crate) fn last_function(source: &Source<'_>, k: usize) -> Option<usize> {
     for n in 1..behind(k, 1) {
         let token = before(k, n);
         if source.is_declared(token) && source.is(behind(token, 1), Mark::LeftParen) {
-            return token;
+            return Some(token);
         }
     }
-    NO_TOKEN
+    None
 }

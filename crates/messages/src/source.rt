@@ -7,9 +7,6 @@ use commands::{Spot, spot_of};
 use std::alloc::{AllocError, Global};
 use std::str;
 
-/// The number of no token.
-pub(crate) const NO_TOKEN: usize = usize::MAX;
-
 /// The most bytes of a name that a message shows (C99 5.2.4.1: so many are significant).
 const SHOWN: usize = 63;
 
@@ -103,7 +100,7 @@ pub(crate) fn spelled_at<'t>(text: &'t [u8], at: usize) -> &'t [u8] {
 pub(crate) struct Source<'t> {
     pub(crate) text: &'t [u8],
     tokens: Vec<Token>,
-    places: Vec<usize>,
+    places: Vec<u32>,
 }
 
 impl<'t> Source<'t> {
@@ -124,11 +121,16 @@ impl<'t> Source<'t> {
                 Err(LexFault::NoMemory) => return Err(AllocError),
             }
         }
-        Ok(Source {
+        Ok(Source::without_tokens(alloc, text))
+    }
+
+    /// A text none of whose tokens are known.
+    pub(crate) fn without_tokens(alloc: Global, text: &'t [u8]) -> Source<'t> {
+        Source {
             text,
             tokens: Vec::new(alloc),
             places: Vec::new(alloc),
-        })
+        }
     }
 
     /// How many tokens there are.
@@ -142,13 +144,16 @@ impl<'t> Source<'t> {
 
     /// Where a token begins; the text's length where there is none.
     pub(crate) fn at(&self, k: usize) -> usize {
-        self.places.get(k).copied().unwrap_or(self.text.len())
+        match self.places.get(k) {
+            Some(place) => *place as usize,
+            None => self.text.len(),
+        }
     }
 
     /// The number of the first token that doesn't begin before the offset.
     pub(crate) fn index_of(&self, at: usize) -> usize {
         for (k, place) in self.places.iter().enumerate() {
-            if *place >= at {
+            if *place as usize >= at {
                 return k;
             }
         }
@@ -184,8 +189,8 @@ impl<'t> Source<'t> {
         self.is_name(k) && self.is_one(before(k, 1), TYPES)
     }
 
-    /// The innermost bracket of a kind that is open before a token, or no token.
-    pub(crate) fn open_before(&self, k: usize, opening: Mark, closing: Mark) -> usize {
+    /// The innermost bracket of a kind that is open before a token.
+    pub(crate) fn open_before(&self, k: usize, opening: Mark, closing: Mark) -> Option<usize> {
         let mut depth = 0usize;
         for n in 1..behind(k, 1) {
             let token = before(k, n);
@@ -194,12 +199,12 @@ impl<'t> Source<'t> {
                 depth = depth.saturating_add(1);
             } else if mark == Some(opening) {
                 if depth == 0 {
-                    return token;
+                    return Some(token);
                 }
                 depth = depth.saturating_sub(1);
             }
         }
-        NO_TOKEN
+        None
     }
 
     /// The first token of the statement or the declaration that is open before a token.
@@ -229,9 +234,9 @@ impl<'t> Source<'t> {
     }
 }
 
-/// The number of the token so many before this one.
+/// The number of the token so many before this one; no token has it where there are fewer.
 pub(crate) fn before(k: usize, n: usize) -> usize {
-    if n <= k { k - n } else { NO_TOKEN }
+    if n <= k { k - n } else { usize::MAX }
 }
 
 /// The number of the token so many behind this one.

@@ -18,27 +18,33 @@ pub struct PlacedStatement<'a> {
 fn first_name(e: &Expression) -> Option<usize> {
     match e {
         Expression::Constant(_) => None,
-        Expression::Name(name) | Expression::Index(name, _) => Some(name.at),
+        Expression::Name(name) | Expression::Index(name, _) => Some(name.at as usize),
         Expression::Unary(_, part) => first_name(part),
-        Expression::Binary(_, left, right) => match first_name(left) {
-            Some(at) => Some(at),
-            None => first_name(right),
-        },
-        Expression::Conditional(test, first, second) => match first_name(test) {
-            Some(at) => Some(at),
-            None => match first_name(first) {
+        Expression::Binary(_, operands) => {
+            let (left, right) = &**operands;
+            match first_name(left) {
                 Some(at) => Some(at),
-                None => first_name(second),
-            },
-        },
+                None => first_name(right),
+            }
+        }
+        Expression::Conditional(parts) => {
+            let (test, first, second) = &**parts;
+            match first_name(test) {
+                Some(at) => Some(at),
+                None => match first_name(first) {
+                    Some(at) => Some(at),
+                    None => first_name(second),
+                },
+            }
+        }
     }
 }
 
 /// Finds where a simple statement begins.
 fn start_of(s: &Simple) -> usize {
     match s {
-        Simple::Assign(name, _) | Simple::AssignAt(name, _, _) => name.at,
-        Simple::CallStatement(call) => call.name.at,
+        Simple::Assign(name, _) | Simple::AssignAt(name, _, _) => name.at as usize,
+        Simple::CallStatement(call) => call.name.at as usize,
     }
 }
 
@@ -140,7 +146,7 @@ impl<'a> Walk<'a> {
             if let Some(one) = typed.get(k) {
                 let left = typed.len().saturating_sub(k).saturating_sub(1);
                 match item {
-                    Item::Declare(_, name, _) => self.add(one, left, Some(name.at))?,
+                    Item::Declare(_, name, _) => self.add(one, left, Some(name.at as usize))?,
                     Item::Statement(s) => self.statement(s, one, left)?,
                 }
             }

@@ -3,7 +3,7 @@
 use crate::headers::{NO_CASTS, type_hint};
 use crate::missing::hint_missing;
 use crate::said::Said;
-use crate::source::{NO_TOKEN, Source, TYPES, before};
+use crate::source::{Source, TYPES, before};
 use c_tokens::{JumpWord, Mark, Token};
 use commands::Spot;
 
@@ -337,10 +337,10 @@ struct Found<'s, 't> {
     token: usize,
     /// The first token of its statement or declaration.
     first: usize,
-    /// The innermost brace, parenthesis and bracket that are open there, or no token.
-    brace: usize,
-    parenthesis: usize,
-    bracket: usize,
+    /// The innermost brace, parenthesis and bracket that are open there.
+    brace: Option<usize>,
+    parenthesis: Option<usize>,
+    bracket: Option<usize>,
 }
 
 impl<'s, 't> Found<'s, 't> {
@@ -367,10 +367,11 @@ impl<'s, 't> Found<'s, 't> {
     /// Whether a call ends just before it.
     fn is_behind_call(&self) -> bool {
         let last = before(self.token, 1);
-        let open = self
-            .source
-            .open_before(last, Mark::LeftParen, Mark::RightParen);
-        self.source.is_name(before(open, 1)) && self.source.is(last, Mark::RightParen)
+        let source = self.source;
+        match source.open_before(last, Mark::LeftParen, Mark::RightParen) {
+            Some(open) => source.is_name(before(open, 1)) && source.is(last, Mark::RightParen),
+            None => false,
+        }
     }
 
     /// Whether an `=` stands before it in its declaration.
@@ -386,11 +387,11 @@ impl<'s, 't> Found<'s, 't> {
     /// Whether this is so of what stands around it.
     fn is_placed(&self, place: &Place) -> bool {
         match place {
-            Place::Function => self.brace != NO_TOKEN,
-            Place::File => self.brace == NO_TOKEN,
-            Place::Parentheses => self.parenthesis != NO_TOKEN,
-            Place::NoParentheses => self.parenthesis == NO_TOKEN,
-            Place::NoBrackets => self.bracket == NO_TOKEN,
+            Place::Function => self.brace.is_some(),
+            Place::File => self.brace.is_none(),
+            Place::Parentheses => self.parenthesis.is_some(),
+            Place::NoParentheses => self.parenthesis.is_none(),
+            Place::NoBrackets => self.bracket.is_none(),
             Place::First => self.token == self.first,
             Place::Second => before(self.token, 1) == self.first,
         }
@@ -477,8 +478,7 @@ fn say_end(said: &mut Said, source: &Source<'_>, expected: &[&str]) {
         say_list(said, expected);
         said.say(" at the text's end");
     }
-    let open = source.open_before(source.count(), Mark::LeftBrace, Mark::RightBrace);
-    if open != NO_TOKEN {
+    if let Some(open) = source.open_before(source.count(), Mark::LeftBrace, Mark::RightBrace) {
         let Spot { line, column } = source.spot(open);
         said.hint("the '{' of line ");
         said.hint_number(line);

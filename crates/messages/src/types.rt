@@ -4,7 +4,7 @@ use crate::headers::written_for;
 use crate::names::last_function;
 use crate::near_names::nearest;
 use crate::said::Said;
-use crate::source::{NO_TOKEN, Source, Told, before, behind, told_of};
+use crate::source::{Source, Told, before, behind, told_of};
 use c_statements::TypeFaultKind;
 use c_tokens::{Mark, Token};
 use commands::Spot;
@@ -103,7 +103,7 @@ fn say_redeclared(said: &mut Said, source: &Source<'_>, k: usize, first: Option<
 
 /// A `return` that doesn't fit its function.
 fn say_return(said: &mut Said, source: &Source<'_>, k: usize) {
-    let function = last_function(source, k);
+    let function = last_function(source, k).unwrap_or(source.count());
     let name = source.token_text(function);
     if source.is(before(function, 1), Mark::Void) {
         said.say_name(name, "is void: it returns no value");
@@ -199,7 +199,7 @@ fn arguments(source: &Source<'_>, open: usize) -> usize {
 
 fn say_other_count(said: &mut Said, source: &Source<'_>, k: usize, declared: Option<usize>) {
     if source.is_declared(k) {
-        let function = last_function(source, k);
+        let function = last_function(source, k).unwrap_or(source.count());
         said.say_name(source.token_text(function), "has more than 4 parameters");
         return said.hint("more values go through variables at file scope");
     }
@@ -215,7 +215,7 @@ fn say_other_count(said: &mut Said, source: &Source<'_>, k: usize, declared: Opt
 
 fn say_limit(said: &mut Said, source: &Source<'_>, k: usize) {
     let brace = source.open_before(k, Mark::LeftBrace, Mark::RightBrace);
-    if brace != NO_TOKEN {
+    if brace.is_some() {
         said.say_both(
             "a function has more than 128 locals, parameters counted",
             "split the function, or put variables at file scope",

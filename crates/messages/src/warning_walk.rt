@@ -36,6 +36,8 @@ pub(crate) struct Walk<'a, 't> {
     source: &'a Source<'t>,
     variables: &'a [Variable],
     warnings: Vec<Warning>,
+    /// Whether a comparison is compared, with parentheses or without.
+    has_chain: bool,
     /// The next token that may be an operator.
     cursor: usize,
     locals: Vec<Local>,
@@ -79,6 +81,22 @@ fn prefix_mark(operator: UnaryOp) -> Mark {
     }
 }
 
+/// Whether this is `<`, `>`, `<=` or `>=`.
+fn is_relation(operator: BinaryOp) -> bool {
+    matches!(
+        operator,
+        BinaryOp::Less | BinaryOp::Greater | BinaryOp::LessOrEqual | BinaryOp::GreaterOrEqual
+    )
+}
+
+/// Whether an expression compares by one of these.
+fn is_comparison(e: &Expression) -> bool {
+    match e {
+        Expression::Binary(operator, _) => is_relation(*operator),
+        _ => false,
+    }
+}
+
 /// A word as a number of its type.
 fn number(value: u32, integer_type: IntegerType) -> i64 {
     match integer_type {
@@ -115,12 +133,18 @@ impl<'a, 't> Walk<'a, 't> {
             source,
             variables,
             warnings: Vec::new(alloc),
+            has_chain: false,
             cursor: 0,
             locals: Vec::new(alloc),
             has_break: false,
             has_return: false,
             endless: Vec::new(alloc),
         }
+    }
+
+    /// Whether there is nothing to warn of, as far as it was walked.
+    pub(crate) fn is_clean(&self) -> bool {
+        self.warnings.is_empty() && !self.has_chain
     }
 
     pub(crate) fn end(self) -> Vec<Warning> {
@@ -146,8 +170,8 @@ impl<'a, 't> Walk<'a, 't> {
 
     /// What a message shows of a name.
     fn name(&self, name: Identifier) -> &'t str {
-        let rest = self.source.text.get(name.at..).unwrap_or(b"");
-        shown_text(rest.get(..name.length).unwrap_or(rest))
+        let rest = self.source.text.get(name.at as usize..).unwrap_or(b"");
+        shown_text(rest.get(..name.length as usize).unwrap_or(rest))
     }
 
     fn assign(&mut self, place: &Destination) {
@@ -190,7 +214,7 @@ impl<'a, 't> Walk<'a, 't> {
         let message = format!(in self.alloc;
             "the index {index} is outside '{shown}', which has {length} {elements}"
         )?;
-        self.warn(name.at, message)
+        self.warn(name.at as usize, message)
     }
 
     /// A shift whose count is known, perhaps with what is shifted.
@@ -299,9 +323,12 @@ impl<'a, 't> Walk<'a, 't> {
                 Ok(folded_unary(*operator, *integer_type, value))
             }
             (
-                Expression::Binary(operator, left, right),
-                TypedExpression::Binary(_, integer_type, one, other),
+                Expression::Binary(operator, operands),
+                TypedExpression::Binary(_, integer_type, typed),
             ) => {
+                let (left, right) = &**operands;
+                let (one, other) = &**typed;
+                self.has_chain = self.has_chain || (is_relation(*operator) && is_comparison(left));
                 let left = self.expression(left, one, is_live)?;
                 let place = self.between(*operator, left, is_live);
                 let right = self.expression(right, other, place.1)?;
@@ -312,10 +339,9 @@ impl<'a, 't> Walk<'a, 't> {
                 };
                 self.behind(place, &operation, left, right)
             }
-            (
-                Expression::Conditional(test, first, second),
-                TypedExpression::Conditional(_, what, one, other),
-            ) => {
+            (Expression::Conditional(parts), TypedExpression::Conditional(_, typed)) => {
+                let (test, first, second) = &**parts;
+                let (what, one, other) = &**typed;
                 let what = outcomes(self.expression(test, what, is_live)?);
                 let first = self.expression(first, one, is_live && what.0)?;
                 let second = self.expression(second, other, is_live && what.1)?;
@@ -555,7 +581,7 @@ impl<'a, 't> Walk<'a, 't> {
             })?;
         }
         for k in self.cursor..self.source.count() {
-            if self.source.at(k) >= function.name.at {
+            if self.source.at(k) >= function.name.at as usize {
                 self.cursor = k;
                 break;
             }
@@ -573,7 +599,7 @@ impl<'a, 't> Walk<'a, 't> {
             {
                 let shown = self.name(name);
                 let message = format!(in self.alloc; "'{shown}' is read and never assigned")?;
-                self.warn(name.at, message)?;
+                self.warn(name.at as usize, message)?;
             }
         }
         Ok(())
@@ -595,7 +621,7 @@ impl<'a, 't> Walk<'a, 't> {
             let message = format!(in self.alloc;
                 "the end of '{shown}' can be reached without a return"
             )?;
-            self.warn(function.name.at, message)?;
+            self.warn(function.name.at as usize, message)?;
         }
         Ok(())
     }

@@ -3,8 +3,7 @@
 use crate::chains::chains;
 use crate::source::Source;
 use crate::warning_walk::Walk;
-use c_front::read;
-use c_tree::Declaration;
+use c_tree::{Declaration, Program};
 use c_typed::{Function, Global as Variable};
 use std::alloc::{AllocError, Global};
 
@@ -17,19 +16,12 @@ pub struct Warning {
     pub message: String,
 }
 
-/// The warnings of a text that spells this program, in no order; nothing where it spells none. It descends into the text: run it
-/// on a thread with a large stack where the text may be hostile.
-pub fn warnings_of(
-    alloc: Global,
-    text: &[u8],
-    variables: &[Variable],
+/// Walks through the functions of a program.
+fn walk_through(
+    walk: &mut Walk<'_, '_>,
+    program: &Program,
     functions: &[Function],
-) -> Result<Vec<Warning>, AllocError> {
-    let source = Source::read(alloc, text)?;
-    let Ok(program) = read(alloc, text) else {
-        return Ok(Vec::new(alloc));
-    };
-    let mut walk = Walk::new(alloc, &source, variables);
+) -> Result<(), AllocError> {
     let mut typed = functions.iter();
     for declaration in &program.declarations {
         if let Declaration::Function(function) = declaration
@@ -38,6 +30,28 @@ pub fn warnings_of(
             walk.function(function, typed)?;
         }
     }
+    Ok(())
+}
+
+/// The warnings of a text that spells this program, in no order. It descends into the program: run it on a thread with a large
+/// stack where the text may be hostile.
+pub fn warnings_of(
+    alloc: Global,
+    text: &[u8],
+    program: &Program,
+    variables: &[Variable],
+    functions: &[Function],
+) -> Result<Vec<Warning>, AllocError> {
+    // most programs have no warnings, and then their tokens aren't needed, which say where operators stand
+    let unread = Source::without_tokens(alloc, text);
+    let mut walk = Walk::new(alloc, &unread, variables);
+    walk_through(&mut walk, program, functions)?;
+    if walk.is_clean() {
+        return Ok(Vec::new(alloc));
+    }
+    let source = Source::read(alloc, text)?;
+    let mut walk = Walk::new(alloc, &source, variables);
+    walk_through(&mut walk, program, functions)?;
     let mut warnings = walk.end();
     for at in chains(alloc, &source)? {
         let message = String::from_str(
