@@ -5,15 +5,15 @@ use Rattle.std.specs.declared.alloc.Global.{Global}
 use Rattle.std.specs.Borrow.{Bor}
 use Rattle.std.specs.List.{FoldsTo, flat_map}
 use Rattle.commands.specs.Requests.{Request, Asks, Does, IsSent, StopsMidway, TellsBeside, TellsLine}
-use Rattle.check_report.specs.Several.{BreaksOff, CheckedFile, ChecksAll, ChecksEach, IsTotals, faults_of, lines_of, request_of, status_of, totals_of, totals_text, worse}
-use Rattle.check_report.specs.Several.CheckedFile.{Answered, Unexplained, Faulty, Unread}
+use Rattle.check_command.specs.Several.{BreaksOff, CheckedFile, ChecksAll, ChecksEach, IsTotals, faults_of, lines_of, request_of, status_of, totals_of, totals_text, worse}
+use Rattle.check_command.specs.Several.CheckedFile.{Answered, Unexplained, Faulty, Unread}
 use Rattle.command_line.specs.Commands.{IsCommand}
 use Rattle.command_line.specs.Programs.{IsRemark, IsStopped}
 use Rattle.command_line.specs.declared.command.Command.{Command}
 use Rattle.command_line.specs.declared.command.Command.TheVariants.{CheckEach}
 use Rattle.command_line.proofs.Programs.{stopped_by}
 use Rattle.driver.specs.Program.{Begins, HasFaultyFile, IsBegun, Remarks, Stops}
-use Rattle.run_command.specs.Command.{IsShown as IsPageByte}
+use Rattle.driver.specs.RunCommand.{IsShown as IsPageByte}
 use Rattle.commands.specs.Texts.{IsShown}
 
 shown_of : (byte : ℕ) → IsPageByte byte → IsShown byte

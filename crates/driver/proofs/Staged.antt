@@ -3,11 +3,11 @@ use Rattle.std.proofs.Common.{◌≡◌, ◌⊎◌, inl, inr, ℕ, List, sym, su
 use Rattle.rtl.specs.Programs.{Program}
 use Rattle.mips_select.specs.Limits.{FramesFit}
 use Rattle.mips_select.specs.Laws.{IsBeyond}
-use Rattle.build_command.specs.BuildFaults.{IsBuildFault}
-use Rattle.build_command.specs.declared.builds.BuildFault.{BuildFault}
-use Rattle.build_command.specs.declared.builds.BuildFault.TheVariants as faults
-use Rattle.build_command.specs.declared.builds.Limit.TheVariants as limits
-use Rattle.build_command.proofs.Counts.{too_long}
+use Rattle.driver.specs.BuildFaults.{IsBuildFault}
+use Rattle.driver.specs.declared.build_command.builds.BuildFault.{BuildFault}
+use Rattle.driver.specs.declared.build_command.builds.BuildFault.TheVariants as faults
+use Rattle.driver.specs.declared.build_command.builds.Limit.TheVariants as limits
+use Rattle.driver.proofs.build_command.Counts.{too_long}
 use Rattle.driver.specs.Stages.{IsRtlOf}
 
 -- RTL of the text's program that is not selected

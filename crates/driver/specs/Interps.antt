@@ -2,13 +2,13 @@
 use Rattle.std.specs.Prelude.{◌≡◌, ℕ, List}
 use Rattle.runs.specs.Runs.{Outcome, outcome}
 use Rattle.c_typed.specs.Trees.{TypedProgram}
-use Rattle.build_command.specs.SourceFaults.{IsFaultless, IsSourceFault}
+use Rattle.driver.specs.SourceFaults.{IsFaultless, IsSourceFault}
 use Rattle.c_types.specs.Typed.{SpellsTyped}
 use Rattle.c_typed.specs.Meaning.{source_run, source_steps}
 use Rattle.c_types.specs.Shape.{program_of}
 use Rattle.c_run.specs.Portions.{state_of}
 use Rattle.c_run.specs.declared.portions.UnderWay.{UnderWay}
-use Rattle.run_command.specs.Portions.{RunOutcome}
+use Rattle.driver.specs.Portions.{RunOutcome}
 use Rattle.runs.specs.declared.ran.End.{End}
 use Rattle.driver.specs.declared.source_runs.InterpFault.{InterpFault}
 use Rattle.driver.specs.declared.source_runs.InterpFault.TheVariants as faults

@@ -6,10 +6,10 @@ use Rattle.rtl.specs.Meaning.{rtl_run}
 use Rattle.mips_isa.specs.Starting.{start_state}
 use Rattle.mblock.specs.Units.{UnitParts}
 use Rattle.mblock.specs.UnitRuns.{unit_run}
-use Rattle.unit_machine.specs.UnitViews.{link_of}
-use Rattle.build_command.specs.Halves.{IsUnitOf}
-use Rattle.build_command.specs.BuildFaults.{IsBuildFault}
-use Rattle.build_command.specs.declared.builds.BuildFault.{BuildFault}
+use Rattle.mips_machine.specs.UnitViews.{link_of}
+use Rattle.driver.specs.Halves.{IsUnitOf}
+use Rattle.driver.specs.BuildFaults.{IsBuildFault}
+use Rattle.driver.specs.declared.build_command.builds.BuildFault.{BuildFault}
 use Rattle.driver.specs.Stages.{IsRtlOf}
 use Rattle.driver.specs.declared.levels.Below.{Below}
 use Rattle.driver.specs.declared.levels.Below.TheVariants as belows

@@ -4,3 +4,18 @@ pub mod Texts
 pub mod Listings
 pub mod Stages
 pub mod Program
+-- mcc build
+pub mod BuildTexts
+pub mod Follows
+pub mod Builds
+pub mod SourceFaults
+pub mod BuildFaults
+pub mod BuildCommand
+pub mod OneBuild
+-- mcc run
+pub mod RunTexts
+pub mod ImageRuns
+pub mod RunCommand
+pub mod Portions
+-- words of private functions
+pub mod Halves

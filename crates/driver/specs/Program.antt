@@ -11,21 +11,21 @@ use Rattle.commands.specs.Requests.{IsSent, Request}
 use Rattle.commands.specs.OneFile.{AnswersFile, StopsFile}
 use Rattle.block_text.specs.Shown.{IsShown}
 use Rattle.check_command.specs.Command.{Checks, StopsCheck}
-use Rattle.check_report.specs.Command.{Explains}
-use Rattle.check_report.specs.Several.{BreaksOff, ChecksAll, ChecksEach, IsTotals}
-use Rattle.build_command.specs.SourceFaults.{IsFaultless}
-use Rattle.build_command.specs.Commands.{AnswersBuild, IsBuildRemark, StopsApart}
+use Rattle.check_command.specs.Explained.{Explains}
+use Rattle.check_command.specs.Several.{BreaksOff, ChecksAll, ChecksEach, IsTotals}
+use Rattle.driver.specs.SourceFaults.{IsFaultless}
+use Rattle.driver.specs.BuildCommand.{AnswersBuild, IsBuildRemark, StopsApart}
 use Rattle.commands.specs.Streams.{BeginsFile}
 use Rattle.commands.specs.declared.numbers.WordForm.{WordForm}
-use Rattle.run_command.specs.Command.{BeginsRun, IsRefused, IsRunRemark, Runs, StopsRun, words_in}
-use Rattle.run_command.specs.declared.remarks.Counted.TheVariants.{Words, Steps}
+use Rattle.driver.specs.RunCommand.{BeginsRun, IsRefused, IsRunRemark, Runs, StopsRun, words_in}
+use Rattle.driver.specs.declared.run_command.remarks.Counted.TheVariants.{Words, Steps}
 use Rattle.command_line.specs.Commands.{IsCommand}
 use Rattle.command_line.specs.declared.command.AskedBuild.{AskedBuild}
 use Rattle.command_line.specs.declared.command.Command.{Command}
 use Rattle.command_line.specs.declared.command.Command.TheVariants.{Check, CheckEach, Interp, Build, Run, List as Listing, NoChoice, Show}
 use Rattle.driver.specs.Texts.{end_text, end_status, interp_fault_text, no_choice_text}
 use Rattle.driver.specs.Interps.{IsRun, IsInterpFault}
-use Rattle.build_command.specs.Texts.{build_fault_text}
+use Rattle.driver.specs.BuildTexts.{build_fault_text}
 use Rattle.command_line.specs.declared.command.Level.{Level}
 use Rattle.command_line.specs.declared.command.Level.TheVariants as levels
 use Rattle.driver.specs.Levels.{IsFaultBelow, IsRunBelow}

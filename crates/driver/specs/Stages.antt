@@ -4,11 +4,11 @@ use Rattle.c_typed.specs.Trees.{TypedProgram}
 use Rattle.c_types.specs.Typed.{SpellsTyped}
 use Rattle.rtl.specs.Programs.{Program, IsProgram}
 use Rattle.rtl_lower.specs.Laws.{AreOfSizes}
-use Rattle.build_command.specs.BuildFaults.{IsBuildFault}
-use Rattle.build_command.specs.SourceFaults.{IsFaultless}
-use Rattle.build_command.specs.Texts.{build_fault_text}
-use Rattle.build_command.specs.declared.builds.BuildFault.TheVariants as builds
-use Rattle.build_command.specs.declared.builds.Limit.TheVariants as limits
+use Rattle.driver.specs.BuildFaults.{IsBuildFault}
+use Rattle.driver.specs.SourceFaults.{IsFaultless}
+use Rattle.driver.specs.BuildTexts.{build_fault_text}
+use Rattle.driver.specs.declared.build_command.builds.BuildFault.TheVariants as builds
+use Rattle.driver.specs.declared.build_command.builds.Limit.TheVariants as limits
 use Rattle.driver.specs.declared.show_commands.StagesFault.{StagesFault}
 use Rattle.driver.specs.declared.show_commands.StagesFault.TheVariants as faults
 

@@ -7,9 +7,9 @@ ghost use Rattle.image.specs.Images.{IsImageFault};
 
 use crate::listings::list_image;
 use crate::pages::PageCommand;
+use crate::run_command::tell_image;
 use commands::{BadFile, Complaints};
 use image::{ImageFault, read_image};
-use run_command::tell_image;
 use show::assembler_source;
 use std::alloc::Global;
 

@@ -3,22 +3,22 @@
 ghost use Rattle.std.specs.Prelude.{◌≡◌, ◌≢◌, ◌≤◌, ◌⊎◌, IfErr, IfOk, OnOk};
 ghost use Rattle.commands.specs.Requests.{Asks, Does, IsSent, StopsMidway, TellsBeside, TellsLine, WasRefused};
 ghost use Rattle.commands.specs.Streams.{BreaksBy, TookAnswer};
-ghost use Rattle.run_command.specs.Command.{IsRunRemark};
-ghost use Rattle.run_command.specs.declared.remarks.Counted.TheVariants.{Steps};
+ghost use Rattle.driver.specs.RunCommand.{IsRunRemark};
+ghost use Rattle.driver.specs.declared.run_command.remarks.Counted.TheVariants.{Steps};
 ghost use Rattle.driver.specs.Interps.{IsInterpFault, IsRun};
 ghost use Rattle.driver.specs.Program.{BeginsInterp, Interps, PrintsRun, StopsInterp};
 ghost use Rattle.driver.specs.Texts.{end_status, interp_fault_text};
 
+use crate::build_command::{source_place, typed_of};
 use crate::reasons::wrong_page;
+use crate::run_command::{Counted, Cut, Finish, Spent, stream, tell_run};
 use crate::running_source::RunningSource;
 use crate::source_runs::InterpFault;
-use build_command::{source_place, typed_of};
 use c_run::begin;
 use command_line::AskedInterp;
 use commands::{
     BadFile, Broken, Complaints, Files, Output, StreamCommand, WordForm, answer_stream, tell_placed,
 };
-use run_command::{Counted, Cut, Finish, Spent, stream, tell_run};
 use runs::End;
 use std::alloc::Global;
 

@@ -1,15 +1,15 @@
 // The run of a C text at a level below C.
 ghost use Rattle.std.specs.Prelude.{◌≤◌, IfErr, IfOk};
 ghost use Rattle.runs.specs.Runs.{outcome_of};
-ghost use Rattle.build_command.specs.BuildFaults.{IsBuildFault};
+ghost use Rattle.driver.specs.BuildFaults.{IsBuildFault};
 ghost use Rattle.driver.specs.Levels.{IsBlocksRun, IsRtlRun};
 
+use crate::build_command::{BuildFault, unit_of};
 use crate::show_commands::rtl_of;
-use build_command::{BuildFault, unit_of};
+use mips_machine::run_unit;
 use rtl::run;
 use runs::Ran;
 use std::alloc::Global;
-use unit_machine::run_unit;
 
 /// What RTL of the program that the text spells does within so many steps, with so many calls active at most.
 pub fn interp_rtl(alloc: Global, text: &[u8], depth: u32, steps: u64) -> Result<Ran, BuildFault>

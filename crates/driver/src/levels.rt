@@ -2,17 +2,17 @@
 
 ghost use Rattle.std.specs.Prelude.{◌≡◌, ◌≢◌, ◌≤◌, ◌⊎◌, false};
 ghost use Rattle.commands.specs.Requests.{Asks, Does, IsSent, StopsMidway, TellsBeside};
-ghost use Rattle.run_command.specs.Command.{IsRunRemark};
-ghost use Rattle.run_command.specs.declared.remarks.Counted.TheVariants.{Steps};
+ghost use Rattle.driver.specs.RunCommand.{IsRunRemark};
+ghost use Rattle.driver.specs.declared.run_command.remarks.Counted.TheVariants.{Steps};
 ghost use Rattle.driver.specs.Program.{BeginsInterpAt, InterpsAt, InterpsBelow, IsInterpRemark, StopsBelow, StopsInterpAt};
 
+use crate::build_command::{BuildFault, tell_build};
 use crate::interp_command::{end_status, interp_file};
 use crate::level_runs::{interp_blocks, interp_rtl};
+use crate::run_command::{Counted, Spent, print_run, tell_run};
 use crate::texts::EndLine;
-use build_command::{BuildFault, tell_build};
 use command_line::{AskedInterp, Level};
 use commands::{BadFile, Complaints, FileCommand, Files, HostFault, Output, answer_file};
-use run_command::{Counted, Spent, print_run, tell_run};
 use runs::Ran;
 use std::alloc::Global;
 
@@ -32,8 +32,8 @@ struct BelowCommand<'s> {
 
 impl FileCommand for BelowCommand<'_> {
     ghost use Rattle.runs.specs.Runs.{outcome_of};
-    ghost use Rattle.build_command.specs.Texts.{build_fault_text};
-    ghost use Rattle.run_command.specs.Command.{IsRefused};
+    ghost use Rattle.driver.specs.BuildTexts.{build_fault_text};
+    ghost use Rattle.driver.specs.RunCommand.{IsRefused};
     ghost use Rattle.driver.specs.Levels.{IsFaultBelow, IsRunBelow};
     ghost use Rattle.driver.specs.Program.{PrintsRun};
     ghost use Rattle.driver.specs.Texts.{end_status};

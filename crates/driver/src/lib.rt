@@ -1,17 +1,18 @@
 //! The program's commands over bytes, files and writers: `mcc` is the whole program.
 //!
-//! Definitions: `specs/Interps.antt`, `specs/Listings.antt`, `specs/Program.antt`.
-//! Contract: `interp`, `list_image`, `mcc`
-//! - `interp` gives exactly the run of the source's one typed program, or its error. `list_image` gives exactly the listing.
+//! Definitions: `specs/Follows.antt`, `specs/Builds.antt`, `specs/ImageRuns.antt`, `specs/Interps.antt`, `specs/Program.antt`.
+//! Contract: `build`, `build_one`, `build_plain`, `one_build`, `run_image`, `interp`, `list_image`, `mcc`
+//! - The headline: if `build` is Ok, the source spells a program and the bytes are an image that follows it (`follows`).
+//! - Image and report are of one scheduled unit (`scheduled`). An error is the source's own, or a limit that its counts allow.
+//! - `run_image` and `interp` give exactly the run, or the error. `list_image` gives exactly the listing.
 //! - For arguments that clap accepts, `mcc` asks of its files, prints and ends as the command's own call may.
 //!
 //! | Tested | In |
 //! |---|---|
-//! | images print what the interpreter prints, eight programs also what gcc's builds print | tests/builds |
-//! | failing files and streams | test_calls |
-//! | each refused allocation | `.ci/refuse` |
+//! | what images print; failing files and streams; refused memory | tests/builds, test_calls, `.ci/refuse` |
 #![tactic(auto)]
 
+mod build_command;
 mod choices;
 mod image_commands;
 mod interp_command;
@@ -21,6 +22,7 @@ mod listings;
 mod pages;
 mod program;
 mod reasons;
+mod run_command;
 mod running_source;
 mod show_commands;
 mod source_runs;
@@ -28,8 +30,8 @@ mod texts;
 mod wrong_places;
 
 pub use build_command::{
-    BuildFault, BuildOpts, Built, Limit, build, build_one, build_plain, print_built, tell_build,
-    unit_of,
+    BuildFault, BuildOpts, Built, Limit, build, build_one, build_plain, one_build, print_built,
+    tell_build, unit_of,
 };
 pub use check_command::{CheckAnswer, CheckFault, check};
 pub use command_line::{AskedBuild, Command, words};

@@ -4,7 +4,7 @@ ghost use Rattle.std.specs.Prelude.{◌≡◌, ℕ, List, IfErr, IfOk, OnErr, On
 ghost use Rattle.std.specs.Io.KnownBytes.{Appends};
 ghost use Rattle.std.specs.declared.alloc.Global.{Global};
 ghost use Rattle.std.specs.declared.vec.Vec.{Vec};
-ghost use Rattle.run_command.specs.Command.{IsRefused};
+ghost use Rattle.driver.specs.RunCommand.{IsRefused};
 ghost use Rattle.commands.specs.Requests.{IsNothing, IsSent, TellsLine, WasRefused};
 ghost use Rattle.driver.specs.Program.{PrintsPage};
 

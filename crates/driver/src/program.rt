@@ -9,17 +9,16 @@ ghost use Rattle.check_command.specs.Texts.{IsCheckStatus};
 ghost use Rattle.command_line.specs.declared.command.Command.TheVariants.{Check};
 ghost use Rattle.driver.specs.Program.{Answers, HasFaultyFile, IsBegun, NamesOneFile, Remarks, Shows, Stops, StopsShow};
 
+use crate::build_command::build_file;
 use crate::choices::tell_choice;
 use crate::image_commands::ImageCommand;
 use crate::levels::interp_at;
 use crate::pages::Paged;
+use crate::run_command::run_file;
 use crate::show_commands::ShowCommand;
-use build_command::build_file;
-use check_command::{answer_check, check_file};
-use check_report::{ExplainedAnswer, check_files};
+use check_command::{ExplainedAnswer, answer_check, check_file, check_files};
 use command_line::{Command, words};
 use commands::{Complaints, Files, Output, answer_file, tell_words};
-use run_command::run_file;
 use show::Asked;
 use std::alloc::Global;
 use std::sync::Wait;
@@ -70,9 +69,9 @@ fn show_source<F: Files, W: Output, E: Complaints>(
     answer_file(alloc, &command, source, files, out, err)
 }
 
-/// Does what the words ask for (the first is the program's name), over its files and two writers; a build starts threads. The answer
-/// is the exit status: 0 for `same`, `done`, a build, a listing, stages and help, 1 for a fault, 2 for wrong words and a build onto its
-/// source, 4 for `more`, 3 for any other answer; of several check texts the worst.
+/// Does what the words ask for (the first is the program's name), over its files and two writers; a build starts threads. The answer is
+/// the exit status: 0 for `same`, `done`, a build, a listing, stages and help. It is 1 for a fault, 2 for wrong words and a build onto
+/// its source, 4 for `more`, 3 for any other answer; of several check texts the worst.
 pub fn mcc<T: Threads + Wait + Sync, F: Files, W: Output, E: Complaints>(
     rt: &T,
     alloc: Global,

@@ -3,9 +3,9 @@
 ghost use Rattle.std.specs.Prelude.{All, IfSome};
 ghost use Rattle.block_text.specs.Shown.{IsShown};
 
+use crate::build_command::typed_of;
 use crate::wrong_places::place_in_text;
 use block_text::{WIDTH, page_of};
-use build_command::typed_of;
 use c_run::{Reason, reason_of, wrong_place_of};
 use c_tokens::IntegerType;
 use c_tree::{BinaryOp, UnaryOp};

@@ -6,10 +6,10 @@ ghost use Rattle.c_run.specs.Portions.{state_of};
 ghost use Rattle.driver.specs.Interps.{comes_to};
 ghost use Rattle.driver.specs.Texts.{end_text};
 
+use crate::run_command::{Advance, Resumable};
 use crate::texts::EndLine;
 use c_run::UnderWay;
 use commands::Output;
-use run_command::{Advance, Resumable};
 use runs::End;
 use std::alloc::{AllocError, Global};
 use std::io;

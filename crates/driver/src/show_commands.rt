@@ -3,22 +3,22 @@
 ghost use Rattle.std.specs.Prelude.{◌≡◌, ◌⊎◌, All, IfErr, IfOk, Some};
 ghost use Rattle.commands.specs.Requests.{TellsLine};
 ghost use Rattle.block_text.specs.Shown.{IsShown};
-ghost use Rattle.build_command.specs.BuildFaults.{IsBuildFault};
-ghost use Rattle.build_command.specs.SourceFaults.{IsFaultless};
+ghost use Rattle.driver.specs.BuildFaults.{IsBuildFault};
+ghost use Rattle.driver.specs.SourceFaults.{IsFaultless};
 ghost use Rattle.mips_select.specs.Limits.{FramesFit};
 ghost use Rattle.mips_select.specs.Laws.{IsBeyond};
 ghost use Rattle.driver.specs.Stages.{IsRtlOf, IsStagesFault, stages_fault_text};
 
+use crate::build_command::{BuildFault, Limit, tell_build, typed_of};
 use crate::pages::PageCommand;
 use crate::reasons::page;
-use build_command::{BuildFault, Limit, tell_build, typed_of};
+use crate::run_command::tell_page;
 use c_front::read;
 use c_tree::{Declaration, Program};
 use commands::{BadFile, Complaints, tell};
 use mips_select::{Numbered, SelectFault, select_numbered};
 use rtl::Rtl;
 use rtl_lower::{LowerFault, lower};
-use run_command::tell_page;
 use show::{Asked, ShowFault, Shown, show};
 use std::alloc::{AllocError, Global};
 use std::error::Error;

@@ -3,7 +3,7 @@ ghost use Rattle.std.specs.Prelude.{◌≡◌, IfOk, IfErr};
 ghost use Rattle.runs.specs.Runs.{outcome_of};
 ghost use Rattle.driver.specs.Interps.{IsInterpFault, IsRun};
 
-use build_command::typed_of;
+use crate::build_command::typed_of;
 use c_run::run;
 use messages::SourceFault;
 use runs::Ran;

@@ -66,12 +66,12 @@ pub(crate) fn place_in_text<'t>(
         return None;
     };
     let function = function_of(&program, place.function)?;
-    let rest = text.get(function.name.at..)?;
-    let name = rest.get(..function.name.length)?;
+    let rest = text.get(function.name.at as usize..)?;
+    let name = rest.get(..function.name.length as usize)?;
     let body = &typed.functions().get(place.function)?.body;
     let at = match place.statement {
         Some(wanted) => place_of(alloc, function, body, wanted, place.left),
-        None => Some(function.name.at),
+        None => Some(function.name.at as usize),
     };
     Some(NamedPlace {
         function: str::from_utf8(name).unwrap_or("?"),

@@ -9,16 +9,16 @@ use Rattle.check_command.specs.Checks.{IsAnswerTo, IsCheckFault}
 use Rattle.check_command.specs.Texts.{answer_text, check_fault_text, exit_status}
 use Rattle.check_command.specs.declared.verdicts.CheckAnswer.{CheckAnswer}
 use Rattle.sched_phase.specs.Phases.{IsWholePhase}
-use Rattle.build_command.specs.Commands.{AnyOrder, built_text, factor_of}
-use Rattle.build_command.specs.Texts.{build_fault_text}
-use Rattle.run_command.specs.Command.{words_text}
-use Rattle.run_command.specs.Texts.{ending_status, ending_text}
-use Rattle.run_command.specs.ImageRuns.{IsImageRun}
-use Rattle.build_command.specs.Builds.{IsPlain, IsScheduledBuild}
-use Rattle.build_command.specs.BuildFaults.{IsBuildFault}
-use Rattle.build_command.specs.SourceFaults.{IsFaultless}
-use Rattle.build_command.specs.Follows.{FollowsText}
-use Rattle.build_command.specs.declared.builds.Built.{Built}
+use Rattle.driver.specs.BuildCommand.{AnyOrder, built_text, factor_of}
+use Rattle.driver.specs.BuildTexts.{build_fault_text}
+use Rattle.driver.specs.RunCommand.{words_text}
+use Rattle.driver.specs.RunTexts.{ending_status, ending_text}
+use Rattle.driver.specs.ImageRuns.{IsImageRun}
+use Rattle.driver.specs.Builds.{IsPlain, IsScheduledBuild}
+use Rattle.driver.specs.BuildFaults.{IsBuildFault}
+use Rattle.driver.specs.SourceFaults.{IsFaultless}
+use Rattle.driver.specs.Follows.{FollowsText}
+use Rattle.driver.specs.declared.build_command.builds.Built.{Built}
 use Rattle.driver.specs.Texts.{end_status, end_text, interp_fault_text}
 use Rattle.driver.specs.Interps.{IsInterpFault, IsRun}
 use Rattle.driver.specs.Listings.{IsListing}

@@ -7,7 +7,7 @@ use Rattle.mblock.specs.Parts.{BlockParts, OrderParts}
 use Rattle.mblock.specs.Units.{UnitParts}
 use Rattle.mblock.specs.Orders.{AreOrders}
 use Rattle.check_text.specs.Spelling.{exit_text}
-use Rattle.build_command.specs.Halves.{IsUnitOf}
+use Rattle.driver.specs.Halves.{IsUnitOf}
 use Rattle.mcc_web.specs.Answers.{Gives}
 
 -- each instruction on a line

@@ -9,8 +9,7 @@ ghost use Rattle.mcc_web.specs.declared.told.TheConstants.{REFUSED};
 
 pub use crate::told::REFUSED;
 use crate::told::{Told, put};
-use check_command::{print_answer, tell_check};
-use check_report::print_explained;
+use check_command::{print_answer, print_explained, tell_check};
 use commands::{WordForm, tell};
 use driver::{
     CheckFault, EndLine, EndingLine, check, end_status, ending_status, interp, list_image,

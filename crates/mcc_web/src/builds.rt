@@ -1,16 +1,15 @@
 // The export that builds.
 
 ghost use Rattle.std.specs.Prelude.{◌≡◌, ◌≢◌, ◌≤◌, ◌++◌, IfErr, IfOk};
-ghost use Rattle.build_command.specs.Commands.{built_text, factor_of};
-ghost use Rattle.build_command.specs.BuildFaults.{IsBuildFault};
-ghost use Rattle.build_command.specs.Follows.{FollowsText};
+ghost use Rattle.driver.specs.BuildCommand.{built_text, factor_of};
+ghost use Rattle.driver.specs.BuildFaults.{IsBuildFault};
+ghost use Rattle.driver.specs.Follows.{FollowsText};
 ghost use Rattle.mcc_web.specs.Answers.{IsScheduledAs, SaysBuildFault, SaysImage};
 ghost use Rattle.mcc_web.specs.declared.told.TheConstants.{REFUSED};
 
 use crate::told::{REFUSED, Told, put};
-use delay_filler::FilledOrder;
 use driver::{BuildFault, BuildOpts, Built, build_one, build_plain, print_built, tell_build};
-use list_scheduler::ListOrder;
+use list_scheduler::{FilledOrder, ListOrder};
 use sched_phase::PhaseOpts;
 use std::alloc::Global;
 use std::io;

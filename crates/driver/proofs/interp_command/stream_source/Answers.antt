@@ -8,8 +8,8 @@ use Rattle.c_run.specs.Portions.{state_of}
 use Rattle.c_run.specs.declared.portions.UnderWay.{UnderWay}
 use Rattle.commands.specs.declared.numbers.WordForm.{WordForm}
 use Rattle.commands.specs.Streams.{IsBeginning}
-use Rattle.run_command.specs.Command.{AreFirstLines, words_in}
-use Rattle.run_command.proofs.Streamed.{lines_on}
+use Rattle.driver.specs.RunCommand.{AreFirstLines, words_in}
+use Rattle.driver.proofs.run_command.Streamed.{lines_on}
 use Rattle.driver.specs.Interps.{IsRun, comes_to}
 use Rattle.driver.specs.Program.{PrintsRun}
 use Rattle.driver.specs.Texts.{end_text}

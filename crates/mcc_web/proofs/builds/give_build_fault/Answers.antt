@@ -1,5 +1,5 @@
-use Rattle.build_command.specs.BuildFaults.{IsBuildFault}
-use Rattle.build_command.specs.Texts.{build_fault_text}
+use Rattle.driver.specs.BuildFaults.{IsBuildFault}
+use Rattle.driver.specs.BuildTexts.{build_fault_text}
 use Rattle.mcc_web.proofs.Fronts.{fault_given}
 use Rattle.mcc_web.proofs.builds.give_build_fault.Goals as goal
 

@@ -5,7 +5,7 @@ use Rattle.c_types.specs.Shape.{program_of}
 use Rattle.c_typed.specs.Meaning.{Run, source_steps}
 use Rattle.c_run.specs.Portions.{state_of}
 use Rattle.c_run.proofs.Going.{output_before}
-use Rattle.run_command.specs.Portions.{RunOutcome, after_output}
+use Rattle.driver.specs.Portions.{RunOutcome, after_output}
 use Rattle.driver.proofs.running_source.RunningSourceResumable.clear_output.Goals as goal
 
 pub returns : goal.returns

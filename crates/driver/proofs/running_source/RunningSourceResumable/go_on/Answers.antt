@@ -5,7 +5,7 @@ use Rattle.c_types.specs.Shape.{program_of}
 use Rattle.c_typed.specs.Meaning.{source_steps}
 use Rattle.c_run.specs.Portions.{run_behind, state_of}
 use Rattle.c_run.specs.declared.portions.UnderWay.{UnderWay}
-use Rattle.run_command.specs.Portions.{RunOutcome, behind}
+use Rattle.driver.specs.Portions.{RunOutcome, behind}
 use Rattle.driver.specs.Interps.{comes_to}
 use Rattle.driver.specs.declared.running_source.RunningSource.{RunningSource}
 use Rattle.driver.proofs.running_source.RunningSourceResumable.go_on.Goals as goal

@@ -1,0 +1,127 @@
+-- A run whose portions are printed one after another.
+use Rattle.std.proofs.Common.{◌≡◌, ℕ, ◌+◌, ◌-◌, ◌<◌, ◌≤◌, ◌++◌, List, [], ◌∷◌, Option, None, refl, sym, ap, subst, ◌∙◌, arith, inl, inr, ◌⊎◌, append_assoc}
+use Rattle.std.proofs.lemmas.Grind.{flat_map-append}
+use Rattle.std.proofs.KnownBytes.{Appends-nil, Appends-trans}
+use Rattle.std.specs.Io.KnownBytes.{Appends}
+use Rattle.commands.specs.Numbers.{word_text}
+use Rattle.commands.specs.declared.numbers.WordForm.{WordForm}
+use Rattle.commands.specs.OneFile.{TookPrint}
+use Rattle.driver.specs.RunCommand.{AreFirstLines, words_in}
+use Rattle.driver.specs.Portions.{IsEnough, RunOutcome, WentOn, after_output, behind}
+
+words_append : (form : WordForm) (a b : List ℕ) → words_in form (a ++ b) ≡ words_in form a ++ words_in form b
+words_append form a b = flat_map-append (λ w. word_text form w ++ 10 ∷ []) a b
+
+-- the lines of the first words, of the others, and a last line
+pub lines_on : (form : WordForm) (output printed line : List ℕ) (f : AreFirstLines form output printed)
+    → printed ++ (words_in form f.rest ++ line) ≡ words_in form output ++ line
+lines_on form output printed line f =
+    ap (λ p. p ++ (words_in form f.rest ++ line)) f.lines ∙ sym (append_assoc (words_in form f.first) (words_in form f.rest) line)
+    ∙ ap (λ t. t ++ line) (sym (words_append form f.first f.rest)) ∙ ap (λ o. words_in form o ++ line) (sym f.all)
+
+below_or : (k m r : ℕ) → k < m + r → (k < m) ⊎ ((m ≤ k) × (k - m < r))
+below_or k m r lt = grind arith
+
+module _ {S E : Type 0} (comes_to : S → ℕ → RunOutcome E) (written : S → List ℕ) (more : E) (form : WordForm) (most : ℕ) (old : S)
+    (start : Option (List ℕ)) where
+  -- some portions are printed, and so many words or steps are left
+  pub record Begun (left : ℕ) (now : S) (out : Option (List ℕ)) : Type 0 where
+    pub first : List ℕ
+    pub took : Appends start out (words_in form first)
+    pub within : left ≤ most
+    pub before : (k : ℕ) → k < most - left → (comes_to old k).end ≡ more
+    pub rest : (n : ℕ) → comes_to old (most - left + n) ≡ after_output first (comes_to now n)
+
+  pub begun : Begun most old start
+  begun = record {
+    first = [];
+    took = Appends-nil start;
+    within = omega arith;
+    before = λ k lt. absurd (omega arith);
+    rest = λ n. let none : most - most + n ≡ n = omega arith in ap (comes_to old) none;
+  }
+
+  module _ (left : ℕ) (now : S) (out : Option (List ℕ)) (b : Begun left now out) where
+    -- what is printed begins the output
+    pub cut : TookPrint start out (AreFirstLines form (comes_to old most).output)
+    cut =
+        let all : most - left + left ≡ most = let h = b.within in omega arith in (
+          words_in form b.first,
+          b.took,
+          record {
+            first = b.first;
+            rest = (comes_to now left).output;
+            all = ap (λ n. (comes_to old n).output) (sym all) ∙ ap (λ (o : RunOutcome E). o.output) (b.rest left);
+            lines = refl;
+          },
+        )
+
+    module _ (asked ran : ℕ) (next : S) (end : Option E) (le : asked ≤ left) (went : WentOn comes_to written more asked now next end ran) where
+      ran_before : (k : ℕ) → k < most - (left - ran) → (comes_to old k).end ≡ more
+      ran_before k lt =
+          let h = b.within in
+          let w = went.within in
+          let in_all : k < most - left + ran = omega arith in
+          by (below_or k (most - left) ran in_all)
+        where
+          by : (k < most - left) ⊎ ((most - left ≤ k) × (k - (most - left) < ran)) → (comes_to old k).end ≡ more
+          by (inl less) = b.before k less
+          by (inr (ge, less)) =
+              let is : k ≡ most - left + (k - (most - left)) = omega arith in
+              ap (λ i. (comes_to old i).end) is ∙ ap (λ (o : RunOutcome E). o.end) (b.rest (k - (most - left)))
+              ∙ went.before (k - (most - left)) less
+
+      ran_behind : (n : ℕ) → comes_to old (most - (left - ran) + n) ≡ after_output b.first (behind comes_to written end next n)
+      ran_behind n =
+          let h = b.within in
+          let w = went.within in
+          let is : most - (left - ran) + n ≡ most - left + (ran + n) = omega arith in
+          ap (comes_to old) is ∙ b.rest (ran + n) ∙ ap (after_output b.first) (went.behind n)
+
+    -- a portion behind which the run would go on
+    pub portion : (asked ran : ℕ) (next clear : S) (out' : Option (List ℕ)) → asked ≤ left → WentOn comes_to written more asked now next None ran
+        → ((n : ℕ) → comes_to next n ≡ after_output (written next) (comes_to clear n)) → Appends out out' (words_in form (written next))
+        → Begun (left - ran) clear out'
+    portion asked ran next clear out' le went cleared took = record {
+      first = b.first ++ written next;
+      took = subst (Appends start out') (sym (words_append form b.first (written next)))
+          (Appends-trans start out out' (words_in form b.first) (words_in form (written next)) b.took took);
+      within = let h = b.within in omega arith;
+      before = ran_before asked ran next None le went;
+      rest = λ n. ran_behind asked ran next None le went n ∙ ap (after_output b.first) (cleared n)
+          ∙ ap (λ out. record { end = (comes_to clear n).end; output = out }) (sym (append_assoc b.first (written next) (comes_to clear n).output));
+    }
+
+    -- the last one
+    module _ (asked ran : ℕ) (next : S) (end : Option E) (last : E) (le : asked ≤ left) (went : WentOn comes_to written more asked now next end ran)
+        (at : (n : ℕ) → (n ≡ 0) ⊎ (n ≡ left - ran) → behind comes_to written end next n ≡ record { end = last; output = written next }) where
+      outcome_at : (n : ℕ) → (n ≡ 0) ⊎ (n ≡ left - ran)
+          → comes_to old (most - (left - ran) + n) ≡ record { end = last; output = b.first ++ written next }
+      outcome_at n h = ran_behind asked ran next end le went n ∙ ap (after_output b.first) (at n h)
+
+      whole : comes_to old most ≡ record { end = last; output = b.first ++ written next }
+      whole =
+          let h = b.within in
+          let is : most - (left - ran) + (left - ran) ≡ most = omega arith in
+          ap (comes_to old) (sym is) ∙ outcome_at (left - ran) (inr refl)
+
+      pub last_end : last ≡ (comes_to old most).end
+      last_end = sym (ap (λ (o : RunOutcome E). o.end) whole)
+
+      pub enough : IsEnough (comes_to old) more most (most - (left - ran))
+      enough =
+          let none : most - (left - ran) ≡ most - (left - ran) + 0 = omega arith in
+          record {
+            within = omega arith;
+            same = ap (comes_to old) none ∙ outcome_at 0 (inl refl) ∙ sym whole;
+            before = ran_before asked ran next end le went;
+          }
+
+      pub all_printed : (out' : Option (List ℕ)) (line : List ℕ) → Appends out out' (words_in form (written next) ++ line)
+          → Appends start out' (words_in form (comes_to old most).output ++ line)
+      all_printed out' line took =
+          let lines = words_in form (written next) in
+          let is : words_in form (comes_to old most).output ++ line ≡ words_in form b.first ++ (lines ++ line)
+          = ap (λ (o : RunOutcome E). words_in form o.output ++ line) whole ∙ ap (λ t. t ++ line) (words_append form b.first (written next))
+          ∙ append_assoc (words_in form b.first) lines line in
+          subst (Appends start out') (sym is) (Appends-trans start out out' (words_in form b.first) (lines ++ line) b.took took)

@@ -1,0 +1,24 @@
+use Rattle.std.proofs.Common.{◌≡◌, ℕ, List, ◌++◌, ap, ◌∙◌}
+use Rattle.commands.proofs.Told.{folds_on}
+use Rattle.driver.proofs.run_command.remarks.tell_run.Goals as goal
+
+joined : (a b c d rest : List (List ℕ)) → a ≡ c → b ≡ d → a ++ (b ++ rest) ≡ c ++ (d ++ rest)
+joined a b c d rest e f = ap (λ x. x ++ (b ++ rest)) e ∙ ap (λ y. c ++ (y ++ rest)) f
+
+pub returns : goal.returns
+returns g c =
+    let tells = g.E.Complaints.tells in
+    let count = c.tell_count.ensures in
+    let more = c.tell_more.ensures in
+    let reason = c.tell_reason.ensures in (
+      count.0 ++ (more.0 ++ reason.0),
+      folds_on tells _ _ _ count.0 (more.0 ++ reason.0) count.1 (folds_on tells _ _ _ more.0 reason.0 more.1 reason.1),
+      record {
+        count = c.args.spent.count;
+        within = c.requires.within;
+        reason = reason.0;
+        all = joined _ _ _ _ reason.0 count.2 more.2;
+        shown = reason.2.0;
+        only = reason.2.1;
+      },
+    )

@@ -1,0 +1,84 @@
+-- What the command `build` asks of its files, prints, tells and ends by.
+use Rattle.std.specs.Prelude.{◌≡◌, ◌≢◌, ◌⊎◌, ℕ, ◌+◌, List, [], ◌∷◌, ◌++◌, All, Bool, true, false, codes, decimal, ⊤}
+use Rattle.mblock.specs.Parts.{BlockParts, OrderParts}
+use Rattle.mblock.specs.declared.limits.TheConstants.{BLOCK_INSTS}
+use Rattle.image.specs.Texts.{counts_text}
+use Rattle.image.specs.Views.{counts_of}
+use Rattle.sched_phase.specs.Phases.{IsPhase}
+use Rattle.commands.specs.Requests.{Request, reading_fault, writing_fault}
+use Rattle.commands.specs.declared.files.FileFault.{FileFault}
+use Rattle.commands.specs.Requests.Request.{Read, NotRead, Written, NotWritten}
+use Rattle.commands.specs.Texts.{IsShown, host_fault_text}
+use Rattle.commands.specs.declared.fault.HostFault.TheVariants.{CannotWrite}
+use Rattle.driver.specs.BuildTexts.{build_fault_text}
+use Rattle.driver.specs.Builds.{IsScheduledBuild, IsPlain}
+use Rattle.driver.specs.Follows.{FollowsText}
+use Rattle.driver.specs.BuildFaults.{IsBuildFault}
+use Rattle.driver.specs.declared.build_command.builds.Built.{Built}
+use Rattle.driver.specs.declared.build_command.builds.BuildFault.{BuildFault}
+
+-- the program's own scheduler may propose any order
+abbrev pub AnyOrder : BlockParts → OrderParts → Type 0
+AnyOrder b o = ⊤
+
+-- how many items a word of the image stands for at most: one with --plain
+abbrev pub factor_of : Bool → ℕ
+factor_of true = 1
+factor_of false = BLOCK_INSTS + 1
+
+-- with --plain each block in its own order, else checked orders
+abbrev pub IsScheduledAs : Bool → Built → Type 0
+IsScheduledAs true b = IsScheduledBuild IsPlain b
+IsScheduledAs false b = IsScheduledBuild (IsPhase AnyOrder) b
+
+abbrev pub IsBuiltAs : List ℕ → ℕ → Bool → Built → Type 0
+IsBuiltAs text depth plain b = FollowsText text depth (factor_of plain) b.image.items × IsScheduledAs plain b
+
+-- the line of a build
+abbrev pub built_text : Bool → Built → List ℕ
+built_text true b = codes "blocks " ++ (decimal b.blocks ++ codes " plain\n")
+built_text false b = codes "blocks " ++ (decimal b.blocks ++ (codes " " ++ (counts_text (counts_of b.report) ++ 10 ∷ [])))
+
+-- `mcc build SOURCE IMAGE`: SOURCE was read, and then IMAGE became the bytes of an image of its text
+pub record Builds (source image : List ℕ) (depth : ℕ) (plain : Bool) (status : ℕ) (requests : List Request)
+    (printed : List ℕ) : Type 0 where
+  pub text : List ℕ
+  pub built : Built
+  pub asked : requests ≡ Read source text ∷ (Written image built.image.items ∷ [])
+  pub promised : IsBuiltAs text depth plain built
+  pub line : printed ≡ built_text plain built
+  pub ends : status ≡ 0
+
+-- the same where it ended by a fault: IMAGE isn't touched but by the bytes of an image of the text, and nothing is printed before it
+-- was written
+pub data StopsBuild (source image : List ℕ) (depth : ℕ) (plain : Bool) (silent refused : Type 0) : List Request → List ℕ → Type 0 where
+  unread : (fault : FileFault) → silent
+      → StopsBuild source image depth plain silent refused (NotRead source fault ∷ []) (host_fault_text (reading_fault fault))
+  faulty : (text : List ℕ) (fault : BuildFault) → IsBuildFault text depth fault → silent
+      → StopsBuild source image depth plain silent refused (Read source text ∷ []) (build_fault_text fault)
+  unwritten : (text : List ℕ) (built : Built) → IsBuiltAs text depth plain built → (fault : FileFault) → silent
+      → StopsBuild source image depth plain silent refused (Read source text ∷ (NotWritten image built.image.items fault ∷ []))
+      (host_fault_text (writing_fault fault))
+  untold : (text : List ℕ) (built : Built) → IsBuiltAs text depth plain built → refused
+      → StopsBuild source image depth plain silent refused (Read source text ∷ (Written image built.image.items ∷ []))
+      (host_fault_text CannotWrite)
+
+-- what is told if both names are the same, in the form of wrong words
+abbrev pub one_name_text : List ℕ
+one_name_text = codes "error: SOURCE and IMAGE are one file\n\n  tip: give the image a name of its own, as in 'mcc build prog.c prog.image'\n\nFor more information, try '--help'.\n"
+
+-- `mcc build SOURCE IMAGE` by its names: a build if they differ; else status 2, and nothing is asked or printed
+pub data AnswersBuild (source image : List ℕ) (depth : ℕ) (plain : Bool) (status : ℕ) (requests : List Request)
+    (printed : List ℕ) : Type 0 where
+  apart : source ≢ image → Builds source image depth plain status requests printed
+      → AnswersBuild source image depth plain status requests printed
+  one_name : source ≡ image → status ≡ 2 → requests ≡ [] → printed ≡ [] → AnswersBuild source image depth plain status requests printed
+
+-- what is told with it: with a build warnings, which steer no terminal
+abbrev pub IsBuildRemark : (status : ℕ) → List (List ℕ) → Type 0
+IsBuildRemark status told = ((status ≢ 2) × All (All IsShown) told) ⊎ ((status ≡ 2) × (told ≡ one_name_text ∷ []))
+
+-- a build that ended by a fault has two names
+abbrev pub StopsApart : (source image : List ℕ) → (depth : ℕ) → (plain : Bool) → (silent refused : Type 0) → List Request → List ℕ → Type 0
+StopsApart source image depth plain silent refused requests told =
+    (source ≢ image) × StopsBuild source image depth plain silent refused requests told

@@ -1,0 +1,72 @@
+-- Why a text has no image.
+use Rattle.std.specs.Prelude.{ℕ, ◌+◌, ◌*◌, ◌≤◌, max, List, [], ◌∷◌}
+use Rattle.c_typed.specs.Trees.{TypedFunction, TypedProgram}
+use Rattle.c_types.specs.Typed.{SpellsTyped}
+use Rattle.rtl_lower.specs.Sizes.{HaveRoom, function_registers, function_blocks, function_insts}
+use Rattle.mips_emit.specs.declared.limits.TheConstants.{FRAME_BYTES}
+use Rattle.mips_select.specs.declared.limits.TheConstants.{STACK_BYTES}
+use Rattle.mips_select.specs.Limits.{most_blocks}
+use Rattle.mblock.specs.declared.limits.TheConstants.{UNIT_BLOCKS}
+use Rattle.mips_layout.specs.declared.limits.TheConstants.{FUNCTION_WORDS}
+use Rattle.driver.specs.SourceFaults.{IsFaultless, IsSourceFault}
+use Rattle.driver.specs.declared.build_command.builds.BuildFault.{BuildFault}
+use Rattle.driver.specs.declared.build_command.builds.BuildFault.TheVariants as faults
+use Rattle.driver.specs.declared.build_command.builds.Limit.{Limit}
+use Rattle.driver.specs.declared.build_command.builds.Limit.TheVariants as limits
+
+-- a program without faults whose RTL would have too many pseudo-registers in a function, or too many blocks
+pub record IsTooLongForRtl (text : List ℕ) : Type 0 where
+  pub program : TypedProgram
+  pub spelled : SpellsTyped text program
+  pub beyond : HaveRoom program.functions → ⊥
+
+-- the bytes of a frame, by the counts of the typed function: a word for each pseudo-register, and one for the link
+abbrev pub counted_frame : TypedFunction → ℕ
+counted_frame f = 4 * (function_registers f + 1)
+
+abbrev pub largest_counted : List TypedFunction → ℕ
+largest_counted [] = 0
+largest_counted (f ∷ fs) = max (counted_frame f) (largest_counted fs)
+
+-- at most how many blocks of machine code: two to start and end, and those for the blocks and instructions of each function
+abbrev pub function_counted : TypedFunction → ℕ
+function_counted f = most_blocks (function_blocks f) (function_insts f)
+
+abbrev pub functions_counted : List TypedFunction → ℕ
+functions_counted [] = 0
+functions_counted (f ∷ fs) = function_counted f + functions_counted fs
+
+abbrev pub blocks_counted : List TypedFunction → ℕ
+blocks_counted fs = 2 + functions_counted fs
+
+-- by these counts each frame is small enough, so many frames fit the stack, and there aren't too many blocks
+pub record FitSelection (fs : List TypedFunction) (depth : ℕ) : Type 0 where
+  pub frames : largest_counted fs ≤ FRAME_BYTES
+  pub stack : depth * largest_counted fs ≤ STACK_BYTES
+  pub blocks : blocks_counted fs ≤ UNIT_BLOCKS
+
+pub record IsTooLongForSelection (text : List ℕ) (depth : ℕ) : Type 0 where
+  pub program : TypedProgram
+  pub spelled : SpellsTyped text program
+  pub beyond : FitSelection program.functions depth → ⊥
+
+-- by these counts no function has too many words, and so neither has the program: the order of a block has at most 2,052
+abbrev pub FitAssembly : List TypedFunction → Type 0
+FitAssembly fs = 2052 * blocks_counted fs ≤ FUNCTION_WORDS
+
+pub record IsTooLongForAssembly (text : List ℕ) : Type 0 where
+  pub program : TypedProgram
+  pub spelled : SpellsTyped text program
+  pub beyond : FitAssembly program.functions → ⊥
+
+-- the limit that is exceeded, by what is counted on a program so many of whose calls may be active at once
+abbrev pub Exceeds : List ℕ → (depth : ℕ) → Limit → Type 0
+Exceeds text depth limits.Lowering = IsTooLongForRtl text
+Exceeds text depth limits.Selection = IsTooLongForSelection text depth
+Exceeds text depth limits.Assembly = IsTooLongForAssembly text
+
+-- the text's own fault, or one of the program that it spells; a limit and want of memory come only where that has none
+abbrev pub IsBuildFault : List ℕ → (depth : ℕ) → BuildFault → Type 0
+IsBuildFault text depth (faults.Source fault) = IsSourceFault text fault
+IsBuildFault text depth (faults.Limit limit) = Exceeds text depth limit
+IsBuildFault text depth faults.NoMemory = IsFaultless text

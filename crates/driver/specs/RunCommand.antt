@@ -1,0 +1,86 @@
+-- What the command `run` asks of its file, prints, tells and ends by.
+use Rattle.std.specs.Prelude.{◌≡◌, ◌⊎◌, ℕ, ◌≤◌, List, [], ◌∷◌, ◌++◌, ◌==◌, decimal, All, Bool, Option, codes, nat_lt, if◌then◌else◌}
+use Rattle.std.specs.List.{flat_map}
+use Rattle.image.specs.Texts.{image_fault_text}
+use Rattle.image.specs.Images.{IsImageFault}
+use Rattle.mips_steps.specs.Machines.{MachineOutcome}
+use Rattle.commands.specs.Numbers.{word_text}
+use Rattle.commands.specs.declared.numbers.WordForm.{WordForm}
+use Rattle.commands.specs.declared.numbers.WordForm.TheVariants.{Unsigned}
+use Rattle.commands.specs.Requests.{Request}
+use Rattle.commands.specs.OneFile.{AnswersFile, StopsFile, TookPrint}
+pub use Rattle.commands.specs.OneFile.{IsRefused}
+use Rattle.commands.specs.Streams.{BeginsFile}
+use Rattle.commands.specs.Texts.{IsPrintable}
+use Rattle.driver.specs.RunTexts.{ending_text, ending_status}
+use Rattle.driver.specs.ImageRuns.{IsImageRun}
+use Rattle.driver.specs.declared.run_command.portions.Cut.{Cut}
+use Rattle.driver.specs.declared.run_command.portions.Cut.TheVariants.{Unprinted, NoMemory}
+use Rattle.driver.specs.declared.run_command.remarks.Counted.{Counted}
+use Rattle.driver.specs.declared.run_command.remarks.Counted.TheVariants.{Words, Steps}
+
+-- each word of output in its form on a line, by default in decimal
+abbrev pub words_in : WordForm → List ℕ → List ℕ
+words_in form words = flat_map (λ w. word_text form w ++ 10 ∷ []) words
+
+abbrev pub words_text : List ℕ → List ℕ
+words_text words = words_in Unsigned words
+
+-- what is printed of an image's run: its output, and how it ended
+abbrev pub PrintsMachine : WordForm → MachineOutcome → List ℕ → Type 0
+PrintsMachine form o printed = printed ≡ words_in form o.output ++ (ending_text o.end ++ 10 ∷ [])
+
+-- `mcc run IMAGE`
+abbrev pub Runs : (image : List ℕ) → (steps : ℕ) → WordForm → (status : ℕ) → List Request → List ℕ → Type 0
+Runs image steps form = AnswersFile (λ bytes o. IsImageRun bytes steps o) (PrintsMachine form) (λ o. ending_status o.end) image
+
+-- the same where it ended by a fault before the run began, or as standard output was refused
+abbrev pub StopsRun : (image : List ℕ) → (steps : ℕ) → (silent refused : Type 0) → List Request → List ℕ → Type 0
+StopsRun image steps = StopsFile (λ bytes o. IsImageRun bytes steps o) IsImageFault image_fault_text IsRefused image
+
+-- the same where memory was refused to the run
+abbrev pub BeginsRun : (image : List ℕ) → (steps : ℕ) → WordForm → List Request → List ℕ → Type 0
+BeginsRun image steps form = BeginsFile (λ bytes o. IsImageRun bytes steps o) (PrintsMachine form) image
+
+-- the lines of the first words of an output
+pub record AreFirstLines (form : WordForm) (output printed : List ℕ) : Type 0 where
+  pub first : List ℕ
+  pub rest : List ℕ
+  pub all : output ≡ first ++ rest
+  pub lines : printed ≡ words_in form first
+
+-- what a run leaves that is cut off: standard output refused what it was asked last, or took the lines of the first words
+abbrev pub CutsOff : WordForm → (output : List ℕ) → (old new : Option (List ℕ)) → (refused : Type 0) → Cut → Type 0
+CutsOff form output old new refused Unprinted = refused
+CutsOff form output old new refused NoMemory = TookPrint old new (AreFirstLines form output)
+
+-- a byte that steers no terminal: a line's end, or one from the space to `~`
+abbrev pub IsShown : ℕ → Type 0
+IsShown byte = (byte ≡ 10) ⊎ IsPrintable byte
+
+-- how many words or steps ran
+abbrev pub unit_text : Counted → List ℕ
+unit_text Words = codes "words"
+unit_text Steps = codes "steps"
+
+abbrev pub count_text : Counted → ℕ → List ℕ
+count_text unit count = unit_text unit ++ (codes " " ++ decimal count)
+
+-- behind the end `more`: which option goes on
+abbrev pub more_hint : (most : ℕ) → List ℕ
+more_hint most = if nat_lt most 4294967295 then codes ": --steps 4294967295 goes on" else []
+
+abbrev pub more_text : Counted → (most : ℕ) → List ℕ
+more_text unit most = codes "more: the " ++ (decimal most ++ (codes " " ++ (unit_text unit
+    ++ (codes " of --steps are used up" ++ more_hint most))))
+
+-- what is told beside a run: its count if asked for, the option that goes on after `more`, and why it is stuck or wrong, in lines of
+-- printable ASCII
+pub record IsRunRemark (unit : Counted) (most : ℕ) (counts : Bool) (status : ℕ) (told : List (List ℕ)) : Type 0 where
+  pub count : ℕ
+  pub within : count ≤ most
+  pub reason : List (List ℕ)
+  pub all : told ≡ (if counts then (count_text unit count ++ 10 ∷ []) ∷ [] else [])
+      ++ ((if status == 4 then (more_text unit most ++ 10 ∷ []) ∷ [] else []) ++ reason)
+  pub shown : All (All IsShown) reason
+  pub only : (status ≡ 3 → ⊥) → reason ≡ []

@@ -1,0 +1,213 @@
+// The command that makes an image.
+
+ghost use Rattle.std.specs.Prelude.{◌≡◌, ◌≢◌, ◌≤◌, ℕ, List, All, IfErr, IfOk, OnErr, OnOk};
+ghost use Rattle.std.specs.Io.KnownBytes.{Appends};
+ghost use Rattle.commands.specs.Requests.{Asks, Does, IsSent, TellsBeside, TellsLine, WasRefused};
+ghost use Rattle.c_types.specs.Shape.{program_of};
+ghost use Rattle.c_types.specs.Typed.{SpellsTyped};
+ghost use Rattle.commands.specs.Texts.{IsShown};
+ghost use Rattle.driver.specs.BuildTexts.{build_fault_text};
+ghost use Rattle.driver.specs.BuildFaults.{IsBuildFault};
+ghost use Rattle.driver.specs.BuildCommand.{AnswersBuild, Builds, IsBuildRemark, IsBuiltAs, StopsApart, StopsBuild, built_text, one_name_text};
+
+use crate::build_command::builds::{BuildFault, Built, Limit, front_of, plain_of, unit_of_typed};
+use crate::build_command::largest::largest_line;
+use crate::build_command::places::source_place;
+use crate::build_command::scheduled_builds::{phase_of, scheduled_of, workers_for};
+use crate::build_command::texts::BuiltLine;
+use crate::build_command::warnings::{tell_warnings, warning_lines};
+use c_types::Typed;
+use command_line::AskedBuild;
+use commands::{
+    Complaints, Files, HostFault, Output, read_file, tell_placed, tell_unprinted, tell_unread,
+    tell_unwritten, write_file,
+};
+use list_scheduler::{FilledOrder, ListOrder};
+use messages::SourceFault;
+use std::alloc::Global;
+use std::io;
+use std::sync::Wait;
+use std::thread::Threads;
+use steal_pool::Open;
+
+/// What a limit is about, for the line below its fault.
+fn limit_text(limit: Limit) -> &'static str
+    ensures { All IsShown result.now }
+{
+    match limit {
+        Limit::Lowering => {
+            "a function has more than 8000 values, or the program more than 1048575 branches and calls"
+        }
+        Limit::Selection => {
+            "a call takes more than 32000 bytes of stack, all calls of --depth more than 16777216, \
+             or the program has more than 1048576 blocks"
+        }
+        Limit::Assembly => {
+            "a function has more than 32000 words of code, or the program more than 1048576"
+        }
+    }
+}
+
+/// The fault of the text, if it is one.
+fn source_fault(fault: BuildFault) -> Option<SourceFault> {
+    match fault {
+        BuildFault::Source(found) => Some(found),
+        BuildFault::Limit(_) | BuildFault::NoMemory => None,
+    }
+}
+
+/// Tells what a limit is about, and which function has most code, if that is limited.
+fn tell_limit<E: Complaints>(alloc: Global, err: &mut E, text: &[u8], limit: Limit)
+    ensures { TellsBeside E.tells err.old (All (All IsShown)) err.new }
+{
+    let about = limit_text(limit);
+    err.line(&about);
+    if limit == Limit::Assembly
+        && let Some(line) = largest_line(alloc, text)
+    {
+        err.bytes(line.as_slice());
+    }
+}
+
+/// Tells the line of a build's fault, and below it where it lies and what is said of it, or what the limit is about.
+pub fn tell_build<E: Complaints>(
+    alloc: Global,
+    err: &mut E,
+    source: &str,
+    text: &[u8],
+    fault: BuildFault,
+) -> u8
+    ensures status { result ≡ 1 }
+    ensures told { TellsLine E.tells err.old (build_fault_text fault) err.new }
+{
+    let place = source_place(alloc, source, text, source_fault(fault));
+    let status = tell_placed(alloc, err, &fault, &place);
+    // what is said of the fault is let go before a limit's line
+    drop(place);
+    if let BuildFault::Limit(limit) = fault {
+        tell_limit(alloc, err, text, limit);
+    }
+    status
+}
+
+/// Prints the line of a build: how many blocks there are, and how many of them had which verdict.
+pub fn print_built<W: Output>(out: &mut W, plain: bool, built: &Built) -> io::Result<()>
+    ensures sent { OnOk result (IsSent W.sends out.new) }
+    ensures refused { OnErr result (WasRefused W.refuses out.new) }
+    ensures line { OnOk result (Appends (W.contents out.old) (W.contents out.new) (built_text plain built.now)) }
+{
+    out.put_text(&BuiltLine { plain, built })?;
+    out.send()
+}
+
+fn built_as_asked<T: Threads + Wait + Sync>(
+    rt: &T,
+    alloc: Global,
+    typed: &Typed,
+    asked: &AskedBuild<'_>,
+) -> Result<Built, BuildFault>
+    ensures built { IfOk result (λ b. (text : List ℕ) → SpellsTyped text (program_of typed.now)
+        → IsBuiltAs text asked.now.depth asked.now.plain b) }
+    ensures fault { IfErr result (λ f. (text : List ℕ) → SpellsTyped text (program_of typed.now) → IsBuildFault text asked.now.depth f) }
+{
+    let unit = unit_of_typed(alloc, typed, asked.depth)?;
+    if asked.plain {
+        plain_of(alloc, &unit)
+    } else {
+        let workers = workers_for(unit.blocks().len(), asked.workers);
+        let phase = phase_of(workers, asked.nodes, asked.heads);
+        scheduled_of(rt, alloc, &unit, phase, &FilledOrder(ListOrder), &Open)
+    }
+}
+
+/// The build of a text, and the lines of its warnings.
+fn built_with_warnings<T: Threads + Wait + Sync>(
+    rt: &T,
+    alloc: Global,
+    text: &[u8],
+    asked: &AskedBuild<'_>,
+) -> Result<(Built, Vec<u8>), BuildFault>
+    ensures built { IfOk result (λ both. IsBuiltAs text.now asked.now.depth asked.now.plain both.0) }
+    ensures warnings { IfOk result (λ both. All IsShown both.1.items) }
+    ensures fault { IfErr result (IsBuildFault text.now asked.now.depth) }
+{
+    let (program, typed) = front_of(alloc, text)?;
+    let warnings = warning_lines(alloc, asked.source, text, &program, &typed);
+    // the syntax tree is let go before the code is made
+    drop(program);
+    let built = built_as_asked(rt, alloc, &typed, asked)?;
+    Ok((built, warnings))
+}
+
+/// What is told if IMAGE is SOURCE, in the form of wrong words.
+const ONE_NAME: &str = "\
+error: SOURCE and IMAGE are one file
+
+  tip: give the image a name of its own, as in 'mcc build prog.c prog.image'
+
+For more information, try '--help'.
+";
+
+/// Builds the C program of a file, which isn't the image's.
+fn build_apart<T: Threads + Wait + Sync, F: Files, W: Output, E: Complaints>(
+    rt: &T,
+    alloc: Global,
+    asked: &AskedBuild<'_>,
+    files: &mut F,
+    out: &mut W,
+    err: &mut E,
+) -> u8
+    ensures most { result ≤ 1 }
+    ensures answered { result ≢ 1 → Does F.answers files.old files.new (W.contents out.old) (W.contents out.new)
+        (Builds asked.now.source.now asked.now.image.now asked.now.depth asked.now.plain result) }
+    ensures sent { result ≢ 1 → IsSent W.sends out.new }
+    ensures beside { result ≢ 1 → TellsBeside E.tells err.old (All (All IsShown)) err.new }
+    ensures stopped { result ≡ 1 → Asks F.answers files.old files.new W.refuses out.old out.new E.tells err.old err.new
+        (StopsBuild asked.now.source.now asked.now.image.now asked.now.depth asked.now.plain) }
+{
+    let text = match read_file(alloc, asked.source, files) {
+        Ok(text) => text,
+        Err(fault) => return tell_unread(alloc, err, asked.source, fault),
+    };
+    let (built, warnings) = match built_with_warnings(rt, alloc, text.as_slice(), asked) {
+        Ok(both) => both,
+        Err(fault) => return tell_build(alloc, err, asked.source, text.as_slice(), fault),
+    };
+    if let Err(fault) = write_file(asked.image, built.image.as_slice(), files) {
+        return tell_unwritten(alloc, err, asked.image, fault);
+    }
+    match print_built(out, asked.plain, &built) {
+        Ok(()) => {
+            tell_warnings(err, warnings.as_slice());
+            0
+        }
+        Err(_) => tell_unprinted(err, HostFault::CannotWrite),
+    }
+}
+
+/// Builds the C program of a file. The image's file is written before anything is printed, and isn't touched where the
+/// build fails. The answer is the exit status: 2 exactly if both names are the same, and then nothing is done.
+pub fn build_file<T: Threads + Wait + Sync, F: Files, W: Output, E: Complaints>(
+    rt: &T,
+    alloc: Global,
+    asked: &AskedBuild<'_>,
+    files: &mut F,
+    out: &mut W,
+    err: &mut E,
+) -> u8
+    ensures most { result ≤ 2 }
+    ensures one_name { asked.now.source.now ≡ asked.now.image.now → result ≡ 2 }
+    ensures refused { result ≡ 2 → (asked.now.source.now ≡ asked.now.image.now) × (files.new ≡ files.old) × (out.new ≡ out.old) }
+    ensures answered { result ≢ 1 → Does F.answers files.old files.new (W.contents out.old) (W.contents out.new)
+        (AnswersBuild asked.now.source.now asked.now.image.now asked.now.depth asked.now.plain result) }
+    ensures sent { result ≢ 1 → result ≢ 2 → IsSent W.sends out.new }
+    ensures beside { result ≢ 1 → TellsBeside E.tells err.old (IsBuildRemark result) err.new }
+    ensures stopped { result ≡ 1 → Asks F.answers files.old files.new W.refuses out.old out.new E.tells err.old err.new
+        (StopsApart asked.now.source.now asked.now.image.now asked.now.depth asked.now.plain) }
+{
+    if asked.source == asked.image {
+        err.text(&ONE_NAME);
+        return 2;
+    }
+    build_apart(rt, alloc, asked, files, out, err)
+}

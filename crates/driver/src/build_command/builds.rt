@@ -1,0 +1,163 @@
+// Builds without a schedule, and what all builds share.
+ghost use Rattle.std.specs.Prelude.{◌≡◌, ◌≤◌, ℕ, List, IfOk, IfErr};
+ghost use Rattle.c_types.specs.Shape.{program_of};
+ghost use Rattle.c_types.specs.Typed.{SpellsTyped};
+ghost use Rattle.driver.specs.Builds.{IsPlain, IsScheduledBuild};
+ghost use Rattle.driver.specs.Follows.{FollowsText};
+ghost use Rattle.driver.specs.BuildFaults.{IsBuildFault};
+ghost use Rattle.driver.specs.SourceFaults.{IsSourceFault};
+ghost use Rattle.driver.specs.Halves.{IsUnitOf, IsUnwrittenOf, IsWrittenOf};
+
+use c_front::read;
+use c_tree::Program;
+use c_types::{Typed, check};
+use image::{Counts, write_image};
+use mblock::Unit;
+use messages::SourceFault;
+use mips_asm::{AsmFault, assemble};
+use mips_select::{SelectFault, select};
+use rtl_lower::{LowerFault, lower};
+use sched_phase::{Scheduled, schedule_plain};
+use std::alloc::{AllocError, Global};
+
+/// Which limit a program exceeds that has no fault.
+#[derive(Clone, Copy, Debug, PartialEq, Eq)]
+pub enum Limit {
+    /// A function would have more than 8,000 pseudo-registers, or the program more than 1,048,575 blocks of them.
+    Lowering,
+    /// A frame would have more than 32,000 bytes, the frames of all calls more than 16,777,216, or the program more than
+    /// 1,048,576 blocks.
+    Selection,
+    /// A function would have more than 32,000 words of code, or the program more than 1,048,576.
+    Assembly,
+}
+
+/// Why a text has no image.
+#[derive(Clone, Copy, Debug, PartialEq, Eq)]
+pub enum BuildFault {
+    /// The text spells no program, or a declaration or a use of a name is wrong (faults 1 to 20, and 30).
+    Source(SourceFault),
+    /// 20: the program exceeds a limit.
+    Limit(Limit),
+    /// 30: memory was refused.
+    NoMemory,
+}
+
+impl From<SourceFault> for BuildFault {
+    ghost use Rattle.driver.specs.declared.build_command.builds.BuildFault.TheVariants.{Source};
+
+    ghost from_gives = { λ fault e. e ≡ Source fault };
+
+    fn from(fault: SourceFault) -> BuildFault {
+        BuildFault::Source(fault)
+    }
+}
+
+/// An image's bytes, how many blocks of it had which verdict, and how many there are.
+#[derive(Debug, Drop)]
+pub struct Built {
+    pub image: Vec<u8>,
+    pub report: Counts,
+    pub blocks: usize,
+}
+
+/// The program that the text spells, and its typed form.
+pub(crate) fn front_of(alloc: Global, text: &[u8]) -> Result<(Program, Typed), SourceFault>
+    ensures typed { IfOk result (λ both. SpellsTyped text.now (program_of both.1)) }
+    ensures fault { IfErr result (IsSourceFault text.now) }
+{
+    let program = match read(alloc, text) {
+        Ok(program) => program,
+        Err(fault) => return Err(SourceFault::Front(fault)),
+    };
+    match check(alloc, &program) {
+        Ok(typed) => Ok((program, typed)),
+        Err(fault) => Err(SourceFault::Types(fault)),
+    }
+}
+
+/// The typed program that the text spells.
+pub fn typed_of(alloc: Global, text: &[u8]) -> Result<Typed, SourceFault>
+    ensures typed { IfOk result (λ t. SpellsTyped text.now (program_of t)) }
+    ensures fault { IfErr result (IsSourceFault text.now) }
+{
+    let (_, typed) = front_of(alloc, text)?;
+    Ok(typed)
+}
+
+/// The unit of a program, whatever text spells it.
+pub(crate) fn unit_of_typed(alloc: Global, typed: &Typed, depth: u32) -> Result<Unit, BuildFault>
+    requires { 1 ≤ depth }
+    ensures unit { IfOk result (λ u. (text : List ℕ) → SpellsTyped text (program_of typed.now) → IsUnitOf text depth u) }
+    ensures fault { IfErr result (λ f. (text : List ℕ) → SpellsTyped text (program_of typed.now) → IsBuildFault text depth f) }
+{
+    let rtl = match lower(alloc, typed) {
+        Ok(rtl) => rtl,
+        Err(LowerFault::Limit) => return Err(BuildFault::Limit(Limit::Lowering)),
+        Err(LowerFault::NoMemory) => return Err(BuildFault::NoMemory),
+    };
+    match select(alloc, &rtl, depth) {
+        Ok(unit) => Ok(unit),
+        Err(SelectFault::Limit) => Err(BuildFault::Limit(Limit::Selection)),
+        Err(SelectFault::NoMemory) => Err(BuildFault::NoMemory),
+    }
+}
+
+/// The unit of the program that the text spells: its blocks, before they are put in order.
+pub fn unit_of(alloc: Global, text: &[u8], depth: u32) -> Result<Unit, BuildFault>
+    requires { 1 ≤ depth }
+    ensures unit { IfOk result (IsUnitOf text.now depth) }
+    ensures fault { IfErr result (IsBuildFault text.now depth) }
+{
+    let typed = typed_of(alloc, text)?;
+    unit_of_typed(alloc, &typed, depth)
+}
+
+/// The bytes of a scheduled unit's image, with its counts, where memory wasn't refused to the schedule.
+pub(crate) fn write(
+    alloc: Global,
+    scheduled: Result<Scheduled<'_>, AllocError>,
+) -> Result<Built, BuildFault>
+    ensures written { IfOk result (IsWrittenOf scheduled.entry) }
+    ensures fault { IfErr result (IsUnwrittenOf scheduled.entry) }
+{
+    let Ok(scheduled) = scheduled else {
+        return Err(BuildFault::NoMemory);
+    };
+    let report = scheduled.report();
+    let image = match assemble(alloc, &scheduled) {
+        Ok(image) => image,
+        Err(AsmFault::Limit) => return Err(BuildFault::Limit(Limit::Assembly)),
+        Err(AsmFault::NoMemory) => return Err(BuildFault::NoMemory),
+    };
+    let Ok(bytes) = write_image(alloc, &image) else {
+        return Err(BuildFault::NoMemory);
+    };
+    Ok(Built {
+        image: bytes,
+        report,
+        blocks: scheduled.count(),
+    })
+}
+
+/// The image of a unit, every block in its plain order.
+pub(crate) fn plain_of(alloc: Global, unit: &Unit) -> Result<Built, BuildFault>
+    ensures follows { IfOk result (λ b. (text : List ℕ) (depth : ℕ) → IsUnitOf text depth unit.now → FollowsText text depth 1 b.image.items) }
+    ensures scheduled { IfOk result (IsScheduledBuild IsPlain) }
+    ensures fault { IfErr result (λ f. (text : List ℕ) (depth : ℕ) → IsUnitOf text depth unit.now → IsBuildFault text depth f) }
+{
+    let scheduled = schedule_plain(alloc, unit);
+    write(alloc, scheduled)
+}
+
+/// The image of the program that the text spells, every block in its plain order. It descends into the text: run it on a
+/// thread with a large stack where the text may be hostile.
+pub fn build_plain(alloc: Global, text: &[u8], depth: u32) -> Result<Built, BuildFault>
+    requires { 1 ≤ depth }
+    ensures follows { IfOk result (λ b. FollowsText text.now depth 1 b.image.items) }
+    ensures scheduled { IfOk result (IsScheduledBuild IsPlain) }
+    ensures fault { IfErr result (IsBuildFault text.now depth) }
+{
+    let unit = unit_of(alloc, text, depth)?;
+    plain_of(alloc, &unit)
+}

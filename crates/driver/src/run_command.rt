@@ -1,0 +1,17 @@
+//! The command `mcc run`. `stream` prints each portion of a run before the next one.
+mod command;
+mod image_faults;
+mod image_runs;
+mod portions;
+mod reasons;
+mod remarks;
+mod running_image;
+mod texts;
+
+pub use command::{ending_status, run_file};
+pub use image_faults::tell_image;
+pub use image_runs::run_image;
+pub use portions::{Advance, Cut, Finish, Resumable, stream};
+pub use reasons::tell_page;
+pub use remarks::{Counted, Spent, tell_run};
+pub use texts::{EndingLine, print_run};

@@ -1,0 +1,172 @@
+// The command that runs an image.
+
+ghost use Rattle.std.specs.Prelude.{◌≡◌, ◌≢◌, ◌≤◌, ◌⊎◌, IfErr, IfOk, OnOk};
+ghost use Rattle.driver.specs.RunCommand.{BeginsRun, IsRunRemark, PrintsMachine, Runs, StopsRun};
+ghost use Rattle.driver.specs.ImageRuns.{IsImageRun};
+ghost use Rattle.driver.specs.RunTexts.{ending_status};
+ghost use Rattle.driver.specs.declared.run_command.remarks.Counted.TheVariants.{Words};
+ghost use Rattle.commands.specs.Requests.{Asks, Does, IsSent, StopsMidway, TellsBeside, WasRefused};
+ghost use Rattle.commands.specs.Streams.{BreaksBy, TookAnswer};
+ghost use Rattle.image.specs.Images.{IsImageFault};
+ghost use Rattle.image.specs.Texts.{image_fault_text};
+
+use crate::run_command::image_faults::tell_image;
+use crate::run_command::portions::{Cut, stream};
+use crate::run_command::reasons::stuck_page;
+use crate::run_command::remarks::{Counted, Spent, tell_run};
+use commands::{
+    BadFile, Broken, Complaints, Files, Output, StreamCommand, WordForm, answer_stream,
+};
+use image::{ImageFault, read_image};
+use mips_machine::load;
+use mips_steps::Ending;
+use std::alloc::Global;
+
+/// The status of an image's run.
+pub fn ending_status(end: Ending) -> u8
+    ensures status { result ≡ ending_status end }
+    ensures most { result ≤ 4 }
+    ensures not_wrong_words { result ≢ 2 }
+    ensures no_fault { result ≢ 1 }
+{
+    match end {
+        Ending::Halt(_) => 0,
+        Ending::Stuck(_) => 3,
+        Ending::More => 4,
+    }
+}
+
+/// How an image's run ended: behind so many words, and at which address.
+#[derive(Clone, Copy)]
+pub struct RunEnd {
+    pub end: Ending,
+    pub count: u64,
+    pub at: u32,
+}
+
+/// `mcc run`, for so many words, in a form, and with their count if that is asked for.
+#[derive(Clone, Copy)]
+struct RunCommand {
+    steps: u64,
+    form: WordForm,
+    count: bool,
+}
+
+/// Runs the image of these bytes, and prints its output and how it ended.
+fn stream_image<W: Output>(
+    alloc: Global,
+    bytes: &[u8],
+    steps: u64,
+    form: WordForm,
+    out: &mut W,
+) -> Result<RunEnd, Broken<ImageFault>>
+    ensures took { IfOk result (λ e. TookAnswer (IsImageRun bytes.now steps) (PrintsMachine form) (λ o. ending_status o.end)
+        (W.contents out.old) (W.contents out.new) (ending_status e.end)) }
+    ensures count { IfOk result (λ e. e.count ≤ steps) }
+    ensures sent { OnOk result (IsSent W.sends out.new) }
+    ensures broken { IfErr result (BreaksBy (IsImageRun bytes.now steps) (PrintsMachine form) (IsImageFault bytes.now) (W.contents out.old)
+        (W.contents out.new) (out.new ≡ out.old) (WasRefused W.refuses out.new)) }
+{
+    let image = match read_image(alloc, bytes) {
+        Ok(image) => image,
+        Err(fault) => return Err(Broken::Faulty(fault)),
+    };
+    let Ok(mut machine) = load(alloc, &image) else {
+        return Err(Broken::Faulty(ImageFault::NoMemory));
+    };
+    match stream(alloc, &mut machine, form, steps, out) {
+        Ok(finish) => Ok(RunEnd {
+            end: finish.end,
+            count: finish.count,
+            at: machine.pc(),
+        }),
+        Err(Cut::Unprinted) => Err(Broken::Unprinted),
+        Err(Cut::NoMemory) => Err(Broken::Midway),
+    }
+}
+
+impl StreamCommand for RunCommand {
+    type End = RunEnd;
+
+    type Fault = ImageFault;
+
+    ghost use Rattle.mips_steps.specs.Machines.{MachineOutcome};
+
+    ghost Answer = { MachineOutcome };
+
+    ghost answers = { λ s bytes o. IsImageRun bytes s.steps o };
+
+    ghost faults = { λ s bytes fault. IsImageFault bytes fault };
+
+    ghost prints = { λ s o printed. PrintsMachine s.form o printed };
+
+    ghost status = { λ o. ending_status o.end };
+
+    ghost end_status = { λ e. ending_status e.end };
+
+    ghost most = { 4 };
+
+    ghost line = { image_fault_text };
+
+    ghost knows = { λ s e. e.count ≤ s.steps };
+
+    ghost remarks = { λ s status told. IsRunRemark Words s.steps s.count status told };
+
+    fn stream<W: Output>(
+        &self,
+        alloc: Global,
+        bytes: &[u8],
+        out: &mut W,
+    ) -> Result<RunEnd, Broken<ImageFault>> {
+        stream_image(alloc, bytes, self.steps, self.form, out)
+    }
+
+    fn status_of(&self, end: &RunEnd) -> u8 {
+        ending_status(end.end)
+    }
+
+    fn remark<E: Complaints>(&self, alloc: Global, bytes: &[u8], end: &RunEnd, err: &mut E) {
+        let page = match end.end {
+            Ending::Stuck(rule) => stuck_page(alloc, bytes, end.at, rule),
+            Ending::Halt(_) | Ending::More => None,
+        };
+        let spent = Spent {
+            unit: Counted::Words,
+            count: end.count,
+            most: self.steps,
+            counts: self.count,
+        };
+        tell_run(err, spent, ending_status(end.end), page);
+    }
+
+    fn tell<E: Complaints>(&self, alloc: Global, of: &BadFile<'_, ImageFault>, err: &mut E) -> u8 {
+        tell_image(alloc, err, of.file, of.bytes, of.fault)
+    }
+}
+
+/// Runs the image of a file for so many words, prints what it printed in a form, while it runs, and how it ended; the answer is the
+/// exit status.
+pub fn run_file<F: Files, W: Output, E: Complaints>(
+    alloc: Global,
+    image: &str,
+    steps: u64,
+    form: WordForm,
+    count: bool,
+    files: &mut F,
+    out: &mut W,
+    err: &mut E,
+) -> u8
+    ensures most { result ≤ 4 }
+    ensures not_wrong_words { result ≢ 2 }
+    ensures answered { result ≢ 1 → Does F.answers files.old files.new (W.contents out.old) (W.contents out.new)
+        (Runs image.now steps form result) }
+    ensures sent { result ≢ 1 → IsSent W.sends out.new }
+    ensures beside { result ≢ 1 → TellsBeside E.tells err.old (IsRunRemark Words steps count result) err.new }
+    ensures stopped { result ≡ 1
+        → Asks F.answers files.old files.new W.refuses out.old out.new E.tells err.old err.new (StopsRun image.now steps)
+        ⊎ StopsMidway F.answers files.old files.new (W.contents out.old) (W.contents out.new) E.tells err.old err.new
+        (BeginsRun image.now steps form) }
+{
+    let command = RunCommand { steps, form, count };
+    answer_stream(alloc, &command, image, files, out, err)
+}

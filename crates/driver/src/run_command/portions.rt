@@ -1,0 +1,175 @@
+// A run in portions: what a portion wrote is printed and sent on before the next one begins.
+
+ghost use Rattle.std.specs.Prelude.{◌≡◌, ◌<◌, ◌≤◌, ℕ, List, [], ◌∷◌, ◌++◌, IfErr, IfOk, OnErr, OnOk};
+ghost use Rattle.std.specs.Io.KnownBytes.{Appends};
+ghost use Rattle.commands.specs.Requests.{IsSent, WasRefused};
+ghost use Rattle.driver.specs.RunCommand.{CutsOff, words_in};
+ghost use Rattle.driver.specs.Portions.{IsEnough, RunOutcome, WentOn, after_output};
+
+use commands::{FormedWord, Output, WordForm};
+use std::alloc::{AllocError, Global};
+use std::io;
+
+/// The most words or steps of a portion.
+const PORTION: u64 = 1000000;
+
+/// The words of output that end a portion.
+const OUTPUTS: usize = 8192;
+
+/// How far a run went on.
+#[derive(Clone, Copy)]
+pub struct Advance<E> {
+    /// How it ended; None where it would go on.
+    pub end: Option<E>,
+    /// How many words or steps ran, with the last one, at which it ended.
+    pub ran: u64,
+}
+
+/// How a run ended, and how many words or steps it took.
+#[derive(Clone, Copy)]
+pub struct Finish<E> {
+    pub end: E,
+    pub count: u64,
+}
+
+/// Why a run has no end.
+#[derive(Clone, Copy)]
+pub enum Cut {
+    /// Standard output refused what it was asked.
+    Unprinted,
+    /// Memory was refused.
+    NoMemory,
+}
+
+/// What runs in portions and writes words.
+pub trait Resumable {
+    type End: Copy + Drop;
+
+    // what so many words or steps more come to, and what was written so far
+    ghost comes_to: { Self → ℕ → RunOutcome Self.End };
+
+    ghost written: { Self → List ℕ };
+
+    // the end of a run that would go on, and the text of an end
+    ghost more: { Self.End };
+
+    ghost end_text: { Self.End → List ℕ };
+
+    /// Goes on for at most so many words or steps, until so many words are written. `Err` only where memory is refused.
+    fn go_on(
+        &mut self,
+        alloc: Global,
+        most: u64,
+        outputs: usize,
+    ) -> Result<Advance<Self::End>, AllocError>
+        ensures { IfOk result (λ a. WentOn comes_to written more most self.old self.new a.end a.ran) };
+
+    /// What was written so far, the first word first.
+    fn output(&self) -> &[u32]
+        ensures { result.now ≡ written self.now };
+
+    /// Forgets what was written so far.
+    fn clear_output(&mut self)
+        ensures { (n : ℕ) → comes_to self.old n ≡ after_output (written self.old) (comes_to self.new n) };
+
+    /// The end of a run that would go on.
+    fn more(&self) -> Self::End
+        ensures end { result ≡ more }
+        ensures now { comes_to self.now 0 ≡ record { end = more; output = written self.now } };
+
+    /// Prints an end on a line.
+    fn put_end<W: Output>(&self, end: Self::End, out: &mut W) -> io::Result<()>
+        ensures line { OnOk result (Appends (W.contents out.old) (W.contents out.new) (end_text end ++ 10 ∷ [])) }
+        ensures refused { OnErr result (WasRefused W.refuses out.new) };
+}
+
+/// Prints each word in its form on a line.
+pub(crate) fn put_words<W: Output>(out: &mut W, form: WordForm, words: &[u32]) -> io::Result<()>
+    ensures lines { OnOk result (Appends (W.contents out.old) (W.contents out.new) (words_in form words.now)) }
+    ensures refused { OnErr result (WasRefused W.refuses out.new) }
+{
+    for word in words {
+        let word = *word;
+        out.put_line(&FormedWord { word, form })?;
+    }
+    Ok(())
+}
+
+/// Prints what a portion wrote, and sends it on.
+fn put_portion<W: Output>(out: &mut W, form: WordForm, words: &[u32]) -> io::Result<()>
+    ensures lines { OnOk result (Appends (W.contents out.old) (W.contents out.new) (words_in form words.now)) }
+    ensures refused { OnErr result (WasRefused W.refuses out.new) }
+{
+    put_words(out, form, words)?;
+    out.send()
+}
+
+/// Prints what the last portion wrote, and the end, and sends that on.
+fn put_last<R: Resumable, W: Output>(
+    run: &R,
+    out: &mut W,
+    form: WordForm,
+    end: R::End,
+) -> io::Result<()>
+    ensures lines { OnOk result (Appends (W.contents out.old) (W.contents out.new) (words_in form (R.written run.now) ++ (R.end_text end ++ 10 ∷ []))) }
+    ensures sent { OnOk result (IsSent W.sends out.new) }
+    ensures refused { OnErr result (WasRefused W.refuses out.new) }
+{
+    put_words(out, form, run.output())?;
+    run.put_end(end, out)?;
+    out.send()
+}
+
+/// The words or steps of the next portion, if so many are left.
+fn portion_of(left: u64) -> u64
+    ensures within { result ≤ left }
+    ensures some { 0 < left → 0 < result }
+{
+    if left < PORTION { left } else { PORTION }
+}
+
+/// Runs for at most so many words or steps. The output of each portion is printed and sent on before the next one begins, and at last
+/// how the run ended. A portion takes at most a million words or steps, or writes 8192 words.
+pub fn stream<R: Resumable, W: Output>(
+    alloc: Global,
+    run: &mut R,
+    form: WordForm,
+    most: u64,
+    out: &mut W,
+) -> Result<Finish<R::End>, Cut>
+    ensures took { IfOk result (λ f. Appends (W.contents out.old) (W.contents out.new)
+        (words_in form (R.comes_to run.old most).output ++ (R.end_text f.end ++ 10 ∷ []))) }
+    ensures end { IfOk result (λ f. f.end ≡ (R.comes_to run.old most).end) }
+    ensures count { IfOk result (λ f. IsEnough (R.comes_to run.old) R.more most f.count) }
+    ensures sent { OnOk result (IsSent W.sends out.new) }
+    ensures cut { IfErr result (CutsOff form (R.comes_to run.old most).output (W.contents out.old) (W.contents out.new)
+        (WasRefused W.refuses out.new)) }
+{
+    let mut left = most;
+    loop {
+        let Ok(advance) = run.go_on(alloc, portion_of(left), OUTPUTS) else {
+            return Err(Cut::NoMemory);
+        };
+        left -= advance.ran;
+        if let Some(end) = advance.end {
+            return match put_last(run, out, form, end) {
+                Ok(()) => Ok(Finish {
+                    end,
+                    count: most - left,
+                }),
+                Err(_) => Err(Cut::Unprinted),
+            };
+        }
+        if left == 0 {
+            let end = run.more();
+            return match put_last(run, out, form, end) {
+                Ok(()) => Ok(Finish { end, count: most }),
+                Err(_) => Err(Cut::Unprinted),
+            };
+        }
+        match put_portion(out, form, run.output()) {
+            Ok(()) => run.clear_output(),
+            Err(_) => return Err(Cut::Unprinted),
+        }
+    }
+}

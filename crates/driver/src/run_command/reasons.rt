@@ -1,0 +1,98 @@
+// Why an image's run is stuck, in lines for people.
+
+ghost use Rattle.std.specs.Prelude.{All, IfOk, IfSome};
+ghost use Rattle.driver.specs.RunCommand.{IsShown};
+ghost use Rattle.commands.specs.Requests.{TellsBeside};
+
+use commands::{Complaints, printable_byte};
+use image::{Image, read_image};
+use mips_asm::list;
+use mips_isa::{CODE_BASE, Rule};
+use std::alloc::{AllocError, Global};
+
+/// The byte itself if it is printable or a line's end, else `?`.
+fn shown_byte(byte: u8) -> u8
+    ensures { IsShown result }
+{
+    match byte {
+        b'\n' => b'\n',
+        _ => printable_byte(byte),
+    }
+}
+
+fn shown_bytes(alloc: Global, text: &[u8]) -> Result<Vec<u8>, AllocError>
+    ensures { IfOk result (λ bytes. All IsShown bytes.items) }
+{
+    let mut bytes = Vec::new(alloc);
+    for byte in text {
+        bytes.push(shown_byte(*byte))?;
+    }
+    Ok(bytes)
+}
+
+/// Lines as they may be told; None where memory was refused to them.
+fn page(alloc: Global, lines: Result<String, AllocError>) -> Option<Vec<u8>>
+    ensures { IfSome result (λ page. All IsShown page.items) }
+{
+    match lines {
+        Ok(lines) => shown_bytes(alloc, lines.as_bytes()).ok(),
+        Err(_) => None,
+    }
+}
+
+/// Tells the lines, if there are some.
+pub fn tell_page<E: Complaints>(err: &mut E, page: Option<Vec<u8>>)
+    requires { IfSome page (λ page. All IsShown page.items) }
+    ensures { TellsBeside E.tells err.old (All (All IsShown)) err.new }
+{
+    if let Some(page) = page {
+        err.bytes(page.as_slice());
+    }
+}
+
+/// A rule of the machine in words.
+fn rule_words(rule: Rule) -> &'static str {
+    match rule {
+        Rule::M1 => "it reads or writes the register that the word before it loads",
+        Rule::M2 =>
+            "fewer than two words stand between mfhi or mflo and this multiplication or division",
+        Rule::M3 => "a branch or jump is in a delay slot",
+        Rule::M4 => "a division by 0, or of -2147483648 by -1",
+        Rule::M5 => "the address of the word is no multiple of 4",
+        Rule::M6 => "the address isn't mapped: data and stack are",
+        Rule::M7 => "no code word is there",
+        Rule::M8 => "the word is no instruction",
+        Rule::M9 => "register 2 has neither 1 (print register 4) nor 10 (halt)",
+    }
+}
+
+/// The line of the listing that has the code word at this address, if there is one.
+fn put_listed(alloc: Global, out: &mut String, image: &Image, at: u32) -> Result<(), AllocError> {
+    let number = at.saturating_sub(CODE_BASE) as usize / 4;
+    if at < CODE_BASE || at % 4 != 0 || number >= image.code().len() {
+        return Ok(());
+    }
+    let listing = list(alloc, image)?;
+    if let Some(line) = listing.as_str().lines().nth(number) {
+        out.push_str(line)?;
+        out.push_str("\n")?;
+    }
+    Ok(())
+}
+
+fn stuck_lines(alloc: Global, image: &Image, at: u32, rule: Rule) -> Result<String, AllocError> {
+    let words = rule_words(rule);
+    let mut lines = format!(in alloc; "stuck: at 0x{at:x}: {words}\n")?;
+    put_listed(alloc, &mut lines, image, at)?;
+    Ok(lines)
+}
+
+/// Why the image of these bytes is stuck at an address, by a rule.
+pub(crate) fn stuck_page(alloc: Global, bytes: &[u8], at: u32, rule: Rule) -> Option<Vec<u8>>
+    ensures { IfSome result (λ page. All IsShown page.items) }
+{
+    let Ok(image) = read_image(alloc, bytes) else {
+        return None;
+    };
+    page(alloc, stuck_lines(alloc, &image, at, rule))
+}

@@ -1,0 +1,57 @@
+// The machine, as what runs in portions.
+
+ghost use Rattle.std.specs.Prelude.{◌≡◌, ◌∷◌, ◌++◌, [], IfOk, OnErr, OnOk};
+ghost use Rattle.driver.specs.ImageRuns.{comes_to};
+ghost use Rattle.driver.specs.RunTexts.{ending_text};
+ghost use Rattle.mips_machine.specs.Views.{machine_of};
+
+use crate::run_command::portions::{Advance, Resumable};
+use crate::run_command::texts::EndingLine;
+use commands::Output;
+use mips_machine::Machine;
+use mips_steps::Ending;
+use std::alloc::{AllocError, Global};
+use std::io;
+
+impl Resumable for Machine<'_> {
+    type End = Ending;
+
+    ghost use Rattle.mips_steps.specs.declared.steps.Ending.TheVariants.{More};
+
+    ghost comes_to = { λ m n. comes_to m n };
+
+    ghost written = { λ m. (machine_of m).output };
+
+    ghost more = { More };
+
+    ghost end_text = { ending_text };
+
+    fn go_on(
+        &mut self,
+        _alloc: Global,
+        most: u64,
+        outputs: usize,
+    ) -> Result<Advance<Ending>, AllocError> {
+        let portion = Machine::go_on(self, most, outputs)?;
+        Ok(Advance {
+            end: portion.end,
+            ran: portion.words,
+        })
+    }
+
+    fn output(&self) -> &[u32] {
+        Machine::output(self)
+    }
+
+    fn clear_output(&mut self) {
+        Machine::clear_output(self)
+    }
+
+    fn more(&self) -> Ending {
+        Ending::More
+    }
+
+    fn put_end<W: Output>(&self, end: Ending, out: &mut W) -> io::Result<()> {
+        out.put_line(&EndingLine(end))
+    }
+}

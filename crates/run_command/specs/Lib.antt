@@ -1,4 +1,0 @@
-pub mod Texts
-pub mod ImageRuns
-pub mod Command
-pub mod Portions
