@@ -1,11 +1,10 @@
-// A program over its host: its words, the host's files, and the standard streams.
+// What the program has of its host: its words, the host's files, and the standard streams.
 
-ghost use Rattle.std.specs.Thread.{IsSync};
-
+use crate::answer;
+use crate::arguments::{named_words, owned_words, tell_no_words};
 use crate::files::Disk;
 use crate::stack::{longest_text, stack_for};
 use crate::streams::UntilRefused;
-use crate::words::{named_words, owned_words, tell_no_words};
 use commands::{Complaints, Files, HostFault, Output, tell};
 use std::alloc::Global;
 use std::io::{BufWriter, Write};
@@ -17,37 +16,26 @@ use std::{io, thread};
 
 /// What a program has of its host: its threads and memory, its words (the first is its name), files, and two streams.
 #[derive(Drop)]
-pub struct Host<'a, T, F, W, E> {
-    pub threads: &'a T,
-    pub alloc: Global,
-    pub words: &'a [&'a str],
-    pub files: F,
-    pub out: W,
-    pub err: E,
+pub(crate) struct Host<'a, T, F, W, E> {
+    pub(crate) threads: &'a T,
+    pub(crate) alloc: Global,
+    pub(crate) words: &'a [&'a str],
+    pub(crate) files: F,
+    pub(crate) out: W,
+    pub(crate) err: E,
 }
 
-/// What a program does with what it has; the answer is its exit status.
-pub trait Program {
-    // (an impl's method doesn't know of a bound Sync otherwise)
-    fn answer<T: Threads + Wait + Sync, F: Files, W: Output, E: Complaints>(
-        &self,
-        host: &mut Host<'_, T, F, W, E>,
-    ) -> u8
-        requires { IsSync T.row };
-}
-
-/// Has the program answer on this thread, whose stack holds texts of `longest` bytes.
+/// Has `mcc` answer on this thread, whose stack holds texts of `longest` bytes.
 fn work<
-    P: Program,
     T: Threads + Wait + Sync,
     R: HostFiles + AllocGlobal + Input,
     W: Write + Drop,
     E: Write + Drop,
->(program: &P, threads: &T, rt: &R, words: &[&str], longest: usize, out: W, mut err: E) -> u8 {
+>(threads: &T, rt: &R, words: &[&str], longest: usize, out: W, mut err: E) -> u8 {
     let alloc = rt.alloc();
     let files = Disk { rt, longest };
     match BufWriter::new(alloc, UntilRefused::new(out)) {
-        Ok(out) => program.answer(&mut Host {
+        Ok(out) => answer(&mut Host {
             threads,
             alloc,
             words,
@@ -68,27 +56,14 @@ fn reuse_large_memory(alloc: Global) {
     let _block: Result<Vec<u8>, _> = Vec::with_capacity(alloc, APART);
 }
 
-/// Has the program answer on a thread whose stack is as large as the texts ask that its words name. If no such thread can be
+/// Has `mcc` answer on a thread whose stack is as large as the texts ask that its words name. If no such thread can be
 /// had, memory was refused.
-fn work_apart<P: Program + Sync>(
-    program: &P,
-    threads: &(impl Threads + Wait + Sync),
-    rt: &HostRuntime,
-    words: &[&str],
-) -> u8 {
+fn work_apart(threads: &(impl Threads + Wait + Sync), rt: &HostRuntime, words: &[&str]) -> u8 {
     let longest = longest_text(rt, words);
     thread::scope(thread::scope_env(), threads, |scope| {
         let started = Builder::new().stack_size(stack_for(longest)).spawn_scoped(
             scope,
-            move || work(
-                program,
-                threads,
-                rt,
-                words,
-                longest,
-                rt.stdout(),
-                rt.stderr(),
-            ),
+            move || work(threads, rt, words, longest, rt.stdout(), rt.stderr()),
         );
         match started {
             Ok(worker) => worker.join(threads),
@@ -97,13 +72,9 @@ fn work_apart<P: Program + Sync>(
     })
 }
 
-/// Runs the program over the words of the command line, the host's files and the standard streams, on a thread of its own. Both
+/// Runs `mcc` over the words of the command line, the host's files and the standard streams, on a thread of its own. Both
 /// `threads` and `rt` are the host, which hands on its threads in `main` alone.
-pub fn run<P: Program + Sync>(
-    program: &P,
-    threads: &(impl Threads + Wait + Sync),
-    rt: &HostRuntime,
-) -> ExitCode {
+pub(crate) fn run(threads: &(impl Threads + Wait + Sync), rt: &HostRuntime) -> ExitCode {
     reuse_large_memory(rt.alloc());
     let mut err = rt.stderr();
     let owned = match owned_words(rt) {
@@ -114,5 +85,5 @@ pub fn run<P: Program + Sync>(
         Ok(words) => words,
         Err(e) => return ExitCode::from(tell_no_words(&mut err, &io::Error::from(e))),
     };
-    ExitCode::from(work_apart(program, threads, rt, words.as_slice()))
+    ExitCode::from(work_apart(threads, rt, words.as_slice()))
 }

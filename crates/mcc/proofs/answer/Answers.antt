@@ -1,4 +1,4 @@
-use Rattle.mcc.proofs.MccProgram.answer.Goals as goal
+use Rattle.mcc.proofs.answer.Goals as goal
 
 -- each clause is that of driver::mcc, of the same words, files and streams
 pub returns-clause-most : goal.returns-clause-most
