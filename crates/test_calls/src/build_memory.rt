@@ -2,10 +2,9 @@
 //! all that it can get. With each block that it gives back the call comes further.
 use crate::builds::LOOP;
 use crate::scarce_memory::{AllMemory, BLOCKS};
-use delay_filler::FilledOrder;
 use driver::{BuildFault, BuildOpts, Built, SourceFault, build, build_one, build_plain, run_image};
 use image::read_image;
-use list_scheduler::ListOrder;
+use list_scheduler::{FilledOrder, ListOrder};
 use mips_machine::{Machine, load};
 use mips_steps::Ending;
 use sched_phase::PhaseOpts;
@@ -14,11 +13,11 @@ use std::sync::Wait;
 use std::thread::Threads;
 use steal_pool::Open;
 
-/// The size of the block that is given back last: 64 MB.
-pub const LARGE: usize = 0x400_0000;
+// The size of the block that is given back last: 64 MB.
+const LARGE: usize = 0x400_0000;
 
-/// All memory that can be had, with these blocks to give back.
-pub fn all_memory(alloc: Global) -> Option<AllMemory> {
+// All memory that can be had, with these blocks to give back.
+fn all_memory(alloc: Global) -> Option<AllMemory> {
     AllMemory::take(alloc, BLOCKS, LARGE).ok()
 }
 
@@ -38,8 +37,8 @@ fn has_each_block(built: &Built) -> bool {
     report.full == 0 && counted == built.blocks as u64
 }
 
-/// Whether memory was refused to a build.
-pub fn is_refusal(fault: BuildFault) -> bool {
+// Whether memory was refused to a build.
+fn is_refusal(fault: BuildFault) -> bool {
     match fault {
         BuildFault::Source(SourceFault::Front(fault)) => fault.kind.number() == 30,
         BuildFault::Source(SourceFault::Types(fault)) => fault.kind.number() == 30,
@@ -48,8 +47,8 @@ pub fn is_refusal(fault: BuildFault) -> bool {
     }
 }
 
-/// Whether the image prints 3 and ends with 0.
-pub fn prints_three(alloc: Global, image: &[u8]) -> bool {
+// Whether the image prints 3 and ends with 0.
+fn prints_three(alloc: Global, image: &[u8]) -> bool {
     match run_image(alloc, image, 1000) {
         Ok(ran) => ran.end == Ending::Halt(0) && ran.output.as_slice() == [3].as_slice(),
         Err(_) => false,
@@ -90,8 +89,8 @@ fn attempt<T: Threads + Wait + Sync>(
     }
 }
 
-// Gives memory back until each block of a build is found the same, and keeps each image on the way; how many builds were refused.
-// None where a build tells another fault or counts a block twice or not at all, where one worker misses a block, or none is whole.
+// Gives memory back until each block of a build is found the same, and keeps each image on the way; how many builds were refused. None
+// where a build tells another fault, counts a block twice or not at all, or none is whole.
 fn builds_until_whole<T: Threads + Wait + Sync>(
     threads: &T,
     alloc: Global,
@@ -120,9 +119,9 @@ fn builds_until_whole<T: Threads + Wait + Sync>(
     None
 }
 
-/// Whether builds by so many workers are refused memory, and each image that is made before one is whole prints 3; None where they
-/// do another thing.
-pub fn scarce_builds_run<T: Threads + Wait + Sync>(
+// Whether builds by so many workers are refused memory, and each image that is made before one is whole prints 3; None where they
+// do another thing.
+fn scarce_builds_run<T: Threads + Wait + Sync>(
     threads: &T,
     alloc: Global,
     workers: u64,
@@ -158,8 +157,8 @@ fn step_on(alloc: Global, machine: &mut Machine<'_>) -> Option<u32> {
     Some(refusals)
 }
 
-/// Whether each word is 7.
-pub fn are_sevens(output: &[u32]) -> bool {
+// Whether each word is 7.
+fn are_sevens(output: &[u32]) -> bool {
     for &word in output {
         if word != 7 {
             return false;

@@ -1,7 +1,6 @@
 //! Builds of C programs, and what their images do.
-use delay_filler::FilledOrder;
 use driver::{BuildOpts, Built, build, build_one, run_image};
-use list_scheduler::{ListOrder, Reorder};
+use list_scheduler::{FilledOrder, ListOrder, Reorder};
 use mips_steps::Ending;
 use sched_phase::PhaseOpts;
 use std::alloc::Global;

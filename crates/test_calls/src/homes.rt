@@ -1,13 +1,28 @@
 // The homes of pseudo-registers.
 
 use crate::programs::{Ends, Function, function, program};
-use crate::rtl_runs::WRITES_A_SUM;
 use mips_homes::{
     Frame, Home, Homed, each_choice_never_forgets, each_homed_run_is_the_run, frame_of, homes,
     place,
 };
 use rtl::{Op, RInst};
 use std::alloc::Global;
+
+// -1 + 1, which is printed, and 1 is returned.
+const WRITES_A_SUM: Function<'static> = (
+    0,
+    &[
+        (
+            &[
+                RInst::Const(0, 4_294_967_295),
+                RInst::Const(1, 1),
+                RInst::Bin(Op::Add, 2, 0, 1),
+            ],
+            Ends::Out(2, 1),
+        ),
+        (&[], Ends::Return(Some(1))),
+    ],
+);
 
 // A function, and the homes, the saved registers and the slots of its frame.
 type Row = (Function<'static>, &'static [Home], &'static [u8], u32);
@@ -85,7 +100,7 @@ fn ends_with_frame(homed: &Homed<'_>, count: usize, (_, wants, saved, slots): Ro
 
 #[test]
 fn a_program_has_homes(rt: HostRuntime) {
-    let sum = program(rt.alloc(), &[WRITES_A_SUM], &[], 0).expect(&rt, "a program");
+    let sum = program(rt.alloc(), &[WRITES_A_SUM]).expect(&rt, "a program");
     let homed = homes(rt.alloc(), &sum).ok().expect(&rt, "homes");
     assert!(&rt; ends_with_frame(&homed, 1, SUM));
     each_homed_run_is_the_run();
@@ -282,7 +297,7 @@ const NOTHING: Function<'static> = (0, &[(&[], Ends::Return(None))]);
 
 // Whether the row's function has its frame, where what is local to blocks is placed.
 fn is_placed(alloc: Global, row: Row) -> Option<bool> {
-    let both = program(alloc, &[NOTHING, row.0], &[], 0)?;
+    let both = program(alloc, &[NOTHING, row.0])?;
     let placed = place(alloc, &both).ok()?;
     Some(ends_with_frame(&placed, 2, row))
 }

@@ -2,8 +2,7 @@
 use crate::refused_memory::opened;
 use block_validator::{Place, Verdict, validate};
 use check_text::{Text, read};
-use delay_filler::{FilledOrder, fill};
-use list_scheduler::{Hostile, ListOrder, Reorder};
+use list_scheduler::{FilledOrder, Hostile, ListOrder, Reorder, fill};
 use mblock::{Block, Exit, Order, Unclean, plain};
 use mips_isa::{HiLo, Plain, Reg};
 use std::alloc::Global;

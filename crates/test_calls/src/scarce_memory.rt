@@ -1,10 +1,10 @@
 // Memory that is really refused, for tests that are processes of their own: all that can be had is taken, and given back
-// block by block. `refusals` counts how often a call is refused memory before it is done.
+// block by block.
 //
 // No contract can say what memory there is. `take` has as many blocks to give back as it was asked for, and `give_back`
 // has one less.
 
-ghost use Rattle.std.specs.Prelude.{◌≡◌, ◌-◌, ◌≤◌, IfOk, IfSome, length};
+ghost use Rattle.std.specs.Prelude.{◌≡◌, ◌-◌, ◌≤◌, IfOk, length};
 
 use std::alloc::{AllocError, Global};
 
@@ -40,38 +40,6 @@ impl AllMemory {
     {
         drop(self.blocks.pop());
     }
-}
-
-/// How a call ended to which memory may have been refused.
-#[derive(Clone, Copy, Debug, PartialEq, Eq)]
-pub enum Attempt {
-    Done,
-    Refused,
-    /// In another way than its caller awaits.
-    Wrong,
-}
-
-/// How often the call is refused memory before it is done, as so many blocks are given back one by one, the last of `last` bytes: at
-/// most as often as there are blocks. None where it ends wrongly, or is never done.
-pub fn refusals<F: FnMut() -> Attempt>(
-    alloc: Global,
-    count: usize,
-    last: usize,
-    mut attempt: F,
-) -> Result<Option<usize>, AllocError>
-    requires { F.IsAlwaysCallable attempt }
-    ensures { IfOk result (λ refused. IfSome refused (λ n. n ≤ count)) }
-{
-    let mut memory = AllMemory::take(alloc, count, last)?;
-    for refused in 0..=count {
-        match attempt() {
-            Attempt::Done => return Ok(Some(refused)),
-            Attempt::Refused => {}
-            Attempt::Wrong => return Ok(None),
-        }
-        memory.give_back();
-    }
-    Ok(None)
 }
 
 // So many blocks, the first of `last` bytes and the others of 4 KB.

@@ -1,5 +1,5 @@
-// Units to images, and images run. The expected words are those that GNU as gives the same program (-mips1 -EB, code at
-// 0x00400000), the texts those of GNU objdump, with registers by number.
+// Units to images, and images run. The expected words are those that GNU as gives the same program (-mips1 -EB, code at 0x00400000). The
+// texts are objdump's, with registers by number.
 
 ghost use Rattle.std.specs.Prelude.{◌≡◌};
 
@@ -260,7 +260,7 @@ fn scheduled(alloc: Global, unit: &Unit) -> Option<Image> {
     }
 }
 
-// Whether the image is written as the row says and read back from that, and what is read ends and prints as it should, and not before.
+// Whether the image is written as the row says and read back, and what is read ends and prints as it should, not before.
 fn is_image(alloc: Global, image: &Image, row: &Row) -> Option<bool> {
     let bytes = bytes_of(alloc, &[row.head, row.code], row.data)?;
     let written = write_image(alloc, image).ok()?;
