@@ -139,10 +139,9 @@ fn verdict_of<'a>(
 /// The verdict on an order for a block: the least delay rule that it breaks, else the first place whose
 /// terms differ, else that it means the block.
 ///
-/// Memory is taken before any term is linked: where it is refused or a rule is broken, the pass is as it was. `Full` comes only
-/// where the pass has linked as many terms as it may, and one of those that block and order ask for isn't in
-/// the table. Whatever the verdict, the terms that were linked stay, and the pass is the table's. They are no
-/// more than the actions of block and order may link.
+/// Memory is taken before any term is linked: where it is refused or a rule is broken, the pass is as it was. `Full` comes only if the
+/// pass has linked all it may and a term that block or order asks for isn't in the table. Whatever the verdict, the terms that were
+/// linked stay, and the pass is the table's. They are no more than the actions of block and order may link.
 pub fn validate<'a>(
     alloc: Global,
     table: &TermTable,

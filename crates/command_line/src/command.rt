@@ -5,9 +5,9 @@ ghost use Rattle.term_table.specs.Passes.{InRange};
 
 use commands::WordForm;
 
-/// What is asked of a build: the C program of a file, and the file of its image, made for `depth` active calls at most (1 to
-/// 4096). `plain` leaves every block in its own order; else `workers` (1 to `MAX_PASSES`) put the blocks in order, over a table
-/// with `nodes` terms for each (1 to `MAX_NODES`) and `heads` chains (1 to `MAX_HEADS`), as term_table has them.
+/// What is asked of a build: the C program of a file, and the file of its image, made for `depth` active calls at most (1 to 4096).
+/// `plain` leaves every block in its own order; else at most `workers` (1 to `MAX_PASSES`) put the blocks in order. Their table has
+/// `nodes` terms for each (1 to `MAX_NODES`) and `heads` chains (1 to `MAX_HEADS`).
 #[derive(Clone, Copy)]
 pub struct AskedBuild<'a> {
     pub source: &'a str,
@@ -32,9 +32,8 @@ pub enum Level {
     Blocks,
 }
 
-/// What is asked of a run of the C program of a file, with `depth` active calls at most (1 to 4096) and `steps` steps (below
-/// 2^32). The words of output have the form; `count` asks how many steps ran, which is known
-/// at the level of C alone.
+/// What is asked of a run of a C program, with at most `depth` active calls (1 to 4096) and `steps` steps (below 2^32). The words of
+/// output have the form; `count` asks how many steps ran, which is known at the level of C alone.
 #[derive(Clone, Copy)]
 pub struct AskedInterp<'a> {
     pub source: &'a str,
@@ -89,8 +88,8 @@ pub enum Command<'a> {
         image: &'a str,
         asm: bool,
     },
-    /// What becomes of the C program of a file at one stage (`rtl`, `homes`, `blocks`, `orders`, `check`, `terms`, `listing`,
-    /// `asm`), or at three where none is named; of one function, or of all; of one block, or of all; `dot` asks for graphs.
+    /// What becomes of a C program at one stage (`rtl`, `homes`, `blocks`, `orders`, `check`, `terms`, `listing`, `asm`), or at three if
+    /// none is named; of one function, or of all; of one block, or of all; `dot` asks for graphs.
     Show {
         source: &'a str,
         stage: Option<&'a str>,

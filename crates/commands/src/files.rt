@@ -17,8 +17,8 @@ pub enum FileFault {
     NoMemory,
 }
 
-/// The files that the program may reach. What a request does to them is their own: `answers` relates the files before a request
-/// and after it, so that a contract over any such files says all that was asked of them, in order.
+/// The files that the program may reach. What a request does to them is their own: `answers` relates the files before a request and after
+/// it. So a contract over any such files says all that was asked of them, in order.
 pub trait Files {
     ghost answers: { Self → Request → Self → Type 0 };
 

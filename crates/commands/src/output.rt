@@ -6,7 +6,7 @@ use std::fmt;
 use std::io::{self, Write};
 
 /// Where answers go. It may keep what is written until it is asked to send that on. `sends` and `refuses` are its own and relate it
-/// before such a call and after it, so that a contract over any such place says that nothing was kept, or that it refused.
+/// before and after such a call. So a contract over any such place says that nothing was kept, or that it refused.
 pub trait Output: Write {
     ghost sends: { Self → Self → Type 0 };
 

@@ -166,8 +166,8 @@ fn dots(is_cut: bool) -> &'static [u8] {
     if is_cut { DOTS } else { b"" }
 }
 
-/// Adds the line of the text in which the offset lies, at most 160 bytes of it, and below it a line with a caret under the
-/// offset; nothing at the text's end.
+/// Adds at most 160 bytes of the line in which the offset lies, and below it a line with a caret under the offset; nothing at the text's
+/// end.
 fn add_place(lines: &mut Lines, text: &[u8], at: usize)
     ensures { All IsShown lines.old.bytes.items → All IsShown lines.new.bytes.items }
 {
@@ -274,7 +274,7 @@ fn lines_below(alloc: Global, place: &Place<'_>, at: usize) -> Result<Vec<u8>, A
     lines.end()
 }
 
-/// Tells the line of a fault of a text, and below it where it lies and what is said of it, if it has a place.
+/// Tells the line of a fault of a text. If it has a place, below come the place and what is said of it.
 pub fn tell_placed<E: Complaints, F: fmt::Display>(
     alloc: Global,
     err: &mut E,

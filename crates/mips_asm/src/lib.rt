@@ -9,7 +9,7 @@
 //! | Tested | In |
 //! |---|---|
 //! | each rule and each rejection by worked words | tests/images |
-//! | changed bytes, refused memory | test_calls |
+//! | the words that GNU as gives; refused memory | test_calls, `.ci/refuse` |
 #![tactic(auto)]
 
 mod assembly;

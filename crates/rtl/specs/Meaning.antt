@@ -1,6 +1,6 @@
--- What a program does, one step after another: each instruction and each exit is one step. Wrong is what has no value: a
--- division without one, a pseudo-register that isn't set in its activation, an index outside a global, a result that is
--- wanted and not returned, a call beyond the depth, and what isn't there at all, which no program that is an `Rtl` names.
+-- What a program does, one step after another: each instruction and each exit is one step. Wrong is what has no value: a division without
+-- one, a pseudo-register that isn't set in its activation, an index outside a global. So is a result that is wanted and not returned, and
+-- a call beyond the depth. What isn't there at all is wrong too, but no program that is an `Rtl` names it.
 use Rattle.std.specs.Prelude.{ℕ, ◌&&◌, ◌==◌, List, [], ◌∷◌, ◌++◌, Option, Some, None, length, nat_lt, if◌then◌else◌, slice_get}
 use Rattle.std.specs.Prelude.{map}
 use Rattle.words.specs.Words.{wrap}

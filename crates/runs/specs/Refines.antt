@@ -3,8 +3,8 @@ use Rattle.std.specs.Prelude.{◌≡◌, ◌≢◌, ℕ, ◌+◌, ◌*◌, ◌<�
 use Rattle.runs.specs.declared.ran.End.TheVariants.{Wrong}
 use Rattle.runs.specs.Runs.{Outcome}
 
--- source and target say what each comes to by its own number of steps. For every number of steps after which the source isn't
--- wrong there is one of the target's, in pace with it, after which the two agree
+-- source and target say what each comes to by its own number of steps. For every number of steps after which the source isn't wrong,
+-- there is one of the target's, in pace with it, where both agree
 abbrev pub Refines : {T : Type 0} → (pace : ℕ → ℕ → Type 0) → (agrees : Outcome → T → Type 0) → (source : ℕ → Outcome) → (target : ℕ → T)
     → Type 0
 Refines pace agrees source target = (n : ℕ) → (source n).end ≢ Wrong → (m : ℕ) × pace n m × agrees (source n) (target m)

@@ -84,8 +84,8 @@ pub(crate) fn open_table(
     }
 }
 
-/// The verdict on the order that is proposed for a block; where the table is full, that over a table of the block's own, first
-/// over one for the terms that it may have, then over one with all the nodes of the options.
+/// The verdict on the order that is proposed for a block; if the table is full, the verdict over a table of the block's own. First it has
+/// room for the terms that the block may have, then all the nodes of the options.
 pub(crate) fn last_verdict<'a, R: Reorder>(
     alloc: Global,
     options: PhaseOpts,

@@ -22,8 +22,8 @@ module _ {K : Type 0} where
     pub turn : (k : ℕ) → k < length deques → slice_get (deques_of m) k ≡ slice_get deques ((w + k) % length deques)
     pub shares : (k : ℕ) (v : View) → slice_get (views_of m) k ≡ Some v → IsShare ((w + k) % length deques) (length deques) n v.put
 
-  -- of the deque of each place, the member at place w has a view, which knows the share of that place, and of which it is
-  -- noted that the deque was empty
+  -- the member at place w has a view of the deque of each place. The view knows the share of that place, and it is noted of it that the
+  -- deque was empty
   abbrev pub FoundEmpty : (View → Type 0) → ℕ → List (RowsId × Global) → ℕ → Member K → Type 0
   FoundEmpty empty n deques w m =
       (j : ℕ) (q : RowsId × Global) → slice_get deques j ≡ Some q

@@ -1,8 +1,8 @@
 // The laws of a pool's deques, each as the contract of a function that does nothing.
 ghost use Rattle.steal_pool.specs.Laws.{EachDequeKeepsItsTasks, ViewsTellPlaces};
 
-/// The rule of a deque is itself a fact that its steps carry on, and of a deque that was found empty it tells that each
-/// task was taken. A law: it computes nothing.
+/// The rule of a deque is itself a fact that its steps carry on. Of a deque that was found empty it tells that each task was taken. A
+/// law: it computes nothing.
 pub fn each_deque_keeps_its_tasks()
     ensures { EachDequeKeepsItsTasks }
 {}

@@ -23,10 +23,9 @@ pub(crate) struct Station<O> {
     pub(crate) done: Vec<(usize, O)>,
 }
 
-/// The answers of the tasks below n, each at the place of its task, with a worker for each pass, but no more workers than
-/// tasks. A place without an answer is a task that was missed: memory or a worker's start was refused. There are fewer
-/// places than n only where memory for them was refused. The gate is told of each task just before it begins, by the worker
-/// that does it.
+/// The answers of the tasks below n, each at the place of its task. There is a worker for each pass, but no more than tasks. A place
+/// without an answer is a task that was missed: memory or a worker's start was refused. There are fewer places than n only where memory
+/// for them was refused. The gate is told of each task just before it begins, by the worker that does it.
 pub fn run<R: Threads + Wait + Sync, J: Job + Sync, G: Gate + Sync>(
     rt: &R,
     alloc: Global,

@@ -1,6 +1,6 @@
 -- How many terms a run may link. Each `intern` links one at most, and none where the term is there (hash-consing: Filliâtre and Conchon,
--- ML 2006). So an action links no more terms than it makes nodes. Loads depend on the stores before them: stores are kept sorted, and one
--- that goes inside others changes all memories behind it, so the next load may need the memory behind each store again.
+-- ML 2006). So an action links no more terms than it makes nodes. Loads depend on the stores before them: stores are kept sorted. One
+-- that goes between others changes all memories behind it, so the next load may need each of them again.
 use Rattle.std.specs.Prelude.{ℕ, suc, ◌+◌, ◌*◌, ◌≤◌, List, [], ◌∷◌, map, length, if◌then◌else◌}
 use Rattle.words.specs.declared.operator.Operator.{Operator}
 use Rattle.mips_isa.specs.declared.action.Operand.{Operand}

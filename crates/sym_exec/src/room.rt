@@ -14,8 +14,8 @@ pub(crate) struct RunLists {
     pub(crate) chain: StoreChain,
 }
 
-/// Empty lists with memory for the guards and the stores of any block or order, one an instruction, so at most 2,049 with
-/// the slot, and for the terms of the memories before, between and behind these stores.
+/// Empty lists with memory for the guards and stores of any block or order: one an instruction, so at most 2,049 with the slot. And for
+/// the terms of the memories before, between and behind these stores.
 #[derive(Drop)]
 pub struct RunRoom {
     lists: RunLists,

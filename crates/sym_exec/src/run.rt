@@ -391,8 +391,8 @@ fn run_code(
 
 /// The tickets of what a block leaves: those of its trees. The guards and stores go into `room`, so nothing is allocated.
 ///
-/// `TableFull` comes only where the pass has linked as many terms as it may, and one of those that the block asks for isn't
-/// in the table. The terms that were linked stay, and they are no more than the block's actions may link.
+/// `TableFull` comes only if the pass has linked all it may and a term that the block asks for isn't in the table. The terms that were
+/// linked stay, and they are no more than the block's actions may link.
 pub fn run_block(
     table: &TermTable,
     pass: &mut Pass,

@@ -1,6 +1,6 @@
-//! The stores that a run's memory is made of. They are kept in the order of the term of memory, so that a load finds the
-//! memory that it sees, and a store its place among them, by one walk from the last store inward. Terms of memory are made
-//! where a load or the end of the run needs them: a store that goes inside others makes none of theirs anew.
+//! The stores that a run's memory is made of. They are kept in the order of the term of memory. So a load finds the memory that it sees,
+//! and a store its place, by one walk from the last store inward. Terms of memory are made where a load or the end of the run needs them:
+//! a store that goes inside others makes none of theirs anew.
 ghost use Rattle.std.specs.Prelude.{◌≡◌, ℕ, ◌<◌, ◌≤◌, ◌+◌, ◌&&◌, [], IfOk, OnErr, length, take, drop, vec_len};
 ghost use Rattle.mblock.specs.declared.limits.TheConstants.{ORDER_INSTS};
 ghost use Rattle.sym_terms.specs.declared.label.Label.TheVariants.{Load, Store};

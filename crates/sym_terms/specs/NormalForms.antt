@@ -1,6 +1,6 @@
--- The trees of instructions in normal form, each made from trees in normal form. N1 and N2 gather the constants of a
--- sum, N3 lets a load pass the stores that it doesn't meet, N4 puts such stores over one base in the order of their
--- offsets (Six, Boulmé and Monniaux, OOPSLA 2020, rewrite terms in this way).
+-- The trees of instructions in normal form, each made from trees in normal form. N1 and N2 gather the constants of a sum. N3 lets a load
+-- pass the stores that it doesn't meet. N4 puts such stores over one base in the order of their offsets. Six, Boulmé and Monniaux (OOPSLA
+-- 2020) rewrite terms in this way.
 use Rattle.std.specs.Prelude.{ℕ, ◌+◌, ◌-◌, ◌%◌, ◌^◌, Bool, true, false, not, ◌&&◌, ◌==◌, nat_le, int_lt, Option, Some, None, if◌then◌else◌}
 use Rattle.words.specs.declared.operator.Operator.{Operator}
 use Rattle.words.specs.declared.operator.Operator.TheVariants.{Addu}
