@@ -7,7 +7,7 @@ use Rattle.std.specs.Prelude.{IfSome}
 use Rattle.c_tokens.specs.declared.keywords.Reserved.{Reserved}
 use Rattle.c_tokens.specs.declared.lexer.Lexeme.{Lexeme}
 use Rattle.c_tokens.specs.Lexing.{is_front, signs, same_bytes, keyword_lexeme, word_lexeme, keywords}
-use Rattle.c_tokens.specs.Fronts.{may_begin, beginning, longer, longest}
+use Rattle.c_tokens.specs.Fronts.{may_begin, beginning, longer, longest, sign_lexeme}
 
 pub begun : (es : List (List ℕ × Option Mark)) (b : ℕ) (bs : List ℕ) → longest (beginning b es) (b ∷ bs) ≡ longest es (b ∷ bs)
 begun [] b bs = refl
@@ -44,6 +44,11 @@ pub operator-there : (es : List (List ℕ × Option Mark)) (text bs : List ℕ) 
     → es ≡ beginning b signs → text ≡ b ∷ bs → r ≡ longest signs text
 operator-there es text bs b r h k e = h ∙ ap (λ (x : List (List ℕ × Option Mark)). longest x text) k ∙ ap (longest (beginning b signs)) e ∙ begun signs b bs
     ∙ sym (ap (longest signs) e)
+
+-- a byte with which one spelling alone begins
+pub single-there : (text bs : List ℕ) (b k : ℕ) (l : Lexeme) → text ≡ b ∷ bs → b ≡ k → sign_lexeme (longest signs (k ∷ bs)) ≡ l
+    → sign_lexeme (longest signs text) ≡ l
+single-there text bs b k l e f h = ap (λ (x : List ℕ). sign_lexeme (longest signs x)) (e ∙ ap (λ (x : ℕ). x ∷ bs) f) ∙ h
 
 -- a word is looked up among the keywords that begin with its first byte
 pub word_begun : (es : List (List ℕ × Reserved)) (b : ℕ) (bs : List ℕ) → word_lexeme (beginning b es) (b ∷ bs) ≡ word_lexeme es (b ∷ bs)

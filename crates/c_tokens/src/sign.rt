@@ -1,9 +1,10 @@
 // Operators and punctuators: the longest one at the front of a text (C99 6.4.6).
-ghost use Rattle.std.specs.Prelude.{◌≡◌, length, map};
+ghost use Rattle.std.specs.Prelude.{◌≡◌, ◌<◌, length, map, IfSome};
 ghost use Rattle.c_tokens.specs.Lexing.{is_front, signs};
 ghost use Rattle.c_tokens.specs.Fronts.{beginning, longest, longer, sign_lexeme};
 ghost use Rattle.c_tokens.specs.Spellings.{bytes_of, entry_of, maybe_entry_of};
 ghost use Rattle.c_tokens.specs.Texts.{Fits};
+ghost use Rattle.c_tokens.specs.declared.lexer.Lexeme.TheVariants.{Sign};
 
 use crate::lexer::Lexeme;
 use crate::scan::{begins, split};
@@ -19,6 +20,27 @@ pub enum Spelling {
 
 /// A spelling, and its mark if it is in use.
 pub type Entry = (Spelling, Option<Mark>);
+
+/// The mark of the byte at the front, if no longer spelling begins with it.
+fn single(text: &[u8]) -> Option<Mark>
+    ensures same { IfSome result (λ mark. sign_lexeme (longest signs text.now) ≡ Sign mark 1) }
+    ensures fits { IfSome result (λ mark. 0 < length text.now) }
+{
+    let (first, _) = split(text)?;
+    match first {
+        b'(' => Some(Mark::LeftParen),
+        b')' => Some(Mark::RightParen),
+        b'{' => Some(Mark::LeftBrace),
+        b'}' => Some(Mark::RightBrace),
+        b'[' => Some(Mark::LeftBracket),
+        b']' => Some(Mark::RightBracket),
+        b';' => Some(Mark::Semicolon),
+        b',' => Some(Mark::Comma),
+        b':' => Some(Mark::Colon),
+        b'~' => Some(Mark::Tilde),
+        _ => None,
+    }
+}
 
 /// The spellings that begin with a byte.
 #[rattlefmt::skip]
@@ -140,6 +162,9 @@ pub fn sign(text: &[u8]) -> Lexeme
     ensures same { result ≡ sign_lexeme (longest signs text.now) }
     ensures fits { Fits result (length text.now) }
 {
+    if let Some(mark) = single(text) {
+        return Lexeme::Sign(mark, 1);
+    }
     match operator(text) {
         None => Lexeme::Refused(0),
         Some(entry) => match entry.1 {
