@@ -3,7 +3,7 @@
 ghost use Rattle.std.specs.Prelude.{◌≡◌, Some};
 ghost use Rattle.c_tokens.specs.Messages.{fault_text, refusal_text};
 
-use std::alloc::AllocFailed;
+use std::alloc::{AllocError, AllocFailed};
 use std::error::Error;
 use std::fmt;
 
@@ -28,6 +28,16 @@ impl<T: Drop> From<AllocFailed<T>> for LexFault {
     ghost from_gives = { λ _ r. r ≡ NoMemory };
 
     fn from(_: AllocFailed<T>) -> Self {
+        LexFault::NoMemory
+    }
+}
+
+impl From<AllocError> for LexFault {
+    ghost use Rattle.c_tokens.specs.declared.fault.LexFault.TheVariants.{NoMemory};
+
+    ghost from_gives = { λ _ r. r ≡ NoMemory };
+
+    fn from(_: AllocError) -> Self {
         LexFault::NoMemory
     }
 }

@@ -129,8 +129,9 @@ pub fn lex(alloc: Global, text: &[u8]) -> Result<(Vec<Token>, Vec<u32>), LexFaul
     ensures ok { IfOk result (λ r. Lexes 0 text.now [] r.0.items r.1.items) }
     ensures err { IfErr result (IsLexFault text.now) }
 {
-    let mut tokens = Vec::new(alloc);
-    let mut places = Vec::new(alloc);
+    // a token has a byte at least, so the lists never grow; pages that no token reaches are never had
+    let mut tokens = Vec::with_capacity(alloc, text.len())?;
+    let mut places = Vec::with_capacity(alloc, text.len())?;
     let mut rest = text;
     let mut at: usize = 0;
     let mut sizes = Sizes {
