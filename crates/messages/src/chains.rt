@@ -1,56 +1,69 @@
 // Comparisons of comparisons without parentheses, as `1 < x < 3`, which compares 0 or 1 with 3.
 
-use crate::source::Source;
-use c_tokens::Mark;
+use crate::more_tokens::line_end;
+use crate::source::back;
 use std::alloc::{AllocError, Global};
 
-/// `<`, `>`, `<=` and `>=`.
-const RELATIONS: &[Mark] = &[
-    Mark::LessSign,
-    Mark::GreaterSign,
-    Mark::LessEqual,
-    Mark::GreaterEqual,
-];
+/// Where a comment ends that begins with `/*` at an offset.
+fn block_end(text: &[u8], at: usize) -> usize {
+    let inside = at.saturating_add(2);
+    let mut is_star = false;
+    for (n, byte) in back(text, inside).iter().enumerate() {
+        if is_star && *byte == b'/' {
+            return inside.saturating_add(n).saturating_add(1);
+        }
+        is_star = *byte == b'*';
+    }
+    text.len()
+}
 
-/// What ends the operands of a comparison between the same brackets: operators that bind less, and what ends expressions.
-const ENDS: &[Mark] = &[
-    Mark::EqualEqual,
-    Mark::BangEqual,
-    Mark::Ampersand,
-    Mark::Caret,
-    Mark::Bar,
-    Mark::AndAnd,
-    Mark::BarBar,
-    Mark::Question,
-    Mark::Colon,
-    Mark::Assign,
-    Mark::Comma,
-    Mark::Semicolon,
-    Mark::LeftBrace,
-    Mark::RightBrace,
-];
+/// Where the comment or the sign ends that begins with a `/` at an offset.
+fn slash_end(text: &[u8], at: usize) -> usize {
+    match text.get(at.saturating_add(1)) {
+        Some(b'/') => line_end(text, at),
+        Some(b'*') => block_end(text, at),
+        _ => at.saturating_add(1),
+    }
+}
 
-/// Where such a comparison's second sign stands, for each, in the order of the text.
-pub(crate) fn chains(alloc: Global, source: &Source<'_>) -> Result<Vec<usize>, AllocError> {
+/// Whether the sign that begins with this `<` or `>` at an offset compares, and where it ends.
+fn relation(text: &[u8], at: usize, first: u8) -> (bool, usize) {
+    let second = at.saturating_add(1);
+    match text.get(second) {
+        Some(b'=') => (true, second.saturating_add(1)),
+        Some(byte) if *byte == first => (false, second.saturating_add(1)),
+        _ => (true, second),
+    }
+}
+
+/// Where such a comparison's second sign stands, for each, in the order of a text that spells a program.
+pub(crate) fn chains(alloc: Global, text: &[u8]) -> Result<Vec<usize>, AllocError> {
     let mut found = Vec::new(alloc);
     // whether a comparison stands before, here and between each of the open brackets around
     let (mut is_behind, mut around) = (false, Vec::new(alloc));
-    for k in 0..source.count() {
-        match source.mark(k) {
-            Some(Mark::LeftParen | Mark::LeftBracket) => {
+    let mut next = 0usize;
+    for (at, byte) in text.iter().enumerate() {
+        if at < next {
+            continue;
+        }
+        match *byte {
+            b'(' | b'[' => {
                 around.push(is_behind)?;
                 is_behind = false;
             }
-            Some(Mark::RightParen | Mark::RightBracket) => is_behind = around
-                .pop()
-                .unwrap_or(false),
-            Some(mark) if RELATIONS.contains(&mark) => {
-                if is_behind {
-                    found.push(source.at(k))?;
+            b')' | b']' => is_behind = around.pop().unwrap_or(false),
+            b'<' | b'>' => {
+                let (compares, end) = relation(text, at, *byte);
+                if compares && is_behind {
+                    found.push(at)?;
                 }
-                is_behind = true;
+                is_behind = is_behind || compares;
+                next = end;
             }
-            Some(mark) if ENDS.contains(&mark) => is_behind = false,
+            b'/' => next = slash_end(text, at),
+            // what ends the operands of a comparison: signs that bind less, and what ends expressions
+            b'=' | b'&' | b'^' | b'|' | b'?' | b':' | b',' | b';' | b'{' | b'}' => is_behind =
+                false,
             _ => {}
         }
     }

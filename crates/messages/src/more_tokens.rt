@@ -14,7 +14,7 @@ use std::alloc::{AllocError, Global};
 const NAMED: usize = 8;
 
 /// Where the line of an offset ends.
-fn line_end(text: &[u8], at: usize) -> usize {
+pub(crate) fn line_end(text: &[u8], at: usize) -> usize {
     for (n, byte) in back(text, at).iter().enumerate() {
         if *byte == b'\n' {
             return at.saturating_add(n);

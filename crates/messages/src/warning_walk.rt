@@ -142,9 +142,9 @@ impl<'a, 't> Walk<'a, 't> {
         }
     }
 
-    /// Whether there is nothing to warn of, as far as it was walked.
-    pub(crate) fn is_clean(&self) -> bool {
-        self.warnings.is_empty() && !self.has_chain
+    /// Whether a comparison is compared, with parentheses or without, as far as it was walked.
+    pub(crate) fn has_chain(&self) -> bool {
+        self.has_chain
     }
 
     pub(crate) fn end(self) -> Vec<Warning> {

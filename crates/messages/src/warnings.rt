@@ -33,6 +33,18 @@ fn walk_through(
     Ok(())
 }
 
+/// Warns of each comparison of a comparison without parentheses.
+fn push_chains(alloc: Global, warnings: &mut Vec<Warning>, text: &[u8]) -> Result<(), AllocError> {
+    for at in chains(alloc, text)? {
+        let message = String::from_str(
+            alloc,
+            "a comparison of a comparison: a < b < c compares 0 or 1 with c",
+        )?;
+        warnings.push(Warning { at, message })?;
+    }
+    Ok(())
+}
+
 /// The warnings of a text that spells this program, in no order. It descends into the program: run it on a thread with a large
 /// stack where the text may be hostile.
 pub fn warnings_of(
@@ -42,23 +54,20 @@ pub fn warnings_of(
     variables: &[Variable],
     functions: &[Function],
 ) -> Result<Vec<Warning>, AllocError> {
-    // most programs have no warnings, and then their tokens aren't needed, which say where operators stand
+    // only the tokens say where an operator stands, and only its warning needs that
     let unread = Source::without_tokens(alloc, text);
     let mut walk = Walk::new(alloc, &unread, variables);
     walk_through(&mut walk, program, functions)?;
-    if walk.is_clean() {
-        return Ok(Vec::new(alloc));
-    }
-    let source = Source::read(alloc, text)?;
-    let mut walk = Walk::new(alloc, &source, variables);
-    walk_through(&mut walk, program, functions)?;
+    let has_chain = walk.has_chain();
     let mut warnings = walk.end();
-    for at in chains(alloc, &source)? {
-        let message = String::from_str(
-            alloc,
-            "a comparison of a comparison: a < b < c compares 0 or 1 with c",
-        )?;
-        warnings.push(Warning { at, message })?;
+    if !warnings.is_empty() {
+        let source = Source::read(alloc, text)?;
+        let mut walk = Walk::new(alloc, &source, variables);
+        walk_through(&mut walk, program, functions)?;
+        warnings = walk.end();
+    }
+    if has_chain {
+        push_chains(alloc, &mut warnings, text)?;
     }
     Ok(warnings)
 }
