@@ -44,7 +44,7 @@ pub fn arguments(
     ensures { Answers (λ v. TypesAll (environment_of program.now scopes.now) (expressions_of all.now) (typed_expressions_of v.items))
         (FaultyAll (environment_of program.now scopes.now) (expressions_of all.now)) result }
 {
-    let mut typed = Ok(Vec::new(alloc));
+    let mut typed = Ok(Vec::with_capacity(alloc, all.len())?);
     for one in all {
         typed = with_one(typed, expression(alloc, program, scopes, one));
     }

@@ -292,7 +292,7 @@ pub fn items<'a>(
     ensures scopes { (result ≡ Err NoMemory → ⊥)
         → scopes_of scopes.new ≡ behind_items (text_of context.now) (scopes_of scopes.old) (items_of all.now) }
 {
-    let mut typed = Ok(Vec::new(context.alloc));
+    let mut typed = Ok(Vec::with_capacity(context.alloc, all.len())?);
     for one in all {
         let next = lasting(item(context, scopes, one))?;
         typed = with_one(typed, next);

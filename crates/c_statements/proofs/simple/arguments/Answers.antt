@@ -5,7 +5,7 @@ use Rattle.c_statements.proofs.Arguments.{SoFar, none-so-far, one-so-far}
 use Rattle.c_statements.proofs.simple.arguments.Goals as goal
 
 pub loop-one-init : goal.loop-one-init
-loop-one-init c = none-so-far (environment_in c.args.program.now.text.items (scopes_of c.args.scopes.now)) c.new.result c.new.ensures.items
+loop-one-init c = none-so-far (environment_in c.args.program.now.text.items (scopes_of c.args.scopes.now)) _ c.in_ok-with_capacity.ensures.items
 
 pub loop-one-preserved : goal.loop-one-preserved
 loop-one-preserved c =

@@ -157,7 +157,7 @@ pub items-loop-one-init : goal.items-loop-one-init
 items-loop-one-init t c =
     record {
       so_far = none-so-far c.args.context.now.program.now.text.items c.args.context.now.gives c.args.context.now.in_loop
-          (scopes_of c.args.scopes.now) c.new.result c.new.ensures.items;
+          (scopes_of c.args.scopes.now) _ c.in_ok-with_capacity.ensures.items;
       scopes = refl;
     }
 
