@@ -26,6 +26,7 @@ use list_scheduler::{FilledOrder, ListOrder};
 use messages::SourceFault;
 use std::alloc::Global;
 use std::io;
+use std::mem::forget;
 use std::sync::Wait;
 use std::thread::Threads;
 use steal_pool::Open;
@@ -135,8 +136,10 @@ fn built_with_warnings<T: Threads + Wait + Sync>(
     let warnings = warning_lines(alloc, asked.source, text, &program, &typed);
     // the syntax tree is let go before the code is made
     drop(program);
-    let built = built_as_asked(rt, alloc, &typed, asked)?;
-    Ok((built, warnings))
+    let built = built_as_asked(rt, alloc, &typed, asked);
+    // the program ends soon, and nothing would use the memory of the typed trees
+    forget(typed);
+    Ok((built?, warnings))
 }
 
 /// What is told if IMAGE is SOURCE, in the form of wrong words.
