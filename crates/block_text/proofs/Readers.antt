@@ -1,5 +1,7 @@
 -- What a pass that ran a block has seen, and that a reader goes on.
-use Rattle.std.proofs.Common.{◌≡◌, ℕ, List, [], ◌∷◌, ◌++◌, Option, All, sym, subst}
+use Rattle.std.proofs.Common.{◌≡◌, ℕ, List, [], ◌∷◌, ◌++◌, Option, Result, Ok, Err, All, sym, subst}
+use Rattle.std.specs.Prelude.{IfOk}
+use Rattle.std.specs.declared.alloc.AllocError.{AllocError}
 use Rattle.std.specs.Option.{option_to_list}
 use Rattle.std.proofs.lemmas.List.Elements.{All-append, All-cons, All-nil, All-pop, All-weaker, Contains-get_or}
 use Rattle.sym_terms.specs.Trees.{Tree}
@@ -10,6 +12,8 @@ use Rattle.term_table.specs.Terms.{HasSeenTerms}
 use Rattle.sym_exec.specs.MipsTerms.{HasSeen}
 use Rattle.sym_exec.proofs.MipsTerms.{still_seen, tree_seen}
 use Rattle.sym_exec.specs.declared.state.Guard.{Guard}
+use Rattle.sym_exec.specs.declared.state.SymState.{SymState}
+use Rattle.term_table.specs.declared.table.TableFull.{TableFull}
 use Rattle.sym_exec.specs.declared.state.Guard.TheVariants.{Address, Division}
 use Rattle.sym_exec.specs.declared.state.TermPlaces.{TermPlaces}
 use Rattle.sym_exec.specs.declared.state.TermExit.{TermExit}
@@ -79,3 +83,10 @@ seen_state p s e gs c h = record {
   exit = seen_exit p e c.operands h.exit.1;
   guards = seen_guards p gs c.trees.guards h.guards;
 }
+
+pub seen_run : (p : PassState) (r : Result (Result SymState TableFull) AllocError) (c : CodeTrees)
+    → IfOk r (λ run. IfOk run (λ s. StandsFor p s.places s.exit s.guards.items c))
+    → IfOk r (λ run. IfOk run (λ s. IsSeenState p s.places s.exit s.guards.items))
+seen_run p (Ok (Ok s)) c h = seen_state p s.places s.exit s.guards.items c h
+seen_run p (Ok (Err full)) c h = tt
+seen_run p (Err refused) c h = tt

@@ -1,6 +1,6 @@
 // The terms of what a block or an order leaves, read out of a table.
 
-ghost use Rattle.std.specs.Prelude.{All, IfOk, IfSome};
+ghost use Rattle.std.specs.Prelude.{All, IfOk, IfSome, OnOk};
 ghost use Rattle.term_table.specs.Passes.{IsOf};
 ghost use Rattle.sym_exec.specs.MipsTerms.{HasSeen};
 ghost use Rattle.block_text.specs.Readers.{ArePlacesSeen, IsReader, IsSeenExit, IsSeenGuard, IsSeenState};
@@ -8,7 +8,7 @@ ghost use Rattle.block_text.specs.Readers.{ArePlacesSeen, IsReader, IsSeenExit, 
 use mblock::{Block, Order};
 use std::alloc::{AllocError, Global};
 use std::marker::Model;
-use sym_exec::{Guard, RunRoom, SymState, TermExit, TermPlaces, run_block, run_order};
+use sym_exec::{Guard, SymState, TermExit, TermPlaces, run_block, run_order};
 use sym_terms::Label;
 use term_table::{Node, Pass, TableFull, TermTable, Ticket};
 
@@ -203,28 +203,27 @@ pub(crate) enum Code<'a> {
 
 /// The tickets of what a block or an order leaves.
 fn run(
+    alloc: Global,
     table: &TermTable,
     pass: &mut Pass,
     code: Code<'_>,
-    room: RunRoom,
-) -> Result<SymState, TableFull>
+) -> Result<Result<SymState, TableFull>, AllocError>
     requires { IsOf table.now pass.old }
-    ensures own { IsOf table.now pass.new }
-    ensures seen { IfOk result (λ s. IsSeenState pass.new s.places s.exit s.guards.items) }
+    ensures own { OnOk result (IsOf table.now pass.new) }
+    ensures seen { IfOk result (λ run. IfOk run (λ s. IsSeenState pass.new s.places s.exit s.guards.items)) }
 {
     match code {
-        Code::Block(block) => run_block(table, pass, block, room),
-        Code::Order(order) => run_order(table, pass, order, room),
+        Code::Block(block) => run_block(alloc, table, pass, block),
+        Code::Order(order) => run_order(alloc, table, pass, order),
     }
 }
 
 /// What a block or an order leaves, over a table of some room.
 fn left_in(alloc: Global, code: Code<'_>, size: Room) -> Result<Left, ReadFault> {
-    let room = RunRoom::new(alloc)?;
     let Some((table, mut pass)) = table_of(alloc, size) else {
         return Err(ReadFault::NoMemory);
     };
-    match run(&table, &mut pass, code, room) {
+    match run(alloc, &table, &mut pass, code)? {
         Ok(state) => left_by(alloc, table, pass, state),
         Err(_) => Err(ReadFault::Full),
     }

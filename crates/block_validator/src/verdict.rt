@@ -6,7 +6,8 @@ ghost use Rattle.mblock.specs.BlockMeaning.{exit_shape};
 ghost use Rattle.term_table.specs.Passes.{IsOf, linked};
 ghost use Rattle.term_table.specs.Trees.{HasLegalHistory};
 ghost use Rattle.sym_exec.specs.Symbolic.{block_trees, order_trees};
-ghost use Rattle.sym_exec.specs.Standing.{Later, AfterInterns};
+ghost use Rattle.sym_exec.specs.Standing.{Later};
+ghost use Rattle.sym_exec.specs.Runs.{Runs};
 ghost use Rattle.sym_exec.specs.Asked.{LacksOne, block_asked, order_asked};
 ghost use Rattle.sym_exec.specs.Growth.{block_growth, order_growth};
 ghost use Rattle.mblock.specs.Orders.{Means};
@@ -17,9 +18,9 @@ ghost use Rattle.block_validator.specs.Verdicts.{IsVerdict, OneDecision};
 use crate::compare::first_difference;
 use crate::place::Place;
 use mblock::{Block, Order, Unclean, clean};
-use std::alloc::Global;
+use std::alloc::{AllocError, Global};
 use std::marker::Model;
-use sym_exec::{RunRoom, run_both};
+use sym_exec::run_both;
 use term_table::{Pass, TableFull, TermTable};
 
 /// A lent block, and a clean order that has its terms in every place. Only `validate` makes one.
@@ -97,22 +98,23 @@ pub enum Verdict<'a> {
 
 // The first place that differs, none where there is none.
 fn compare(
+    alloc: Global,
     table: &TermTable,
     pass: &mut Pass,
     block: &Block,
     order: &Order,
-    rooms: (RunRoom, RunRoom),
-) -> Result<Option<Place>, TableFull>
-    requires table { IsOf table.now pass.old }
-    ensures exact { IfOk result (λ r. MatchOption r (SameTrees (block_trees block.now) (order_trees order.now))
-        (DiffersFirst (block_trees block.now) (order_trees order.now))) }
-    ensures absent { OnErr result (LacksOne pass.new (block_asked block.now ++ order_asked order.now)) }
-    ensures grows { linked pass.new ≤ linked pass.old + (block_growth block.now + order_growth order.now) }
-    ensures pass { AfterInterns table.now pass.old result pass.new }
-    ensures legal { HasLegalHistory pass.new }
+) -> Result<Result<Option<Place>, TableFull>, AllocError>
+    requires { IsOf table.now pass.old }
+    ensures exact { IfOk result (λ compared. IfOk compared (λ r. MatchOption r (SameTrees (block_trees block.now) (order_trees order.now))
+        (DiffersFirst (block_trees block.now) (order_trees order.now)))) }
+    ensures runs { IfOk result (λ compared. Runs (block_asked block.now ++ order_asked order.now)
+        (block_growth block.now + order_growth order.now) table.now pass.old compared pass.new) }
+    ensures refused { OnErr result (pass.new ≡ pass.old) }
 {
-    let (first, second) = run_both(table, pass, block, order, rooms)?;
-    Ok(first_difference(&first, &second))
+    match run_both(alloc, table, pass, block, order)? {
+        Ok((first, second)) => Ok(Ok(first_difference(&first, &second))),
+        Err(full) => Ok(Err(full)),
+    }
 }
 
 // What a comparison says of a clean order.
@@ -165,10 +167,9 @@ pub fn validate<'a>(
     if let Err(rule) = clean(&order) {
         return Verdict::Unclean(rule);
     }
-    let (Ok(block_room), Ok(order_room)) = (RunRoom::new(alloc), RunRoom::new(alloc)) else {
+    let Ok(compared) = compare(alloc, table, pass, block, &order) else {
         return Verdict::NoMemory;
     };
-    let compared = compare(table, pass, block, &order, (block_room, order_room));
     verdict_of(block, order, compared)
 }
 

@@ -38,12 +38,11 @@ tracks_guard {p} {q} {r} {s} {l} {m} {t} {u} g x e h hold memory is pushed guard
 }
 
 -- which leaves room, where the stores have room and are at most one more
-pub room_guard : (l m : RunLists) (d : StoreChain) → HasRoom l → HasStoreRoom d → vec_len d.stores ≤ vec_len l.guards + 1
+pub room_guard : (l m : RunLists) (d : StoreChain) → vec_capacity l.guards ≤ vec_capacity d.stores → HasStoreRoom d → vec_len d.stores ≤ vec_len l.guards + 1
     → vec_len m.guards ≡ vec_len l.guards + 1 → vec_capacity m.guards ≡ vec_capacity l.guards → m.chain ≡ d → HasRoom m
-room_guard l m d room inner few one capacity chain =
-    let taken = room.guards in
+room_guard l m d enough inner few one capacity chain =
     record {
-      guards = omega (arith, taken, capacity);
+      guards = subst (λ k. vec_capacity m.guards ≤ vec_capacity k.stores) (sym chain) (omega (arith, enough, capacity));
       chain = subst HasStoreRoom (sym chain) inner;
       few = subst (λ k. vec_len k.stores ≤ vec_len m.guards) (sym chain) (omega (arith, few, one));
     }

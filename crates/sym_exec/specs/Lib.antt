@@ -6,3 +6,4 @@ pub mod Stores
 pub mod MipsTerms
 pub mod Interners
 pub mod Starts
+pub mod Runs

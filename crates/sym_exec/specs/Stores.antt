@@ -1,9 +1,8 @@
 -- The stores that a run's memory is made of, by tickets, and how far a run has come.
-use Rattle.std.specs.Prelude.{◌≡◌, ℕ, ◌+◌, ◌<◌, ◌≤◌, ◌&&◌, ◌==◌, Bool, int_lt, List, [], ◌∷◌, take, length, slice_index, vec_len}
+use Rattle.std.specs.Prelude.{◌≡◌, ℕ, ◌+◌, ◌-◌, ◌<◌, ◌≤◌, ◌&&◌, ◌==◌, Bool, int_lt, List, [], ◌∷◌, take, length, slice_index, vec_len}
 use Rattle.std.specs.Prelude.{vec_capacity}
 use Rattle.words.specs.declared.width.Width.{Width}
 use Rattle.words.specs.Words.{signed}
-use Rattle.mblock.specs.declared.limits.TheConstants.{ORDER_INSTS}
 use Rattle.sym_terms.specs.declared.label.Label.TheVariants.{Mem0, Store}
 use Rattle.sym_terms.specs.Trees.{Tree, leaf, ternary}
 use Rattle.sym_terms.specs.NormalForms.{address_of, are_disjoint}
@@ -60,21 +59,30 @@ pub record IsChain (p : PassState) (c : StoreChain) : Type 0 where
   pub some : 0 < length c.memories.items
   pub fit : length c.memories.items ≤ length c.stores.items + 1
 
--- memory for one store of each instruction, and for the terms before and behind each
-pub record HasStoreRoom (c : StoreChain) : Type 0 where
-  pub stores : ORDER_INSTS + 1 ≤ vec_capacity c.stores
-  pub memories : ORDER_INSTS + 2 ≤ vec_capacity c.memories
+-- where there is memory for stores, there is for the terms before and behind each
+abbrev pub HasStoreRoom : StoreChain → Type 0
+HasStoreRoom c = vec_capacity c.stores < vec_capacity c.memories
 
--- memory for a guard and a store of each instruction; a store has its guard
+-- where there is memory for a guard, there is for a store; a store has its guard
 pub record HasRoom (r : RunLists) : Type 0 where
-  pub guards : ORDER_INSTS + 1 ≤ vec_capacity r.guards
+  pub guards : vec_capacity r.guards ≤ vec_capacity r.chain.stores
   pub chain : HasStoreRoom r.chain
   pub few : vec_len r.chain.stores ≤ vec_len r.guards
+
+-- how many guards there is memory for yet
+abbrev pub spare : RunLists → ℕ
+spare r = vec_capacity r.guards - vec_len r.guards
 
 pub record IsEmpty (r : RunLists) : Type 0 where
   pub guards : r.guards.items ≡ []
   pub stores : r.chain.stores.items ≡ []
   pub memories : r.chain.memories.items ≡ []
+
+-- empty lists with memory for the guards and stores of so many instructions and of a slot
+pub record IsRoomFor (insts : ℕ) (r : RunLists) : Type 0 where
+  pub room : HasRoom r
+  pub empty : IsEmpty r
+  pub few : insts < spare r
 
 -- a run has come as far as these trees
 pub record Tracks (p : PassState) (registers : TermRegisters) (r : RunLists) (t : TreeState) : Type 0 where

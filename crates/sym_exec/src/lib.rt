@@ -1,9 +1,10 @@
 //! Symbolic execution of blocks and orders, to tickets of a shared table of terms.
 //!
-//! Definitions: `specs/Symbolic.antt`, `specs/Asked.antt`, `specs/Growth.antt`, `specs/Stores.antt`.
-//! Contract: `run_block`, `run_order`, `run_both`, `RunRoom`, `growth_has_bound`
+//! Definitions: `specs/Symbolic.antt`, `specs/Asked.antt`, `specs/Growth.antt`, `specs/Runs.antt`.
+//! Contract: `run_block`, `run_order`, `run_both`, `growth_has_bound`
 //! - `run_block`, `run_order` and `run_both` give the tickets of the trees of a block, of an order and of both.
-//! - Their only error is `TableFull`, if the pass has linked all it may and one of the trees that the code asks for isn't in the table.
+//! - Memory is taken before any term is linked. Where it is refused, the pass is as it was.
+//! - Else their only error is `TableFull`, if the pass has linked all it may and one of the trees that the code asks for isn't in the table.
 //! - They link no more terms than the actions may, which is at most quadratic in their number.
 #![tactic(auto)]
 
@@ -16,6 +17,5 @@ mod state;
 mod stores;
 mod terms;
 
-pub use room::RunRoom;
 pub use run::{growth_has_bound, run_block, run_both, run_order};
 pub use state::{Guard, SymState, TermExit, TermPlaces};

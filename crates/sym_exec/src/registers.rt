@@ -36,8 +36,7 @@ pub(crate) struct TermRegisters {
 }
 
 impl TermRegisters {
-    ghost use Rattle.std.specs.Prelude.{◌≡◌, ℕ, ◌<◌, ◌≤◌, ◌+◌, ◌∷◌, [], OnOk, OnErr, IfOk, slice_index, length, vec_len};
-    ghost use Rattle.mblock.specs.declared.limits.TheConstants.{ORDER_INSTS};
+    ghost use Rattle.std.specs.Prelude.{◌≡◌, ℕ, ◌<◌, ◌≤◌, ◌+◌, ◌∷◌, [], OnOk, OnErr, IfOk, slice_index, length, vec_len, vec_capacity};
     ghost use Rattle.sym_exec.specs.MipsTerms.{HasTree, Lacks};
     ghost use Rattle.sym_exec.specs.Asked.{asked_by, LacksOne};
     ghost use Rattle.sym_exec.specs.Standing.{Known, Hold, with_reg, with_halves};
@@ -150,7 +149,6 @@ impl TermRegisters {
         requires known { Known terms.old.pass.now self.old }
         requires chain { IsChain terms.old.pass.now chain.old }
         requires room { HasStoreRoom chain.old }
-        requires few { vec_len chain.old.stores ≤ ORDER_INSTS + 1 }
         ensures known { OnOk result (Known terms.new.pass.now self.new) }
         ensures hold { (t : TreeState) → Hold terms.old.pass.now self.old t → MakeMemory terms.old.pass.now chain.old.stores.items t.memory
             → OnOk result (Hold terms.new.pass.now self.new (trees_after (Loads access.width d access.base access.offset) t)) }
@@ -183,7 +181,7 @@ impl TermRegisters {
         requires known { Known terms.old.pass.now self.now }
         requires chain { IsChain terms.old.pass.now chain.old }
         requires room { HasStoreRoom chain.old }
-        requires few { vec_len chain.old.stores < ORDER_INSTS + 1 }
+        requires few { vec_len chain.old.stores < vec_capacity chain.old.stores }
         ensures memory { (t : TreeState) → Hold terms.old.pass.now self.now t
             → MakeMemory terms.old.pass.now chain.old.stores.items t.memory
             → OnOk result (MakeMemory terms.new.pass.now chain.new.stores.items
@@ -195,6 +193,7 @@ impl TermRegisters {
         ensures chain { OnOk result (IsChain terms.new.pass.now chain.new) }
         ensures room { OnOk result (HasStoreRoom chain.new) }
         ensures count { OnOk result (vec_len chain.new.stores ≡ vec_len chain.old.stores + 1) }
+        ensures capacity { OnOk result (vec_capacity chain.new.stores ≡ vec_capacity chain.old.stores) }
         ensures pass { Interns terms.old result terms.new }
         ensures grows { linked terms.new.pass.now ≤ linked terms.old.pass.now + 2 }
     {

@@ -4,7 +4,6 @@ ghost use Rattle.mips_isa.specs.declared.action.Action.{Action as AnAction};
 ghost use Rattle.mips_isa.specs.Actions.{action_of};
 ghost use Rattle.mblock.specs.BlockMeaning.{exit_shape};
 ghost use Rattle.mblock.specs.Clean.{slot_actions};
-ghost use Rattle.mblock.specs.declared.limits.TheConstants.{ORDER_INSTS};
 ghost use Rattle.sym_terms.specs.declared.label.Origin.TheVariants.{Register};
 ghost use Rattle.sym_terms.specs.declared.label.Label.TheVariants.{Init};
 ghost use Rattle.sym_terms.specs.Trees.{leaf};
@@ -15,22 +14,24 @@ ghost use Rattle.sym_exec.specs.Asked.{asked_by, asked_by_all, asked_first, aske
 ghost use Rattle.sym_exec.specs.Asked.{block_asked, order_asked, LacksOne};
 ghost use Rattle.sym_exec.specs.Symbolic.{TreeState, GuardTree, start_trees, trees_after, all_trees, exit_trees, exit_operands, code_trees};
 ghost use Rattle.sym_exec.specs.Symbolic.{block_trees, order_trees};
-ghost use Rattle.sym_exec.specs.Standing.{AfterInterns, Known, Hold, LeavesBy, StandsFor};
+ghost use Rattle.sym_exec.specs.Standing.{Known, Hold, LeavesBy, StandsFor};
 ghost use Rattle.sym_exec.specs.Interners.{Interns};
 ghost use Rattle.sym_exec.specs.Growth.{growth_by, growth_by_all, growth_by_shape, stores_after, all_stores, code_growth};
 ghost use Rattle.sym_exec.specs.Growth.{block_growth, order_growth, GrowthHasBound};
-ghost use Rattle.sym_exec.specs.Stores.{IsChain, HasRoom, IsEmpty, Tracks};
+ghost use Rattle.sym_exec.specs.Stores.{IsChain, HasRoom, IsEmpty, IsRoomFor, Tracks, spare};
 ghost use Rattle.sym_exec.specs.Starts.{IsStart, registers_of};
+ghost use Rattle.sym_exec.specs.Runs.{Runs};
 
 use crate::interner::Interner;
 use crate::registers::{Access, TermRegisters};
-use crate::room::{RunLists, RunRoom};
+use crate::room::RunLists;
 use crate::state::{Guard, SymState, TermExit, TermPlaces};
 use mblock::{Block, Exit, Order};
 use mips_isa::{
     Action, NonzeroReg, Plain, Reg, product_high, product_low, quotient_operator,
     remainder_operator,
 };
+use std::alloc::{AllocError, Global};
 use sym_terms::{Label, Origin};
 use term_table::{Pass, TableFull, TermTable, Ticket};
 
@@ -59,7 +60,7 @@ fn step(
     requires known { Known terms.old.pass.now registers.old }
     requires chain { IsChain terms.old.pass.now lists.old.chain }
     requires room { HasRoom lists.old }
-    requires few { vec_len lists.old.guards ≤ ORDER_INSTS }
+    requires few { 0 < spare lists.old }
     ensures known { OnOk result (Known terms.new.pass.now registers.new) }
     ensures chain { OnOk result (IsChain terms.new.pass.now lists.new.chain) }
     ensures tracks { (t : TreeState) → Tracks terms.old.pass.now registers.old lists.old t
@@ -70,7 +71,7 @@ fn step(
     ensures grows { linked terms.new.pass.now ≤ linked terms.old.pass.now + growth_by action.now (vec_len lists.old.chain.stores) }
     ensures stores { OnOk result (vec_len lists.new.chain.stores ≡ stores_after action.now (vec_len lists.old.chain.stores)) }
     ensures room { OnOk result (HasRoom lists.new) }
-    ensures count { OnOk result (vec_len lists.new.guards ≤ vec_len lists.old.guards + 1) }
+    ensures spare { OnOk result (spare lists.old ≤ spare lists.new + 1) }
 {
     match *action {
         Action::Computes { d, op, a, b } => { registers.computes(terms, d, op, a, &b) }
@@ -145,7 +146,7 @@ fn steps(
     requires known { Known terms.old.pass.now registers.old }
     requires chain { IsChain terms.old.pass.now lists.old.chain }
     requires room { HasRoom lists.old }
-    requires few { vec_len lists.old.guards + length insts.now ≤ ORDER_INSTS }
+    requires few { length insts.now ≤ spare lists.old }
     ensures known { OnOk result (Known terms.new.pass.now registers.new) }
     ensures chain { OnOk result (IsChain terms.new.pass.now lists.new.chain) }
     ensures tracks { (t : TreeState) → Tracks terms.old.pass.now registers.old lists.old t
@@ -156,7 +157,7 @@ fn steps(
     ensures grows { linked terms.new.pass.now ≤ linked terms.old.pass.now + growth_by_all (map action_of insts.now) (vec_len lists.old.chain.stores) }
     ensures stores { OnOk result (vec_len lists.new.chain.stores ≡ all_stores (map action_of insts.now) (vec_len lists.old.chain.stores)) }
     ensures room { OnOk result (HasRoom lists.new) }
-    ensures count { OnOk result (vec_len lists.new.guards ≤ vec_len lists.old.guards + length insts.now) }
+    ensures spare { OnOk result (spare lists.old ≤ spare lists.new + length insts.now) }
 {
     for inst in insts {
         step(terms, registers, lists, &inst.action())?;
@@ -224,7 +225,7 @@ fn begin(start: &TermPlaces, lists: &mut RunLists)
     ensures chain { (p : PassState) → IsStart p start.now → IsChain p lists.new.chain }
     ensures tracks { (p : PassState) → IsStart p start.now → Tracks p (registers_of start.now) lists.new start_trees }
     ensures room { HasRoom lists.new }
-    ensures none { vec_len lists.new.guards ≡ 0 }
+    ensures spare { spare lists.new ≡ spare lists.old }
     ensures stores { vec_len lists.new.chain.stores ≡ 0 }
 {
     lists.chain.memories.push_reserved(start.memory);
@@ -306,10 +307,9 @@ fn run_slot(
     requires known { Known terms.old.pass.now registers.old }
     requires chain { IsChain terms.old.pass.now lists.old.chain }
     requires room { HasRoom lists.old }
-    requires few { vec_len lists.old.guards ≤ ORDER_INSTS }
+    requires few { 0 < spare lists.old }
     ensures chain { OnOk result (IsChain terms.new.pass.now lists.new.chain) }
     ensures room { OnOk result (HasRoom lists.new) }
-    ensures count { OnOk result (vec_len lists.new.guards ≤ vec_len lists.old.guards + 1) }
     ensures tracks { (t : TreeState) → Tracks terms.old.pass.now registers.old lists.old t
         → OnOk result (Tracks terms.new.pass.now registers.new lists.new (all_trees (slot_actions slot.now) t)) }
     ensures absent { (t : TreeState) → Tracks terms.old.pass.now registers.old lists.old t
@@ -334,9 +334,7 @@ fn run_from(
     mut lists: RunLists,
 ) -> Result<SymState, TableFull>
     requires start { IsStart terms.old.pass.now start.now }
-    requires room { HasRoom lists }
-    requires empty { IsEmpty lists }
-    requires few { length insts.now ≤ ORDER_INSTS }
+    requires room { IsRoomFor (length insts.now) lists }
     ensures trees { IfOk result (λ s. StandsFor terms.new.pass.now s.places s.exit s.guards.items
         (code_trees (map action_of insts.now) exit.now (slot_actions slot.now))) }
     ensures absent { OnErr result (LacksOne terms.new.pass.now (code_asked (map action_of insts.now) exit.now (slot_actions slot.now))) }
@@ -375,9 +373,7 @@ fn run_code(
     slot: &Option<Plain>,
     lists: RunLists,
 ) -> Result<SymState, TableFull>
-    requires room { HasRoom lists }
-    requires empty { IsEmpty lists }
-    requires few { length insts.now ≤ ORDER_INSTS }
+    requires { IsRoomFor (length insts.now) lists }
     ensures trees { IfOk result (λ s. StandsFor terms.new.pass.now s.places s.exit s.guards.items
         (code_trees (map action_of insts.now) exit.now (slot_actions slot.now))) }
     ensures absent { OnErr result (LacksOne terms.new.pass.now (code_asked (map action_of insts.now) exit.now (slot_actions slot.now))) }
@@ -389,55 +385,48 @@ fn run_code(
     run_from(terms, &start, insts, exit, slot, lists)
 }
 
-/// The tickets of what a block leaves: those of its trees. The guards and stores go into `room`, so nothing is allocated.
+/// The tickets of what a block leaves: those of its trees. Memory is taken before any term is linked: where it is refused, the pass is
+/// as it was.
 ///
 /// `TableFull` comes only if the pass has linked all it may and a term that the block asks for isn't in the table. The terms that were
 /// linked stay, and they are no more than the block's actions may link.
 pub fn run_block(
+    alloc: Global,
     table: &TermTable,
     pass: &mut Pass,
     block: &Block,
-    room: RunRoom,
-) -> Result<SymState, TableFull>
-    requires table { IsOf table.now pass.old }
-    ensures trees { IfOk result (λ s. StandsFor pass.new s.places s.exit s.guards.items (block_trees block.now)) }
-    ensures absent { OnErr result (LacksOne pass.new (block_asked block.now)) }
-    ensures grows { linked pass.new ≤ linked pass.old + block_growth block.now }
-    ensures legal { HasLegalHistory pass.new }
-    ensures pass { AfterInterns table.now pass.old result pass.new }
+) -> Result<Result<SymState, TableFull>, AllocError>
+    requires { IsOf table.now pass.old }
+    ensures trees { IfOk result (λ run. IfOk run (λ s. StandsFor pass.new s.places s.exit s.guards.items (block_trees block.now))) }
+    ensures runs { IfOk result (λ run. Runs (block_asked block.now) (block_growth block.now) table.now pass.old run pass.new) }
+    ensures refused { OnErr result (pass.new ≡ pass.old) }
 {
+    let lists = RunLists::new(alloc, block.insts())?;
     let mut terms = Interner::new(table, pass);
-    run_code(
-        &mut terms,
-        block.insts(),
-        &block.exit(),
-        &None,
-        room.into_lists(),
-    )
+    Ok(run_code(&mut terms, block.insts(), &block.exit(), &None, lists))
 }
 
 /// The tickets of what an order leaves, its slot run behind the exit; else as `run_block`.
 pub fn run_order(
+    alloc: Global,
     table: &TermTable,
     pass: &mut Pass,
     order: &Order,
-    room: RunRoom,
-) -> Result<SymState, TableFull>
-    requires table { IsOf table.now pass.old }
-    ensures trees { IfOk result (λ s. StandsFor pass.new s.places s.exit s.guards.items (order_trees order.now)) }
-    ensures absent { OnErr result (LacksOne pass.new (order_asked order.now)) }
-    ensures grows { linked pass.new ≤ linked pass.old + order_growth order.now }
-    ensures legal { HasLegalHistory pass.new }
-    ensures pass { AfterInterns table.now pass.old result pass.new }
+) -> Result<Result<SymState, TableFull>, AllocError>
+    requires { IsOf table.now pass.old }
+    ensures trees { IfOk result (λ run. IfOk run (λ s. StandsFor pass.new s.places s.exit s.guards.items (order_trees order.now))) }
+    ensures runs { IfOk result (λ run. Runs (order_asked order.now) (order_growth order.now) table.now pass.old run pass.new) }
+    ensures refused { OnErr result (pass.new ≡ pass.old) }
 {
+    let lists = RunLists::new(alloc, order.insts())?;
     let mut terms = Interner::new(table, pass);
-    run_code(
+    Ok(run_code(
         &mut terms,
         order.insts(),
         &order.exit(),
         &order.slot(),
-        room.into_lists(),
-    )
+        lists,
+    ))
 }
 
 /// What a block leaves from the start on.
@@ -445,22 +434,16 @@ fn run_block_from(
     terms: &mut Interner,
     start: &TermPlaces,
     block: &Block,
-    room: RunRoom,
+    lists: RunLists,
 ) -> Result<SymState, TableFull>
-    requires { IsStart terms.old.pass.now start.now }
+    requires start { IsStart terms.old.pass.now start.now }
+    requires room { IsRoomFor (length block.now.insts) lists }
     ensures trees { IfOk result (λ s. StandsFor terms.new.pass.now s.places s.exit s.guards.items (block_trees block.now)) }
     ensures absent { OnErr result (LacksOne terms.new.pass.now (block_asked block.now)) }
     ensures pass { Interns terms.old result terms.new }
     ensures grows { linked terms.new.pass.now + 35 ≤ linked terms.old.pass.now + block_growth block.now }
 {
-    run_from(
-        terms,
-        start,
-        block.insts(),
-        &block.exit(),
-        &None,
-        room.into_lists(),
-    )
+    run_from(terms, start, block.insts(), &block.exit(), &None, lists)
 }
 
 /// What an order leaves from the start on.
@@ -468,9 +451,10 @@ fn run_order_from(
     terms: &mut Interner,
     start: &TermPlaces,
     order: &Order,
-    room: RunRoom,
+    lists: RunLists,
 ) -> Result<SymState, TableFull>
-    requires { IsStart terms.old.pass.now start.now }
+    requires start { IsStart terms.old.pass.now start.now }
+    requires room { IsRoomFor (length order.now.insts) lists }
     ensures trees { IfOk result (λ s. StandsFor terms.new.pass.now s.places s.exit s.guards.items (order_trees order.now)) }
     ensures absent { OnErr result (LacksOne terms.new.pass.now (order_asked order.now)) }
     ensures pass { Interns terms.old result terms.new }
@@ -482,7 +466,7 @@ fn run_order_from(
         order.insts(),
         &order.exit(),
         &order.slot(),
-        room.into_lists(),
+        lists,
     )
 }
 
@@ -491,8 +475,10 @@ fn run_pair(
     terms: &mut Interner,
     block: &Block,
     order: &Order,
-    rooms: (RunRoom, RunRoom),
+    lists: (RunLists, RunLists),
 ) -> Result<(SymState, SymState), TableFull>
+    requires block_room { IsRoomFor (length block.now.insts) lists.0 }
+    requires order_room { IsRoomFor (length order.now.insts) lists.1 }
     ensures block { IfOk result (λ s. StandsFor terms.new.pass.now s.0.places s.0.exit s.0.guards.items (block_trees block.now)) }
     ensures order { IfOk result (λ s. StandsFor terms.new.pass.now s.1.places s.1.exit s.1.guards.items (order_trees order.now)) }
     ensures absent { OnErr result (LacksOne terms.new.pass.now (block_asked block.now ++ order_asked order.now)) }
@@ -501,30 +487,31 @@ fn run_pair(
     ensures grows { linked terms.new.pass.now ≤ linked terms.old.pass.now + (block_growth block.now + order_growth order.now) }
 {
     let start = start(terms)?;
-    let first = run_block_from(terms, &start, block, rooms.0)?;
-    let second = run_order_from(terms, &start, order, rooms.1)?;
+    let first = run_block_from(terms, &start, block, lists.0)?;
+    let second = run_order_from(terms, &start, order, lists.1)?;
     Ok((first, second))
 }
 
 /// The tickets of what a block and an order leave, as `run_block` and `run_order` give them. The terms of the start are made
 /// once for both.
 pub fn run_both(
+    alloc: Global,
     table: &TermTable,
     pass: &mut Pass,
     block: &Block,
     order: &Order,
-    rooms: (RunRoom, RunRoom),
-) -> Result<(SymState, SymState), TableFull>
-    requires table { IsOf table.now pass.old }
-    ensures block { IfOk result (λ s. StandsFor pass.new s.0.places s.0.exit s.0.guards.items (block_trees block.now)) }
-    ensures order { IfOk result (λ s. StandsFor pass.new s.1.places s.1.exit s.1.guards.items (order_trees order.now)) }
-    ensures absent { OnErr result (LacksOne pass.new (block_asked block.now ++ order_asked order.now)) }
-    ensures grows { linked pass.new ≤ linked pass.old + (block_growth block.now + order_growth order.now) }
-    ensures legal { HasLegalHistory pass.new }
-    ensures pass { AfterInterns table.now pass.old result pass.new }
+) -> Result<Result<(SymState, SymState), TableFull>, AllocError>
+    requires { IsOf table.now pass.old }
+    ensures block { IfOk result (λ run. IfOk run (λ s. StandsFor pass.new s.0.places s.0.exit s.0.guards.items (block_trees block.now))) }
+    ensures order { IfOk result (λ run. IfOk run (λ s. StandsFor pass.new s.1.places s.1.exit s.1.guards.items (order_trees order.now))) }
+    ensures runs { IfOk result (λ run. Runs (block_asked block.now ++ order_asked order.now) (block_growth block.now + order_growth order.now)
+        table.now pass.old run pass.new) }
+    ensures refused { OnErr result (pass.new ≡ pass.old) }
 {
+    let block_lists = RunLists::new(alloc, block.insts())?;
+    let order_lists = RunLists::new(alloc, order.insts())?;
     let mut terms = Interner::new(table, pass);
-    run_pair(&mut terms, block, order, rooms)
+    Ok(run_pair(&mut terms, block, order, (block_lists, order_lists)))
 }
 
 /// What a run may link is at most quadratic in the number of its actions. A law: it computes nothing.

@@ -2,7 +2,6 @@
 //! and a store its place, by one walk from the last store inward. Terms of memory are made where a load or the end of the run needs them:
 //! a store that goes inside others makes none of theirs anew.
 ghost use Rattle.std.specs.Prelude.{◌≡◌, ℕ, ◌<◌, ◌≤◌, ◌+◌, ◌&&◌, [], IfOk, OnErr, length, take, drop, vec_len};
-ghost use Rattle.mblock.specs.declared.limits.TheConstants.{ORDER_INSTS};
 ghost use Rattle.sym_terms.specs.declared.label.Label.TheVariants.{Load, Store};
 ghost use Rattle.sym_terms.specs.Trees.{Tree, binary, ternary};
 ghost use Rattle.sym_terms.specs.NormalForms.{address_of, are_disjoint, load_tree, store_tree};
@@ -113,8 +112,7 @@ fn stores_inside(stores: &[Stored], width: Width, at: &TermAddress) -> usize
 }
 
 impl StoreChain {
-    ghost use Rattle.std.specs.Prelude.{◌≡◌, ℕ, ◌<◌, ◌≤◌, ◌+◌, IfOk, OnErr, take, vec_len};
-    ghost use Rattle.mblock.specs.declared.limits.TheConstants.{ORDER_INSTS};
+    ghost use Rattle.std.specs.Prelude.{◌≡◌, ℕ, ◌<◌, ◌≤◌, ◌+◌, IfOk, OnErr, take, vec_len, vec_capacity};
     ghost use Rattle.sym_terms.specs.Trees.{Tree};
     ghost use Rattle.sym_terms.specs.NormalForms.{address_of, load_tree, store_tree};
     ghost use Rattle.term_table.specs.Passes.{PassState, linked};
@@ -128,7 +126,6 @@ impl StoreChain {
     fn memory_behind(&mut self, terms: &mut Interner, count: usize) -> Result<Ticket, TableFull>
         requires chain { IsChain terms.old.pass.now self.old }
         requires room { HasStoreRoom self.old }
-        requires few { vec_len self.old.stores ≤ ORDER_INSTS + 1 }
         requires count { count ≤ vec_len self.old.stores }
         ensures chain { IsChain terms.new.pass.now self.new }
         ensures stores { self.new.stores ≡ self.old.stores }
@@ -155,7 +152,6 @@ impl StoreChain {
     pub(crate) fn memory_term(&mut self, terms: &mut Interner) -> Result<Ticket, TableFull>
         requires chain { IsChain terms.old.pass.now self.old }
         requires room { HasStoreRoom self.old }
-        requires few { vec_len self.old.stores ≤ ORDER_INSTS + 1 }
         ensures tree { (t : Tree) → MakeMemory terms.old.pass.now self.old.stores.items t
             → IfOk result (λ k. HasTree terms.new.pass.now k t) }
         ensures absent { (t : Tree) → MakeMemory terms.old.pass.now self.old.stores.items t
@@ -178,7 +174,6 @@ impl StoreChain {
         requires legal { HasLegalHistory terms.old.pass.now }
         requires chain { IsChain terms.old.pass.now self.old }
         requires room { HasStoreRoom self.old }
-        requires few { vec_len self.old.stores ≤ ORDER_INSTS + 1 }
         requires address { HasSeen terms.old.pass.now address }
         requires at { (b : Tree) → HasTree terms.old.pass.now address b → IsAddress terms.old.pass.now at.now (address_of b) }
         ensures chain { IsChain terms.new.pass.now self.new }
@@ -201,7 +196,7 @@ impl StoreChain {
     /// place are made anew where they are needed.
     pub(crate) fn store(&mut self, stored: Stored)
         requires room { HasStoreRoom self.old }
-        requires few { vec_len self.old.stores < ORDER_INSTS + 1 }
+        requires few { vec_len self.old.stores < vec_capacity self.old.stores }
         ensures chain { (p : PassState) (b v : Tree) → HasLegalHistory p → IsChain p self.old → HasTree p stored.address b
             → HasTree p stored.value v
             → IsAddress p (address_of_store stored) (address_of b) → IsChain p self.new }
@@ -211,6 +206,7 @@ impl StoreChain {
             → MakeMemory p self.new.stores.items (store_tree stored.width m b v) }
         ensures room { HasStoreRoom self.new }
         ensures count { vec_len self.new.stores ≡ vec_len self.old.stores + 1 }
+        ensures capacity { vec_capacity self.new.stores ≡ vec_capacity self.old.stores }
     {
         let place = stores_inside(self.stores.as_slice(), stored.width, &stored.at());
         match self.stores.insert(place, stored) {

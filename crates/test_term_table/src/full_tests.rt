@@ -8,7 +8,7 @@ use mblock::{Block, Exit, Order};
 use mips_isa::{Amount, ImmOp, Plain, Reg, ShiftOp};
 use std::alloc::{AllocError, Global};
 use std::process::Abort;
-use sym_exec::{RunRoom, run_block};
+use sym_exec::run_block;
 use term_table::{Pass, TermTable};
 
 // `addiu $8,$0,n` for each n from 1 to `count`: each has two terms of its own.
@@ -48,8 +48,8 @@ fn has_room(rt: &impl Abort, alloc: Global, table: &TermTable, pass: &mut Pass, 
     ensures { IsOf table.now pass.new }
 {
     let block = block_of(rt, alloc, count);
-    let room = RunRoom::new(alloc).expect(rt, "memory");
-    run_block(table, pass, &block, room).is_ok()
+    let run = run_block(alloc, table, pass, &block).expect(rt, "memory");
+    run.is_ok()
 }
 
 // Whether the verdict on the block's order is that the pass is full.

@@ -5,8 +5,8 @@ use Rattle.sym_exec.proofs.Starts.{start_on}
 use Rattle.sym_exec.proofs.Tickets.{goes_on, goes_more, interns_by, stands_for_on}
 use Rattle.sym_exec.proofs.run.run_pair.Goals as goal
 
-pub run_order_from-requires : goal.run_order_from-requires
-run_order_from-requires c = start_on c.in_ok-first.ensures.pass.later c.in_ok-start.ensures.start
+pub run_order_from-requires-clause-start : goal.run_order_from-requires-clause-start
+run_order_from-requires-clause-start c = start_on c.in_ok-first.ensures.pass.later c.in_ok-start.ensures.start
 
 pub returns-in_err-first-clause-absent : goal.returns-in_err-first-clause-absent
 returns-in_err-first-clause-absent c = err_always _ (lacks_left (order_asked c.args.order.now) c.in_err-first.ensures.absent)

@@ -1,5 +1,5 @@
 use Rattle.std.proofs.Common.{refl, sym, ap, ap₂, subst, arith}
-use Rattle.std.specs.Prelude.{OnOk, vec_len, OnErr, [], ◌∷◌}
+use Rattle.std.specs.Prelude.{OnOk, vec_len, vec_capacity, OnErr, [], ◌∷◌}
 use Rattle.mips_isa.specs.declared.action.Action.{Action}
 use Rattle.sym_terms.specs.NormalForms.{store_tree}
 use Rattle.sym_exec.proofs.MipsTerms.{still_tree}
@@ -109,20 +109,24 @@ pub returns-in_ok-address-in-Loads-clause-room : goal.returns-in_ok-address-in-L
 returns-in_ok-address-in-Loads-clause-room c =
     let few = c.requires.room.few in
     let same = ap vec_len c.in_ok-address-in-Loads.ensures.stores in
-    room_guard c.args.lists.now c.push_guard.new.self _ c.requires.room c.in_ok-address-in-Loads.ensures.room (omega (arith, few, same))
+    let enough = c.requires.room.guards in
+    let capacity = ap vec_capacity c.in_ok-address-in-Loads.ensures.stores in
+    room_guard c.args.lists.now c.push_guard.new.self c.loads.new.chain (omega (arith, enough, capacity)) c.in_ok-address-in-Loads.ensures.room (omega (arith, few, same))
     c.push_guard.ensures.count c.push_guard.ensures.capacity c.push_guard.ensures.chain
 
 pub returns-in_ok-address-in-Stores-clause-room : goal.returns-in_ok-address-in-Stores-clause-room
 returns-in_ok-address-in-Stores-clause-room c =
     let few = c.requires.room.few in
     let more = c.in_ok-address-in-Stores.ensures.count in
-    room_guard c.args.lists.now c.push_guard-in-Stores.new.self _ c.requires.room c.in_ok-address-in-Stores.ensures.room (omega (arith, few, more))
+    let enough = c.requires.room.guards in
+    let capacity = c.in_ok-address-in-Stores.ensures.capacity in
+    room_guard c.args.lists.now c.push_guard-in-Stores.new.self c.stores.new.chain (omega (arith, enough, capacity)) c.in_ok-address-in-Stores.ensures.room (omega (arith, few, more))
     c.push_guard-in-Stores.ensures.count c.push_guard-in-Stores.ensures.capacity c.push_guard-in-Stores.ensures.chain
 
 pub returns-in_ok-put_halves-in-Divides-clause-room : goal.returns-in_ok-put_halves-in-Divides-clause-room
 returns-in_ok-put_halves-in-Divides-clause-room c =
     let few = c.requires.room.few in
-    room_guard c.args.lists.now c.push_guard-in-Divides.new.self c.args.lists.now.chain c.requires.room c.requires.room.chain (omega (arith, few))
+    room_guard c.args.lists.now c.push_guard-in-Divides.new.self c.args.lists.now.chain c.requires.room.guards c.requires.room.chain (omega (arith, few))
     c.push_guard-in-Divides.ensures.count c.push_guard-in-Divides.ensures.capacity c.push_guard-in-Divides.ensures.chain
 
 pub returns-in_ok-address-in-Loads-clause-chain : goal.returns-in_ok-address-in-Loads-clause-chain
