@@ -21,6 +21,7 @@ pub struct Memory {
     ghost stack_fits: { 4194304 ≤ vec_capacity stack },
 }
 
+#[inline(always)]
 fn word_of(words: &[u32], place: usize) -> u32
     requires { place < length words.now }
     ensures value { result ≡ slice_index words.now place }
@@ -30,6 +31,7 @@ fn word_of(words: &[u32], place: usize) -> u32
 }
 
 // The word at a place, 0 behind those that are held.
+#[inline(always)]
 fn word_or_zero(words: &[u32], place: usize) -> u32
     ensures value { result ≡ slice_index words.now place }
     ensures range { result < 2 ^ 32 }
@@ -41,6 +43,7 @@ fn word_or_zero(words: &[u32], place: usize) -> u32
 }
 
 // The place of the stack's word that holds the byte at an address.
+#[inline(always)]
 fn stack_place(a: u32) -> usize
     requires { a < stack_end }
     ensures value { result ≡ (stack_end - 1 - a) / 4 }
@@ -62,6 +65,7 @@ fn reach(stack: &mut Vec<u32>, place: usize)
 }
 
 // The byte at a place of a word, the highest first.
+#[inline(always)]
 fn byte_at_place(word: u32, place: usize) -> u8
     requires { place < 4 }
     ensures { result ≡ byte_of word place }
@@ -70,6 +74,7 @@ fn byte_at_place(word: u32, place: usize) -> u8
 }
 
 // The word with this byte at a place.
+#[inline(always)]
 fn with_byte(word: u32, place: usize, byte: u8) -> u32
     requires { place < 4 }
     ensures { (i : ℕ) → i < 4 → byte_of result i ≡ (if i == place then byte else byte_of word i) }
@@ -81,6 +86,7 @@ fn with_byte(word: u32, place: usize, byte: u8) -> u32
 
 impl Memory {
     /// Whether the address of a byte is mapped.
+    #[inline(always)]
     pub fn is_mapped(&self, a: u32) -> bool
         ensures { result ≡ words_mapped (length self.now.globals.items) a }
     {
@@ -89,6 +95,7 @@ impl Memory {
     }
 
     // The word that holds the byte at an address.
+    #[inline(always)]
     fn word_at(&self, a: u32) -> u32
         requires { words_mapped (length self.now.globals.items) a ≡ true }
         ensures value { result ≡ word_holding self.now.globals.items self.now.stack.items a }
@@ -102,6 +109,7 @@ impl Memory {
     }
 
     // Replaces the word that holds the byte at an address.
+    #[inline(always)]
     fn put_word(&mut self, a: u32, word: u32)
         requires { words_mapped (length self.old.globals.items) a ≡ true }
         ensures bytes { bytes_in self.new.globals.items self.new.stack.items
@@ -118,6 +126,7 @@ impl Memory {
     }
 
     /// The word at an address, or the byte, extended with zeros.
+    #[inline(always)]
     pub fn load(&self, width: Width, a: u32) -> u32
         requires { is_open width (words_mapped (length self.now.globals.items)) a ≡ true }
         ensures { result ≡ load_at width (words_mapped (length self.now.globals.items))
@@ -131,6 +140,7 @@ impl Memory {
     }
 
     /// Writes the word at an address, or its low eight bits as the byte there.
+    #[inline(always)]
     pub fn store(&mut self, width: Width, a: u32, word: u32)
         requires { is_open width (words_mapped (length self.old.globals.items)) a ≡ true }
         ensures bytes { bytes_in self.new.globals.items self.new.stack.items

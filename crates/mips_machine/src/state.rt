@@ -55,6 +55,7 @@ fn value(op: Operator, a: u32, b: u32) -> u32
 }
 
 // Whether a word or a byte may stand at the address.
+#[inline(always)]
 fn is_aligned(width: Width, a: u32) -> bool
     ensures { result ≡ is_aligned width a }
 {
@@ -132,7 +133,7 @@ impl Registers {
 
     // Writes the word or its low byte at an address.
     #[inline(always)]
-    fn store(&mut self, width: Width, a: u32, word: u32) -> Result<(), Rule>
+    pub(crate) fn store(&mut self, width: Width, a: u32, word: u32) -> Result<(), Rule>
         ensures rule { address_rule_of width a (state_of self.old) ≡ rule_told result }
         ensures state { IfOk result (λ u. state_of self.new
             ≡ record (state_of self.old) { memory = store_at width (state_of self.old).mapped (state_of self.old).memory a word }) }
