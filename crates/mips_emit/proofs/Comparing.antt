@@ -21,7 +21,7 @@ use Rattle.rtl.specs.declared.instruction.RInst.TheVariants.{Const, Move, Bin, L
 use Rattle.rtl.specs.declared.block.RGlobal.{RGlobal}
 use Rattle.rtl.specs.Operators.{truth_word, op_result}
 use Rattle.rtl.proofs.Results.{result-word}
-use Rattle.mips_homes.specs.HomedRun.{is_lasting, in_home, Run, Failed, with_value, write_at, read_home, with_inst}
+use Rattle.mips_homes.specs.HomedRun.{is_callee_saved, in_home, Run, Failed, with_value, write_at, read_home, with_inst}
 use Rattle.mips_homes.specs.declared.homed.Home.{Home}
 use Rattle.mips_homes.specs.declared.homed.Home.TheVariants.{Reg, Slot}
 use Rattle.mips_emit.specs.declared.location.Source.{Source}
@@ -34,13 +34,13 @@ use Rattle.mips_emit.specs.Frames.{AreFrameHomes}
 use Rattle.mips_homes.specs.declared.homed.SlotCopy.{SlotCopy}
 use Rattle.mips_homes.specs.Copies.{copy_of}
 use Rattle.mips_emit.specs.Locations.{Locations, in_frame, Facts, known_in, locations_of, location_at, operand}
-use Rattle.mips_emit.specs.Code.{nop, fetch, seat, op_code}
-use Rattle.mips_emit.specs.Comparisons.{is_known_zero, is_immediate, opposite_if, form_of, opposite_op, code_by_form, comparison_code, is_asked, is_passing}
+use Rattle.mips_emit.specs.Code.{nop, fetch, operand_register, op_code}
+use Rattle.mips_emit.specs.Comparisons.{is_known_zero, is_immediate, opposite_if, form_of, opposite_op, code_by_form, comparison_code, is_asked, is_caller_saved}
 use Rattle.mips_emit.specs.Comparisons.{form_for, operator_comparison, comparison_of, last_with, is_result, returned}
 use Rattle.mips_emit.proofs.Runs.{RunsTo, runs_then}
 use Rattle.mips_emit.proofs.View.{IsTarget, first_inner, read_register}
 use Rattle.mips_emit.proofs.Stands.{Stored, Stands}
-use Rattle.mips_emit.proofs.Homes.{passes, IsLast, none_fresh, IsKnown, Denotes, IsAway, seat_kept, longer_behind, runs_nop, hide, IsLazy, lazy_told, shown_told, fewer_stand}
+use Rattle.mips_emit.proofs.Homes.{passes, IsLast, none_fresh, IsKnown, Denotes, IsAway, operand_register_kept, longer_behind, runs_nop, hide, AreDeferred, one_deferred, shown_deferred, fewer_stand}
 use Rattle.mips_emit.proofs.Homes.{operand_below, operand_means, fetches, ends_stands}
 use Rattle.mips_emit.proofs.Insts.{Computed, value_or_failed, computes}
 
@@ -95,7 +95,7 @@ asked_for at facts asked (Const d w) m e = absurd (none-some m e)
 asked_for at facts asked (Move d a) m e = absurd (none-some m e)
 asked_for at facts asked (Load d a i) m e = absurd (none-some m e)
 asked_for at facts asked (Store a i b) m e = absurd (none-some m e)
-asked_for at facts asked (Bin op d a b) m e = go (is_asked asked d && is_passing (at d)) refl e
+asked_for at facts asked (Bin op d a b) m e = go (is_asked asked d && is_caller_saved (at d)) refl e
   where
     l : Option ℕ
     l = known_in facts a
@@ -111,11 +111,11 @@ asked_for at facts asked (Bin op d a b) m e = go (is_asked asked d && is_passing
         let x : Comparison = record { result = d; op = op; form = form; left = l; right = r; x = operand at facts a; y = operand at facts b } in
         subst (λ (m : Comparison). (is_asked asked m.result ≡ true) × (form_for asked m.op m.left m.right ≡ Some m.form)) (same_Some x m e) (t, is)
 
-    go : (t : Bool) → (is_asked asked d && is_passing (at d)) ≡ t
+    go : (t : Bool) → (is_asked asked d && is_caller_saved (at d)) ≡ t
         → (if t then operator_comparison d op l r (operand at facts a) (operand at facts b) (form_for asked op l r) else None) ≡ Some m
         → (is_asked asked m.result ≡ true) × (form_for asked m.op m.left m.right ≡ Some m.form)
     go false t e = absurd (none-some m e)
-    go true t e = by (and_first (is_asked asked d) (is_passing (at d)) t) (form_for asked op l r) refl e
+    go true t e = by (and_first (is_asked asked d) (is_caller_saved (at d)) t) (form_for asked op l r) refl e
 
 -- nothing is one with a branch that doesn't stand behind it
 pub none_asked : (at : Locations) (facts : Facts) (i : RInst) (m : Comparison) → comparison_of at facts Nothing i ≡ Some m → ⊥
@@ -140,7 +140,7 @@ t2 = record { low = omega arith; high = omega arith }
 
 -- what is known then: nothing but that a register doesn't hold its word
 abbrev pub waiting : Facts → (q u : ℕ) → Facts
-waiting facts q u = record { known = []; lazy = places_with facts.lazy q (Some u) }
+waiting facts q u = record { known = []; deferred = places_with facts.deferred q (Some u) }
 
 module _ (most total : ℕ) (gs : List RGlobal) (starts : ℕ → ℕ) where
   module _ (registers : Places) (g : Arrays) (top : Stored) (fs : List Stored) (s : State) (h : Stands most total gs starts registers g (top ∷ fs) s) where
@@ -167,7 +167,7 @@ module _ (most total : ℕ) (gs : List RGlobal) (starts : ℕ → ℕ) where
           let s1 : State = record s { regs = a.regs } in
           let b = fetches most total gs starts registers g top fs s1 a.stands 3 w y (omega arith) (omega arith) (y_means s1 a.stands) in
           let s2 : State = record s1 { regs = b.regs } in
-          let left : read 0 b.regs (seat 1 x) ≡ v = seat_kept x 1 3 a.regs b.regs x_away (λ e. absurd (omega (arith, e))) (omega arith) b.others ∙ a.here in
+          let left : read 0 b.regs (operand_register 1 x) ≡ v = operand_register_kept x 1 3 a.regs b.regs x_away (λ e. absurd (omega (arith, e))) (omega arith) b.others ∙ a.here in
           record {
             to = s2;
             runs = runs_then a.runs (runs_then b.runs (runs_nop s2));
@@ -179,7 +179,7 @@ module _ (most total : ℕ) (gs : List RGlobal) (starts : ℕ → ℕ) where
 
       -- one operand alone, in register 3
       on_one : (z : Source) (c : ℕ) → Means z c → (form : Form) → is_result form ≡ false
-          → ((m : State) → read 0 m.regs (seat 3 z) ≡ c → passes form x y m ≡ not (nat_eq u 0)) → Decided (fetch 3 z ++ nop ∷ []) form x y u
+          → ((m : State) → read 0 m.regs (operand_register 3 z) ≡ c → passes form x y m ≡ not (nat_eq u 0)) → Decided (fetch 3 z ++ nop ∷ []) form x y u
       on_one z c z_means form plain tells =
           let a = fetches most total gs starts registers g top fs s h 3 c z (omega arith) (omega arith) (z_means s h) in
           let s1 : State = record s { regs = a.regs } in
@@ -306,53 +306,53 @@ module _ (most total : ℕ) (gs : List RGlobal) (starts : ℕ → ℕ) where
     -- what a comparison leaves that is one with the branch behind it
     abbrev pub Leaves : (facts : Facts) (registers : Places) (top : Stored) (s : State) (go : Places → Places → Arrays → Run) → Comparison → Type 0
     Leaves facts registers top s go m = (q u : ℕ) (s' : State) → 1 ≤ length (comparison_code m) → RunsTo (comparison_code m) s s'
-        → Stands most total gs starts (hide (waiting facts q u).lazy (places_with registers q (Some u))) g (top ∷ fs) s'
-        → IsLazy (waiting facts q u).lazy (places_with registers q (Some u))
+        → Stands most total gs starts (hide (waiting facts q u).deferred (places_with registers q (Some u))) g (top ∷ fs) s'
+        → AreDeferred (waiting facts q u).deferred (places_with registers q (Some u))
         → IsLast (last_with (Some m) None) top.copies hs (places_with registers q (Some u)) top.slots s'
         → P (go (places_with registers q (Some u)) top.slots g)
 
     compares_bin : (asked : Asked) (op : Op) (d a b : ℕ) (facts : Facts) (form : Form) (registers : Places) (top : Stored) (s : State)
-        (go : Places → Places → Arrays → Run) → form_for asked op (known_in facts a) (known_in facts b) ≡ Some form → is_passing (locations_of top.copies hs d) ≡ true
-        → AreFrameHomes hs top.copies top.count → IsKnown (known_in facts) hs registers top.slots → IsLazy facts.lazy registers
-        → Stands most total gs starts (hide facts.lazy registers) g (top ∷ fs) s
+        (go : Places → Places → Arrays → Run) → form_for asked op (known_in facts a) (known_in facts b) ≡ Some form → is_caller_saved (locations_of top.copies hs d) ≡ true
+        → AreFrameHomes hs top.copies top.count → IsKnown (known_in facts) hs registers top.slots → AreDeferred facts.deferred registers
+        → Stands most total gs starts (hide facts.deferred registers) g (top ∷ fs) s
         → Leaves facts registers top s go (comparison_at top.copies facts op d a b form)
         → P (with_inst gs (Bin op d a b) hs registers top.slots g out go)
-    compares_bin asked op d a b facts form registers top s go is passing ok k lz h f =
+    compares_bin asked op d a b facts form registers top s go is caller_saved ok k lz h f =
         value_or_failed P (read_home hs registers top.slots a) out _ failed (λ v ev.
         value_or_failed P (read_home hs registers top.slots b) out _ failed (λ w ew.
         value_or_failed P (op_result op v w) out _ failed (λ u eu.
         let known = known_in facts in
-        let vb = operand_below most total gs starts facts.lazy registers g top fs s h lz hs a v ok ev in
-        let wb = operand_below most total gs starts facts.lazy registers g top fs s h lz hs b w ok ew in
-        let z = decides_for (hide facts.lazy registers) g top fs s h v w u (known_in facts a) (known_in facts b) (operand (locations_of top.copies hs) facts a)
-        (operand (locations_of top.copies hs) facts b) (operand_means most total gs starts facts.lazy registers g top fs s h lz known hs a v ok k ev).1
-        (operand_means most total gs starts facts.lazy registers g top fs s h lz known hs b w ok k ew).1
-        (λ s h. (operand_means most total gs starts facts.lazy registers g top fs s h lz known hs a v ok k ev).0)
-        (λ s h. (operand_means most total gs starts facts.lazy registers g top fs s h lz known hs b w ok k ew).0)
+        let vb = operand_below most total gs starts facts.deferred registers g top fs s h lz hs a v ok ev in
+        let wb = operand_below most total gs starts facts.deferred registers g top fs s h lz hs b w ok ew in
+        let z = decides_for (hide facts.deferred registers) g top fs s h v w u (known_in facts a) (known_in facts b) (operand (locations_of top.copies hs) facts a)
+        (operand (locations_of top.copies hs) facts b) (operand_means most total gs starts facts.deferred registers g top fs s h lz known hs a v ok k ev).1
+        (operand_means most total gs starts facts.deferred registers g top fs s h lz known hs b w ok k ew).1
+        (λ s h. (operand_means most total gs starts facts.deferred registers g top fs s h lz known hs a v ok k ev).0)
+        (λ s h. (operand_means most total gs starts facts.deferred registers g top fs s h lz known hs b w ok k ew).0)
         (λ c is. same_Some c v (sym (k.by a c is) ∙ ev)) (λ c is. same_Some c w (sym (k.by b c is) ∙ ew)) vb wb asked op form is eu in
-        write u (result-word op v w u vb wb eu) z (slice_get hs d) refl passing)))
+        write u (result-word op v w u vb wb eu) z (slice_get hs d) refl caller_saved)))
       where
         m : Comparison
         m = comparison_at top.copies facts op d a b form
 
         write : (u : ℕ) → u < 2 ^ 32
-            → Decided (hide facts.lazy registers) g top fs s h (code_by_form form op (known_in facts a) (known_in facts b)
+            → Decided (hide facts.deferred registers) g top fs s h (code_by_form form op (known_in facts a) (known_in facts b)
             (operand (locations_of top.copies hs) facts a) (operand (locations_of top.copies hs) facts b)) form (operand (locations_of top.copies hs) facts a) (operand (locations_of top.copies hs) facts b) u
-            → (o : Option Home) → slice_get hs d ≡ o → is_passing (location_at top.copies o) ≡ true
+            → (o : Option Home) → slice_get hs d ≡ o → is_caller_saved (location_at top.copies o) ≡ true
             → P (with_value o out (λ h. write_at h registers top.slots u (λ r s. go r s g)))
         write u below z None at passes_by = absurd (true≢false (sym passes_by))
         write u below z (Some (Slot j)) at passes_by = absurd (never (copy_of top.copies j) passes_by)
           where
-            never : (c : Option ℕ) → is_passing (Some (in_frame j c)) ≡ true → ⊥
+            never : (c : Option ℕ) → is_caller_saved (Some (in_frame j c)) ≡ true → ⊥
             never None e = true≢false (sym e)
             never (Some r) e = true≢false (sym e)
         write u below z (Some (Reg q)) at passes_by =
             let there : read_home hs (places_with registers q (Some u)) top.slots d ≡ Some u =
             ap (λ o. chain o (in_home (places_with registers q (Some u)) top.slots)) at ∙ ap (λ b. if b then Some u else registers q) (eq-eqb q q refl) in
             f q u z.to z.some z.runs
-            (fewer_stand most total gs starts (hide facts.lazy registers) (hide (places_with facts.lazy q (Some u)) (places_with registers q (Some u))) g (top ∷ fs)
-            z.to (λ r c e. shown_told facts.lazy registers q u r c e) z.stands)
-            (lazy_told facts.lazy registers q u (not_true (is_lasting q) passes_by) below lz)
+            (fewer_stand most total gs starts (hide facts.deferred registers) (hide (places_with facts.deferred q (Some u)) (places_with registers q (Some u))) g (top ∷ fs)
+            z.to (λ r c e. shown_deferred facts.deferred registers q u r c e) z.stands)
+            (one_deferred facts.deferred registers q u (not_true (is_callee_saved q) passes_by) below lz)
             (record {
               fresh = none_fresh top.copies hs (places_with registers q (Some u)) top.slots z.to;
               comparison = λ n c same holds.
@@ -365,27 +365,27 @@ module _ (most total : ℕ) (gs : List RGlobal) (starts : ℕ → ℕ) where
 
     pub compares : (i : RInst) (facts : Facts) (asked : Asked) (m : Comparison) (registers : Places) (top : Stored) (s : State)
         (go : Places → Places → Arrays → Run) → comparison_of (locations_of top.copies hs) facts asked i ≡ Some m
-        → AreFrameHomes hs top.copies top.count → IsKnown (known_in facts) hs registers top.slots → IsLazy facts.lazy registers
-        → Stands most total gs starts (hide facts.lazy registers) g (top ∷ fs) s → Leaves facts registers top s go m
+        → AreFrameHomes hs top.copies top.count → IsKnown (known_in facts) hs registers top.slots → AreDeferred facts.deferred registers
+        → Stands most total gs starts (hide facts.deferred registers) g (top ∷ fs) s → Leaves facts registers top s go m
         → P (with_inst gs i hs registers top.slots g out go)
     compares (Const d w) facts asked m registers top s go e ok k lz h f = absurd (none-some m e)
     compares (Move d a) facts asked m registers top s go e ok k lz h f = absurd (none-some m e)
     compares (Load d a i) facts asked m registers top s go e ok k lz h f = absurd (none-some m e)
     compares (Store a i b) facts asked m registers top s go e ok k lz h f = absurd (none-some m e)
     compares (Bin op d a b) facts asked m registers top s go e ok k lz h f =
-        go1 (is_asked asked d && is_passing (locations_of top.copies hs d)) refl e
+        go1 (is_asked asked d && is_caller_saved (locations_of top.copies hs d)) refl e
       where
         Goal : Type 0
         Goal = P (with_inst gs (Bin op d a b) hs registers top.slots g out go)
 
-        go2 : is_passing (locations_of top.copies hs d) ≡ true → (o : Option Form) → form_for asked op (known_in facts a) (known_in facts b) ≡ o
+        go2 : is_caller_saved (locations_of top.copies hs d) ≡ true → (o : Option Form) → form_for asked op (known_in facts a) (known_in facts b) ≡ o
             → operator_comparison d op (known_in facts a) (known_in facts b) (operand (locations_of top.copies hs) facts a) (operand (locations_of top.copies hs) facts b) o ≡ Some m → Goal
-        go2 passing None is e = absurd (none-some m e)
-        go2 passing (Some form) is e =
-            compares_bin asked op d a b facts form registers top s go is passing ok k lz h (subst (Leaves facts registers top s go) (sym (same_Some _ m e)) f)
+        go2 caller_saved None is e = absurd (none-some m e)
+        go2 caller_saved (Some form) is e =
+            compares_bin asked op d a b facts form registers top s go is caller_saved ok k lz h (subst (Leaves facts registers top s go) (sym (same_Some _ m e)) f)
 
-        go1 : (t : Bool) → (is_asked asked d && is_passing (locations_of top.copies hs d)) ≡ t
+        go1 : (t : Bool) → (is_asked asked d && is_caller_saved (locations_of top.copies hs d)) ≡ t
             → (if t then operator_comparison d op (known_in facts a) (known_in facts b) (operand (locations_of top.copies hs) facts a) (operand (locations_of top.copies hs) facts b)
             (form_for asked op (known_in facts a) (known_in facts b)) else None) ≡ Some m → Goal
         go1 false t e = absurd (none-some m e)
-        go1 true t e = go2 (and_second (is_asked asked d) (is_passing (locations_of top.copies hs d)) t) (form_for asked op (known_in facts a) (known_in facts b)) refl e
+        go1 true t e = go2 (and_second (is_asked asked d) (is_caller_saved (locations_of top.copies hs d)) t) (form_for asked op (known_in facts a) (known_in facts b)) refl e

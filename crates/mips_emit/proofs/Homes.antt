@@ -19,7 +19,7 @@ use Rattle.mips_isa.specs.Controls.{pair_passes, zero_passes}
 use Rattle.mblock.specs.declared.limits.TheConstants.{UNIT_BYTES}
 use Rattle.mblock.proofs.StateWords.{run_words}
 use Rattle.rtl.specs.declared.block.RGlobal.{RGlobal}
-use Rattle.mips_homes.specs.HomedRun.{is_lasting, Run, Failed, with_value, in_home, read_home, write_at, write_home}
+use Rattle.mips_homes.specs.HomedRun.{is_callee_saved, Run, Failed, with_value, in_home, read_home, write_at, write_home}
 use Rattle.mips_homes.specs.declared.homed.Home.{Home}
 use Rattle.mips_homes.specs.declared.homed.Home.TheVariants.{Reg, Slot}
 use Rattle.mips_homes.specs.declared.homed.Frame.{Frame}
@@ -36,9 +36,9 @@ use Rattle.mips_emit.specs.Frames.{IsHome, AreFrameHomes, IsFrame}
 use Rattle.mips_emit.specs.Comparisons.{no_last, is_result}
 use Rattle.mips_emit.specs.Locations.{known_in, no_facts, in_frame, location_at, in_slot, fresh_source, source}
 use Rattle.mips_emit.specs.declared.location.Location.{Location}
-use Rattle.mips_emit.specs.Locations.{inner_of, lazy_const, lazy_none, lazy_at, lazy_source, word_source}
+use Rattle.mips_emit.specs.Locations.{inner_of, deferred_const, deferred_none, deferred_at, deferred_source, word_source}
 use Rattle.mips_emit.specs.Elements.{width_of, width_bytes, place_in, address_of_place}
-use Rattle.mips_emit.specs.Code.{nop, const_code, is_small, half, constant, li, load_word_at, store_word_at, move_code, fetch, seat, bring, carry, into, finish, put_at, arrive}
+use Rattle.mips_emit.specs.Code.{nop, const_code, is_small, half, constant, li, load_word_at, store_word_at, move_code, fetch, operand_register, bring, carry, into, finish, put_at, arrive}
 use Rattle.mips_emit.proofs.Runs.{RunsTo, runs_none, runs_then}
 use Rattle.mips_emit.proofs.View.{word_at, set_word, shown_other, word_here, word_other, word_below, set_at_words, IsTarget, inner_is, read_register}
 use Rattle.mips_emit.proofs.View.{read_other, moves, loads_word, stores_word, Sets, set_sets, li_sets}
@@ -58,72 +58,72 @@ abbrev pub hidden : Option ℕ → Option ℕ → Option ℕ
 hidden None o = o
 hidden (Some w) o = None
 
-abbrev pub hide : (lazy registers : Places) → Places
-hide lazy registers = λ q. hidden (lazy q) (registers q)
+abbrev pub hide : (deferred registers : Places) → Places
+hide deferred registers = λ q. hidden (deferred q) (registers q)
 
 -- they are what the registers of the run over homes hold, and none outlives a block
-pub record IsLazy (lazy registers : Places) : Type 0 where
-  pub passes : (q w : ℕ) → lazy q ≡ Some w → is_lasting q ≡ false
-  pub holds : (q w : ℕ) → lazy q ≡ Some w → registers q ≡ Some w
-  pub below : (q w : ℕ) → lazy q ≡ Some w → w < 2 ^ 32
+pub record AreDeferred (deferred registers : Places) : Type 0 where
+  pub caller_saved : (q w : ℕ) → deferred q ≡ Some w → is_callee_saved q ≡ false
+  pub holds : (q w : ℕ) → deferred q ≡ Some w → registers q ≡ Some w
+  pub below : (q w : ℕ) → deferred q ≡ Some w → w < 2 ^ 32
 
-pub lazy_written : (lazy registers : Places) (r : ℕ) (o : Option ℕ) → IsLazy lazy registers → IsLazy (places_with lazy r None) (places_with registers r o)
-lazy_written lazy registers r o is = record {
-  passes = λ q w e. is.passes q w (before q w (nat_eq q r) e);
+pub deferred_written : (deferred registers : Places) (r : ℕ) (o : Option ℕ) → AreDeferred deferred registers → AreDeferred (places_with deferred r None) (places_with registers r o)
+deferred_written deferred registers r o is = record {
+  caller_saved = λ q w e. is.caller_saved q w (before q w (nat_eq q r) e);
   holds = λ q w e. holds q w (nat_eq q r) e;
   below = λ q w e. is.below q w (before q w (nat_eq q r) e);
 }
   where
-    before : (q w : ℕ) (b : Bool) → (if b then None else lazy q) ≡ Some w → lazy q ≡ Some w
+    before : (q w : ℕ) (b : Bool) → (if b then None else deferred q) ≡ Some w → deferred q ≡ Some w
     before q w true e = absurd (none-some w e)
     before q w false e = e
 
-    holds : (q w : ℕ) (b : Bool) → (if b then None else lazy q) ≡ Some w → (if b then o else registers q) ≡ Some w
+    holds : (q w : ℕ) (b : Bool) → (if b then None else deferred q) ≡ Some w → (if b then o else registers q) ≡ Some w
     holds q w true e = absurd (none-some w e)
     holds q w false e = is.holds q w e
 
-pub lazy_told : (lazy registers : Places) (r v : ℕ) → is_lasting r ≡ false → v < 2 ^ 32 → IsLazy lazy registers
-    → IsLazy (places_with lazy r (Some v)) (places_with registers r (Some v))
-lazy_told lazy registers r v passes lt is = record {
-  passes = λ q w e. told q w (nat_eq q r) refl e;
+pub one_deferred : (deferred registers : Places) (r v : ℕ) → is_callee_saved r ≡ false → v < 2 ^ 32 → AreDeferred deferred registers
+    → AreDeferred (places_with deferred r (Some v)) (places_with registers r (Some v))
+one_deferred deferred registers r v caller_saved lt is = record {
+  caller_saved = λ q w e. not_saved q w (nat_eq q r) refl e;
   holds = λ q w e. holds q w (nat_eq q r) e;
   below = λ q w e. below q w (nat_eq q r) e;
 }
   where
-    told : (q w : ℕ) (b : Bool) → nat_eq q r ≡ b → (if b then Some v else lazy q) ≡ Some w → is_lasting q ≡ false
-    told q w true t e = ap is_lasting (eqb-true q r t) ∙ passes
-    told q w false t e = is.passes q w e
+    not_saved : (q w : ℕ) (b : Bool) → nat_eq q r ≡ b → (if b then Some v else deferred q) ≡ Some w → is_callee_saved q ≡ false
+    not_saved q w true t e = ap is_callee_saved (eqb-true q r t) ∙ caller_saved
+    not_saved q w false t e = is.caller_saved q w e
 
-    holds : (q w : ℕ) (b : Bool) → (if b then Some v else lazy q) ≡ Some w → (if b then Some v else registers q) ≡ Some w
+    holds : (q w : ℕ) (b : Bool) → (if b then Some v else deferred q) ≡ Some w → (if b then Some v else registers q) ≡ Some w
     holds q w true e = e
     holds q w false e = is.holds q w e
 
-    below : (q w : ℕ) (b : Bool) → (if b then Some v else lazy q) ≡ Some w → w < 2 ^ 32
+    below : (q w : ℕ) (b : Bool) → (if b then Some v else deferred q) ≡ Some w → w < 2 ^ 32
     below q w true e = subst (λ w. w < 2 ^ 32) (same_Some v w e) lt
     below q w false e = is.below q w e
 
-pub none_lazy : (registers : Places) → IsLazy (λ q. None) registers
-none_lazy registers = record {
-  passes = λ q w e. absurd (none-some w e);
+pub none_deferred : (registers : Places) → AreDeferred (λ q. None) registers
+none_deferred registers = record {
+  caller_saved = λ q w e. absurd (none-some w e);
   holds = λ q w e. absurd (none-some w e);
   below = λ q w e. absurd (none-some w e);
 }
 
 -- what is shown after a write
-pub shown_written : (lazy registers : Places) (r v q w : ℕ) → hide (places_with lazy r None) (places_with registers r (Some v)) q ≡ Some w
-    → places_with (hide lazy registers) r (Some v) q ≡ Some w
-shown_written lazy registers r v q w e = by (nat_eq q r) e
+pub shown_written : (deferred registers : Places) (r v q w : ℕ) → hide (places_with deferred r None) (places_with registers r (Some v)) q ≡ Some w
+    → places_with (hide deferred registers) r (Some v) q ≡ Some w
+shown_written deferred registers r v q w e = by (nat_eq q r) e
   where
-    by : (b : Bool) → hidden (if b then None else lazy q) (if b then Some v else registers q) ≡ Some w
-        → (if b then Some v else hidden (lazy q) (registers q)) ≡ Some w
+    by : (b : Bool) → hidden (if b then None else deferred q) (if b then Some v else registers q) ≡ Some w
+        → (if b then Some v else hidden (deferred q) (registers q)) ≡ Some w
     by true e = e
     by false e = e
 
-pub shown_told : (lazy registers : Places) (r v q w : ℕ) → hide (places_with lazy r (Some v)) (places_with registers r (Some v)) q ≡ Some w
-    → hide lazy registers q ≡ Some w
-shown_told lazy registers r v q w e = by (nat_eq q r) e
+pub shown_deferred : (deferred registers : Places) (r v q w : ℕ) → hide (places_with deferred r (Some v)) (places_with registers r (Some v)) q ≡ Some w
+    → hide deferred registers q ≡ Some w
+shown_deferred deferred registers r v q w e = by (nat_eq q r) e
   where
-    by : (b : Bool) → hidden (if b then Some v else lazy q) (if b then Some v else registers q) ≡ Some w → hidden (lazy q) (registers q) ≡ Some w
+    by : (b : Bool) → hidden (if b then Some v else deferred q) (if b then Some v else registers q) ≡ Some w → hidden (deferred q) (registers q) ≡ Some w
     by true e = absurd (none-some w e)
     by false e = e
 
@@ -183,9 +183,9 @@ none_fresh copies hs registers slots s = record { by = λ x w e. absurd (none-so
 
 -- whether the branch for a comparison is taken
 abbrev pub passes : Form → Source → Source → State → Bool
-passes (OnPair test) x y s = pair_passes test (read 0 s.regs (seat 1 x)) (read 0 s.regs (seat 3 y))
-passes (OnLeft test) x y s = zero_passes test (read 0 s.regs (seat 3 x))
-passes (OnRight test) x y s = zero_passes test (read 0 s.regs (seat 3 y))
+passes (OnPair test) x y s = pair_passes test (read 0 s.regs (operand_register 1 x)) (read 0 s.regs (operand_register 3 y))
+passes (OnLeft test) x y s = zero_passes test (read 0 s.regs (operand_register 3 x))
+passes (OnRight test) x y s = zero_passes test (read 0 s.regs (operand_register 3 y))
 passes ByResult x y s = pair_passes NotEqual (read 0 s.regs 3) (read 0 s.regs 0)
 passes ByOpposite x y s = pair_passes Equal (read 0 s.regs 3) (read 0 s.regs 0)
 passes InResult x y s = pair_passes NotEqual (read 0 s.regs 2) (read 0 s.regs 0)
@@ -243,12 +243,12 @@ IsAway (From (Copied r k)) = 4 ≤ r
 IsAway Zero = Unit {0}
 IsAway (Word w) = Unit {0}
 
-pub seat_kept : (x : Source) (t u : ℕ) (f f' : ℕ → ℕ) → IsAway x → t ≢ u → u < 4 → ((r : ℕ) → r ≢ u → f' r ≡ f r) → read 0 f' (seat t x) ≡ read 0 f (seat t x)
-seat_kept Zero t u f f' away ne low same = refl
-seat_kept (Word w) t u f f' away ne low same = read_other f f' t (λ _. same t ne)
-seat_kept (From (Held r)) t u f f' away ne low same = read_other f f' r (λ _. same r (omega (arith, away, low)))
-seat_kept (From (Copied r k)) t u f f' away ne low same = read_other f f' r (λ _. same r (omega (arith, away, low)))
-seat_kept (From (InSlot k)) t u f f' away ne low same = read_other f f' t (λ _. same t ne)
+pub operand_register_kept : (x : Source) (t u : ℕ) (f f' : ℕ → ℕ) → IsAway x → t ≢ u → u < 4 → ((r : ℕ) → r ≢ u → f' r ≡ f r) → read 0 f' (operand_register t x) ≡ read 0 f (operand_register t x)
+operand_register_kept Zero t u f f' away ne low same = refl
+operand_register_kept (Word w) t u f f' away ne low same = read_other f f' t (λ _. same t ne)
+operand_register_kept (From (Held r)) t u f f' away ne low same = read_other f f' r (λ _. same r (omega (arith, away, low)))
+operand_register_kept (From (Copied r k)) t u f f' away ne low same = read_other f f' r (λ _. same r (omega (arith, away, low)))
+operand_register_kept (From (InSlot k)) t u f f' away ne low same = read_other f f' t (λ _. same t ne)
 
 pub longer : (a b : List Plain) → 1 ≤ length a → 1 ≤ length (a ++ b)
 longer a b h = omega (arith, h, length-append a b)
@@ -349,11 +349,11 @@ module _ (most total : ℕ) (gs : List RGlobal) (starts : ℕ → ℕ) where
       stands_with registers registers g fs s f s.hi s.lo words linked (same 29 (omega arith) (omega arith)) (same 28 (omega arith) (omega arith))
       (λ r v low high is. same r low (omega (arith, high)) ∙ h.held r v low high is) h
 
-  -- passing registers change where nothing is known of those below 8
-  pub passing_kept : (registers : Places) (g : Arrays) (fs : List Stored) (is : List Plain) (s : State) (t v : ℕ)
+  -- caller-saved registers change where nothing is known of those below 8
+  pub caller_saved_kept : (registers : Places) (g : Arrays) (fs : List Stored) (is : List Plain) (s : State) (t v : ℕ)
       → ((q w : ℕ) → registers q ≡ Some w → 8 ≤ q) → t < 8 → (c : Sets is s t v) → Stands most total gs starts registers g fs s
       → Stands most total gs starts registers g fs (record s { regs = c.regs })
-  passing_kept registers g fs is s t v above low c h =
+  caller_saved_kept registers g fs is s t v above low c h =
       stands_with registers registers g fs s c.regs s.hi s.lo (run_words (map action_of is) s (record s { regs = c.regs }) h.words (c.runs).ends)
       (linked_kept fs registers registers s.regs c.regs (c.others 31 (omega (arith, low))) (λ r up high. c.others r (omega (arith, low, up))) (λ q w e. e) h.linked) (c.others 29 (omega (arith, low))) (c.others 28 (omega (arith, low)))
       (λ r w ql qh at. (let up = above r w at in c.others r (omega (arith, low, up))) ∙ h.held r w ql qh at) h
@@ -434,7 +434,7 @@ module _ (most total : ℕ) (gs : List RGlobal) (starts : ℕ → ℕ) where
       stands = sets_kept is t v high c;
     }
 
-    pub fetches : (t v : ℕ) (x : Source) → 0 < t → t < 4 → Denotes top.count s x v → Fetched (fetch t x) t (seat t x) v
+    pub fetches : (t v : ℕ) (x : Source) → 0 < t → t < 4 → Denotes top.count s x v → Fetched (fetch t x) t (operand_register t x) v
     fetches t v Zero low high d = record { regs = s.regs; runs = runs_none s; here = sym d; others = λ r ne. refl; stands = h }
     fetches t v (Word w) low high d = loaded (li t w) t v low high (brings t v (Word w) (record { low = low; high = omega (arith, high) }) d)
     fetches t v (From (Held r)) low high d = record { regs = s.regs; runs = runs_none s; here = d; others = λ r ne. refl; stands = h }
@@ -625,17 +625,17 @@ module _ (most total : ℕ) (gs : List RGlobal) (starts : ℕ → ℕ) where
         same j w true at = at
         same j w false at = at
 
-  module _ (lazy registers : Places) (g : Arrays) (top : Stored) (fs : List Stored) (s : State)
-      (h : Stands most total gs starts (hide lazy registers) g (top ∷ fs) s) (is_lazy : IsLazy lazy registers) where
-    shown : (r v : ℕ) → lazy r ≡ None → registers r ≡ Some v → hide lazy registers r ≡ Some v
+  module _ (deferred registers : Places) (g : Arrays) (top : Stored) (fs : List Stored) (s : State)
+      (h : Stands most total gs starts (hide deferred registers) g (top ∷ fs) s) (are_deferred : AreDeferred deferred registers) where
+    shown : (r v : ℕ) → deferred r ≡ None → registers r ≡ Some v → hide deferred registers r ≡ Some v
     shown r v none is = ap (λ o. hidden o (registers r)) none ∙ is
 
     pub home_below : (home : Home) (v : ℕ) → IsHome top.count home → in_home registers top.slots home ≡ Some v → v < 2 ^ 32
-    home_below (Reg r) v ok is = by (lazy r) refl
+    home_below (Reg r) v ok is = by (deferred r) refl
       where
-        by : (o : Option ℕ) → lazy r ≡ o → v < 2 ^ 32
+        by : (o : Option ℕ) → deferred r ≡ o → v < 2 ^ 32
         by None e = subst (λ v. v < 2 ^ 32) (h.held r v ok.0 ok.1 (shown r v e is)) ((h.words).regs r)
-        by (Some w) e = subst (λ v. v < 2 ^ 32) (same_Some w v (sym (is_lazy.holds r w e) ∙ is)) (is_lazy.below r w e)
+        by (Some w) e = subst (λ v. v < 2 ^ 32) (same_Some w v (sym (are_deferred.holds r w e) ∙ is)) (are_deferred.below r w e)
     home_below (Slot k) v ok is = subst (λ v. v < 2 ^ 32) ((h.stack.0).slots k v ok is) (word_below s (s.regs 29 + 4 * k) h.words)
 
     pub operand_below : (hs : List Home) (x v : ℕ) → AreFrameHomes hs top.copies top.count → read_home hs registers top.slots x ≡ Some v → v < 2 ^ 32
@@ -651,24 +651,24 @@ module _ (most total : ℕ) (gs : List RGlobal) (starts : ℕ → ℕ) where
     -- an operand is what the pseudo-register holds
     pub operand_means : (known : Places) (hs : List Home) (x v : ℕ) → AreFrameHomes hs top.copies top.count → IsKnown known hs registers top.slots
         → read_home hs registers top.slots x ≡ Some v
-        → Denotes top.count s (lazy_source (lazy_at lazy (location_at top.copies (slice_get hs x))) (source (known x) (location_at top.copies (slice_get hs x)))) v
-        × IsAway (lazy_source (lazy_at lazy (location_at top.copies (slice_get hs x))) (source (known x) (location_at top.copies (slice_get hs x))))
+        → Denotes top.count s (deferred_source (deferred_at deferred (location_at top.copies (slice_get hs x))) (source (known x) (location_at top.copies (slice_get hs x)))) v
+        × IsAway (deferred_source (deferred_at deferred (location_at top.copies (slice_get hs x))) (source (known x) (location_at top.copies (slice_get hs x))))
     operand_means known hs x v ok k e = go (slice_get hs x) (known x) refl refl e
       where
         word_means : (w : ℕ) → w ≡ v → w < 2 ^ 32 → (b : Bool) → nat_eq w 0 ≡ b → Means (if b then Zero else Word w) v
         word_means w w_v below true t = (sym w_v ∙ eqb-true w 0 t, tt)
         word_means w w_v below false t = ((w_v, below), tt)
 
-        held_means : (r : ℕ) → IsHome top.count (Reg r) → lazy r ≡ None → registers r ≡ Some v → Means (From (Held r)) v
+        held_means : (r : ℕ) → IsHome top.count (Reg r) → deferred r ≡ None → registers r ≡ Some v → Means (From (Held r)) v
         held_means r ok none is = (let low = ok.0 in read_register s.regs r (omega (arith, low)) ∙ h.held r v ok.0 ok.1 (shown r v none is), ok.0)
 
         either : (r w : ℕ) → w ≡ v → (b : Bool) → nat_eq w 0 ≡ b → Means (From (Held r)) v → Means (if b then Zero else From (Held r)) v
         either r w w_v true t m = (sym w_v ∙ eqb-true w 0 t, tt)
         either r w w_v false t m = m
 
-        reg : (r : ℕ) → slice_get hs x ≡ Some (Reg r) → registers r ≡ Some v → (z p : Option ℕ) → lazy r ≡ z → known x ≡ p
-            → Means (lazy_source z (source p (Some (Held r)))) v
-        reg r is e (Some w) p lz kp = word_means w (same_Some w v (sym (is_lazy.holds r w lz) ∙ e)) (is_lazy.below r w lz) (nat_eq w 0) refl
+        reg : (r : ℕ) → slice_get hs x ≡ Some (Reg r) → registers r ≡ Some v → (z p : Option ℕ) → deferred r ≡ z → known x ≡ p
+            → Means (deferred_source z (source p (Some (Held r)))) v
+        reg r is e (Some w) p lz kp = word_means w (same_Some w v (sym (are_deferred.holds r w lz) ∙ e)) (are_deferred.below r w lz) (nat_eq w 0) refl
         reg r is e None None lz kp = held_means r (ok.by x (Reg r) is) lz e
         reg r is e None (Some w) lz kp =
             let same : w ≡ v = same_Some w v (sym (k.by x w kp) ∙ ap (λ o. chain o (in_home registers top.slots)) is ∙ e) in
@@ -677,11 +677,11 @@ module _ (most total : ℕ) (gs : List RGlobal) (starts : ℕ → ℕ) where
         copied_means : (q r : ℕ) → top.slots q ≡ Some v → copy_of top.copies q ≡ Some r → Means (From (Held r)) v
         copied_means q r e copy =
             let range = (ok.copied).range q r copy in
-            let l = copy_holds (hide lazy registers) g top fs s h q r copy in
+            let l = copy_holds (hide deferred registers) g top fs s h q r copy in
             (read_register s.regs r (omega (arith, range.0)) ∙ l.copied q r v copy e, omega (arith, range.0))
 
         slot : (q : ℕ) → slice_get hs x ≡ Some (Slot q) → top.slots q ≡ Some v → (p : Option ℕ) → known x ≡ p → (c : Option ℕ) → copy_of top.copies q ≡ c
-            → Means (lazy_source (lazy_at lazy (Some (in_frame q c))) (source p (Some (in_frame q c)))) v
+            → Means (deferred_source (deferred_at deferred (Some (in_frame q c))) (source p (Some (in_frame q c)))) v
         slot q is e None kp None copy = (let lt = ok.by x (Slot q) is in ((lt, (h.stack.0).slots q v lt e), tt))
         slot q is e None kp (Some r) copy = copied_means q r e copy
         slot q is e (Some w) kp (Some r) copy =
@@ -693,20 +693,20 @@ module _ (most total : ℕ) (gs : List RGlobal) (starts : ℕ → ℕ) where
             word_means w same (omega (arith, same, below)) (nat_eq w 0) refl
 
         go : (o : Option Home) (p : Option ℕ) → slice_get hs x ≡ o → known x ≡ p → chain o (in_home registers top.slots) ≡ Some v
-            → Means (lazy_source (lazy_at lazy (location_at top.copies o)) (source p (location_at top.copies o))) v
+            → Means (deferred_source (deferred_at deferred (location_at top.copies o)) (source p (location_at top.copies o))) v
         go None p is kp e = absurd (none-some v e)
-        go (Some (Reg r)) p is kp e = reg r is e (lazy r) p refl kp
+        go (Some (Reg r)) p is kp e = reg r is e (deferred r) p refl kp
         go (Some (Slot q)) p is kp e = slot q is e p kp (copy_of top.copies q) refl
 
     -- an operand of an exit
     pub last_means : (known : Places) (fresh : Option ℕ) (hs : List Home) (x v : ℕ) → AreFrameHomes hs top.copies top.count → IsKnown known hs registers top.slots
         → IsFresh fresh top.copies hs registers top.slots s → read_home hs registers top.slots x ≡ Some v
         → Denotes top.count s (fresh_source fresh x (inner_of (location_at top.copies (slice_get hs x)))
-        (lazy_source (lazy_at lazy (location_at top.copies (slice_get hs x))) (source (known x) (location_at top.copies (slice_get hs x))))) v
+        (deferred_source (deferred_at deferred (location_at top.copies (slice_get hs x))) (source (known x) (location_at top.copies (slice_get hs x))))) v
     last_means known fresh hs x v ok k f e = go fresh refl
       where
         other : Source
-        other = lazy_source (lazy_at lazy (location_at top.copies (slice_get hs x))) (source (known x) (location_at top.copies (slice_get hs x)))
+        other = deferred_source (deferred_at deferred (location_at top.copies (slice_get hs x))) (source (known x) (location_at top.copies (slice_get hs x)))
 
         t : ℕ
         t = inner_of (location_at top.copies (slice_get hs x))
@@ -730,27 +730,27 @@ module _ (most total : ℕ) (gs : List RGlobal) (starts : ℕ → ℕ) where
         word q true is = subst (λ v. v < 2 ^ 32) (sym (ap e.regs (eqb-true q t is) ∙ e.here)) e.below
         word q false is = subst (λ v. v < 2 ^ 32) (sym (e.others q (eqb-false q t is))) ((h.words).regs q)
 
-  module _ (lazy registers : Places) (g : Arrays) (top : Stored) (fs : List Stored) (s : State)
-      (h : Stands most total gs starts (hide lazy registers) g (top ∷ fs) s) (is_lazy : IsLazy lazy registers) where
-    written : (r v : ℕ) (s' : State) → Stands most total gs starts (places_with (hide lazy registers) r (Some v)) g (top ∷ fs) s'
-        → Stands most total gs starts (hide (places_with lazy r None) (places_with registers r (Some v))) g (top ∷ fs) s'
-    written r v s' st = fewer_stand (places_with (hide lazy registers) r (Some v)) (hide (places_with lazy r None) (places_with registers r (Some v))) g
-        (top ∷ fs) s' (λ q w e. shown_written lazy registers r v q w e) st
+  module _ (deferred registers : Places) (g : Arrays) (top : Stored) (fs : List Stored) (s : State)
+      (h : Stands most total gs starts (hide deferred registers) g (top ∷ fs) s) (are_deferred : AreDeferred deferred registers) where
+    written : (r v : ℕ) (s' : State) → Stands most total gs starts (places_with (hide deferred registers) r (Some v)) g (top ∷ fs) s'
+        → Stands most total gs starts (hide (places_with deferred r None) (places_with registers r (Some v))) g (top ∷ fs) s'
+    written r v s' st = fewer_stand (places_with (hide deferred registers) r (Some v)) (hide (places_with deferred r None) (places_with registers r (Some v))) g
+        (top ∷ fs) s' (λ q w e. shown_written deferred registers r v q w e) st
 
     -- what a write to a location leaves
     abbrev pub Go : (P : Run → Type 0) (go : Places → Places → Run) (is : List Plain) (s0 : State) (known : Places) (x : ℕ) (o : Option ℕ) (hs : List Home)
         (l : Option Location) → Type 0
     Go P go is s0 known x o hs l = (registers' slots' : Places) (s' : State) → 1 ≤ length is → RunsTo is s0 s'
-        → Stands most total gs starts (hide (lazy_none l lazy) registers') g (with_slots top slots' ∷ fs) s'
-        → IsLazy (lazy_none l lazy) registers' → IsKnown (places_with known x o) hs registers' slots'
+        → Stands most total gs starts (hide (deferred_none l deferred) registers') g (with_slots top slots' ∷ fs) s'
+        → AreDeferred (deferred_none l deferred) registers' → IsKnown (places_with known x o) hs registers' slots'
         → P (go registers' slots')
 
     -- and that a result for a slot is still in the slot's inner temporary
     abbrev pub GoOn : (P : Run → Type 0) (go : Places → Places → Run) (is : List Plain) (s0 : State) (known : Places) (x : ℕ) (o : Option ℕ) (hs : List Home)
         (l : Option Location) (fresh : Option ℕ) → Type 0
     GoOn P go is s0 known x o hs l fresh = (registers' slots' : Places) (s' : State) → 1 ≤ length is → RunsTo is s0 s'
-        → Stands most total gs starts (hide (lazy_none l lazy) registers') g (with_slots top slots' ∷ fs) s'
-        → IsLazy (lazy_none l lazy) registers' → IsKnown (places_with known x o) hs registers' slots'
+        → Stands most total gs starts (hide (deferred_none l deferred) registers') g (with_slots top slots' ∷ fs) s'
+        → AreDeferred (deferred_none l deferred) registers' → IsKnown (places_with known x o) hs registers' slots'
         → IsFresh fresh top.copies hs registers' slots' s' → P (go registers' slots')
 
     -- a result, computed into the register for its location
@@ -776,23 +776,23 @@ module _ (most total : ℕ) (gs : List RGlobal) (starts : ℕ → ℕ) where
         slot j at (Some r) copy e f =
             let lt = ok.by x (Slot j) at in
             let s1 : State = record s { regs = e.regs } in
-            let c = copy_stored (hide lazy registers) g top fs s h hs ok j r v copy lt e.below e.regs e.here e.others in
+            let c = copy_stored (hide deferred registers) g top fs s h hs ok j r v copy lt e.below e.regs e.here e.others in
             f registers (places_with top.slots j (Some v)) (set_word s1 (e.regs 29 + 4 * j) v) (longer is (store_word_at r (4 * j) ∷ []) some)
-            (runs_then e.runs c.0) c.1 is_lazy (known_slot known hs top.copies top.count registers top.slots x j v o ok at said k)
+            (runs_then e.runs c.0) c.1 are_deferred (known_slot known hs top.copies top.count registers top.slots x j v o ok at said k)
             (record { by = λ c w is. absurd (none-some c is) })
         slot j at None none e f =
             let lt = ok.by x (Slot j) at in
             let s1 : State = record s { regs = e.regs } in
             let t = inner_of (Some (InSlot j)) in
             let is_inner = inner_is (Some (InSlot j)) in
-            let st = ends_stands (hide lazy registers) g top fs s h is s0 t v is_inner.high e in
-            let place = frame_open (hide lazy registers) g top fs s1 st (4 * j) (omega arith) (omega (arith, lt)) in
+            let st = ends_stands (hide deferred registers) g top fs s h is s0 t v is_inner.high e in
+            let place = frame_open (hide deferred registers) g top fs s1 st (4 * j) (omega arith) (omega (arith, lt)) in
             let store : RunsTo (store_word_at t (4 * j) ∷ []) s1 (set_word s1 (s1.regs 29 + 4 * j) v) =
             subst (λ u. RunsTo (store_word_at t (4 * j) ∷ []) s1 (set_word s1 (s1.regs 29 + 4 * j) u))
             (read_register e.regs t is_inner.low ∙ e.here) (stores_word s1 t (4 * j) place.0 place.1) in
             f registers (places_with top.slots j (Some v)) (set_word s1 (s1.regs 29 + 4 * j) v) (longer is (store_word_at t (4 * j) ∷ []) some)
             (runs_then e.runs store)
-            (slot_written (hide lazy registers) g top fs s1 st j v lt e.below (λ r c. absurd (none-some r (sym none ∙ c)))) is_lazy
+            (slot_written (hide deferred registers) g top fs s1 st j v lt e.below (λ r c. absurd (none-some r (sym none ∙ c)))) are_deferred
             (known_slot known hs top.copies top.count registers top.slots x j v o ok at said k)
             (record {
               by = λ c w is there. ap e.regs (slot_inner j c at none (same_Some x c is)) ∙ e.here ∙ same_Some v w (sym (slot_read j at)
@@ -808,8 +808,8 @@ module _ (most total : ℕ) (gs : List RGlobal) (starts : ℕ → ℕ) where
             let low = range.0 in
             f (places_with registers r (Some v)) top.slots (record s { regs = e.regs }) (longer is [] some)
             (runs_then e.runs (runs_none (record s { regs = e.regs })))
-            (written r v (record s { regs = e.regs }) (register_written (hide lazy registers) g top fs s h r v e.regs range.0 range.1 (λ k c. (ok.copied).idle x k r at c) e.below e.here e.others))
-            (lazy_written lazy registers r (Some v) is_lazy)
+            (written r v (record s { regs = e.regs }) (register_written (hide deferred registers) g top fs s h r v e.regs range.0 range.1 (λ k c. (ok.copied).idle x k r at c) e.below e.here e.others))
+            (deferred_written deferred registers r (Some v) are_deferred)
             (known_register known hs top.copies top.count registers top.slots x r v o ok at said k) (record { by = λ c w is. absurd (none-some c is) })
         by (Some (Slot j)) at e f = slot j at (copy_of top.copies j) refl e f
 
@@ -822,10 +822,10 @@ module _ (most total : ℕ) (gs : List RGlobal) (starts : ℕ → ℕ) where
       puts_held r at f =
           let range = ok.by x (Reg r) at in
           let low = range.0 in
-          let c = brings (hide lazy registers) g top fs s h r v y (record { low = omega (arith, low); high = omega (arith, range.1) }) d in
+          let c = brings (hide deferred registers) g top fs s h r v y (record { low = omega (arith, low); high = omega (arith, range.1) }) d in
           f (places_with registers r (Some v)) top.slots (record s { regs = c.regs }) (bring_some r y) c.runs
-          (written r v (record s { regs = c.regs }) (register_written (hide lazy registers) g top fs s h r v c.regs range.0 range.1 (λ k q. (ok.copied).idle x k r at q) below c.here c.others))
-          (lazy_written lazy registers r (Some v) is_lazy)
+          (written r v (record s { regs = c.regs }) (register_written (hide deferred registers) g top fs s h r v c.regs range.0 range.1 (λ k q. (ok.copied).idle x k r at q) below c.here c.others))
+          (deferred_written deferred registers r (Some v) are_deferred)
           (known_register known hs top.copies top.count registers top.slots x r v o ok at said k)
 
       -- and into a slot
@@ -834,24 +834,24 @@ module _ (most total : ℕ) (gs : List RGlobal) (starts : ℕ → ℕ) where
       puts_slot j at (Some r) copy f =
           let lt = ok.by x (Slot j) at in
           let range = (ok.copied).range j r copy in
-          let c = brings (hide lazy registers) g top fs s h r v y (record { low = omega (arith, range.0); high = omega (arith, range.1) }) d in
+          let c = brings (hide deferred registers) g top fs s h r v y (record { low = omega (arith, range.0); high = omega (arith, range.1) }) d in
           let s1 : State = record s { regs = c.regs } in
-          let m = copy_stored (hide lazy registers) g top fs s h hs ok j r v copy lt below c.regs c.here c.others in
+          let m = copy_stored (hide deferred registers) g top fs s h hs ok j r v copy lt below c.regs c.here c.others in
           f registers (places_with top.slots j (Some v)) (set_word s1 (c.regs 29 + 4 * j) v) (longer (bring r y) (store_word_at r (4 * j) ∷ []) (bring_some r y))
-          (runs_then c.runs m.0) m.1 is_lazy (known_slot known hs top.copies top.count registers top.slots x j v o ok at said k)
+          (runs_then c.runs m.0) m.1 are_deferred (known_slot known hs top.copies top.count registers top.slots x j v o ok at said k)
       puts_slot j at None none f =
           let lt = ok.by x (Slot j) at in
           let t = inner_of (Some (InSlot j)) in
           let is_inner = inner_is (Some (InSlot j)) in
-          let c = fetches (hide lazy registers) g top fs s h t v y is_inner.low is_inner.high d in
+          let c = fetches (hide deferred registers) g top fs s h t v y is_inner.low is_inner.high d in
           let s1 : State = record s { regs = c.regs } in
-          let place = frame_open (hide lazy registers) g top fs s1 c.stands (4 * j) (omega arith) (omega (arith, lt)) in
-          let store : RunsTo (store_word_at (seat t y) (4 * j) ∷ []) s1 (set_word s1 (s1.regs 29 + 4 * j) v) =
-          subst (λ u. RunsTo (store_word_at (seat t y) (4 * j) ∷ []) s1 (set_word s1 (s1.regs 29 + 4 * j) u)) c.here
-          (stores_word s1 (seat t y) (4 * j) place.0 place.1) in
+          let place = frame_open (hide deferred registers) g top fs s1 c.stands (4 * j) (omega arith) (omega (arith, lt)) in
+          let store : RunsTo (store_word_at (operand_register t y) (4 * j) ∷ []) s1 (set_word s1 (s1.regs 29 + 4 * j) v) =
+          subst (λ u. RunsTo (store_word_at (operand_register t y) (4 * j) ∷ []) s1 (set_word s1 (s1.regs 29 + 4 * j) u)) c.here
+          (stores_word s1 (operand_register t y) (4 * j) place.0 place.1) in
           f registers (places_with top.slots j (Some v)) (set_word s1 (s1.regs 29 + 4 * j) v)
-          (longer_behind (fetch t y) (store_word_at (seat t y) (4 * j) ∷ []) (omega arith)) (runs_then c.runs store)
-          (slot_written (hide lazy registers) g top fs s1 c.stands j v lt below (λ r c. absurd (none-some r (sym none ∙ c)))) is_lazy
+          (longer_behind (fetch t y) (store_word_at (operand_register t y) (4 * j) ∷ []) (omega arith)) (runs_then c.runs store)
+          (slot_written (hide deferred registers) g top fs s1 c.stands j v lt below (λ r c. absurd (none-some r (sym none ∙ c)))) are_deferred
           (known_slot known hs top.copies top.count registers top.slots x j v o ok at said k)
 
     -- an operand into a location
@@ -872,7 +872,7 @@ module _ (most total : ℕ) (gs : List RGlobal) (starts : ℕ → ℕ) where
     pub arrives : (P : Run → Type 0) (go : Places → Places → Run) (hs : List Home) (x v t : ℕ) (out : List ℕ)
         → 1 < t → s.regs t ≡ v → v < 2 ^ 32 → AreFrameHomes hs top.copies top.count → P (Failed out)
         → ((registers' slots' : Places) (s' : State) → RunsTo (arrive (location_at top.copies (slice_get hs x)) t) s s'
-        → Stands most total gs starts (hide (lazy_none (location_at top.copies (slice_get hs x)) lazy) registers') g (with_slots top slots' ∷ fs) s'
+        → Stands most total gs starts (hide (deferred_none (location_at top.copies (slice_get hs x)) deferred) registers') g (with_slots top slots' ∷ fs) s'
         → ((q : ℕ) → q < 28 → IsElsewhere (location_at top.copies (slice_get hs x)) q → s'.regs q ≡ s.regs q) → P (go registers' slots'))
         → P (write_home hs registers top.slots x v out go)
     arrives P go hs x v t out low is below ok failed f = by (slice_get hs x) refl f
@@ -882,56 +882,56 @@ module _ (most total : ℕ) (gs : List RGlobal) (starts : ℕ → ℕ) where
 
         by : (p : Option Home) → slice_get hs x ≡ p
             → ((registers' slots' : Places) (s' : State) → RunsTo (arrive (location_at top.copies p) t) s s'
-            → Stands most total gs starts (hide (lazy_none (location_at top.copies p) lazy) registers') g (with_slots top slots' ∷ fs) s'
+            → Stands most total gs starts (hide (deferred_none (location_at top.copies p) deferred) registers') g (with_slots top slots' ∷ fs) s'
             → ((q : ℕ) → q < 28 → IsElsewhere (location_at top.copies p) q → s'.regs q ≡ s.regs q) → P (go registers' slots'))
             → P (with_value p out (λ h. write_at h registers top.slots v go))
         by None at f = failed
         by (Some (Reg r)) at f =
             let range = ok.by x (Reg r) at in
             let low = range.0 in
-            let c = carries (hide lazy registers) g top fs s h r v (From (Held t)) (record { low = omega (arith, low); high = omega (arith, range.1) }) shows in
+            let c = carries (hide deferred registers) g top fs s h r v (From (Held t)) (record { low = omega (arith, low); high = omega (arith, range.1) }) shows in
             f (places_with registers r (Some v)) top.slots (record s { regs = c.regs }) c.runs
-            (written r v (record s { regs = c.regs }) (register_written (hide lazy registers) g top fs s h r v c.regs range.0 range.1 (λ k q. (ok.copied).idle x k r at q) below c.here c.others))
+            (written r v (record s { regs = c.regs }) (register_written (hide deferred registers) g top fs s h r v c.regs range.0 range.1 (λ k q. (ok.copied).idle x k r at q) below c.here c.others))
             (λ q qh ne. c.others q ne)
         by (Some (Slot j)) at f = slot j at (copy_of top.copies j) refl f
           where
             slot : (j : ℕ) → slice_get hs x ≡ Some (Slot j) → (c : Option ℕ) → copy_of top.copies j ≡ c
                 → ((registers' slots' : Places) (s' : State) → RunsTo (arrive (Some (in_frame j c)) t) s s'
-                → Stands most total gs starts (hide (lazy_none (Some (in_frame j c)) lazy) registers') g (with_slots top slots' ∷ fs) s'
+                → Stands most total gs starts (hide (deferred_none (Some (in_frame j c)) deferred) registers') g (with_slots top slots' ∷ fs) s'
                 → ((q : ℕ) → q < 28 → IsElsewhere (Some (in_frame j c)) q → s'.regs q ≡ s.regs q) → P (go registers' slots'))
                 → P (go registers (places_with top.slots j (Some v)))
             slot j at (Some r) copy f =
                 let lt = ok.by x (Slot j) at in
                 let range = (ok.copied).range j r copy in
-                let c = carries (hide lazy registers) g top fs s h r v (From (Held t)) (record { low = omega (arith, range.0); high = omega (arith, range.1) })
+                let c = carries (hide deferred registers) g top fs s h r v (From (Held t)) (record { low = omega (arith, range.0); high = omega (arith, range.1) })
                 shows in
                 let s1 : State = record s { regs = c.regs } in
-                let m = copy_stored (hide lazy registers) g top fs s h hs ok j r v copy lt below c.regs c.here c.others in
+                let m = copy_stored (hide deferred registers) g top fs s h hs ok j r v copy lt below c.regs c.here c.others in
                 f registers (places_with top.slots j (Some v)) (set_word s1 (c.regs 29 + 4 * j) v) (runs_then c.runs m.0) m.1 (λ q qh ne. c.others q ne)
             slot j at None none f =
                 let lt = ok.by x (Slot j) at in
-                let place = frame_open (hide lazy registers) g top fs s h (4 * j) (omega arith) (omega (arith, lt)) in
+                let place = frame_open (hide deferred registers) g top fs s h (4 * j) (omega arith) (omega (arith, lt)) in
                 let store : RunsTo (store_word_at t (4 * j) ∷ []) s (set_word s (s.regs 29 + 4 * j) v) =
                 subst (λ u. RunsTo (store_word_at t (4 * j) ∷ []) s (set_word s (s.regs 29 + 4 * j) u)) shows
                 (stores_word s t (4 * j) place.0 place.1) in
                 f registers (places_with top.slots j (Some v)) (set_word s (s.regs 29 + 4 * j) v) store
-                (slot_written (hide lazy registers) g top fs s h j v lt below (λ r c. absurd (none-some r (sym none ∙ c)))) (λ q qh ne. refl)
+                (slot_written (hide deferred registers) g top fs s h j v lt below (λ r c. absurd (none-some r (sym none ∙ c)))) (λ q qh ne. refl)
 
-    -- a constant, which needn't be put into a passing register yet
+    -- a constant, which needn't be put into a caller-saved register yet
     pub tells : (P : Run → Type 0) (go : Places → Places → Run) (hs : List Home) (x v : ℕ) (out : List ℕ) (known : Places)
         → v < 2 ^ 32 → AreFrameHomes hs top.copies top.count → IsKnown known hs registers top.slots → P (Failed out)
         → ((registers' slots' : Places) (s' : State) → 1 ≤ length (const_code (location_at top.copies (slice_get hs x)) v)
         → RunsTo (const_code (location_at top.copies (slice_get hs x)) v) s s'
-        → Stands most total gs starts (hide (lazy_const (location_at top.copies (slice_get hs x)) v lazy) registers') g (with_slots top slots' ∷ fs) s'
-        → IsLazy (lazy_const (location_at top.copies (slice_get hs x)) v lazy) registers' → IsKnown (places_with known x (Some v)) hs registers' slots'
+        → Stands most total gs starts (hide (deferred_const (location_at top.copies (slice_get hs x)) v deferred) registers') g (with_slots top slots' ∷ fs) s'
+        → AreDeferred (deferred_const (location_at top.copies (slice_get hs x)) v deferred) registers' → IsKnown (places_with known x (Some v)) hs registers' slots'
         → P (go registers' slots'))
         → P (write_home hs registers top.slots x v out go)
     tells P go hs x v out known below ok k failed f = by (slice_get hs x) refl f
       where
-        Told : Option Location → Type 0
-        Told l = (registers' slots' : Places) (s' : State) → 1 ≤ length (const_code l v) → RunsTo (const_code l v) s s'
-            → Stands most total gs starts (hide (lazy_const l v lazy) registers') g (with_slots top slots' ∷ fs) s'
-            → IsLazy (lazy_const l v lazy) registers' → IsKnown (places_with known x (Some v)) hs registers' slots' → P (go registers' slots')
+        Put : Option Location → Type 0
+        Put l = (registers' slots' : Places) (s' : State) → 1 ≤ length (const_code l v) → RunsTo (const_code l v) s s'
+            → Stands most total gs starts (hide (deferred_const l v deferred) registers') g (with_slots top slots' ∷ fs) s'
+            → AreDeferred (deferred_const l v deferred) registers' → IsKnown (places_with known x (Some v)) hs registers' slots' → P (go registers' slots')
 
         word : (b : Bool) → nat_eq v 0 ≡ b → Denotes top.count s (if b then Zero else Word v) v
         word true t = eqb-true v 0 t
@@ -940,26 +940,26 @@ module _ (most total : ℕ) (gs : List RGlobal) (starts : ℕ → ℕ) where
         said : (w : ℕ) → Some v ≡ Some w → w ≡ v
         said w e = sym (same_Some v w e)
 
-        reg : (r : ℕ) → slice_get hs x ≡ Some (Reg r) → (b : Bool) → is_lasting r ≡ b
+        reg : (r : ℕ) → slice_get hs x ≡ Some (Reg r) → (b : Bool) → is_callee_saved r ≡ b
             → ((registers' slots' : Places) (s' : State) → 1 ≤ length (if b then bring r (word_source v) else nop ∷ [])
             → RunsTo (if b then bring r (word_source v) else nop ∷ []) s s'
-            → Stands most total gs starts (hide (places_with lazy r (if b then None else Some v)) registers') g (with_slots top slots' ∷ fs) s'
-            → IsLazy (places_with lazy r (if b then None else Some v)) registers' → IsKnown (places_with known x (Some v)) hs registers' slots'
+            → Stands most total gs starts (hide (places_with deferred r (if b then None else Some v)) registers') g (with_slots top slots' ∷ fs) s'
+            → AreDeferred (places_with deferred r (if b then None else Some v)) registers' → IsKnown (places_with known x (Some v)) hs registers' slots'
             → P (go registers' slots'))
             → P (go (places_with registers r (Some v)) top.slots)
         reg r at true lasts f = puts_held P go hs x v (Some v) known (word_source v) (word (nat_eq v 0) refl) below said ok k r at f
-        reg r at false passes f =
+        reg r at false caller_saved f =
             f (places_with registers r (Some v)) top.slots s (omega arith) (runs_nop s)
-            (fewer_stand (hide lazy registers) (hide (places_with lazy r (Some v)) (places_with registers r (Some v))) g (top ∷ fs) s
-            (λ q w e. shown_told lazy registers r v q w e) h)
-            (lazy_told lazy registers r v passes below is_lazy)
+            (fewer_stand (hide deferred registers) (hide (places_with deferred r (Some v)) (places_with registers r (Some v))) g (top ∷ fs) s
+            (λ q w e. shown_deferred deferred registers r v q w e) h)
+            (one_deferred deferred registers r v caller_saved below are_deferred)
             (known_register known hs top.copies top.count registers top.slots x r v (Some v) ok at said k)
 
-        by : (p : Option Home) → slice_get hs x ≡ p → Told (location_at top.copies p) → P (with_value p out (λ h. write_at h registers top.slots v go))
+        by : (p : Option Home) → slice_get hs x ≡ p → Put (location_at top.copies p) → P (with_value p out (λ h. write_at h registers top.slots v go))
         by None at f = failed
-        by (Some (Reg r)) at f = reg r at (is_lasting r) refl f
+        by (Some (Reg r)) at f = reg r at (is_callee_saved r) refl f
         by (Some (Slot j)) at f = slot (copy_of top.copies j) refl f
           where
-            slot : (c : Option ℕ) → copy_of top.copies j ≡ c → Told (Some (in_frame j c)) → P (go registers (places_with top.slots j (Some v)))
+            slot : (c : Option ℕ) → copy_of top.copies j ≡ c → Put (Some (in_frame j c)) → P (go registers (places_with top.slots j (Some v)))
             slot None none f = puts_slot P go hs x v (Some v) known (word_source v) (word (nat_eq v 0) refl) below said ok k j at None none f
             slot (Some r) copy f = puts_slot P go hs x v (Some v) known (word_source v) (word (nat_eq v 0) refl) below said ok k j at (Some r) copy f

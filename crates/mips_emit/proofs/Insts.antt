@@ -40,13 +40,13 @@ use Rattle.mips_emit.specs.Locations.{in_frame, Facts, known_of, known_in, with_
 use Rattle.mips_emit.specs.Locations.{last_of, inner_of, word_source, operand}
 use Rattle.mips_emit.specs.Elements.{width_of, width_bytes, element_place, place_in, address_of_place, data_middle, direct, near, base_code}
 use Rattle.mips_emit.specs.Elements.{base_offset, element_base, element_offset}
-use Rattle.mips_emit.specs.Code.{fetch, seat, into, operation, immediate_of, is_symmetric, turned_immediate_of, turned_less_of, code_by_less, code_by_left}
+use Rattle.mips_emit.specs.Code.{fetch, operand_register, into, operation, immediate_of, is_symmetric, turned_immediate_of, turned_less_of, code_by_less, code_by_left}
 use Rattle.mips_emit.specs.Code.{multiple_of, multiple_code, code_by_multiple, code_by_word}
 use Rattle.mips_emit.specs.Code.{code_by_right, op_code, element_code, element_load, element_store, inst_code}
 use Rattle.mips_emit.proofs.Runs.{RunsTo, runs_none, runs_then}
 use Rattle.mips_emit.proofs.View.{shown_at, word_of_offset, shown_below, set, set_at, set_sets, read_register, put_here, put_other, IsTarget, IsInner, inner_is, inner_target, loads_at, stores_at, near_word, based}
 use Rattle.mips_emit.proofs.Stands.{Stored, with_slots, Stands}
-use Rattle.mips_emit.proofs.Homes.{IsLast, none_last, known_with, known_without, regs_kept, IsKnown, Denotes, IsAway, seat_kept, longer_behind, Ends, hide, IsLazy, tells}
+use Rattle.mips_emit.proofs.Homes.{IsLast, none_last, known_with, known_without, regs_kept, IsKnown, Denotes, IsAway, operand_register_kept, longer_behind, Ends, hide, AreDeferred, tells}
 use Rattle.mips_emit.proofs.Homes.{operand_below, operand_means, fetches, sets_kept, finishes, puts, stands_with}
 use Rattle.mips_emit.proofs.Globals.{kept_is, data_open, data_written, stored_at}
 use Rattle.mips_emit.proofs.Operations.{Gives, alu_gives, operation_gives, immediate_gives, less_gives, symmetric}
@@ -115,12 +115,12 @@ base_kept None f f' same = same 1 (λ e. absurd (omega (arith, e)))
 base_kept (Some p) f f' same = same 28 (λ e. absurd (omega (arith, e)))
 
 -- an operand away from the lower registers isn't shown by register 2
-seat_apart : (x : Source) → IsAway x → seat 1 x ≢ 2
-seat_apart Zero away = λ e. absurd (omega (arith, e))
-seat_apart (Word w) away = λ e. absurd (omega (arith, e))
-seat_apart (From (Held r)) away = λ e. absurd (omega (arith, e, away))
-seat_apart (From (InSlot k)) away = λ e. absurd (omega (arith, e))
-seat_apart (From (Copied r k)) away = λ e. absurd (omega (arith, e, away))
+operand_register_apart : (x : Source) → IsAway x → operand_register 1 x ≢ 2
+operand_register_apart Zero away = λ e. absurd (omega (arith, e))
+operand_register_apart (Word w) away = λ e. absurd (omega (arith, e))
+operand_register_apart (From (Held r)) away = λ e. absurd (omega (arith, e, away))
+operand_register_apart (From (InSlot k)) away = λ e. absurd (omega (arith, e))
+operand_register_apart (From (Copied r k)) away = λ e. absurd (omega (arith, e, away))
 
 module _ (most total : ℕ) (gs : List RGlobal) (starts : ℕ → ℕ) where
   -- HI and LO change
@@ -193,7 +193,7 @@ module _ (most total : ℕ) (gs : List RGlobal) (starts : ℕ → ℕ) where
 
     -- one operand, then instructions that give a word
     one_operand : (t d v u : ℕ) (x : Source) (is : List Plain) → 0 < t → t < 4 → Means x v → u < 2 ^ 32
-        → ((s : State) → read 0 s.regs (seat t x) ≡ v → Gives is s d u) → Computed (fetch t x ++ is) d u
+        → ((s : State) → read 0 s.regs (operand_register t x) ≡ v → Gives is s d u) → Computed (fetch t x ++ is) d u
     one_operand t d v u x is low high mx lt gives =
         let a = fetches most total gs starts registers g top fs s h t v x low high (mx s h) in
         let s1 : State = record s { regs = a.regs } in
@@ -203,8 +203,8 @@ module _ (most total : ℕ) (gs : List RGlobal) (starts : ℕ → ℕ) where
     record Both (t : ℕ) (x y : Source) (v w : ℕ) : Type 0 where
       to : State
       runs : (is : List Plain) (m : State) → RunsTo is to m → RunsTo (fetch t x ++ (fetch 2 y ++ is)) s m
-      left : read 0 to.regs (seat t x) ≡ v
-      right : read 0 to.regs (seat 2 y) ≡ w
+      left : read 0 to.regs (operand_register t x) ≡ v
+      right : read 0 to.regs (operand_register 2 y) ≡ w
       stands : Stands most total gs starts registers g (top ∷ fs) to
 
     both : (t : ℕ) (x y : Source) (v w : ℕ) → IsInner t → IsAway x → Means x v → Means y w → Both t x y v w
@@ -215,7 +215,7 @@ module _ (most total : ℕ) (gs : List RGlobal) (starts : ℕ → ℕ) where
         record {
           to = record s1 { regs = b.regs };
           runs = λ is m e. runs_then a.runs (runs_then b.runs e);
-          left = seat_kept x t 2 a.regs b.regs away is_inner.apart (omega arith) b.others ∙ a.here;
+          left = operand_register_kept x t 2 a.regs b.regs away is_inner.apart (omega arith) b.others ∙ a.here;
           right = b.here;
           stands = b.stands;
         }
@@ -226,7 +226,7 @@ module _ (most total : ℕ) (gs : List RGlobal) (starts : ℕ → ℕ) where
     times t d v u x m is_inner ok away mx lt is =
         let a = fetches most total gs starts registers g top fs s h t v x is_inner.low is_inner.high (mx s h) in
         let s1 : State = record s { regs = a.regs } in
-        let q = seat t x in
+        let q = operand_register t x in
         let shift = Shift Sll 2 q m.amount in
         let sum = Alu m.op d 2 q in
         let two : IsTarget 2 = record { low = omega arith; high = omega arith } in
@@ -234,7 +234,7 @@ module _ (most total : ℕ) (gs : List RGlobal) (starts : ℕ → ℕ) where
         (ap (λ v. op_value operators.Sll v (wrap m.amount)) a.here ∙ is.shifts) (record { ends = refl }) in
         let s2 : State = record s1 { regs = c.regs } in
         let left : read 0 c.regs 2 ≡ is.shown = read_register c.regs 2 (omega arith) ∙ c.here in
-        let right : read 0 c.regs q ≡ v = seat_kept x t 2 a.regs c.regs away is_inner.apart (omega arith) c.others ∙ a.here in
+        let right : read 0 c.regs q ≡ v = operand_register_kept x t 2 a.regs c.regs away is_inner.apart (omega arith) c.others ∙ a.here in
         computed (sum ∷ []) (multiple_code t d m x) s2 d u (sets_kept most total gs starts registers g top fs s1 a.stands (shift ∷ []) 2 is.shown (omega arith) c)
         (λ m e. runs_then a.runs (runs_then c.runs e)) (λ some. longer_behind (fetch t x) (shift ∷ sum ∷ []) (omega arith)) lt
         (alu_gives m.op s2 d 2 q is.shown v u ok left right is.sums)
@@ -247,49 +247,49 @@ module _ (most total : ℕ) (gs : List RGlobal) (starts : ℕ → ℕ) where
         below : u < 2 ^ 32
         below = result-word op v w u vb wb e
 
-        plainly : Computed (fetch t x ++ (fetch 2 y ++ operation op d (seat t x) (seat 2 y))) d u
+        plainly : Computed (fetch t x ++ (fetch 2 y ++ operation op d (operand_register t x) (operand_register 2 y))) d u
         plainly =
             let c = both t x y v w is_inner away mx my in
-            let last = operation op d (seat t x) (seat 2 y) in
+            let last = operation op d (operand_register t x) (operand_register 2 y) in
             computed last (fetch t x ++ (fetch 2 y ++ last)) c.to d u c.stands (c.runs last)
             (λ some. longer_behind (fetch t x) (fetch 2 y ++ last) (longer_behind (fetch 2 y) last some)) below
-            (operation_gives op c.to d (seat t x) (seat 2 y) v w u ok c.left c.right vb wb e)
+            (operation_gives op c.to d (operand_register t x) (operand_register 2 y) v w u ok c.left c.right vb wb e)
 
-        on_left : (i : Plain) → (o : Option ℕ) → ((c : ℕ) → o ≡ Some c → c ≡ v) → is_symmetric op ≡ true → immediate_of op d (seat 2 y) o ≡ Some i
+        on_left : (i : Plain) → (o : Option ℕ) → ((c : ℕ) → o ≡ Some c → c ≡ v) → is_symmetric op ≡ true → immediate_of op d (operand_register 2 y) o ≡ Some i
             → Computed (fetch 2 y ++ i ∷ []) d u
         on_left i None said turns is = absurd (none-some i is)
         on_left i (Some c) said turns is =
             let same : c ≡ v = said c refl in
             one_operand 2 d w u y (i ∷ []) (omega arith) (omega arith) my below
-            (λ s at. immediate_gives s d (seat 2 y) c w u i ok at wb (omega (arith, same, vb)) op is (ap (op_result op w) same ∙ symmetric op w v turns ∙ e))
+            (λ s at. immediate_gives s d (operand_register 2 y) c w u i ok at wb (omega (arith, same, vb)) op is (ap (op_result op w) same ∙ symmetric op w v turns ∙ e))
 
-        by_less : (o : Option Plain) → turned_less_of op d (seat 2 y) k ≡ o → Computed (code_by_less op t d o x y) d u
+        by_less : (o : Option Plain) → turned_less_of op d (operand_register 2 y) k ≡ o → Computed (code_by_less op t d o x y) d u
         by_less None is = plainly
         by_less (Some i) is = one_operand 2 d w u y (i ∷ Logic Xori d d 1 ∷ []) (omega arith) (omega arith) my below
-            (λ s at. less_gives op s d (seat 2 y) v w u i k ok at vb wb kv is e)
+            (λ s at. less_gives op s d (operand_register 2 y) v w u i k ok at vb wb kv is e)
 
-        by_left : (o : Option Plain) → turned_immediate_of op d (seat 2 y) k ≡ o → Computed (code_by_left op t d o (turned_less_of op d (seat 2 y) k) x y) d u
-        by_left None is = by_less (turned_less_of op d (seat 2 y) k) refl
+        by_left : (o : Option Plain) → turned_immediate_of op d (operand_register 2 y) k ≡ o → Computed (code_by_left op t d o (turned_less_of op d (operand_register 2 y) k) x y) d u
+        by_left None is = by_less (turned_less_of op d (operand_register 2 y) k) refl
         by_left (Some i) is = go (is_symmetric op) refl is
           where
-            go : (b : Bool) → is_symmetric op ≡ b → (if b then immediate_of op d (seat 2 y) k else None) ≡ Some i → Computed (fetch 2 y ++ i ∷ []) d u
+            go : (b : Bool) → is_symmetric op ≡ b → (if b then immediate_of op d (operand_register 2 y) k else None) ≡ Some i → Computed (fetch 2 y ++ i ∷ []) d u
             go true t is = on_left i k kv t is
             go false t is = absurd (none-some i is)
 
-        by_right : (o : Option ℕ) → ((c : ℕ) → o ≡ Some c → c ≡ w) → (p : Option Plain) → immediate_of op d (seat t x) o ≡ p
-            → Computed (code_by_right op t d p (turned_immediate_of op d (seat 2 y) k) (turned_less_of op d (seat 2 y) k) x y) d u
-        by_right o said None is = by_left (turned_immediate_of op d (seat 2 y) k) refl
+        by_right : (o : Option ℕ) → ((c : ℕ) → o ≡ Some c → c ≡ w) → (p : Option Plain) → immediate_of op d (operand_register t x) o ≡ p
+            → Computed (code_by_right op t d p (turned_immediate_of op d (operand_register 2 y) k) (turned_less_of op d (operand_register 2 y) k) x y) d u
+        by_right o said None is = by_left (turned_immediate_of op d (operand_register 2 y) k) refl
         by_right None said (Some i) is = absurd (none-some i is)
         by_right (Some c) said (Some i) is =
             let same : c ≡ w = said c refl in
             one_operand t d v u x (i ∷ []) is_inner.low is_inner.high mx below
-            (λ s at. immediate_gives s d (seat t x) c v u i ok at vb (omega (arith, same, wb)) op is (ap (op_result op v) same ∙ e))
+            (λ s at. immediate_gives s d (operand_register t x) c v u i ok at vb (omega (arith, same, wb)) op is (ap (op_result op v) same ∙ e))
 
         by_multiple : (a b : Option ShiftedSum) → multiple_of op l ≡ a → multiple_of op k ≡ b
             → Computed (code_by_multiple t d a b x y (code_by_word op t d k l x y)) d u
         by_multiple (Some m) b is _ = times t d v u x m is_inner ok away mx below (multiplied op l m v w u lw vb wb is e)
         by_multiple None (Some m) _ is = times t d w u y m is_inner ok y_away my below (turned_multiplied op k m v w u kv vb wb is e)
-        by_multiple None None _ _ = by_right l lw (immediate_of op d (seat t x) l) refl
+        by_multiple None None _ _ = by_right l lw (immediate_of op d (operand_register t x) l) refl
 
     -- an element of a global
     pub elements : (known : Option ℕ) (x : Source) (a i v : ℕ) → IsAway x → Means x i → ((w : ℕ) → known ≡ Some w → w ≡ i) → element_at g a i ≡ Some v
@@ -301,11 +301,11 @@ module _ (most total : ℕ) (gs : List RGlobal) (starts : ℕ → ℕ) where
         E o = AtElement registers g (top ∷ fs) s (element_code (width_of gs a) (starts a) o x) (width_of gs a) (element_base o) (element_offset (starts a) o)
             (place_in gs starts a i)
 
-        far : AtElement registers g (top ∷ fs) s (fetch 1 x ++ base_code (width_of gs a) (starts a) (seat 1 x)) (width_of gs a) 1 (base_offset (starts a))
+        far : AtElement registers g (top ∷ fs) s (fetch 1 x ++ base_code (width_of gs a) (starts a) (operand_register 1 x)) (width_of gs a) 1 (base_offset (starts a))
             (place_in gs starts a i)
         far =
             let c = fetches most total gs starts registers g top fs s h 1 i x (omega arith) (omega arith) (mx s h) in
-            let p = points registers g (top ∷ fs) (record s { regs = c.regs }) (seat 1 x) a i v c.here (seat_apart x away) there c.stands in
+            let p = points registers g (top ∷ fs) (record s { regs = c.regs }) (operand_register 1 x) a i v c.here (operand_register_apart x away) there c.stands in
             record { to = p.to; runs = runs_then c.runs p.runs; here = p.here; ok = p.ok; stands = p.stands }
 
         close : (p : ℕ) → p ≡ place_in gs starts a i → nat_lt p 65536 ≡ true
@@ -334,21 +334,21 @@ module _ (most total : ℕ) (gs : List RGlobal) (starts : ℕ → ℕ) where
 
   module _ (g : Arrays) (fs : List Stored) (hs : List Home) (P : Run → Type 0) (out : List ℕ) (failed : P (Failed out)) where
     pub performs : (i : RInst) (facts : Facts) (registers : Places) (top : Stored) (s : State) (go : Places → Places → Arrays → Run)
-        → AreFrameHomes hs top.copies top.count → IsKnown (known_in facts) hs registers top.slots → IsLazy facts.lazy registers
-        → Stands most total gs starts (hide facts.lazy registers) g (top ∷ fs) s
+        → AreFrameHomes hs top.copies top.count → IsKnown (known_in facts) hs registers top.slots → AreDeferred facts.deferred registers
+        → Stands most total gs starts (hide facts.deferred registers) g (top ∷ fs) s
         → ((registers' slots' : Places) (g' : Arrays) (s' : State) → 1 ≤ length (inst_code gs starts (locations_of top.copies hs) facts i)
-        → RunsTo (inst_code gs starts (locations_of top.copies hs) facts i) s s' → Stands most total gs starts (hide (learned (locations_of top.copies hs) i facts).lazy registers') g' (with_slots top slots' ∷ fs) s'
-        → IsLazy (learned (locations_of top.copies hs) i facts).lazy registers' → IsKnown (known_in (learned (locations_of top.copies hs) i facts)) hs registers' slots' → IsLast (last_of (locations_of top.copies hs) facts i) top.copies hs registers' slots' s'
+        → RunsTo (inst_code gs starts (locations_of top.copies hs) facts i) s s' → Stands most total gs starts (hide (learned (locations_of top.copies hs) i facts).deferred registers') g' (with_slots top slots' ∷ fs) s'
+        → AreDeferred (learned (locations_of top.copies hs) i facts).deferred registers' → IsKnown (known_in (learned (locations_of top.copies hs) i facts)) hs registers' slots' → IsLast (last_of (locations_of top.copies hs) facts i) top.copies hs registers' slots' s'
         → P (go registers' slots' g'))
         → P (with_inst gs i hs registers top.slots g out go)
     performs (Const d w) facts registers top s go ok k lz h f =
-        tells most total gs starts facts.lazy registers g top fs s h lz P (λ r s. go r s g) hs d (wrap w) out (known_in facts) (omega arith) ok k failed
+        tells most total gs starts facts.deferred registers g top fs s h lz P (λ r s. go r s g) hs d (wrap w) out (known_in facts) (omega arith) ok k failed
         (λ r' s' to some e st lz' kn. f r' s' g to some e st lz' (fact_known hs r' s' facts d (Some (wrap w)) kn) (none_last top.copies hs r' s' to))
     performs (Move d a) facts registers top s go ok k lz h f =
         value_or_failed P (read_home hs registers top.slots a) out _ failed (λ v e.
-        let x = operand_means most total gs starts facts.lazy registers g top fs s h lz (known_in facts) hs a v ok k e in
-        puts most total gs starts facts.lazy registers g top fs s h lz P (λ r s. go r s g) hs d v (known_in facts a) out (known_in facts)
-        (operand (locations_of top.copies hs) facts a) x.0 (operand_below most total gs starts facts.lazy registers g top fs s h lz hs a v ok e)
+        let x = operand_means most total gs starts facts.deferred registers g top fs s h lz (known_in facts) hs a v ok k e in
+        puts most total gs starts facts.deferred registers g top fs s h lz P (λ r s. go r s g) hs d v (known_in facts a) out (known_in facts)
+        (operand (locations_of top.copies hs) facts a) x.0 (operand_below most total gs starts facts.deferred registers g top fs s h lz hs a v ok e)
         (λ u is. same_Some u v (sym (k.by a u is) ∙ e)) ok k failed
         (λ r' s' to some e st lz' kn. f r' s' g to some e st lz' (fact_known hs r' s' facts d (known_in facts a) kn) (none_last top.copies hs r' s' to)))
     performs (Bin op d a b) facts registers top s go ok k lz h f =
@@ -356,17 +356,17 @@ module _ (most total : ℕ) (gs : List RGlobal) (starts : ℕ → ℕ) where
         value_or_failed P (read_home hs registers top.slots b) out _ failed (λ w ew.
         value_or_failed P (op_result op v w) out _ failed (λ u eu.
         let known = known_in facts in
-        let z = computes (hide facts.lazy registers) g top fs s h op (inner_of (locations_of top.copies hs d)) (into (locations_of top.copies hs d)) v w u (known_in facts a)
+        let z = computes (hide facts.deferred registers) g top fs s h op (inner_of (locations_of top.copies hs d)) (into (locations_of top.copies hs d)) v w u (known_in facts a)
         (known_in facts b) (operand (locations_of top.copies hs) facts a) (operand (locations_of top.copies hs) facts b) (inner_is (locations_of top.copies hs d)) (into_target hs top.copies top.count d ok)
-        (operand_means most total gs starts facts.lazy registers g top fs s h lz known hs a v ok k ev).1
-        (operand_means most total gs starts facts.lazy registers g top fs s h lz known hs b w ok k ew).1
-        (λ s h. (operand_means most total gs starts facts.lazy registers g top fs s h lz known hs a v ok k ev).0)
-        (λ s h. (operand_means most total gs starts facts.lazy registers g top fs s h lz known hs b w ok k ew).0)
+        (operand_means most total gs starts facts.deferred registers g top fs s h lz known hs a v ok k ev).1
+        (operand_means most total gs starts facts.deferred registers g top fs s h lz known hs b w ok k ew).1
+        (λ s h. (operand_means most total gs starts facts.deferred registers g top fs s h lz known hs a v ok k ev).0)
+        (λ s h. (operand_means most total gs starts facts.deferred registers g top fs s h lz known hs b w ok k ew).0)
         (λ c is. same_Some c v (sym (k.by a c is) ∙ ev))
         (λ c is. same_Some c w (sym (k.by b c is) ∙ ew))
-        (operand_below most total gs starts facts.lazy registers g top fs s h lz hs a v ok ev)
-        (operand_below most total gs starts facts.lazy registers g top fs s h lz hs b w ok ew) eu in
-        finishes most total gs starts facts.lazy registers g top fs z.to z.stands lz P (λ r s. go r s g) hs d u (Some u) out (places_with known b (Some w))
+        (operand_below most total gs starts facts.deferred registers g top fs s h lz hs a v ok ev)
+        (operand_below most total gs starts facts.deferred registers g top fs s h lz hs b w ok ew) eu in
+        finishes most total gs starts facts.deferred registers g top fs z.to z.stands lz P (λ r s. go r s g) hs d u (Some u) out (places_with known b (Some w))
         (op_code op (inner_of (locations_of top.copies hs d)) (into (locations_of top.copies hs d)) (known_in facts a) (known_in facts b)
         (operand (locations_of top.copies hs) facts a) (operand (locations_of top.copies hs) facts b)) s z.ends z.some
         (λ c is. sym (same_Some u c is)) ok (known_with known hs registers top.slots b w ew k) failed
@@ -380,8 +380,8 @@ module _ (most total : ℕ) (gs : List RGlobal) (starts : ℕ → ℕ) where
         let x = operand (locations_of top.copies hs) facts i in
         let width = width_of gs a in
         let o = direct width (starts a) (known_in facts i) in
-        let p = elements (hide facts.lazy registers) g top fs s h (known_in facts i) x a v w (operand_means most total gs starts facts.lazy registers g top fs s h lz known hs i v ok k ev).1
-        (λ s h. (operand_means most total gs starts facts.lazy registers g top fs s h lz known hs i v ok k ev).0) (λ u is. same_Some u v (sym (k.by i u is) ∙ ev)) there in
+        let p = elements (hide facts.deferred registers) g top fs s h (known_in facts i) x a v w (operand_means most total gs starts facts.deferred registers g top fs s h lz known hs i v ok k ev).1
+        (λ s h. (operand_means most total gs starts facts.deferred registers g top fs s h lz known hs i v ok k ev).0) (λ u is. same_Some u v (sym (k.by i u is) ∙ ev)) there in
         let to = p.to in
         let at = address_of_place (place_in gs starts a v) in
         let d' = into (locations_of top.copies hs d) in
@@ -389,7 +389,7 @@ module _ (most total : ℕ) (gs : List RGlobal) (starts : ℕ → ℕ) where
         let value : shown_at width to at ≡ w = (p.stands).elements a v w there in
         let below : w < 2 ^ 32 = subst (λ w. w < 2 ^ 32) value (shown_below width to at (p.stands).words) in
         let is = element_code width (starts a) o x ++ element_load width d' (starts a) o ∷ [] in
-        finishes most total gs starts facts.lazy registers g top fs to p.stands lz P (λ r s. go r s g) hs d w None out known is s
+        finishes most total gs starts facts.deferred registers g top fs to p.stands lz P (λ r s. go r s g) hs d w None out known is s
         (ends_set is s to d' (shown_at width to at) w (into_target hs top.copies top.count d ok) (runs_then p.runs load) value below)
         (longer_behind (element_code width (starts a) o x) _ (omega arith)) (λ w e. absurd (none-some w e)) ok k failed
         (λ r' s' to some e st lz' kn new. f r' s' g to some e st lz' (fact_known hs r' s' facts d None kn)
@@ -405,21 +405,21 @@ module _ (most total : ℕ) (gs : List RGlobal) (starts : ℕ → ℕ) where
         let x = operand (locations_of top.copies hs) facts i in
         let y = operand (locations_of top.copies hs) facts b in
         let o = direct width (starts a) (known_in facts i) in
-        let p = elements (hide facts.lazy registers) g top fs s h (known_in facts i) x a v at_g.old
-        (operand_means most total gs starts facts.lazy registers g top fs s h lz known hs i v ok k ev).1
-        (λ s h. (operand_means most total gs starts facts.lazy registers g top fs s h lz known hs i v ok k ev).0) (λ u is. same_Some u v (sym (k.by i u is) ∙ ev)) at_g.was in
+        let p = elements (hide facts.deferred registers) g top fs s h (known_in facts i) x a v at_g.old
+        (operand_means most total gs starts facts.deferred registers g top fs s h lz known hs i v ok k ev).1
+        (λ s h. (operand_means most total gs starts facts.deferred registers g top fs s h lz known hs i v ok k ev).0) (λ u is. same_Some u v (sym (k.by i u is) ∙ ev)) at_g.was in
         let m = p.to in
         let at = address_of_place (place_in gs starts a v) in
-        let z = fetches most total gs starts (hide facts.lazy registers) g top fs m p.stands 2 w y (omega arith) (omega arith)
-        (operand_means most total gs starts facts.lazy registers g top fs m p.stands lz known hs b w ok k ew).0 in
+        let z = fetches most total gs starts (hide facts.deferred registers) g top fs m p.stands 2 w y (omega arith) (omega arith)
+        (operand_means most total gs starts facts.deferred registers g top fs m p.stands lz known hs b w ok k ew).0 in
         let to : State = record m { regs = z.regs } in
         let here : wrap (read 0 z.regs (element_base o) + word_of_offset (element_offset (starts a) o)) ≡ at =
         ap (λ r. wrap (r + word_of_offset (element_offset (starts a) o))) (base_kept o m.regs z.regs z.others) ∙ p.here in
-        let last = element_store width (seat 2 y) (starts a) o in
-        let store = stores_at width to (seat 2 y) (element_base o) (element_offset (starts a) o) at here p.ok in
+        let last = element_store width (operand_register 2 y) (starts a) o in
+        let store = stores_at width to (operand_register 2 y) (element_base o) (element_offset (starts a) o) at here p.ok in
         let store' : RunsTo (last ∷ []) to (set_at width to at w) = subst (λ w. RunsTo (last ∷ []) to (set_at width to at w)) z.here store in
         f registers top.slots g' (set_at width to at w) (longer_behind (element_code width (starts a) o x) _
         (longer_behind (fetch 2 y) (last ∷ []) (omega arith))) (runs_then p.runs (runs_then z.runs store'))
-        (data_written most total gs starts (hide facts.lazy registers) g (top ∷ fs) to a v w g' (operand_below most total gs starts facts.lazy registers g top fs s h lz hs b w ok ew)
+        (data_written most total gs starts (hide facts.deferred registers) g (top ∷ fs) to a v w g' (operand_below most total gs starts facts.deferred registers g top fs s h lz hs b w ok ew)
         (ap (arrays_with g a v) (sym (kept_is gs a w c ec)) ∙ eg) z.stands) lz k
         (none_last top.copies hs registers top.slots (set_at width to at w))))))

@@ -9,6 +9,6 @@ pub mod Insts
 pub mod Comparing
 pub mod Tables
 pub mod Newest
-pub mod Left
+pub mod Prefixes
 pub mod Emitted
 pub mod Stopping

@@ -374,9 +374,9 @@ not_above v c lc ne = ap truth_word (turn (nat_lt v (next_word c)) (nat_lt c v) 
     turn false false ea eb = (let x : next_word c ≤ v = ltb-false v (next_word c) ea in let y : v ≤ c = ltb-false c v eb in
         absurd (omega (arith, x, y, lc, ne)))
 
-some_of : (b : Bool) (x u : ℕ) → (if b then Some x else None) ≡ Some u → Some x ≡ Some u
-some_of true x u e = e
-some_of false x u e = absurd (none-some u e)
+prefix_of : (b : Bool) (x u : ℕ) → (if b then Some x else None) ≡ Some u → Some x ≡ Some u
+prefix_of true x u e = e
+prefix_of false x u e = absurd (none-some u e)
 
 module _ (s : State) (d q c v u : ℕ) (i : Plain) (ok : IsTarget d) (left : read 0 s.regs q ≡ v) (lv : v < 2 ^ 32) (lc : c < 2 ^ 32) where
   given : (x : Plain) → x ≡ i → Gives (x ∷ []) s d u → Gives (i ∷ []) s d u
@@ -456,7 +456,7 @@ module _ (s : State) (d q c v u : ℕ) (i : Plain) (ok : IsTarget d) (left : rea
       let f = if_some (is_power c) (Shift Srl d q (exponent c % 32)) i is in
       let power : 2 ^ (exponent c % 32) ≡ c = eqb-true (2 ^ (exponent c % 32)) c f.0 in
       given (Shift Srl d q (exponent c % 32)) f.1
-      (by_gives Srl s d q v (exponent c) u ok left (ap (λ n. Some (v / n)) power ∙ some_of (has_quotient Unsigned v c) (v / c) u e))
+      (by_gives Srl s d q v (exponent c) u ok left (ap (λ n. Some (v / n)) power ∙ prefix_of (has_quotient Unsigned v c) (v / c) u e))
   immediate_gives RemU is e = rem_gives (is_power c) refl is
     where
       rem_gives : (b : Bool) → is_power c ≡ b → (if b then (if nat_lt (c - 1) 65536 then Some (Logic Andi d q (c - 1)) else None) else None) ≡ Some i
@@ -467,7 +467,7 @@ module _ (s : State) (d q c v u : ℕ) (i : Plain) (ok : IsTarget d) (left : rea
           let power : 2 ^ (exponent c % 32) ≡ c = eqb-true (2 ^ (exponent c % 32)) c eb in
           let low : bit_and v (c - 1) ≡ v % c = ap (λ n. bit_and v (n - 1)) (sym power) ∙ and_mask v (exponent c % 32) ∙ ap (λ n. v % n) power in
           given (Logic Andi d q (c - 1)) f.1
-          (logic_gives Andi s d q v (c - 1) u ok left (ltb-true (c - 1) 65536 f.0) (ap Some low ∙ some_of (has_quotient Unsigned v c) (v % c) u e))
+          (logic_gives Andi s d q v (c - 1) u ok left (ltb-true (c - 1) 65536 f.0) (ap Some low ∙ prefix_of (has_quotient Unsigned v c) (v % c) u e))
 
 -- a test that is turned behind
 turned_word : (b : Bool) → op_value operators.Xor (truth_word b) (wrap 1) ≡ truth_word (not b)

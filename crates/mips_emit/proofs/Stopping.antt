@@ -13,9 +13,9 @@ use Rattle.mips_emit.specs.declared.comparison.Asked.TheVariants.{Nothing}
 use Rattle.mips_emit.specs.Locations.{Locations, Facts, learned, known_after, locations, operand}
 use Rattle.mips_emit.specs.Code.{carry, arguments_code}
 use Rattle.mips_emit.specs.Comparisons.{comparison_of, asked_last, next_code, insts_code}
-use Rattle.mips_emit.specs.Left.{Emits, EmitsSome, StopsAmong}
+use Rattle.mips_emit.specs.Prefixes.{Emits, EmitsPrefix, StopsAmong}
 use Rattle.mips_emit.proofs.Emitted.{asks_last}
-use Rattle.mips_emit.proofs.Left.{some_of}
+use Rattle.mips_emit.proofs.Prefixes.{prefix_of}
 
 -- what is known behind one more
 pub known_step : (at : Locations) (i : ℕ) (insts : List RInst) (d : RInst) (facts facts' start : Facts) → i < length insts
@@ -84,7 +84,7 @@ module _ (gs : List RGlobal) (starts : List ℕ) (frame : Frame) (asked : Asked)
       → left + i ≡ length insts → facts ≡ known_after at (take i insts) start
       → code ++ code_from facts (drop i insts) ≡ was ++ code_from start insts
       → asks ≡ (if nat_eq (left - 1) 0 then asked else Nothing) → m ≡ comparison_of at facts asks (get_or insts i d)
-      → EmitsSome code (next_code gs (slice_index starts) at facts m (get_or insts i d)) now
+      → EmitsPrefix code (next_code gs (slice_index starts) at facts m (get_or insts i d)) now
       → StopsAmong gs starts frame asked insts start facts was now
   stops i left d asks m facts code now lt count k e asks_is m_is some =
       let inst = get_or insts i d in
@@ -96,8 +96,8 @@ module _ (gs : List RGlobal) (starts : List ℕ) (frame : Frame) (asked : Asked)
         rest = drop (i + 1) insts;
         are = parts i insts d lt;
         known = k;
-        code = subst (λ m. EmitsSome (was ++ insts_code gs (slice_index starts) at Nothing start (take i insts) []) (next_code gs (slice_index starts) at facts m inst) now) m'
-            (subst (λ c. EmitsSome c (next_code gs (slice_index starts) at facts m inst) now) (before i d facts code lt k e) some);
+        code = subst (λ m. EmitsPrefix (was ++ insts_code gs (slice_index starts) at Nothing start (take i insts) []) (next_code gs (slice_index starts) at facts m inst) now) m'
+            (subst (λ c. EmitsPrefix c (next_code gs (slice_index starts) at facts m inst) now) (before i d facts code lt k e) some);
       }
 
 -- a fact of each Err
@@ -106,33 +106,33 @@ at_err (Ok x) p = tt
 at_err (Err e) p = p
 
 -- all of it
-pub some_all : (was now all : List Plain) → now ≡ was ++ all → EmitsSome was all now
-some_all was now all e =
+pub prefix_all : (was now all : List Plain) → now ≡ was ++ all → EmitsPrefix was all now
+prefix_all was now all e =
     let le : length was ≤ length now = omega (arith, ap length e, length-append {A = Plain}) in
-    some_of was now [] all le (append-nil now ∙ e)
+    prefix_of was now [] all le (append-nil now ∙ e)
 
 -- the first code of what is still to come
-pub some_next : (was mid now first rest all : List Plain) → length was ≤ length mid → mid ++ (first ++ rest) ≡ was ++ all → EmitsSome mid first now
-    → EmitsSome was all now
-some_next was mid now first rest all le e f =
+pub prefix_next : (was mid now first rest all : List Plain) → length was ≤ length mid → mid ++ (first ++ rest) ≡ was ++ all → EmitsPrefix mid first now
+    → EmitsPrefix was all now
+prefix_next was mid now first rest all le e f =
     let n = length now - length mid in
     let long : length was ≤ length now = omega (arith, le, ap length f, length-append {A = Plain}) in
-    some_of was now (drop n first ++ rest) all long
+    prefix_of was now (drop n first ++ rest) all long
     (ap (λ l. l ++ (drop n first ++ rest)) f ∙ append_assoc mid (take n first) (drop n first ++ rest)
     ∙ ap (λ l. mid ++ l) (sym (append_assoc (take n first) (drop n first) rest)) ∙ ap (λ l. mid ++ (l ++ rest)) (take-append-drop n first) ∙ e)
 
 -- what a call emits at an Err
-pub emits_err : {A E : Type 0} (r : Result A E) (was all now : List Plain) → IsErr r → EmitsSome was all now → Emits r was all now
+pub emits_err : {A E : Type 0} (r : Result A E) (was all now : List Plain) → IsErr r → EmitsPrefix was all now → Emits r was all now
 emits_err (Ok x) was all now is e = absurd (search (rules, is))
 emits_err (Err x) was all now is e = e
 
 -- arguments
 pub arguments_stop : (at : Locations) (facts : Facts) (t t' i d : ℕ) (args : List ℕ) (was mid now : List Plain) → i < length args → t' ≡ t
     → length was ≤ length mid → mid ++ arguments_code at facts t (drop i args) ≡ was ++ arguments_code at facts 4 args
-    → EmitsSome mid (carry t' (operand at facts (get_or args i d))) now → EmitsSome was (arguments_code at facts 4 args) now
+    → EmitsPrefix mid (carry t' (operand at facts (get_or args i d))) now → EmitsPrefix was (arguments_code at facts 4 args) now
 arguments_stop at facts t t' i d args was mid now lt same le e f =
     let x = get_or args i d in
     let rest = drop (i + 1) args in
-    some_next was mid now (carry t (operand at facts x)) (arguments_code at facts (suc t) rest) (arguments_code at facts 4 args) le
+    prefix_next was mid now (carry t (operand at facts x)) (arguments_code at facts (suc t) rest) (arguments_code at facts 4 args) le
     (sym (at_drop_more (λ xs. mid ++ arguments_code at facts t xs) args i d lt) ∙ e)
-    (subst (λ t. EmitsSome mid (carry t (operand at facts x)) now) same f)
+    (subst (λ t. EmitsPrefix mid (carry t (operand at facts x)) now) same f)

@@ -24,7 +24,7 @@ use Rattle.mips_isa.proofs.StateWords as words
 use Rattle.mips_emit.specs.declared.location.Location.{Location}
 use Rattle.mips_emit.specs.declared.location.Location.TheVariants.{Held, InSlot, Copied}
 use Rattle.mips_emit.specs.Locations.{inner_of}
-use Rattle.mips_emit.specs.Elements.{width_bytes, element_place, address_of_place, data_middle, near, page, low, scaled, scaled_seat, base_sum}
+use Rattle.mips_emit.specs.Elements.{width_bytes, element_place, address_of_place, data_middle, near, page, low, scaled, scaled_register, base_sum}
 use Rattle.mips_emit.specs.Elements.{base_code, base_offset}
 use Rattle.mips_emit.specs.Code.{is_small, half, constant, li, load_word_at, store_word_at, move_code}
 use Rattle.mips_emit.proofs.Runs.{RunsTo, runs_then, runs_none}
@@ -305,7 +305,7 @@ t2 : IsTarget 2
 t2 = record { low = omega arith; high = omega arith }
 
 scales : (w : Width) (s : State) (q i : ℕ) → read 0 s.regs q ≡ i → q ≢ 2 → width_bytes w * i < 2 ^ 31
-    → Scaled (scaled w q) s (scaled_seat w q) (width_bytes w * i)
+    → Scaled (scaled w q) s (scaled_register w q) (width_bytes w * i)
 scales Word s q i is ne few =
     let v = op_value operators.Sll (read 0 s.regs q) (wrap 2) in
     let value : wrap (i * 4) ≡ 4 * i = omega (arith, few) in
@@ -373,5 +373,5 @@ based w s q start i is apart gp few =
     let a = scales w s q i is apart (omega (arith, few)) in
     let s1 : State = record s { regs = a.regs } in
     let ne : 28 ≢ 1 = λ e. absurd (omega (arith, e)) in
-    let b = sums s1 (scaled_seat w q) start (width_bytes w * i) a.here a.apart (a.others 28 ne ∙ gp) few in
+    let b = sums s1 (scaled_register w q) start (width_bytes w * i) a.here a.apart (a.others 28 ne ∙ gp) few in
     record { regs = b.regs; runs = runs_then a.runs b.runs; here = b.here; others = λ r n1 n2. b.others r n1 n2 ∙ a.others r n1 }

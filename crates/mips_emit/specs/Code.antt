@@ -20,7 +20,7 @@ use Rattle.rtl.specs.declared.operator.Op.TheVariants.{LtU, LeS, LeU}
 use Rattle.rtl.specs.declared.instruction.RInst.{RInst}
 use Rattle.rtl.specs.declared.instruction.RInst.TheVariants.{Const, Move, Bin, Load, Store}
 use Rattle.rtl.specs.declared.block.RGlobal.{RGlobal}
-use Rattle.mips_homes.specs.HomedRun.{is_lasting}
+use Rattle.mips_homes.specs.HomedRun.{is_callee_saved}
 use Rattle.mips_emit.specs.declared.location.Location.{Location}
 use Rattle.mips_emit.specs.declared.location.Location.TheVariants.{Held, InSlot, Copied}
 use Rattle.mips_emit.specs.declared.location.Source.{Source}
@@ -72,12 +72,12 @@ fetch t (From (Held r)) = []
 fetch t (From (InSlot k)) = load_word_at t (4 * k) ∷ []
 fetch t (From (Copied r k)) = []
 
-abbrev pub seat : ℕ → Source → ℕ
-seat t Zero = 0
-seat t (Word w) = t
-seat t (From (Held r)) = r
-seat t (From (InSlot k)) = t
-seat t (From (Copied r k)) = r
+abbrev pub operand_register : ℕ → Source → ℕ
+operand_register t Zero = 0
+operand_register t (Word w) = t
+operand_register t (From (Held r)) = r
+operand_register t (From (InSlot k)) = t
+operand_register t (From (Copied r k)) = r
 
 -- an operand into a register of its own
 abbrev pub bring : ℕ → Source → List Plain
@@ -115,7 +115,7 @@ finish (Some (Copied r k)) = store_word_at r (4 * k) ∷ []
 abbrev pub put_at : Option Location → Source → List Plain
 put_at None x = []
 put_at (Some (Held r)) x = bring r x
-put_at (Some (InSlot k)) x = fetch (inner_of (Some (InSlot k))) x ++ store_word_at (seat (inner_of (Some (InSlot k))) x) (4 * k) ∷ []
+put_at (Some (InSlot k)) x = fetch (inner_of (Some (InSlot k))) x ++ store_word_at (operand_register (inner_of (Some (InSlot k))) x) (4 * k) ∷ []
 put_at (Some (Copied r k)) x = bring r x ++ store_word_at r (4 * k) ∷ []
 
 -- a register into a location
@@ -223,7 +223,7 @@ turned_less_of _ d q known = None
 -- an operator into register d: with a word on the right or on the left, with a word on the left of a test that is then turned, or on two
 -- registers. The left operand goes through register t, the right one through 2
 abbrev pub code_by_less : Op → (t d : ℕ) → (less : Option Plain) → Source → Source → List Plain
-code_by_less op t d None x y = fetch t x ++ (fetch 2 y ++ operation op d (seat t x) (seat 2 y))
+code_by_less op t d None x y = fetch t x ++ (fetch 2 y ++ operation op d (operand_register t x) (operand_register 2 y))
 code_by_less op t d (Some i) x y = fetch 2 y ++ i ∷ Logic Xori d d 1 ∷ []
 
 abbrev pub code_by_left : Op → (t d : ℕ) → (left less : Option Plain) → Source → Source → List Plain
@@ -236,8 +236,8 @@ code_by_right op t d (Some i) left less x y = fetch t x ++ i ∷ []
 
 abbrev pub code_by_word : Op → (t d : ℕ) → (left right : Option ℕ) → Source → Source → List Plain
 code_by_word op t d left right x y =
-    code_by_right op t d (immediate_of op d (seat t x) right) (turned_immediate_of op d (seat 2 y) left)
-    (turned_less_of op d (seat 2 y) left) x y
+    code_by_right op t d (immediate_of op d (operand_register t x) right) (turned_immediate_of op d (operand_register 2 y) left)
+    (turned_less_of op d (operand_register 2 y) left) x y
 
 -- the instructions of an operator that are selected: whether each operand is fetched, and one or two behind
 abbrev pub fetch_if : Bool → ℕ → Source → List Plain
@@ -261,7 +261,7 @@ multiple_of Mul (Some c) = multiple c
 multiple_of _ known = None
 
 abbrev pub multiple_code : (t d : ℕ) → ShiftedSum → Source → List Plain
-multiple_code t d m x = fetch t x ++ Shift Sll 2 (seat t x) m.amount ∷ Alu m.op d 2 (seat t x) ∷ []
+multiple_code t d m x = fetch t x ++ Shift Sll 2 (operand_register t x) m.amount ∷ Alu m.op d 2 (operand_register t x) ∷ []
 
 abbrev pub code_by_multiple : (t d : ℕ) → (right left : Option ShiftedSum) → Source → Source → (other : List Plain) → List Plain
 code_by_multiple t d (Some m) left x y other = multiple_code t d m x
@@ -277,7 +277,7 @@ op_code op t d left right x y =
 
 -- what stands before an element is used, from the operand that is its index
 abbrev pub element_code : Width → (start : ℕ) → Option ℕ → Source → List Plain
-element_code w start None x = fetch 1 x ++ base_code w start (seat 1 x)
+element_code w start None x = fetch 1 x ++ base_code w start (operand_register 1 x)
 element_code w start (Some p) x = []
 
 abbrev pub bin_code : Locations → Facts → Op → (d a b : ℕ) → List Plain
@@ -302,16 +302,16 @@ abbrev pub store_code : Locations → Facts → Width → (start i b : ℕ) → 
 store_code at facts w start i b =
     element_code w start (direct w start (known_in facts i)) (operand at facts i)
     ++ (fetch 2 (operand at facts b)
-    ++ element_store w (seat 2 (operand at facts b)) start (direct w start (known_in facts i)) ∷ [])
+    ++ element_store w (operand_register 2 (operand at facts b)) start (direct w start (known_in facts i)) ∷ [])
 
 -- nothing is done
 abbrev pub nop : Plain
 nop = Shift Sll 0 0 0
 
--- a constant: nothing yet for a passing register
+-- a constant: nothing yet for a caller-saved register
 abbrev pub const_code : Option Location → ℕ → List Plain
 const_code None w = []
-const_code (Some (Held r)) w = if is_lasting r then bring r (word_source w) else nop ∷ []
+const_code (Some (Held r)) w = if is_callee_saved r then bring r (word_source w) else nop ∷ []
 const_code (Some (InSlot k)) w = put_at (Some (InSlot k)) (word_source w)
 const_code (Some (Copied r k)) w = put_at (Some (Copied r k)) (word_source w)
 

@@ -11,7 +11,7 @@ use Rattle.rtl.specs.declared.operator.Op.TheVariants.{Eq, Ne, LtS, LtU, LeS, Le
 use Rattle.rtl.specs.declared.instruction.RInst.{RInst}
 use Rattle.rtl.specs.declared.instruction.RInst.TheVariants.{Const, Move, Bin, Load, Store}
 use Rattle.rtl.specs.declared.block.RGlobal.{RGlobal}
-use Rattle.mips_homes.specs.HomedRun.{is_lasting}
+use Rattle.mips_homes.specs.HomedRun.{is_callee_saved}
 use Rattle.mips_homes.specs.declared.homed.Frame.{Frame}
 use Rattle.mips_emit.specs.declared.location.Location.{Location}
 use Rattle.mips_emit.specs.declared.location.Location.TheVariants.{Held, InSlot, Copied}
@@ -23,7 +23,7 @@ use Rattle.mips_emit.specs.declared.comparison.Asked.TheVariants.{Nothing, Branc
 use Rattle.mips_emit.specs.declared.comparison.Comparison.{Comparison}
 use Rattle.mips_emit.specs.declared.facts.Last.{Last}
 use Rattle.mips_emit.specs.Locations.{Locations, Facts, FitsSource, locations, known_in, learned, operand, fresh_of}
-use Rattle.mips_emit.specs.Code.{fetch, seat, carry, immediate_of, op_code, inst_code, nop}
+use Rattle.mips_emit.specs.Code.{fetch, operand_register, carry, immediate_of, op_code, inst_code, nop}
 
 -- ---- forms
 
@@ -80,9 +80,9 @@ abbrev pub comparison_code : Comparison → List Plain
 comparison_code m = code_by_form m.form m.op m.left m.right m.x m.y
 
 abbrev pub exit_by_form : Form → Source → Source → (t e : ℕ) → Exit
-exit_by_form (OnPair test) x y t e = BranchPair test (seat 1 x) (seat 3 y) t e
-exit_by_form (OnLeft test) x y t e = BranchZero test (seat 3 x) t e
-exit_by_form (OnRight test) x y t e = BranchZero test (seat 3 y) t e
+exit_by_form (OnPair test) x y t e = BranchPair test (operand_register 1 x) (operand_register 3 y) t e
+exit_by_form (OnLeft test) x y t e = BranchZero test (operand_register 3 x) t e
+exit_by_form (OnRight test) x y t e = BranchZero test (operand_register 3 y) t e
 exit_by_form ByResult x y t e = BranchPair NotEqual 3 0 t e
 exit_by_form ByOpposite x y t e = BranchPair Equal 3 0 t e
 exit_by_form InResult x y t e = BranchPair NotEqual 2 0 t e
@@ -105,11 +105,11 @@ form_for (Branched c) op l r = form_of op l r
 form_for (Returned c) op l r = Some InResult
 
 -- a location that no other block reads
-abbrev pub is_passing : Option Location → Bool
-is_passing None = false
-is_passing (Some (Held r)) = not (is_lasting r)
-is_passing (Some (InSlot k)) = false
-is_passing (Some (Copied r k)) = false
+abbrev pub is_caller_saved : Option Location → Bool
+is_caller_saved None = false
+is_caller_saved (Some (Held r)) = not (is_callee_saved r)
+is_caller_saved (Some (InSlot k)) = false
+is_caller_saved (Some (Copied r k)) = false
 
 abbrev pub operator_comparison : ℕ → Op → (left right : Option ℕ) → Source → Source → Option Form → Option Comparison
 operator_comparison d op l r x y None = None
@@ -121,7 +121,7 @@ abbrev pub comparison_of : Locations → Facts → Asked → RInst → Option Co
 comparison_of at facts asked (Const d w) = None
 comparison_of at facts asked (Move d a) = None
 comparison_of at facts asked (Bin op d a b) =
-    if is_asked asked d && is_passing (at d)
+    if is_asked asked d && is_caller_saved (at d)
     then operator_comparison d op (known_in facts a) (known_in facts b) (operand at facts a) (operand at facts b)
     (form_for asked op (known_in facts a) (known_in facts b))
     else None
@@ -180,7 +180,7 @@ branch_code None x = fetch 1 x
 branch_code (Some m) x = []
 
 abbrev pub branch_exit : (tested : Option Comparison) → Source → (t e : ℕ) → Exit
-branch_exit None x t e = BranchPair NotEqual (seat 1 x) 0 t e
+branch_exit None x t e = BranchPair NotEqual (operand_register 1 x) 0 t e
 branch_exit (Some m) x t e = comparison_exit m t e
 
 -- ---- returns

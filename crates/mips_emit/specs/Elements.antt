@@ -78,9 +78,9 @@ abbrev pub scaled : Width → ℕ → List Plain
 scaled Word q = Shift Sll 1 q 2 ∷ []
 scaled Byte q = []
 
-abbrev pub scaled_seat : Width → ℕ → ℕ
-scaled_seat Word q = 1
-scaled_seat Byte q = q
+abbrev pub scaled_register : Width → ℕ → ℕ
+scaled_register Word q = 1
+scaled_register Byte q = q
 
 -- from an index in a register to a base for the element, in register 1, and the offset from it
 abbrev pub base_sum : (start q : ℕ) → List Plain
@@ -88,7 +88,7 @@ base_sum start q =
     if nat_lt start 65536 then Alu Addu 1 q 28 ∷ [] else LoadUpper 2 (page (address_of_place start)) ∷ Alu Addu 1 q 2 ∷ []
 
 abbrev pub base_code : Width → (start q : ℕ) → List Plain
-base_code w start q = scaled w q ++ base_sum start (scaled_seat w q)
+base_code w start q = scaled w q ++ base_sum start (scaled_register w q)
 
 abbrev pub base_offset : ℕ → ℤ
 base_offset start = if nat_lt start 65536 then near start else low (address_of_place start)

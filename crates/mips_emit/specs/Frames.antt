@@ -5,7 +5,7 @@ use Rattle.mips_homes.specs.declared.homed.Home.TheVariants.{Reg, Slot}
 use Rattle.mips_homes.specs.declared.homed.Frame.{Frame}
 use Rattle.mips_homes.specs.declared.homed.SlotCopy.{SlotCopy}
 use Rattle.mips_homes.specs.Copies.{copy_of}
-use Rattle.mips_homes.specs.HomedRun.{is_lasting}
+use Rattle.mips_homes.specs.HomedRun.{is_callee_saved}
 use Rattle.mips_emit.specs.declared.limits.TheConstants.{FRAME_BYTES}
 
 -- a register 4 to 27, or one of so many slots
@@ -16,7 +16,7 @@ IsHome slots (Slot k) = k < slots
 -- copies of slots are in registers 8 to 27 that no function keeps, each slot's in its own, and none is a home
 pub record AreCopies (copies : List SlotCopy) (homes : List Home) : Type 0 where
   pub range : (k r : ℕ) → copy_of copies k ≡ Some r → (8 ≤ r) × (r < 28)
-  pub passing : (k r : ℕ) → copy_of copies k ≡ Some r → is_lasting r ≡ false
+  pub caller_saved : (k r : ℕ) → copy_of copies k ≡ Some r → is_callee_saved r ≡ false
   pub once : (j k r : ℕ) → copy_of copies j ≡ Some r → copy_of copies k ≡ Some r → j ≡ k
   pub idle : (x k r : ℕ) → slice_get homes x ≡ Some (Reg r) → copy_of copies k ≡ Some r → ⊥
 

@@ -3,5 +3,5 @@ pub mod Locations
 pub mod Elements
 pub mod Code
 pub mod Comparisons
-pub mod Left
+pub mod Prefixes
 pub mod Numbers

@@ -5,7 +5,7 @@ use Rattle.words.specs.Words.{wrap}
 use Rattle.runs.specs.Stores.{Places, places_with, chain}
 use Rattle.rtl.specs.declared.instruction.RInst.{RInst}
 use Rattle.rtl.specs.declared.instruction.RInst.TheVariants.{Const, Move, Bin, Load, Store}
-use Rattle.mips_homes.specs.HomedRun.{is_lasting}
+use Rattle.mips_homes.specs.HomedRun.{is_callee_saved}
 use Rattle.mips_homes.specs.Copies.{copy_of}
 use Rattle.mips_homes.specs.declared.homed.SlotCopy.{SlotCopy}
 use Rattle.mips_homes.specs.declared.homed.Home.{Home}
@@ -47,7 +47,7 @@ locations f = locations_of f.copies.items f.homes.items
 
 -- the inner temporary of a location: the register in which the left operand is fetched of what goes there, and in which that is computed
 -- if it goes to a slot. It is 1 and 3 in turn, so that code for one location needn't wait for that of the one before. Register 1 also has
--- the bases of elements, so the first passing register, which is 8, has 3
+-- the bases of elements, so the first temporary, which is 8, has 3
 abbrev pub inner_of : Option Location → ℕ
 inner_of None = 1
 inner_of (Some (Held r)) = 3 - 2 * (r % 2)
@@ -56,10 +56,10 @@ inner_of (Some (Copied r k)) = 3 - 2 * (r % 2)
 
 -- ---- words that are known
 
--- facts, the newest first, and the words that passing registers should hold but don't yet
+-- facts, the newest first, and the words that caller-saved registers should hold but don't yet
 pub record Facts : Type 0 where
   pub known : List Fact
-  pub lazy : Places
+  pub deferred : Places
 
 -- the word that a pseudo-register is known to hold
 abbrev pub known_of : List Fact → Places
@@ -73,25 +73,25 @@ known_in facts = known_of facts.known
 abbrev pub with_fact : ℕ → Option ℕ → List Fact → List Fact
 with_fact x word facts = take KEPT_FACTS ((let f : Fact = record { register = x; word = word } in f) ∷ facts)
 
--- a constant isn't put into a passing register, unless that is a copy; what is put anywhere else is there
-abbrev pub lazy_const : Option Location → ℕ → Places → Places
-lazy_const None w lazy = lazy
-lazy_const (Some (Held r)) w lazy = places_with lazy r (if is_lasting r then None else Some w)
-lazy_const (Some (InSlot k)) w lazy = lazy
-lazy_const (Some (Copied r k)) w lazy = lazy
+-- a constant isn't put into a caller-saved register, unless that is a copy; what is put anywhere else is there
+abbrev pub deferred_const : Option Location → ℕ → Places → Places
+deferred_const None w deferred = deferred
+deferred_const (Some (Held r)) w deferred = places_with deferred r (if is_callee_saved r then None else Some w)
+deferred_const (Some (InSlot k)) w deferred = deferred
+deferred_const (Some (Copied r k)) w deferred = deferred
 
-abbrev pub lazy_none : Option Location → Places → Places
-lazy_none None lazy = lazy
-lazy_none (Some (Held r)) lazy = places_with lazy r None
-lazy_none (Some (InSlot k)) lazy = lazy
-lazy_none (Some (Copied r k)) lazy = lazy
+abbrev pub deferred_none : Option Location → Places → Places
+deferred_none None deferred = deferred
+deferred_none (Some (Held r)) deferred = places_with deferred r None
+deferred_none (Some (InSlot k)) deferred = deferred
+deferred_none (Some (Copied r k)) deferred = deferred
 
 -- what is known after an instruction
 abbrev pub learned : Locations → RInst → Facts → Facts
-learned at (Const d w) facts = record { known = with_fact d (Some (wrap w)) facts.known; lazy = lazy_const (at d) (wrap w) facts.lazy }
-learned at (Move d a) facts = record { known = with_fact d (known_in facts a) facts.known; lazy = lazy_none (at d) facts.lazy }
-learned at (Bin op d a b) facts = record { known = with_fact d None facts.known; lazy = lazy_none (at d) facts.lazy }
-learned at (Load d a i) facts = record { known = with_fact d None facts.known; lazy = lazy_none (at d) facts.lazy }
+learned at (Const d w) facts = record { known = with_fact d (Some (wrap w)) facts.known; deferred = deferred_const (at d) (wrap w) facts.deferred }
+learned at (Move d a) facts = record { known = with_fact d (known_in facts a) facts.known; deferred = deferred_none (at d) facts.deferred }
+learned at (Bin op d a b) facts = record { known = with_fact d None facts.known; deferred = deferred_none (at d) facts.deferred }
+learned at (Load d a i) facts = record { known = with_fact d None facts.known; deferred = deferred_none (at d) facts.deferred }
 learned at (Store a i b) facts = facts
 
 -- and after several
@@ -100,12 +100,12 @@ known_after at [] facts = facts
 known_after at (i ∷ is) facts = known_after at is (learned at i facts)
 
 -- the words of a table, by their places
-abbrev pub told : Option (Option ℕ) → Option ℕ
-told None = None
-told (Some o) = o
+abbrev pub flatten : Option (Option ℕ) → Option ℕ
+flatten None = None
+flatten (Some o) = o
 
 abbrev pub word_in : List (Option ℕ) → Places
-word_in table q = told (slice_get table q)
+word_in table q = flatten (slice_get table q)
 
 -- the last of some facts, the newest first
 abbrev pub newest : List Fact → List Fact
@@ -113,11 +113,11 @@ newest facts = take KEPT_FACTS (reverse facts)
 
 -- the same as the code has it
 abbrev pub facts_of : Knowledge → Facts
-facts_of k = record { known = newest k.known.items; lazy = word_in k.lazy }
+facts_of k = record { known = newest k.known.items; deferred = word_in k.deferred }
 
 -- at the head of a block
 abbrev pub no_facts : Facts
-no_facts = record { known = []; lazy = λ q. None }
+no_facts = record { known = []; deferred = λ q. None }
 
 -- ---- what an exit can use of the last instruction
 
@@ -160,18 +160,18 @@ abbrev pub word_source : ℕ → Source
 word_source w = if nat_eq w 0 then Zero else Word w
 
 -- what a location should hold but doesn't yet
-abbrev pub lazy_at : Places → Option Location → Option ℕ
-lazy_at lazy None = None
-lazy_at lazy (Some (Held r)) = lazy r
-lazy_at lazy (Some (InSlot k)) = None
-lazy_at lazy (Some (Copied r k)) = None
+abbrev pub deferred_at : Places → Option Location → Option ℕ
+deferred_at deferred None = None
+deferred_at deferred (Some (Held r)) = deferred r
+deferred_at deferred (Some (InSlot k)) = None
+deferred_at deferred (Some (Copied r k)) = None
 
-abbrev pub lazy_source : Option ℕ → Source → Source
-lazy_source None x = x
-lazy_source (Some w) x = word_source w
+abbrev pub deferred_source : Option ℕ → Source → Source
+deferred_source None x = x
+deferred_source (Some w) x = word_source w
 
 abbrev pub operand : Locations → Facts → ℕ → Source
-operand at facts x = lazy_source (lazy_at facts.lazy (at x)) (source (known_in facts x) (at x))
+operand at facts x = deferred_source (deferred_at facts.deferred (at x)) (source (known_in facts x) (at x))
 
 -- an operand of an exit: what the last instruction left in its inner temporary, or any other
 abbrev pub fresh_source : Option ℕ → (x inner : ℕ) → Source → Source

@@ -1,6 +1,6 @@
 // Operators that are one with the exit behind them: comparisons with a branch on their result, any with a return of it.
 
-#![tactic(auto, using(crate::proofs::Left::some_behind, crate::proofs::Left::some_among, crate::proofs::Left::emits_behind))]
+#![tactic(auto, using(crate::proofs::Prefixes::prefix_behind, crate::proofs::Prefixes::prefix_among, crate::proofs::Prefixes::emits_behind))]
 
 ghost use Rattle.std.specs.Prelude.{◌≡◌, ◌++◌, ◌∷◌, [], Some};
 ghost use Rattle.mblock.specs.declared.exit.Exit.TheVariants.{BranchPair, BranchZero};
@@ -8,16 +8,16 @@ ghost use Rattle.rtl.specs.declared.operator.Op.TheVariants.{LtS, LeS};
 ghost use Rattle.mips_emit.specs.Frames.{IsReachable};
 ghost use Rattle.mips_emit.specs.Locations.{facts_of, locations, known_in, operand, FitsSource};
 ghost use Rattle.mips_emit.specs.Comparisons.{is_known_zero, is_immediate, opposite_if, form_of, opposite_op};
-ghost use Rattle.mips_emit.specs.Comparisons.{comparison_code, comparison_exit, is_asked, form_for, is_passing, is_result, returned};
+ghost use Rattle.mips_emit.specs.Comparisons.{comparison_code, comparison_exit, is_asked, form_for, is_caller_saved, is_result, returned};
 ghost use Rattle.mips_emit.specs.Comparisons.{operator_comparison, comparison_of, FitsComparison, tested};
 ghost use Rattle.mips_emit.specs.Code.{fetch, nop};
-ghost use Rattle.mips_emit.specs.Left.{Emits};
+ghost use Rattle.mips_emit.specs.Prefixes.{Emits};
 
 use crate::constant::emit_one;
-use crate::facts::{Knowledge, is_lasting, known_word, operand};
+use crate::facts::{Knowledge, is_callee_saved, known_word, operand};
 use crate::location::{Location, Source, locate, register};
 use crate::operation::{Operand, emit_op, immediate_of};
-use crate::transfer::{emit_fetch, seat};
+use crate::transfer::{emit_fetch, operand_register};
 use mblock::{BlockNumber, Exit};
 use mips_homes::Frame;
 use mips_isa::{PairTest, Plain, Reg, ZeroTest};
@@ -236,13 +236,13 @@ fn on_sign(test: ZeroTest, rs: Reg, then: BlockNumber, other: BlockNumber) -> Ex
 pub fn comparison_exit(m: &Comparison, then: BlockNumber, other: BlockNumber) -> Exit
     ensures { result ≡ comparison_exit m.now then other }
 {
-    let left = seat(register(3), &m.x);
-    let right = seat(register(3), &m.y);
+    let left = operand_register(register(3), &m.x);
+    let right = operand_register(register(3), &m.y);
     let truth = register(3).reg();
     match m.form {
         Form::OnPair(test) => Exit::BranchPair {
             test,
-            rs: seat(register(1), &m.x),
+            rs: operand_register(register(1), &m.x),
             rt: right,
             then,
             other,
@@ -278,14 +278,14 @@ fn form_for(asked: Asked, op: Op, left: Option<u32>, right: Option<u32>) -> Opti
 }
 
 // Whether no other block reads a location.
-fn is_passing(place: Option<Location>) -> bool
-    ensures { result ≡ is_passing place }
+fn is_caller_saved(place: Option<Location>) -> bool
+    ensures { result ≡ is_caller_saved place }
 {
     match place {
         None => false,
         // (rattle 13f: a nested pattern through another crate's type ends in "a bug in rattle": CONTRIBUTING.md)
         Some(location) => match location {
-            Location::Held(r) => !is_lasting(r),
+            Location::Held(r) => !is_callee_saved(r),
             Location::InSlot(_) => false,
             Location::Copied(_, _) => false,
         },
@@ -339,7 +339,7 @@ pub(crate) fn comparison_of(
 {
     match inst {
         RInst::Bin(op, d, a, b) => {
-            if is_asked(asked, *d) && is_passing(locate(frame, *d)) {
+            if is_asked(asked, *d) && is_caller_saved(locate(frame, *d)) {
                 operator_comparison(facts, frame, asked, *op, *d, *a, *b)
             } else {
                 None

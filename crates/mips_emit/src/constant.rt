@@ -1,11 +1,11 @@
 // Words and words of the frame, into registers.
 
-#![tactic(auto, using(crate::proofs::Left::some_behind, crate::proofs::Left::some_among, crate::proofs::Left::emits_behind))]
+#![tactic(auto, using(crate::proofs::Prefixes::prefix_behind, crate::proofs::Prefixes::prefix_among, crate::proofs::Prefixes::emits_behind))]
 
 ghost use Rattle.std.specs.Prelude.{◌≡◌, ◌≤◌, ◌<◌, ◌++◌, ◌∷◌, [], true};
 ghost use Rattle.mips_emit.specs.declared.limits.TheConstants.{FRAME_BYTES};
 ghost use Rattle.mips_emit.specs.Code.{one_or_two, constant, is_small, half, li, load_word_at, store_word_at, move_code};
-ghost use Rattle.mips_emit.specs.Left.{Emits};
+ghost use Rattle.mips_emit.specs.Prefixes.{Emits};
 
 use mips_isa::{AluOp, ImmOp, LogicOp, NonzeroReg, Plain, Reg};
 use std::alloc::AllocError;

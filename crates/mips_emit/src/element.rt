@@ -1,19 +1,19 @@
 // Elements of globals: how they are reached.
 
-#![tactic(auto, using(crate::proofs::Left::some_behind, crate::proofs::Left::some_among, crate::proofs::Left::emits_behind))]
+#![tactic(auto, using(crate::proofs::Prefixes::prefix_behind, crate::proofs::Prefixes::prefix_among, crate::proofs::Prefixes::emits_behind))]
 
 ghost use Rattle.std.specs.Prelude.{◌≡◌, ◌≤◌, ◌<◌, ◌++◌, ◌∷◌, []};
 ghost use Rattle.mblock.specs.declared.limits.TheConstants.{UNIT_BYTES};
 ghost use Rattle.mips_emit.specs.Locations.{FitsSource};
 ghost use Rattle.mips_emit.specs.Elements.{width_bytes, element_place, address_of_place, direct, IsNear, near, page, low, scaled};
-ghost use Rattle.mips_emit.specs.Elements.{scaled_seat};
+ghost use Rattle.mips_emit.specs.Elements.{scaled_register};
 ghost use Rattle.mips_emit.specs.Elements.{base_sum, base_code, base_offset, element_base, element_offset};
 ghost use Rattle.mips_emit.specs.Code.{element_code, element_load, element_store};
-ghost use Rattle.mips_emit.specs.Left.{Emits};
+ghost use Rattle.mips_emit.specs.Prefixes.{Emits};
 
 use crate::constant::{emit_one, emit_one_or_two};
 use crate::location::{Source, register};
-use crate::transfer::{emit_fetch, seat};
+use crate::transfer::{emit_fetch, operand_register};
 use mips_isa::{AluOp, Amount, DATA_BASE, NonzeroReg, Plain, Reg, ShiftOp};
 use std::alloc::AllocError;
 use words::Width;
@@ -99,8 +99,8 @@ fn emit_scaled(code: &mut Vec<Plain>, width: Width, index: Reg) -> Result<(), Al
 }
 
 // The register that shows it then.
-fn scaled_seat(width: Width, index: Reg) -> Reg
-    ensures { result ≡ scaled_seat width index }
+fn scaled_register(width: Width, index: Reg) -> Reg
+    ensures { result ≡ scaled_register width index }
 {
     match width {
         Width::Word => Reg::masked(1),
@@ -157,10 +157,10 @@ pub(crate) fn emit_element(
     if place.is_some() {
         return Ok(());
     }
-    let index = seat(register(1), x);
+    let index = operand_register(register(1), x);
     emit_fetch(code, register(1), x)?;
     emit_scaled(code, width, index)?;
-    emit_sum(code, start, scaled_seat(width, index))
+    emit_sum(code, start, scaled_register(width, index))
 }
 
 // The register from which an element is reached.

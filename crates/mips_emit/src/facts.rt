@@ -3,8 +3,8 @@
 ghost use Rattle.std.specs.Prelude.{◌≡◌, OnOk, OnErr, IfOk, Some};
 ghost use Rattle.mips_emit.specs.Frames.{IsReachable};
 ghost use Rattle.runs.specs.Stores.{places_with};
-ghost use Rattle.mips_homes.specs.HomedRun.{is_lasting};
-ghost use Rattle.mips_emit.specs.Locations.{known_of, known_in, facts_of, no_facts, word_in, lazy_at, lazy_const, lazy_none};
+ghost use Rattle.mips_homes.specs.HomedRun.{is_callee_saved};
+ghost use Rattle.mips_emit.specs.Locations.{known_of, known_in, facts_of, no_facts, word_in, deferred_at, deferred_const, deferred_none};
 ghost use Rattle.mips_emit.specs.Locations.{newest, with_fact, learned, in_slot, fresh_of};
 ghost use Rattle.mips_emit.specs.Comparisons.{last_with};
 ghost use Rattle.mips_emit.specs.Locations.{locations, operand, last_operand, FitsSource};
@@ -37,7 +37,7 @@ pub struct Last {
 #[derive(Drop)]
 pub struct Knowledge {
     pub known: Vec<Fact>,
-    pub lazy: [Option<u32>; 32],
+    pub deferred: [Option<u32>; 32],
 }
 
 impl Knowledge {
@@ -47,7 +47,7 @@ impl Knowledge {
     {
         Ok(Knowledge {
             known: Vec::new(alloc),
-            lazy: [None; 32],
+            deferred: [None; 32],
         })
     }
 
@@ -56,7 +56,7 @@ impl Knowledge {
         ensures { facts_of self.new ≡ no_facts }
     {
         self.known.clear();
-        self.lazy = [None; 32];
+        self.deferred = [None; 32];
     }
 }
 
@@ -89,7 +89,7 @@ pub(crate) fn known_word(facts: &Knowledge, x: Register) -> Option<u32>
 }
 
 // The word that a register should hold but doesn't yet.
-fn lazy_in(table: &[Option<u32>], r: NonzeroReg) -> Option<u32>
+fn deferred_in(table: &[Option<u32>], r: NonzeroReg) -> Option<u32>
     ensures { result ≡ word_in table.now r }
 {
     match table.get(r.index() as usize) {
@@ -99,14 +99,14 @@ fn lazy_in(table: &[Option<u32>], r: NonzeroReg) -> Option<u32>
 }
 
 // The same of a location.
-fn lazy_at(table: &[Option<u32>], place: Option<Location>) -> Option<u32>
-    ensures { result ≡ lazy_at (word_in table.now) place }
+fn deferred_at(table: &[Option<u32>], place: Option<Location>) -> Option<u32>
+    ensures { result ≡ deferred_at (word_in table.now) place }
 {
     match place {
         None => None,
         // (rattle 13f: a nested pattern through another crate's type ends in "a bug in rattle": CONTRIBUTING.md)
         Some(location) => match location {
-            Location::Held(r) => lazy_in(table, r),
+            Location::Held(r) => deferred_in(table, r),
             Location::InSlot(_) => None,
             Location::Copied(_, _) => None,
         },
@@ -114,30 +114,30 @@ fn lazy_at(table: &[Option<u32>], place: Option<Location>) -> Option<u32>
 }
 
 // Whether a register outlives a block.
-pub(crate) fn is_lasting(r: NonzeroReg) -> bool
-    ensures { result ≡ is_lasting r }
+pub(crate) fn is_callee_saved(r: NonzeroReg) -> bool
+    ensures { result ≡ is_callee_saved r }
 {
     15 < r.index() && r.index() < 24
 }
 
 // What a register should hold but doesn't yet.
-fn put_lazy(table: &mut [Option<u32>; 32], r: NonzeroReg, word: Option<u32>)
+fn put_deferred(table: &mut [Option<u32>; 32], r: NonzeroReg, word: Option<u32>)
     ensures { word_in table.new ≡ places_with (word_in table.old) r word }
 {
     table[r.index() as usize] = word;
 }
 
-// A constant isn't put into a passing register.
-fn tell_lazy(table: &mut [Option<u32>; 32], place: Option<Location>, word: u32)
-    ensures { word_in table.new ≡ lazy_const place word (word_in table.old) }
+// Defers a constant whose home is a caller-saved register.
+fn defer(table: &mut [Option<u32>; 32], place: Option<Location>, word: u32)
+    ensures { word_in table.new ≡ deferred_const place word (word_in table.old) }
 {
     match place {
         None => {}
         // (rattle 13f: a nested pattern through another crate's type ends in "a bug in rattle": CONTRIBUTING.md)
         Some(location) => match location {
             Location::Held(r) => {
-                let told = if is_lasting(r) { None } else { Some(word) };
-                put_lazy(table, r, told);
+                let word = if is_callee_saved(r) { None } else { Some(word) };
+                put_deferred(table, r, word);
             }
             Location::InSlot(_) => {}
             Location::Copied(_, _) => {}
@@ -145,15 +145,15 @@ fn tell_lazy(table: &mut [Option<u32>; 32], place: Option<Location>, word: u32)
     }
 }
 
-// What is put anywhere else is there.
-fn clear_lazy(table: &mut [Option<u32>; 32], place: Option<Location>)
-    ensures { word_in table.new ≡ lazy_none place (word_in table.old) }
+// Any other write cancels a deferred constant.
+fn clear_deferred(table: &mut [Option<u32>; 32], place: Option<Location>)
+    ensures { word_in table.new ≡ deferred_none place (word_in table.old) }
 {
     match place {
         None => {}
         // (rattle 13f: a nested pattern through another crate's type ends in "a bug in rattle": CONTRIBUTING.md)
         Some(location) => match location {
-            Location::Held(r) => put_lazy(table, r, None),
+            Location::Held(r) => put_deferred(table, r, None),
             Location::InSlot(_) => {}
             Location::Copied(_, _) => {}
         },
@@ -178,16 +178,16 @@ pub(crate) fn learn(facts: &mut Knowledge, frame: &Frame, inst: &RInst) -> Resul
     match inst {
         RInst::Const(d, word) => {
             put_fact(&mut facts.known, *d, Some(*word))?;
-            tell_lazy(&mut facts.lazy, locate(frame, *d), *word);
+            defer(&mut facts.deferred, locate(frame, *d), *word);
         }
         RInst::Move(d, a) => {
             let word = known_word(facts, *a);
             put_fact(&mut facts.known, *d, word)?;
-            clear_lazy(&mut facts.lazy, locate(frame, *d));
+            clear_deferred(&mut facts.deferred, locate(frame, *d));
         }
         RInst::Bin(_, d, _, _) | RInst::Load(d, _, _) => {
             put_fact(&mut facts.known, *d, None)?;
-            clear_lazy(&mut facts.lazy, locate(frame, *d));
+            clear_deferred(&mut facts.deferred, locate(frame, *d));
         }
         RInst::Store(_, _, _) => {}
     }
@@ -200,7 +200,7 @@ pub(crate) fn operand(facts: &Knowledge, frame: &Frame, x: Register) -> Source
     ensures value { result ≡ operand (locations frame.now) (facts_of facts.now) x }
     ensures fits { FitsSource result }
 {
-    match lazy_at(&facts.lazy, locate(frame, x)) {
+    match deferred_at(&facts.deferred, locate(frame, x)) {
         Some(word) => word_source(word),
         None => source_of(known_word(facts, x), locate(frame, x)),
     }

@@ -1,6 +1,6 @@
 // The code of instructions.
 
-#![tactic(auto, using(crate::proofs::Left::some_behind, crate::proofs::Left::some_among, crate::proofs::Left::emits_behind))]
+#![tactic(auto, using(crate::proofs::Prefixes::prefix_behind, crate::proofs::Prefixes::prefix_among, crate::proofs::Prefixes::emits_behind))]
 
 ghost use Rattle.std.specs.Prelude.{◌≡◌, ◌<◌, ◌≤◌, ◌++◌, All, length, slice_index, if◌then◌else◌, OnOk, OnErr, IfOk, Some, None};
 ghost use Rattle.mblock.specs.declared.limits.TheConstants.{UNIT_BYTES};
@@ -13,15 +13,17 @@ ghost use Rattle.mips_emit.specs.Locations.{facts_of, inner_of, known_in, locati
 ghost use Rattle.mips_emit.specs.Comparisons.{FitsComparison, next_code, last_after, no_last, code_of_insts};
 ghost use Rattle.mips_emit.specs.Elements.{AreStarts, width_of};
 ghost use Rattle.mips_emit.specs.Code.{const_code, put_at, into, finish, op_code, bin_code, load_code, store_code, inst_code};
-ghost use Rattle.mips_emit.specs.Left.{Emits, StopsAmong};
+ghost use Rattle.mips_emit.specs.Prefixes.{Emits, StopsAmong};
 
 use crate::comparison::{Asked, Comparison, comparison_of, emit_comparison};
 use crate::constant::emit_one;
 use crate::element::{direct, element_load, element_store, emit_element};
-use crate::facts::{Knowledge, Last, fresh_of, is_lasting, known_word, last_with, learn, operand};
+use crate::facts::{
+    Knowledge, Last, fresh_of, is_callee_saved, known_word, last_with, learn, operand,
+};
 use crate::location::{Location, inner_of, locate, register, word_source};
 use crate::operation::{Operand, emit_op};
-use crate::transfer::{emit_bring, emit_fetch, emit_finish, emit_put, into_of, seat};
+use crate::transfer::{emit_bring, emit_fetch, emit_finish, emit_put, into_of, operand_register};
 use mips_homes::Frame;
 use mips_isa::{NonzeroReg, Plain};
 use rtl::{GlobalNumber, Op, RGlobal, RInst, Register};
@@ -32,7 +34,7 @@ use words::Width;
 fn emit_held(code: &mut Vec<Plain>, r: NonzeroReg, word: u32) -> Result<(), AllocError>
     ensures { Emits result code.old.items (const_code (Some (Held r)) word) code.new.items }
 {
-    if is_lasting(r) {
+    if is_callee_saved(r) {
         emit_bring(code, r, &word_source(word))
     } else {
         emit_one(code, Plain::nop())
@@ -177,7 +179,7 @@ fn emit_store(
     emit_fetch(code, register(2), &y)?;
     emit_one(
         code,
-        element_store(width, seat(register(2), &y), start, place),
+        element_store(width, operand_register(register(2), &y), start, place),
     )
 }
 

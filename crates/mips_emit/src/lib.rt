@@ -1,6 +1,6 @@
 //! Machine code of RTL instructions whose pseudo-registers live in homes: what happens inside a block.
 //!
-//! Definitions: `specs/Code.antt`, `specs/Locations.antt`, `specs/Elements.antt`, `specs/Comparisons.antt`, `specs/Left.antt`.
+//! Definitions: `specs/Code.antt`, `specs/Locations.antt`, `specs/Elements.antt`, `specs/Comparisons.antt`, `specs/Prefixes.antt`.
 //! Contract: `emit_insts`, `emit_arguments`, `emit_arrival`, `emit_departure`
 //! - The code of an instruction is exactly `inst_code`, and by the lemmas `performs` and `compares` it does what the instruction does over
 //!   homes.
@@ -26,4 +26,4 @@ pub use facts::{Fact, Knowledge, Last, last_operand};
 pub use inst::emit_insts;
 pub use limits::{FRAME_BYTES, limits_are_these_numbers};
 pub use location::{Location, Source, register};
-pub use transfer::{emit_fetch, seat};
+pub use transfer::{emit_fetch, operand_register};

@@ -1,6 +1,6 @@
 // Operators: on two registers, and on a register and a word.
 
-#![tactic(auto, using(crate::proofs::Left::some_behind, crate::proofs::Left::some_among, crate::proofs::Left::emits_behind))]
+#![tactic(auto, using(crate::proofs::Prefixes::prefix_behind, crate::proofs::Prefixes::prefix_among, crate::proofs::Prefixes::emits_behind))]
 
 ghost use Rattle.std.specs.Prelude.{◌≡◌, ℕ, ◌%◌, ◌++◌, ◌∷◌, [], true, nat_lt, take, drop, if◌then◌else◌, Some, None};
 ghost use Rattle.mips_isa.specs.declared.inst.LogicOp.TheVariants.{Xori};
@@ -10,12 +10,12 @@ ghost use Rattle.mips_emit.specs.Locations.{FitsSource};
 ghost use Rattle.mips_emit.specs.Code.{is_small, half, fetch, as_list, operation, is_power, immediate, immediate_of, is_symmetric};
 ghost use Rattle.mips_emit.specs.Code.{one_or_two, turned_immediate_of, fetch_if, selection_code};
 ghost use Rattle.mips_emit.specs.Code.{turned_less_of, code_by_word, op_code};
-ghost use Rattle.mips_emit.specs.Left.{Emits};
+ghost use Rattle.mips_emit.specs.Prefixes.{Emits};
 
 use crate::constant::{emit_one_or_two, half, is_small};
 use crate::location::{Source, register};
 use crate::product::{emit_multiple, multiple_of};
-use crate::transfer::{emit_fetch, seat};
+use crate::transfer::{emit_fetch, operand_register};
 use mips_isa::{AluOp, Amount, HiLo, ImmOp, LogicOp, NonzeroReg, Plain, Reg, ShiftOp};
 use rtl::Op;
 use std::alloc::AllocError;
@@ -274,8 +274,8 @@ fn select(op: Op, inner: NonzeroReg, rd: Reg, x: &Operand, y: &Operand) -> Selec
     ensures { selection_code inner result x.now.source y.now.source
         ≡ code_by_word op inner rd x.now.known y.now.known x.now.source y.now.source }
 {
-    let rs = seat(inner, &x.source);
-    let rt = seat(register(2), &y.source);
+    let rs = operand_register(inner, &x.source);
+    let rt = operand_register(register(2), &y.source);
     if let Some(first) = immediate_of(op, rd, rs, y.known) {
         return by_word(true, first, None);
     }

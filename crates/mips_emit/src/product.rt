@@ -1,16 +1,16 @@
 // Products by a word that is one more or one less than a power of 2: a shift, and a sum or a difference.
 
-#![tactic(auto, using(crate::proofs::Left::some_behind, crate::proofs::Left::some_among, crate::proofs::Left::emits_behind))]
+#![tactic(auto, using(crate::proofs::Prefixes::prefix_behind, crate::proofs::Prefixes::prefix_among, crate::proofs::Prefixes::emits_behind))]
 
 ghost use Rattle.std.specs.Prelude.{◌≡◌, ◌%◌, ◌++◌, ◌∷◌, []};
 ghost use Rattle.mips_emit.specs.Locations.{FitsSource};
 ghost use Rattle.mips_emit.specs.Code.{multiple, multiple_of, multiple_code, exponent};
-ghost use Rattle.mips_emit.specs.Left.{Emits};
+ghost use Rattle.mips_emit.specs.Prefixes.{Emits};
 
 use crate::constant::emit_one_or_two;
 use crate::location::Source;
 use crate::operation::is_power;
-use crate::transfer::{emit_fetch, seat};
+use crate::transfer::{emit_fetch, operand_register};
 use mips_isa::{AluOp, Amount, NonzeroReg, Plain, Reg, ShiftOp};
 use rtl::Op;
 use std::alloc::AllocError;
@@ -77,7 +77,7 @@ pub(crate) fn emit_multiple(
     ensures { Emits result code.old.items (multiple_code inner rd m x.now) code.new.items }
 {
     let shifted = Reg::masked(2);
-    let operand = seat(inner, x);
+    let operand = operand_register(inner, x);
     emit_fetch(code, inner, x)?;
     let shift = Plain::Shift {
         op: ShiftOp::Sll,

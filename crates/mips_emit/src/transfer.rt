@@ -1,11 +1,11 @@
 // Operands into registers, and results into locations.
 
-#![tactic(auto, using(crate::proofs::Left::some_behind, crate::proofs::Left::some_among, crate::proofs::Left::emits_behind))]
+#![tactic(auto, using(crate::proofs::Prefixes::prefix_behind, crate::proofs::Prefixes::prefix_among, crate::proofs::Prefixes::emits_behind))]
 
 ghost use Rattle.std.specs.Prelude.{◌≡◌, ◌++◌};
 ghost use Rattle.mips_emit.specs.Locations.{FitsPlace, FitsSource};
-ghost use Rattle.mips_emit.specs.Code.{fetch, seat, bring, stays, carry, into, finish, put_at, arrive};
-ghost use Rattle.mips_emit.specs.Left.{Emits};
+ghost use Rattle.mips_emit.specs.Code.{fetch, operand_register, bring, stays, carry, into, finish, put_at, arrive};
+ghost use Rattle.mips_emit.specs.Prefixes.{Emits};
 
 use crate::constant::{emit_li, emit_load_word, emit_move, emit_store_word};
 use crate::location::{Location, Source, inner_of};
@@ -29,8 +29,8 @@ pub fn emit_fetch(code: &mut Vec<Plain>, t: NonzeroReg, x: &Source) -> Result<()
 }
 
 /// The register that shows an operand then.
-pub fn seat(t: NonzeroReg, x: &Source) -> Reg
-    ensures { result ≡ seat t x.now }
+pub fn operand_register(t: NonzeroReg, x: &Source) -> Reg
+    ensures { result ≡ operand_register t x.now }
 {
     match x {
         Source::Zero => Reg::ZERO,
@@ -134,7 +134,7 @@ pub(crate) fn emit_put(
             Location::InSlot(k) => {
                 let inner = inner_of(Some(location));
                 emit_fetch(code, inner, x)?;
-                emit_store_word(code, seat(inner, x), 4 * k)
+                emit_store_word(code, operand_register(inner, x), 4 * k)
             }
             Location::Copied(r, k) => {
                 emit_bring(code, r, x)?;

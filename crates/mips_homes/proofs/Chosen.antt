@@ -7,7 +7,7 @@ use Rattle.std.specs.Prelude.{if◌then◌else◌, slice_get}
 use Rattle.std.proofs.lemmas.Bool.{cases_lt, ltb-false}
 use Rattle.std.proofs.lemmas.Option.{slice_get_within, same_Some}
 use Rattle.rtl.specs.Names.{bound, blocks_names, how_many, uses_of}
-use Rattle.mips_homes.specs.HomedRun.{is_in, is_lasting, homed_run}
+use Rattle.mips_homes.specs.HomedRun.{is_in, is_callee_saved, homed_run}
 use Rattle.mips_homes.specs.Homes.{HasHome, HaveHomes, Serves, AreAllHomes}
 use Rattle.mips_homes.specs.Laws.{KeepsRtlRuns}
 use Rattle.mips_homes.specs.Choice.{count_below, rank, is_register_home, IsChoice, AreChoices}
@@ -204,8 +204,8 @@ named_below homes n (x ∷ xs) le =
     let rest = bound_least (if nat_lt x n then n else suc x) xs in
     (home_at homes x (omega (arith, one, rest, le)), named_below homes (if nat_lt x n then n else suc x) xs le)
 
-pub home_lasts : (r : ℕ) → 16 ≤ r → r < 24 → is_lasting r ≡ true
-home_lasts r low high = ap₂ (λ a b. a && b) (lt-ltb 15 r (omega (arith, low))) (lt-ltb r 24 high)
+pub home_callee_saved : (r : ℕ) → 16 ≤ r → r < 24 → is_callee_saved r ≡ true
+home_callee_saved r low high = ap₂ (λ a b. a && b) (lt-ltb 15 r (omega (arith, low))) (lt-ltb r 24 high)
 
 -- the choice serves
 pub serves : (func : RFunc) (frame : Frame) → IsChoice func frame → Serves frame func
@@ -215,7 +215,7 @@ serves func frame is =
       homes = record {
         apart = is.apart;
         kept = λ x r got lasts. (is.registers x r got).2;
-        local = λ x r got passes. absurd (true≢false (sym (home_lasts r (is.registers x r got).0 (is.registers x r got).1) ∙ passes));
+        local = λ x r got passes. absurd (true≢false (sym (home_callee_saved r (is.registers x r got).0 (is.registers x r got).1) ∙ passes));
         named =
             named_below frame.homes.items func.parameters (blocks_names func.blocks.items) (omega (arith, long));
       };

@@ -6,15 +6,15 @@ use Rattle.std.proofs.lemmas.Bool.{and_parts, ltb-false}
 use Rattle.std.proofs.lemmas.List.{append_assoc}
 use Rattle.std.proofs.lemmas.Option.{slice_get_within, same_Some, none-some}
 use Rattle.rtl.specs.Names.{blocks_names, how_many, optional}
-use Rattle.mips_homes.specs.HomedRun.{is_in, is_lasting, homed_run}
+use Rattle.mips_homes.specs.HomedRun.{is_in, is_callee_saved, homed_run}
 use Rattle.mips_homes.specs.Homes.{Serves}
 use Rattle.mips_homes.specs.Laws.{KeepsRtlRuns}
 use Rattle.mips_homes.specs.Choice.{IsChoice}
 use Rattle.mips_homes.specs.Locals.{is_local, none_reads_first, some_go_to, block_reads_first}
-use Rattle.mips_homes.specs.Hints.{reach_from, exit_reach, blocks_reach, register_of, hint}
-use Rattle.mips_homes.specs.Places.{passing_registers, first_free, free_register, home_or, also, places_from, is_register, lives_in, still_saved, is_slot, some_slot, IsPlaced, ArePlaced}
+use Rattle.mips_homes.specs.Preferences.{reach_from, exit_reach, blocks_reach, register_of, preference}
+use Rattle.mips_homes.specs.Places.{temporaries, first_free, free_register, home_or, also, places_from, is_register, lives_in, still_saved, is_slot, some_slot, IsPlaced, ArePlaced}
 use Rattle.mips_homes.proofs.Choosing.{at_index, drop_at}
-use Rattle.mips_homes.proofs.Chosen.{home_lasts, home_at, bound_least, named_below}
+use Rattle.mips_homes.proofs.Chosen.{home_callee_saved, home_at, bound_least, named_below}
 use Rattle.mips_homes.proofs.Lockstep.{each_homed_run}
 use Rattle.mips_homes.specs.declared.homed.Home.{Home}
 use Rattle.mips_homes.specs.declared.homed.Home.TheVariants.{Reg, Slot}
@@ -26,34 +26,34 @@ use Rattle.rtl.specs.declared.block.RFunc.{RFunc}
 -- ---- the loop over homes
 
 -- one more home
-pub place_step : (local : ℕ → Bool) (hint : ℕ → Option ℕ) (hs : List Home) (x : ℕ) (taken taken' : List ℕ) (h : Home) (r : Option ℕ)
-    (out out' all : List Home) → slice_get hs x ≡ Some h → r ≡ (if local x then free_register taken (hint x) else None) → taken' ≡ also taken r
-    → out' ≡ out ++ home_or r h ∷ [] → out ++ places_from local hint x taken (drop x hs) ≡ all
-    → out' ++ places_from local hint (x + 1) taken' (drop (x + 1) hs) ≡ all
-place_step local hint hs x taken taken' h r out out' all there is more e before =
+pub place_step : (local : ℕ → Bool) (preference : ℕ → Option ℕ) (hs : List Home) (x : ℕ) (taken taken' : List ℕ) (h : Home) (r : Option ℕ)
+    (out out' all : List Home) → slice_get hs x ≡ Some h → r ≡ (if local x then free_register taken (preference x) else None) → taken' ≡ also taken r
+    → out' ≡ out ++ home_or r h ∷ [] → out ++ places_from local preference x taken (drop x hs) ≡ all
+    → out' ++ places_from local preference (x + 1) taken' (drop (x + 1) hs) ≡ all
+place_step local preference hs x taken taken' h r out out' all there is more e before =
     let next : x + 1 ≡ suc x = omega arith in
-    let chosen : Option ℕ = (if local x then free_register taken (hint x) else None) in
-    ap₂ (λ l t. l ++ places_from local hint (x + 1) t (drop (x + 1) hs)) e more
-    ∙ append_assoc out (home_or r h ∷ []) (places_from local hint (x + 1) (also taken r) (drop (x + 1) hs))
-    ∙ ap₂ (λ i c. out ++ home_or c h ∷ places_from local hint i (also taken c) (drop (x + 1) hs)) next is
-    ∙ ap (λ l. out ++ places_from local hint x taken l) (sym (drop_at hs x h there)) ∙ before
+    let chosen : Option ℕ = (if local x then free_register taken (preference x) else None) in
+    ap₂ (λ l t. l ++ places_from local preference (x + 1) t (drop (x + 1) hs)) e more
+    ∙ append_assoc out (home_or r h ∷ []) (places_from local preference (x + 1) (also taken r) (drop (x + 1) hs))
+    ∙ ap₂ (λ i c. out ++ home_or c h ∷ places_from local preference i (also taken c) (drop (x + 1) hs)) next is
+    ∙ ap (λ l. out ++ places_from local preference x taken l) (sym (drop_at hs x h there)) ∙ before
 
 -- ---- what places are
 
 -- homes that outlive blocks
-abbrev pub Lasting : List Home → Type 0
-Lasting hs = (x r : ℕ) → slice_get hs x ≡ Some (Reg r) → is_lasting r ≡ true
+abbrev pub AreCalleeSaved : List Home → Type 0
+AreCalleeSaved hs = (x r : ℕ) → slice_get hs x ≡ Some (Reg r) → is_callee_saved r ≡ true
 
 abbrev pub Apart : List Home → Type 0
 Apart hs = (x y : ℕ) (h : Home) → slice_get hs x ≡ Some h → slice_get hs y ≡ Some h → x ≡ y
 
--- a register that a local pseudo-register x gets in place of its home: it isn't taken, and it is the register of its hint or a passing one
-pub record Passes (locals : ℕ → Bool) (hint : ℕ → Option ℕ) (x : ℕ) (taken : List ℕ) (h : Home) : Type 0 where
+-- a register that a local pseudo-register x gets in place of its home: it isn't taken, and it is the register of its preferred register or a temporary
+pub record GetsTemporary (locals : ℕ → Bool) (preference : ℕ → Option ℕ) (x : ℕ) (taken : List ℕ) (h : Home) : Type 0 where
   pub r : ℕ
   pub is : h ≡ Reg r
   pub local : locals x ≡ true
   pub free : is_in taken r ≡ false
-  pub among : is_in (optional (hint x) ++ passing_registers) r ≡ true
+  pub among : is_in (optional (preference x) ++ temporaries) r ≡ true
 
 in_also : (taken : List ℕ) (o : Option ℕ) (r : ℕ) → is_in (also taken o) r ≡ false → is_in taken r ≡ false
 in_also taken None r e = e
@@ -91,51 +91,51 @@ first_is taken (q ∷ rs) r e = by (is_in taken q) refl (first_is taken rs r) e
         let same = same_Some q r e in
         (sym (ap (is_in taken) same) ∙ c, ap (λ b. b || is_in rs r) (eq-eqb r q (sym same)))
 
-pub place_case : (local : ℕ → Bool) (hint : ℕ → Option ℕ) (x : ℕ) (taken : List ℕ) (hs : List Home) (j : ℕ) (h : Home)
-    → slice_get (places_from local hint x taken hs) j ≡ Some h → (slice_get hs j ≡ Some h) ⊎ Passes local hint (x + j) taken h
-place_case local hint x taken [] j h e = absurd (none-some h e)
-place_case local hint x taken (g ∷ hs) zero h e = here (local x) refl (free_register taken (hint x)) refl (same_Some _ h e)
+pub place_case : (local : ℕ → Bool) (preference : ℕ → Option ℕ) (x : ℕ) (taken : List ℕ) (hs : List Home) (j : ℕ) (h : Home)
+    → slice_get (places_from local preference x taken hs) j ≡ Some h → (slice_get hs j ≡ Some h) ⊎ GetsTemporary local preference (x + j) taken h
+place_case local preference x taken [] j h e = absurd (none-some h e)
+place_case local preference x taken (g ∷ hs) zero h e = here (local x) refl (free_register taken (preference x)) refl (same_Some _ h e)
   where
     same0 : x ≡ x + 0
     same0 = omega arith
 
-    here : (c : Bool) → local x ≡ c → (o : Option ℕ) → free_register taken (hint x) ≡ o → home_or (if c then o else None) g ≡ h
-        → (slice_get (g ∷ hs) 0 ≡ Some h) ⊎ Passes local hint (x + 0) taken h
+    here : (c : Bool) → local x ≡ c → (o : Option ℕ) → free_register taken (preference x) ≡ o → home_or (if c then o else None) g ≡ h
+        → (slice_get (g ∷ hs) 0 ≡ Some h) ⊎ GetsTemporary local preference (x + 0) taken h
     here true c None f e = inl (ap Some e)
     here true c (Some r) f e =
-        let first = first_is taken (optional (hint x) ++ passing_registers) r f in
+        let first = first_is taken (optional (preference x) ++ temporaries) r f in
         inr (record {
           r = r;
           is = sym e;
           local = sym (ap local same0) ∙ c;
           free = first.0;
-          among = sym (ap (λ y. is_in (optional (hint y) ++ passing_registers) r) same0) ∙ first.1;
+          among = sym (ap (λ y. is_in (optional (preference y) ++ temporaries) r) same0) ∙ first.1;
         })
     here false c o f e = inl (ap Some e)
-place_case local hint x taken (g ∷ hs) (suc j) h e =
-    later (place_case local hint (suc x) (also taken (if local x then free_register taken (hint x) else None)) hs j h e)
+place_case local preference x taken (g ∷ hs) (suc j) h e =
+    later (place_case local preference (suc x) (also taken (if local x then free_register taken (preference x) else None)) hs j h e)
   where
     at : suc x + j ≡ x + suc j
     at = omega arith
 
-    later : (slice_get hs j ≡ Some h) ⊎ Passes local hint (suc x + j) (also taken (if local x then free_register taken (hint x) else None)) h
-        → (slice_get hs j ≡ Some h) ⊎ Passes local hint (x + suc j) taken h
+    later : (slice_get hs j ≡ Some h) ⊎ GetsTemporary local preference (suc x + j) (also taken (if local x then free_register taken (preference x) else None)) h
+        → (slice_get hs j ≡ Some h) ⊎ GetsTemporary local preference (x + suc j) taken h
     later (inl e) = inl e
     later (inr p) =
         inr (record {
           r = p.r;
           is = p.is;
           local = sym (ap local at) ∙ p.local;
-          free = in_also taken (if local x then free_register taken (hint x) else None) p.r p.free;
-          among = sym (ap (λ y. is_in (optional (hint y) ++ passing_registers) p.r) at) ∙ p.among;
+          free = in_also taken (if local x then free_register taken (preference x) else None) p.r p.free;
+          among = sym (ap (λ y. is_in (optional (preference y) ++ temporaries) p.r) at) ∙ p.among;
         })
 
 pub same_register : (q r : ℕ) → Reg q ≡ Reg r → q ≡ r
 same_register q r e = cc
 
--- registers that are hints: 4 to 7
-abbrev pub AreHints : (ℕ → Option ℕ) → Type 0
-AreHints hint = (x r : ℕ) → hint x ≡ Some r → (4 ≤ r) × (r < 8)
+-- registers that are preferences: 4 to 7
+abbrev pub ArePreferences : (ℕ → Option ℕ) → Type 0
+ArePreferences preference = (x r : ℕ) → preference x ≡ Some r → (4 ≤ r) × (r < 8)
 
 ge-ltb : (a b : ℕ) → b ≤ a → nat_lt a b ≡ false
 ge-ltb a b le = go (nat_lt a b) refl
@@ -144,8 +144,8 @@ ge-ltb a b le = go (nat_lt a b) refl
     go true e = let lt = ltb-true a b e in absurd (omega (arith, lt, le))
     go false e = refl
 
-low_passes : (r : ℕ) → r < 8 → is_lasting r ≡ false
-low_passes r lt = ap (λ c. c && nat_lt r 24) (ge-ltb 15 r (omega (arith, lt)))
+low_caller_saved : (r : ℕ) → r < 8 → is_callee_saved r ≡ false
+low_caller_saved r lt = ap (λ c. c && nat_lt r 24) (ge-ltb 15 r (omega (arith, lt)))
 
 -- one of these, or of the others
 is_or : {A : Type 0} (q r : ℕ) (rest : Bool) → (q ≡ r → A) → (rest ≡ true → A) → (nat_eq r q || rest) ≡ true → A
@@ -155,94 +155,94 @@ is_or {A} q r rest one other e = by (nat_eq r q) refl e
     by true c e = one (sym (eqb-true r q c))
     by false c e = other e
 
-abbrev pub IsPassing : ℕ → Type 0
-IsPassing r = (8 ≤ r) × (r < 28) × (is_lasting r ≡ false)
+abbrev pub IsTemporary : ℕ → Type 0
+IsTemporary r = (8 ≤ r) × (r < 28) × (is_callee_saved r ≡ false)
 
-abbrev passes_test : ℕ → Bool
-passes_test r = nat_le 8 r && (nat_lt r 28 && not (is_lasting r))
+abbrev temporary_test : ℕ → Bool
+temporary_test r = nat_le 8 r && (nat_lt r 28 && not (is_callee_saved r))
 
-abbrev all_pass : List ℕ → Bool
-all_pass [] = true
-all_pass (r ∷ rs) = passes_test r && all_pass rs
+abbrev all_temporary : List ℕ → Bool
+all_temporary [] = true
+all_temporary (r ∷ rs) = temporary_test r && all_temporary rs
 
-is_passing : (r : ℕ) → passes_test r ≡ true → IsPassing r
-is_passing r e =
-    let low = and_parts (nat_le 8 r) (nat_lt r 28 && not (is_lasting r)) e in
-    let high = and_parts (nat_lt r 28) (not (is_lasting r)) low.1 in
-    (leb-true 8 r low.0, ltb-true r 28 high.0, no_true (is_lasting r) high.1)
+is_caller_saved : (r : ℕ) → temporary_test r ≡ true → IsTemporary r
+is_caller_saved r e =
+    let low = and_parts (nat_le 8 r) (nat_lt r 28 && not (is_callee_saved r)) e in
+    let high = and_parts (nat_lt r 28) (not (is_callee_saved r)) low.1 in
+    (leb-true 8 r low.0, ltb-true r 28 high.0, no_true (is_callee_saved r) high.1)
   where
     no_true : (b : Bool) → not b ≡ true → b ≡ false
     no_true true e = absurd (true≢false (sym e))
     no_true false e = refl
 
-each_passes : (rs : List ℕ) → all_pass rs ≡ true → (r : ℕ) → is_in rs r ≡ true → IsPassing r
-each_passes [] all r e = absurd (true≢false (sym e))
-each_passes (q ∷ rs) all r e =
-    let both = and_parts (passes_test q) (all_pass rs) all in
-    is_or q r (is_in rs r) (λ same. subst IsPassing same (is_passing q both.0)) (each_passes rs both.1 r) e
+each_temporary : (rs : List ℕ) → all_temporary rs ≡ true → (r : ℕ) → is_in rs r ≡ true → IsTemporary r
+each_temporary [] all r e = absurd (true≢false (sym e))
+each_temporary (q ∷ rs) all r e =
+    let both = and_parts (temporary_test q) (all_temporary rs) all in
+    is_or q r (is_in rs r) (λ same. subst IsTemporary same (is_caller_saved q both.0)) (each_temporary rs both.1 r) e
 
 -- the register that is passed
-pub passes_range : (local : ℕ → Bool) (hint : ℕ → Option ℕ) → AreHints hint → (x : ℕ) (taken : List ℕ) (h : Home) (p : Passes local hint x taken h)
-    → (hint x ≡ Some p.r) ⊎ IsPassing p.r
-passes_range local hint hints x taken h p = by (hint x) refl p.among
+pub temporary_range : (local : ℕ → Bool) (preference : ℕ → Option ℕ) → ArePreferences preference → (x : ℕ) (taken : List ℕ) (h : Home) (p : GetsTemporary local preference x taken h)
+    → (preference x ≡ Some p.r) ⊎ IsTemporary p.r
+temporary_range local preference preferences x taken h p = by (preference x) refl p.among
   where
-    by : (o : Option ℕ) → hint x ≡ o → is_in (optional o ++ passing_registers) p.r ≡ true → (hint x ≡ Some p.r) ⊎ IsPassing p.r
-    by None e among = inr (each_passes passing_registers refl p.r among)
-    by (Some q) e among = is_or q p.r (is_in passing_registers p.r) (λ same. inl (e ∙ ap Some same))
-        (λ m. inr (each_passes passing_registers refl p.r m)) among
+    by : (o : Option ℕ) → preference x ≡ o → is_in (optional o ++ temporaries) p.r ≡ true → (preference x ≡ Some p.r) ⊎ IsTemporary p.r
+    by None e among = inr (each_temporary temporaries refl p.r among)
+    by (Some q) e among = is_or q p.r (is_in temporaries p.r) (λ same. inl (e ∙ ap Some same))
+        (λ m. inr (each_temporary temporaries refl p.r m)) among
 
 -- it is none that outlives a block
-pub passes_not : (local : ℕ → Bool) (hint : ℕ → Option ℕ) → AreHints hint → (x : ℕ) (taken : List ℕ) (h : Home) (p : Passes local hint x taken h)
-    → is_lasting p.r ≡ false
-passes_not local hint hints x taken h p = by (passes_range local hint hints x taken h p)
+pub temporary_caller_saved : (local : ℕ → Bool) (preference : ℕ → Option ℕ) → ArePreferences preference → (x : ℕ) (taken : List ℕ) (h : Home) (p : GetsTemporary local preference x taken h)
+    → is_callee_saved p.r ≡ false
+temporary_caller_saved local preference preferences x taken h p = by (temporary_range local preference preferences x taken h p)
   where
-    by : (hint x ≡ Some p.r) ⊎ IsPassing p.r → is_lasting p.r ≡ false
-    by (inl e) = low_passes p.r (hints x p.r e).1
+    by : (preference x ≡ Some p.r) ⊎ IsTemporary p.r → is_callee_saved p.r ≡ false
+    by (inl e) = low_caller_saved p.r (preferences x p.r e).1
     by (inr range) = range.2
 
 -- the register that x gets
-abbrev pub chosen : (local : ℕ → Bool) → (hint : ℕ → Option ℕ) → (x : ℕ) → (taken : List ℕ) → Option ℕ
-chosen local hint x taken = if local x then free_register taken (hint x) else None
+abbrev pub chosen : (local : ℕ → Bool) → (preference : ℕ → Option ℕ) → (x : ℕ) → (taken : List ℕ) → Option ℕ
+chosen local preference x taken = if local x then free_register taken (preference x) else None
 
-pub places_apart : (local : ℕ → Bool) (hint : ℕ → Option ℕ) → AreHints hint → (x : ℕ) (taken : List ℕ) (hs : List Home) → Lasting hs → Apart hs
-    → Apart (places_from local hint x taken hs)
-places_apart local hint hints x taken [] last apart i j h a b = absurd (none-some h a)
-places_apart local hint hints x taken (g ∷ hs) last apart i j h a b =
-    by (λ last apart. places_apart local hint hints (suc x) (also taken (chosen local hint x taken)) hs last apart) i j a b
+pub places_apart : (local : ℕ → Bool) (preference : ℕ → Option ℕ) → ArePreferences preference → (x : ℕ) (taken : List ℕ) (hs : List Home) → AreCalleeSaved hs → Apart hs
+    → Apart (places_from local preference x taken hs)
+places_apart local preference preferences x taken [] last apart i j h a b = absurd (none-some h a)
+places_apart local preference preferences x taken (g ∷ hs) last apart i j h a b =
+    by (λ last apart. places_apart local preference preferences (suc x) (also taken (chosen local preference x taken)) hs last apart) i j a b
   where
-    last' : Lasting hs
+    last' : AreCalleeSaved hs
     last' y r e = last (suc y) r e
 
     apart' : Apart hs
     apart' y z h e f = let same = apart (suc y) (suc z) h e f in omega (arith, same)
 
     -- a later one is elsewhere
-    first : (j : ℕ) (c : Option ℕ) → (chosen local hint x taken) ≡ c → home_or c g ≡ h → (slice_get hs j ≡ Some h) ⊎ Passes local hint (suc x + j) (also taken (chosen local hint x taken)) h
-        → (slice_get (g ∷ hs) 0 ≡ Some h) ⊎ Passes local hint (x + 0) taken h → ⊥
+    first : (j : ℕ) (c : Option ℕ) → (chosen local preference x taken) ≡ c → home_or c g ≡ h → (slice_get hs j ≡ Some h) ⊎ GetsTemporary local preference (suc x + j) (also taken (chosen local preference x taken)) h
+        → (slice_get (g ∷ hs) 0 ≡ Some h) ⊎ GetsTemporary local preference (x + 0) taken h → ⊥
     first j None c is (inl e) mine = let same = apart 0 (suc j) h (ap Some is) e in absurd (omega (arith, same))
     first j None c is (inr p) mine =
-        true≢false (sym (last 0 p.r (ap Some (is ∙ p.is))) ∙ passes_not local hint hints (suc x + j) (also taken (chosen local hint x taken)) h p)
+        true≢false (sym (last 0 p.r (ap Some (is ∙ p.is))) ∙ temporary_caller_saved local preference preferences (suc x + j) (also taken (chosen local preference x taken)) h p)
     first j (Some r) c is (inl e) (inl m) = let same = apart 0 (suc j) h m e in absurd (omega (arith, same))
     first j (Some r) c is (inl e) (inr m) =
-        true≢false (sym (last' j m.r (e ∙ ap Some m.is)) ∙ passes_not local hint hints (x + 0) taken h m)
+        true≢false (sym (last' j m.r (e ∙ ap Some m.is)) ∙ temporary_caller_saved local preference preferences (x + 0) taken h m)
     first j (Some r) c is (inr p) mine =
         let same = same_register r p.r (is ∙ p.is) in
         true≢false (sym (ap (λ o. is_in (also taken o) p.r) (c ∙ ap Some same) ∙ also_in taken p.r) ∙ p.free)
 
-    by : (Lasting hs → Apart hs → Apart (places_from local hint (suc x) (also taken (chosen local hint x taken)) hs)) → (i j : ℕ)
-        → slice_get (places_from local hint x taken (g ∷ hs)) i ≡ Some h → slice_get (places_from local hint x taken (g ∷ hs)) j ≡ Some h → i ≡ j
+    by : (AreCalleeSaved hs → Apart hs → Apart (places_from local preference (suc x) (also taken (chosen local preference x taken)) hs)) → (i j : ℕ)
+        → slice_get (places_from local preference x taken (g ∷ hs)) i ≡ Some h → slice_get (places_from local preference x taken (g ∷ hs)) j ≡ Some h → i ≡ j
     by rest zero zero a b = refl
     by rest zero (suc j) a b =
-        absurd (first j (chosen local hint x taken) refl (same_Some (home_or (chosen local hint x taken) g) h a) (place_case local hint (suc x) (also taken (chosen local hint x taken)) hs j h b)
-        (place_case local hint x taken (g ∷ hs) 0 h a))
+        absurd (first j (chosen local preference x taken) refl (same_Some (home_or (chosen local preference x taken) g) h a) (place_case local preference (suc x) (also taken (chosen local preference x taken)) hs j h b)
+        (place_case local preference x taken (g ∷ hs) 0 h a))
     by rest (suc i) zero a b =
-        absurd (first i (chosen local hint x taken) refl (same_Some (home_or (chosen local hint x taken) g) h b) (place_case local hint (suc x) (also taken (chosen local hint x taken)) hs i h a)
-        (place_case local hint x taken (g ∷ hs) 0 h b))
+        absurd (first i (chosen local preference x taken) refl (same_Some (home_or (chosen local preference x taken) g) h b) (place_case local preference (suc x) (also taken (chosen local preference x taken)) hs i h a)
+        (place_case local preference x taken (g ∷ hs) 0 h b))
     by rest (suc i) (suc j) a b = ap suc (rest last' apart' i j h a b)
 
-pub places_long : (local : ℕ → Bool) (hint : ℕ → Option ℕ) (x : ℕ) (taken : List ℕ) (hs : List Home) → length (places_from local hint x taken hs) ≡ length hs
-places_long local hint x taken [] = refl
-places_long local hint x taken (g ∷ hs) = ap suc (places_long local hint (suc x) (also taken (if local x then free_register taken (hint x) else None)) hs)
+pub places_long : (local : ℕ → Bool) (preference : ℕ → Option ℕ) (x : ℕ) (taken : List ℕ) (hs : List Home) → length (places_from local preference x taken hs) ≡ length hs
+places_long local preference x taken [] = refl
+places_long local preference x taken (g ∷ hs) = ap suc (places_long local preference (suc x) (also taken (if local x then free_register taken (preference x) else None)) hs)
 
 -- local to blocks
 pub local_to : (bs : List RBlock) (x : ℕ) → is_local bs x ≡ true → (b : ℕ) (block : RBlock) → slice_get bs b ≡ Some block → some_go_to bs b ≡ true
@@ -262,7 +262,7 @@ local_to bs x is b block there goes = from (some_go_to bs 0) bs b is there (λ z
         ∙ (either first (block_reads_first k x) (none_reads_first true ks x) e).0 (met refl)
     from first (k ∷ ks) (suc b) e there met = from true ks b (either first (block_reads_first k x) (none_reads_first true ks x) e).1 there (λ z. refl)
 
--- ---- hints
+-- ---- preferences
 
 register_range : (q r : ℕ) → register_of q ≡ Some r → (r ≡ 3 + q) × (0 < q) × (q < 5)
 register_range q r e = by (nat_lt 0 q) (nat_lt q 5) refl refl e
@@ -272,9 +272,9 @@ register_range q r e = by (nat_lt 0 q) (nat_lt q 5) refl refl e
     by true false eb ec e = absurd (none-some r e)
     by false c eb ec e = absurd (none-some r e)
 
--- the register of a hint: of a parameter that in which it comes; no argument is behind it
-pub hint_is : (n : ℕ) (bs : List RBlock) (x r : ℕ) → hint n bs x ≡ Some r → (4 ≤ r) × (r < 8) × (blocks_reach bs x + 3 ≤ r) × (x < n → r ≡ 4 + x)
-hint_is n bs x r e = by (nat_lt x n) (nat_le (blocks_reach bs x) (suc x)) refl refl e
+-- the register of a preference: of a parameter that in which it comes; no argument is behind it
+pub preference_is : (n : ℕ) (bs : List RBlock) (x r : ℕ) → preference n bs x ≡ Some r → (4 ≤ r) × (r < 8) × (blocks_reach bs x + 3 ≤ r) × (x < n → r ≡ 4 + x)
+preference_is n bs x r e = by (nat_lt x n) (nat_le (blocks_reach bs x) (suc x)) refl refl e
   where
     by : (b c : Bool) → nat_lt x n ≡ b → nat_le (blocks_reach bs x) (suc x) ≡ c
         → (if b then (if c then register_of (suc x) else None) else register_of (blocks_reach bs x)) ≡ Some r
@@ -294,8 +294,8 @@ hint_is n bs x r e = by (nat_lt x n) (nat_le (blocks_reach bs x) (suc x)) refl r
         let out = ltb-false x n eb in
         (omega (arith, is, low), omega (arith, is, high), omega (arith, is), λ lt. absurd (omega (arith, lt, out)))
 
-pub hints_range : (n : ℕ) (bs : List RBlock) → AreHints (hint n bs)
-hints_range n bs x r e = let is = hint_is n bs x r e in (is.0, is.1)
+pub preferences_range : (n : ℕ) (bs : List RBlock) → ArePreferences (preference n bs)
+preferences_range n bs x r e = let is = preference_is n bs x r e in (is.0, is.1)
 
 -- each argument is among those up to the last
 pub reach_covers : (n : ℕ) (xs : List ℕ) (j x : ℕ) → slice_get xs j ≡ Some x → n + suc j ≤ reach_from n xs x
@@ -375,64 +375,64 @@ has_slot (h ∷ hs) (suc x) k e = by (is_slot h) (has_slot hs x k e)
 -- ---- places serve
 
 module _ (func : RFunc) (c f : Frame) (ok : IsChoice func c) (p : IsPlaced func.parameters func.blocks.items c f) where
-  -- the register of a hint or a passing one in place of the home of a local pseudo-register
-  abbrev pub PassesIn : ℕ → Home → Type 0
-  PassesIn x h = Passes (is_local func.blocks.items) (hint func.parameters func.blocks.items) x [] h
+  -- the register of a preference or a temporary in place of the home of a local pseudo-register
+  abbrev pub GetsTemporaryIn : ℕ → Home → Type 0
+  GetsTemporaryIn x h = GetsTemporary (is_local func.blocks.items) (preference func.parameters func.blocks.items) x [] h
 
-  pub choice_lasts : Lasting c.homes.items
-  choice_lasts x r e = let range = ok.registers x r e in home_lasts r range.0 range.1
+  pub choice_callee_saved : AreCalleeSaved c.homes.items
+  choice_callee_saved x r e = let range = ok.registers x r e in home_callee_saved r range.0 range.1
 
-  pub case_of : (x : ℕ) (h : Home) → slice_get f.homes.items x ≡ Some h → (slice_get c.homes.items x ≡ Some h) ⊎ PassesIn x h
+  pub case_of : (x : ℕ) (h : Home) → slice_get f.homes.items x ≡ Some h → (slice_get c.homes.items x ≡ Some h) ⊎ GetsTemporaryIn x h
   case_of x h e =
       let at : 0 + x ≡ x = omega arith in
-      subst (λ y. (slice_get c.homes.items x ≡ Some h) ⊎ PassesIn y h) at
-      (place_case (is_local func.blocks.items) (hint func.parameters func.blocks.items) 0 [] c.homes.items x h (sym (ap (λ l. slice_get l x) p.homes) ∙ e))
+      subst (λ y. (slice_get c.homes.items x ≡ Some h) ⊎ GetsTemporaryIn y h) at
+      (place_case (is_local func.blocks.items) (preference func.parameters func.blocks.items) 0 [] c.homes.items x h (sym (ap (λ l. slice_get l x) p.homes) ∙ e))
 
-  -- a register below 8 is that of the hint: no argument is passed behind it, and a parameter comes in it
+  -- a register below 8 is that of the preference: no argument is passed behind it, and a parameter comes in it
   pub seated : (x r : ℕ) → slice_get f.homes.items x ≡ Some (Reg r)
       → (8 ≤ r) ⊎ ((blocks_reach func.blocks.items x + 3 ≤ r) × (x < func.parameters → r ≡ 4 + x))
   seated x r e = by (case_of x (Reg r) e)
     where
-      hinted : (q : ℕ) → r ≡ q → (hint func.parameters func.blocks.items x ≡ Some q) ⊎ IsPassing q
+      preferred : (q : ℕ) → r ≡ q → (preference func.parameters func.blocks.items x ≡ Some q) ⊎ IsTemporary q
           → (8 ≤ r) ⊎ ((blocks_reach func.blocks.items x + 3 ≤ r) × (x < func.parameters → r ≡ 4 + x))
-      hinted q same (inl e) =
-          let is = hint_is func.parameters func.blocks.items x q e in
+      preferred q same (inl e) =
+          let is = preference_is func.parameters func.blocks.items x q e in
           let behind = is.2 in
           inr (omega (arith, behind, same), λ lt. same ∙ is.3 lt)
-      hinted q same (inr range) = (let low = range.0 in inl (omega (arith, low, same)))
+      preferred q same (inr range) = (let low = range.0 in inl (omega (arith, low, same)))
 
-      by : (slice_get c.homes.items x ≡ Some (Reg r)) ⊎ PassesIn x (Reg r)
+      by : (slice_get c.homes.items x ≡ Some (Reg r)) ⊎ GetsTemporaryIn x (Reg r)
           → (8 ≤ r) ⊎ ((blocks_reach func.blocks.items x + 3 ≤ r) × (x < func.parameters → r ≡ 4 + x))
       by (inl home) = (let low = (ok.registers x r home).0 in inl (omega (arith, low)))
       by (inr q) =
-          hinted q.r (same_register r q.r q.is)
-          (passes_range (is_local func.blocks.items) (hint func.parameters func.blocks.items) (hints_range func.parameters func.blocks.items) x [] (Reg r) q)
+          preferred q.r (same_register r q.r q.is)
+          (temporary_range (is_local func.blocks.items) (preference func.parameters func.blocks.items) (preferences_range func.parameters func.blocks.items) x [] (Reg r) q)
 
   -- and all are among 4 to 27
   pub within : (x r : ℕ) → slice_get f.homes.items x ≡ Some (Reg r) → (4 ≤ r) × (r < 28)
   within x r e = by (case_of x (Reg r) e)
     where
-      hinted : (q : ℕ) → r ≡ q → (hint func.parameters func.blocks.items x ≡ Some q) ⊎ IsPassing q → (4 ≤ r) × (r < 28)
-      hinted q same (inl e) =
-          let is = hint_is func.parameters func.blocks.items x q e in
+      preferred : (q : ℕ) → r ≡ q → (preference func.parameters func.blocks.items x ≡ Some q) ⊎ IsTemporary q → (4 ≤ r) × (r < 28)
+      preferred q same (inl e) =
+          let is = preference_is func.parameters func.blocks.items x q e in
           let low = is.0 in
           let high = is.1 in
           (omega (arith, low, same), omega (arith, high, same))
-      hinted q same (inr range) = (let low = range.0 in let high = range.1 in (omega (arith, low, same), omega (arith, high, same)))
+      preferred q same (inr range) = (let low = range.0 in let high = range.1 in (omega (arith, low, same), omega (arith, high, same)))
 
-      by : (slice_get c.homes.items x ≡ Some (Reg r)) ⊎ PassesIn x (Reg r) → (4 ≤ r) × (r < 28)
+      by : (slice_get c.homes.items x ≡ Some (Reg r)) ⊎ GetsTemporaryIn x (Reg r) → (4 ≤ r) × (r < 28)
       by (inl home) = (let range = ok.registers x r home in let low = range.0 in let high = range.1 in (omega (arith, low), omega (arith, high)))
       by (inr q) =
-          hinted q.r (same_register r q.r q.is)
-          (passes_range (is_local func.blocks.items) (hint func.parameters func.blocks.items) (hints_range func.parameters func.blocks.items) x [] (Reg r) q)
+          preferred q.r (same_register r q.r q.is)
+          (temporary_range (is_local func.blocks.items) (preference func.parameters func.blocks.items) (preferences_range func.parameters func.blocks.items) x [] (Reg r) q)
 
   pub places_long_as : length f.homes.items ≡ how_many func
-  places_long_as = ap length p.homes ∙ places_long (is_local func.blocks.items) (hint func.parameters func.blocks.items) 0 [] c.homes.items ∙ ok.long
+  places_long_as = ap length p.homes ∙ places_long (is_local func.blocks.items) (preference func.parameters func.blocks.items) 0 [] c.homes.items ∙ ok.long
 
   pub placed_apart : Apart f.homes.items
   placed_apart = subst Apart (sym p.homes)
-      (places_apart (is_local func.blocks.items) (hint func.parameters func.blocks.items) (hints_range func.parameters func.blocks.items) 0 [] c.homes.items
-      choice_lasts ok.apart)
+      (places_apart (is_local func.blocks.items) (preference func.parameters func.blocks.items) (preferences_range func.parameters func.blocks.items) 0 [] c.homes.items
+      choice_callee_saved ok.apart)
 
   pub placed_serves : Serves f func
   placed_serves = record {
@@ -447,20 +447,20 @@ module _ (func : RFunc) (c f : Frame) (ok : IsChoice func c) (p : IsPlaced func.
         let long = places_long_as in home_at f.homes.items x (omega (arith, lt, least, long)));
   }
     where
-      kept : (x r : ℕ) → slice_get f.homes.items x ≡ Some (Reg r) → is_lasting r ≡ true → is_in f.saved.items r ≡ true
+      kept : (x r : ℕ) → slice_get f.homes.items x ≡ Some (Reg r) → is_callee_saved r ≡ true → is_in f.saved.items r ≡ true
       kept x r e lasts = ap (λ l. is_in l r) p.saved ∙ by (case_of x (Reg r) e)
         where
-          by : (slice_get c.homes.items x ≡ Some (Reg r)) ⊎ PassesIn x (Reg r) → is_in (still_saved f.homes.items c.saved.items) r ≡ true
+          by : (slice_get c.homes.items x ≡ Some (Reg r)) ⊎ GetsTemporaryIn x (Reg r) → is_in (still_saved f.homes.items c.saved.items) r ≡ true
           by (inl home) = saved_still f.homes.items c.saved.items r (ok.registers x r home).2 (lives f.homes.items x r e)
-          by (inr q) = absurd (true≢false (sym lasts ∙ ap is_lasting (same_register r q.r q.is)
-              ∙ passes_not (is_local func.blocks.items) (hint func.parameters func.blocks.items) (hints_range func.parameters func.blocks.items) x [] (Reg r) q))
+          by (inr q) = absurd (true≢false (sym lasts ∙ ap is_callee_saved (same_register r q.r q.is)
+              ∙ temporary_caller_saved (is_local func.blocks.items) (preference func.parameters func.blocks.items) (preferences_range func.parameters func.blocks.items) x [] (Reg r) q))
 
-      local : (x r : ℕ) → slice_get f.homes.items x ≡ Some (Reg r) → is_lasting r ≡ false → (b : ℕ) (block : RBlock)
+      local : (x r : ℕ) → slice_get f.homes.items x ≡ Some (Reg r) → is_callee_saved r ≡ false → (b : ℕ) (block : RBlock)
           → slice_get func.blocks.items b ≡ Some block → some_go_to func.blocks.items b ≡ true → block_reads_first block x ≡ false
       local x r e passes b block there goes = by (case_of x (Reg r) e)
         where
-          by : (slice_get c.homes.items x ≡ Some (Reg r)) ⊎ PassesIn x (Reg r) → block_reads_first block x ≡ false
-          by (inl home) = absurd (true≢false (sym (choice_lasts x r home) ∙ passes))
+          by : (slice_get c.homes.items x ≡ Some (Reg r)) ⊎ GetsTemporaryIn x (Reg r) → block_reads_first block x ≡ false
+          by (inl home) = absurd (true≢false (sym (choice_callee_saved x r home) ∙ passes))
           by (inr q) = local_to func.blocks.items x q.local b block there goes
 
 pub places_keep_runs : (h : Homed) → ArePlaced h → KeepsRtlRuns homed_run h

@@ -13,7 +13,7 @@ use Rattle.rtl.specs.Names.{inst_names, optional, exit_names, insts_names, block
 use Rattle.rtl.specs.Meaning as Meaning
 use Rattle.rtl.specs.Meaning.{Code, code_of, words_in, argument_registers, kept_in, first_values, rtl_step, rtl_steps, rtl_start}
 use Rattle.mips_homes.specs.Locals.{inst_reads, inst_writes, exit_reads, reads_first, block_reads_first, goes_to, some_go_to}
-use Rattle.mips_homes.specs.HomedRun.{is_lasting, lasting, Activation, Run, Running, Ended, Failed, with_value, in_home, read_home, read_homes, write_at}
+use Rattle.mips_homes.specs.HomedRun.{is_callee_saved, callee_saved, Activation, Run, Running, Ended, Failed, with_value, in_home, read_home, read_homes, write_at}
 use Rattle.mips_homes.specs.HomedRun.{write_home, write_homes, is_in, registers_at_entry, registers_at_return, with_inst, at_code}
 use Rattle.mips_homes.specs.HomedRun.{state_at_block, with_result, state_after_return, state_after_call, state_after_exit, step_at}
 use Rattle.mips_homes.specs.HomedRun.{homed_step, homed_steps, homed_start, homed_run, outcome}
@@ -85,17 +85,17 @@ named_block hs bs b block n e =
     record { insts = homes.insts; exit = homes.exit; goes = goes_block bs b block e }
 
 -- a home that doesn't outlive a block
-abbrev pub is_passing : Option Home → Bool
-is_passing None = false
-is_passing (Some (Reg r)) = if is_lasting r then false else true
-is_passing (Some (Slot k)) = false
+abbrev pub is_caller_saved : Option Home → Bool
+is_caller_saved None = false
+is_caller_saved (Some (Reg r)) = if is_callee_saved r then false else true
+is_caller_saved (Some (Slot k)) = false
 
 -- what is in such a home matters if it is wanted
 abbrev pub matters : List Home → (ℕ → Bool) → ℕ → Bool
-matters hs wanted x = if is_passing (slice_get hs x) then wanted x else true
+matters hs wanted x = if is_caller_saved (slice_get hs x) then wanted x else true
 
 matters_if : (hs : List Home) (wanted : ℕ → Bool) (x : ℕ) → wanted x ≡ true → matters hs wanted x ≡ true
-matters_if hs wanted x e = by (is_passing (slice_get hs x))
+matters_if hs wanted x e = by (is_caller_saved (slice_get hs x))
   where
     by : (c : Bool) → (if c then wanted x else true) ≡ true
     by true = e
@@ -107,7 +107,7 @@ pub record Agrees (hs : List Home) (registers slots regs : Places) (wanted : ℕ
 
 -- the registers of the activation below, once this one has returned
 abbrev pub below : (saved : List ℕ) (aside registers : Places) → Places
-below saved aside registers = registers_at_return saved aside (lasting registers)
+below saved aside registers = registers_at_return saved aside (callee_saved registers)
 
 pub record Good (a : Activation) (registers regs : Places) : Type 0 where
   pub homes : AreHomes a.frame.homes.items a.frame.saved.items a.blocks
@@ -160,23 +160,23 @@ same_place : (p : Places) (x : ℕ) (v : Option ℕ) → places_with p x v x ≡
 same_place p x v = ap (λ c. if c then v else p x) (eq-eqb x x refl)
 
 -- what a write changes comes back when the activation returns
-restored_write : (saved : List ℕ) (aside registers : Places) (r : ℕ) (v : Option ℕ) → (is_lasting r ≡ true → is_in saved r ≡ true)
+restored_write : (saved : List ℕ) (aside registers : Places) (r : ℕ) (v : Option ℕ) → (is_callee_saved r ≡ true → is_in saved r ≡ true)
     → below saved aside (places_with registers r v) ≡ below saved aside registers
-restored_write saved aside registers r v kept = fun_ext (λ q. by q (nat_eq q r) refl (is_lasting q) refl)
+restored_write saved aside registers r v kept = fun_ext (λ q. by q (nat_eq q r) refl (is_callee_saved q) refl)
   where
     at : ℕ → Bool → Option ℕ → Option ℕ
     at q c w = if is_in saved q then aside q else (if c then w else None)
 
-    by : (q : ℕ) (b : Bool) → nat_eq q r ≡ b → (c : Bool) → is_lasting q ≡ c → below saved aside (places_with registers r v) q ≡ below saved aside registers q
+    by : (q : ℕ) (b : Bool) → nat_eq q r ≡ b → (c : Bool) → is_callee_saved q ≡ c → below saved aside (places_with registers r v) q ≡ below saved aside registers q
     by q true e true l =
         let q_r : q ≡ r = eqb-true q r e in
-        let yes_saved : is_in saved q ≡ true = ap (is_in saved) q_r ∙ kept (sym (ap is_lasting q_r) ∙ l) in
-        ap (λ c. if c then aside q else lasting (places_with registers r v) q) yes_saved ∙ sym (ap (λ c. if c then aside q else lasting registers q) yes_saved)
+        let yes_saved : is_in saved q ≡ true = ap (is_in saved) q_r ∙ kept (sym (ap is_callee_saved q_r) ∙ l) in
+        ap (λ c. if c then aside q else callee_saved (places_with registers r v) q) yes_saved ∙ sym (ap (λ c. if c then aside q else callee_saved registers q) yes_saved)
     by q true e false l = ap (λ c. at q c (places_with registers r v q)) l ∙ sym (ap (λ c. at q c (registers q)) l)
-    by q false e c l = ap (at q (is_lasting q)) (ap (λ c. if c then v else registers q) e)
+    by q false e c l = ap (at q (is_callee_saved q)) (ap (λ c. if c then v else registers q) e)
 
-pub lasting_twice : (registers : Places) → lasting (lasting registers) ≡ lasting registers
-lasting_twice registers = fun_ext (λ q. by q (is_lasting q))
+pub callee_saved_twice : (registers : Places) → callee_saved (callee_saved registers) ≡ callee_saved registers
+callee_saved_twice registers = fun_ext (λ q. by q (is_callee_saved q))
   where
     by : (q : ℕ) (c : Bool) → (if c then (if c then registers q else None) else None) ≡ (if c then registers q else None)
     by q true = refl
@@ -184,8 +184,8 @@ lasting_twice registers = fun_ext (λ q. by q (is_lasting q))
 
 -- what a call puts aside comes back
 restored_cleared : (saved : List ℕ) (registers : Places)
-    → below saved (lasting registers) (registers_at_entry saved (lasting registers)) ≡ lasting registers
-restored_cleared saved registers = fun_ext (λ q. by q (is_in saved q) (is_lasting q))
+    → below saved (callee_saved registers) (registers_at_entry saved (callee_saved registers)) ≡ callee_saved registers
+restored_cleared saved registers = fun_ext (λ q. by q (is_in saved q) (is_callee_saved q))
   where
     by : (q : ℕ) (b c : Bool) → (if b then (if c then registers q else None) else (if c then (if b then None else (if c then registers q else None)) else None))
         ≡ (if c then registers q else None)
@@ -218,7 +218,7 @@ writes hs saved blocks aside registers slots regs d v out go t wanted wanted' ok
         before false m = refl
 
         same : read_home hs registers slots x ≡ regs x
-        same = ag.by x (before (is_passing (slice_get hs x)) m)
+        same = ag.by x (before (is_caller_saved (slice_get hs x)) m)
 
         by : (o : Option Home) → slice_get hs x ≡ o → read_home hs registers' slots' x ≡ regs x
         by None none = ap (λ o. chain o (in_home registers' slots')) none ∙ sym (ap (λ o. chain o (in_home registers slots)) none) ∙ same
@@ -347,7 +347,7 @@ performs globals i is e hs saved blocks aside r s regs g out go go' ok ag n f = 
         both_value _ _ out _ _ (reads (Store a i b) i ag (is_in_first i (b ∷ [])))
         (λ x. both_value _ _ out _ _ (reads (Store a i b) b ag (is_in_later b i (b ∷ []) (is_in_first b [])))
         (λ v. both_value (kept_in globals a v) _ out _ _ refl (λ w. both_value (arrays_with g a x w) _ out _ _ refl (λ g'.
-        f r s regs g' (record { by = λ y m. ag.by y (later y (is_passing (slice_get hs y)) m) }) refl))))
+        f r s regs g' (record { by = λ y m. ag.by y (later y (is_caller_saved (slice_get hs y)) m) }) refl))))
       where
         later : (y : ℕ) (c : Bool) → (if c then reads_first is e y else true) ≡ true → (if c then reads_first (Store a i b ∷ is) e y else true) ≡ true
         later y true t = kept_by (Store a i b) is e y refl t
@@ -362,31 +362,31 @@ alike_top : (a : Activation) (registers regs : Places) (ws : List Activation) (r
     (Runs.Running (record { blocks = a.blocks; registers = regs; code = a.code; result_to = a.result_to } ∷ plain ws rs) g out)
 alike_top a registers regs ws rs g out ok ag code dest st = (regs ∷ rs, refl, (record { homes = ok; agrees = ag; code = code }, dest, st))
 
--- at the end of a block only lasting registers matter
+-- at the end of a block only callee-saved registers matter
 settles : (hs : List Home) (saved : List ℕ) (blocks : List RBlock) (registers slots regs : Places) (wanted : ℕ → Bool) → AreHomes hs saved blocks
     → Agrees hs registers slots regs wanted → (b : ℕ) → some_go_to blocks b ≡ true → (block : RBlock) → slice_get blocks b ≡ Some block
-    → Agrees hs (lasting registers) slots regs (block_reads_first block)
+    → Agrees hs (callee_saved registers) slots regs (block_reads_first block)
 settles hs saved blocks registers slots regs wanted ok ag b goes block there = record { by = λ x m. by x (slice_get hs x) refl m }
   where
     Same : ℕ → Option Home → Type 0
-    Same x o = (if is_passing o then block_reads_first block x else true) ≡ true → chain o (in_home (lasting registers) slots) ≡ regs x
+    Same x o = (if is_caller_saved o then block_reads_first block x else true) ≡ true → chain o (in_home (callee_saved registers) slots) ≡ regs x
 
-    as_was : (x : ℕ) (o : Option Home) → slice_get hs x ≡ o → is_passing o ≡ false → chain o (in_home registers slots) ≡ regs x
+    as_was : (x : ℕ) (o : Option Home) → slice_get hs x ≡ o → is_caller_saved o ≡ false → chain o (in_home registers slots) ≡ regs x
     as_was x o e out = sym (ap (λ o. chain o (in_home registers slots)) e)
-        ∙ ag.by x (ap (λ o. if is_passing o then wanted x else true) e ∙ ap (λ c. if c then wanted x else true) out)
+        ∙ ag.by x (ap (λ o. if is_caller_saved o then wanted x else true) e ∙ ap (λ c. if c then wanted x else true) out)
 
-    reg : (x r : ℕ) → slice_get hs x ≡ Some (Reg r) → (l : Bool) → is_lasting r ≡ l → Same x (Some (Reg r))
+    reg : (x r : ℕ) → slice_get hs x ≡ Some (Reg r) → (l : Bool) → is_callee_saved r ≡ l → Same x (Some (Reg r))
     reg x r e true l m =
         ap (λ c. if c then registers r else None) l ∙ as_was x (Some (Reg r)) e (ap (λ c. if c then false else true) l)
     reg x r e false l m =
         absurd (true≢false (sym (sym (ap (λ c. if (if c then false else true) then block_reads_first block x else true) l) ∙ m)
         ∙ ok.local x r e l b block there goes))
 
-    by : (x : ℕ) (o : Option Home) → slice_get hs x ≡ o → matters hs (block_reads_first block) x ≡ true → read_home hs (lasting registers) slots x ≡ regs x
-    by x None e m = ap (λ o. chain o (in_home (lasting registers) slots)) e ∙ as_was x None e refl
-    by x (Some (Slot k)) e m = ap (λ o. chain o (in_home (lasting registers) slots)) e ∙ as_was x (Some (Slot k)) e refl
-    by x (Some (Reg r)) e m = ap (λ o. chain o (in_home (lasting registers) slots)) e
-        ∙ reg x r e (is_lasting r) refl (sym (ap (λ o. if is_passing o then block_reads_first block x else true) e) ∙ m)
+    by : (x : ℕ) (o : Option Home) → slice_get hs x ≡ o → matters hs (block_reads_first block) x ≡ true → read_home hs (callee_saved registers) slots x ≡ regs x
+    by x None e m = ap (λ o. chain o (in_home (callee_saved registers) slots)) e ∙ as_was x None e refl
+    by x (Some (Slot k)) e m = ap (λ o. chain o (in_home (callee_saved registers) slots)) e ∙ as_was x (Some (Slot k)) e refl
+    by x (Some (Reg r)) e m = ap (λ o. chain o (in_home (callee_saved registers) slots)) e
+        ∙ reg x r e (is_callee_saved r) refl (sym (ap (λ o. if is_caller_saved o then block_reads_first block x else true) e) ∙ m)
 
 jumps : (b : ℕ) (a : Activation) (registers slots regs : Places) (ws : List Activation) (rs : List Places) (g : Arrays) (out : List ℕ)
     → AreHomes a.frame.homes.items a.frame.saved.items a.blocks
@@ -406,7 +406,7 @@ as_deep registers (a ∷ ws) [] s = absurd s
 -- a result
 returns : (o : Option ℕ) (a : Activation) (registers : Places) (ws : List Activation) (rs : List Places) (g : Arrays) (out : List ℕ)
     → ResultHasHome a.result_to ws → Stack (below a.frame.saved.items a.aside registers) ws rs
-    → Alike (state_after_return o a (lasting registers) ws g out) (Meaning.state_after_return o a.result_to (plain ws rs) g out)
+    → Alike (state_after_return o a (callee_saved registers) ws g out) (Meaning.state_after_return o a.result_to (plain ws rs) g out)
 returns o a registers [] [] g out dest st = both_value o o out _ _ refl (λ v. refl)
 returns o a registers (w ∷ ws) (r ∷ rs) g out dest st = to a.result_to dest
   where
@@ -433,25 +433,25 @@ both_true false b e = absurd (true≢false (sym e))
 
 -- a function begins with all its homes unset
 home_unset : (hs : List Home) (saved : List ℕ) (bs : List RBlock) (registers : Places) → AreHomes hs saved bs → (x : ℕ) (h : Home)
-    → slice_get hs x ≡ Some h → in_home (registers_at_entry saved (lasting registers)) unset_places h ≡ None
+    → slice_get hs x ≡ Some h → in_home (registers_at_entry saved (callee_saved registers)) unset_places h ≡ None
 home_unset hs saved bs registers ok x (Slot k) e = refl
-home_unset hs saved bs registers ok x (Reg r) e = by (is_lasting r) refl
+home_unset hs saved bs registers ok x (Reg r) e = by (is_callee_saved r) refl
   where
     none : (c : Bool) → (if c then None else (if false then registers r else None)) ≡ None
     none true = refl
     none false = refl
 
-    by : (l : Bool) → is_lasting r ≡ l → (if is_in saved r then None else (if is_lasting r then registers r else None)) ≡ None
-    by true l = ap (λ c. if c then None else lasting registers r) (ok.kept x r e l)
+    by : (l : Bool) → is_callee_saved r ≡ l → (if is_in saved r then None else (if is_callee_saved r then registers r else None)) ≡ None
+    by true l = ap (λ c. if c then None else callee_saved registers r) (ok.kept x r e l)
     by false l = ap (λ l. if is_in saved r then None else (if l then registers r else None)) l ∙ none (is_in saved r)
 
 all_unset : (hs : List Home) (saved : List ℕ) (bs : List RBlock) (registers : Places) → AreHomes hs saved bs
-    → Agrees hs (registers_at_entry saved (lasting registers)) unset_places unset_places (λ x. true)
+    → Agrees hs (registers_at_entry saved (callee_saved registers)) unset_places unset_places (λ x. true)
 all_unset hs saved bs registers ok = record { by = λ x m. at x (slice_get hs x) refl }
   where
-    at : (x : ℕ) (o : Option Home) → slice_get hs x ≡ o → read_home hs (registers_at_entry saved (lasting registers)) unset_places x ≡ None
-    at x None e = ap (λ o. chain o (in_home (registers_at_entry saved (lasting registers)) unset_places)) e
-    at x (Some h) e = ap (λ o. chain o (in_home (registers_at_entry saved (lasting registers)) unset_places)) e ∙ home_unset hs saved bs registers ok x h e
+    at : (x : ℕ) (o : Option Home) → slice_get hs x ≡ o → read_home hs (registers_at_entry saved (callee_saved registers)) unset_places x ≡ None
+    at x None e = ap (λ o. chain o (in_home (registers_at_entry saved (callee_saved registers)) unset_places)) e
+    at x (Some h) e = ap (λ o. chain o (in_home (registers_at_entry saved (callee_saved registers)) unset_places)) e ∙ home_unset hs saved bs registers ok x h e
 
 -- a call
 enough : (hs : List Home) (registers slots regs : Places) (wanted : ℕ → Bool) → Agrees hs registers slots regs (λ x. true)
@@ -460,13 +460,13 @@ enough hs registers slots regs wanted ag = record { by = λ x m. ag.by x (matter
 
 calls : (h : Homed) → AreAllHomes h
     → (depth f : ℕ) (vs : List ℕ) (dest : Option ℕ) (registers : Places) (ws : List Activation) (rs : List Places) (g : Arrays)
-    (out : List ℕ) → ResultHasHome dest ws → Stack (lasting registers) ws rs
-    → Alike (state_after_call h depth f vs dest (lasting registers) ws g out) (Meaning.state_after_call (h.rtl.now) depth f vs dest (plain ws rs) g out)
+    (out : List ℕ) → ResultHasHome dest ws → Stack (callee_saved registers) ws rs
+    → Alike (state_after_call h depth f vs dest (callee_saved registers) ws g out) (Meaning.state_after_call (h.rtl.now) depth f vs dest (plain ws rs) g out)
 calls h all depth f vs dest registers ws rs g out dn st =
     both_value_is (slice_get (h.rtl.now).functions f) out _ _ (λ func is.
     let has = all.by f func is in
     subst (λ o. Alike (with_value o out (enter func (fits (length ws) func))) (enters func (fits (length (plain ws rs)) func))) (sym has.1)
-    (subst (λ n. Alike (enter func (fits (length ws) func) has.0) (enters func (fits n func))) (sym (as_deep (lasting registers) ws rs st))
+    (subst (λ n. Alike (enter func (fits (length ws) func) has.0) (enters func (fits n func))) (sym (as_deep (callee_saved registers) ws rs st))
     (by func has.0 has.2 (fits (length ws) func) refl)))
   where
     fits : ℕ → RFunc → Bool
@@ -474,10 +474,10 @@ calls h all depth f vs dest registers ws rs g out dn st =
 
     start : RFunc → Frame → Places → Activation
     start func frame s =
-        record { blocks = func.blocks.items; frame = frame; slots = s; aside = lasting registers; code = record { insts = []; exit = Goto 0 }; result_to = dest }
+        record { blocks = func.blocks.items; frame = frame; slots = s; aside = callee_saved registers; code = record { insts = []; exit = Goto 0 }; result_to = dest }
 
     enter : RFunc → Bool → Frame → Run
-    enter func b frame = if b then write_homes frame.homes.items (registers_at_entry frame.saved.items (lasting registers)) unset_places 0 vs out
+    enter func b frame = if b then write_homes frame.homes.items (registers_at_entry frame.saved.items (callee_saved registers)) unset_places 0 vs out
         (λ r' s'. state_at_block 0 (start func frame s') r' s' ws g out) else Failed out
 
     enters : RFunc → Bool → Meaning.Run
@@ -488,8 +488,8 @@ calls h all depth f vs dest registers ws rs g out dn st =
     by func frame ok true e =
         let as_many : length vs ≡ func.parameters =
         eqb-true (length vs) func.parameters (both_true (nat_lt (length ws) depth) (length vs == func.parameters) e) in
-        writes_all frame.homes.items frame.saved.items func.blocks.items (lasting registers)
-        (registers_at_entry frame.saved.items (lasting registers)) unset_places unset_places 0 vs out _ _ (λ x. true) (ok.homes)
+        writes_all frame.homes.items frame.saved.items func.blocks.items (callee_saved registers)
+        (registers_at_entry frame.saved.items (callee_saved registers)) unset_places unset_places 0 vs out _ _ (λ x. true) (ok.homes)
         (all_unset frame.homes.items frame.saved.items func.blocks.items registers ok.homes)
         (λ y lt. ok.parameters y (omega (arith, lt, as_many))) (λ r' s' ag e1.
         jumps 0 (start func frame s') r' s' (argument_registers vs) ws rs g out ok.homes
@@ -508,13 +508,13 @@ exits h all depth exit a registers regs ws rs g out ok ag n goes dest st = at ex
     hs : List Home
     hs = a.frame.homes.items
 
-    under : Stack (below a.frame.saved.items a.aside (lasting registers)) ws rs
-    under = subst (λ p. Stack (registers_at_return a.frame.saved.items a.aside p) ws rs) (sym (lasting_twice registers)) st
+    under : Stack (below a.frame.saved.items a.aside (callee_saved registers)) ws rs
+    under = subst (λ p. Stack (registers_at_return a.frame.saved.items a.aside p) ws rs) (sym (callee_saved_twice registers)) st
 
     goes_on : (exit : RExit) → Agrees hs registers a.slots regs (reads_first [] exit)
         → (b : ℕ) → some_go_to a.blocks b ≡ true → (out : List ℕ)
-        → Alike (state_at_block b a (lasting registers) a.slots ws g out) (Meaning.state_at_block a.blocks b regs a.result_to (plain ws rs) g out)
-    goes_on exit ag b there out = jumps b a (lasting registers) a.slots regs ws rs g out ok
+        → Alike (state_at_block b a (callee_saved registers) a.slots ws g out) (Meaning.state_at_block a.blocks b regs a.result_to (plain ws rs) g out)
+    goes_on exit ag b there out = jumps b a (callee_saved registers) a.slots regs ws rs g out ok
         (settles hs a.frame.saved.items a.blocks registers a.slots regs (reads_first [] exit) ok ag b there) dest under
 
     reads : (exit : RExit) (x : ℕ) → Agrees hs registers a.slots regs (reads_first [] exit) → is_in (exit_reads exit) x ≡ true

@@ -53,27 +53,27 @@ one_more_first n saved saved' e before =
 
 -- ---- places
 
-pub register_told : (local local' : Bool) (taken taken' : List ℕ) (hint hint' register : Option ℕ)
-    → register ≡ (if local then free_register taken hint else None) → local ≡ local' → taken ≡ taken' → hint ≡ hint'
-    → register ≡ (if local' then free_register taken' hint' else None)
-register_told local local' taken taken' hint hint' register is same same_taken same_hint =
-    is ∙ ap (λ b. if b then free_register taken hint else None) same
-    ∙ ap₂ (λ t h. if local' then free_register t h else None) same_taken same_hint
+pub register_told : (local local' : Bool) (taken taken' : List ℕ) (preference preference' register : Option ℕ)
+    → register ≡ (if local then free_register taken preference else None) → local ≡ local' → taken ≡ taken' → preference ≡ preference'
+    → register ≡ (if local' then free_register taken' preference' else None)
+register_told local local' taken taken' preference preference' register is same same_taken same_preference =
+    is ∙ ap (λ b. if b then free_register taken preference else None) same
+    ∙ ap₂ (λ t h. if local' then free_register t h else None) same_taken same_preference
 
 -- one more place
-pub places_step : (local : ℕ → Bool) (hint : ℕ → Option ℕ) (x : ℕ) (taken taken' : List ℕ) (homes out out' all : List Home) (d h : Home)
-    (register : Option ℕ) → x < length homes → register ≡ (if local x then free_register taken (hint x) else None) → taken' ≡ also taken register
-    → h ≡ home_or register (get_or homes x d) → out' ≡ out ++ h ∷ [] → out ++ places_from local hint x taken (drop x homes) ≡ all
-    → out' ++ places_from local hint (x + 1) taken' (drop (x + 1) homes) ≡ all
-places_step local hint x taken taken' homes out out' all d h register within register_is taken_is h_is out_is before =
+pub places_step : (local : ℕ → Bool) (preference : ℕ → Option ℕ) (x : ℕ) (taken taken' : List ℕ) (homes out out' all : List Home) (d h : Home)
+    (register : Option ℕ) → x < length homes → register ≡ (if local x then free_register taken (preference x) else None) → taken' ≡ also taken register
+    → h ≡ home_or register (get_or homes x d) → out' ≡ out ++ h ∷ [] → out ++ places_from local preference x taken (drop x homes) ≡ all
+    → out' ++ places_from local preference (x + 1) taken' (drop (x + 1) homes) ≡ all
+places_step local preference x taken taken' homes out out' all d h register within register_is taken_is h_is out_is before =
     let rest = drop (x + 1) homes in
     let next : x + 1 ≡ suc x = omega arith in
-    ap (λ l. l ++ places_from local hint (x + 1) taken' rest) out_is
-    ∙ append_assoc out (h ∷ []) (places_from local hint (x + 1) taken' rest)
-    ∙ ap (λ h. out ++ h ∷ places_from local hint (x + 1) taken' rest) h_is
-    ∙ ap₂ (λ n t. out ++ home_or register (get_or homes x d) ∷ places_from local hint n t rest) next taken_is
-    ∙ ap (λ r. out ++ home_or r (get_or homes x d) ∷ places_from local hint (suc x) (also taken r) rest) register_is
-    ∙ sym (at_drop_more (λ hs. out ++ places_from local hint x taken hs) homes x d within) ∙ before
+    ap (λ l. l ++ places_from local preference (x + 1) taken' rest) out_is
+    ∙ append_assoc out (h ∷ []) (places_from local preference (x + 1) taken' rest)
+    ∙ ap (λ h. out ++ h ∷ places_from local preference (x + 1) taken' rest) h_is
+    ∙ ap₂ (λ n t. out ++ home_or register (get_or homes x d) ∷ places_from local preference n t rest) next taken_is
+    ∙ ap (λ r. out ++ home_or r (get_or homes x d) ∷ places_from local preference (suc x) (also taken r) rest) register_is
+    ∙ sym (at_drop_more (λ hs. out ++ places_from local preference x taken hs) homes x d within) ∙ before
 
 -- one more saved register, which is still a home or isn't
 saved_next : (homes : List Home) (saved kept : List ℕ) (i : ℕ) (b : Bool) → i < length saved → lives_in homes (get_or saved i 0) ≡ b

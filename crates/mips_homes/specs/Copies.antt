@@ -7,7 +7,7 @@ use Rattle.runs.specs.Stores.{Places}
 use Rattle.mips_homes.specs.declared.homed.Home.{Home}
 use Rattle.mips_homes.specs.declared.homed.Home.TheVariants.{Reg, Slot}
 use Rattle.mips_homes.specs.declared.homed.SlotCopy.{SlotCopy}
-use Rattle.mips_homes.specs.Passing.{passing_registers, lives_in}
+use Rattle.mips_homes.specs.Passing.{temporaries, lives_in}
 
 -- a function without calls
 abbrev pub calls_none : RExit → Bool
@@ -42,7 +42,7 @@ copies_onto free copies (h ∷ hs) = copies_onto free (copies ++ as_copies (copy
 
 -- the copies of a function's slots
 abbrev pub copies_for : List RBlock → List Home → List SlotCopy
-copies_for bs hs = if is_leaf bs then copies_onto (unused hs passing_registers) [] hs else []
+copies_for bs hs = if is_leaf bs then copies_onto (unused hs temporaries) [] hs else []
 
 -- the register that holds a copy of a slot
 abbrev pub copy_of : List SlotCopy → Places

@@ -85,12 +85,12 @@ abbrev pub registers_at_return : List ℕ → Places → Places → Places
 registers_at_return saved aside registers = λ r. if is_in saved r then aside r else registers r
 
 -- the registers that outlive a block, 16 to 23
-abbrev pub is_lasting : ℕ → Bool
-is_lasting r = nat_lt 15 r && nat_lt r 24
+abbrev pub is_callee_saved : ℕ → Bool
+is_callee_saved r = nat_lt 15 r && nat_lt r 24
 
 -- what they hold; the others are unset
-abbrev pub lasting : Places → Places
-lasting registers = λ r. if is_lasting r then registers r else None
+abbrev pub callee_saved : Places → Places
+callee_saved registers = λ r. if is_callee_saved r then registers r else None
 
 -- an instruction, with what it leaves in the registers, slots and globals
 abbrev pub with_inst : List RGlobal → RInst → List Home → Places → Places → Arrays → List ℕ → (Places → Places → Arrays → Run) → Run
@@ -191,16 +191,16 @@ remembering_run h depth n = run_keeping (λ r. r) h depth n
 
 -- the run that forgets at each exit what isn't in 16 to 23 or in a slot, and its parts
 abbrev pub state_after_exit : Homed → (depth : ℕ) → RExit → Activation → Places → List Activation → Arrays → List ℕ → Run
-state_after_exit h depth exit a r ws g out = exit_keeping lasting h depth exit a r ws g out
+state_after_exit h depth exit a r ws g out = exit_keeping callee_saved h depth exit a r ws g out
 
 abbrev pub step_at : Homed → (depth : ℕ) → List RInst → RExit → Activation → Places → List Activation → Arrays → List ℕ → Run
-step_at h depth is exit a r ws g out = code_keeping lasting h depth is exit a r ws g out
+step_at h depth is exit a r ws g out = code_keeping callee_saved h depth is exit a r ws g out
 
 abbrev pub homed_step : Homed → ℕ → Run → Run
-homed_step h depth run = step_keeping lasting h depth run
+homed_step h depth run = step_keeping callee_saved h depth run
 
 abbrev pub homed_steps : Homed → (depth n : ℕ) → Run → Run
-homed_steps h depth n run = steps_keeping lasting h depth n run
+homed_steps h depth n run = steps_keeping callee_saved h depth n run
 
 abbrev pub homed_run : Homed → (depth n : ℕ) → Outcome
-homed_run h depth n = run_keeping lasting h depth n
+homed_run h depth n = run_keeping callee_saved h depth n

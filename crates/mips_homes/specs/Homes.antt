@@ -1,7 +1,7 @@
 -- When homes serve a program.
 use Rattle.std.specs.Prelude.{◌≡◌, ℕ, ◌<◌, true, false, List, [], ◌∷◌, Some, slice_get}
 use Rattle.rtl.specs.Names.{blocks_names}
-use Rattle.mips_homes.specs.HomedRun.{is_in, is_lasting}
+use Rattle.mips_homes.specs.HomedRun.{is_in, is_callee_saved}
 use Rattle.mips_homes.specs.Locals.{block_reads_first, some_go_to}
 use Rattle.mips_homes.specs.declared.homed.Home.{Home}
 use Rattle.mips_homes.specs.declared.homed.Home.TheVariants.{Reg}
@@ -20,12 +20,12 @@ abbrev pub HaveHomes : List Home → List ℕ → Type 0
 HaveHomes homes [] = Unit {0}
 HaveHomes homes (x ∷ xs) = HasHome homes x × HaveHomes homes xs
 
--- no two pseudo-registers share a home; each lasting register that is a home is saved; in another register lives only what
+-- no two pseudo-registers share a home; each callee-saved register that is a home is saved; in another register lives only what
 -- each block to which an exit goes writes before it reads it; and each name has a home
 pub record AreHomes (homes : List Home) (saved : List ℕ) (blocks : List RBlock) : Type 0 where
   pub apart : (x y : ℕ) (h : Home) → slice_get homes x ≡ Some h → slice_get homes y ≡ Some h → x ≡ y
-  pub kept : (x r : ℕ) → slice_get homes x ≡ Some (Reg r) → is_lasting r ≡ true → is_in saved r ≡ true
-  pub local : (x r : ℕ) → slice_get homes x ≡ Some (Reg r) → is_lasting r ≡ false
+  pub kept : (x r : ℕ) → slice_get homes x ≡ Some (Reg r) → is_callee_saved r ≡ true → is_in saved r ≡ true
+  pub local : (x r : ℕ) → slice_get homes x ≡ Some (Reg r) → is_callee_saved r ≡ false
       → (b : ℕ) (block : RBlock) → slice_get blocks b ≡ Some block → some_go_to blocks b ≡ true → block_reads_first block x ≡ false
   pub named : HaveHomes homes (blocks_names blocks)
 

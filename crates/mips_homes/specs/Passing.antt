@@ -4,8 +4,8 @@ use Rattle.mips_homes.specs.declared.homed.Home.{Home}
 use Rattle.mips_homes.specs.declared.homed.Home.TheVariants.{Reg, Slot}
 
 -- registers 8 to 15 and 24 to 27
-abbrev pub passing_registers : List ℕ
-passing_registers = 8 ∷ 9 ∷ 10 ∷ 11 ∷ 12 ∷ 13 ∷ 14 ∷ 15 ∷ 24 ∷ 25 ∷ 26 ∷ 27 ∷ []
+abbrev pub temporaries : List ℕ
+temporaries = 8 ∷ 9 ∷ 10 ∷ 11 ∷ 12 ∷ 13 ∷ 14 ∷ 15 ∷ 24 ∷ 25 ∷ 26 ∷ 27 ∷ []
 
 abbrev pub is_register : Home → ℕ → Bool
 is_register (Reg q) r = nat_eq q r

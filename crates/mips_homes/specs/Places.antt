@@ -6,8 +6,8 @@ use Rattle.rtl.specs.declared.block.RFunc.{RFunc}
 use Rattle.mips_homes.specs.Choice.{IsChoice, HaveFrames}
 use Rattle.mips_homes.specs.HomedRun.{is_in}
 use Rattle.mips_homes.specs.Locals.{is_local}
-use Rattle.mips_homes.specs.Hints.{hint}
-pub use Rattle.mips_homes.specs.Passing.{passing_registers, is_register, lives_in}
+use Rattle.mips_homes.specs.Preferences.{preference}
+pub use Rattle.mips_homes.specs.Passing.{temporaries, is_register, lives_in}
 use Rattle.mips_homes.specs.Copies.{copies_for}
 use Rattle.mips_homes.specs.declared.homed.Home.{Home}
 use Rattle.mips_homes.specs.declared.homed.Home.TheVariants.{Reg, Slot}
@@ -19,9 +19,9 @@ abbrev pub first_free : (taken : List ℕ) → List ℕ → Option ℕ
 first_free taken [] = None
 first_free taken (r ∷ rs) = if is_in taken r then first_free taken rs else Some r
 
--- the register of its hint if that isn't taken, else the first passing one
-abbrev pub free_register : (taken : List ℕ) → (hint : Option ℕ) → Option ℕ
-free_register taken hint = first_free taken (optional hint ++ passing_registers)
+-- the register of its preferred register if that isn't taken, else the first free temporary
+abbrev pub free_register : (taken : List ℕ) → (preference : Option ℕ) → Option ℕ
+free_register taken preference = first_free taken (optional preference ++ temporaries)
 
 abbrev pub home_or : Option ℕ → Home → Home
 home_or None h = h
@@ -32,11 +32,11 @@ also taken None = taken
 also taken (Some r) = taken ++ r ∷ []
 
 -- the homes of the pseudo-registers from x on, where these registers are taken
-abbrev pub places_from : (local : ℕ → Bool) → (hint : ℕ → Option ℕ) → (x : ℕ) → (taken : List ℕ) → List Home → List Home
-places_from local hint x taken [] = []
-places_from local hint x taken (h ∷ hs) =
-    home_or (if local x then free_register taken (hint x) else None) h
-    ∷ places_from local hint (suc x) (also taken (if local x then free_register taken (hint x) else None)) hs
+abbrev pub places_from : (local : ℕ → Bool) → (preference : ℕ → Option ℕ) → (x : ℕ) → (taken : List ℕ) → List Home → List Home
+places_from local preference x taken [] = []
+places_from local preference x taken (h ∷ hs) =
+    home_or (if local x then free_register taken (preference x) else None) h
+    ∷ places_from local preference (suc x) (also taken (if local x then free_register taken (preference x) else None)) hs
 
 -- the registers that are still homes
 abbrev pub still_saved : List Home → List ℕ → List ℕ
@@ -54,7 +54,7 @@ some_slot (h ∷ hs) = if is_slot h then true else some_slot hs
 
 -- the frame of a choice in a function with n parameters, with local pseudo-registers in registers that no function keeps
 pub record IsPlaced (n : ℕ) (bs : List RBlock) (c f : Frame) : Type 0 where
-  pub homes : f.homes.items ≡ places_from (is_local bs) (hint n bs) 0 [] c.homes.items
+  pub homes : f.homes.items ≡ places_from (is_local bs) (preference n bs) 0 [] c.homes.items
   pub saved : f.saved.items ≡ still_saved f.homes.items c.saved.items
   pub slots : f.slots ≡ (if some_slot f.homes.items then c.slots else 0)
   pub copies : f.copies.items ≡ copies_for bs f.homes.items

@@ -2,7 +2,7 @@
 use Rattle.std.specs.Prelude.{◌≡◌, ℕ, ◌≤◌, Bool, false, not, ◌&&◌, ◌||◌, List, nat_eq, slice_index, slice_index_or}
 use Rattle.mips_homes.specs.HomedRun.{is_in}
 use Rattle.rtl.specs.declared.block.RBlock.{RBlock}
-use Rattle.mips_homes.specs.Hints.{blocks_reach}
+use Rattle.mips_homes.specs.Preferences.{blocks_reach}
 use Rattle.mips_homes.specs.Locals.{is_local}
 use Rattle.mips_homes.specs.declared.locals.Sight.{Sight}
 

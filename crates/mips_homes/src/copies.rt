@@ -2,7 +2,7 @@
 
 ghost use Rattle.std.specs.Prelude.{◌≡◌, ◌++◌, [], slice_get, IfOk, OnOk};
 ghost use Rattle.mips_homes.specs.Copies.{calls_none, is_leaf, unused, copy_for, as_copies, copies_onto, copies_for};
-ghost use Rattle.mips_homes.specs.Places.{passing_registers};
+ghost use Rattle.mips_homes.specs.Places.{temporaries};
 
 use crate::homed::{Home, SlotCopy};
 use crate::places::lives_in;

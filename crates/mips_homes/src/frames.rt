@@ -56,7 +56,7 @@ fn first_registers(alloc: Global, count: usize) -> Result<Vec<u8>, AllocError>
     Ok(saved)
 }
 
-/// The frame of a function: the eight pseudo-registers with most mentions live in registers.
+/// The frame of a function: the eight pseudo-registers with most occurrences live in registers.
 pub fn frame_of(alloc: Global, func: &RFunc) -> Result<Frame, AllocError>
     ensures choice { IfOk result (λ frame. IsChoice func.now frame) }
     ensures few { IfOk result (λ frame. length frame.homes.items ≤ 2 ^ 32) }

@@ -1,8 +1,8 @@
 //! Homes of pseudo-registers: registers, slots of the frame, or registers of one block.
 //!
-//! Definitions: `specs/Choice.antt`, `specs/Hints.antt`, `specs/Copies.antt`, `specs/Places.antt`, `specs/Laws.antt`.
+//! Definitions: `specs/Choice.antt`, `specs/Preferences.antt`, `specs/Copies.antt`, `specs/Places.antt`, `specs/Laws.antt`.
 //! Contract: `homes`, `place`, `each_homed_run_is_the_run`, `each_choice_never_forgets`
-//! - `homes` puts the eight pseudo-registers with most mentions into $16 to $23 and each other one into a slot.
+//! - `homes` puts the eight pseudo-registers with most occurrences into $16 to $23 and each other one into a slot.
 //! - `place` moves those local to blocks to registers that no function keeps. A leaf's slots have copies there.
 //! - Over either the run is the program's at each bound.
 #![tactic(auto)]
@@ -11,11 +11,11 @@ mod best;
 mod copies;
 mod counts;
 mod frames;
-mod hints;
 mod homed;
 mod laws;
 mod locals;
 mod places;
+mod preferences;
 
 pub use copies::is_leaf;
 pub use frames::{frame_of, homes};

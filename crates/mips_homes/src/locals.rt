@@ -16,7 +16,7 @@ pub(crate) struct Sight {
     pub written_in: usize,
 }
 
-// Of one that wasn't mentioned.
+// Of one that doesn't occur.
 const NOTHING: Sight = Sight {
     read_first: false,
     written_in: 0,

@@ -3,7 +3,7 @@
 ghost use Rattle.std.specs.Prelude.{◌≡◌, ◌≤◌, ◌^◌, List, None, [], length, if◌then◌else◌, IfOk, OnOk};
 ghost use Rattle.rtl.specs.declared.block.RBlock.{RBlock};
 ghost use Rattle.mips_homes.specs.HomedRun.{is_in, homed_run};
-ghost use Rattle.mips_homes.specs.Hints.{hint};
+ghost use Rattle.mips_homes.specs.Preferences.{preference};
 ghost use Rattle.mips_homes.specs.Laws.{KeepsRtlRuns};
 ghost use Rattle.mips_homes.specs.Locals.{is_local};
 ghost use Rattle.mips_homes.specs.Places.{first_free, free_register, home_or, also, places_from, is_register, lives_in, still_saved};
@@ -12,9 +12,9 @@ ghost use Rattle.mips_homes.specs.Places.{is_slot, some_slot, IsPlaced, IsPlaced
 
 use crate::copies::copies_for;
 use crate::frames::frame_of;
-use crate::hints::{hint, reach_of, reaches};
 use crate::homed::{Frame, Home, Homed};
 use crate::locals::{Sight, is_local, sights};
+use crate::preferences::{preference, reach_of, reaches};
 use rtl::{RBlock, RFunc, Rtl};
 use std::alloc::{AllocError, Global};
 
@@ -42,11 +42,11 @@ fn first_free(taken: &[u8], registers: &[u8]) -> Option<u8>
     None
 }
 
-// The register of a hint if that isn't taken, else the first passing one.
-fn free_register(taken: &[u8], hint: Option<u8>) -> Option<u8>
-    ensures { result ≡ free_register taken.now hint }
+// The register of a preference if that isn't taken, else the first free temporary.
+fn free_register(taken: &[u8], preference: Option<u8>) -> Option<u8>
+    ensures { result ≡ free_register taken.now preference }
 {
-    if let Some(r) = hint {
+    if let Some(r) = preference {
         if !is_taken(taken, r) {
             return Some(r);
         }
@@ -55,11 +55,11 @@ fn free_register(taken: &[u8], hint: Option<u8>) -> Option<u8>
 }
 
 // The register of a pseudo-register, if it gets one.
-fn register_for(local: bool, taken: &[u8], hint: Option<u8>) -> Option<u8>
-    ensures { result ≡ (if local then free_register taken.now hint else None) }
+fn register_for(local: bool, taken: &[u8], preference: Option<u8>) -> Option<u8>
+    ensures { result ≡ (if local then free_register taken.now preference else None) }
 {
     if local {
-        free_register(taken, hint)
+        free_register(taken, preference)
     } else {
         None
     }
@@ -95,13 +95,13 @@ fn places_by(
 ) -> Result<Vec<Home>, AllocError>
     requires { length homes.now ≤ 2 ^ 32 }
     ensures { IfOk result (λ hs. (bs : List RBlock) → TellsLocals sights.now bs → TellsReaches reaches.now bs
-        → hs.items ≡ places_from (is_local bs) (hint parameters bs) 0 [] homes.now) }
+        → hs.items ≡ places_from (is_local bs) (preference parameters bs) 0 [] homes.now) }
 {
     let mut taken = Vec::new(alloc);
     let mut out = Vec::new(alloc);
     for x in 0..homes.len() {
-        let hint = hint(parameters, reach_of(reaches, x), x as u32);
-        let register = register_for(is_local(sights, x), taken.as_slice(), hint);
+        let preference = preference(parameters, reach_of(reaches, x), x as u32);
+        let register = register_for(is_local(sights, x), taken.as_slice(), preference);
         take(&mut taken, register)?;
         out.push(home_or(register, homes[x]))?;
     }
@@ -116,7 +116,7 @@ fn places(
     homes: &[Home],
 ) -> Result<Vec<Home>, AllocError>
     requires { length homes.now ≤ 2 ^ 32 }
-    ensures { IfOk result (λ hs. hs.items ≡ places_from (is_local blocks.now) (hint parameters blocks.now) 0 [] homes.now) }
+    ensures { IfOk result (λ hs. hs.items ≡ places_from (is_local blocks.now) (preference parameters blocks.now) 0 [] homes.now) }
 {
     let sights = sights(alloc, blocks)?;
     let reaches = reaches(alloc, blocks)?;

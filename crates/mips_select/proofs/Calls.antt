@@ -17,7 +17,7 @@ use Rattle.mips_isa.specs.Starting.{stack_base, stack_end}
 use Rattle.mips_isa.specs.Actions.{action_of}
 use Rattle.mblock.proofs.StateWords.{run_words}
 use Rattle.rtl.specs.declared.block.RGlobal.{RGlobal}
-use Rattle.mips_homes.specs.HomedRun.{Activation, is_in, is_lasting, registers_at_entry, registers_at_return}
+use Rattle.mips_homes.specs.HomedRun.{Activation, is_in, is_callee_saved, registers_at_entry, registers_at_return}
 use Rattle.mips_homes.specs.declared.homed.Frame.{Frame}
 use Rattle.mips_homes.proofs.Located.{also_in}
 use Rattle.mips_emit.specs.declared.limits.TheConstants.{FRAME_BYTES}
@@ -27,7 +27,7 @@ use Rattle.mips_emit.proofs.Runs.{RunsTo, runs_none, runs_then}
 use Rattle.mips_emit.proofs.View.{word_at, put_here, put_other, IsTarget, sum_value, word_of_offset}
 use Rattle.mips_emit.proofs.Stands.{Stored, StackHolds, stack_same, stack_top, Linked, Stands}
 use Rattle.mips_emit.proofs.Homes.{stack_apart}
-use Rattle.mips_select.specs.declared.prologue.Way.TheVariants.{Save, Restore}
+use Rattle.mips_select.specs.declared.prologue.Direction.TheVariants.{Save, Restore}
 use Rattle.mips_select.specs.Code.{frame_bytes, saves, restores, link_save, link_load, lowers, raises, epilogue}
 use Rattle.mips_select.proofs.Frames.{InStack, AreKept, saves_run, restores_run}
 use Rattle.mips_select.proofs.Emitted.{kept, kept_words}
@@ -179,7 +179,7 @@ module _ (most total : ℕ) (gs : List RGlobal) (starts : ℕ → ℕ) (small : 
     pub stands : Stands most total gs starts (registers_at_entry f.saved.items r) g (stored_frame leaf f unset_places r link ∷ fs) to
 
   pub enters : (r : Places) (g : Arrays) (fs : List Stored) (s : State) (leaf : Bool) (f : Frame) (link : ℕ) → IsFrame most f → s.regs 31 ≡ link
-      → (leaf ≡ false → f.copies.items ≡ []) → ((q : ℕ) → is_lasting q ≡ false → r q ≡ None)
+      → (leaf ≡ false → f.copies.items ≡ []) → ((q : ℕ) → is_callee_saved q ≡ false → r q ≡ None)
       → stack_base + most ≤ s.regs 29 → Stands most total gs starts r g fs s → Entered r g fs s leaf f link
   enters r g fs s leaf f link ok is_link alone passing room h =
       let up = stack_top most (word_at s) (s.regs 29) fs h.stack in
@@ -247,14 +247,14 @@ module _ (most total : ℕ) (gs : List RGlobal) (starts : ℕ → ℕ) (small : 
             link = low.others 31 (λ e. absurd (omega (arith, e))) ∙ is_link;
             range = ((ok.homes).copied).range;
             copied = λ k q v c at. absurd (none-some v at);
-            idle = λ k q c. unset (is_in f.saved.items q) (r q) (passing q (((ok.homes).copied).passing k q c));
+            idle = λ k q c. unset (is_in f.saved.items q) (r q) (passing q (((ok.homes).copied).caller_saved k q c));
           };
           gp = low.others 28 (λ e. absurd (omega (arith, e))) ∙ h.gp;
         };
       }
 
   -- what an epilogue leaves
-  pub record Left (r : Places) (g : Arrays) (fs : List Stored) (s : State) (leaf : Bool) (f : Frame) (aside : Places) (link : ℕ) : Type 0 where
+  pub record Popped (r : Places) (g : Arrays) (fs : List Stored) (s : State) (leaf : Bool) (f : Frame) (aside : Places) (link : ℕ) : Type 0 where
     pub to : State
     pub runs : RunsTo (epilogue leaf f) s to
     pub same : (q : ℕ) → q < 16 → to.regs q ≡ s.regs q
@@ -262,7 +262,7 @@ module _ (most total : ℕ) (gs : List RGlobal) (starts : ℕ → ℕ) (small : 
     pub stands : Stands most total gs starts (registers_at_return f.saved.items aside r) g fs to
 
   pub leaves_frame : (r : Places) (g : Arrays) (fs : List Stored) (s : State) (leaf : Bool) (f : Frame) (slots aside : Places) (link : ℕ) → IsFrame most f
-      → ((registers : Places) (regs : ℕ → ℕ) → Linked fs registers regs) → Stands most total gs starts r g (stored_frame leaf f slots aside link ∷ fs) s → Left r g fs s leaf f aside link
+      → ((registers : Places) (regs : ℕ → ℕ) → Linked fs registers regs) → Stands most total gs starts r g (stored_frame leaf f slots aside link ∷ fs) s → Popped r g fs s leaf f aside link
   leaves_frame r g fs s leaf f slots aside link ok linked h =
       let up = stack_top most (word_at s) (s.regs 29 + frame_bytes leaf f) fs h.stack.1 in
       let fits = bytes_fit most f ok leaf in

@@ -16,7 +16,7 @@ use Rattle.rtl.specs.declared.instruction.RInst.TheVariants.{Const, Move, Bin, L
 use Rattle.rtl.specs.declared.instruction.RExit.{RExit}
 use Rattle.rtl.specs.declared.instruction.RExit.TheVariants.{Goto, Branch, Call, Return, Out}
 use Rattle.rtl.specs.declared.block.RGlobal.{RGlobal}
-use Rattle.mips_homes.specs.HomedRun.{is_lasting}
+use Rattle.mips_homes.specs.HomedRun.{is_callee_saved}
 use Rattle.mips_homes.specs.declared.homed.Home.{Home}
 use Rattle.mips_homes.specs.declared.homed.Home.TheVariants.{Reg, Slot}
 use Rattle.mips_homes.specs.declared.homed.Frame.{Frame}
@@ -30,14 +30,14 @@ use Rattle.mips_emit.specs.declared.comparison.Form.{Form}
 use Rattle.mips_emit.specs.declared.comparison.Form.TheVariants.{OnPair, OnLeft, OnRight, ByResult, ByOpposite, InResult}
 use Rattle.mips_emit.specs.declared.facts.Last.{Last}
 use Rattle.mips_emit.specs.Locations.{Locations, Facts, location_at, locations_of, locations, known_in, learned, operand, last_operand, inner_of, word_source}
-use Rattle.mips_emit.specs.Elements.{direct, scaled, base_sum, scaled_seat, width_of, page, address_of_place}
-use Rattle.mips_emit.specs.Code.{constant, is_small, half, li, fetch, seat, bring, stays, carry, into, finish, put_at, arrive, operation, code_by_less}
+use Rattle.mips_emit.specs.Elements.{direct, scaled, base_sum, scaled_register, width_of, page, address_of_place}
+use Rattle.mips_emit.specs.Code.{constant, is_small, half, li, fetch, operand_register, bring, stays, carry, into, finish, put_at, arrive, operation, code_by_less}
 use Rattle.mips_emit.specs.Code.{code_by_left, code_by_right, code_by_word, multiple_of, multiple_code, code_by_multiple, op_code, element_code}
 use Rattle.mips_emit.specs.Code.{immediate_of, turned_immediate_of, turned_less_of, element_load, const_code, nop, inst_code, arguments_code}
 use Rattle.mips_emit.specs.Comparisons.{code_by_form, opposite_op, comparison_of, asked_last, next_code, insts_code, branch_code}
 use Rattle.mips_emit.specs.Comparisons.{tested, returned, return_code}
-use Rattle.mips_select.specs.declared.prologue.Way.{Way}
-use Rattle.mips_select.specs.declared.prologue.Way.TheVariants.{Save, Restore}
+use Rattle.mips_select.specs.declared.prologue.Direction.{Direction}
+use Rattle.mips_select.specs.declared.prologue.Direction.TheVariants.{Save, Restore}
 use Rattle.mips_select.specs.Code.{frame_words, frame_link, frame_bytes, step_of, stack_step, saves, restores, link_save, link_load, lowers, raises}
 use Rattle.mips_select.specs.Code.{parameters_code, prologue, epilogue, exit_code, result_code}
 use Rattle.mips_select.specs.Emittable.{HasFewArguments}
@@ -139,7 +139,7 @@ operation_few ops.LeU d a b = omega arith
 
 less_few : (op : Op) (t d : ℕ) (less : Option Plain) (x y : Source) → length (code_by_less op t d less x y) ≤ 6
 less_few op t d None x y =
-    joined _ 2 4 6 (fetch t x) (fetch_few t x) (joined _ 2 2 4 (fetch 2 y) (fetch_few 2 y) (operation_few op d (seat t x) (seat 2 y)) (omega arith)) (omega arith)
+    joined _ 2 4 6 (fetch t x) (fetch_few t x) (joined _ 2 2 4 (fetch 2 y) (fetch_few 2 y) (operation_few op d (operand_register t x) (operand_register 2 y)) (omega arith)) (omega arith)
 less_few op t d (Some i) x y = two_behind _ _ 2 6 (fetch 2 y) (fetch_few 2 y) (omega arith)
 
 left_few : (op : Op) (t d : ℕ) (left less : Option Plain) (x y : Source) → length (code_by_left op t d left less x y) ≤ 6
@@ -162,7 +162,7 @@ multiple_few t d None None x y other le = le
 op_few : (op : Op) (t d : ℕ) (left right : Option ℕ) (x y : Source) → length (op_code op t d left right x y) ≤ 6
 op_few op t d left right x y =
     multiple_few t d (multiple_of op right) (multiple_of op left) x y (code_by_word op t d left right x y)
-    (right_few op t d (immediate_of op d (seat t x) right) (turned_immediate_of op d (seat 2 y) left) (turned_less_of op d (seat 2 y) left) x y)
+    (right_few op t d (immediate_of op d (operand_register t x) right) (turned_immediate_of op d (operand_register 2 y) left) (turned_less_of op d (operand_register 2 y) left) x y)
 
 -- ---- instructions
 
@@ -180,14 +180,14 @@ sum_few start q = by (nat_lt start 65536)
 element_few : (w : Width) (start : ℕ) (o : Option ℕ) (x : Source) → length (element_code w start o x) ≤ 5
 element_few w start None x =
     joined _ 2 3 5 (fetch 1 x) (fetch_few 1 x)
-    (joined _ 1 2 3 (scaled w (seat 1 x)) (scaled_few w (seat 1 x)) (sum_few start (scaled_seat w (seat 1 x))) (omega arith)) (omega arith)
+    (joined _ 1 2 3 (scaled w (operand_register 1 x)) (scaled_few w (operand_register 1 x)) (sum_few start (scaled_register w (operand_register 1 x))) (omega arith)) (omega arith)
 element_few w start (Some p) x = omega arith
 
 const_few : (o : Option Location) (w : ℕ) → length (const_code o w) ≤ 8
 const_few None w = omega arith
 const_few (Some (Held r)) w =
     let few = bring_few r (word_source w) in
-    either (is_lasting r) 8 (bring r (word_source w)) (nop ∷ []) (omega (arith, few)) (omega arith)
+    either (is_callee_saved r) 8 (bring r (word_source w)) (nop ∷ []) (omega (arith, few)) (omega arith)
 const_few (Some (Copied r k)) w = put_few (Some (Copied r k)) (word_source w)
 const_few (Some (InSlot k)) w = put_few (Some (InSlot k)) (word_source w)
 
@@ -236,12 +236,12 @@ insts_few globals starts at asked facts (i ∷ is) behind =
 
 -- ---- frames and exits
 
-words_many : (way : Way) (at : ℕ) (rs : List ℕ) → length (frame_words way at rs) ≡ length rs
-words_many way at [] = omega arith
-words_many way at (r ∷ rs) = let n = words_many way (at + 4) rs in omega (arith, n)
+words_many : (direction : Direction) (at : ℕ) (rs : List ℕ) → length (frame_words direction at rs) ≡ length rs
+words_many direction at [] = omega arith
+words_many direction at (r ∷ rs) = let n = words_many direction (at + 4) rs in omega (arith, n)
 
-step_few : (way : Way) (n : ℕ) → length (stack_step way n) ≤ 1
-step_few way n = either (nat_eq n 0) 1 [] (Imm Addiu 29 29 (step_of way n) ∷ []) (omega arith) (omega arith)
+step_few : (direction : Direction) (n : ℕ) → length (stack_step direction n) ≤ 1
+step_few direction n = either (nat_eq n 0) 1 [] (Imm Addiu 29 29 (step_of direction n) ∷ []) (omega arith) (omega arith)
 
 parameters_few : (at : Locations) (t x n : ℕ) → length (parameters_code at t x n) ≤ 2 * n
 parameters_few at t x zero = omega arith

@@ -8,8 +8,8 @@ use Rattle.rtl.specs.declared.block.RBlock.{RBlock}
 use Rattle.mips_homes.specs.declared.homed.Home.{Home}
 use Rattle.mips_homes.specs.declared.homed.Home.TheVariants.{Reg, Slot}
 use Rattle.mips_homes.specs.declared.homed.SlotCopy.{SlotCopy}
-use Rattle.mips_homes.specs.HomedRun.{is_lasting}
-use Rattle.mips_homes.specs.Passing.{passing_registers, is_register, lives_in}
+use Rattle.mips_homes.specs.HomedRun.{is_callee_saved}
+use Rattle.mips_homes.specs.Passing.{temporaries, is_register, lives_in}
 use Rattle.mips_homes.specs.Copies.{is_leaf, unused, copy_for, as_copies, copies_onto, copies_for, copy_of}
 use Rattle.mips_homes.proofs.Choosing.{got_push}
 use Rattle.mips_emit.specs.Frames.{AreCopies}
@@ -44,36 +44,36 @@ once low (x ∷ rs) zero (suc j) r h e f = (let lt = above x rs j r h.1 f in let
 once low (x ∷ rs) (suc i) zero r h e f = (let lt = above x rs i r h.1 e in let same = same_Some x r f in absurd (omega (arith, lt, same)))
 once low (x ∷ rs) (suc i) (suc j) r h e f = ap suc (once x rs i j r h.1 e f)
 
--- ---- passing registers
+-- ---- temporaries
 
-record Pass (r : ℕ) : Type 0 where
+record Temporary (r : ℕ) : Type 0 where
   low : 8 ≤ r
   high : r < 28
-  passes : is_lasting r ≡ false
+  caller_saved : is_callee_saved r ≡ false
 
-abbrev AllPass : List ℕ → Type 0
-AllPass [] = Unit {0}
-AllPass (r ∷ rs) = Pass r × AllPass rs
+abbrev AllTemporary : List ℕ → Type 0
+AllTemporary [] = Unit {0}
+AllTemporary (r ∷ rs) = Temporary r × AllTemporary rs
 
-all_pass : AllPass passing_registers
-all_pass = (record { low = omega arith; high = omega arith; passes = refl }, (record { low = omega arith; high = omega arith; passes = refl }, (record { low = omega arith; high = omega arith; passes = refl }, (record { low = omega arith; high = omega arith; passes = refl }, (record { low = omega arith; high = omega arith; passes = refl }, (record { low = omega arith; high = omega arith; passes = refl }, (record { low = omega arith; high = omega arith; passes = refl }, (record { low = omega arith; high = omega arith; passes = refl }, (record { low = omega arith; high = omega arith; passes = refl }, (record { low = omega arith; high = omega arith; passes = refl }, (record { low = omega arith; high = omega arith; passes = refl }, (record { low = omega arith; high = omega arith; passes = refl }, tt))))))))))))
+all_temporary : AllTemporary temporaries
+all_temporary = (record { low = omega arith; high = omega arith; caller_saved = refl }, (record { low = omega arith; high = omega arith; caller_saved = refl }, (record { low = omega arith; high = omega arith; caller_saved = refl }, (record { low = omega arith; high = omega arith; caller_saved = refl }, (record { low = omega arith; high = omega arith; caller_saved = refl }, (record { low = omega arith; high = omega arith; caller_saved = refl }, (record { low = omega arith; high = omega arith; caller_saved = refl }, (record { low = omega arith; high = omega arith; caller_saved = refl }, (record { low = omega arith; high = omega arith; caller_saved = refl }, (record { low = omega arith; high = omega arith; caller_saved = refl }, (record { low = omega arith; high = omega arith; caller_saved = refl }, (record { low = omega arith; high = omega arith; caller_saved = refl }, tt))))))))))))
 
-all_rise : Rising 7 passing_registers
+all_rise : Rising 7 temporaries
 all_rise = (omega arith, (omega arith, (omega arith, (omega arith, (omega arith, (omega arith, (omega arith, (omega arith, (omega arith, (omega arith, (omega arith, (omega arith, tt))))))))))))
 
 -- a register of which none of the homes is one
 record Free (hs : List Home) (r : ℕ) : Type 0 where
-  pass : Pass r
+  temporary : Temporary r
   no_home : lives_in hs r ≡ false
 
-free_at : (hs : List Home) (rs : List ℕ) (j r : ℕ) → AllPass rs → slice_get (unused hs rs) j ≡ Some r → Free hs r
+free_at : (hs : List Home) (rs : List ℕ) (j r : ℕ) → AllTemporary rs → slice_get (unused hs rs) j ≡ Some r → Free hs r
 free_at hs [] j r all e = absurd (none-some r e)
 free_at hs (x ∷ rs) j r all e = go (lives_in hs x) refl j e (λ j e. free_at hs rs j r all.1 e)
   where
     go : (b : Bool) → lives_in hs x ≡ b → (j : ℕ) → slice_get (if b then unused hs rs else x ∷ unused hs rs) j ≡ Some r
         → ((j : ℕ) → slice_get (unused hs rs) j ≡ Some r → Free hs r) → Free hs r
     go true t j e rest = rest j e
-    go false t zero e rest = subst (Free hs) (same_Some x r e) (record { pass = all.0; no_home = t })
+    go false t zero e rest = subst (Free hs) (same_Some x r e) (record { temporary = all.0; no_home = t })
     go false t (suc j) e rest = rest j e
 
 not_home : (hs : List Home) (x r : ℕ) → lives_in hs r ≡ false → slice_get hs x ≡ Some (Reg r) → ⊥
@@ -124,21 +124,21 @@ found (c ∷ copies) k r e = go (nat_eq k c.slot) refl e (λ e. found copies k r
     go true t e rest = record { place = 0; copy = c; there = refl; slot = eqb-true k c.slot t; register = same_Some c.register r e }
     go false t e rest = let f = rest e in record { place = suc f.place; copy = f.copy; there = f.there; slot = f.slot; register = f.register }
 
-module _ (hs : List Home) (copies : List SlotCopy) (h : InPlace (unused hs passing_registers) copies) where
-  at_place : (k r : ℕ) → (f : Found copies k r) → slice_get (unused hs passing_registers) f.place ≡ Some r
+module _ (hs : List Home) (copies : List SlotCopy) (h : InPlace (unused hs temporaries) copies) where
+  at_place : (k r : ℕ) → (f : Found copies k r) → slice_get (unused hs temporaries) f.place ≡ Some r
   at_place k r f = h f.place f.copy f.there ∙ ap Some f.register
 
   is_free : (k r : ℕ) → copy_of copies k ≡ Some r → Free hs r
-  is_free k r e = let f = found copies k r e in free_at hs passing_registers f.place r all_pass (at_place k r f)
+  is_free k r e = let f = found copies k r e in free_at hs temporaries f.place r all_temporary (at_place k r f)
 
   are_copies : AreCopies copies hs
   are_copies = record {
-    range = λ k r e. (let f = (is_free k r e).pass in (f.low, f.high));
-    passing = λ k r e. ((is_free k r e).pass).passes;
+    range = λ k r e. (let f = (is_free k r e).temporary in (f.low, f.high));
+    caller_saved = λ k r e. ((is_free k r e).temporary).caller_saved;
     once = λ j k r e f.
         let a = found copies j r e in
         let b = found copies k r f in
-        let same : a.place ≡ b.place = once 7 (unused hs passing_registers) a.place b.place r (unused_rises hs 7 passing_registers all_rise)
+        let same : a.place ≡ b.place = once 7 (unused hs temporaries) a.place b.place r (unused_rises hs 7 temporaries all_rise)
         (at_place j r a) (at_place k r b) in
         let one : a.copy ≡ b.copy = same_Some a.copy b.copy (sym a.there ∙ ap (slice_get copies) same ∙ b.there) in
         a.slot ∙ ap (λ (c : SlotCopy). c.slot) one ∙ sym b.slot;
@@ -148,12 +148,12 @@ module _ (hs : List Home) (copies : List SlotCopy) (h : InPlace (unused hs passi
 pub copies_are : (bs : List RBlock) (hs : List Home) → AreCopies (copies_for bs hs) hs
 copies_are bs hs = go (is_leaf bs)
   where
-    go : (b : Bool) → AreCopies (if b then copies_onto (unused hs passing_registers) [] hs else []) hs
-    go true = are_copies hs (copies_onto (unused hs passing_registers) [] hs)
-        (in_place (unused hs passing_registers) [] hs (λ j c at. absurd (none-some c at)))
+    go : (b : Bool) → AreCopies (if b then copies_onto (unused hs temporaries) [] hs else []) hs
+    go true = are_copies hs (copies_onto (unused hs temporaries) [] hs)
+        (in_place (unused hs temporaries) [] hs (λ j c at. absurd (none-some c at)))
     go false = record {
       range = λ k r e. absurd (none-some r e);
-      passing = λ k r e. absurd (none-some r e);
+      caller_saved = λ k r e. absurd (none-some r e);
       once = λ j k r e f. absurd (none-some r e);
       idle = λ x k r at e. none-some r e;
     }

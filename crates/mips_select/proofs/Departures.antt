@@ -12,7 +12,7 @@ use Rattle.mblock.specs.UnitRuns.{items, outcome_at_block, outcome_of_departure}
 use Rattle.rtl.specs.declared.instruction.RInst.{RInst}
 use Rattle.rtl.specs.declared.instruction.RExit.{RExit}
 use Rattle.rtl.specs.declared.instruction.RExit.TheVariants.{Goto, Branch, Call, Return, Out}
-use Rattle.mips_homes.specs.HomedRun.{read_home, read_homes, lasting}
+use Rattle.mips_homes.specs.HomedRun.{read_home, read_homes, callee_saved}
 use Rattle.mips_homes.specs.declared.homed.Frame.{Frame}
 use Rattle.mips_homes.specs.declared.homed.Home.{Home}
 use Rattle.mips_emit.specs.declared.comparison.Form.{Form}
@@ -58,9 +58,9 @@ pub either : (head : ℕ → List Plain) (x y : ℕ) (b : Bool) → (head y ≡ 
 either head x y true e = e.1
 either head x y false e = e.0
 
--- a lasting register is none of those in which arguments are passed
-pub above_passing : (r : Places) (q w : ℕ) → lasting r q ≡ Some w → 8 ≤ q
-above_passing r q w e = by (nat_lt 15 q) (nat_lt q 24) refl e
+-- a callee-saved register is none of those in which arguments are passed
+pub above_arguments : (r : Places) (q w : ℕ) → callee_saved r q ≡ Some w → 8 ≤ q
+above_arguments r q w e = by (nat_lt 15 q) (nat_lt q 24) refl e
   where
     by : (b c : Bool) → nat_lt 15 q ≡ b → (if b && c then r q else None) ≡ Some w → 8 ≤ q
     by true c eb e = (let low = ltb-true 15 q eb in omega (arith, low))

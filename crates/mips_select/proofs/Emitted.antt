@@ -16,7 +16,7 @@ use Rattle.mips_emit.specs.Locations.{Locations, locations, Facts, no_facts, kno
 use Rattle.mips_emit.specs.Code.{arrive}
 use Rattle.mips_emit.specs.Comparisons.{insts_code, last_after, no_last}
 use Rattle.mips_emit.proofs.Emitted.{insts_behind}
-use Rattle.mips_select.specs.declared.prologue.Way.{Way}
+use Rattle.mips_select.specs.declared.prologue.Direction.{Direction}
 use Rattle.mips_select.specs.Code.{frame_bytes, frame_word, frame_words, frame_link, saves, restores, link_save, link_load, lowers, raises, parameters_code, prologue, epilogue, asked_of, exit_code}
 use Rattle.mips_select.specs.Code.{exit_of, own_block}
 
@@ -26,11 +26,11 @@ kept true f = f.saved.items
 kept false f = f.saved.items ++ 31 ∷ []
 
 -- one more register
-pub frame_more : (way : Way) (at : ℕ) (rs : List ℕ) (r : ℕ) → frame_words way at (rs ++ r ∷ []) ≡ frame_words way at rs ++ frame_word way r (at + 4 * length rs) ∷ []
-frame_more way at [] r = (let e : at ≡ at + 4 * 0 = omega arith in ap (λ n. frame_word way r n ∷ []) e)
-frame_more way at (q ∷ rs) r =
+pub frame_more : (direction : Direction) (at : ℕ) (rs : List ℕ) (r : ℕ) → frame_words direction at (rs ++ r ∷ []) ≡ frame_words direction at rs ++ frame_word direction r (at + 4 * length rs) ∷ []
+frame_more direction at [] r = (let e : at ≡ at + 4 * 0 = omega arith in ap (λ n. frame_word direction r n ∷ []) e)
+frame_more direction at (q ∷ rs) r =
     let e : at + 4 + 4 * length rs ≡ at + 4 * length (q ∷ rs) = omega arith in
-    ap (λ l. frame_word way q at ∷ l) (frame_more way (at + 4) rs r ∙ ap (λ n. frame_words way (at + 4) rs ++ frame_word way r n ∷ []) e)
+    ap (λ l. frame_word direction q at ∷ l) (frame_more direction (at + 4) rs r ∙ ap (λ n. frame_words direction (at + 4) rs ++ frame_word direction r n ∷ []) e)
 
 -- one more parameter
 pub parameters_more : (at : Locations) (t x n : ℕ) → parameters_code at t x (suc n) ≡ parameters_code at t x n ++ arrive (at (x + n)) (t + n)
@@ -57,9 +57,9 @@ parameters_step at x t code code' start e f t_is =
     ∙ ap (λ l. start ++ l) (sym (parameters_more at 4 0 x)) ∙ ap (λ n. start ++ parameters_code at 4 0 n) next
 
 -- the link, behind the registers that are saved
-pub kept_words : (way : Way) (leaf : Bool) (f : Frame) → frame_words way (4 * f.slots) f.saved.items ++ frame_link way leaf f ≡ frame_words way (4 * f.slots) (kept leaf f)
-kept_words way true f = append-nil (frame_words way (4 * f.slots) f.saved.items)
-kept_words way false f = sym (frame_more way (4 * f.slots) f.saved.items 31)
+pub kept_words : (direction : Direction) (leaf : Bool) (f : Frame) → frame_words direction (4 * f.slots) f.saved.items ++ frame_link direction leaf f ≡ frame_words direction (4 * f.slots) (kept leaf f)
+kept_words direction true f = append-nil (frame_words direction (4 * f.slots) f.saved.items)
+kept_words direction false f = sym (frame_more direction (4 * f.slots) f.saved.items 31)
 
 pub epilogue_made : (leaf : Bool) (f : Frame) (size : ℕ) (saved : List ℕ) (code0 code1 code2 code3 : List Plain) → size ≡ frame_bytes leaf f
     → saved ≡ f.saved.items

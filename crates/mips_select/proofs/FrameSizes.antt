@@ -11,11 +11,11 @@ use Rattle.mips_homes.specs.declared.homed.Home.TheVariants.{Reg, Slot}
 use Rattle.mips_homes.specs.declared.homed.Frame.{Frame}
 use Rattle.mips_homes.specs.declared.homed.Homed.{Homed}
 use Rattle.mips_homes.specs.Choice.{IsChoice}
-use Rattle.mips_homes.specs.Hints.{blocks_reach}
+use Rattle.mips_homes.specs.Preferences.{blocks_reach}
 use Rattle.mips_homes.specs.Places.{some_slot, IsPlacedFor, ArePlaced}
-use Rattle.mips_homes.proofs.Located.{PassesIn, within, seated, case_of, places_long_as, placed_apart, still_was, still_few, has_slot, same_register}
+use Rattle.mips_homes.proofs.Located.{GetsTemporaryIn, within, seated, case_of, places_long_as, placed_apart, still_was, still_few, has_slot, same_register}
 use Rattle.mips_emit.specs.declared.limits.TheConstants.{FRAME_BYTES}
-use Rattle.mips_homes.specs.Passing.{passing_registers}
+use Rattle.mips_homes.specs.Passing.{temporaries}
 use Rattle.mips_homes.specs.Copies.{is_leaf, unused, copies_onto}
 use Rattle.mips_emit.specs.Frames.{IsHome, AreCopies, frame_size, IsFrame}
 use Rattle.mips_select.proofs.Copied.{copies_are}
@@ -131,7 +131,7 @@ placed_eight func f q =
     let same = ap length (q.placed).saved in
     omega (arith, eight, few, same)
 
--- with local pseudo-registers in passing registers
+-- with local pseudo-registers in caller-saved registers
 placed_is_frame : (func : RFunc) (f : Frame) → IsPlacedFor func f → (most : ℕ) → frame_bytes_of func ≤ most → IsFrame most f
 placed_is_frame func f q most le = record {
   homes = record {
@@ -155,7 +155,7 @@ placed_is_frame func f q most le = record {
         by true e = omega (arith, e)
         by false e = omega (arith, e)
 
-    home : (x : ℕ) (h : Home) → slice_get f.homes.items x ≡ Some h → (slice_get (q.choice).homes.items x ≡ Some h) ⊎ PassesIn func q.choice f q.is q.placed x h
+    home : (x : ℕ) (h : Home) → slice_get f.homes.items x ≡ Some h → (slice_get (q.choice).homes.items x ≡ Some h) ⊎ GetsTemporaryIn func q.choice f q.is q.placed x h
         → IsHome f.slots h
     home x (Reg r) there e = within func q.choice f q.is q.placed x r there
     home x (Slot k) there (inl e) =
@@ -169,7 +169,7 @@ pub are_alone : (h : Homed) → ArePlaced h → (g : ℕ) (func : RFunc) (f : Fr
     → slice_get h.frames.items g ≡ Some f → is_leaf func.blocks.items ≡ false → f.copies.items ≡ []
 are_alone h ok g func f there at calls =
     ((ok.by g func f there at).placed).copies
-    ∙ ap (λ b. if b then copies_onto (unused f.homes.items passing_registers) [] f.homes.items else []) calls
+    ∙ ap (λ b. if b then copies_onto (unused f.homes.items temporaries) [] f.homes.items else []) calls
 
 -- ---- the largest one
 

@@ -17,13 +17,13 @@ use Rattle.mips_emit.specs.declared.location.Location.TheVariants.{Held, InSlot,
 use Rattle.mips_emit.specs.declared.location.Source.TheVariants.{Zero, Word}
 use Rattle.mips_emit.specs.Frames.{AreFrameHomes}
 use Rattle.mips_emit.specs.declared.location.Location.{Location}
-use Rattle.mips_emit.specs.Locations.{locations_of, location_at, lazy_none, Facts, known_in, known_source, lazy_at, lazy_source, source, operand}
+use Rattle.mips_emit.specs.Locations.{locations_of, location_at, deferred_none, Facts, known_in, known_source, deferred_at, deferred_source, source, operand}
 use Rattle.mips_emit.specs.Code.{store_word_at, carry, arguments_code}
 use Rattle.mips_emit.proofs.Runs.{RunsTo, runs_none, runs_then}
 use Rattle.mips_emit.proofs.View.{shown_at, word_at, set, set_word, shown_other, word_here, set_words, set_at_words, word_below, put_here, put_other}
 use Rattle.mips_emit.proofs.View.{read_register, loads_word, stores_word}
 use Rattle.mips_emit.proofs.Stands.{Stored, with_slots, Stands, open_stack}
-use Rattle.mips_emit.proofs.Homes.{hidden, hide, IsLazy, none_lazy, fewer_stand, IsKnown, operand_means, Denotes, IsApart, denotes_kept, IsElsewhere, passing_kept, carries, arrives}
+use Rattle.mips_emit.proofs.Homes.{hidden, hide, AreDeferred, none_deferred, fewer_stand, IsKnown, operand_means, Denotes, IsApart, denotes_kept, IsElsewhere, caller_saved_kept, carries, arrives}
 use Rattle.mips_select.specs.Code.{saves, restores, parameters_code}
 use Rattle.mips_select.specs.Selected.{IsBehind, AreInOrder, IsClear, AreClear}
 
@@ -170,14 +170,14 @@ restores_run total p n at (r ∷ rs) s kept a4 le h =
 module _ (most total : ℕ) (gs : List RGlobal) (starts : ℕ → ℕ) where
   -- where no word is to come, all registers are shown
   pub all_shown : (l : Option Location) (registers : Places) (g : Arrays) (fs : List Stored) (s : State)
-      → Stands most total gs starts (hide (lazy_none l (λ q. None)) registers) g fs s → Stands most total gs starts registers g fs s
-  all_shown l registers g fs s h = fewer_stand most total gs starts (hide (lazy_none l (λ q. None)) registers) registers g fs s (λ q v is. by l q v is) h
+      → Stands most total gs starts (hide (deferred_none l (λ q. None)) registers) g fs s → Stands most total gs starts registers g fs s
+  all_shown l registers g fs s h = fewer_stand most total gs starts (hide (deferred_none l (λ q. None)) registers) registers g fs s (λ q v is. by l q v is) h
     where
       held : (b : Bool) (q v : ℕ) → registers q ≡ Some v → hidden (if b then None else None) (registers q) ≡ Some v
       held true q v is = is
       held false q v is = is
 
-      by : (l : Option Location) (q v : ℕ) → registers q ≡ Some v → hide (lazy_none l (λ q. None)) registers q ≡ Some v
+      by : (l : Option Location) (q v : ℕ) → registers q ≡ Some v → hide (deferred_none l (λ q. None)) registers q ≡ Some v
       by None q v is = is
       by (Some (InSlot k)) q v is = is
       by (Some (Copied r k)) q v is = is
@@ -198,8 +198,8 @@ module _ (most total : ℕ) (gs : List RGlobal) (starts : ℕ → ℕ) where
   AllDenote count s copies hs facts (x ∷ xs) (v ∷ vs) = Denotes count s (operand (locations_of copies hs) facts x) v × AllDenote count s copies hs facts xs vs
 
   pub all_denote : (registers : Places) (g : Arrays) (top : Stored) (fs : List Stored) (s : State) (hs : List Home) (facts : Facts) (xs vs : List ℕ)
-      → AreFrameHomes hs top.copies top.count → IsKnown (known_in facts) hs registers top.slots → IsLazy facts.lazy registers
-      → Stands most total gs starts (hide facts.lazy registers) g (top ∷ fs) s → read_homes hs registers top.slots xs ≡ Some vs
+      → AreFrameHomes hs top.copies top.count → IsKnown (known_in facts) hs registers top.slots → AreDeferred facts.deferred registers
+      → Stands most total gs starts (hide facts.deferred registers) g (top ∷ fs) s → read_homes hs registers top.slots xs ≡ Some vs
       → AllDenote top.count s top.copies hs facts xs vs
   all_denote registers g top fs s hs facts [] [] ok k lz h e = tt
   all_denote registers g top fs s hs facts [] (v ∷ vs) ok k lz h e = (let none : [] ≡ v ∷ vs = same_Some [] (v ∷ vs) e in let no = ap length none in absurd (omega (arith, no)))
@@ -218,12 +218,12 @@ module _ (most total : ℕ) (gs : List RGlobal) (starts : ℕ → ℕ) where
               → AllDenote top.count s top.copies hs facts (x ∷ xs) vs
           second None rest e = absurd (none-some vs e)
           second (Some ws) rest e = subst (AllDenote top.count s top.copies hs facts (x ∷ xs)) (same_Some (v ∷ ws) vs e) (
-            (operand_means most total gs starts facts.lazy registers g top fs s h lz (known_in facts) hs x v ok k there).0,
+            (operand_means most total gs starts facts.deferred registers g top fs s h lz (known_in facts) hs x v ok k there).0,
             again ws rest,
           )
 
   -- an operand isn't in a register below its own
-  operand_apart : (l : Option Location) (z k : Option ℕ) (t t' : ℕ) → t < t' → t < 8 → IsBehind l t' → IsApart t (lazy_source z (source k l))
+  operand_apart : (l : Option Location) (z k : Option ℕ) (t t' : ℕ) → t < t' → t < 8 → IsBehind l t' → IsApart t (deferred_source z (source k l))
   operand_apart l (Some w) k t t' lt few behind = by (nat_eq w 0)
     where
       by : (b : Bool) → IsApart t (if b then Zero else Word w)
@@ -251,7 +251,7 @@ module _ (most total : ℕ) (gs : List RGlobal) (starts : ℕ → ℕ) where
   still_denote count t v s f copies hs facts t' (x ∷ xs) [] lt few order same d = absurd d
   still_denote count t v s f copies hs facts t' (x ∷ xs) (w ∷ ws) lt few order same d = (
     denotes_kept count t w (operand (locations_of copies hs) facts x) s f (λ e. absurd (omega (arith, few, e)))
-        (operand_apart (locations_of copies hs x) (lazy_at facts.lazy (locations_of copies hs x)) (known_in facts x) t t' lt few order.0) same d.0,
+        (operand_apart (locations_of copies hs x) (deferred_at facts.deferred (locations_of copies hs x)) (known_in facts x) t t' lt few order.0) same d.0,
     still_denote count t v s f copies hs facts (suc t') xs ws (omega (arith, lt)) few order.1 same d.1,
   )
 
@@ -270,7 +270,7 @@ module _ (most total : ℕ) (gs : List RGlobal) (starts : ℕ → ℕ) where
   arguments registers g top fs s hs facts t (x ∷ xs) (v ∷ vs) above low high order d h =
       let one = carries most total gs starts registers g top fs s h t v (operand (locations_of top.copies hs) facts x)
       (record { low = low; high = omega (arith, high) }) d.0 in
-      let st = passing_kept most total gs starts registers g (top ∷ fs) (carry t (operand (locations_of top.copies hs) facts x)) s t v above (omega (arith, high)) one h in
+      let st = caller_saved_kept most total gs starts registers g (top ∷ fs) (carry t (operand (locations_of top.copies hs) facts x)) s t v above (omega (arith, high)) one h in
       let left = still_denote top.count t v s one.regs top.copies hs facts (suc t) xs vs (omega arith) (omega (arith, high)) order.1 one.others d.1 in
       let more = arguments registers g top fs (record s { regs = one.regs }) hs facts (suc t) xs vs above (omega arith) (omega (arith, high)) order.1 left st in
       record {
@@ -309,7 +309,7 @@ module _ (most total : ℕ) (gs : List RGlobal) (starts : ℕ → ℕ) where
     parameters (v ∷ vs) t x registers top s go ok low high clear here h f =
         let place : t + 0 ≡ t = omega arith in
         let is : s.regs t ≡ v = ap s.regs (sym place) ∙ here 0 v refl in
-        arrives most total gs starts (λ q. None) registers g top fs s h (none_lazy registers) P (λ r s. write_homes hs r s (suc x) vs out go) hs x v t out
+        arrives most total gs starts (λ q. None) registers g top fs s h (none_deferred registers) P (λ r s. write_homes hs r s (suc x) vs out go) hs x v t out
         low is (subst (λ v. v < 2 ^ 32) is ((h.words).regs t)) ok failed
         (λ r1 slots1 s1 e1 h1 same.
         parameters vs (suc t) (suc x) r1 (with_slots top slots1) s1 go ok (omega (arith, low)) (omega (arith, high)) clear.1

@@ -11,7 +11,7 @@ use Rattle.rtl.specs.declared.block.RFunc.{RFunc}
 use Rattle.rtl.specs.declared.block.RGlobal.{RGlobal}
 use Rattle.rtl.specs.Programs as programs
 use Rattle.rtl.specs.Programs.{IsProgram}
-use Rattle.mips_homes.specs.Hints.{reach_from, exit_reach, blocks_reach}
+use Rattle.mips_homes.specs.Preferences.{reach_from, exit_reach, blocks_reach}
 use Rattle.mips_homes.proofs.Located.{reach_covers, blocks_cover}
 use Rattle.mips_homes.specs.declared.homed.Home.{Home}
 use Rattle.mips_homes.specs.declared.homed.Home.TheVariants.{Reg, Slot}

@@ -25,7 +25,7 @@ use Rattle.rtl.specs.declared.block.RFunc.{RFunc}
 use Rattle.rtl.specs.declared.block.RGlobal.{RGlobal}
 use Rattle.rtl.specs.Meaning.{Code, code_of}
 use Rattle.mips_homes.specs.HomedRun.{Activation, new_activation, at_code, Run, Running, Ended, Failed, read_home, read_homes, write_home}
-use Rattle.mips_homes.specs.HomedRun.{is_lasting, lasting, write_homes, registers_at_entry, registers_at_return, state_at_block, with_result, state_after_return}
+use Rattle.mips_homes.specs.HomedRun.{is_callee_saved, callee_saved, write_homes, registers_at_entry, registers_at_return, state_at_block, with_result, state_after_return}
 use Rattle.mips_homes.specs.HomedRun.{state_after_exit, step_at, homed_step, homed_steps}
 use Rattle.mips_homes.specs.declared.homed.Frame.{Frame}
 use Rattle.mips_homes.specs.declared.homed.Homed.{Homed}
@@ -34,14 +34,14 @@ use Rattle.mips_emit.specs.declared.comparison.Comparison.{Comparison}
 use Rattle.mips_emit.specs.declared.facts.Last.{Last}
 use Rattle.mips_emit.specs.declared.location.Source.{Source}
 use Rattle.mips_emit.specs.Locations.{Facts, no_facts, location_at, known_in, locations, learned, known_after, fresh_of, last_operand}
-use Rattle.mips_emit.specs.Code.{move_code, inst_code, fetch, seat, carry}
+use Rattle.mips_emit.specs.Code.{move_code, inst_code, fetch, operand_register, carry}
 use Rattle.mips_emit.specs.Comparisons.{comparison_code, exit_by_form, comparison_of, asked_last, next_code, last_with, no_last, last_after, insts_code}
 use Rattle.mips_emit.specs.Comparisons.{tested, branch_code, branch_exit, is_result, returned, return_code}
 use Rattle.mips_emit.specs.Frames.{IsFrame}
 use Rattle.mips_emit.proofs.Runs.{RunsTo, runs_none, runs_then, Point, At, Stopped, from, Leads, leads_nowhere, leads_then, leads_run, leads_exit}
 use Rattle.mips_emit.proofs.View.{word_at, set, set_words, put_here, put_other, moves}
 use Rattle.mips_emit.proofs.Stands.{Stored, stack_room, Stands}
-use Rattle.mips_emit.proofs.Homes.{passes, hidden, hide, IsLazy, none_lazy, fewer_stand, IsLast, none_last, frame_homes, words_kept, call_kept, IsKnown, nothing_known, last_means, fetches, carries, sets_kept, passing_kept, arrives}
+use Rattle.mips_emit.proofs.Homes.{passes, hidden, hide, AreDeferred, none_deferred, fewer_stand, IsLast, none_last, frame_homes, words_kept, call_kept, IsKnown, nothing_known, last_means, fetches, carries, sets_kept, caller_saved_kept, arrives}
 use Rattle.mips_emit.proofs.Insts.{value_or_failed, performs}
 use Rattle.mips_emit.proofs.Comparing.{none_asked, waiting, compares}
 use Rattle.mips_select.specs.declared.limits.TheConstants.{STACK_BYTES}
@@ -49,7 +49,7 @@ use Rattle.mips_select.specs.Data.{padded_bytes, start_of}
 use Rattle.mips_select.specs.Code.{saves, frame_bytes, link_save, lowers, parameters_code, prologue, epilogue, asked_of, exit_code, exit_of, code_insts}
 use Rattle.mips_select.specs.Code.{own_block, result_code, after_block, prologue_block, end_block}
 use Rattle.mips_select.specs.Selected.{AreClear, GoesOn, StandsAt, IsPlaced, IsFunction, IsSelected}
-use Rattle.mips_select.proofs.Departures.{read_length, first_true, second_true, branch_words, either, above_passing, goes_by, same_exit, same_code}
+use Rattle.mips_select.proofs.Departures.{read_length, first_true, second_true, branch_words, either, above_arguments, goes_by, same_exit, same_code}
 use Rattle.mips_select.proofs.Frames.{all_shown, all_denote, arguments, parameters}
 use Rattle.mips_select.proofs.Returns.{return_found}
 use Rattle.mips_select.proofs.Calls.{stored_frame, frames_of, linked_frames, enters, leaves_frame}
@@ -143,11 +143,11 @@ module _ (h : Homed) (depth : ℕ) (blocks : List BlockParts) (ok : IsSelected h
     pub point : p ≡ At number (code_insts gs starts leaf a.frame facts last a.code) state out
     pub code : CodeAt leaf a.frame place head (known_after (locations a.frame) a.code.insts facts) (last_after (locations a.frame) (asked_of a.code.exit) facts a.code.insts last) number a.code.exit
     pub is_known : IsKnown (known_in facts) a.frame.homes.items r a.slots
-    pub is_lazy : IsLazy facts.lazy r
+    pub are_deferred : AreDeferred facts.deferred r
     pub is_last : IsLast last a.frame.copies.items a.frame.homes.items r a.slots state
     pub placed : Placed leaf a.frame place head a.blocks
     pub frame : IsFrame ok.most a.frame
-    pub stands : Stand (hide facts.lazy r) g (stored_frame leaf a.frame a.slots a.aside link ∷ frames_of ws below) state
+    pub stands : Stand (hide facts.deferred r) g (stored_frame leaf a.frame a.slots a.aside link ∷ frames_of ws below) state
     pub waits : Waits link a.result_to ws below
 
   abbrev pub MatchRun : Run → Point → Type 0
@@ -228,7 +228,7 @@ module _ (h : Homed) (depth : ℕ) (blocks : List BlockParts) (ok : IsSelected h
               = refl;
           code = code_at leaf a.frame place head (place b) (head b) block at;
           is_known = nothing_known a.frame.homes.items r slots;
-          is_lazy = none_lazy r;
+          are_deferred = none_deferred r;
           is_last =
               none_last a.frame.copies.items a.frame.homes.items r slots s;
           placed = placed;
@@ -245,7 +245,7 @@ module _ (h : Homed) (depth : ℕ) (blocks : List BlockParts) (ok : IsSelected h
   pub entered : (p : Point) (f : ℕ) (func : RFunc) (frame : Frame) → IsFunction blocks gs starts ok.entry ok.most f func frame
       → (r : Places) (arrays : Arrays) (ws : List Activation) (link : ℕ) (result_to : Option ℕ) (below : List ℕ) (vs : List ℕ) (s : State) (out : List ℕ)
       → ((form : BlockParts) → slice_get blocks (ok.entry f) ≡ Some form → Lead 1 p (At (ok.entry f) form.insts s out))
-      → Stand r arrays (frames_of ws below) s → ((q : ℕ) → is_lasting q ≡ false → r q ≡ None) → s.regs 31 ≡ link → ((j v : ℕ) → slice_get vs j ≡ Some v → s.regs (4 + j) ≡ v) → length vs ≡ func.parameters
+      → Stand r arrays (frames_of ws below) s → ((q : ℕ) → is_callee_saved q ≡ false → r q ≡ None) → s.regs 31 ≡ link → ((j v : ℕ) → slice_get vs j ≡ Some v → s.regs (4 + j) ≡ v) → length vs ≡ func.parameters
       → suc (length ws) * ok.most ≤ STACK_BYTES → Waits link result_to ws below
       → Reach 1 p (write_homes frame.homes.items (registers_at_entry frame.saved.items r) unset_places 0 vs out (λ r' s'.
       state_at_block 0 (new_activation func.blocks.items frame s' r result_to) r' s' ws arrays out))
@@ -367,7 +367,7 @@ module _ (h : Homed) (depth : ℕ) (blocks : List BlockParts) (ok : IsSelected h
           code = subst (λ (c : Code). CodeAt false w.frame m.place m.head (known_after (locations w.frame) c.insts no_facts) (last_after (locations w.frame) (asked_of c.exit) no_facts c.insts no_last) m.next
               c.exit) (sym m.code) (code_at false w.frame m.place m.head m.next m.first m.block m.at);
           is_known = nothing_known w.frame.homes.items r' slots';
-          is_lazy = none_lazy r';
+          are_deferred = none_deferred r';
           is_last = none_last w.frame.copies.items w.frame.homes.items r' slots' s';
           placed = m.placed;
           frame = m.frame;
@@ -421,35 +421,35 @@ module _ (h : Homed) (depth : ℕ) (blocks : List BlockParts) (ok : IsSelected h
           out again) tt (λ v o_v.
           let two = result v o_v in
           arrives ok.most total gs starts (λ q. None) (registers_at_return a.frame.saved.items a.aside r) g (stored_frame false w.frame w.slots w.aside l)
-          (frames_of ws ls) s st (none_lazy (registers_at_return a.frame.saved.items a.aside r)) (λ run. Reach 1 p run) again w.frame.homes.items x v 2 out
+          (frames_of ws ls) s st (none_deferred (registers_at_return a.frame.saved.items a.aside r)) (λ run. Reach 1 p run) again w.frame.homes.items x v 2 out
           (omega arith) two (subst (λ v. v < 2 ^ 32) two ((st.words).regs 2)) (frame_homes ok.most w.frame m.frame) tt
           (λ r' slots' s' e st' same. f r' slots' s' e
           (all_shown ok.most total gs starts (location_at w.frame.copies.items (slice_get w.frame.homes.items x)) r' g (stored_frame false w.frame slots' w.aside l ∷ frames_of ws ls) s' st')))
 
-  -- behind a block only lasting registers are known, and none of them has a word to come
-  settled : (lazy r : Places) (g : Arrays) (fs : List Stored) (s : State) → IsLazy lazy r → Stand (hide lazy r) g fs s → Stand (lasting r) g fs s
-  settled lazy r g fs s lz st = fewer_stand ok.most total gs starts (hide lazy r) (lasting r) g fs s (λ q v is. was q v (is_lasting q) refl (lazy q) refl is) st
+  -- behind a block only callee-saved registers are known, and none of them has a word to come
+  settled : (deferred r : Places) (g : Arrays) (fs : List Stored) (s : State) → AreDeferred deferred r → Stand (hide deferred r) g fs s → Stand (callee_saved r) g fs s
+  settled deferred r g fs s lz st = fewer_stand ok.most total gs starts (hide deferred r) (callee_saved r) g fs s (λ q v is. was q v (is_callee_saved q) refl (deferred q) refl is) st
     where
-      was : (q v : ℕ) (c : Bool) → is_lasting q ≡ c → (o : Option ℕ) → lazy q ≡ o → (if c then r q else None) ≡ Some v → hide lazy r q ≡ Some v
+      was : (q v : ℕ) (c : Bool) → is_callee_saved q ≡ c → (o : Option ℕ) → deferred q ≡ o → (if c then r q else None) ≡ Some v → hide deferred r q ≡ Some v
       was q v false ec o eo e = absurd (none-some v e)
       was q v true ec None eo e = ap (λ o. hidden o (r q)) eo ∙ e
-      was q v true ec (Some w) eo e = absurd (true≢false (sym ec ∙ lz.passes q w eo))
+      was q v true ec (Some w) eo e = absurd (true≢false (sym ec ∙ lz.caller_saved q w eo))
 
   -- an exit
   exits : (leaf : Bool) (x : RExit) (facts : Facts) (last : Last) (a : Activation) (k : ℕ) (link : ℕ) (below : List ℕ) (place : ℕ → ℕ) (head : ℕ
       → List Plain) (ws : List Activation) (r : Places) (g : Arrays) (out : List ℕ) (s : State)
-      → CodeAt leaf a.frame place head facts last k x → IsKnown (known_in facts) a.frame.homes.items r a.slots → IsLazy facts.lazy r
+      → CodeAt leaf a.frame place head facts last k x → IsKnown (known_in facts) a.frame.homes.items r a.slots → AreDeferred facts.deferred r
       → IsLast last a.frame.copies.items a.frame.homes.items r a.slots s → Placed leaf a.frame place head a.blocks → IsFrame ok.most a.frame
-      → Waits link a.result_to ws below → Stand (hide facts.lazy r) g (stored_frame leaf a.frame a.slots a.aside link ∷ frames_of ws below) s
+      → Waits link a.result_to ws below → Stand (hide facts.deferred r) g (stored_frame leaf a.frame a.slots a.aside link ∷ frames_of ws below) s
       → Reach 1 (At k (exit_code leaf a.frame facts last x) s out) (state_after_exit h depth x a r ws g out)
   exits leaf (Goto b) facts last a k link below place head ws r g out s c kn lz new placed frame waits st =
-      jumps leaf (At k [] s out) 1 a link below place head ws placed frame waits b (lasting r) a.slots g out s
-      (settled facts.lazy r g (stored_frame leaf a.frame a.slots a.aside link ∷ frames_of ws below) s lz st) (omega arith)
+      jumps leaf (At k [] s out) 1 a link below place head ws placed frame waits b (callee_saved r) a.slots g out s
+      (settled facts.deferred r g (stored_frame leaf a.frame a.slots a.aside link ∷ frames_of ws below) s lz st) (omega arith)
       (λ block stood. no_head 1 (At k [] s out) (place b) (head b) (code_insts gs starts leaf a.frame no_facts no_last (code_of block)) s out c.leads_on
       (jump k c.form (place b) (own_block gs starts ok.entry place leaf a.frame (head b) stood.next block) s out c.there c.exit stood.there))
   exits leaf (Branch x y z) facts last a k link below place head ws r g out s c kn lz new placed frame waits st =
       value_or_failed (λ run. Reach 1 (At k (exit_code leaf a.frame facts last (Branch x y z)) s out) run) (read_home a.frame.homes.items r a.slots x) out
-      (λ v. state_at_block (if nat_eq v 0 then z else y) a (lasting r) a.slots ws g out) tt (λ v e. branch v e (tested last.comparison x) refl c.exit)
+      (λ v. state_at_block (if nat_eq v 0 then z else y) a (callee_saved r) a.slots ws g out) tt (λ v e. branch v e (tested last.comparison x) refl c.exit)
     where
       o : Source
       o = last_operand (locations a.frame) facts last.fresh x
@@ -468,22 +468,22 @@ module _ (h : Homed) (depth : ℕ) (blocks : List BlockParts) (ok : IsSelected h
       branch : (v : ℕ) → read_home a.frame.homes.items r a.slots x ≡ Some v → (t : Option Comparison) → tested last.comparison x ≡ t
           → (c.form).exit ≡ branch_exit t (last_operand (locations a.frame) facts last.fresh x) (place y) (place z)
           → Reach 1 (At k (branch_code t (last_operand (locations a.frame) facts last.fresh x)) s out)
-          (state_at_block (if nat_eq v 0 then z else y) a (lasting r) a.slots ws g out)
+          (state_at_block (if nat_eq v 0 then z else y) a (callee_saved r) a.slots ws g out)
       branch v e None is_test is_exit =
           let code = fetch 1 (last_operand (locations a.frame) facts last.fresh x) in
-          let means = last_means ok.most total gs starts facts.lazy r g (stored_frame leaf a.frame a.slots a.aside link) (frames_of ws below) s st lz (known_in facts)
+          let means = last_means ok.most total gs starts facts.deferred r g (stored_frame leaf a.frame a.slots a.aside link) (frames_of ws below) s st lz (known_in facts)
           last.fresh a.frame.homes.items x v (frame_homes ok.most a.frame frame) kn new.fresh e in
-          let one = fetches ok.most total gs starts (hide facts.lazy r) g (stored_frame leaf a.frame a.slots a.aside link) (frames_of ws below) s st 1 v
+          let one = fetches ok.most total gs starts (hide facts.deferred r) g (stored_frame leaf a.frame a.slots a.aside link) (frames_of ws below) s st 1 v
           (last_operand (locations a.frame) facts last.fresh x) (omega arith) (omega arith) means in
           let s1 : State = record s { regs = one.regs } in
           let b = if nat_eq v 0 then z else y in
           let l1 = code_leads k code s s1 out one.runs in
-          jumps leaf (At k code s out) (length code + 1) a link below place head ws placed frame waits b (lasting r) a.slots g out s1
-          (settled facts.lazy r g (stored_frame leaf a.frame a.slots a.aside link ∷ frames_of ws below) s1 lz one.stands) (omega arith)
+          jumps leaf (At k code s out) (length code + 1) a link below place head ws placed frame waits b (callee_saved r) a.slots g out s1
+          (settled facts.deferred r g (stored_frame leaf a.frame a.slots a.aside link ∷ frames_of ws below) s1 lz one.stands) (omega arith)
           (λ block stood.
           let rest = code_insts gs starts leaf a.frame no_facts no_last (code_of block) in
           let q = At (place b) (head b ++ rest) s1 out in
-          let l2 = departs k c.form (E.BranchPair NotEqual (seat 1 (last_operand (locations a.frame) facts last.fresh x)) 0 (place y) (place z)) s1 out q
+          let l2 = departs k c.form (E.BranchPair NotEqual (operand_register 1 (last_operand (locations a.frame) facts last.fresh x)) 0 (place y) (place z)) s1 out q
           c.there is_exit (λ n.
           ap (λ w. outcome_at_block (if not (w == 0) then place y else place z) (slice_get blocks (if not (w == 0) then place y else place z))
           (items blocks links n) s1 out) one.here
@@ -494,8 +494,8 @@ module _ (h : Homed) (depth : ℕ) (blocks : List BlockParts) (ok : IsSelected h
       branch v e (Some m) is_test is_exit =
           let b = if nat_eq v 0 then z else y in
           let taken : passes m.form m.x m.y s ≡ not (nat_eq v 0) = found v m e last.comparison refl is_test in
-          jumps leaf (At k [] s out) 1 a link below place head ws placed frame waits b (lasting r) a.slots g out s
-          (settled facts.lazy r g (stored_frame leaf a.frame a.slots a.aside link ∷ frames_of ws below) s lz st) (omega arith)
+          jumps leaf (At k [] s out) 1 a link below place head ws placed frame waits b (callee_saved r) a.slots g out s
+          (settled facts.deferred r g (stored_frame leaf a.frame a.slots a.aside link ∷ frames_of ws below) s lz st) (omega arith)
           (λ block stood.
           let rest = code_insts gs starts leaf a.frame no_facts no_last (code_of block) in
           let to = At (place b) (head b ++ rest) s out in
@@ -507,22 +507,22 @@ module _ (h : Homed) (depth : ℕ) (blocks : List BlockParts) (ok : IsSelected h
           no_head 1 (At k [] s out) (place b) (head b) rest s out (either head z y (nat_eq v 0) c.leads_on) l2)
   exits leaf (Out x next) facts last a k link below place head ws r g out s c kn lz new placed frame waits st =
       value_or_failed (λ run. Reach 1 (At k (exit_code leaf a.frame facts last (Out x next)) s out) run) (read_home a.frame.homes.items r a.slots x) out
-      (λ v. state_at_block next a (lasting r) a.slots ws g (out ++ v ∷ [])) tt (λ v e.
+      (λ v. state_at_block next a (callee_saved r) a.slots ws g (out ++ v ∷ [])) tt (λ v e.
       let o = last_operand (locations a.frame) facts last.fresh x in
       let code = carry 4 o in
-      let means = last_means ok.most total gs starts facts.lazy r g (stored_frame leaf a.frame a.slots a.aside link) (frames_of ws below) s st lz (known_in facts)
+      let means = last_means ok.most total gs starts facts.deferred r g (stored_frame leaf a.frame a.slots a.aside link) (frames_of ws below) s st lz (known_in facts)
       last.fresh a.frame.homes.items x v (frame_homes ok.most a.frame frame) kn new.fresh e in
-      let st0 = settled facts.lazy r g (stored_frame leaf a.frame a.slots a.aside link ∷ frames_of ws below) s lz st in
-      let one = carries ok.most total gs starts (lasting r) g (stored_frame leaf a.frame a.slots a.aside link) (frames_of ws below) s st0 4 v o
+      let st0 = settled facts.deferred r g (stored_frame leaf a.frame a.slots a.aside link ∷ frames_of ws below) s lz st in
+      let one = carries ok.most total gs starts (callee_saved r) g (stored_frame leaf a.frame a.slots a.aside link) (frames_of ws below) s st0 4 v o
       (record { low = omega arith; high = omega arith }) means in
-      let st1 = passing_kept ok.most total gs starts (lasting r) g (stored_frame leaf a.frame a.slots a.aside link ∷ frames_of ws below) code s 4 v
-      (above_passing r) (omega arith) one st0 in
+      let st1 = caller_saved_kept ok.most total gs starts (callee_saved r) g (stored_frame leaf a.frame a.slots a.aside link ∷ frames_of ws below) code s 4 v
+      (above_arguments r) (omega arith) one st0 in
       let s1 : State = record s { regs = one.regs } in
       let s2 = set s1 2 1 in
-      let st2 = words_kept ok.most total gs starts (lasting r) g (stored_frame leaf a.frame a.slots a.aside link ∷ frames_of ws below) s1 s2.regs
+      let st2 = words_kept ok.most total gs starts (callee_saved r) g (stored_frame leaf a.frame a.slots a.aside link ∷ frames_of ws below) s1 s2.regs
       (set_words s1 2 1 st1.words (omega arith)) (λ q low high. put_other s1.regs 2 1 q (omega (arith, low))) st1 in
       let l1 = code_leads k code s s1 out one.runs in
-      jumps leaf (At k code s out) (length code + 1) a link below place head ws placed frame waits next (lasting r) a.slots g (out ++ v ∷ []) s2
+      jumps leaf (At k code s out) (length code + 1) a link below place head ws placed frame waits next (callee_saved r) a.slots g (out ++ v ∷ []) s2
       st2 (omega arith)
       (λ block stood.
       let rest = code_insts gs starts leaf a.frame no_facts no_last (code_of block) in
@@ -533,13 +533,13 @@ module _ (h : Homed) (depth : ℕ) (blocks : List BlockParts) (ok : IsSelected h
       leads_then blocks links (length code) 1 (At k code s out) (At k [] s1 out) (At (place next) rest s2 (out ++ v ∷ [])) l1
       (no_head 1 (At k [] s1 out) (place next) (head next) rest s2 (out ++ v ∷ []) c.leads_on l2)))
   exits leaf (Return None) facts last a k link below place head ws r g out s c kn lz new placed frame waits st =
-      let e = leaves_frame ok.most total gs starts ok.small (lasting r) g (frames_of ws below) s leaf a.frame a.slots a.aside link frame (linked_frames ws below)
-      (settled facts.lazy r g (stored_frame leaf a.frame a.slots a.aside link ∷ frames_of ws below) s lz st) in
-      returns (At k (epilogue leaf a.frame) s out) (length (epilogue leaf a.frame)) k c.form a ws link below None (lasting r) g out e.to c.there c.exit e.link_is
+      let e = leaves_frame ok.most total gs starts ok.small (callee_saved r) g (frames_of ws below) s leaf a.frame a.slots a.aside link frame (linked_frames ws below)
+      (settled facts.deferred r g (stored_frame leaf a.frame a.slots a.aside link ∷ frames_of ws below) s lz st) in
+      returns (At k (epilogue leaf a.frame) s out) (length (epilogue leaf a.frame)) k c.form a ws link below None (callee_saved r) g out e.to c.there c.exit e.link_is
       (λ v none. absurd (none-some v none)) e.stands waits (code_leads k (epilogue leaf a.frame) s e.to out e.runs)
   exits leaf (Return (Some x)) facts last a k link below place head ws r g out s c kn lz new placed frame waits st =
       value_or_failed (λ run. Reach 1 (At k (exit_code leaf a.frame facts last (Return (Some x))) s out) run) (read_home a.frame.homes.items r a.slots x) out
-      (λ v. state_after_return (Some v) a (lasting r) ws g out) tt (λ v read_v. gives v read_v (returned last.comparison x) refl)
+      (λ v. state_after_return (Some v) a (callee_saved r) ws g out) tt (λ v read_v. gives v read_v (returned last.comparison x) refl)
     where
       there_already : (v : ℕ) → read_home a.frame.homes.items r a.slots x ≡ Some v → (p : Option Comparison) → last.comparison ≡ p → returned p x ≡ true
           → s.regs 2 ≡ v
@@ -550,26 +550,26 @@ module _ (h : Homed) (depth : ℕ) (blocks : List BlockParts) (ok : IsSelected h
 
       gives : (v : ℕ) → read_home a.frame.homes.items r a.slots x ≡ Some v → (b : Bool) → returned last.comparison x ≡ b
           → Reach 1 (At k (return_code b (last_operand (locations a.frame) facts last.fresh x) ++ epilogue leaf a.frame) s out)
-          (state_after_return (Some v) a (lasting r) ws g out)
+          (state_after_return (Some v) a (callee_saved r) ws g out)
       gives v read_v true is =
           let two = there_already v read_v last.comparison refl is in
-          let e = leaves_frame ok.most total gs starts ok.small (lasting r) g (frames_of ws below) s leaf a.frame a.slots a.aside link frame
-          (linked_frames ws below) (settled facts.lazy r g (stored_frame leaf a.frame a.slots a.aside link ∷ frames_of ws below) s lz st) in
-          returns (At k (epilogue leaf a.frame) s out) (length (epilogue leaf a.frame)) k c.form a ws link below (Some v) (lasting r) g out e.to c.there c.exit
+          let e = leaves_frame ok.most total gs starts ok.small (callee_saved r) g (frames_of ws below) s leaf a.frame a.slots a.aside link frame
+          (linked_frames ws below) (settled facts.deferred r g (stored_frame leaf a.frame a.slots a.aside link ∷ frames_of ws below) s lz st) in
+          returns (At k (epilogue leaf a.frame) s out) (length (epilogue leaf a.frame)) k c.form a ws link below (Some v) (callee_saved r) g out e.to c.there c.exit
           e.link_is (λ w is. e.same 2 (omega arith) ∙ two ∙ same_Some v w is) e.stands waits (code_leads k (epilogue leaf a.frame) s e.to out e.runs)
       gives v read_v false is =
           let o = last_operand (locations a.frame) facts last.fresh x in
-          let means = last_means ok.most total gs starts facts.lazy r g (stored_frame leaf a.frame a.slots a.aside link) (frames_of ws below) s st lz
+          let means = last_means ok.most total gs starts facts.deferred r g (stored_frame leaf a.frame a.slots a.aside link) (frames_of ws below) s st lz
           (known_in facts) last.fresh a.frame.homes.items x v (frame_homes ok.most a.frame frame) kn new.fresh read_v in
-          let one = carries ok.most total gs starts (hide facts.lazy r) g (stored_frame leaf a.frame a.slots a.aside link) (frames_of ws below) s st 2 v o
+          let one = carries ok.most total gs starts (hide facts.deferred r) g (stored_frame leaf a.frame a.slots a.aside link) (frames_of ws below) s st 2 v o
           (record { low = omega arith; high = omega arith }) means in
-          let st1 = sets_kept ok.most total gs starts (hide facts.lazy r) g (stored_frame leaf a.frame a.slots a.aside link) (frames_of ws below) s st (carry 2 o) 2 v
+          let st1 = sets_kept ok.most total gs starts (hide facts.deferred r) g (stored_frame leaf a.frame a.slots a.aside link) (frames_of ws below) s st (carry 2 o) 2 v
           (omega arith) one in
           let s1 : State = record s { regs = one.regs } in
-          let e = leaves_frame ok.most total gs starts ok.small (lasting r) g (frames_of ws below) s1 leaf a.frame a.slots a.aside link frame
-          (linked_frames ws below) (settled facts.lazy r g (stored_frame leaf a.frame a.slots a.aside link ∷ frames_of ws below) s1 lz st1) in
+          let e = leaves_frame ok.most total gs starts ok.small (callee_saved r) g (frames_of ws below) s1 leaf a.frame a.slots a.aside link frame
+          (linked_frames ws below) (settled facts.deferred r g (stored_frame leaf a.frame a.slots a.aside link ∷ frames_of ws below) s1 lz st1) in
           let code = carry 2 o ++ epilogue leaf a.frame in
-          returns (At k code s out) (length code) k c.form a ws link below (Some v) (lasting r) g out e.to c.there c.exit e.link_is
+          returns (At k code s out) (length code) k c.form a ws link below (Some v) (callee_saved r) g out e.to c.there c.exit e.link_is
           (λ w is. e.same 2 (omega arith) ∙ one.here ∙ same_Some v w is) e.stands waits (code_leads k code s e.to out (runs_then one.runs e.runs))
   exits true (Call f xs result_to next) facts last a k link below place head ws r g out s c kn lz new placed frame waits st = absurd (true≢false ((c.leads_on).0).0)
   exits false (Call f xs result_to next) facts last a k link below place head ws r g out s c kn lz new placed frame waits st =
@@ -583,14 +583,14 @@ module _ (h : Homed) (depth : ℕ) (blocks : List BlockParts) (ok : IsSelected h
       let asked = read_length a.frame.homes.items r a.slots xs.items vs read_vs in
       let count : length vs ≡ func.parameters = eqb-true (length vs) func.parameters as_many in
       let stored = stored_frame false a.frame a.slots a.aside link in
-      let st0 = settled facts.lazy r g (stored ∷ frames_of ws below) s lz st in
+      let st0 = settled facts.deferred r g (stored ∷ frames_of ws below) s lz st in
       let denote = all_denote ok.most total gs starts r g stored (frames_of ws below) s a.frame.homes.items facts xs.items vs
       (frame_homes ok.most a.frame frame) kn lz st read_vs in
-      let args = arguments ok.most total gs starts (lasting r) g stored (frames_of ws below) s a.frame.homes.items facts 4 xs.items vs (above_passing r)
+      let args = arguments ok.most total gs starts (callee_saved r) g stored (frames_of ws below) s a.frame.homes.items facts 4 xs.items vs (above_arguments r)
       (omega arith) (omega (arith, asked, count, few)) ((c.leads_on).0).1 denote st0 in
       let s1 : State = record s { regs = args.regs } in
       let s2 = set s1 31 (links k) in
-      let st2 = call_kept ok.most total gs starts (lasting r) g (stored ∷ frames_of ws below) s1 s2.regs
+      let st2 = call_kept ok.most total gs starts (callee_saved r) g (stored ∷ frames_of ws below) s1 s2.regs
       (set_words s1 31 (links k) (args.stands).words (tells.words k)) (λ leaf. absurd (true≢false (sym leaf)))
       (λ q low high. put_other s1.regs 31 (links k) q (omega (arith, high))) args.stands in
       let found = return_found links blocks k (ok.entry f) c.next c.form tells c.there c.exit in
@@ -612,7 +612,7 @@ module _ (h : Homed) (depth : ℕ) (blocks : List BlockParts) (ok : IsSelected h
       } in
       let d = length (exit_code false a.frame facts last (Call f xs result_to next)) in
       reach_after 1 1 d start (At k [] s1 out) _ (omega arith) (code_leads k (exit_code false a.frame facts last (Call f xs result_to next)) s s1 out args.runs)
-      (entered (At k [] s1 out) f func callee is (lasting r) g (waiting block ∷ ws) (links k) result_to (link ∷ below) vs s2 out
+      (entered (At k [] s1 out) f func callee is (callee_saved r) g (waiting block ∷ ws) (links k) result_to (link ∷ below) vs s2 out
       (λ form there. departs k c.form (E.Call (ok.entry f) c.next) s1 out (At (ok.entry f) form.insts s2 out) c.there c.exit
       (λ n. ap (λ o. outcome_at_block (ok.entry f) o (items blocks links n) s2 out) there))
       st2 (λ q passes. ap (λ b. if b then r q else None) passes) (put_here s1.regs 31 (links k) (record { low = omega arith; high = omega arith }))
@@ -658,10 +658,10 @@ module _ (h : Homed) (depth : ℕ) (blocks : List BlockParts) (ok : IsSelected h
 
       -- the match where some instructions are left
       matched : (is : List RInst) (facts : Facts) (last : Last) (r' slots' : Places) (g' : Arrays) (s' : State) → Coded is facts last
-          → IsKnown (known_in facts) a.frame.homes.items r' slots' → IsLazy facts.lazy r' → IsLast last a.frame.copies.items a.frame.homes.items r' slots' s'
-          → Stand (hide facts.lazy r') g' (stored_frame m.leaf a.frame slots' a.aside m.link ∷ frames_of ws m.below) s'
+          → IsKnown (known_in facts) a.frame.homes.items r' slots' → AreDeferred facts.deferred r' → IsLast last a.frame.copies.items a.frame.homes.items r' slots' s'
+          → Stand (hide facts.deferred r') g' (stored_frame m.leaf a.frame slots' a.aside m.link ∷ frames_of ws m.below) s'
           → Match r' (at_code a slots' (record { insts = is; exit = a.code.exit })) ws g' out (at is facts last s')
-      matched is facts last r' slots' g' s' code known lazy fresh stands = record {
+      matched is facts last r' slots' g' s' code known deferred fresh stands = record {
         state = s';
         spot = m.spot;
         facts = facts;
@@ -669,7 +669,7 @@ module _ (h : Homed) (depth : ℕ) (blocks : List BlockParts) (ok : IsSelected h
         point = refl;
         code = code;
         is_known = known;
-        is_lazy = lazy;
+        are_deferred = deferred;
         is_last = fresh;
         placed = m.placed;
         frame = m.frame;
@@ -693,7 +693,7 @@ module _ (h : Homed) (depth : ℕ) (blocks : List BlockParts) (ok : IsSelected h
           (last_after (locations a.frame) asked (learned (locations a.frame) i m.facts) is (last_with None (fresh_of (locations a.frame) i))) a.code.exit)) m.state out)
           run) out tt i
           m.facts r (stored_frame m.leaf a.frame a.slots a.aside m.link) m.state
-          (λ r' s' g'. Running r' (at_code a s' (record { insts = is; exit = a.code.exit }) ∷ ws) g' out) (frame_homes ok.most a.frame m.frame) m.is_known m.is_lazy
+          (λ r' s' g'. Running r' (at_code a s' (record { insts = is; exit = a.code.exit }) ∷ ws) g' out) (frame_homes ok.most a.frame m.frame) m.is_known m.are_deferred
           m.stands
           (λ r' slots' g' s' some e st lz kn new. record {
             to = at is (learned (locations a.frame) i m.facts) (last_with None (fresh_of (locations a.frame) i)) s';
@@ -713,7 +713,7 @@ module _ (h : Homed) (depth : ℕ) (blocks : List BlockParts) (ok : IsSelected h
           ++ exit_code m.leaf a.frame (learned (locations a.frame) i m.facts) (last_with (Some n) None) a.code.exit) m.state out) run) out tt i
           m.facts (asked_of a.code.exit) n r (stored_frame m.leaf a.frame a.slots a.aside m.link) m.state
           (λ r' s' g'. Running r' (at_code a s' (record { insts = []; exit = a.code.exit }) ∷ ws) g' out) is (frame_homes ok.most a.frame m.frame) m.is_known
-          m.is_lazy m.stands
+          m.are_deferred m.stands
           (λ q u s' some e st lz new.
           let behind = exit_code m.leaf a.frame (learned (locations a.frame) i m.facts) (last_with (Some n) None) a.code.exit in
           let start = At m.number (comparison_code n
@@ -738,7 +738,7 @@ module _ (h : Homed) (depth : ℕ) (blocks : List BlockParts) (ok : IsSelected h
           })
 
       step : (is : List RInst) → Coded is m.facts m.last → Reach 1 (at is m.facts m.last m.state) (step_at h depth is a.code.exit a r ws g out)
-      step [] c = exits m.leaf a.code.exit m.facts m.last a m.number m.link m.below m.place m.head ws r g out m.state c m.is_known m.is_lazy m.is_last m.placed m.frame
+      step [] c = exits m.leaf a.code.exit m.facts m.last a m.number m.link m.below m.place m.head ws r g out m.state c m.is_known m.are_deferred m.is_last m.placed m.frame
           m.waits m.stands
       step (i ∷ is) c = next i is (comparison_of (locations a.frame) m.facts (asked_last asked is) i) refl c
 

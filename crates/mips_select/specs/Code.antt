@@ -24,20 +24,20 @@ use Rattle.mips_emit.specs.Code.{constant, load_word_at, store_word_at, move_cod
 use Rattle.mips_emit.specs.Comparisons.{insts_code, last_after, no_last, tested, branch_code, branch_exit, returned, return_code}
 use Rattle.mips_select.specs.declared.heads.Head.{Head}
 use Rattle.mips_select.specs.declared.heads.Head.TheVariants.{Bare, Enters, Takes}
-use Rattle.mips_select.specs.declared.prologue.Way.{Way}
-use Rattle.mips_select.specs.declared.prologue.Way.TheVariants.{Save, Restore}
+use Rattle.mips_select.specs.declared.prologue.Direction.{Direction}
+use Rattle.mips_select.specs.declared.prologue.Direction.TheVariants.{Save, Restore}
 
 -- ---- frames
 
 -- a register into a word of the frame, or back
-abbrev pub frame_word : Way → ℕ → ℕ → Plain
+abbrev pub frame_word : Direction → ℕ → ℕ → Plain
 frame_word Save r at = store_word_at r at
 frame_word Restore r at = load_word_at r at
 
 -- registers, from an offset on
-abbrev pub frame_words : Way → ℕ → List ℕ → List Plain
-frame_words way at [] = []
-frame_words way at (r ∷ rs) = frame_word way r at ∷ frame_words way (at + 4) rs
+abbrev pub frame_words : Direction → ℕ → List ℕ → List Plain
+frame_words direction at [] = []
+frame_words direction at (r ∷ rs) = frame_word direction r at ∷ frame_words direction (at + 4) rs
 
 abbrev pub saves : ℕ → List ℕ → List Plain
 saves at rs = frame_words Save at rs
@@ -53,9 +53,9 @@ frame_bytes leaf f = 4 * (f.slots + length f.saved.items + link_words leaf)
 abbrev pub link_offset : Frame → ℕ
 link_offset f = 4 * f.slots + 4 * length f.saved.items
 
-abbrev pub frame_link : Way → Bool → Frame → List Plain
-frame_link way true f = []
-frame_link way false f = frame_word way 31 (link_offset f) ∷ []
+abbrev pub frame_link : Direction → Bool → Frame → List Plain
+frame_link direction true f = []
+frame_link direction false f = frame_word direction 31 (link_offset f) ∷ []
 
 abbrev pub link_save : Bool → Frame → List Plain
 link_save leaf f = frame_link Save leaf f
@@ -64,12 +64,12 @@ abbrev pub link_load : Bool → Frame → List Plain
 link_load leaf f = frame_link Restore leaf f
 
 -- the stack pointer goes down and up
-abbrev pub step_of : Way → ℕ → ℤ
+abbrev pub step_of : Direction → ℕ → ℤ
 step_of Save n = negsuc (n - 1)
 step_of Restore n = pos n
 
-abbrev pub stack_step : Way → ℕ → List Plain
-stack_step way n = if nat_eq n 0 then [] else Imm Addiu 29 29 (step_of way n) ∷ []
+abbrev pub stack_step : Direction → ℕ → List Plain
+stack_step direction n = if nat_eq n 0 then [] else Imm Addiu 29 29 (step_of direction n) ∷ []
 
 abbrev pub lowers : ℕ → List Plain
 lowers n = stack_step Save n

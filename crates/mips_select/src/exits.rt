@@ -17,7 +17,7 @@ use crate::prologue::emit_epilogue;
 use mblock::{BlockNumber, Exit};
 use mips_emit::{
     Asked, Knowledge, Last, comparison_exit, emit_arguments, emit_departure, emit_fetch,
-    last_operand, register, returned, seat, tested,
+    last_operand, operand_register, register, returned, tested,
 };
 use mips_homes::Frame;
 use mips_isa::{PairTest, Plain, Reg};
@@ -85,7 +85,7 @@ fn emit_branch(
             emit_fetch(code, register(1), &operand)?;
             Ok(Exit::BranchPair {
                 test: PairTest::NotEqual,
-                rs: seat(register(1), &operand),
+                rs: operand_register(register(1), &operand),
                 rt: Reg::ZERO,
                 then,
                 other,

@@ -21,33 +21,43 @@ fn stack_pointer() -> Reg
     Reg::masked(29)
 }
 
-// Which way words go between registers and the frame.
+// In which direction words go between registers and the frame.
 #[derive(Clone, Copy)]
-pub(crate) enum Way {
+pub(crate) enum Direction {
     Save,
     Restore,
 }
 
 // A register into a word of the frame, or back.
-fn emit_word(code: &mut Vec<Plain>, way: Way, r: NonzeroReg, place: u32) -> Result<(), AllocError>
+fn emit_word(
+    code: &mut Vec<Plain>,
+    direction: Direction,
+    r: NonzeroReg,
+    place: u32,
+) -> Result<(), AllocError>
     requires { place ≤ FRAME_BYTES }
-    ensures { OnOk result (code.new.items ≡ code.old.items ++ frame_word way r place ∷ []) }
+    ensures { OnOk result (code.new.items ≡ code.old.items ++ frame_word direction r place ∷ []) }
 {
-    match way {
-        Way::Save => emit_store_word(code, r.reg(), place),
-        Way::Restore => emit_load_word(code, r, place),
+    match direction {
+        Direction::Save => emit_store_word(code, r.reg(), place),
+        Direction::Restore => emit_load_word(code, r, place),
     }
 }
 
 // Registers into the frame from an offset on, or back.
-fn emit_words(code: &mut Vec<Plain>, way: Way, at: u32, registers: &[u8]) -> Result<(), AllocError>
+fn emit_words(
+    code: &mut Vec<Plain>,
+    direction: Direction,
+    at: u32,
+    registers: &[u8],
+) -> Result<(), AllocError>
     requires fits { at + 4 * length registers.now ≤ FRAME_BYTES }
     requires registers { (j r : ℕ) → slice_get registers.now j ≡ Some r → (16 ≤ r) × (r < 24) }
-    ensures { OnOk result (code.new.items ≡ code.old.items ++ frame_words way at registers.now) }
+    ensures { OnOk result (code.new.items ≡ code.old.items ++ frame_words direction at registers.now) }
 {
     let mut place = at;
     for r in registers {
-        emit_word(code, way, register(*r), place)?;
+        emit_word(code, direction, register(*r), place)?;
         place += 4;
     }
     Ok(())
@@ -67,43 +77,48 @@ fn size_of_frame(frame: &Frame, leaf: bool) -> u32
 }
 
 // How far the stack pointer goes.
-fn step_of(way: Way, size: u32) -> i16
+fn step_of(direction: Direction, size: u32) -> i16
     requires some { 0 < size }
     requires few { size ≤ FRAME_BYTES }
-    ensures { result ≡ step_of way size }
+    ensures { result ≡ step_of direction size }
 {
-    match way {
-        Way::Save => -1 - (size - 1) as i16,
-        Way::Restore => size as i16,
+    match direction {
+        Direction::Save => -1 - (size - 1) as i16,
+        Direction::Restore => size as i16,
     }
 }
 
 // The stack pointer goes down or up again, if the frame takes anything.
-fn emit_step(code: &mut Vec<Plain>, way: Way, size: u32) -> Result<(), AllocError>
+fn emit_step(code: &mut Vec<Plain>, direction: Direction, size: u32) -> Result<(), AllocError>
     requires { size ≤ FRAME_BYTES }
-    ensures { OnOk result (code.new.items ≡ code.old.items ++ stack_step way size) }
+    ensures { OnOk result (code.new.items ≡ code.old.items ++ stack_step direction size) }
 {
     if size != 0 {
         code.push(Plain::Imm {
             op: ImmOp::Addiu,
             rt: stack_pointer(),
             rs: stack_pointer(),
-            imm: step_of(way, size),
+            imm: step_of(direction, size),
         })?;
     }
     Ok(())
 }
 
 // The link into the frame or back, but in a leaf.
-fn emit_link(code: &mut Vec<Plain>, way: Way, frame: &Frame, leaf: bool) -> Result<(), AllocError>
+fn emit_link(
+    code: &mut Vec<Plain>,
+    direction: Direction,
+    frame: &Frame,
+    leaf: bool,
+) -> Result<(), AllocError>
     requires { IsReachable frame.now }
-    ensures { OnOk result (code.new.items ≡ code.old.items ++ frame_link way leaf frame.now) }
+    ensures { OnOk result (code.new.items ≡ code.old.items ++ frame_link direction leaf frame.now) }
 {
     if leaf {
         return Ok(());
     }
     let place = 4 * frame.slots + 4 * frame.saved.len() as u32;
-    emit_word(code, way, register(31), place)
+    emit_word(code, direction, register(31), place)
 }
 
 // Parameters into their locations.
@@ -130,9 +145,14 @@ pub(crate) fn emit_prologue(
     ensures { OnOk result (code.new.items ≡ code.old.items ++ prologue leaf frame.now parameters) }
 {
     let size = size_of_frame(frame, leaf);
-    emit_step(code, Way::Save, size)?;
-    emit_words(code, Way::Save, 4 * frame.slots, frame.saved.as_slice())?;
-    emit_link(code, Way::Save, frame, leaf)?;
+    emit_step(code, Direction::Save, size)?;
+    emit_words(
+        code,
+        Direction::Save,
+        4 * frame.slots,
+        frame.saved.as_slice(),
+    )?;
+    emit_link(code, Direction::Save, frame, leaf)?;
     emit_parameters(code, frame, parameters)
 }
 
@@ -146,7 +166,12 @@ pub(crate) fn emit_epilogue(
     ensures { OnOk result (code.new.items ≡ code.old.items ++ epilogue leaf frame.now) }
 {
     let size = size_of_frame(frame, leaf);
-    emit_words(code, Way::Restore, 4 * frame.slots, frame.saved.as_slice())?;
-    emit_link(code, Way::Restore, frame, leaf)?;
-    emit_step(code, Way::Restore, size)
+    emit_words(
+        code,
+        Direction::Restore,
+        4 * frame.slots,
+        frame.saved.as_slice(),
+    )?;
+    emit_link(code, Direction::Restore, frame, leaf)?;
+    emit_step(code, Direction::Restore, size)
 }

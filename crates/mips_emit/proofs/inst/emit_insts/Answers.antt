@@ -5,8 +5,8 @@ use Rattle.std.proofs.lemmas.List.{append-nil, at_drop_all}
 use Rattle.rtl.specs.declared.instruction.RInst.{RInst}
 use Rattle.mips_emit.specs.Locations.{Facts, facts_of, locations, known_after}
 use Rattle.mips_emit.specs.Comparisons.{insts_code, last_after}
-use Rattle.mips_emit.specs.Left.{StopsAmong}
-use Rattle.mips_emit.proofs.Stopping.{known_step, stops, at_err, some_all}
+use Rattle.mips_emit.specs.Prefixes.{StopsAmong}
+use Rattle.mips_emit.proofs.Stopping.{known_step, stops, at_err, prefix_all}
 use Rattle.mips_emit.proofs.inst.emit_insts.Goals as goal
 
 pub loop-inst-preserved : goal.loop-inst-preserved
@@ -34,7 +34,7 @@ returns-in_err-learn-clause-left c =
     (stops c.args.globals.now c.args.starts.now c.args.frame.now c.args.asked c.args.insts.now
     (facts_of c.args.facts.now) c.args.code.now.items c.loop-inst.inst-index c.loop-inst.left _ c.asked_if-asks.result
     c.comparison_of-comparison.result _ _ _ c.loop-inst-test.true c.loop-inst.invariant.0 c.loop-inst.invariant.4 c.loop-inst.invariant.1
-    c.asked_if-asks.ensures c.comparison_of-comparison.ensures.value (some_all _ _ _ c.in_ok-emit_next.ensures)))
+    c.asked_if-asks.ensures c.comparison_of-comparison.ensures.value (prefix_all _ _ _ c.in_ok-emit_next.ensures)))
 
 pub loop-inst-init : goal.loop-inst-init
 loop-inst-init c = (omega arith, refl, refl, refl, refl)

@@ -1,7 +1,7 @@
 use Rattle.std.proofs.Common.{ap, ◌∙◌}
 use Rattle.mips_emit.specs.Elements.{direct}
 use Rattle.mips_emit.specs.Code.{into, finish}
-use Rattle.mips_emit.proofs.Left.{some_before, some_behind, at_some, in_two, emits_behind}
+use Rattle.mips_emit.proofs.Prefixes.{prefix_before, prefix_behind, at_prefix, in_two, emits_behind}
 use Rattle.mips_emit.proofs.inst.emit_load.Goals as goal
 
 pub returns : goal.returns
@@ -17,12 +17,12 @@ returns-in_err-emit_element c =
     let place = c.direct-place.ensures.value ∙ ap (direct c.args.width c.args.start) c.known_word.ensures in
     let from = c.from_residual in
     rw (← place, ← c.operand-x.ensures.value)
-    (at_some from.result _ _ _ from.ensures.0 (some_before _ _ _ _ (some_before _ _ _ _ c.in_err-emit_element.ensures)))
+    (at_prefix from.result _ _ _ from.ensures.0 (prefix_before _ _ _ _ (prefix_before _ _ _ _ c.in_err-emit_element.ensures)))
 
 pub returns-in_err-emit_one : goal.returns-in_err-emit_one
 returns-in_err-emit_one c =
     let place = c.direct-place.ensures.value ∙ ap (direct c.args.width c.args.start) c.known_word.ensures in
     let rt = c.into_of-rt.ensures ∙ ap into c.locate.ensures.value in
     let from = c.from_residual-in_err-emit_one in
-    rw (← place, ← c.operand-x.ensures.value, ← rt, ← c.element_load.ensures) (at_some from.result _ _ _ from.ensures.0
-    (some_before _ _ _ _ (some_behind _ _ _ _ _ c.in_ok-emit_element.ensures c.in_err-emit_one.ensures)))
+    rw (← place, ← c.operand-x.ensures.value, ← rt, ← c.element_load.ensures) (at_prefix from.result _ _ _ from.ensures.0
+    (prefix_before _ _ _ _ (prefix_behind _ _ _ _ _ c.in_ok-emit_element.ensures c.in_err-emit_one.ensures)))

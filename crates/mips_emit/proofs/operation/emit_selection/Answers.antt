@@ -1,6 +1,6 @@
 use Rattle.std.proofs.Common.{◌++◌}
 use Rattle.mips_emit.specs.Code.{fetch_if, one_or_two}
-use Rattle.mips_emit.proofs.Left.{some_before, some_among, at_some, emits_third}
+use Rattle.mips_emit.proofs.Prefixes.{prefix_before, prefix_among, at_prefix, emits_third}
 use Rattle.mips_emit.proofs.operation.emit_selection.Goals as goal
 
 pub returns : goal.returns
@@ -11,12 +11,12 @@ returns c =
 pub returns-in_err-emit_fetch_if : goal.returns-in_err-emit_fetch_if
 returns-in_err-emit_fetch_if c =
     let s = c.args.selection.now in
-    at_some c.from_residual.result _ _ _ c.from_residual.ensures.0
-    (some_before _ _ _ (fetch_if s.fetches_right 2 c.args.y.now ++ one_or_two s.first s.second) c.in_err-emit_fetch_if.ensures)
+    at_prefix c.from_residual.result _ _ _ c.from_residual.ensures.0
+    (prefix_before _ _ _ (fetch_if s.fetches_right 2 c.args.y.now ++ one_or_two s.first s.second) c.in_err-emit_fetch_if.ensures)
 
 pub returns-in_err-emit_fetch_if-2 : goal.returns-in_err-emit_fetch_if-2
 returns-in_err-emit_fetch_if-2 c =
     let s = c.args.selection.now in
     let from = c.from_residual-in_err-emit_fetch_if-2 in
-    rw (← c.register.ensures) (at_some from.result _ _ _ from.ensures.0
-    (some_among _ _ _ _ _ (one_or_two s.first s.second) c.in_ok-emit_fetch_if.ensures c.in_err-emit_fetch_if-2.ensures))
+    rw (← c.register.ensures) (at_prefix from.result _ _ _ from.ensures.0
+    (prefix_among _ _ _ _ _ (one_or_two s.first s.second) c.in_ok-emit_fetch_if.ensures c.in_err-emit_fetch_if-2.ensures))

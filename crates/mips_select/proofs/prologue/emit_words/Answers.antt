@@ -17,13 +17,13 @@ loop-r-preserved c =
     let i = c.loop-r.r-index in
     let r = get_or rs i 0 in
     let at = c.loop-r.place in
-    let way = c.args.way in
+    let direction = c.args.direction in
     let place = c.loop-r.invariant.0 in (
       omega (arith, place),
-      made_more (frame_words way at) rs i r _ _ (frame_word way r at ∷ []) (frame_words way (at + 4) (drop (i + 1) rs)) _ c.loop-r-test.true
+      made_more (frame_words direction at) rs i r _ _ (frame_word direction r at ∷ []) (frame_words direction (at + 4) (drop (i + 1) rs)) _ c.loop-r-test.true
           (get_or_default rs i 0 r c.loop-r-test.true) refl
-          (c.in_ok-emit_word.ensures ∙ ap (λ r. c.loop-r.code.items ++ frame_word way r at ∷ []) c.register.ensures) c.loop-r.invariant.1,
+          (c.in_ok-emit_word.ensures ∙ ap (λ r. c.loop-r.code.items ++ frame_word direction r at ∷ []) c.register.ensures) c.loop-r.invariant.1,
     )
 
 pub returns : goal.returns
-returns c = all_made (frame_words c.args.way c.loop-r.place) c.args.registers.now c.loop-r.r-index _ _ c.loop-r-test.false refl c.loop-r.invariant.1
+returns c = all_made (frame_words c.args.direction c.loop-r.place) c.args.registers.now c.loop-r.r-index _ _ c.loop-r-test.false refl c.loop-r.invariant.1

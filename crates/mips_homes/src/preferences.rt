@@ -2,7 +2,7 @@
 
 ghost use Rattle.std.specs.Prelude.{◌≡◌, ℕ, List, max, nat_eq, nat_lt, if◌then◌else◌, length, slice_index, IfOk, OnOk};
 ghost use Rattle.rtl.specs.declared.block.RBlock.{RBlock};
-ghost use Rattle.mips_homes.specs.Hints.{reach_from, exit_reach, blocks_reach, register_of, hint};
+ghost use Rattle.mips_homes.specs.Preferences.{reach_from, exit_reach, blocks_reach, register_of, preference};
 
 use crate::counts::make_room;
 use rtl::{RBlock, RExit, Register};
@@ -75,9 +75,9 @@ pub(crate) fn reach_of(reaches: &[u64], x: usize) -> u64
     }
 }
 
-/// The hint of a pseudo-register in a function with so many parameters.
-pub(crate) fn hint(parameters: u32, reach: u64, x: u32) -> Option<u8>
-    ensures { (bs : List RBlock) → reach ≡ blocks_reach bs x → result ≡ hint parameters bs x }
+/// The preference of a pseudo-register in a function with so many parameters.
+pub(crate) fn preference(parameters: u32, reach: u64, x: u32) -> Option<u8>
+    ensures { (bs : List RBlock) → reach ≡ blocks_reach bs x → result ≡ preference parameters bs x }
 {
     if x >= parameters {
         return register_of(reach);

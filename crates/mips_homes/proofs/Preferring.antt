@@ -2,7 +2,7 @@
 use Rattle.std.proofs.Common.{◌≡◌, ℕ, suc, ◌+◌, ◌<◌, List, ◌∷◌, ap, ◌∙◌, arith, length, drop, get_or, nat_eq}
 use Rattle.std.specs.Prelude.{if◌then◌else◌, max}
 use Rattle.std.proofs.Math.Seq.{drop-cons}
-use Rattle.mips_homes.specs.Hints.{reach_from}
+use Rattle.mips_homes.specs.Preferences.{reach_from}
 
 pub raise_step : (xs : List ℕ) (i : ℕ) (start old new : List ℕ) → i < length xs
     → ((y : ℕ) → get_or new y 0 ≡ max (get_or old y 0) (if nat_eq y (get_or xs i 0) then i + 1 else 0))

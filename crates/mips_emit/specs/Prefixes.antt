@@ -10,13 +10,13 @@ use Rattle.mips_emit.specs.Locations.{Facts, locations, known_after}
 use Rattle.mips_emit.specs.Comparisons.{comparison_of, asked_last, next_code, code_of_insts}
 
 -- code is what it was, and behind it as much as there is of the code that was to be emitted
-abbrev pub EmitsSome : (was all now : List Plain) → Type 0
-EmitsSome was all now = now ≡ was ++ take (length now - length was) all
+abbrev pub EmitsPrefix : (was all now : List Plain) → Type 0
+EmitsPrefix was all now = now ≡ was ++ take (length now - length was) all
 
 -- a call emits some code at Ok; at an Err, which is refused memory, a beginning of it
 abbrev pub Emits : {A E : Type 0} → Result A E → (was all now : List Plain) → Type 0
 Emits (Ok x) was all now = now ≡ was ++ all
-Emits (Err e) was all now = EmitsSome was all now
+Emits (Err e) was all now = EmitsPrefix was all now
 
 -- refused memory ended instructions at one of them: behind the code of those before it is a beginning of its own, and known is what is
 -- known behind those before it
@@ -27,6 +27,6 @@ pub record StopsAmong (globals : List RGlobal) (starts : List ℕ) (frame : Fram
   pub rest : List RInst
   pub are : insts ≡ done ++ inst ∷ rest
   pub known : left ≡ known_after (locations frame) done facts
-  pub code : EmitsSome (was ++ code_of_insts globals starts frame Nothing facts done)
+  pub code : EmitsPrefix (was ++ code_of_insts globals starts frame Nothing facts done)
       (next_code globals (slice_index starts) (locations frame) left
       (comparison_of (locations frame) left (asked_last asked rest) inst) inst) now

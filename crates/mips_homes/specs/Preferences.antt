@@ -28,8 +28,8 @@ register_of q = if nat_lt 0 q && nat_lt q 5 then Some (3 + q) else None
 
 -- the register in which a pseudo-register of a function with n parameters is best: a parameter where it comes, but not if it is
 -- an argument behind; others where the last argument is passed that they are
-abbrev pub hint : (n : ℕ) → List RBlock → ℕ → Option ℕ
-hint n bs x =
+abbrev pub preference : (n : ℕ) → List RBlock → ℕ → Option ℕ
+preference n bs x =
     if nat_lt x n
     then (if nat_le (blocks_reach bs x) (suc x) then register_of (suc x) else None)
     else register_of (blocks_reach bs x)

@@ -1,8 +1,8 @@
 use Rattle.std.proofs.Common.{ap, arith}
 use Rattle.std.proofs.lemmas.List.{at_drop_more, at_drop_all}
 use Rattle.rtl.specs.declared.block.RBlock.{RBlock}
-use Rattle.mips_homes.specs.Hints.{exit_reach, blocks_reach}
-use Rattle.mips_homes.proofs.hints.reaches.Goals as goal
+use Rattle.mips_homes.specs.Preferences.{exit_reach, blocks_reach}
+use Rattle.mips_homes.proofs.preferences.reaches.Goals as goal
 
 pub loop-block-preserved : goal.loop-block-preserved
 loop-block-preserved c = λ y.

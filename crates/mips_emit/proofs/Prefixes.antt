@@ -9,27 +9,27 @@ use Rattle.std.proofs.lemmas.List.{take-append-drop}
 use Rattle.mips_isa.specs.declared.inst.Plain.{Plain}
 use Rattle.rtl.specs.declared.operator.Op.{Op}
 use Rattle.mips_emit.specs.declared.location.Source.{Source}
-use Rattle.mips_emit.specs.Code.{fetch, seat, operation, one_or_two, as_list, code_by_right}
-use Rattle.mips_emit.specs.Left.{EmitsSome, Emits}
+use Rattle.mips_emit.specs.Code.{fetch, operand_register, operation, one_or_two, as_list, code_by_right}
+use Rattle.mips_emit.specs.Prefixes.{EmitsPrefix, Emits}
 
 -- behind other code that was to be emitted
-pub some_behind : (was mid now a b : List Plain) → mid ≡ was ++ a → EmitsSome mid b now → EmitsSome was (a ++ b) now
-some_behind was mid now a b e f =
+pub prefix_behind : (was mid now a b : List Plain) → mid ≡ was ++ a → EmitsPrefix mid b now → EmitsPrefix was (a ++ b) now
+prefix_behind was mid now a b e f =
     let n = length now - length mid in
     let k : length now - length was ≡ length a + n = omega (arith, ap length f, ap length e, length-append {A = Plain}) in
     f ∙ ap (λ m. m ++ take n b) e ∙ append_assoc was a (take n b) ∙ ap (λ l. was ++ l) (sym (take-append-add a b n))
     ∙ ap (λ m. was ++ take m (a ++ b)) (sym k)
 
 -- and before more
-pub some_before : (was now a b : List Plain) → EmitsSome was a now → EmitsSome was (a ++ b) now
-some_before was now a b f = grind (arith, common_steps)
+pub prefix_before : (was now a b : List Plain) → EmitsPrefix was a now → EmitsPrefix was (a ++ b) now
+prefix_before was now a b f = grind (arith, common_steps)
 
-pub some_among : (was mid now a b c : List Plain) → mid ≡ was ++ a → EmitsSome mid b now → EmitsSome was (a ++ (b ++ c)) now
-some_among was mid now a b c e f = some_behind was mid now a (b ++ c) e (some_before mid now b c f)
+pub prefix_among : (was mid now a b c : List Plain) → mid ≡ was ++ a → EmitsPrefix mid b now → EmitsPrefix was (a ++ (b ++ c)) now
+prefix_among was mid now a b c e f = prefix_behind was mid now a (b ++ c) e (prefix_before mid now b c f)
 
 -- what can be gone on with to all of it
-pub some_of : (was now behind all : List Plain) → length was ≤ length now → now ++ behind ≡ was ++ all → EmitsSome was all now
-some_of was now behind all le e =
+pub prefix_of : (was now behind all : List Plain) → length was ≤ length now → now ++ behind ≡ was ++ all → EmitsPrefix was all now
+prefix_of was now behind all le e =
     let n = length now - length was in
     let k : length now ≡ length was + n = omega arith in
     sym (take-append_seam now behind) ∙ ap (take (length now)) e ∙ ap (λ m. take m (was ++ all)) k ∙ take-append-add was all n
@@ -41,7 +41,7 @@ one_or_two_are i (Some j) l first rest = ap₂ (λ a b. a ++ b) (sym first) (sym
 
 -- an operator on two registers, as it is selected
 pub both_fetched : (op : Op) (t d : ℕ) (right left less : Option Plain) (x y : Source) (i : Plain) (s : Option Plain) → right ≡ None → left ≡ None
-    → less ≡ None → take 1 (operation op d (seat t x) (seat 2 y)) ≡ i ∷ [] → drop 1 (operation op d (seat t x) (seat 2 y)) ≡ as_list s
+    → less ≡ None → take 1 (operation op d (operand_register t x) (operand_register 2 y)) ≡ i ∷ [] → drop 1 (operation op d (operand_register t x) (operand_register 2 y)) ≡ as_list s
     → fetch t x ++ (fetch 2 y ++ one_or_two i s) ≡ code_by_right op t d right left less x y
 both_fetched op t d right left less x y i s no_right no_left no_less first rest =
     ap (λ l. fetch t x ++ (fetch 2 y ++ l)) (one_or_two_are i s _ first rest)
@@ -52,14 +52,14 @@ pub in_two : (was mid now a b : List Plain) → mid ≡ was ++ a → now ≡ mid
 in_two was mid now a b e f = f ∙ ap (λ l. l ++ b) e ∙ append_assoc was a b
 
 -- what a call leaves that returns the Err of one that it makes
-pub at_some : {A E : Type 0} (r : Result A E) (was all now : List Plain) → IsErr r → EmitsSome was all now → Emits r was all now
-at_some (Ok x) was all now is_err some = let no : false ≡ true = is_err in cc
-at_some (Err e) was all now is_err some = some
+pub at_prefix : {A E : Type 0} (r : Result A E) (was all now : List Plain) → IsErr r → EmitsPrefix was all now → Emits r was all now
+at_prefix (Ok x) was all now is_err some = let no : false ≡ true = is_err in cc
+at_prefix (Err e) was all now is_err some = some
 
 -- the last call of several
 pub emits_behind : {A E : Type 0} (r : Result A E) (was mid now a b : List Plain) → mid ≡ was ++ a → Emits r mid b now → Emits r was (a ++ b) now
 emits_behind (Ok x) was mid now a b e f = in_two was mid now a b e f
-emits_behind (Err x) was mid now a b e f = some_behind was mid now a b e f
+emits_behind (Err x) was mid now a b e f = prefix_behind was mid now a b e f
 
 pub emits_third : {A E : Type 0} (r : Result A E) (was mid next now a b c : List Plain) → mid ≡ was ++ a → next ≡ mid ++ b → Emits r next c now
     → Emits r was (a ++ (b ++ c)) now
