@@ -40,7 +40,9 @@ use Rattle.mips_emit.specs.Comparisons.{form_for, operator_comparison, compariso
 use Rattle.mips_emit.proofs.Runs.{RunsTo, runs_then}
 use Rattle.mips_emit.proofs.View.{IsTarget, first_inner, read_register}
 use Rattle.mips_emit.proofs.Stands.{Stored, Stands}
-use Rattle.mips_emit.proofs.Homes.{passes, IsLast, none_fresh, IsKnown, Denotes, IsAway, operand_register_kept, longer_behind, runs_nop, hide, AreDeferred, one_deferred, shown_deferred, fewer_stand}
+use Rattle.mips_emit.proofs.Operands.{passes, IsLast, none_fresh, IsKnown, Denotes, IsAway, operand_register_kept, longer_behind, runs_nop, hide}
+use Rattle.mips_emit.proofs.Operands.{AreDeferred, one_deferred, shown_deferred}
+use Rattle.mips_emit.proofs.Homes.{fewer_stand}
 use Rattle.mips_emit.proofs.Homes.{operand_below, operand_means, fetches, ends_stands}
 use Rattle.mips_emit.proofs.Insts.{Computed, value_or_failed, computes}
 

@@ -1,318 +1,37 @@
 -- Locations are read and written.
-use Rattle.std.proofs.Common.{◌≡◌, ◌≢◌, ℕ, ◌+◌, ◌*◌, ◌/◌, ◌%◌, ◌^◌, ◌<◌, ◌≤◌, Bool, true, false, List, [], ◌∷◌, ◌++◌, map, length, length-append}
+use Rattle.std.proofs.Common.{◌≡◌, ◌≢◌, ℕ, ◌+◌, ◌*◌, ◌%◌, ◌^◌, ◌<◌, ◌≤◌, Bool, true, false, List, [], ◌∷◌, ◌++◌, map, length}
 use Rattle.std.proofs.Common.{Option, Some, None, refl, sym, ap, ◌∙◌, subst, arith, eq-eqb, ne_eqb, eqb-true, nat_eq}
-use Rattle.std.specs.Prelude.{if◌then◌else◌, not, slice_get}
+use Rattle.std.specs.Prelude.{if◌then◌else◌, slice_get}
 use Rattle.std.proofs.lemmas.Bool.{eqb-false}
 use Rattle.std.proofs.lemmas.Option.{same_Some, none-some}
-use Rattle.words.specs.declared.width.Width.{Width}
 use Rattle.words.specs.declared.width.Width.TheVariants as widths
 use Rattle.runs.specs.Stores.{Places, places_with, Arrays, chain}
-use Rattle.mips_isa.specs.declared.inst.ImmOp.TheVariants.{Addiu}
-use Rattle.mips_isa.specs.declared.inst.LogicOp.TheVariants.{Ori}
 use Rattle.mips_isa.specs.declared.inst.Plain.{Plain}
-use Rattle.mips_isa.specs.declared.inst.Plain.TheVariants.{Imm, Logic, LoadUpper}
-use Rattle.mips_isa.specs.States.{State, IsWords, AreApart, is_open, read}
-use Rattle.mips_isa.specs.Starting.{stack_base, stack_end}
+use Rattle.mips_isa.specs.States.{State, IsWords, is_open, read}
+use Rattle.mips_isa.specs.Starting.{stack_base}
 use Rattle.mips_isa.specs.Actions.{action_of}
-use Rattle.mips_isa.specs.declared.inst.PairTest.TheVariants.{Equal, NotEqual}
-use Rattle.mips_isa.specs.Controls.{pair_passes, zero_passes}
-use Rattle.mblock.specs.declared.limits.TheConstants.{UNIT_BYTES}
 use Rattle.mblock.proofs.StateWords.{run_words}
 use Rattle.rtl.specs.declared.block.RGlobal.{RGlobal}
 use Rattle.mips_homes.specs.HomedRun.{is_callee_saved, Run, Failed, with_value, in_home, read_home, write_at, write_home}
 use Rattle.mips_homes.specs.declared.homed.Home.{Home}
 use Rattle.mips_homes.specs.declared.homed.Home.TheVariants.{Reg, Slot}
-use Rattle.mips_homes.specs.declared.homed.Frame.{Frame}
-use Rattle.mips_homes.specs.declared.homed.SlotCopy.{SlotCopy}
 use Rattle.mips_homes.specs.Copies.{copy_of}
 use Rattle.mips_emit.specs.declared.location.Location.TheVariants.{Held, InSlot, Copied}
 use Rattle.mips_emit.specs.declared.location.Source.{Source}
 use Rattle.mips_emit.specs.declared.location.Source.TheVariants.{Zero, Word, From}
-use Rattle.mips_emit.specs.declared.comparison.Form.{Form}
-use Rattle.mips_emit.specs.declared.comparison.Form.TheVariants.{OnPair, OnLeft, OnRight, ByResult, ByOpposite, InResult}
-use Rattle.mips_emit.specs.declared.comparison.Comparison.{Comparison}
-use Rattle.mips_emit.specs.declared.facts.Last.{Last}
-use Rattle.mips_emit.specs.Frames.{IsHome, AreFrameHomes, IsFrame}
-use Rattle.mips_emit.specs.Comparisons.{no_last, is_result}
-use Rattle.mips_emit.specs.Locations.{known_in, no_facts, in_frame, location_at, in_slot, fresh_source, source}
+use Rattle.mips_emit.specs.Frames.{IsHome, AreFrameHomes}
+use Rattle.mips_emit.specs.Locations.{in_frame, location_at, in_slot, fresh_source, source}
 use Rattle.mips_emit.specs.declared.location.Location.{Location}
 use Rattle.mips_emit.specs.Locations.{inner_of, deferred_const, deferred_none, deferred_at, deferred_source, word_source}
-use Rattle.mips_emit.specs.Elements.{width_of, width_bytes, place_in, address_of_place}
-use Rattle.mips_emit.specs.Code.{nop, const_code, is_small, half, constant, li, load_word_at, store_word_at, move_code, fetch, operand_register, bring, carry, into, finish, put_at, arrive}
+use Rattle.mips_emit.specs.Elements.{width_of, place_in, address_of_place}
+use Rattle.mips_emit.specs.Code.{nop, const_code, li, load_word_at, store_word_at, move_code, fetch, operand_register, bring, carry, into, finish, put_at, arrive}
 use Rattle.mips_emit.proofs.Runs.{RunsTo, runs_none, runs_then}
 use Rattle.mips_emit.proofs.View.{word_at, set_word, shown_other, word_here, word_other, word_below, set_at_words, IsTarget, inner_is, read_register}
-use Rattle.mips_emit.proofs.View.{read_other, moves, loads_word, stores_word, Sets, set_sets, li_sets}
-use Rattle.mips_emit.proofs.Stands.{Stored, size_of, with_slots, StackHolds, stack_same, stack_top, FrameHolds, LeafHolds, Linked, linked_kept, Stands, open_stack}
-
--- words that pseudo-registers hold
-pub record IsKnown (known : Places) (hs : List Home) (registers slots : Places) : Type 0 where
-  pub by : (x w : ℕ) → known x ≡ Some w → read_home hs registers slots x ≡ Some w
-
-pub nothing_known : (hs : List Home) (registers slots : Places) → IsKnown (known_in no_facts) hs registers slots
-nothing_known hs registers slots = record { by = λ x w e. absurd (none-some w e) }
-
--- ---- words that are yet to be put into registers
-
--- a register that has a word to come isn't shown
-abbrev pub hidden : Option ℕ → Option ℕ → Option ℕ
-hidden None o = o
-hidden (Some w) o = None
-
-abbrev pub hide : (deferred registers : Places) → Places
-hide deferred registers = λ q. hidden (deferred q) (registers q)
-
--- they are what the registers of the run over homes hold, and none outlives a block
-pub record AreDeferred (deferred registers : Places) : Type 0 where
-  pub caller_saved : (q w : ℕ) → deferred q ≡ Some w → is_callee_saved q ≡ false
-  pub holds : (q w : ℕ) → deferred q ≡ Some w → registers q ≡ Some w
-  pub below : (q w : ℕ) → deferred q ≡ Some w → w < 2 ^ 32
-
-pub deferred_written : (deferred registers : Places) (r : ℕ) (o : Option ℕ) → AreDeferred deferred registers → AreDeferred (places_with deferred r None) (places_with registers r o)
-deferred_written deferred registers r o is = record {
-  caller_saved = λ q w e. is.caller_saved q w (before q w (nat_eq q r) e);
-  holds = λ q w e. holds q w (nat_eq q r) e;
-  below = λ q w e. is.below q w (before q w (nat_eq q r) e);
-}
-  where
-    before : (q w : ℕ) (b : Bool) → (if b then None else deferred q) ≡ Some w → deferred q ≡ Some w
-    before q w true e = absurd (none-some w e)
-    before q w false e = e
-
-    holds : (q w : ℕ) (b : Bool) → (if b then None else deferred q) ≡ Some w → (if b then o else registers q) ≡ Some w
-    holds q w true e = absurd (none-some w e)
-    holds q w false e = is.holds q w e
-
-pub one_deferred : (deferred registers : Places) (r v : ℕ) → is_callee_saved r ≡ false → v < 2 ^ 32 → AreDeferred deferred registers
-    → AreDeferred (places_with deferred r (Some v)) (places_with registers r (Some v))
-one_deferred deferred registers r v caller_saved lt is = record {
-  caller_saved = λ q w e. not_saved q w (nat_eq q r) refl e;
-  holds = λ q w e. holds q w (nat_eq q r) e;
-  below = λ q w e. below q w (nat_eq q r) e;
-}
-  where
-    not_saved : (q w : ℕ) (b : Bool) → nat_eq q r ≡ b → (if b then Some v else deferred q) ≡ Some w → is_callee_saved q ≡ false
-    not_saved q w true t e = ap is_callee_saved (eqb-true q r t) ∙ caller_saved
-    not_saved q w false t e = is.caller_saved q w e
-
-    holds : (q w : ℕ) (b : Bool) → (if b then Some v else deferred q) ≡ Some w → (if b then Some v else registers q) ≡ Some w
-    holds q w true e = e
-    holds q w false e = is.holds q w e
-
-    below : (q w : ℕ) (b : Bool) → (if b then Some v else deferred q) ≡ Some w → w < 2 ^ 32
-    below q w true e = subst (λ w. w < 2 ^ 32) (same_Some v w e) lt
-    below q w false e = is.below q w e
-
-pub none_deferred : (registers : Places) → AreDeferred (λ q. None) registers
-none_deferred registers = record {
-  caller_saved = λ q w e. absurd (none-some w e);
-  holds = λ q w e. absurd (none-some w e);
-  below = λ q w e. absurd (none-some w e);
-}
-
--- what is shown after a write
-pub shown_written : (deferred registers : Places) (r v q w : ℕ) → hide (places_with deferred r None) (places_with registers r (Some v)) q ≡ Some w
-    → places_with (hide deferred registers) r (Some v) q ≡ Some w
-shown_written deferred registers r v q w e = by (nat_eq q r) e
-  where
-    by : (b : Bool) → hidden (if b then None else deferred q) (if b then Some v else registers q) ≡ Some w
-        → (if b then Some v else hidden (deferred q) (registers q)) ≡ Some w
-    by true e = e
-    by false e = e
-
-pub shown_deferred : (deferred registers : Places) (r v q w : ℕ) → hide (places_with deferred r (Some v)) (places_with registers r (Some v)) q ≡ Some w
-    → hide deferred registers q ≡ Some w
-shown_deferred deferred registers r v q w e = by (nat_eq q r) e
-  where
-    by : (b : Bool) → hidden (if b then Some v else deferred q) (if b then Some v else registers q) ≡ Some w → hidden (deferred q) (registers q) ≡ Some w
-    by true e = absurd (none-some w e)
-    by false e = e
-
--- what other places hold beside one that is written
-kept_beside : (places : Places) (r v q w : ℕ) → q ≢ r → places q ≡ Some w → places_with places r (Some v) q ≡ Some w
-kept_beside places r v q w ne e = go (nat_eq q r) refl
-  where
-    go : (b : Bool) → nat_eq q r ≡ b → (if b then Some v else places q) ≡ Some w
-    go false t = e
-    go true t = absurd (ne (eqb-true q r t))
-
--- a pseudo-register is written
-pub known_register : (known : Places) (hs : List Home) (copies : List SlotCopy) (count : ℕ) (registers slots : Places) (x r v : ℕ) (o : Option ℕ) → AreFrameHomes hs copies count
-    → slice_get hs x ≡ Some (Reg r) → ((w : ℕ) → o ≡ Some w → w ≡ v) → IsKnown known hs registers slots
-    → IsKnown (places_with known x o) hs (places_with registers r (Some v)) slots
-known_register known hs copies count registers slots x r v o ok there is h = record { by = λ y w e. by y w (nat_eq y x) refl e }
-  where
-    other : (y w : ℕ) → y ≢ x → (p : Option Home) → slice_get hs y ≡ p → chain p (in_home registers slots) ≡ Some w
-        → chain p (in_home (places_with registers r (Some v)) slots) ≡ Some w
-    other y w ne None at e = absurd (none-some w e)
-    other y w ne (Some (Slot k)) at e = e
-    other y w ne (Some (Reg q)) at e =
-        kept_beside registers r v q w (λ same. ne (ok.apart y x (Reg q) at (there ∙ ap (λ r. Some (Reg r)) (sym same)))) e
-
-    by : (y w : ℕ) → (b : Bool) → nat_eq y x ≡ b → (if b then o else known y) ≡ Some w → read_home hs (places_with registers r (Some v)) slots y ≡ Some w
-    by y w true t e =
-        ap (read_home hs (places_with registers r (Some v)) slots) (eqb-true y x t)
-        ∙ ap (λ p. chain p (in_home (places_with registers r (Some v)) slots)) there
-        ∙ ap (λ b. if b then Some v else registers r) (eq-eqb r r refl) ∙ ap Some (sym (is w e))
-    by y w false t e = other y w (eqb-false y x t) (slice_get hs y) refl (h.by y w e)
-
-known_slot : (known : Places) (hs : List Home) (copies : List SlotCopy) (count : ℕ) (registers slots : Places) (x k v : ℕ) (o : Option ℕ) → AreFrameHomes hs copies count
-    → slice_get hs x ≡ Some (Slot k) → ((w : ℕ) → o ≡ Some w → w ≡ v) → IsKnown known hs registers slots
-    → IsKnown (places_with known x o) hs registers (places_with slots k (Some v))
-known_slot known hs copies count registers slots x k v o ok there is h = record { by = λ y w e. by y w (nat_eq y x) refl e }
-  where
-    other : (y w : ℕ) → y ≢ x → (p : Option Home) → slice_get hs y ≡ p → chain p (in_home registers slots) ≡ Some w
-        → chain p (in_home registers (places_with slots k (Some v))) ≡ Some w
-    other y w ne None at e = absurd (none-some w e)
-    other y w ne (Some (Reg q)) at e = e
-    other y w ne (Some (Slot q)) at e =
-        kept_beside slots k v q w (λ same. ne (ok.apart y x (Slot q) at (there ∙ ap (λ r. Some (Slot r)) (sym same)))) e
-
-    by : (y w : ℕ) → (b : Bool) → nat_eq y x ≡ b → (if b then o else known y) ≡ Some w → read_home hs registers (places_with slots k (Some v)) y ≡ Some w
-    by y w true t e =
-        ap (read_home hs registers (places_with slots k (Some v))) (eqb-true y x t)
-        ∙ ap (λ p. chain p (in_home registers (places_with slots k (Some v)))) there
-        ∙ ap (λ b. if b then Some v else slots k) (eq-eqb k k refl) ∙ ap Some (sym (is w e))
-    by y w false t e = other y w (eqb-false y x t) (slice_get hs y) refl (h.by y w e)
-
--- the word of a pseudo-register is in its inner temporary
-pub record IsFresh (fresh : Option ℕ) (copies : List SlotCopy) (hs : List Home) (registers slots : Places) (s : State) : Type 0 where
-  pub by : (x w : ℕ) → fresh ≡ Some x → read_home hs registers slots x ≡ Some w → s.regs (inner_of (location_at copies (slice_get hs x))) ≡ w
-
-pub none_fresh : (copies : List SlotCopy) (hs : List Home) (registers slots : Places) (s : State) → IsFresh None copies hs registers slots s
-none_fresh copies hs registers slots s = record { by = λ x w e. absurd (none-some x e) }
-
--- whether the branch for a comparison is taken
-abbrev pub passes : Form → Source → Source → State → Bool
-passes (OnPair test) x y s = pair_passes test (read 0 s.regs (operand_register 1 x)) (read 0 s.regs (operand_register 3 y))
-passes (OnLeft test) x y s = zero_passes test (read 0 s.regs (operand_register 3 x))
-passes (OnRight test) x y s = zero_passes test (read 0 s.regs (operand_register 3 y))
-passes ByResult x y s = pair_passes NotEqual (read 0 s.regs 3) (read 0 s.regs 0)
-passes ByOpposite x y s = pair_passes Equal (read 0 s.regs 3) (read 0 s.regs 0)
-passes InResult x y s = pair_passes NotEqual (read 0 s.regs 2) (read 0 s.regs 0)
-
--- what an exit can use of the last instruction
-pub record IsLast (last : Last) (copies : List SlotCopy) (hs : List Home) (registers slots : Places) (s : State) : Type 0 where
-  pub fresh : IsFresh last.fresh copies hs registers slots s
-  pub comparison : (m : Comparison) (v : ℕ) → last.comparison ≡ Some m → read_home hs registers slots m.result ≡ Some v
-      → passes m.form m.x m.y s ≡ not (nat_eq v 0)
-  pub result : (m : Comparison) (v : ℕ) → last.comparison ≡ Some m → is_result m.form ≡ true → read_home hs registers slots m.result ≡ Some v → s.regs 2 ≡ v
-
-pub none_last : (copies : List SlotCopy) (hs : List Home) (registers slots : Places) (s : State) → IsLast no_last copies hs registers slots s
-none_last copies hs registers slots s = record { fresh = none_fresh copies hs registers slots s; comparison = λ m v e. absurd (none-some m e); result = λ m v e. absurd (none-some m e) }
-
--- one more known word, and two words less
-pub known_with : (known : Places) (hs : List Home) (registers slots : Places) (b w : ℕ) → read_home hs registers slots b ≡ Some w
-    → IsKnown known hs registers slots → IsKnown (places_with known b (Some w)) hs registers slots
-known_with known hs registers slots b w there k = record { by = λ x u e. by x u (nat_eq x b) refl e }
-  where
-    by : (x u : ℕ) (t : Bool) → nat_eq x b ≡ t → (if t then Some w else known x) ≡ Some u → read_home hs registers slots x ≡ Some u
-    by x u true t e = ap (read_home hs registers slots) (eqb-true x b t) ∙ there ∙ e
-    by x u false t e = k.by x u e
-
-pub known_without : (known : Places) (hs : List Home) (registers slots : Places) (b w d v : ℕ) → ((u : ℕ) → known b ≡ Some u → u ≡ w)
-    → IsKnown (places_with (places_with known b (Some w)) d (Some v)) hs registers slots → IsKnown (places_with known d None) hs registers slots
-known_without known hs registers slots b w d v same k = record { by = λ x u e. by x u (nat_eq x d) refl e }
-  where
-    inner : (x u : ℕ) (t : Bool) → nat_eq x b ≡ t → known x ≡ Some u → (if t then Some w else known x) ≡ Some u
-    inner x u true t e = ap Some (sym (same u (ap known (sym (eqb-true x b t)) ∙ e)))
-    inner x u false t e = e
-
-    by : (x u : ℕ) (t : Bool) → nat_eq x d ≡ t → (if t then None else known x) ≡ Some u → read_home hs registers slots x ≡ Some u
-    by x u true t e = absurd (none-some u e)
-    by x u false t e = k.by x u (ap (λ t. if t then Some v else (places_with known b (Some w)) x) t ∙ inner x u (nat_eq x b) refl e)
-
--- a word of the stack shares no byte with an element of data
-pub stack_apart : (u : Width) (a p total : ℕ) → stack_base ≤ a → a < stack_end → p + width_bytes u ≤ total → total ≤ UNIT_BYTES
-    → AreApart widths.Word a u (address_of_place p)
-stack_apart widths.Word a p total low high inside few = λ e. absurd (omega (arith, low, high, inside, few, e))
-stack_apart widths.Byte a p total low high inside few = omega (arith, low, high, inside, few)
-
--- what an operand means in a state, in which the frame has so many slots
-abbrev pub Denotes : ℕ → State → Source → ℕ → Type 0
-Denotes count s Zero v = v ≡ 0
-Denotes count s (Word w) v = (w ≡ v) × (w < 2 ^ 32)
-Denotes count s (From (Held r)) v = read 0 s.regs r ≡ v
-Denotes count s (From (Copied r k)) v = read 0 s.regs r ≡ v
-Denotes count s (From (InSlot k)) v = (k < count) × (word_at s (s.regs 29 + 4 * k) ≡ v)
-
--- an operand that isn't in a register below 4
-abbrev pub IsAway : Source → Type 0
-IsAway (From (Held r)) = 4 ≤ r
-IsAway (From (InSlot k)) = Unit {0}
-IsAway (From (Copied r k)) = 4 ≤ r
-IsAway Zero = Unit {0}
-IsAway (Word w) = Unit {0}
-
-pub operand_register_kept : (x : Source) (t u : ℕ) (f f' : ℕ → ℕ) → IsAway x → t ≢ u → u < 4 → ((r : ℕ) → r ≢ u → f' r ≡ f r) → read 0 f' (operand_register t x) ≡ read 0 f (operand_register t x)
-operand_register_kept Zero t u f f' away ne low same = refl
-operand_register_kept (Word w) t u f f' away ne low same = read_other f f' t (λ _. same t ne)
-operand_register_kept (From (Held r)) t u f f' away ne low same = read_other f f' r (λ _. same r (omega (arith, away, low)))
-operand_register_kept (From (Copied r k)) t u f f' away ne low same = read_other f f' r (λ _. same r (omega (arith, away, low)))
-operand_register_kept (From (InSlot k)) t u f f' away ne low same = read_other f f' t (λ _. same t ne)
-
-pub longer : (a b : List Plain) → 1 ≤ length a → 1 ≤ length (a ++ b)
-longer a b h = omega (arith, h, length-append a b)
-
-pub longer_behind : (a b : List Plain) → 1 ≤ length b → 1 ≤ length (a ++ b)
-longer_behind a b h = omega (arith, h, length-append a b)
-
-li_some : (t w : ℕ) → 1 ≤ length (li t w)
-li_some t w = go (is_small w) (nat_lt' w) (nat_eq (w % 65536) 0)
-  where
-    nat_lt' : ℕ → Bool
-    nat_lt' w = Rattle.std.specs.Prelude.nat_lt w 65536
-
-    go : (a b c : Bool) → 1 ≤ length (if a then Imm Addiu t 0 (half w) ∷ [] else if b then Logic Ori t 0 w ∷ [] else if c then LoadUpper t
-        (w / 65536 % 65536) ∷ [] else constant t w)
-    go true b c = omega arith
-    go false true c = omega arith
-    go false false true = omega arith
-    go false false false = omega arith
-
-bring_some : (t : ℕ) (x : Source) → 1 ≤ length (bring t x)
-bring_some t Zero = omega arith
-bring_some t (Word w) = li_some t w
-bring_some t (From (Held r)) = omega arith
-bring_some t (From (InSlot k)) = omega arith
-bring_some t (From (Copied r k)) = omega arith
-
--- an operand that isn't in register t, and what it means after a write of that
-abbrev pub IsApart : ℕ → Source → Type 0
-IsApart t (From (Held r)) = r ≢ t
-IsApart t (From (InSlot k)) = Unit {0}
-IsApart t (From (Copied r k)) = r ≢ t
-IsApart t Zero = Unit {0}
-IsApart t (Word w) = Unit {0}
-
-pub denotes_kept : (count t v : ℕ) (x : Source) (s : State) (f : ℕ → ℕ) → t ≢ 29 → IsApart t x → ((q : ℕ) → q ≢ t → f q ≡ s.regs q)
-    → Denotes count s x v → Denotes count (record s { regs = f }) x v
-denotes_kept count t v Zero s f ne apart same d = d
-denotes_kept count t v (Word w) s f ne apart same d = d
-denotes_kept count t v (From (Held r)) s f ne apart same d = read_other s.regs f r (λ _. same r apart) ∙ d
-denotes_kept count t v (From (Copied r k)) s f ne apart same d = read_other s.regs f r (λ _. same r apart) ∙ d
-denotes_kept count t v (From (InSlot k)) s f ne apart same d = (d.0, ap (λ p. word_at s (p + 4 * k)) (same 29 (λ e. ne (sym e))) ∙ d.1)
-
--- a register that isn't the location itself
-abbrev pub IsElsewhere : Option Location → ℕ → Type 0
-IsElsewhere None q = Unit {0}
-IsElsewhere (Some (Held r)) q = q ≢ r
-IsElsewhere (Some (InSlot k)) q = Unit {0}
-IsElsewhere (Some (Copied r k)) q = q ≢ r
-
--- instructions that end in a write of register d, from a state m that they have reached but for it
-pub record Ends (is : List Plain) (s m : State) (d v : ℕ) : Type 0 where
-  pub regs : ℕ → ℕ
-  pub runs : RunsTo is s (record m { regs = regs })
-  pub here : regs d ≡ v
-  pub others : (r : ℕ) → r ≢ d → regs r ≡ m.regs r
-  pub below : v < 2 ^ 32
-
--- a nop
-pub runs_nop : (s : State) → RunsTo (nop ∷ []) s s
-runs_nop s = record { ends = refl }
-
-pub frame_homes : (most : ℕ) (f : Frame) → IsFrame most f → AreFrameHomes f.homes.items f.copies.items f.slots
-frame_homes most f ok = ok.homes
+use Rattle.mips_emit.proofs.View.{moves, loads_word, stores_word, Sets, set_sets, li_sets}
+use Rattle.mips_emit.proofs.Stands.{Stored, size_of, with_slots, StackHolds, stack_same, stack_top, LeafHolds, Linked, linked_kept, Stands, open_stack}
+use Rattle.mips_emit.proofs.Operands.{IsKnown, hidden, hide, AreDeferred, deferred_written, one_deferred, shown_written, shown_deferred}
+use Rattle.mips_emit.proofs.Operands.{known_register, known_slot, IsFresh, stack_apart, Denotes, IsAway, longer, longer_behind, bring_some}
+use Rattle.mips_emit.proofs.Operands.{IsElsewhere, Ends, runs_nop}
 
 module _ (most total : ℕ) (gs : List RGlobal) (starts : ℕ → ℕ) where
   -- registers, HI and LO change, but not 28 and 29

@@ -46,7 +46,9 @@ use Rattle.mips_emit.specs.Code.{code_by_right, op_code, element_code, element_l
 use Rattle.mips_emit.proofs.Runs.{RunsTo, runs_none, runs_then}
 use Rattle.mips_emit.proofs.View.{shown_at, word_of_offset, shown_below, set, set_at, set_sets, read_register, put_here, put_other, IsTarget, IsInner, inner_is, inner_target, loads_at, stores_at, near_word, based}
 use Rattle.mips_emit.proofs.Stands.{Stored, with_slots, Stands}
-use Rattle.mips_emit.proofs.Homes.{IsLast, none_last, known_with, known_without, regs_kept, IsKnown, Denotes, IsAway, operand_register_kept, longer_behind, Ends, hide, AreDeferred, tells}
+use Rattle.mips_emit.proofs.Operands.{IsLast, none_last, known_with, known_without, IsKnown, Denotes, IsAway, operand_register_kept, longer_behind}
+use Rattle.mips_emit.proofs.Operands.{Ends, hide, AreDeferred}
+use Rattle.mips_emit.proofs.Homes.{regs_kept, tells}
 use Rattle.mips_emit.proofs.Homes.{operand_below, operand_means, fetches, sets_kept, finishes, puts, stands_with}
 use Rattle.mips_emit.proofs.Globals.{kept_is, data_open, data_written, stored_at}
 use Rattle.mips_emit.proofs.Operations.{Gives, alu_gives, operation_gives, immediate_gives, less_gives, symmetric}

@@ -1,6 +1,7 @@
 pub mod Runs
 pub mod View
 pub mod Stands
+pub mod Operands
 pub mod Homes
 pub mod Globals
 pub mod Operations

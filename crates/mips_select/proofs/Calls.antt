@@ -26,7 +26,7 @@ use Rattle.mips_emit.specs.Elements.{width_of, place_in, address_of_place}
 use Rattle.mips_emit.proofs.Runs.{RunsTo, runs_none, runs_then}
 use Rattle.mips_emit.proofs.View.{word_at, put_here, put_other, IsTarget, sum_value, word_of_offset}
 use Rattle.mips_emit.proofs.Stands.{Stored, StackHolds, stack_same, stack_top, Linked, Stands}
-use Rattle.mips_emit.proofs.Homes.{stack_apart}
+use Rattle.mips_emit.proofs.Operands.{stack_apart}
 use Rattle.mips_select.specs.declared.prologue.Direction.TheVariants.{Save, Restore}
 use Rattle.mips_select.specs.Code.{frame_bytes, saves, restores, link_save, link_load, lowers, raises, epilogue}
 use Rattle.mips_select.proofs.Frames.{InStack, AreKept, saves_run, restores_run}

@@ -22,7 +22,7 @@ use Rattle.mips_emit.specs.declared.comparison.Comparison.{Comparison}
 use Rattle.mips_emit.specs.declared.location.Source.{Source}
 use Rattle.mips_emit.specs.Locations.{Locations, Facts, locations, last_operand}
 use Rattle.mips_emit.specs.Comparisons.{exit_by_form, comparison_of, last_with, tested, branch_code, branch_exit, return_code}
-use Rattle.mips_emit.proofs.Homes.{passes}
+use Rattle.mips_emit.proofs.Operands.{passes}
 use Rattle.mips_emit.proofs.Comparing.{none_asked, asked_result, returned_result}
 use Rattle.mips_select.specs.Code.{epilogue, asked_of, exit_code, exit_of}
 

@@ -23,7 +23,8 @@ use Rattle.mips_emit.proofs.Runs.{RunsTo, runs_none, runs_then}
 use Rattle.mips_emit.proofs.View.{shown_at, word_at, set, set_word, shown_other, word_here, set_words, set_at_words, word_below, put_here, put_other}
 use Rattle.mips_emit.proofs.View.{read_register, loads_word, stores_word}
 use Rattle.mips_emit.proofs.Stands.{Stored, with_slots, Stands, open_stack}
-use Rattle.mips_emit.proofs.Homes.{hidden, hide, AreDeferred, none_deferred, fewer_stand, IsKnown, operand_means, Denotes, IsApart, denotes_kept, IsElsewhere, caller_saved_kept, carries, arrives}
+use Rattle.mips_emit.proofs.Operands.{hidden, hide, AreDeferred, none_deferred, IsKnown, Denotes, IsApart, denotes_kept, IsElsewhere}
+use Rattle.mips_emit.proofs.Homes.{fewer_stand, operand_means, caller_saved_kept, carries, arrives}
 use Rattle.mips_select.specs.Code.{saves, restores, parameters_code}
 use Rattle.mips_select.specs.Selected.{IsBehind, AreInOrder, IsClear, AreClear}
 

@@ -41,7 +41,8 @@ use Rattle.mips_emit.specs.Frames.{IsFrame}
 use Rattle.mips_emit.proofs.Runs.{RunsTo, runs_none, runs_then, Point, At, Stopped, from, Leads, leads_nowhere, leads_then, leads_run, leads_exit}
 use Rattle.mips_emit.proofs.View.{word_at, set, set_words, put_here, put_other, moves}
 use Rattle.mips_emit.proofs.Stands.{Stored, stack_room, Stands}
-use Rattle.mips_emit.proofs.Homes.{passes, hidden, hide, AreDeferred, none_deferred, fewer_stand, IsLast, none_last, frame_homes, words_kept, call_kept, IsKnown, nothing_known, last_means, fetches, carries, sets_kept, caller_saved_kept, arrives}
+use Rattle.mips_emit.proofs.Operands.{passes, hidden, hide, AreDeferred, none_deferred, IsLast, none_last, frame_homes, IsKnown, nothing_known}
+use Rattle.mips_emit.proofs.Homes.{fewer_stand, words_kept, call_kept, last_means, fetches, carries, sets_kept, caller_saved_kept, arrives}
 use Rattle.mips_emit.proofs.Insts.{value_or_failed, performs}
 use Rattle.mips_emit.proofs.Comparing.{none_asked, waiting, compares}
 use Rattle.mips_select.specs.declared.limits.TheConstants.{STACK_BYTES}
