@@ -10,6 +10,5 @@ pub mod Insts
 pub mod Comparing
 pub mod Tables
 pub mod Newest
-pub mod Prefixes
 pub mod Emitted
-pub mod Stopping
+pub mod Prefixes

@@ -31,6 +31,10 @@ use Rattle.rtl.specs.declared.operator.Op.{Op}
 use Rattle.rtl.specs.declared.operator.Op.TheVariants.{Add, Sub, Mul, DivS, DivU, RemS, RemU, And, Or, Xor, Shl, ShrU, ShrS, Eq, Ne, LtS, LtU, LeS, LeU}
 use Rattle.rtl.specs.Operators.{truth_word, op_result}
 use Rattle.rtl.proofs.Computing.{complement-is}
+use Rattle.std.proofs.Common.{◌++◌, take, drop}
+use Rattle.std.proofs.lemmas.List.{take-append-drop}
+use Rattle.mips_emit.specs.declared.location.Source.{Source}
+use Rattle.mips_emit.specs.Code.{fetch, operand_register, one_or_two, as_list, code_by_right}
 use Rattle.mips_emit.specs.Code.{is_small, half, operation, opposite, next_word, exponent, is_power, immediate, is_symmetric, turned_less_of}
 use Rattle.mips_emit.proofs.Runs.{RunsTo, runs_then}
 use Rattle.mips_emit.proofs.View.{set, IsTarget, put_here, put_other, read_register, alu_runs, imm_runs}
@@ -520,3 +524,16 @@ less_gives Eq s d q v w u i known ok left lv lw said is e = absurd (none-some i 
 less_gives Ne s d q v w u i known ok left lv lw said is e = absurd (none-some i is)
 less_gives LtS s d q v w u i known ok left lv lw said is e = absurd (none-some i is)
 less_gives LtU s d q v w u i known ok left lv lw said is e = absurd (none-some i is)
+
+-- an instruction and a second one, as the first and the rest of what they are
+pub one_or_two_are : (i : Plain) (s : Option Plain) (l : List Plain) → take 1 l ≡ i ∷ [] → drop 1 l ≡ as_list s → one_or_two i s ≡ l
+one_or_two_are i None l first rest = ap₂ (λ a b. a ++ b) (sym first) (sym rest) ∙ take-append-drop 1 l
+one_or_two_are i (Some j) l first rest = ap₂ (λ a b. a ++ b) (sym first) (sym rest) ∙ take-append-drop 1 l
+
+-- an operator on two registers, as it is selected
+pub both_fetched : (op : Op) (t d : ℕ) (right left less : Option Plain) (x y : Source) (i : Plain) (s : Option Plain) → right ≡ None → left ≡ None
+    → less ≡ None → take 1 (operation op d (operand_register t x) (operand_register 2 y)) ≡ i ∷ [] → drop 1 (operation op d (operand_register t x) (operand_register 2 y)) ≡ as_list s
+    → fetch t x ++ (fetch 2 y ++ one_or_two i s) ≡ code_by_right op t d right left less x y
+both_fetched op t d right left less x y i s no_right no_left no_less first rest =
+    ap (λ l. fetch t x ++ (fetch 2 y ++ l)) (one_or_two_are i s _ first rest)
+    ∙ sym (ap₂ (λ r l. code_by_right op t d r l less x y) no_right no_left ∙ ap (λ l. code_by_right op t d None None l x y) no_less)

@@ -1,16 +1,22 @@
 -- Code of which refused memory leaves a beginning.
-use Rattle.std.proofs.Common.{◌≡◌, ℕ, ◌+◌, ◌-◌, ◌≤◌, List, ◌++◌, length, take, drop, [], ◌∷◌, Option, Some, None, false, true, ap, ap₂, sym, ◌∙◌, arith}
+use Rattle.std.proofs.Common.{◌≡◌, ℕ, suc, ◌+◌, ◌-◌, ◌<◌, inl, inr, List, ◌++◌, ◌∷◌, length, take, drop, get_or, Option, false, true, ap, ap₂, sym, subst, ◌∙◌, arith, nat_eq}
+use Rattle.std.specs.Prelude.{if◌then◌else◌, Result, Ok, Err, OnErr}
 use Rattle.std.specs.Result.{IsErr}
-use Rattle.std.specs.Prelude.{Result, Ok, Err}
 use Rattle.std.proofs.Common.{length-append, append_assoc}
-use Rattle.std.proofs.Math.Seq.{take-append-add, take-append_seam}
+use Rattle.std.proofs.Math.Seq.{take-append-add}
 use Rattle.std.proofs.lemmas.Grind.{common_steps}
-use Rattle.std.proofs.lemmas.List.{take-append-drop}
+use Rattle.std.proofs.lemmas.List.{at_drop_more}
 use Rattle.mips_isa.specs.declared.inst.Plain.{Plain}
-use Rattle.rtl.specs.declared.operator.Op.{Op}
-use Rattle.mips_emit.specs.declared.location.Source.{Source}
-use Rattle.mips_emit.specs.Code.{fetch, operand_register, operation, one_or_two, as_list, code_by_right}
-use Rattle.mips_emit.specs.Prefixes.{EmitsPrefix, Emits}
+use Rattle.rtl.specs.declared.instruction.RInst.{RInst}
+use Rattle.rtl.specs.declared.block.RGlobal.{RGlobal}
+use Rattle.mips_emit.specs.declared.comparison.Comparison.{Comparison}
+use Rattle.mips_emit.specs.declared.comparison.Asked.{Asked}
+use Rattle.mips_emit.specs.declared.comparison.Asked.TheVariants.{Nothing}
+use Rattle.mips_emit.specs.Locations.{Locations, Facts, learned, operand}
+use Rattle.mips_emit.specs.Code.{carry, arguments_code}
+use Rattle.mips_emit.specs.Comparisons.{comparison_of, next_code, one_code}
+use Rattle.mips_emit.specs.Prefixes.{EmitsPrefix, Emits, StopsAmong}
+use Rattle.mips_emit.proofs.Emitted.{asks_last}
 
 -- behind other code that was to be emitted
 pub prefix_behind : (was mid now a b : List Plain) → mid ≡ was ++ a → EmitsPrefix mid b now → EmitsPrefix was (a ++ b) now
@@ -27,40 +33,57 @@ prefix_before was now a b f = grind (arith, common_steps)
 pub prefix_among : (was mid now a b c : List Plain) → mid ≡ was ++ a → EmitsPrefix mid b now → EmitsPrefix was (a ++ (b ++ c)) now
 prefix_among was mid now a b c e f = prefix_behind was mid now a (b ++ c) e (prefix_before mid now b c f)
 
--- what can be gone on with to all of it
-pub prefix_of : (was now behind all : List Plain) → length was ≤ length now → now ++ behind ≡ was ++ all → EmitsPrefix was all now
-prefix_of was now behind all le e =
-    let n = length now - length was in
-    let k : length now ≡ length was + n = omega arith in
-    sym (take-append_seam now behind) ∙ ap (take (length now)) e ∙ ap (λ m. take m (was ++ all)) k ∙ take-append-add was all n
-
--- an instruction and a second one, as the first and the rest of what they are
-pub one_or_two_are : (i : Plain) (s : Option Plain) (l : List Plain) → take 1 l ≡ i ∷ [] → drop 1 l ≡ as_list s → one_or_two i s ≡ l
-one_or_two_are i None l first rest = ap₂ (λ a b. a ++ b) (sym first) (sym rest) ∙ take-append-drop 1 l
-one_or_two_are i (Some j) l first rest = ap₂ (λ a b. a ++ b) (sym first) (sym rest) ∙ take-append-drop 1 l
-
--- an operator on two registers, as it is selected
-pub both_fetched : (op : Op) (t d : ℕ) (right left less : Option Plain) (x y : Source) (i : Plain) (s : Option Plain) → right ≡ None → left ≡ None
-    → less ≡ None → take 1 (operation op d (operand_register t x) (operand_register 2 y)) ≡ i ∷ [] → drop 1 (operation op d (operand_register t x) (operand_register 2 y)) ≡ as_list s
-    → fetch t x ++ (fetch 2 y ++ one_or_two i s) ≡ code_by_right op t d right left less x y
-both_fetched op t d right left less x y i s no_right no_left no_less first rest =
-    ap (λ l. fetch t x ++ (fetch 2 y ++ l)) (one_or_two_are i s _ first rest)
-    ∙ sym (ap₂ (λ r l. code_by_right op t d r l less x y) no_right no_left ∙ ap (λ l. code_by_right op t d None None l x y) no_less)
-
--- code in two parts
-pub in_two : (was mid now a b : List Plain) → mid ≡ was ++ a → now ≡ mid ++ b → now ≡ was ++ (a ++ b)
-in_two was mid now a b e f = f ∙ ap (λ l. l ++ b) e ∙ append_assoc was a b
+-- all of it
+pub prefix_all : (was now all : List Plain) → now ≡ was ++ all → EmitsPrefix was all now
+prefix_all was now all e = grind (arith, common_steps)
 
 -- what a call leaves that returns the Err of one that it makes
 pub at_prefix : {A E : Type 0} (r : Result A E) (was all now : List Plain) → IsErr r → EmitsPrefix was all now → Emits r was all now
 at_prefix (Ok x) was all now is_err some = let no : false ≡ true = is_err in cc
 at_prefix (Err e) was all now is_err some = some
 
+pub at_err : {A E : Type 0} (r : Result A E) {P : Type 0} → P → OnErr r P
+at_err (Ok x) p = tt
+at_err (Err e) p = p
+
+-- code in two parts
+pub in_two : (was mid now a b : List Plain) → mid ≡ was ++ a → now ≡ mid ++ b → now ≡ was ++ (a ++ b)
+in_two was mid now a b e f = f ∙ ap (λ l. l ++ b) e ∙ append_assoc was a b
+
 -- the last call of several
 pub emits_behind : {A E : Type 0} (r : Result A E) (was mid now a b : List Plain) → mid ≡ was ++ a → Emits r mid b now → Emits r was (a ++ b) now
 emits_behind (Ok x) was mid now a b e f = in_two was mid now a b e f
 emits_behind (Err x) was mid now a b e f = prefix_behind was mid now a b e f
 
-pub emits_third : {A E : Type 0} (r : Result A E) (was mid next now a b c : List Plain) → mid ≡ was ++ a → next ≡ mid ++ b → Emits r next c now
-    → Emits r was (a ++ (b ++ c)) now
-emits_third r was mid next now a b c e f g = emits_behind r was mid now a (b ++ c) e (emits_behind r mid next now b c f g)
+-- one more argument is to be emitted
+pub arguments_more : (at : Locations) (facts : Facts) (t t' i d : ℕ) (args : List ℕ) (was now : List Plain) → i < length args → t' ≡ t
+    → EmitsPrefix was (carry t' (operand at facts (get_or args i d)) ++ arguments_code at facts (t + 1) (drop (i + 1) args)) now
+    → EmitsPrefix was (arguments_code at facts t (drop i args)) now
+arguments_more at facts t t' i d args was now lt same f =
+    let next : t + 1 ≡ suc t = omega arith in
+    let parts = ap₂ (λ t n. carry t (operand at facts (get_or args i d)) ++ arguments_code at facts n (drop (i + 1) args)) same next in
+    subst (λ l. EmitsPrefix was l now) (parts ∙ sym (at_drop_more (arguments_code at facts t) args i d lt)) f
+
+-- one more instruction is to be emitted
+module _ (gs : List RGlobal) (starts : ℕ → ℕ) (at : Locations) (asked asks : Asked) (insts : List RInst) (i left : ℕ) (d : RInst) (m : Option Comparison)
+    (facts final : Facts) (was now : List Plain) (lt : i < length insts) (count : left + i ≡ length insts)
+    (asks_is : asks ≡ (if nat_eq (left - 1) 0 then asked else Nothing)) (m_is : m ≡ comparison_of at facts asks (get_or insts i d)) where
+  code_is : next_code gs starts at facts m (get_or insts i d) ≡ one_code gs starts at asked (drop (i + 1) insts) facts (get_or insts i d)
+  code_is =
+      ap (λ m. next_code gs starts at facts m (get_or insts i d))
+      (m_is ∙ ap (λ a. comparison_of at facts a (get_or insts i d)) (asks_is ∙ asks_last asked insts i left lt count))
+
+  stops : StopsAmong gs starts at asked (get_or insts i d ∷ drop (i + 1) insts) facts final was now
+      → StopsAmong gs starts at asked (drop i insts) facts final was now
+  stops s = subst (λ is. StopsAmong gs starts at asked is facts final was now) (sym (at_drop_more (λ is. is) insts i d lt)) s
+
+  pub stops_here : final ≡ facts → EmitsPrefix was (next_code gs starts at facts m (get_or insts i d)) now
+      → StopsAmong gs starts at asked (drop i insts) facts final was now
+  stops_here same some = stops (inl (same, subst (λ l. EmitsPrefix was l now) code_is some))
+
+  pub stops_later : (facts' : Facts) (was' : List Plain) → facts' ≡ learned at (get_or insts i d) facts
+      → was' ≡ was ++ next_code gs starts at facts m (get_or insts i d)
+      → StopsAmong gs starts at asked (drop (i + 1) insts) facts' final was' now → StopsAmong gs starts at asked (drop i insts) facts final was now
+  stops_later facts' was' k e s =
+      let more = λ (f : Facts) (l : List Plain). StopsAmong gs starts at asked (drop (i + 1) insts) f final l now in
+      stops (inr (subst (λ l. more (learned at (get_or insts i d) facts) l) (e ∙ ap (λ l. was ++ l) code_is) (subst (λ f. more f was') k s)))

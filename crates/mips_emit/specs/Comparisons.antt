@@ -143,6 +143,10 @@ abbrev pub next_code : List RGlobal → (starts : ℕ → ℕ) → Locations →
 next_code globals starts at facts None i = inst_code globals starts at facts i
 next_code globals starts at facts (Some m) i = comparison_code m
 
+-- the code of an instruction before others
+abbrev pub one_code : List RGlobal → (starts : ℕ → ℕ) → Locations → Asked → (behind : List RInst) → Facts → RInst → List Plain
+one_code globals starts at asked behind facts i = next_code globals starts at facts (comparison_of at facts (asked_last asked behind) i) i
+
 -- what an exit can use then
 abbrev pub last_with : Option Comparison → (fresh : Option ℕ) → Last
 last_with None fresh = record { fresh = fresh; comparison = None }
@@ -160,7 +164,7 @@ last_after at asked facts (i ∷ is) last =
 abbrev pub insts_code : List RGlobal → (starts : ℕ → ℕ) → Locations → Asked → Facts → List RInst → List Plain → List Plain
 insts_code globals starts at asked facts [] behind = behind
 insts_code globals starts at asked facts (i ∷ is) behind =
-    next_code globals starts at facts (comparison_of at facts (asked_last asked is) i) i
+    one_code globals starts at asked is facts i
     ++ insts_code globals starts at asked (learned at i facts) is behind
 
 -- and before none

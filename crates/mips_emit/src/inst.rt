@@ -283,7 +283,7 @@ pub fn emit_insts(
         ++ code_of_insts globals.now starts.now frame.now asked (facts_of facts.old) insts.now) }
     ensures last { IfOk result (λ l. l ≡ last_after (locations frame.now) asked (facts_of facts.old) insts.now no_last) }
     ensures known { OnOk result (facts_of facts.new ≡ known_after (locations frame.now) insts.now (facts_of facts.old)) }
-    ensures left { OnErr result (StopsAmong globals.now starts.now frame.now asked insts.now (facts_of facts.old)
+    ensures left { OnErr result (StopsAmong globals.now (slice_index starts.now) (locations frame.now) asked insts.now (facts_of facts.old)
         (facts_of facts.new) code.old.items code.new.items) }
 {
     let mut last = Last::NONE;

@@ -1,28 +1,26 @@
-use Rattle.std.proofs.Common.{length-append, sym, ap, ◌++◌, ◌∙◌, length, arith}
+use Rattle.std.proofs.Common.{sym, ap, ◌++◌, ◌∙◌, arith}
 use Rattle.std.proofs.lemmas.List.{append-nil, at_drop_all}
-use Rattle.mips_isa.specs.declared.inst.Plain.{Plain}
 use Rattle.mips_emit.specs.Locations.{facts_of, locations}
 use Rattle.mips_emit.specs.Code.{arguments_code}
 use Rattle.mips_emit.proofs.Emitted.{arguments_step}
-use Rattle.mips_emit.proofs.Stopping.{emits_err, arguments_stop}
+use Rattle.mips_emit.proofs.Prefixes.{prefix_behind, prefix_before, at_prefix, arguments_more}
 use Rattle.mips_emit.proofs.exit.emit_arguments.Goals as goal
 
 pub returns-in_err-emit_departure : goal.returns-in_err-emit_departure
 returns-in_err-emit_departure c =
-    emits_err c.from_residual.result _ _ _ c.from_residual.ensures.0
-    (arguments_stop (locations c.args.frame.now) (facts_of c.args.facts.now) c.loop-x.t c.register.result c.loop-x.x-index 0 c.args.arguments.now
-    c.args.code.now.items c.loop-x.code.items c.emit_departure.new.code.items c.loop-x-test.true c.register.ensures c.loop-x.invariant.2
-    c.loop-x.invariant.1 c.in_err-emit_departure.ensures)
+    at_prefix c.from_residual.result _ _ _ c.from_residual.ensures.0 (c.loop-x.invariant.2 _ (arguments_more (locations c.args.frame.now)
+    (facts_of c.args.facts.now) c.loop-x.t c.register.result c.loop-x.x-index 0 c.args.arguments.now _ _ c.loop-x-test.true c.register.ensures
+    (prefix_before _ _ _ _ c.in_err-emit_departure.ensures)))
 
 pub loop-x-preserved : goal.loop-x-preserved
 loop-x-preserved c =
     let at = c.loop-x.invariant.0 in
-    let long = c.loop-x.invariant.2 in
     let made = c.in_ok-emit_departure.ensures in (
       omega (arith, at),
       arguments_step (locations c.args.frame.now) (facts_of c.args.facts.now) c.loop-x.t c.register.result c.loop-x.x-index 0 c.args.arguments.now
           c.loop-x.code.items _ _ c.loop-x-test.true c.register.ensures made c.loop-x.invariant.1,
-      omega (arith, long, ap length made, length-append {A = Plain}),
+      λ now some. c.loop-x.invariant.2 now (arguments_more (locations c.args.frame.now) (facts_of c.args.facts.now) c.loop-x.t c.register.result
+          c.loop-x.x-index 0 c.args.arguments.now _ now c.loop-x-test.true c.register.ensures (prefix_behind _ _ now _ _ made some)),
     )
 
 pub returns : goal.returns

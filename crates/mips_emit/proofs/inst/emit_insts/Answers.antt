@@ -1,12 +1,11 @@
 use Rattle.mips_emit.proofs.Emitted.{insts_step}
-use Rattle.std.proofs.Common.{List, [], ◌++◌, refl, sym, ap, subst, ◌∙◌, arith}
+use Rattle.std.proofs.Common.{List, [], ◌++◌, refl, sym, ap, ◌∙◌, arith}
 use Rattle.std.specs.Prelude.{slice_index}
 use Rattle.std.proofs.lemmas.List.{append-nil, at_drop_all}
 use Rattle.rtl.specs.declared.instruction.RInst.{RInst}
-use Rattle.mips_emit.specs.Locations.{Facts, facts_of, locations, known_after}
+use Rattle.mips_emit.specs.Locations.{facts_of, locations, known_after}
 use Rattle.mips_emit.specs.Comparisons.{insts_code, last_after}
-use Rattle.mips_emit.specs.Prefixes.{StopsAmong}
-use Rattle.mips_emit.proofs.Stopping.{known_step, stops, at_err, prefix_all}
+use Rattle.mips_emit.proofs.Prefixes.{stops_here, stops_later, at_err, prefix_all}
 use Rattle.mips_emit.proofs.inst.emit_insts.Goals as goal
 
 pub loop-inst-preserved : goal.loop-inst-preserved
@@ -16,28 +15,34 @@ loop-inst-preserved c =
     c.loop-inst-test.true c.asked_if-asks.ensures c.comparison_of-comparison.ensures.value c.fresh_of-fresh.ensures c.in_ok-emit_next.ensures
     c.in_ok-learn.ensures.is c.last_with-last.ensures
     (c.loop-inst.invariant.0, c.loop-inst.invariant.1, c.loop-inst.invariant.2, c.loop-inst.invariant.3) in
-    let k = known_step _ c.loop-inst.inst-index c.args.insts.now _ _ _ _ c.loop-inst-test.true c.in_ok-learn.ensures.is c.loop-inst.invariant.4 in
-    (z.0, z.1, z.2, z.3, k)
+    (z.0, z.1, z.2, z.3, λ final now s. c.loop-inst.invariant.4 final now
+    (stops_later c.args.globals.now _ _ c.args.asked c.asked_if-asks.result c.args.insts.now c.loop-inst.inst-index c.loop-inst.left _
+    c.comparison_of-comparison.result _ final _ now c.loop-inst-test.true c.loop-inst.invariant.0 c.asked_if-asks.ensures
+    c.comparison_of-comparison.ensures.value _ _ c.in_ok-learn.ensures.is c.in_ok-emit_next.ensures s))
 
 pub returns-in_err-emit_next-clause-left : goal.returns-in_err-emit_next-clause-left
 returns-in_err-emit_next-clause-left c =
-    at_err c.from_residual.result (stops c.args.globals.now c.args.starts.now c.args.frame.now c.args.asked c.args.insts.now
-    (facts_of c.args.facts.now) c.args.code.now.items c.loop-inst.inst-index c.loop-inst.left _ c.asked_if-asks.result
-    c.comparison_of-comparison.result _ _ _ c.loop-inst-test.true c.loop-inst.invariant.0 c.loop-inst.invariant.4 c.loop-inst.invariant.1
-    c.asked_if-asks.ensures c.comparison_of-comparison.ensures.value c.in_err-emit_next.ensures)
+    let facts = facts_of c.loop-inst.facts in
+    let was = c.loop-inst.code.items in
+    let now = c.emit_next.new.code.items in
+    at_err c.from_residual.result (c.loop-inst.invariant.4 facts now (stops_here c.args.globals.now (slice_index c.args.starts.now)
+    (locations c.args.frame.now) c.args.asked c.asked_if-asks.result c.args.insts.now c.loop-inst.inst-index c.loop-inst.left _
+    c.comparison_of-comparison.result facts facts was now c.loop-inst-test.true c.loop-inst.invariant.0 c.asked_if-asks.ensures
+    c.comparison_of-comparison.ensures.value refl c.in_err-emit_next.ensures))
 
 pub returns-in_err-learn-clause-left : goal.returns-in_err-learn-clause-left
 returns-in_err-learn-clause-left c =
-    at_err c.from_residual-in_err-learn.result (subst (λ (left : Facts). StopsAmong c.args.globals.now c.args.starts.now c.args.frame.now
-    c.args.asked c.args.insts.now (facts_of c.args.facts.now) left c.args.code.now.items c.emit_next.new.code.items)
-    (sym c.in_err-learn.ensures.kept)
-    (stops c.args.globals.now c.args.starts.now c.args.frame.now c.args.asked c.args.insts.now
-    (facts_of c.args.facts.now) c.args.code.now.items c.loop-inst.inst-index c.loop-inst.left _ c.asked_if-asks.result
-    c.comparison_of-comparison.result _ _ _ c.loop-inst-test.true c.loop-inst.invariant.0 c.loop-inst.invariant.4 c.loop-inst.invariant.1
-    c.asked_if-asks.ensures c.comparison_of-comparison.ensures.value (prefix_all _ _ _ c.in_ok-emit_next.ensures)))
+    let facts = facts_of c.loop-inst.facts in
+    let final = facts_of c.learn.new.facts in
+    let was = c.loop-inst.code.items in
+    let now = c.emit_next.new.code.items in
+    at_err c.from_residual-in_err-learn.result (c.loop-inst.invariant.4 final now (stops_here c.args.globals.now (slice_index c.args.starts.now)
+    (locations c.args.frame.now) c.args.asked c.asked_if-asks.result c.args.insts.now c.loop-inst.inst-index c.loop-inst.left _
+    c.comparison_of-comparison.result facts final was now c.loop-inst-test.true c.loop-inst.invariant.0 c.asked_if-asks.ensures
+    c.comparison_of-comparison.ensures.value c.in_err-learn.ensures.kept (prefix_all was now _ c.in_ok-emit_next.ensures)))
 
 pub loop-inst-init : goal.loop-inst-init
-loop-inst-init c = (omega arith, refl, refl, refl, refl)
+loop-inst-init c = (omega arith, refl, refl, refl, λ final now s. s)
 
 pub returns-clause-code : goal.returns-clause-code
 returns-clause-code c =

@@ -1,7 +1,7 @@
 use Rattle.std.proofs.Common.{ap, ap₂, ◌∙◌}
 use Rattle.mips_emit.specs.Elements.{direct}
 use Rattle.mips_emit.specs.Code.{operand_register}
-use Rattle.mips_emit.proofs.Prefixes.{prefix_before, prefix_among, at_prefix, emits_third}
+use Rattle.mips_emit.proofs.Prefixes.{prefix_before, prefix_among, at_prefix, emits_behind}
 use Rattle.mips_emit.proofs.inst.emit_store.Goals as goal
 
 pub returns : goal.returns
@@ -9,7 +9,8 @@ returns c =
     let place = c.direct-place.ensures.value ∙ ap (direct c.args.width c.args.start) c.known_word.ensures in
     let rt = c.operand_register.ensures ∙ ap₂ operand_register c.register-2.ensures c.operand-y.ensures.value in
     rw (← rt, ← place, ← c.operand-x.ensures.value, ← c.operand-y.ensures.value, ← c.register.ensures, ← c.element_store.ensures)
-    (emits_third c.emit_one.result _ _ _ _ _ _ _ c.in_ok-emit_element.ensures c.in_ok-emit_fetch.ensures c.emit_one.ensures)
+    (emits_behind c.emit_one.result _ _ _ _ _ c.in_ok-emit_element.ensures
+    (emits_behind c.emit_one.result _ _ _ _ _ c.in_ok-emit_fetch.ensures c.emit_one.ensures))
 
 pub returns-in_err-emit_element : goal.returns-in_err-emit_element
 returns-in_err-emit_element c =

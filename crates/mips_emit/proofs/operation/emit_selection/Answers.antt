@@ -1,12 +1,12 @@
 use Rattle.std.proofs.Common.{◌++◌}
 use Rattle.mips_emit.specs.Code.{fetch_if, one_or_two}
-use Rattle.mips_emit.proofs.Prefixes.{prefix_before, prefix_among, at_prefix, emits_third}
+use Rattle.mips_emit.proofs.Prefixes.{prefix_before, prefix_among, at_prefix, emits_behind}
 use Rattle.mips_emit.proofs.operation.emit_selection.Goals as goal
 
 pub returns : goal.returns
 returns c =
-    rw (← c.register.ensures) (emits_third c.emit_one_or_two.result _ _ _ _ _ _ _ c.in_ok-emit_fetch_if.ensures
-    c.in_ok-emit_fetch_if-2.ensures c.emit_one_or_two.ensures)
+    rw (← c.register.ensures) (emits_behind c.emit_one_or_two.result _ _ _ _ _ c.in_ok-emit_fetch_if.ensures
+    (emits_behind c.emit_one_or_two.result _ _ _ _ _ c.in_ok-emit_fetch_if-2.ensures c.emit_one_or_two.ensures))
 
 pub returns-in_err-emit_fetch_if : goal.returns-in_err-emit_fetch_if
 returns-in_err-emit_fetch_if c =

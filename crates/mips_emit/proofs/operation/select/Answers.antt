@@ -1,6 +1,6 @@
 use Rattle.std.proofs.Common.{take, sym, ap, ap₂, ◌∙◌}
 use Rattle.mips_emit.specs.Code.{operand_register, operation, immediate_of, turned_immediate_of, turned_less_of}
-use Rattle.mips_emit.proofs.Prefixes.{both_fetched}
+use Rattle.mips_emit.proofs.Operations.{both_fetched}
 use Rattle.mips_emit.proofs.operation.select.Goals as goal
 
 pub returns-in-None : goal.returns-in-None
