@@ -1,4 +1,4 @@
--- The machine code of each instruction, and of arguments. Registers 1 to 3 are free between instructions.
+-- The machine code of each instruction, and of arguments. The scratch registers are free between instructions.
 use Rattle.std.specs.Prelude.{ℕ, ℤ, pos, negsuc, suc, ◌-◌, ◌*◌, ◌/◌, ◌%◌, ◌^◌, Bool, true, false, ◌||◌, nat_eq, nat_lt}
 use Rattle.std.specs.Prelude.{◌+◌, if◌then◌else◌, List, [], ◌∷◌, ◌++◌, Option, Some, None}
 use Rattle.std.specs.Int.{w32, trailing_zeros}
@@ -20,7 +20,8 @@ use Rattle.rtl.specs.declared.operator.Op.TheVariants.{LtU, LeS, LeU}
 use Rattle.rtl.specs.declared.instruction.RInst.{RInst}
 use Rattle.rtl.specs.declared.instruction.RInst.TheVariants.{Const, Move, Bin, Load, Store}
 use Rattle.rtl.specs.declared.block.RGlobal.{RGlobal}
-use Rattle.mips_homes.specs.HomedRun.{is_callee_saved}
+use Rattle.mips_homes.specs.declared.convention.TheConstants.{SCRATCH_1, SCRATCH_2, STACK_POINTER}
+use Rattle.mips_homes.specs.Convention.{is_callee_saved}
 use Rattle.mips_emit.specs.declared.location.Location.{Location}
 use Rattle.mips_emit.specs.declared.location.Location.TheVariants.{Held, InSlot, Copied}
 use Rattle.mips_emit.specs.declared.location.Source.{Source}
@@ -53,10 +54,10 @@ li t w =
 
 -- a word of the frame into a register, and back
 abbrev pub load_word_at : (t offset : ℕ) → Plain
-load_word_at t offset = plain.Load widths.Word t 29 (pos offset)
+load_word_at t offset = plain.Load widths.Word t STACK_POINTER (pos offset)
 
 abbrev pub store_word_at : (t offset : ℕ) → Plain
-store_word_at t offset = plain.Store widths.Word t 29 (pos offset)
+store_word_at t offset = plain.Store widths.Word t STACK_POINTER (pos offset)
 
 -- one register into another
 abbrev pub move_code : (t r : ℕ) → Plain
@@ -221,14 +222,14 @@ turned_less_of LeU d q known = immediate_of LtU d q known
 turned_less_of _ d q known = None
 
 -- an operator into register d: with a word on the right or on the left, with a word on the left of a test that is then turned, or on two
--- registers. The left operand goes through register t, the right one through 2
+-- registers. The left operand goes through register t, the right one through the second scratch register
 abbrev pub code_by_less : Op → (t d : ℕ) → (less : Option Plain) → Source → Source → List Plain
-code_by_less op t d None x y = fetch t x ++ (fetch 2 y ++ operation op d (operand_register t x) (operand_register 2 y))
-code_by_less op t d (Some i) x y = fetch 2 y ++ i ∷ Logic Xori d d 1 ∷ []
+code_by_less op t d None x y = fetch t x ++ (fetch SCRATCH_2 y ++ operation op d (operand_register t x) (operand_register SCRATCH_2 y))
+code_by_less op t d (Some i) x y = fetch SCRATCH_2 y ++ i ∷ Logic Xori d d 1 ∷ []
 
 abbrev pub code_by_left : Op → (t d : ℕ) → (left less : Option Plain) → Source → Source → List Plain
 code_by_left op t d None less x y = code_by_less op t d less x y
-code_by_left op t d (Some i) less x y = fetch 2 y ++ i ∷ []
+code_by_left op t d (Some i) less x y = fetch SCRATCH_2 y ++ i ∷ []
 
 abbrev pub code_by_right : Op → (t d : ℕ) → (right left less : Option Plain) → Source → Source → List Plain
 code_by_right op t d None left less x y = code_by_left op t d left less x y
@@ -236,15 +237,15 @@ code_by_right op t d (Some i) left less x y = fetch t x ++ i ∷ []
 
 abbrev pub code_by_word : Op → (t d : ℕ) → (left right : Option ℕ) → Source → Source → List Plain
 code_by_word op t d left right x y =
-    code_by_right op t d (immediate_of op d (operand_register t x) right) (turned_immediate_of op d (operand_register 2 y) left)
-    (turned_less_of op d (operand_register 2 y) left) x y
+    code_by_right op t d (immediate_of op d (operand_register t x) right) (turned_immediate_of op d (operand_register SCRATCH_2 y) left)
+    (turned_less_of op d (operand_register SCRATCH_2 y) left) x y
 
 -- the instructions of an operator that are selected: whether each operand is fetched, and one or two behind
 abbrev pub fetch_if : Bool → ℕ → Source → List Plain
 fetch_if fetches t x = if fetches then fetch t x else []
 
 abbrev pub selection_code : (t : ℕ) → Selection → Source → Source → List Plain
-selection_code t s x y = fetch_if s.fetches_left t x ++ (fetch_if s.fetches_right 2 y ++ one_or_two s.first s.second)
+selection_code t s x y = fetch_if s.fetches_left t x ++ (fetch_if s.fetches_right SCRATCH_2 y ++ one_or_two s.first s.second)
 
 -- a product by one more or one less than a power of 2, and by no power itself: the other operand is shifted, and then added to that or
 -- taken from it, modulo 2^32
@@ -261,7 +262,7 @@ multiple_of Mul (Some c) = multiple c
 multiple_of _ known = None
 
 abbrev pub multiple_code : (t d : ℕ) → ShiftedSum → Source → List Plain
-multiple_code t d m x = fetch t x ++ Shift Sll 2 (operand_register t x) m.amount ∷ Alu m.op d 2 (operand_register t x) ∷ []
+multiple_code t d m x = fetch t x ++ Shift Sll SCRATCH_2 (operand_register t x) m.amount ∷ Alu m.op d SCRATCH_2 (operand_register t x) ∷ []
 
 abbrev pub code_by_multiple : (t d : ℕ) → (right left : Option ShiftedSum) → Source → Source → (other : List Plain) → List Plain
 code_by_multiple t d (Some m) left x y other = multiple_code t d m x
@@ -277,7 +278,7 @@ op_code op t d left right x y =
 
 -- what stands before an element is used, from the operand that is its index
 abbrev pub element_code : Width → (start : ℕ) → Option ℕ → Source → List Plain
-element_code w start None x = fetch 1 x ++ base_code w start (operand_register 1 x)
+element_code w start None x = fetch SCRATCH_1 x ++ base_code w start (operand_register SCRATCH_1 x)
 element_code w start (Some p) x = []
 
 abbrev pub bin_code : Locations → Facts → Op → (d a b : ℕ) → List Plain
@@ -301,8 +302,8 @@ load_code at facts w start d i =
 abbrev pub store_code : Locations → Facts → Width → (start i b : ℕ) → List Plain
 store_code at facts w start i b =
     element_code w start (direct w start (known_in facts i)) (operand at facts i)
-    ++ (fetch 2 (operand at facts b)
-    ++ element_store w (operand_register 2 (operand at facts b)) start (direct w start (known_in facts i)) ∷ [])
+    ++ (fetch SCRATCH_2 (operand at facts b)
+    ++ element_store w (operand_register SCRATCH_2 (operand at facts b)) start (direct w start (known_in facts i)) ∷ [])
 
 -- nothing is done
 abbrev pub nop : Plain

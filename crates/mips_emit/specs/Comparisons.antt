@@ -11,7 +11,8 @@ use Rattle.rtl.specs.declared.operator.Op.TheVariants.{Eq, Ne, LtS, LtU, LeS, Le
 use Rattle.rtl.specs.declared.instruction.RInst.{RInst}
 use Rattle.rtl.specs.declared.instruction.RInst.TheVariants.{Const, Move, Bin, Load, Store}
 use Rattle.rtl.specs.declared.block.RGlobal.{RGlobal}
-use Rattle.mips_homes.specs.HomedRun.{is_callee_saved}
+use Rattle.mips_homes.specs.declared.convention.TheConstants.{SCRATCH_1, SCRATCH_3, RESULT}
+use Rattle.mips_homes.specs.Convention.{is_callee_saved}
 use Rattle.mips_homes.specs.declared.homed.Frame.{Frame}
 use Rattle.mips_emit.specs.declared.location.Location.{Location}
 use Rattle.mips_emit.specs.declared.location.Location.TheVariants.{Held, InSlot, Copied}
@@ -37,7 +38,7 @@ is_there (Some i) = true
 
 -- a word that an operator has in its instruction
 abbrev pub is_immediate : Op → (known : Option ℕ) → Bool
-is_immediate op known = is_there (immediate_of op 1 0 known)
+is_immediate op known = is_there (immediate_of op SCRATCH_1 0 known)
 
 abbrev pub opposite_if : Bool → Form
 opposite_if b = if b then ByOpposite else ByResult
@@ -66,26 +67,26 @@ opposite_op op = op
 
 -- ---- code and exits
 
--- what stands before the branch; a nop where that would be nothing. It is in register 3 and not in 1, so that what stands before may
+-- what stands before the branch; a nop where that would be nothing. It is in the third scratch register and not in the first, so that what stands before may
 -- be done behind it
 abbrev pub code_by_form : Form → Op → (left right : Option ℕ) → Source → Source → List Plain
-code_by_form (OnPair test) op l r x y = fetch 1 x ++ (fetch 3 y ++ nop ∷ [])
-code_by_form (OnLeft test) op l r x y = fetch 3 x ++ nop ∷ []
-code_by_form (OnRight test) op l r x y = fetch 3 y ++ nop ∷ []
-code_by_form ByResult op l r x y = op_code op 1 3 l r x y
-code_by_form ByOpposite op l r x y = op_code (opposite_op op) 1 3 r l y x
-code_by_form InResult op l r x y = op_code op 1 2 l r x y
+code_by_form (OnPair test) op l r x y = fetch SCRATCH_1 x ++ (fetch SCRATCH_3 y ++ nop ∷ [])
+code_by_form (OnLeft test) op l r x y = fetch SCRATCH_3 x ++ nop ∷ []
+code_by_form (OnRight test) op l r x y = fetch SCRATCH_3 y ++ nop ∷ []
+code_by_form ByResult op l r x y = op_code op SCRATCH_1 SCRATCH_3 l r x y
+code_by_form ByOpposite op l r x y = op_code (opposite_op op) SCRATCH_1 SCRATCH_3 r l y x
+code_by_form InResult op l r x y = op_code op SCRATCH_1 RESULT l r x y
 
 abbrev pub comparison_code : Comparison → List Plain
 comparison_code m = code_by_form m.form m.op m.left m.right m.x m.y
 
 abbrev pub exit_by_form : Form → Source → Source → (t e : ℕ) → Exit
-exit_by_form (OnPair test) x y t e = BranchPair test (operand_register 1 x) (operand_register 3 y) t e
-exit_by_form (OnLeft test) x y t e = BranchZero test (operand_register 3 x) t e
-exit_by_form (OnRight test) x y t e = BranchZero test (operand_register 3 y) t e
-exit_by_form ByResult x y t e = BranchPair NotEqual 3 0 t e
-exit_by_form ByOpposite x y t e = BranchPair Equal 3 0 t e
-exit_by_form InResult x y t e = BranchPair NotEqual 2 0 t e
+exit_by_form (OnPair test) x y t e = BranchPair test (operand_register SCRATCH_1 x) (operand_register SCRATCH_3 y) t e
+exit_by_form (OnLeft test) x y t e = BranchZero test (operand_register SCRATCH_3 x) t e
+exit_by_form (OnRight test) x y t e = BranchZero test (operand_register SCRATCH_3 y) t e
+exit_by_form ByResult x y t e = BranchPair NotEqual SCRATCH_3 0 t e
+exit_by_form ByOpposite x y t e = BranchPair Equal SCRATCH_3 0 t e
+exit_by_form InResult x y t e = BranchPair NotEqual RESULT 0 t e
 
 abbrev pub comparison_exit : Comparison → (t e : ℕ) → Exit
 comparison_exit m t e = exit_by_form m.form m.x m.y t e
@@ -180,11 +181,11 @@ tested (Some m) c = if nat_eq m.result c then Some m else None
 
 -- a branch: on an operand, or on what was compared
 abbrev pub branch_code : (tested : Option Comparison) → Source → List Plain
-branch_code None x = fetch 1 x
+branch_code None x = fetch SCRATCH_1 x
 branch_code (Some m) x = []
 
 abbrev pub branch_exit : (tested : Option Comparison) → Source → (t e : ℕ) → Exit
-branch_exit None x t e = BranchPair NotEqual (operand_register 1 x) 0 t e
+branch_exit None x t e = BranchPair NotEqual (operand_register SCRATCH_1 x) 0 t e
 branch_exit (Some m) x t e = comparison_exit m t e
 
 -- ---- returns
@@ -193,11 +194,11 @@ abbrev pub is_result : Form → Bool
 is_result InResult = true
 is_result _ = false
 
--- whether a pseudo-register is in register 2 already
+-- whether a pseudo-register is in the result's register already
 abbrev pub returned : Option Comparison → ℕ → Bool
 returned None x = false
 returned (Some m) x = is_result m.form && nat_eq m.result x
 
 abbrev pub return_code : (returned : Bool) → Source → List Plain
 return_code true x = []
-return_code false x = carry 2 x
+return_code false x = carry RESULT x

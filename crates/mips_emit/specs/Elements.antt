@@ -11,6 +11,7 @@ use Rattle.mips_isa.specs.declared.inst.Plain.TheVariants.{Shift, Alu, LoadUpper
 use Rattle.mips_isa.specs.Starting.{data_base}
 use Rattle.mblock.specs.declared.limits.TheConstants.{UNIT_BYTES}
 use Rattle.rtl.specs.declared.block.RGlobal.{RGlobal}
+use Rattle.mips_homes.specs.declared.convention.TheConstants.{SCRATCH_1, SCRATCH_2, GLOBAL_POINTER}
 
 -- ---- places in data
 
@@ -48,11 +49,11 @@ address_of_place p = data_base + p
 
 -- ---- how they are reached
 
--- what register 28 always holds: the middle of the first 65,536 bytes of data
+-- what the global pointer always holds: the middle of the first 65,536 bytes of data
 abbrev pub data_middle : ℕ
 data_middle = data_base + 32768
 
--- the place of an element whose index is known, where register 28 reaches it
+-- the place of an element whose index is known, where the global pointer reaches it
 abbrev pub direct : Width → (start : ℕ) → Option ℕ → Option ℕ
 direct w start None = None
 direct w start (Some i) = if nat_lt i 65536 then (if nat_lt (element_place w start i) 65536 then Some (element_place w start i) else None)
@@ -62,7 +63,7 @@ abbrev pub IsNear : Option ℕ → Type 0
 IsNear None = Unit {0}
 IsNear (Some p) = p < 65536
 
--- from register 28 to a place
+-- from the global pointer to a place
 abbrev pub near : ℕ → ℤ
 near p = if nat_lt p 32768 then negsuc (32767 - p) else pos (p - 32768)
 
@@ -75,17 +76,18 @@ low at = if nat_lt (at % 65536) 32768 then pos (at % 65536) else negsuc (65535 -
 
 -- an index in a register, times the width
 abbrev pub scaled : Width → ℕ → List Plain
-scaled Word q = Shift Sll 1 q 2 ∷ []
+scaled Word q = Shift Sll SCRATCH_1 q 2 ∷ []
 scaled Byte q = []
 
 abbrev pub scaled_register : Width → ℕ → ℕ
-scaled_register Word q = 1
+scaled_register Word q = SCRATCH_1
 scaled_register Byte q = q
 
--- from an index in a register to a base for the element, in register 1, and the offset from it
+-- from an index in a register to a base for the element, in the first scratch register, and the offset from it
 abbrev pub base_sum : (start q : ℕ) → List Plain
 base_sum start q =
-    if nat_lt start 65536 then Alu Addu 1 q 28 ∷ [] else LoadUpper 2 (page (address_of_place start)) ∷ Alu Addu 1 q 2 ∷ []
+    if nat_lt start 65536 then Alu Addu SCRATCH_1 q GLOBAL_POINTER ∷ []
+    else LoadUpper SCRATCH_2 (page (address_of_place start)) ∷ Alu Addu SCRATCH_1 q SCRATCH_2 ∷ []
 
 abbrev pub base_code : Width → (start q : ℕ) → List Plain
 base_code w start q = scaled w q ++ base_sum start (scaled_register w q)
@@ -93,10 +95,10 @@ base_code w start q = scaled w q ++ base_sum start (scaled_register w q)
 abbrev pub base_offset : ℕ → ℤ
 base_offset start = if nat_lt start 65536 then near start else low (address_of_place start)
 
--- the base of an element and the offset from it, by its place if register 28 reaches that
+-- the base of an element and the offset from it, by its place if the global pointer reaches that
 abbrev pub element_base : Option ℕ → ℕ
-element_base None = 1
-element_base (Some p) = 28
+element_base None = SCRATCH_1
+element_base (Some p) = GLOBAL_POINTER
 
 abbrev pub element_offset : (start : ℕ) → Option ℕ → ℤ
 element_offset start None = base_offset start

@@ -5,17 +5,18 @@ use Rattle.mips_homes.specs.declared.homed.Home.TheVariants.{Reg, Slot}
 use Rattle.mips_homes.specs.declared.homed.Frame.{Frame}
 use Rattle.mips_homes.specs.declared.homed.SlotCopy.{SlotCopy}
 use Rattle.mips_homes.specs.Copies.{copy_of}
-use Rattle.mips_homes.specs.HomedRun.{is_callee_saved}
+use Rattle.mips_homes.specs.declared.convention.TheConstants.{FIRST_TEMPORARY, GLOBAL_POINTER}
+use Rattle.mips_homes.specs.Convention.{IsAllocatable, IsCalleeSaved, is_callee_saved}
 use Rattle.mips_emit.specs.declared.limits.TheConstants.{FRAME_BYTES}
 
--- a register 4 to 27, or one of so many slots
+-- a register, or one of so many slots
 abbrev pub IsHome : (slots : ℕ) → Home → Type 0
-IsHome slots (Reg r) = (4 ≤ r) × (r < 28)
+IsHome slots (Reg r) = IsAllocatable r
 IsHome slots (Slot k) = k < slots
 
--- copies of slots are in registers 8 to 27 that no function keeps, each slot's in its own, and none is a home
+-- copies of slots are in temporaries, each slot's in its own, and none is a home
 pub record AreCopies (copies : List SlotCopy) (homes : List Home) : Type 0 where
-  pub range : (k r : ℕ) → copy_of copies k ≡ Some r → (8 ≤ r) × (r < 28)
+  pub range : (k r : ℕ) → copy_of copies k ≡ Some r → (FIRST_TEMPORARY ≤ r) × (r < GLOBAL_POINTER)
   pub caller_saved : (k r : ℕ) → copy_of copies k ≡ Some r → is_callee_saved r ≡ false
   pub once : (j k r : ℕ) → copy_of copies j ≡ Some r → copy_of copies k ≡ Some r → j ≡ k
   pub idle : (x k r : ℕ) → slice_get homes x ≡ Some (Reg r) → copy_of copies k ≡ Some r → ⊥
@@ -35,11 +36,10 @@ abbrev pub link_words : (leaf : Bool) → ℕ
 link_words true = 0
 link_words false = 1
 
--- homes are registers 4 to 27 and slots of the frame. The registers that are saved are among 16 to 23, and the frame has at most so many
--- bytes
+-- homes are registers and slots of the frame, callee-saved registers are saved, and the frame has at most so many bytes
 pub record IsFrame (most : ℕ) (f : Frame) : Type 0 where
   pub homes : AreFrameHomes f.homes.items f.copies.items f.slots
-  pub saved : (j r : ℕ) → slice_get f.saved.items j ≡ Some r → (16 ≤ r) × (r < 24)
+  pub saved : (j r : ℕ) → slice_get f.saved.items j ≡ Some r → IsCalleeSaved r
   pub fits : frame_size f ≤ most
 
 -- within reach of the stack pointer

@@ -5,7 +5,8 @@ use Rattle.words.specs.Words.{wrap}
 use Rattle.runs.specs.Stores.{Places, places_with, chain}
 use Rattle.rtl.specs.declared.instruction.RInst.{RInst}
 use Rattle.rtl.specs.declared.instruction.RInst.TheVariants.{Const, Move, Bin, Load, Store}
-use Rattle.mips_homes.specs.HomedRun.{is_callee_saved}
+use Rattle.mips_homes.specs.declared.convention.TheConstants.{SCRATCH_1, SCRATCH_3}
+use Rattle.mips_homes.specs.Convention.{is_callee_saved}
 use Rattle.mips_homes.specs.Copies.{copy_of}
 use Rattle.mips_homes.specs.declared.homed.SlotCopy.{SlotCopy}
 use Rattle.mips_homes.specs.declared.homed.Home.{Home}
@@ -46,13 +47,13 @@ abbrev pub locations : Frame → Locations
 locations f = locations_of f.copies.items f.homes.items
 
 -- the inner temporary of a location: the register in which the left operand is fetched of what goes there, and in which that is computed
--- if it goes to a slot. It is 1 and 3 in turn, so that code for one location needn't wait for that of the one before. Register 1 also has
+-- if it goes to a slot. It is the first and the third scratch register in turn, so that code for one location needn't wait for that of the one before. The first one also has
 -- the bases of elements, so the first temporary, which is 8, has 3
 abbrev pub inner_of : Option Location → ℕ
-inner_of None = 1
-inner_of (Some (Held r)) = 3 - 2 * (r % 2)
-inner_of (Some (InSlot k)) = 1 + 2 * (k % 2)
-inner_of (Some (Copied r k)) = 3 - 2 * (r % 2)
+inner_of None = SCRATCH_1
+inner_of (Some (Held r)) = SCRATCH_3 - 2 * (r % 2)
+inner_of (Some (InSlot k)) = SCRATCH_1 + 2 * (k % 2)
+inner_of (Some (Copied r k)) = SCRATCH_3 - 2 * (r % 2)
 
 -- ---- words that are known
 

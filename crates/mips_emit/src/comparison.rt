@@ -14,12 +14,12 @@ ghost use Rattle.mips_emit.specs.Code.{fetch, nop};
 ghost use Rattle.mips_emit.specs.Prefixes.{Emits};
 
 use crate::constant::emit_one;
-use crate::facts::{Knowledge, is_callee_saved, known_word, operand};
+use crate::facts::{Knowledge, known_word, operand};
 use crate::location::{Location, Source, locate, register};
 use crate::operation::{Operand, emit_op, immediate_of};
 use crate::transfer::{emit_fetch, operand_register};
 use mblock::{BlockNumber, Exit};
-use mips_homes::Frame;
+use mips_homes::{Frame, SCRATCH_1, SCRATCH_3, is_callee_saved};
 use mips_isa::{PairTest, Plain, Reg, ZeroTest};
 use rtl::{Op, RInst, Register};
 use std::alloc::AllocError;
@@ -33,11 +33,11 @@ pub enum Form {
     OnLeft(ZeroTest),
     /// It tests the sign of the right operand, where the left one is 0.
     OnRight(ZeroTest),
-    /// It tests the result, in register 3.
+    /// It tests the result, in the third scratch register.
     ByResult,
-    /// It tests the result of the opposite comparison of turned operands, in register 3.
+    /// It tests the result of the opposite comparison of turned operands, in the third scratch register.
     ByOpposite,
-    /// No branch: the result is returned, in register 2.
+    /// No branch: the result is returned, in the result's register.
     InResult,
 }
 
@@ -79,7 +79,7 @@ fn is_known_zero(known: Option<u32>) -> bool
 fn is_immediate(op: Op, known: Option<u32>) -> bool
     ensures { result ≡ is_immediate op known }
 {
-    match immediate_of(op, register(1).reg(), Reg::ZERO, known) {
+    match immediate_of(op, register(SCRATCH_1).reg(), Reg::ZERO, known) {
         None => false,
         Some(_) => true,
     }
@@ -168,12 +168,12 @@ fn right_of(m: &Comparison) -> Operand
     }
 }
 
-// An operand into register 3, or where it is, before a branch tests it.
+// An operand into the third scratch register, or where it is, before a branch tests it.
 fn emit_tested(code: &mut Vec<Plain>, x: &Source) -> Result<(), AllocError>
     requires { FitsSource x.now }
     ensures { Emits result code.old.items (fetch 3 x.now ++ nop ∷ []) code.new.items }
 {
-    emit_fetch(code, register(3), x)?;
+    emit_fetch(code, register(SCRATCH_3), x)?;
     emit_one(code, Plain::nop())
 }
 
@@ -183,8 +183,8 @@ pub(crate) fn emit_comparison(code: &mut Vec<Plain>, m: &Comparison) -> Result<(
     requires right { FitsSource m.now.y }
     ensures { Emits result code.old.items (comparison_code m.now) code.new.items }
 {
-    let inner = register(1);
-    let rd = register(3).reg();
+    let inner = register(SCRATCH_1);
+    let rd = register(SCRATCH_3).reg();
     match m.form {
         Form::OnPair(_) => {
             emit_fetch(code, inner, &m.x)?;
@@ -236,13 +236,13 @@ fn on_sign(test: ZeroTest, rs: Reg, then: BlockNumber, other: BlockNumber) -> Ex
 pub fn comparison_exit(m: &Comparison, then: BlockNumber, other: BlockNumber) -> Exit
     ensures { result ≡ comparison_exit m.now then other }
 {
-    let left = operand_register(register(3), &m.x);
-    let right = operand_register(register(3), &m.y);
-    let truth = register(3).reg();
+    let left = operand_register(register(SCRATCH_3), &m.x);
+    let right = operand_register(register(SCRATCH_3), &m.y);
+    let truth = register(SCRATCH_3).reg();
     match m.form {
         Form::OnPair(test) => Exit::BranchPair {
             test,
-            rs: operand_register(register(1), &m.x),
+            rs: operand_register(register(SCRATCH_1), &m.x),
             rt: right,
             then,
             other,
@@ -285,7 +285,7 @@ fn is_caller_saved(place: Option<Location>) -> bool
         None => false,
         // (rattle 13f: a nested pattern through another crate's type ends in "a bug in rattle": CONTRIBUTING.md)
         Some(location) => match location {
-            Location::Held(r) => !is_callee_saved(r),
+            Location::Held(r) => !is_callee_saved(r.index()),
             Location::InSlot(_) => false,
             Location::Copied(_, _) => false,
         },
@@ -372,7 +372,7 @@ fn is_result(form: Form) -> bool
     }
 }
 
-/// Whether a pseudo-register is in register 2 already.
+/// Whether a pseudo-register is in the result's register already.
 pub fn returned(comparison: &Option<Comparison>, x: Register) -> bool
     ensures { result ≡ returned comparison.now x }
 {

@@ -7,6 +7,7 @@ ghost use Rattle.mips_emit.specs.declared.limits.TheConstants.{FRAME_BYTES};
 ghost use Rattle.mips_emit.specs.Code.{one_or_two, constant, is_small, half, li, load_word_at, store_word_at, move_code};
 ghost use Rattle.mips_emit.specs.Prefixes.{Emits};
 
+use mips_homes::STACK_POINTER;
 use mips_isa::{AluOp, ImmOp, LogicOp, NonzeroReg, Plain, Reg};
 use std::alloc::AllocError;
 use words::Width;
@@ -42,7 +43,7 @@ pub fn emit_load_word(code: &mut Vec<Plain>, rt: NonzeroReg, offset: u32) -> Res
     let inst = Plain::Load {
         width: Width::Word,
         rt,
-        base: Reg::masked(29),
+        base: Reg::masked(STACK_POINTER),
         offset: offset as i16,
     };
     emit_one(code, inst)
@@ -56,7 +57,7 @@ pub fn emit_store_word(code: &mut Vec<Plain>, rt: Reg, offset: u32) -> Result<()
     let inst = Plain::Store {
         width: Width::Word,
         rt,
-        base: Reg::masked(29),
+        base: Reg::masked(STACK_POINTER),
         offset: offset as i16,
     };
     emit_one(code, inst)

@@ -14,6 +14,7 @@ ghost use Rattle.mips_emit.specs.Prefixes.{Emits};
 use crate::constant::{emit_one, emit_one_or_two};
 use crate::location::{Source, register};
 use crate::transfer::{emit_fetch, operand_register};
+use mips_homes::{GLOBAL_POINTER, SCRATCH_1, SCRATCH_2};
 use mips_isa::{AluOp, Amount, DATA_BASE, NonzeroReg, Plain, Reg, ShiftOp};
 use std::alloc::AllocError;
 use words::Width;
@@ -29,7 +30,7 @@ fn bytes_of(width: Width) -> u32
     }
 }
 
-/// The place of an element whose index is known, where register 28 reaches it.
+/// The place of an element whose index is known, where the global pointer reaches it.
 pub(crate) fn direct(width: Width, start: u32, known: Option<u32>) -> Option<u32>
     requires { start ≤ UNIT_BYTES }
     ensures value { result ≡ direct width start known }
@@ -48,7 +49,7 @@ pub(crate) fn direct(width: Width, start: u32, known: Option<u32>) -> Option<u32
     }
 }
 
-// From register 28 to a place.
+// From the global pointer to a place.
 fn near(place: u32) -> i16
     requires { place < 65536 }
     ensures { result ≡ near place }
@@ -88,7 +89,7 @@ fn emit_scaled(code: &mut Vec<Plain>, width: Width, index: Reg) -> Result<(), Al
         Width::Word => {
             let inst = Plain::Shift {
                 op: ShiftOp::Sll,
-                rd: Reg::masked(1),
+                rd: Reg::masked(SCRATCH_1),
                 rt: index,
                 amount: Amount::masked(2),
             };
@@ -103,20 +104,24 @@ fn scaled_register(width: Width, index: Reg) -> Reg
     ensures { result ≡ scaled_register width index }
 {
     match width {
-        Width::Word => Reg::masked(1),
+        Width::Word => Reg::masked(SCRATCH_1),
         Width::Byte => index,
     }
 }
 
-// From a scaled index to a base for the element, in register 1.
+// From a scaled index to a base for the element, in the first scratch register.
 fn emit_sum(code: &mut Vec<Plain>, start: u32, index: Reg) -> Result<(), AllocError>
     requires { start ≤ UNIT_BYTES }
     ensures { Emits result code.old.items (base_sum start index) code.new.items }
 {
-    let base = Reg::masked(if start < 65_536 { 28 } else { 2 });
+    let base = Reg::masked(if start < 65_536 {
+        GLOBAL_POINTER
+    } else {
+        SCRATCH_2
+    });
     let sum = Plain::Alu {
         op: AluOp::Addu,
-        rd: Reg::masked(1),
+        rd: Reg::masked(SCRATCH_1),
         rs: index,
         rt: base,
     };
@@ -157,8 +162,8 @@ pub(crate) fn emit_element(
     if place.is_some() {
         return Ok(());
     }
-    let index = operand_register(register(1), x);
-    emit_fetch(code, register(1), x)?;
+    let index = operand_register(register(SCRATCH_1), x);
+    emit_fetch(code, register(SCRATCH_1), x)?;
     emit_scaled(code, width, index)?;
     emit_sum(code, start, scaled_register(width, index))
 }
@@ -168,8 +173,8 @@ fn element_base(place: Option<u32>) -> Reg
     ensures { result ≡ element_base place }
 {
     match place {
-        None => Reg::masked(1),
-        Some(_) => Reg::masked(28),
+        None => Reg::masked(SCRATCH_1),
+        Some(_) => Reg::masked(GLOBAL_POINTER),
     }
 }
 

@@ -3,6 +3,7 @@
 #![tactic(auto, using(crate::proofs::Prefixes::prefix_behind, crate::proofs::Prefixes::prefix_among, crate::proofs::Prefixes::emits_behind))]
 
 ghost use Rattle.std.specs.Prelude.{◌≡◌, ◌≤◌, ◌++◌, length};
+ghost use Rattle.mips_homes.specs.declared.convention.TheConstants.{FIRST_ARGUMENT};
 ghost use Rattle.mips_emit.specs.Frames.{IsReachable};
 ghost use Rattle.mips_emit.specs.Locations.{facts_of, locations, last_operand};
 ghost use Rattle.mips_emit.specs.Code.{arrive, carry, arguments_code};
@@ -11,7 +12,7 @@ ghost use Rattle.mips_emit.specs.Prefixes.{Emits};
 use crate::facts::{Knowledge, last_operand};
 use crate::location::{locate, register};
 use crate::transfer::{emit_arrive, emit_carry};
-use mips_homes::Frame;
+use mips_homes::{FIRST_ARGUMENT, Frame};
 use mips_isa::{NonzeroReg, Plain};
 use rtl::Register;
 use std::alloc::AllocError;
@@ -46,7 +47,7 @@ pub fn emit_departure(
     emit_carry(code, t, &last_operand(facts, fresh, frame, x))
 }
 
-/// Arguments into registers from 4 on; an Err is refused memory.
+/// Arguments into the registers of arguments; an Err is refused memory.
 pub fn emit_arguments(
     code: &mut Vec<Plain>,
     facts: &Knowledge,
@@ -56,10 +57,10 @@ pub fn emit_arguments(
     requires frame { IsReachable frame.now }
     requires few { length arguments.now ≤ 4 }
     ensures { Emits result code.old.items
-        (arguments_code (locations frame.now) (facts_of facts.now) 4 arguments.now)
+        (arguments_code (locations frame.now) (facts_of facts.now) FIRST_ARGUMENT arguments.now)
         code.new.items }
 {
-    let mut t: u8 = 4;
+    let mut t: u8 = FIRST_ARGUMENT;
     for x in arguments {
         emit_departure(code, facts, None, frame, register(t), *x)?;
         t += 1;

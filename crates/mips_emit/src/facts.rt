@@ -3,7 +3,6 @@
 ghost use Rattle.std.specs.Prelude.{◌≡◌, OnOk, OnErr, IfOk, Some};
 ghost use Rattle.mips_emit.specs.Frames.{IsReachable};
 ghost use Rattle.runs.specs.Stores.{places_with};
-ghost use Rattle.mips_homes.specs.HomedRun.{is_callee_saved};
 ghost use Rattle.mips_emit.specs.Locations.{known_of, known_in, facts_of, no_facts, word_in, deferred_at, deferred_const, deferred_none};
 ghost use Rattle.mips_emit.specs.Locations.{newest, with_fact, learned, in_slot, fresh_of};
 ghost use Rattle.mips_emit.specs.Comparisons.{last_with};
@@ -12,7 +11,7 @@ ghost use Rattle.mips_emit.specs.Locations.{locations, operand, last_operand, Fi
 use crate::comparison::Comparison;
 use crate::limits::KEPT_FACTS;
 use crate::location::{Location, Source, inner_of, locate, source_of, word_source};
-use mips_homes::Frame;
+use mips_homes::{Frame, is_callee_saved};
 use mips_isa::NonzeroReg;
 use rtl::{RInst, Register};
 use std::alloc::{AllocError, Global};
@@ -113,13 +112,6 @@ fn deferred_at(table: &[Option<u32>], place: Option<Location>) -> Option<u32>
     }
 }
 
-// Whether a register outlives a block.
-pub(crate) fn is_callee_saved(r: NonzeroReg) -> bool
-    ensures { result ≡ is_callee_saved r }
-{
-    15 < r.index() && r.index() < 24
-}
-
 // What a register should hold but doesn't yet.
 fn put_deferred(table: &mut [Option<u32>; 32], r: NonzeroReg, word: Option<u32>)
     ensures { word_in table.new ≡ places_with (word_in table.old) r word }
@@ -136,7 +128,11 @@ fn defer(table: &mut [Option<u32>; 32], place: Option<Location>, word: u32)
         // (rattle 13f: a nested pattern through another crate's type ends in "a bug in rattle": CONTRIBUTING.md)
         Some(location) => match location {
             Location::Held(r) => {
-                let word = if is_callee_saved(r) { None } else { Some(word) };
+                let word = if is_callee_saved(r.index()) {
+                    None
+                } else {
+                    Some(word)
+                };
                 put_deferred(table, r, word);
             }
             Location::InSlot(_) => {}

@@ -18,13 +18,11 @@ ghost use Rattle.mips_emit.specs.Prefixes.{Emits, StopsAmong};
 use crate::comparison::{Asked, Comparison, comparison_of, emit_comparison};
 use crate::constant::emit_one;
 use crate::element::{direct, element_load, element_store, emit_element};
-use crate::facts::{
-    Knowledge, Last, fresh_of, is_callee_saved, known_word, last_with, learn, operand,
-};
+use crate::facts::{Knowledge, Last, fresh_of, known_word, last_with, learn, operand};
 use crate::location::{Location, inner_of, locate, register, word_source};
 use crate::operation::{Operand, emit_op};
 use crate::transfer::{emit_bring, emit_fetch, emit_finish, emit_put, into_of, operand_register};
-use mips_homes::Frame;
+use mips_homes::{Frame, SCRATCH_2, is_callee_saved};
 use mips_isa::{NonzeroReg, Plain};
 use rtl::{GlobalNumber, Op, RGlobal, RInst, Register};
 use std::alloc::AllocError;
@@ -34,7 +32,7 @@ use words::Width;
 fn emit_held(code: &mut Vec<Plain>, r: NonzeroReg, word: u32) -> Result<(), AllocError>
     ensures { Emits result code.old.items (const_code (Some (Held r)) word) code.new.items }
 {
-    if is_callee_saved(r) {
+    if is_callee_saved(r.index()) {
         emit_bring(code, r, &word_source(word))
     } else {
         emit_one(code, Plain::nop())
@@ -176,10 +174,15 @@ fn emit_store(
     let y = operand(facts, frame, b);
     let place = direct(width, start, known_word(facts, i));
     emit_element(code, width, start, place, &x)?;
-    emit_fetch(code, register(2), &y)?;
+    emit_fetch(code, register(SCRATCH_2), &y)?;
     emit_one(
         code,
-        element_store(width, operand_register(register(2), &y), start, place),
+        element_store(
+            width,
+            operand_register(register(SCRATCH_2), &y),
+            start,
+            place,
+        ),
     )
 }
 

@@ -1,13 +1,14 @@
 // Where pseudo-registers are, and what operands are.
 
 ghost use Rattle.std.specs.Prelude.{◌≡◌, ℕ, ◌*◌, ◌≤◌, ◌<◌, Some, None};
+ghost use Rattle.mips_homes.specs.declared.convention.TheConstants.{FIRST_TEMPORARY, GLOBAL_POINTER};
 ghost use Rattle.mips_emit.specs.declared.limits.TheConstants.{FRAME_BYTES};
 ghost use Rattle.mips_emit.specs.Frames.{IsHome, IsReachable};
 ghost use Rattle.mips_homes.specs.Copies.{copy_of};
 ghost use Rattle.mips_emit.specs.Locations.{in_frame, location_of, locations, inner_of, known_source, source, word_source};
 ghost use Rattle.mips_emit.specs.Locations.{FitsLocation, FitsPlace, FitsSource};
 
-use mips_homes::{Frame, Home, SlotCopy};
+use mips_homes::{Frame, Home, SCRATCH_1, SCRATCH_3, SlotCopy};
 use mips_isa::NonzeroReg;
 use rtl::Register;
 
@@ -60,7 +61,7 @@ fn copy_of(copies: &[SlotCopy], k: u32) -> Option<u8>
 // A slot, with its copy if it has one.
 fn in_frame(copies: &[SlotCopy], k: u32) -> Location
     requires slot { 4 * k ≤ FRAME_BYTES }
-    requires range { (r : ℕ) → copy_of copies.now k ≡ Some r → (8 ≤ r) × (r < 28) }
+    requires range { (r : ℕ) → copy_of copies.now k ≡ Some r → (FIRST_TEMPORARY ≤ r) × (r < GLOBAL_POINTER) }
     ensures value { result ≡ in_frame k (copy_of copies.now k) }
     ensures fits { FitsLocation result }
 {
@@ -74,7 +75,7 @@ fn in_frame(copies: &[SlotCopy], k: u32) -> Location
 fn location_of(home: Home, copies: &[SlotCopy], slots: u32) -> Location
     requires few { 4 * slots ≤ FRAME_BYTES }
     requires home { IsHome slots home }
-    requires range { (k r : ℕ) → copy_of copies.now k ≡ Some r → (8 ≤ r) × (r < 28) }
+    requires range { (k r : ℕ) → copy_of copies.now k ≡ Some r → (FIRST_TEMPORARY ≤ r) × (r < GLOBAL_POINTER) }
     ensures value { result ≡ location_of copies.now home }
     ensures fits { FitsLocation result }
 {
@@ -96,17 +97,17 @@ pub(crate) fn locate(frame: &Frame, x: Register) -> Option<Location>
     }
 }
 
-/// The inner temporary of a location: register 1 or 3, in turn.
+/// The inner temporary of a location: the first or the third scratch register, in turn.
 pub(crate) fn inner_of(place: Option<Location>) -> NonzeroReg
     ensures { result ≡ inner_of place }
 {
     match place {
-        None => register(1),
+        None => register(SCRATCH_1),
         // (rattle 13f: a nested pattern through another crate's type ends in "a bug in rattle": CONTRIBUTING.md)
         Some(location) => match location {
-            Location::Held(r) => register(3 - 2 * (r.index() % 2)),
-            Location::InSlot(k) => register(1 + 2 * (k % 2) as u8),
-            Location::Copied(r, _) => register(3 - 2 * (r.index() % 2)),
+            Location::Held(r) => register(SCRATCH_3 - 2 * (r.index() % 2)),
+            Location::InSlot(k) => register(SCRATCH_1 + 2 * (k % 2) as u8),
+            Location::Copied(r, _) => register(SCRATCH_3 - 2 * (r.index() % 2)),
         },
     }
 }

@@ -16,6 +16,7 @@ use crate::constant::{emit_one_or_two, half, is_small};
 use crate::location::{Source, register};
 use crate::product::{emit_multiple, multiple_of};
 use crate::transfer::{emit_fetch, operand_register};
+use mips_homes::SCRATCH_2;
 use mips_isa::{AluOp, Amount, HiLo, ImmOp, LogicOp, NonzeroReg, Plain, Reg, ShiftOp};
 use rtl::Op;
 use std::alloc::AllocError;
@@ -275,7 +276,7 @@ fn select(op: Op, inner: NonzeroReg, rd: Reg, x: &Operand, y: &Operand) -> Selec
         ≡ code_by_word op inner rd x.now.known y.now.known x.now.source y.now.source }
 {
     let rs = operand_register(inner, &x.source);
-    let rt = operand_register(register(2), &y.source);
+    let rt = operand_register(register(SCRATCH_2), &y.source);
     if let Some(first) = immediate_of(op, rd, rs, y.known) {
         return by_word(true, first, None);
     }
@@ -323,7 +324,7 @@ fn emit_selection(
     ensures { Emits result code.old.items (selection_code inner selection.now x.now y.now) code.new.items }
 {
     emit_fetch_if(code, selection.fetches_left, inner, x)?;
-    emit_fetch_if(code, selection.fetches_right, register(2), y)?;
+    emit_fetch_if(code, selection.fetches_right, register(SCRATCH_2), y)?;
     emit_one_or_two(code, selection.first, selection.second)
 }
 

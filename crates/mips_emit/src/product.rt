@@ -11,6 +11,7 @@ use crate::constant::emit_one_or_two;
 use crate::location::Source;
 use crate::operation::is_power;
 use crate::transfer::{emit_fetch, operand_register};
+use mips_homes::SCRATCH_2;
 use mips_isa::{AluOp, Amount, NonzeroReg, Plain, Reg, ShiftOp};
 use rtl::Op;
 use std::alloc::AllocError;
@@ -76,7 +77,7 @@ pub(crate) fn emit_multiple(
     requires { FitsSource x.now }
     ensures { Emits result code.old.items (multiple_code inner rd m x.now) code.new.items }
 {
-    let shifted = Reg::masked(2);
+    let shifted = Reg::masked(SCRATCH_2);
     let operand = operand_register(inner, x);
     emit_fetch(code, inner, x)?;
     let shift = Plain::Shift {

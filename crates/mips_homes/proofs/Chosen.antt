@@ -7,6 +7,7 @@ use Rattle.std.specs.Prelude.{if◌then◌else◌, slice_get}
 use Rattle.std.proofs.lemmas.Bool.{cases_lt, ltb-false}
 use Rattle.std.proofs.lemmas.Option.{slice_get_within, same_Some}
 use Rattle.rtl.specs.Names.{bound, blocks_names, how_many, uses_of}
+use Rattle.mips_homes.specs.Convention.{IsCalleeSaved}
 use Rattle.mips_homes.specs.HomedRun.{is_in, is_callee_saved, homed_run}
 use Rattle.mips_homes.specs.Homes.{HasHome, HaveHomes, Serves, AreAllHomes}
 use Rattle.mips_homes.specs.Laws.{KeepsRtlRuns}
@@ -130,14 +131,14 @@ choice func frame best ok made first = record {
         less : (x y k : ℕ) → x < y → IsHome best x (Slot k) → IsHome best y (Slot k) → x ≡ y
         less x y k lt p q = (let le = slot_below best x y lt p.0 in let a = p.1 in let b = q.1 in absurd (omega (arith, le, a, b)))
 
-    registers : (x r : ℕ) → IsHome best x (Reg r) → (16 ≤ r) × (r < 24) × (is_in frame.saved.items r ≡ true)
+    registers : (x r : ℕ) → IsHome best x (Reg r) → IsCalleeSaved r × (is_in frame.saved.items r ≡ true)
     registers x r is =
         let e = is.1 in
         let low = place_low is.0 x is.2 in
         let inside = slice_get_within best is.0 x is.2 in
         let long = first.long in
         let there = at_index frame.saved.items is.0 (omega (arith, inside, long)) in
-        (omega (arith, e), omega (arith, e, low), is_in_at frame.saved.items is.0 r (there.1 ∙ ap Some (first.by is.0 there.0 there.1 ∙ sym e)))
+        ((omega (arith, e), omega (arith, e, low)), is_in_at frame.saved.items is.0 r (there.1 ∙ ap Some (first.by is.0 there.0 there.1 ∙ sym e)))
 
     saved : (j r : ℕ) → slice_get frame.saved.items j ≡ Some r → (x : ℕ) × (slice_get frame.homes.items x ≡ Some (Reg r))
     saved j r got =
@@ -214,8 +215,8 @@ serves func frame is =
     record {
       homes = record {
         apart = is.apart;
-        kept = λ x r got lasts. (is.registers x r got).2;
-        local = λ x r got passes. absurd (true≢false (sym (home_callee_saved r (is.registers x r got).0 (is.registers x r got).1) ∙ passes));
+        kept = λ x r got lasts. (is.registers x r got).1;
+        local = λ x r got passes. absurd (true≢false (sym (home_callee_saved r (is.registers x r got).0.0 (is.registers x r got).0.1) ∙ passes));
         named =
             named_below frame.homes.items func.parameters (blocks_names func.blocks.items) (omega (arith, long));
       };

@@ -137,7 +137,7 @@ returns_keep o a r (w ∷ ws) g out k e all = result a.result_to
 module _ (h : Homed) (is : AreChoices h) where
   frame_lasts : (i : ℕ) (func : RFunc) (frame : Frame) → slice_get (h.rtl.now).functions i ≡ Some func → slice_get h.frames.items i ≡ Some frame
       → AreCalleeSaved frame.homes.items
-  frame_lasts i func frame got there x r at = (let range = (is.by i func frame got there).registers x r at in home_callee_saved r range.0 range.1)
+  frame_lasts i func frame got there x r at = (let range = (is.by i func frame got there).registers x r at in home_callee_saved r range.0.0 range.0.1)
 
   calls_keep : (depth f : ℕ) (vs : List ℕ) (dest : Option ℕ) (r : Places) (ws : List Activation) (g : Arrays) (out : List ℕ) → OnlyCalleeSaved r → AllKeep ws
       → RunKeeps (state_after_call h depth f vs dest r ws g out)

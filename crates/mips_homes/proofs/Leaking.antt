@@ -135,9 +135,9 @@ module _ (g : Global) where
       number (Reg r) = r
       number (Slot k) = 0
 
-      registers : (r : ℕ) → Reg 16 ≡ Reg r → (16 ≤ r) × (r < 24) × (is_in (16 ∷ []) r ≡ true)
+      registers : (r : ℕ) → Reg 16 ≡ Reg r → ((16 ≤ r) × (r < 24)) × (is_in (16 ∷ []) r ≡ true)
       registers r e = let same : 16 ≡ r = ap number e in
-          (omega (arith, same), omega (arith, same), sym (ap (is_in (16 ∷ [])) same))
+          ((omega (arith, same), omega (arith, same)), sym (ap (is_in (16 ∷ [])) same))
 
       slot_not : (k : ℕ) → Reg 16 ≡ Slot k → ⊥
       slot_not k e = absurd (true≢false (ap is_register_home e))

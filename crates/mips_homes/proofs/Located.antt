@@ -12,7 +12,8 @@ use Rattle.mips_homes.specs.Laws.{KeepsRtlRuns}
 use Rattle.mips_homes.specs.Choice.{IsChoice}
 use Rattle.mips_homes.specs.Locals.{is_local, none_reads_first, some_go_to, block_reads_first}
 use Rattle.mips_homes.specs.Preferences.{reach_from, exit_reach, blocks_reach, register_of, preference}
-use Rattle.mips_homes.specs.Places.{temporaries, first_free, free_register, home_or, also, places_from, is_register, lives_in, still_saved, is_slot, some_slot, IsPlaced, ArePlaced}
+use Rattle.mips_homes.specs.Convention.{temporaries}
+use Rattle.mips_homes.specs.Places.{first_free, free_register, home_or, also, places_from, is_register, lives_in, still_saved, is_slot, some_slot, IsPlaced, ArePlaced}
 use Rattle.mips_homes.proofs.Choosing.{at_index, drop_at}
 use Rattle.mips_homes.proofs.Chosen.{home_callee_saved, home_at, bound_least, named_below}
 use Rattle.mips_homes.proofs.Lockstep.{each_homed_run}
@@ -380,7 +381,7 @@ module _ (func : RFunc) (c f : Frame) (ok : IsChoice func c) (p : IsPlaced func.
   GetsTemporaryIn x h = GetsTemporary (is_local func.blocks.items) (preference func.parameters func.blocks.items) x [] h
 
   pub choice_callee_saved : AreCalleeSaved c.homes.items
-  choice_callee_saved x r e = let range = ok.registers x r e in home_callee_saved r range.0 range.1
+  choice_callee_saved x r e = let range = ok.registers x r e in home_callee_saved r range.0.0 range.0.1
 
   pub case_of : (x : ℕ) (h : Home) → slice_get f.homes.items x ≡ Some h → (slice_get c.homes.items x ≡ Some h) ⊎ GetsTemporaryIn x h
   case_of x h e =
@@ -403,7 +404,7 @@ module _ (func : RFunc) (c f : Frame) (ok : IsChoice func c) (p : IsPlaced func.
 
       by : (slice_get c.homes.items x ≡ Some (Reg r)) ⊎ GetsTemporaryIn x (Reg r)
           → (8 ≤ r) ⊎ ((blocks_reach func.blocks.items x + 3 ≤ r) × (x < func.parameters → r ≡ 4 + x))
-      by (inl home) = (let low = (ok.registers x r home).0 in inl (omega (arith, low)))
+      by (inl home) = (let low = (ok.registers x r home).0.0 in inl (omega (arith, low)))
       by (inr q) =
           preferred q.r (same_register r q.r q.is)
           (temporary_range (is_local func.blocks.items) (preference func.parameters func.blocks.items) (preferences_range func.parameters func.blocks.items) x [] (Reg r) q)
@@ -421,7 +422,7 @@ module _ (func : RFunc) (c f : Frame) (ok : IsChoice func c) (p : IsPlaced func.
       preferred q same (inr range) = (let low = range.0 in let high = range.1 in (omega (arith, low, same), omega (arith, high, same)))
 
       by : (slice_get c.homes.items x ≡ Some (Reg r)) ⊎ GetsTemporaryIn x (Reg r) → (4 ≤ r) × (r < 28)
-      by (inl home) = (let range = ok.registers x r home in let low = range.0 in let high = range.1 in (omega (arith, low), omega (arith, high)))
+      by (inl home) = (let range = (ok.registers x r home).0 in let low = range.0 in let high = range.1 in (omega (arith, low), omega (arith, high)))
       by (inr q) =
           preferred q.r (same_register r q.r q.is)
           (temporary_range (is_local func.blocks.items) (preference func.parameters func.blocks.items) (preferences_range func.parameters func.blocks.items) x [] (Reg r) q)
@@ -451,7 +452,7 @@ module _ (func : RFunc) (c f : Frame) (ok : IsChoice func c) (p : IsPlaced func.
       kept x r e lasts = ap (λ l. is_in l r) p.saved ∙ by (case_of x (Reg r) e)
         where
           by : (slice_get c.homes.items x ≡ Some (Reg r)) ⊎ GetsTemporaryIn x (Reg r) → is_in (still_saved f.homes.items c.saved.items) r ≡ true
-          by (inl home) = saved_still f.homes.items c.saved.items r (ok.registers x r home).2 (lives f.homes.items x r e)
+          by (inl home) = saved_still f.homes.items c.saved.items r (ok.registers x r home).1 (lives f.homes.items x r e)
           by (inr q) = absurd (true≢false (sym lasts ∙ ap is_callee_saved (same_register r q.r q.is)
               ∙ temporary_caller_saved (is_local func.blocks.items) (preference func.parameters func.blocks.items) (preferences_range func.parameters func.blocks.items) x [] (Reg r) q))
 

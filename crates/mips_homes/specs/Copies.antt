@@ -7,7 +7,16 @@ use Rattle.runs.specs.Stores.{Places}
 use Rattle.mips_homes.specs.declared.homed.Home.{Home}
 use Rattle.mips_homes.specs.declared.homed.Home.TheVariants.{Reg, Slot}
 use Rattle.mips_homes.specs.declared.homed.SlotCopy.{SlotCopy}
-use Rattle.mips_homes.specs.Passing.{temporaries, lives_in}
+use Rattle.mips_homes.specs.Convention.{temporaries}
+
+abbrev pub is_register : Home → ℕ → Bool
+is_register (Reg q) r = nat_eq q r
+is_register (Slot k) r = false
+
+-- whether one lives in a register
+abbrev pub lives_in : List Home → ℕ → Bool
+lives_in [] r = false
+lives_in (h ∷ hs) r = if is_register h r then true else lives_in hs r
 
 -- a function without calls
 abbrev pub calls_none : RExit → Bool

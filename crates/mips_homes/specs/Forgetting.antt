@@ -14,6 +14,6 @@ ForgetsNothing (Failed out) = Unit {0}
 abbrev pub NeverForgets : Homed → Type 0
 NeverForgets h = (depth n : ℕ) → ForgetsNothing (homed_steps h depth n (homed_start h))
 
--- where the eight pseudo-registers with most occurrences live in 16 to 23, and all others in slots
+-- where the eight pseudo-registers with most occurrences live in callee-saved registers, and all others in slots
 abbrev pub EachChoiceNeverForgets : Type 0
 EachChoiceNeverForgets = (h : Homed) → AreChoices h → NeverForgets h

@@ -8,6 +8,7 @@ use Rattle.runs.specs.Runs.{Outcome, steps}
 use Rattle.rtl.specs.declared.block.RGlobal.{RGlobal}
 use Rattle.rtl.specs.Operators.{op_result}
 use Rattle.rtl.specs.Meaning.{Code, code_of, kept_in, first_values}
+pub use Rattle.mips_homes.specs.Convention.{is_callee_saved}
 use Rattle.mips_homes.specs.declared.homed.Home.{Home}
 use Rattle.mips_homes.specs.declared.homed.Home.TheVariants.{Reg, Slot}
 use Rattle.mips_homes.specs.declared.homed.Frame.{Frame}
@@ -84,11 +85,7 @@ registers_at_entry saved registers = λ r. if is_in saved r then None else regis
 abbrev pub registers_at_return : List ℕ → Places → Places → Places
 registers_at_return saved aside registers = λ r. if is_in saved r then aside r else registers r
 
--- the registers that outlive a block, 16 to 23
-abbrev pub is_callee_saved : ℕ → Bool
-is_callee_saved r = nat_lt 15 r && nat_lt r 24
-
--- what they hold; the others are unset
+-- what the callee-saved registers hold; the others are unset
 abbrev pub callee_saved : Places → Places
 callee_saved registers = λ r. if is_callee_saved r then registers r else None
 
@@ -189,7 +186,7 @@ run_keeping keep h depth n = outcome (steps_keeping keep h depth n (homed_start 
 abbrev pub remembering_run : Homed → (depth n : ℕ) → Outcome
 remembering_run h depth n = run_keeping (λ r. r) h depth n
 
--- the run that forgets at each exit what isn't in 16 to 23 or in a slot, and its parts
+-- the run that forgets at each exit what isn't in a callee-saved register or in a slot, and its parts
 abbrev pub state_after_exit : Homed → (depth : ℕ) → RExit → Activation → Places → List Activation → Arrays → List ℕ → Run
 state_after_exit h depth exit a r ws g out = exit_keeping callee_saved h depth exit a r ws g out
 

@@ -1,5 +1,5 @@
 -- Where pseudo-registers are put: at their homes, or, if they are local to blocks, in registers that no function keeps.
-use Rattle.std.specs.Prelude.{◌≡◌, ℕ, suc, Bool, true, false, List, [], ◌∷◌, ◌++◌, Option, None, Some, nat_eq, if◌then◌else◌}
+use Rattle.std.specs.Prelude.{◌≡◌, ℕ, suc, Bool, true, false, List, [], ◌∷◌, ◌++◌, Option, None, Some, if◌then◌else◌}
 use Rattle.rtl.specs.Names.{optional}
 use Rattle.rtl.specs.declared.block.RBlock.{RBlock}
 use Rattle.rtl.specs.declared.block.RFunc.{RFunc}
@@ -7,7 +7,8 @@ use Rattle.mips_homes.specs.Choice.{IsChoice, HaveFrames}
 use Rattle.mips_homes.specs.HomedRun.{is_in}
 use Rattle.mips_homes.specs.Locals.{is_local}
 use Rattle.mips_homes.specs.Preferences.{preference}
-pub use Rattle.mips_homes.specs.Passing.{temporaries, is_register, lives_in}
+use Rattle.mips_homes.specs.Convention.{temporaries}
+pub use Rattle.mips_homes.specs.Copies.{is_register, lives_in}
 use Rattle.mips_homes.specs.Copies.{copies_for}
 use Rattle.mips_homes.specs.declared.homed.Home.{Home}
 use Rattle.mips_homes.specs.declared.homed.Home.TheVariants.{Reg, Slot}

@@ -1,8 +1,9 @@
 -- In which registers pseudo-registers are passed on.
-use Rattle.std.specs.Prelude.{ℕ, suc, ◌+◌, ◌&&◌, List, [], ◌∷◌, Option, Some, None, max, nat_eq, nat_lt, nat_le, if◌then◌else◌}
+use Rattle.std.specs.Prelude.{ℕ, suc, ◌+◌, ◌-◌, ◌&&◌, List, [], ◌∷◌, Option, Some, None, max, nat_eq, nat_lt, nat_le, if◌then◌else◌}
 use Rattle.rtl.specs.declared.instruction.RExit.{RExit}
 use Rattle.rtl.specs.declared.instruction.RExit.TheVariants.{Goto, Branch, Call, Return, Out}
 use Rattle.rtl.specs.declared.block.RBlock.{RBlock}
+use Rattle.mips_homes.specs.declared.convention.TheConstants.{FIRST_ARGUMENT}
 
 -- how many arguments there are up to the last that is x, and n before them; 0 where none is x
 abbrev pub reach_from : (n : ℕ) → List ℕ → ℕ → ℕ
@@ -24,7 +25,7 @@ blocks_reach (b ∷ bs) x = max (exit_reach b.exit x) (blocks_reach bs x)
 
 -- the register of the last of so many arguments, 4 to 7
 abbrev pub register_of : (arguments : ℕ) → Option ℕ
-register_of q = if nat_lt 0 q && nat_lt q 5 then Some (3 + q) else None
+register_of q = if nat_lt 0 q && nat_lt q 5 then Some (FIRST_ARGUMENT - 1 + q) else None
 
 -- the register in which a pseudo-register of a function with n parameters is best: a parameter where it comes, but not if it is
 -- an argument behind; others where the last argument is passed that they are

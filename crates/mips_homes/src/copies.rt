@@ -2,8 +2,8 @@
 
 ghost use Rattle.std.specs.Prelude.{◌≡◌, ◌++◌, [], slice_get, IfOk, OnOk};
 ghost use Rattle.mips_homes.specs.Copies.{calls_none, is_leaf, unused, copy_for, as_copies, copies_onto, copies_for};
-ghost use Rattle.mips_homes.specs.Places.{temporaries};
 
+use crate::convention::TEMPORARIES;
 use crate::homed::{Home, SlotCopy};
 use crate::places::lives_in;
 use rtl::{RBlock, RExit};
@@ -103,10 +103,6 @@ pub(crate) fn copies_for(
     if !is_leaf(blocks) {
         return Ok(Vec::new(alloc));
     }
-    let free = unused(
-        alloc,
-        homes,
-        &[8, 9, 10, 11, 12, 13, 14, 15, 24, 25, 26, 27],
-    )?;
+    let free = unused(alloc, homes, &TEMPORARIES)?;
     copies_in(alloc, homes, free.as_slice())
 }

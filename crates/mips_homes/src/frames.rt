@@ -7,6 +7,7 @@ ghost use Rattle.mips_homes.specs.Laws.{KeepsRtlRuns};
 ghost use Rattle.mips_homes.specs.Best.{IsPlace, AreHomesOf, AreFirst};
 
 use crate::best::best_eight;
+use crate::convention::FIRST_CALLEE_SAVED;
 use crate::counts::uses;
 use crate::homed::{Frame, Home, Homed};
 use rtl::{RFunc, Rtl};
@@ -34,7 +35,7 @@ fn homes_of(alloc: Global, best: &[usize], n: usize) -> Result<(Vec<Home>, usize
     let mut slots: usize = 0;
     for x in 0..n {
         match rank_of(best, x) {
-            Some(j) => homes.push(Home::Reg(16 + j as u8))?,
+            Some(j) => homes.push(Home::Reg(FIRST_CALLEE_SAVED + j as u8))?,
             None => {
                 homes.push(Home::Slot(slots as u32))?;
                 slots += 1;
@@ -44,14 +45,14 @@ fn homes_of(alloc: Global, best: &[usize], n: usize) -> Result<(Vec<Home>, usize
     Ok((homes, slots))
 }
 
-// The first registers from 16 on.
+// The first callee-saved registers.
 fn first_registers(alloc: Global, count: usize) -> Result<Vec<u8>, AllocError>
     requires { count ≤ 8 }
     ensures { IfOk result (λ saved. AreFirst count saved.items) }
 {
     let mut saved = Vec::new(alloc);
     for j in 0..count {
-        saved.push(16 + j as u8)?;
+        saved.push(FIRST_CALLEE_SAVED + j as u8)?;
     }
     Ok(saved)
 }

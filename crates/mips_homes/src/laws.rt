@@ -7,7 +7,7 @@ pub fn each_homed_run_is_the_run()
     ensures { EachHomedRunIsTheRun }
 {}
 
-/// Over homes in registers 16 to 23 and in slots, as `homes` gives them, the end of a block forgets nothing. A law: it
+/// Over homes in callee-saved registers and in slots, as `homes` gives them, the end of a block forgets nothing. A law: it
 /// computes nothing.
 pub fn each_choice_never_forgets()
     ensures { EachChoiceNeverForgets }

@@ -10,6 +10,7 @@ ghost use Rattle.mips_homes.specs.Places.{first_free, free_register, home_or, al
 ghost use Rattle.mips_homes.specs.Walks.{TellsLocals, TellsReaches};
 ghost use Rattle.mips_homes.specs.Places.{is_slot, some_slot, IsPlaced, IsPlacedFor, ArePlaced};
 
+use crate::convention::TEMPORARIES;
 use crate::copies::copies_for;
 use crate::frames::frame_of;
 use crate::homed::{Frame, Home, Homed};
@@ -51,7 +52,7 @@ fn free_register(taken: &[u8], preference: Option<u8>) -> Option<u8>
             return Some(r);
         }
     }
-    first_free(taken, &[8, 9, 10, 11, 12, 13, 14, 15, 24, 25, 26, 27])
+    first_free(taken, &TEMPORARIES)
 }
 
 // The register of a pseudo-register, if it gets one.
@@ -85,7 +86,7 @@ fn take(taken: &mut Vec<u8>, register: Option<u8>) -> Result<(), AllocError>
     Ok(())
 }
 
-// The homes, with those that are local by what was seen in registers that no function keeps.
+// The homes, with those that are local by what was seen in temporaries.
 fn places_by(
     alloc: Global,
     parameters: u32,
@@ -108,7 +109,7 @@ fn places_by(
     Ok(out)
 }
 
-// The homes, with local pseudo-registers in registers that no function keeps.
+// The homes, with local pseudo-registers in temporaries.
 fn places(
     alloc: Global,
     parameters: u32,
@@ -186,7 +187,7 @@ fn some_slot(homes: &[Home]) -> bool
     false
 }
 
-// The frame of a choice, with local pseudo-registers in registers that no function keeps.
+// The frame of a choice, with local pseudo-registers in temporaries.
 fn frame_with_places(
     alloc: Global,
     parameters: u32,
@@ -220,7 +221,7 @@ fn placed_frame(alloc: Global, func: &RFunc) -> Result<Frame, AllocError>
     frame_with_places(alloc, func.parameters, func.blocks.as_slice(), &choice)
 }
 
-/// A place for each pseudo-register of a program: its home, or, if it is local to blocks, a register that no function keeps.
+/// A place for each pseudo-register of a program: its home, or, if it is local to blocks, a temporary.
 pub fn place<'a>(alloc: Global, rtl: &'a Rtl) -> Result<Homed<'a>, AllocError>
     ensures lent { IfOk result (λ h. h.rtl.now ≡ rtl.now) }
     ensures places { IfOk result (λ h. ArePlaced h) }

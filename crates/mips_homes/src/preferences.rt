@@ -4,6 +4,7 @@ ghost use Rattle.std.specs.Prelude.{◌≡◌, ℕ, List, max, nat_eq, nat_lt, i
 ghost use Rattle.rtl.specs.declared.block.RBlock.{RBlock};
 ghost use Rattle.mips_homes.specs.Preferences.{reach_from, exit_reach, blocks_reach, register_of, preference};
 
+use crate::convention::FIRST_ARGUMENT;
 use crate::counts::make_room;
 use rtl::{RBlock, RExit, Register};
 use std::alloc::{AllocError, Global};
@@ -59,7 +60,7 @@ fn register_of(arguments: u64) -> Option<u8>
     ensures { result ≡ register_of arguments }
 {
     if 0 < arguments && arguments < 5 {
-        Some(3 + arguments as u8)
+        Some(FIRST_ARGUMENT - 1 + arguments as u8)
     } else {
         None
     }

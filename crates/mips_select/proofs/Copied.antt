@@ -9,7 +9,8 @@ use Rattle.mips_homes.specs.declared.homed.Home.{Home}
 use Rattle.mips_homes.specs.declared.homed.Home.TheVariants.{Reg, Slot}
 use Rattle.mips_homes.specs.declared.homed.SlotCopy.{SlotCopy}
 use Rattle.mips_homes.specs.HomedRun.{is_callee_saved}
-use Rattle.mips_homes.specs.Passing.{temporaries, is_register, lives_in}
+use Rattle.mips_homes.specs.Convention.{temporaries}
+use Rattle.mips_homes.specs.Copies.{is_register, lives_in}
 use Rattle.mips_homes.specs.Copies.{is_leaf, unused, copy_for, as_copies, copies_onto, copies_for, copy_of}
 use Rattle.mips_homes.proofs.Choosing.{got_push}
 use Rattle.mips_emit.specs.Frames.{AreCopies}

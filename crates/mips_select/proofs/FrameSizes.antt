@@ -15,7 +15,7 @@ use Rattle.mips_homes.specs.Preferences.{blocks_reach}
 use Rattle.mips_homes.specs.Places.{some_slot, IsPlacedFor, ArePlaced}
 use Rattle.mips_homes.proofs.Located.{GetsTemporaryIn, within, seated, case_of, places_long_as, placed_apart, still_was, still_few, has_slot, same_register}
 use Rattle.mips_emit.specs.declared.limits.TheConstants.{FRAME_BYTES}
-use Rattle.mips_homes.specs.Passing.{temporaries}
+use Rattle.mips_homes.specs.Convention.{temporaries}
 use Rattle.mips_homes.specs.Copies.{is_leaf, unused, copies_onto}
 use Rattle.mips_emit.specs.Frames.{IsHome, AreCopies, frame_size, IsFrame}
 use Rattle.mips_select.proofs.Copied.{copies_are}
@@ -64,7 +64,7 @@ module _ (func : RFunc) (f : Frame) (ok : IsChoice func f) where
   saved_at j lt = slice_get-get_or f.saved.items j 0 lt
 
   saved_range : (j r : ℕ) → slice_get f.saved.items j ≡ Some r → (16 ≤ r) × (r < 24)
-  saved_range j r there = (let home = ok.saved j r there in let range = ok.registers home.0 r home.1 in (range.0, range.1))
+  saved_range j r there = (let home = ok.saved j r there in (ok.registers home.0 r home.1).0)
 
   -- at most eight are saved
   saved_eight : length f.saved.items ≤ 8
@@ -120,7 +120,7 @@ module _ (func : RFunc) (f : Frame) (ok : IsChoice func f) where
   }
     where
       home : (x : ℕ) (h : Home) → slice_get f.homes.items x ≡ Some h → IsHome f.slots h
-      home x (Reg r) there = (let range = ok.registers x r there in (omega (arith, range.0), omega (arith, range.1)))
+      home x (Reg r) there = (let range = (ok.registers x r there).0 in (omega (arith, range.0), omega (arith, range.1)))
       home x (Slot k) there = ok.in_slots x k there
 
 -- eight at most are saved then too

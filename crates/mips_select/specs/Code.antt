@@ -13,6 +13,7 @@ use Rattle.rtl.specs.declared.instruction.RExit.TheVariants.{Goto, Branch, Call,
 use Rattle.rtl.specs.declared.block.RBlock.{RBlock}
 use Rattle.rtl.specs.declared.block.RGlobal.{RGlobal}
 use Rattle.rtl.specs.Meaning.{Code, code_of}
+use Rattle.mips_homes.specs.declared.convention.TheConstants.{RESULT, FIRST_ARGUMENT, GLOBAL_POINTER, STACK_POINTER, LINK}
 use Rattle.mips_homes.specs.declared.homed.Frame.{Frame}
 use Rattle.mips_emit.specs.declared.facts.Last.{Last}
 use Rattle.mips_emit.specs.declared.comparison.Asked.{Asked}
@@ -55,7 +56,7 @@ link_offset f = 4 * f.slots + 4 * length f.saved.items
 
 abbrev pub frame_link : Direction → Bool → Frame → List Plain
 frame_link direction true f = []
-frame_link direction false f = frame_word direction 31 (link_offset f) ∷ []
+frame_link direction false f = frame_word direction LINK (link_offset f) ∷ []
 
 abbrev pub link_save : Bool → Frame → List Plain
 link_save leaf f = frame_link Save leaf f
@@ -69,7 +70,7 @@ step_of Save n = negsuc (n - 1)
 step_of Restore n = pos n
 
 abbrev pub stack_step : Direction → ℕ → List Plain
-stack_step direction n = if nat_eq n 0 then [] else Imm Addiu 29 29 (step_of direction n) ∷ []
+stack_step direction n = if nat_eq n 0 then [] else Imm Addiu STACK_POINTER STACK_POINTER (step_of direction n) ∷ []
 
 abbrev pub lowers : ℕ → List Plain
 lowers n = stack_step Save n
@@ -85,7 +86,7 @@ parameters_code at t x (suc n) = arrive (at x) t ++ parameters_code at (suc t) (
 -- what a function begins with and ends with
 abbrev pub prologue : Bool → Frame → (parameters : ℕ) → List Plain
 prologue leaf f n =
-    lowers (frame_bytes leaf f) ++ ((saves (4 * f.slots) f.saved.items ++ link_save leaf f) ++ parameters_code (locations f) 4 0 n)
+    lowers (frame_bytes leaf f) ++ ((saves (4 * f.slots) f.saved.items ++ link_save leaf f) ++ parameters_code (locations f) FIRST_ARGUMENT 0 n)
 
 abbrev pub epilogue : Bool → Frame → List Plain
 epilogue leaf f = (restores (4 * f.slots) f.saved.items ++ link_load leaf f) ++ raises (frame_bytes leaf f)
@@ -105,11 +106,11 @@ asked_of (Out x next) = Nothing
 abbrev pub exit_code : Bool → Frame → Facts → Last → RExit → List Plain
 exit_code leaf f facts last (Goto b) = []
 exit_code leaf f facts last (Branch c t e) = branch_code (tested last.comparison c) (last_operand (locations f) facts last.fresh c)
-exit_code leaf f facts last (Call g xs d next) = arguments_code (locations f) facts 4 xs.items
+exit_code leaf f facts last (Call g xs d next) = arguments_code (locations f) facts FIRST_ARGUMENT xs.items
 exit_code leaf f facts last (Return None) = epilogue leaf f
 exit_code leaf f facts last (Return (Some x)) =
     return_code (returned last.comparison x) (last_operand (locations f) facts last.fresh x) ++ epilogue leaf f
-exit_code leaf f facts last (Out x next) = carry 4 (last_operand (locations f) facts last.fresh x)
+exit_code leaf f facts last (Out x next) = carry FIRST_ARGUMENT (last_operand (locations f) facts last.fresh x)
 
 -- an exit, where functions begin at `entry` and blocks stand at `place`; a call goes on at block n
 abbrev pub exit_of : (entry place : ℕ → ℕ) → Frame → Facts → Last → ℕ → RExit → Exit
@@ -139,7 +140,7 @@ own_block globals starts entry place leaf f head n b = record {
 -- the result of a call into its location
 abbrev pub result_code : Locations → Option ℕ → List Plain
 result_code at None = []
-result_code at (Some d) = arrive (at d) 2
+result_code at (Some d) = arrive (at d) RESULT
 
 -- what stands before a block's own code
 abbrev pub head_code : Bool → Frame → (parameters : ℕ) → Head → List Plain
@@ -154,9 +155,9 @@ after_block f d next = record { insts = result_code (locations f) d; exit = exit
 abbrev pub prologue_block : Bool → Frame → (parameters first : ℕ) → BlockParts
 prologue_block leaf f n first = record { insts = prologue leaf f n; exit = exits.Goto first }
 
--- block 0 sets register 28 and calls the main function, block 1 ends with its result
+-- block 0 sets the global pointer and calls the main function, block 1 ends with its result
 abbrev pub start_block : (main : ℕ) → BlockParts
-start_block main = record { insts = constant 28 data_middle; exit = exits.Call main 1 }
+start_block main = record { insts = constant GLOBAL_POINTER data_middle; exit = exits.Call main 1 }
 
 abbrev pub end_block : BlockParts
-end_block = record { insts = move_code 4 2 ∷ []; exit = exits.Halt }
+end_block = record { insts = move_code FIRST_ARGUMENT RESULT ∷ []; exit = exits.Halt }

@@ -14,6 +14,7 @@ use Rattle.rtl.specs.declared.limits.TheConstants.{MAX_PARAMETERS}
 use Rattle.rtl.specs.Programs.{IsProgram}
 use Rattle.mips_homes.specs.declared.homed.Frame.{Frame}
 use Rattle.mips_homes.specs.declared.homed.Homed.{Homed}
+use Rattle.mips_homes.specs.declared.convention.TheConstants.{FIRST_ARGUMENT, FIRST_TEMPORARY}
 use Rattle.mips_homes.specs.HomedRun.{homed_run}
 use Rattle.mips_emit.specs.declared.limits.TheConstants.{FRAME_BYTES}
 use Rattle.mips_emit.specs.declared.location.Location.{Location}
@@ -24,12 +25,12 @@ use Rattle.mips_select.specs.declared.limits.TheConstants.{STACK_BYTES}
 use Rattle.mips_select.specs.Data.{padded_bytes, start_of}
 use Rattle.mips_select.specs.Code.{result_code, prologue, own_block, after_block, prologue_block, start_block, end_block}
 
--- an argument that is moved into register t isn't in a register from 4 on that an earlier one was moved into
+-- an argument that is moved into register t isn't in a register that an earlier one was moved into
 abbrev pub IsBehind : Option Location → ℕ → Type 0
 IsBehind None t = Unit {0}
 IsBehind (Some (Held r)) t = t ≤ r
 IsBehind (Some (InSlot k)) t = Unit {0}
-IsBehind (Some (Copied r k)) t = 8 ≤ r
+IsBehind (Some (Copied r k)) t = FIRST_TEMPORARY ≤ r
 
 abbrev pub AreInOrder : Locations → (t : ℕ) → List ℕ → Type 0
 AreInOrder at t [] = Unit {0}
@@ -38,9 +39,9 @@ AreInOrder at t (x ∷ xs) = IsBehind (at x) t × AreInOrder at (suc t) xs
 -- a parameter that comes in register t doesn't go to a register in which a later one comes
 abbrev pub IsClear : Option Location → ℕ → Type 0
 IsClear None t = Unit {0}
-IsClear (Some (Held r)) t = (r ≤ t) ⊎ (8 ≤ r)
+IsClear (Some (Held r)) t = (r ≤ t) ⊎ (FIRST_TEMPORARY ≤ r)
 IsClear (Some (InSlot k)) t = Unit {0}
-IsClear (Some (Copied r k)) t = 8 ≤ r
+IsClear (Some (Copied r k)) t = FIRST_TEMPORARY ≤ r
 
 abbrev pub AreClear : Locations → (t x n : ℕ) → Type 0
 AreClear at t x zero = Unit {0}
@@ -56,7 +57,7 @@ module _ (blocks : List BlockParts) (globals : List RGlobal) (starts entry : ℕ
   -- may go on at a block that begins with the store of its result
   abbrev pub GoesOn : Bool → Frame → (place : ℕ → ℕ) → (head : ℕ → List Plain) → ℕ → RExit → Type 0
   GoesOn leaf f place head n (Call g xs d next) =
-      ((leaf ≡ false) × AreInOrder (locations f) 4 xs.items)
+      ((leaf ≡ false) × AreInOrder (locations f) FIRST_ARGUMENT xs.items)
       × (((slice_get blocks n ≡ Some (after_block f d (place next))) × (head next ≡ []))
       ⊎ ((n ≡ place next) × (head next ≡ result_code (locations f) d)))
   GoesOn leaf f place head n (Goto b) = head b ≡ []
@@ -84,7 +85,7 @@ module _ (blocks : List BlockParts) (globals : List RGlobal) (starts entry : ℕ
     pub placed : IsPlaced leaf f place head func.blocks.items
     pub frame : IsFrame most f
     pub parameters : func.parameters ≤ MAX_PARAMETERS
-    pub clear : AreClear (locations f) 4 0 func.parameters
+    pub clear : AreClear (locations f) FIRST_ARGUMENT 0 func.parameters
     pub alone : leaf ≡ false → f.copies.items ≡ []
 
 pub record IsSelected (h : Homed) (depth : ℕ) (blocks : List BlockParts) : Type 0 where

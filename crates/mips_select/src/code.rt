@@ -17,7 +17,7 @@ use crate::prologue::emit_prologue;
 use crate::push::push;
 use mblock::{BlockNumber, Exit};
 use mips_emit::{Comparison, Knowledge, Last, emit_arrival, emit_insts, register};
-use mips_homes::Frame;
+use mips_homes::{Frame, RESULT};
 use mips_isa::Plain;
 use mips_split::LongBlock;
 use rtl::{RBlock, RExit, Register};
@@ -29,7 +29,7 @@ fn emit_result(code: &mut Vec<Plain>, frame: &Frame, to: Option<Register>) -> Re
     ensures { OnOk result (code.new.items ≡ code.old.items ++ result_code (locations frame.now) to) }
 {
     match to {
-        Some(d) => emit_arrival(code, frame, register(2), d),
+        Some(d) => emit_arrival(code, frame, register(RESULT), d),
         None => Ok(()),
     }
 }

@@ -19,7 +19,7 @@ use mips_emit::{
     Asked, Knowledge, Last, comparison_exit, emit_arguments, emit_departure, emit_fetch,
     last_operand, operand_register, register, returned, tested,
 };
-use mips_homes::Frame;
+use mips_homes::{FIRST_ARGUMENT, Frame, RESULT, SCRATCH_1};
 use mips_isa::{PairTest, Plain, Reg};
 use rtl::{RExit, Register};
 use std::alloc::AllocError;
@@ -82,10 +82,10 @@ fn emit_branch(
     let operand = last_operand(facts, last.fresh, frame, c);
     match tested(&last.comparison, c) {
         None => {
-            emit_fetch(code, register(1), &operand)?;
+            emit_fetch(code, register(SCRATCH_1), &operand)?;
             Ok(Exit::BranchPair {
                 test: PairTest::NotEqual,
-                rs: operand_register(register(1), &operand),
+                rs: operand_register(register(SCRATCH_1), &operand),
                 rt: Reg::ZERO,
                 then,
                 other,
@@ -95,7 +95,7 @@ fn emit_branch(
     }
 }
 
-// A pseudo-register into register 2, but where it is there already.
+// A pseudo-register into the result's register, but where it is there already.
 fn emit_returned(
     code: &mut Vec<Plain>,
     facts: &Knowledge,
@@ -110,7 +110,7 @@ fn emit_returned(
     if returned(&last.comparison, x) {
         return Ok(());
     }
-    emit_departure(code, facts, last.fresh, frame, register(2), x)
+    emit_departure(code, facts, last.fresh, frame, register(RESULT), x)
 }
 
 // How a block is left, where a call goes on at `next`: what stands before the exit, and the exit.
@@ -155,7 +155,7 @@ pub(crate) fn emit_exit(
             Ok(Exit::Return)
         }
         RExit::Out(x, next) => {
-            emit_departure(code, facts, last.fresh, frame, register(4), *x)?;
+            emit_departure(code, facts, last.fresh, frame, register(FIRST_ARGUMENT), *x)?;
             Ok(Exit::Out(number_at(plan.places, *next)))
         }
     }

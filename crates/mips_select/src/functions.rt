@@ -17,13 +17,13 @@ use crate::prologue::emit_prologue;
 use crate::push::push;
 use mblock::{BlockNumber, Exit};
 use mips_emit::{Knowledge, emit_constant};
-use mips_homes::{Frame, is_leaf};
+use mips_homes::{Frame, GLOBAL_POINTER, is_leaf};
 use mips_isa::{AluOp, DATA_BASE, Plain, Reg};
 use mips_split::LongBlock;
 use rtl::{RBlock, RFunc};
 use std::alloc::{AllocError, Global};
 
-// What register 28 always holds: the middle of the first 65,536 bytes of data.
+// What the global pointer always holds: the middle of the first 65,536 bytes of data.
 const DATA_MIDDLE: u32 = DATA_BASE + 32_768;
 
 // The blocks for some blocks, the first of which has the number `first`.
@@ -155,7 +155,7 @@ pub(crate) fn emit_functions(
     Ok(())
 }
 
-// Block 0, which sets register 28 and calls the main function.
+// Block 0, which sets the global pointer and calls the main function.
 pub(crate) fn emit_start(
     alloc: Global,
     out: &mut Vec<LongBlock>,
@@ -164,7 +164,7 @@ pub(crate) fn emit_start(
     ensures { OnOk result (out.new.items ≡ out.old.items ++ start_block main ∷ []) }
 {
     let mut insts = Vec::new(alloc);
-    emit_constant(&mut insts, Reg::masked(28), DATA_MIDDLE)?;
+    emit_constant(&mut insts, Reg::masked(GLOBAL_POINTER), DATA_MIDDLE)?;
     let exit = Exit::Call {
         function: main,
         next: number(1),

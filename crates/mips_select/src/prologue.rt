@@ -3,6 +3,8 @@
 ghost use Rattle.std.specs.Prelude.{◌≡◌, ℕ, ◌+◌, ◌*◌, ◌<◌, ◌≤◌, ◌++◌, ◌∷◌, [], length, OnOk, Some, slice_get};
 ghost use Rattle.mips_isa.specs.declared.inst.ImmOp.TheVariants.{Addiu};
 ghost use Rattle.mips_isa.specs.declared.inst.Plain.TheVariants.{Imm};
+ghost use Rattle.mips_homes.specs.declared.convention.TheConstants.{FIRST_ARGUMENT};
+ghost use Rattle.mips_homes.specs.Convention.{IsCalleeSaved};
 ghost use Rattle.mips_emit.specs.declared.limits.TheConstants.{FRAME_BYTES};
 ghost use Rattle.mips_emit.specs.Frames.{IsReachable};
 ghost use Rattle.mips_emit.specs.Locations.{locations};
@@ -10,16 +12,9 @@ ghost use Rattle.mips_select.specs.Code.{frame_word, frame_words, frame_bytes, f
 ghost use Rattle.mips_select.specs.Code.{epilogue};
 
 use mips_emit::{emit_arrival, emit_load_word, emit_store_word, register};
-use mips_homes::Frame;
+use mips_homes::{FIRST_ARGUMENT, Frame, LINK, STACK_POINTER};
 use mips_isa::{ImmOp, NonzeroReg, Plain, Reg};
 use std::alloc::AllocError;
-
-// The stack pointer.
-fn stack_pointer() -> Reg
-    ensures { result ≡ 29 }
-{
-    Reg::masked(29)
-}
 
 // In which direction words go between registers and the frame.
 #[derive(Clone, Copy)]
@@ -52,7 +47,7 @@ fn emit_words(
     registers: &[u8],
 ) -> Result<(), AllocError>
     requires fits { at + 4 * length registers.now ≤ FRAME_BYTES }
-    requires registers { (j r : ℕ) → slice_get registers.now j ≡ Some r → (16 ≤ r) × (r < 24) }
+    requires registers { (j r : ℕ) → slice_get registers.now j ≡ Some r → IsCalleeSaved r }
     ensures { OnOk result (code.new.items ≡ code.old.items ++ frame_words direction at registers.now) }
 {
     let mut place = at;
@@ -96,8 +91,8 @@ fn emit_step(code: &mut Vec<Plain>, direction: Direction, size: u32) -> Result<(
     if size != 0 {
         code.push(Plain::Imm {
             op: ImmOp::Addiu,
-            rt: stack_pointer(),
-            rs: stack_pointer(),
+            rt: Reg::masked(STACK_POINTER),
+            rs: Reg::masked(STACK_POINTER),
             imm: step_of(direction, size),
         })?;
     }
@@ -118,17 +113,17 @@ fn emit_link(
         return Ok(());
     }
     let place = 4 * frame.slots + 4 * frame.saved.len() as u32;
-    emit_word(code, direction, register(31), place)
+    emit_word(code, direction, register(LINK), place)
 }
 
 // Parameters into their locations.
 fn emit_parameters(code: &mut Vec<Plain>, frame: &Frame, n: u32) -> Result<(), AllocError>
     requires frame { IsReachable frame.now }
     requires few { n ≤ 4 }
-    ensures { OnOk result (code.new.items ≡ code.old.items ++ parameters_code (locations frame.now) 4 0 n) }
+    ensures { OnOk result (code.new.items ≡ code.old.items ++ parameters_code (locations frame.now) FIRST_ARGUMENT 0 n) }
 {
     for x in 0..n {
-        emit_arrival(code, frame, register(4 + x as u8), x)?;
+        emit_arrival(code, frame, register(FIRST_ARGUMENT + x as u8), x)?;
     }
     Ok(())
 }
