@@ -6,7 +6,7 @@ ghost use Rattle.std.specs.Prelude.{◌≡◌, ◌++◌, ◌∷◌, [], Some};
 ghost use Rattle.mblock.specs.declared.exit.Exit.TheVariants.{BranchPair, BranchZero};
 ghost use Rattle.rtl.specs.declared.operator.Op.TheVariants.{LtS, LeS};
 ghost use Rattle.mips_emit.specs.Frames.{IsReachable};
-ghost use Rattle.mips_emit.specs.Locations.{facts_of, locations, known_in, operand, FitsSource};
+ghost use Rattle.mips_emit.specs.Locations.{facts_of, locations, FitsSource};
 ghost use Rattle.mips_emit.specs.Comparisons.{is_known_zero, is_immediate, opposite_if, form_of, opposite_op};
 ghost use Rattle.mips_emit.specs.Comparisons.{comparison_code, comparison_exit, is_asked, form_for, is_caller_saved, is_result, returned};
 ghost use Rattle.mips_emit.specs.Comparisons.{operator_comparison, comparison_of, FitsComparison, tested};
@@ -14,9 +14,9 @@ ghost use Rattle.mips_emit.specs.Code.{fetch, nop};
 ghost use Rattle.mips_emit.specs.Prefixes.{Emits};
 
 use crate::constant::emit_one;
-use crate::facts::{Knowledge, known_word, operand};
+use crate::facts::Knowledge;
 use crate::location::{Location, Source, locate, register};
-use crate::operation::{Operand, emit_op, immediate_of};
+use crate::operation::{Operand, emit_op, immediate_of, operand_with};
 use crate::transfer::{emit_fetch, operand_register};
 use mblock::{BlockNumber, Exit};
 use mips_homes::{Frame, SCRATCH_1, SCRATCH_3, is_callee_saved};
@@ -294,34 +294,28 @@ fn is_caller_saved(place: Option<Location>) -> bool
 
 // An operator as a comparison, if it is one.
 fn operator_comparison(
-    facts: &Knowledge,
-    frame: &Frame,
     asked: Asked,
     op: Op,
     d: Register,
-    a: Register,
-    b: Register,
+    x: &Operand,
+    y: &Operand,
 ) -> Option<Comparison>
-    requires { IsReachable frame.now }
-    ensures value { result ≡ operator_comparison d op (known_in (facts_of facts.now) a) (known_in (facts_of facts.now) b)
-        (operand (locations frame.now) (facts_of facts.now) a) (operand (locations frame.now) (facts_of facts.now) b)
-        (form_for asked op (known_in (facts_of facts.now) a) (known_in (facts_of facts.now) b)) }
+    requires left { FitsSource x.now.source }
+    requires right { FitsSource y.now.source }
+    ensures value { result ≡ operator_comparison d op x.now.known y.now.known x.now.source y.now.source
+        (form_for asked op x.now.known y.now.known) }
     ensures fits { FitsComparison result }
 {
-    let left = known_word(facts, a);
-    let right = known_word(facts, b);
-    let x = operand(facts, frame, a);
-    let y = operand(facts, frame, b);
-    match form_for(asked, op, left, right) {
+    match form_for(asked, op, x.known, y.known) {
         None => None,
         Some(form) => Some(Comparison {
             result: d,
             op,
             form,
-            left,
-            right,
-            x,
-            y,
+            left: x.known,
+            right: y.known,
+            x: x.source,
+            y: y.source,
         }),
     }
 }
@@ -340,7 +334,9 @@ pub(crate) fn comparison_of(
     match inst {
         RInst::Bin(op, d, a, b) => {
             if is_asked(asked, *d) && is_caller_saved(locate(frame, *d)) {
-                operator_comparison(facts, frame, asked, *op, *d, *a, *b)
+                let x = operand_with(facts, frame, *a);
+                let y = operand_with(facts, frame, *b);
+                operator_comparison(asked, *op, *d, &x, &y)
             } else {
                 None
             }

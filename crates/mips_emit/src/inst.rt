@@ -9,10 +9,10 @@ ghost use Rattle.rtl.specs.Programs.{IsInst};
 ghost use Rattle.mips_emit.specs.declared.location.Location.TheVariants.{Held};
 ghost use Rattle.mips_emit.specs.Frames.{IsReachable};
 ghost use Rattle.mips_emit.specs.declared.comparison.Asked.TheVariants.{Nothing};
-ghost use Rattle.mips_emit.specs.Locations.{facts_of, inner_of, known_in, locations, word_source, operand, known_after, FitsSource};
+ghost use Rattle.mips_emit.specs.Locations.{facts_of, inner_of, locations, word_source, operand, known_after, FitsSource};
 ghost use Rattle.mips_emit.specs.Comparisons.{FitsComparison, next_code, last_after, no_last, code_of_insts};
 ghost use Rattle.mips_emit.specs.Elements.{AreStarts, width_of};
-ghost use Rattle.mips_emit.specs.Code.{const_code, put_at, into, finish, op_code, bin_code, load_code, store_code, inst_code};
+ghost use Rattle.mips_emit.specs.Code.{const_code, put_at, into, finish, op_code, load_code, store_code, inst_code};
 ghost use Rattle.mips_emit.specs.Prefixes.{Emits, StopsAmong};
 
 use crate::comparison::{Asked, Comparison, comparison_of, emit_comparison};
@@ -20,13 +20,28 @@ use crate::constant::emit_one;
 use crate::element::{direct, element_load, element_store, emit_element};
 use crate::facts::{Knowledge, Last, fresh_of, known_word, last_with, learn, operand};
 use crate::location::{Location, inner_of, locate, register, word_source};
-use crate::operation::{Operand, emit_op};
+use crate::operation::{Operand, emit_op, operand_with};
 use crate::transfer::{emit_bring, emit_fetch, emit_finish, emit_put, into_of, operand_register};
 use mips_homes::{Frame, SCRATCH_2, is_callee_saved};
 use mips_isa::{NonzeroReg, Plain};
 use rtl::{GlobalNumber, Op, RGlobal, RInst, Register};
 use std::alloc::AllocError;
 use words::Width;
+
+/// What code depends on besides its instructions: the globals, where in the data each begins, and the frame.
+#[derive(Clone, Copy)]
+pub struct Setting<'a> {
+    pub globals: &'a [RGlobal],
+    pub starts: &'a [u32],
+    pub frame: &'a Frame,
+}
+
+// A global in data memory: the width of its elements, and where it begins.
+#[derive(Clone, Copy)]
+struct Array {
+    width: Width,
+    start: u32,
+}
 
 // A word into a register, or nothing yet.
 fn emit_held(code: &mut Vec<Plain>, r: NonzeroReg, word: u32) -> Result<(), AllocError>
@@ -76,19 +91,6 @@ fn emit_move(
     emit_put(code, locate(frame, d), &operand(facts, frame, a))
 }
 
-// A pseudo-register as an operand, with what is known of it.
-fn operand_with(facts: &Knowledge, frame: &Frame, x: Register) -> Operand
-    requires { IsReachable frame.now }
-    ensures known { result.known ≡ known_in (facts_of facts.now) x }
-    ensures source { result.source ≡ operand (locations frame.now) (facts_of facts.now) x }
-    ensures fits { FitsSource result.source }
-{
-    Operand {
-        known: known_word(facts, x),
-        source: operand(facts, frame, x),
-    }
-}
-
 // An operator on two operands, into a pseudo-register.
 fn emit_op_into(
     code: &mut Vec<Plain>,
@@ -110,47 +112,26 @@ fn emit_op_into(
     emit_finish(code, locate(frame, d))
 }
 
-// An operator on pseudo-registers.
-fn emit_bin(
-    code: &mut Vec<Plain>,
-    facts: &Knowledge,
-    frame: &Frame,
-    op: Op,
-    d: Register,
-    a: Register,
-    b: Register,
-) -> Result<(), AllocError>
-    requires { IsReachable frame.now }
-    ensures { Emits result code.old.items
-        (bin_code (locations frame.now) (facts_of facts.now) op d a b)
-        code.new.items }
-{
-    let x = operand_with(facts, frame, a);
-    let y = operand_with(facts, frame, b);
-    emit_op_into(code, frame, op, d, &x, &y)
-}
-
 // An element into a pseudo-register.
 fn emit_load(
     code: &mut Vec<Plain>,
     facts: &Knowledge,
     frame: &Frame,
-    width: Width,
-    start: u32,
+    array: Array,
     d: Register,
     i: Register,
 ) -> Result<(), AllocError>
     requires frame { IsReachable frame.now }
-    requires few { start ≤ UNIT_BYTES }
+    requires few { array.start ≤ UNIT_BYTES }
     ensures { Emits result code.old.items
-        (load_code (locations frame.now) (facts_of facts.now) width start d i)
+        (load_code (locations frame.now) (facts_of facts.now) array.width array.start d i)
         code.new.items }
 {
     let x = operand(facts, frame, i);
-    let place = direct(width, start, known_word(facts, i));
+    let place = direct(array.width, array.start, known_word(facts, i));
     let rt = into_of(locate(frame, d));
-    emit_element(code, width, start, place, &x)?;
-    emit_one(code, element_load(width, rt, start, place))?;
+    emit_element(code, array.width, array.start, place, &x)?;
+    emit_one(code, element_load(array.width, rt, array.start, place))?;
     emit_finish(code, locate(frame, d))
 }
 
@@ -159,41 +140,23 @@ fn emit_store(
     code: &mut Vec<Plain>,
     facts: &Knowledge,
     frame: &Frame,
-    width: Width,
-    start: u32,
+    array: Array,
     i: Register,
     b: Register,
 ) -> Result<(), AllocError>
     requires frame { IsReachable frame.now }
-    requires few { start ≤ UNIT_BYTES }
+    requires few { array.start ≤ UNIT_BYTES }
     ensures { Emits result code.old.items
-        (store_code (locations frame.now) (facts_of facts.now) width start i b)
+        (store_code (locations frame.now) (facts_of facts.now) array.width array.start i b)
         code.new.items }
 {
     let x = operand(facts, frame, i);
     let y = operand(facts, frame, b);
-    let place = direct(width, start, known_word(facts, i));
-    emit_element(code, width, start, place, &x)?;
+    let place = direct(array.width, array.start, known_word(facts, i));
+    emit_element(code, array.width, array.start, place, &x)?;
     emit_fetch(code, register(SCRATCH_2), &y)?;
-    emit_one(
-        code,
-        element_store(
-            width,
-            operand_register(register(SCRATCH_2), &y),
-            start,
-            place,
-        ),
-    )
-}
-
-// The first byte of a global.
-fn start_of(starts: &[u32], a: GlobalNumber) -> u32
-    requires few { AreStarts starts.now }
-    requires named { a < length starts.now }
-    ensures value { result ≡ slice_index starts.now a }
-    ensures few { result ≤ UNIT_BYTES }
-{
-    starts[a as usize]
+    let rt = operand_register(register(SCRATCH_2), &y);
+    emit_one(code, element_store(array.width, rt, array.start, place))
 }
 
 // The width of a global's elements.
@@ -206,57 +169,66 @@ fn width_of(globals: &[RGlobal], a: GlobalNumber) -> Width
     }
 }
 
+// A global by its number.
+fn array_of(setting: &Setting<'_>, a: GlobalNumber) -> Array
+    requires few { AreStarts setting.now.starts.now }
+    requires named { a < length setting.now.starts.now }
+    ensures width { result.width ≡ width_of setting.now.globals.now a }
+    ensures start { result.start ≡ slice_index setting.now.starts.now a }
+    ensures few { result.start ≤ UNIT_BYTES }
+{
+    Array {
+        width: width_of(setting.globals, a),
+        start: setting.starts[a as usize],
+    }
+}
+
 // One instruction.
 fn emit_inst(
     code: &mut Vec<Plain>,
-    globals: &[RGlobal],
-    starts: &[u32],
+    setting: &Setting<'_>,
     facts: &Knowledge,
-    frame: &Frame,
     inst: &RInst,
 ) -> Result<(), AllocError>
-    requires frame { IsReachable frame.now }
-    requires few { AreStarts starts.now }
-    requires named { IsInst (length starts.now) inst.now }
+    requires frame { IsReachable setting.now.frame.now }
+    requires few { AreStarts setting.now.starts.now }
+    requires named { IsInst (length setting.now.starts.now) inst.now }
     ensures { Emits result code.old.items
-        (inst_code globals.now (slice_index starts.now) (locations frame.now) (facts_of facts.now) inst.now)
+        (inst_code setting.now.globals.now (slice_index setting.now.starts.now) (locations setting.now.frame.now) (facts_of facts.now) inst.now)
         code.new.items }
 {
+    let frame = setting.frame;
     match inst {
         RInst::Const(d, word) => emit_const(code, frame, *d, *word),
         RInst::Move(d, a) => emit_move(code, facts, frame, *d, *a),
-        RInst::Bin(op, d, a, b) => emit_bin(code, facts, frame, *op, *d, *a, *b),
-        RInst::Load(d, a, i) => {
-            let start = start_of(starts, *a);
-            emit_load(code, facts, frame, width_of(globals, *a), start, *d, *i)
+        RInst::Bin(op, d, a, b) => {
+            let x = operand_with(facts, frame, *a);
+            let y = operand_with(facts, frame, *b);
+            emit_op_into(code, frame, *op, *d, &x, &y)
         }
-        RInst::Store(a, i, b) => {
-            let start = start_of(starts, *a);
-            emit_store(code, facts, frame, width_of(globals, *a), start, *i, *b)
-        }
+        RInst::Load(d, a, i) => emit_load(code, facts, frame, array_of(setting, *a), *d, *i),
+        RInst::Store(a, i, b) => emit_store(code, facts, frame, array_of(setting, *a), *i, *b),
     }
 }
 
 // One instruction, or the comparison that it is.
 fn emit_next(
     code: &mut Vec<Plain>,
-    globals: &[RGlobal],
-    starts: &[u32],
+    setting: &Setting<'_>,
     facts: &Knowledge,
-    frame: &Frame,
     comparison: &Option<Comparison>,
     inst: &RInst,
 ) -> Result<(), AllocError>
-    requires frame { IsReachable frame.now }
-    requires few { AreStarts starts.now }
-    requires named { IsInst (length starts.now) inst.now }
+    requires frame { IsReachable setting.now.frame.now }
+    requires few { AreStarts setting.now.starts.now }
+    requires named { IsInst (length setting.now.starts.now) inst.now }
     requires fits { FitsComparison comparison.now }
     ensures { Emits result code.old.items
-        (next_code globals.now (slice_index starts.now) (locations frame.now) (facts_of facts.now) comparison.now inst.now)
+        (next_code setting.now.globals.now (slice_index setting.now.starts.now) (locations setting.now.frame.now) (facts_of facts.now) comparison.now inst.now)
         code.new.items }
 {
     match comparison {
-        None => emit_inst(code, globals, starts, facts, frame, inst),
+        None => emit_inst(code, setting, facts, inst),
         Some(m) => emit_comparison(code, m),
     }
 }
@@ -273,20 +245,18 @@ fn asked_if(is_last: bool, asked: Asked) -> Asked
 pub fn emit_insts(
     code: &mut Vec<Plain>,
     facts: &mut Knowledge,
-    globals: &[RGlobal],
-    starts: &[u32],
-    frame: &Frame,
+    setting: &Setting<'_>,
     asked: Asked,
     insts: &[RInst],
 ) -> Result<Last, AllocError>
-    requires frame { IsReachable frame.now }
-    requires few { AreStarts starts.now }
-    requires named { All (IsInst (length starts.now)) insts.now }
+    requires frame { IsReachable setting.now.frame.now }
+    requires few { AreStarts setting.now.starts.now }
+    requires named { All (IsInst (length setting.now.starts.now)) insts.now }
     ensures code { OnOk result (code.new.items ≡ code.old.items
-        ++ code_of_insts globals.now starts.now frame.now asked (facts_of facts.old) insts.now) }
-    ensures last { IfOk result (λ l. l ≡ last_after (locations frame.now) asked (facts_of facts.old) insts.now no_last) }
-    ensures known { OnOk result (facts_of facts.new ≡ known_after (locations frame.now) insts.now (facts_of facts.old)) }
-    ensures left { OnErr result (StopsAmong globals.now (slice_index starts.now) (locations frame.now) asked insts.now (facts_of facts.old)
+        ++ code_of_insts setting.now.globals.now setting.now.starts.now setting.now.frame.now asked (facts_of facts.old) insts.now) }
+    ensures last { IfOk result (λ l. l ≡ last_after (locations setting.now.frame.now) asked (facts_of facts.old) insts.now no_last) }
+    ensures known { OnOk result (facts_of facts.new ≡ known_after (locations setting.now.frame.now) insts.now (facts_of facts.old)) }
+    ensures left { OnErr result (StopsAmong setting.now.globals.now (slice_index setting.now.starts.now) (locations setting.now.frame.now) asked insts.now (facts_of facts.old)
         (facts_of facts.new) code.old.items code.new.items) }
 {
     let mut last = Last::NONE;
@@ -294,11 +264,11 @@ pub fn emit_insts(
     for inst in insts {
         left -= 1;
         let asks = asked_if(left == 0, asked);
-        let comparison = comparison_of(facts, frame, asks, inst);
-        let fresh = fresh_of(frame, inst);
-        emit_next(code, globals, starts, facts, frame, &comparison, inst)?;
+        let comparison = comparison_of(facts, setting.frame, asks, inst);
+        let fresh = fresh_of(setting.frame, inst);
+        emit_next(code, setting, facts, &comparison, inst)?;
         last = last_with(&comparison, fresh);
-        learn(facts, frame, inst)?;
+        learn(facts, setting.frame, inst)?;
     }
     Ok(last)
 }

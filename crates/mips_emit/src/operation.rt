@@ -6,19 +6,21 @@ ghost use Rattle.std.specs.Prelude.{◌≡◌, ℕ, ◌%◌, ◌++◌, ◌∷◌
 ghost use Rattle.mips_isa.specs.declared.inst.LogicOp.TheVariants.{Xori};
 ghost use Rattle.rtl.specs.declared.operator.Op.TheVariants.{Xor};
 ghost use Rattle.mips_isa.specs.declared.inst.Plain.TheVariants.{Shift, ShiftBy, Alu, Imm, Logic, Divide};
-ghost use Rattle.mips_emit.specs.Locations.{FitsSource};
+ghost use Rattle.mips_emit.specs.Frames.{IsReachable};
+ghost use Rattle.mips_emit.specs.Locations.{FitsSource, facts_of, known_in, locations, operand};
 ghost use Rattle.mips_emit.specs.Code.{is_small, half, fetch, as_list, operation, is_power, immediate, immediate_of, is_symmetric};
 ghost use Rattle.mips_emit.specs.Code.{one_or_two, turned_immediate_of, fetch_if, selection_code};
 ghost use Rattle.mips_emit.specs.Code.{turned_less_of, code_by_word, op_code};
 ghost use Rattle.mips_emit.specs.Prefixes.{Emits};
 
 use crate::constant::{emit_one_or_two, half, is_small};
+use crate::facts::{Knowledge, known_word, operand};
 use crate::location::{Source, register};
 use crate::product::{emit_multiple, multiple_of};
 use crate::transfer::{emit_fetch, operand_register};
-use mips_homes::SCRATCH_2;
+use mips_homes::{Frame, SCRATCH_2};
 use mips_isa::{AluOp, Amount, HiLo, ImmOp, LogicOp, NonzeroReg, Plain, Reg, ShiftOp};
-use rtl::Op;
+use rtl::{Op, Register};
 use std::alloc::AllocError;
 use words::Sign;
 
@@ -246,6 +248,19 @@ fn turned_less_of(op: Op, rd: Reg, rt: Reg, known: Option<u32>) -> Option<Plain>
 pub(crate) struct Operand {
     pub(crate) known: Option<u32>,
     pub(crate) source: Source,
+}
+
+/// A pseudo-register as an operand, with what is known of it.
+pub(crate) fn operand_with(facts: &Knowledge, frame: &Frame, x: Register) -> Operand
+    requires { IsReachable frame.now }
+    ensures known { result.known ≡ known_in (facts_of facts.now) x }
+    ensures source { result.source ≡ operand (locations frame.now) (facts_of facts.now) x }
+    ensures fits { FitsSource result.source }
+{
+    Operand {
+        known: known_word(facts, x),
+        source: operand(facts, frame, x),
+    }
 }
 
 // The instructions of an operator: whether each operand is fetched, and one or two behind.

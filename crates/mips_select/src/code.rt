@@ -16,7 +16,7 @@ use crate::plan::{Linkage, Plan};
 use crate::prologue::emit_prologue;
 use crate::push::push;
 use mblock::{BlockNumber, Exit};
-use mips_emit::{Comparison, Knowledge, Last, emit_arrival, emit_insts, register};
+use mips_emit::{Comparison, Knowledge, Last, Setting, emit_arrival, emit_insts, register};
 use mips_homes::{Frame, RESULT};
 use mips_isa::Plain;
 use mips_split::LongBlock;
@@ -68,12 +68,15 @@ fn emit_own(
         plan.now.leaf plan.now.frame.now [] next block.now).exit) }
 {
     facts.clear();
+    let setting = Setting {
+        globals: linkage.globals,
+        starts: linkage.starts,
+        frame: plan.frame,
+    };
     let last = emit_insts(
         code,
         facts,
-        linkage.globals,
-        linkage.starts,
-        plan.frame,
+        &setting,
         asked_of(&block.exit),
         block.insts.as_slice(),
     )?;

@@ -9,11 +9,11 @@ use Rattle.mips_emit.proofs.inst.emit_insts.Given as goal
 abbrev pub invariant-loop-inst : goal.invariant-loop-inst
 invariant-loop-inst l =
     (l.left + l.inst-index ≡ length l.insts)
-    × (l.code.items ++ insts_code l.globals (slice_index l.starts) (locations l.frame) l.asked (facts_of l.facts) (drop l.inst-index l.insts) []
-    ≡ l.fn.code.items ++ insts_code l.globals (slice_index l.starts) (locations l.frame) l.asked (facts_of l.fn.facts) l.insts [])
-    × (known_after (locations l.frame) (drop l.inst-index l.insts) (facts_of l.facts) ≡ known_after (locations l.frame) l.insts (facts_of l.fn.facts))
-    × (last_after (locations l.frame) l.asked (facts_of l.facts) (drop l.inst-index l.insts) l.last
-    ≡ last_after (locations l.frame) l.asked (facts_of l.fn.facts) l.insts no_last)
+    × (l.code.items ++ insts_code l.setting.globals.now (slice_index l.setting.starts.now) (locations l.setting.frame.now) l.asked (facts_of l.facts) (drop l.inst-index l.insts) []
+    ≡ l.fn.code.items ++ insts_code l.setting.globals.now (slice_index l.setting.starts.now) (locations l.setting.frame.now) l.asked (facts_of l.fn.facts) l.insts [])
+    × (known_after (locations l.setting.frame.now) (drop l.inst-index l.insts) (facts_of l.facts) ≡ known_after (locations l.setting.frame.now) l.insts (facts_of l.fn.facts))
+    × (last_after (locations l.setting.frame.now) l.asked (facts_of l.facts) (drop l.inst-index l.insts) l.last
+    ≡ last_after (locations l.setting.frame.now) l.asked (facts_of l.fn.facts) l.insts no_last)
     × ((final : Facts) (now : List Plain)
-    → StopsAmong l.globals (slice_index l.starts) (locations l.frame) l.asked (drop l.inst-index l.insts) (facts_of l.facts) final l.code.items now
-    → StopsAmong l.globals (slice_index l.starts) (locations l.frame) l.asked l.insts (facts_of l.fn.facts) final l.fn.code.items now)
+    → StopsAmong l.setting.globals.now (slice_index l.setting.starts.now) (locations l.setting.frame.now) l.asked (drop l.inst-index l.insts) (facts_of l.facts) final l.code.items now
+    → StopsAmong l.setting.globals.now (slice_index l.setting.starts.now) (locations l.setting.frame.now) l.asked l.insts (facts_of l.fn.facts) final l.fn.code.items now)
