@@ -1,13 +1,14 @@
 -- Only the spellings that begin with the first byte stand at the front.
 use Rattle.std.proofs.lemmas.Bool.Decides.{nat_tests}
-use Rattle.std.proofs.Common.{arith, ◌≡◌, ℕ, List, [], ◌∷◌, Bool, true, false, Option, Some, refl, sym, ap, ◌∙◌, if◌then◌else◌, nat_eq, ◌&&◌, length}
+use Rattle.std.proofs.Common.{arith, ◌≡◌, ℕ, List, [], ◌∷◌, Bool, true, false, Option, Some, None, refl, sym, ap, ◌∙◌, if◌then◌else◌, nat_eq, ◌&&◌, length}
 use Rattle.c_tokens.specs.declared.token.Mark.{Mark}
 use Rattle.std.proofs.Common.{◌<◌, zero, suc, take, subst}
 use Rattle.std.specs.Prelude.{IfSome}
 use Rattle.c_tokens.specs.declared.keywords.Reserved.{Reserved}
 use Rattle.c_tokens.specs.declared.lexer.Lexeme.{Lexeme}
+use Rattle.c_tokens.specs.declared.lexer.Lexeme.TheVariants.{Sign}
 use Rattle.c_tokens.specs.Lexing.{is_front, signs, same_bytes, keyword_lexeme, word_lexeme, keywords}
-use Rattle.c_tokens.specs.Fronts.{may_begin, beginning, longer, longest, sign_lexeme}
+use Rattle.c_tokens.specs.Fronts.{may_begin, beginning, longer, longest, sign_lexeme, is_second, may_continue}
 
 pub begun : (es : List (List ℕ × Option Mark)) (b : ℕ) (bs : List ℕ) → longest (beginning b es) (b ∷ bs) ≡ longest es (b ∷ bs)
 begun [] b bs = refl
@@ -49,6 +50,67 @@ operator-there es text bs b r h k e = h ∙ ap (λ (x : List (List ℕ × Option
 pub single-there : (text bs : List ℕ) (b k : ℕ) (l : Lexeme) → text ≡ b ∷ bs → b ≡ k → sign_lexeme (longest signs (k ∷ bs)) ≡ l
     → sign_lexeme (longest signs text) ≡ l
 single-there text bs b k l e f h = ap (λ (x : List ℕ). sign_lexeme (longest signs x)) (e ∙ ap (λ (x : ℕ). x ∷ bs) f) ∙ h
+
+-- what a spelling of one byte needs: no other spelling goes on with the next byte
+abbrev pub ones : List (List ℕ × Option Mark) → List (List ℕ × Option Mark)
+ones [] = []
+ones (e ∷ es) = elim e.0 [ [] ↦ e ∷ ones es | a ∷ more ↦ elim more [ [] ↦ e ∷ ones es | d ∷ ds ↦ ones es ] ]
+
+abbrev second_in : List ℕ → Bool
+second_in [] = true
+second_in (a ∷ []) = true
+second_in (a ∷ d ∷ more) = is_second d
+
+abbrev all_seconds : List (List ℕ × Option Mark) → Bool
+all_seconds [] = true
+all_seconds (e ∷ es) = if second_in e.0 then all_seconds es else false
+
+table-seconds : all_seconds signs ≡ true
+table-seconds = refl
+
+and-false : (x : Bool) → x && false ≡ false
+and-false true = refl
+and-false false = refl
+
+apart : (d c : ℕ) → is_second d ≡ true → is_second c ≡ false → nat_eq d c ≡ false
+apart d c h k = pick (nat_eq d c) refl
+  where
+    same : (x y : ℕ) → nat_eq x y ≡ true → x ≡ y
+    same x y e = grind (arith, nat_tests)
+
+    pick : (x : Bool) → nat_eq d c ≡ x → x ≡ false
+    pick true e = let f : is_second d ≡ is_second c = ap is_second (same d c e) in cc
+    pick false e = refl
+
+no-front : (a d b : ℕ) (more rest : List ℕ) → is_second d ≡ true → may_continue rest ≡ false → is_front (a ∷ d ∷ more) (b ∷ rest) ≡ false
+no-front a d b more [] h k = and-false (nat_eq a b)
+no-front a d b more (c ∷ cs) h k =
+    ap (λ (x : Bool). nat_eq a b && (x && is_front more cs)) (apart d c h k) ∙ and-false (nat_eq a b)
+
+alone : (es : List (List ℕ × Option Mark)) (b : ℕ) (rest : List ℕ) → all_seconds es ≡ true → may_continue rest ≡ false
+    → longest es (b ∷ rest) ≡ longest (ones es) (b ∷ rest)
+alone [] b rest h k = refl
+alone (e ∷ es) b rest h k = go e.0 e.1 h (λ f. alone es b rest f k)
+  where
+    go : (o : List ℕ) (m : Option Mark) → (if second_in o then all_seconds es else false) ≡ true
+        → (all_seconds es ≡ true → longest es (b ∷ rest) ≡ longest (ones es) (b ∷ rest))
+        → longest ((o, m) ∷ es) (b ∷ rest) ≡ longest (ones ((o, m) ∷ es)) (b ∷ rest)
+    go [] m h f = ap (λ (x : Option (List ℕ × Option Mark)). Some (longer ([], m) x)) (f h)
+    go (a ∷ []) m h f = ap (λ (x : Option (List ℕ × Option Mark)). if is_front (a ∷ []) (b ∷ rest) then Some (longer (a ∷ [], m) x) else x) (f h)
+    go (a ∷ d ∷ more) m h f = pick (is_second d) refl h
+      where
+        pick : (x : Bool) → is_second d ≡ x → (if x then all_seconds es else false) ≡ true
+            → longest ((a ∷ d ∷ more, m) ∷ es) (b ∷ rest) ≡ longest (ones es) (b ∷ rest)
+        pick true e h = ap (λ (x : Bool). if x then Some (longer (a ∷ d ∷ more, m) (longest es (b ∷ rest))) else longest es (b ∷ rest))
+            (no-front a d b more rest e k) ∙ f h
+        pick false e h = cc
+
+pub alone-there : (r : Option Mark) (text rest : List ℕ) (b k : ℕ) (mark : Mark) → text ≡ b ∷ rest → b ≡ k
+    → IfSome r (λ m. (m ≡ mark) × (may_continue rest ≡ false)) → sign_lexeme (longest (ones signs) (k ∷ rest)) ≡ Sign mark 1
+    → IfSome r (λ m. sign_lexeme (longest signs text) ≡ Sign m 1)
+alone-there None text rest b k mark e f h l = tt
+alone-there (Some m) text rest b k mark e f h l =
+    single-there text rest b k (Sign m 1) e f (ap sign_lexeme (alone signs k rest table-seconds h.1) ∙ l ∙ ap (λ (x : Mark). Sign x 1) (sym h.0))
 
 -- a word is looked up among the keywords that begin with its first byte
 pub word_begun : (es : List (List ℕ × Reserved)) (b : ℕ) (bs : List ℕ) → word_lexeme (beginning b es) (b ∷ bs) ≡ word_lexeme es (b ∷ bs)

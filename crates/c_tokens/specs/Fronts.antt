@@ -1,5 +1,5 @@
 -- How the front of a text is cut: the words of the private functions, which find the longest piece.
-use Rattle.std.specs.Prelude.{◌+◌, ℕ, suc, List, [], ◌∷◌, length, drop, take, Bool, true, false, nat_eq, nat_lt, if◌then◌else◌, Option}
+use Rattle.std.specs.Prelude.{◌+◌, ℕ, suc, List, [], ◌∷◌, length, drop, take, Bool, true, false, nat_eq, nat_lt, if◌then◌else◌, ◌||◌, Option}
 use Rattle.std.specs.Prelude.{Some, None, codes}
 use Rattle.c_tokens.specs.declared.token.Mark.{Mark}
 use Rattle.c_tokens.specs.declared.lexer.Lexeme.{Lexeme}
@@ -39,6 +39,16 @@ longer e (Some f) = if nat_lt (length e.0) (length f.0) then f else e
 abbrev pub longest : List (List ℕ × Option Mark) → List ℕ → Option (List ℕ × Option Mark)
 longest [] bs = None
 longest (e ∷ es) bs = if is_front e.0 bs then Some (longer e (longest es bs)) else longest es bs
+
+-- the second bytes of spellings
+abbrev pub is_second : ℕ → Bool
+is_second b = nat_eq b 61 || nat_eq b 124 || nat_eq b 38 || nat_eq b 60 || nat_eq b 62 || nat_eq b 43 || nat_eq b 45 || nat_eq b 46
+    || nat_eq b 35 || nat_eq b 63
+
+-- a longer spelling may go on with these bytes
+abbrev pub may_continue : List ℕ → Bool
+may_continue [] = false
+may_continue (b ∷ bs) = is_second b
 
 abbrev pub sign_lexeme : Option (List ℕ × Option Mark) → Lexeme
 sign_lexeme None = Refused 0

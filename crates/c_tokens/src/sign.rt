@@ -1,7 +1,7 @@
 // Operators and punctuators: the longest one at the front of a text (C99 6.4.6).
-ghost use Rattle.std.specs.Prelude.{◌≡◌, ◌<◌, length, map, IfSome};
+ghost use Rattle.std.specs.Prelude.{◌≡◌, ◌<◌, false, length, map, IfSome};
 ghost use Rattle.c_tokens.specs.Lexing.{is_front, signs};
-ghost use Rattle.c_tokens.specs.Fronts.{beginning, longest, longer, sign_lexeme};
+ghost use Rattle.c_tokens.specs.Fronts.{beginning, longest, longer, sign_lexeme, is_second, may_continue};
 ghost use Rattle.c_tokens.specs.Spellings.{bytes_of, entry_of, maybe_entry_of};
 ghost use Rattle.c_tokens.specs.Texts.{Fits};
 ghost use Rattle.c_tokens.specs.declared.lexer.Lexeme.TheVariants.{Sign};
@@ -21,12 +21,31 @@ pub enum Spelling {
 /// A spelling, and its mark if it is in use.
 pub type Entry = (Spelling, Option<Mark>);
 
-/// The mark of the byte at the front, if no longer spelling begins with it.
+/// The mark, if no longer spelling goes on with these bytes.
+fn alone(mark: Mark, rest: &[u8]) -> Option<Mark>
+    ensures { IfSome result (λ found. (found ≡ mark) × (may_continue rest.now ≡ false)) }
+{
+    match split(rest) {
+        None => Some(mark),
+        Some((second, _)) => { if is_second(second) { None } else { Some(mark) } }
+    }
+}
+
+fn is_second(byte: u8) -> bool
+    ensures { result ≡ is_second byte }
+{
+    matches!(
+        byte,
+        b'=' | b'|' | b'&' | b'<' | b'>' | b'+' | b'-' | b'.' | b'#' | b'?'
+    )
+}
+
+/// The mark of the byte at the front, if no longer spelling stands there.
 fn single(text: &[u8]) -> Option<Mark>
     ensures same { IfSome result (λ mark. sign_lexeme (longest signs text.now) ≡ Sign mark 1) }
     ensures fits { IfSome result (λ mark. 0 < length text.now) }
 {
-    let (first, _) = split(text)?;
+    let (first, rest) = split(text)?;
     match first {
         b'(' => Some(Mark::LeftParen),
         b')' => Some(Mark::RightParen),
@@ -38,6 +57,18 @@ fn single(text: &[u8]) -> Option<Mark>
         b',' => Some(Mark::Comma),
         b':' => Some(Mark::Colon),
         b'~' => Some(Mark::Tilde),
+        b'=' => alone(Mark::Assign, rest),
+        b'+' => alone(Mark::Plus, rest),
+        b'-' => alone(Mark::Minus, rest),
+        b'*' => alone(Mark::Star, rest),
+        b'/' => alone(Mark::Slash, rest),
+        b'%' => alone(Mark::Percent, rest),
+        b'<' => alone(Mark::LessSign, rest),
+        b'>' => alone(Mark::GreaterSign, rest),
+        b'&' => alone(Mark::Ampersand, rest),
+        b'|' => alone(Mark::Bar, rest),
+        b'^' => alone(Mark::Caret, rest),
+        b'!' => alone(Mark::Bang, rest),
         _ => None,
     }
 }
