@@ -6,7 +6,7 @@ use Rattle.std.proofs.Common.{◌<◌, zero, suc, take, subst}
 use Rattle.std.specs.Prelude.{IfSome}
 use Rattle.c_tokens.specs.declared.keywords.Reserved.{Reserved}
 use Rattle.c_tokens.specs.declared.lexer.Lexeme.{Lexeme}
-use Rattle.c_tokens.specs.declared.lexer.Lexeme.TheVariants.{Sign}
+use Rattle.c_tokens.specs.declared.lexer.Lexeme.TheVariants.{Sign, Word}
 use Rattle.c_tokens.specs.Lexing.{is_front, signs, same_bytes, keyword_lexeme, word_lexeme, keywords}
 use Rattle.c_tokens.specs.Fronts.{may_begin, beginning, longer, longest, sign_lexeme, is_second, may_continue}
 
@@ -111,6 +111,37 @@ pub alone-there : (r : Option Mark) (text rest : List ℕ) (b k : ℕ) (mark : M
 alone-there None text rest b k mark e f h l = tt
 alone-there (Some m) text rest b k mark e f h l =
     single-there text rest b k (Sign m 1) e f (ap sign_lexeme (alone signs k rest table-seconds h.1) ∙ l ∙ ap (λ (x : Mark). Sign x 1) (sym h.0))
+
+-- each keyword has two letters at least
+abbrev is_long : List ℕ → Bool
+is_long [] = true
+is_long (a ∷ []) = false
+is_long (a ∷ d ∷ more) = true
+
+abbrev all_long : List (List ℕ × Reserved) → Bool
+all_long [] = true
+all_long (k ∷ ks) = if is_long k.0 then all_long ks else false
+
+keywords-long : all_long keywords ≡ true
+keywords-long = refl
+
+no-keyword : (k : List ℕ) (b : ℕ) → is_long k ≡ true → same_bytes k (b ∷ []) ≡ false
+no-keyword [] b h = refl
+no-keyword (a ∷ []) b h = cc
+no-keyword (a ∷ d ∷ more) b h = and-false (nat_eq a b)
+
+one-letter : (ks : List (List ℕ × Reserved)) (b : ℕ) → all_long ks ≡ true → word_lexeme ks (b ∷ []) ≡ Word 1
+one-letter [] b h = refl
+one-letter (k ∷ ks) b h = pick (λ f. one-letter ks b f) (is_long k.0) refl h
+  where
+    pick : (all_long ks ≡ true → word_lexeme ks (b ∷ []) ≡ Word 1) → (x : Bool) → is_long k.0 ≡ x
+        → (if x then all_long ks else false) ≡ true → word_lexeme (k ∷ ks) (b ∷ []) ≡ Word 1
+    pick rest true e f = ap (λ (x : Bool). if x then keyword_lexeme k.1 1 else word_lexeme ks (b ∷ [])) (no-keyword k.0 b e) ∙ rest f
+    pick rest false e f = cc
+
+pub letter-there : (text bs : List ℕ) (b n : ℕ) → text ≡ b ∷ bs → n ≡ 1 → Word 1 ≡ word_lexeme keywords (take n text)
+letter-there text bs b n e f = sym (ap (λ (x : ℕ). word_lexeme keywords (take x text)) f
+    ∙ ap (λ (x : List ℕ). word_lexeme keywords (take 1 x)) e ∙ one-letter keywords b keywords-long)
 
 -- a word is looked up among the keywords that begin with its first byte
 pub word_begun : (es : List (List ℕ × Reserved)) (b : ℕ) (bs : List ℕ) → word_lexeme (beginning b es) (b ∷ bs) ≡ word_lexeme es (b ∷ bs)

@@ -87,5 +87,8 @@ pub fn word(text: &[u8]) -> Lexeme
     let Some((first, _)) = split(text) else {
         unreachable!();
     };
+    if n == 1 {
+        return Lexeme::Word(1);
+    }
     look_up(beginning(first), &text[..n])
 }
