@@ -25,6 +25,21 @@ pub(crate) struct Host<'a, T, F, W, E> {
     pub(crate) err: E,
 }
 
+/// The bytes of a block that glibc asks the system for apart from its heap. From one of 32 MiB with its head it learns nothing.
+const APART: usize = 31 << 20;
+
+/// Has the allocator reuse the memory of large lists: glibc takes from its heap what is smaller than a block that it gave back to the
+/// system (`M_MMAP_THRESHOLD` of mallopt(3)). Nothing changes if the block is refused.
+fn reuse_large_memory(alloc: Global) {
+    let _block: Result<Vec<u8>, _> = Vec::with_capacity(alloc, APART);
+}
+
+/// Has the heap of this thread grow at once, by one call of the system in place of one for each page. After `reuse_large_memory`
+/// glibc keeps what is freed there. Nothing changes if the block is refused.
+fn grow_heap(alloc: Global) {
+    let _block: Result<Vec<u8>, _> = Vec::with_capacity(alloc, APART - (1 << 20));
+}
+
 /// Has `mcc` answer on this thread, whose stack holds texts of `longest` bytes.
 fn work<
     T: Threads + Wait + Sync,
@@ -33,6 +48,7 @@ fn work<
     E: Write + Drop,
 >(threads: &T, rt: &R, words: &[&str], longest: usize, out: W, mut err: E) -> u8 {
     let alloc = rt.alloc();
+    grow_heap(alloc);
     let files = Disk { rt, longest };
     match BufWriter::new(alloc, UntilRefused::new(out)) {
         Ok(out) => answer(&mut Host {
@@ -45,15 +61,6 @@ fn work<
         }),
         Err(_) => tell(&mut err, &HostFault::NoMemory),
     }
-}
-
-/// The most bytes that glibc asks the system for apart from its heap.
-const APART: usize = 32 << 20;
-
-/// Has the allocator reuse the memory of large lists: glibc takes from its heap what is smaller than a block that it gave back to the
-/// system (`M_MMAP_THRESHOLD` of mallopt(3)). Nothing changes if the block is refused.
-fn reuse_large_memory(alloc: Global) {
-    let _block: Result<Vec<u8>, _> = Vec::with_capacity(alloc, APART);
 }
 
 /// Has `mcc` answer on a thread whose stack is as large as the texts ask that its words name. If no such thread can be
