@@ -7,7 +7,7 @@ use Rattle.std.proofs.lemmas.List.{get_or-map, length-map, map-append, take_all,
 use Rattle.std.proofs.lemmas.List.Concat.{flat_map-append}
 use Rattle.std.proofs.lemmas.List.Elements.{All-append, All-cons, All-nil, All-tail}
 use Rattle.std.proofs.lemmas.List.Sums.{fold-append}
-use Rattle.commands.specs.Requests.{Request, TellsLine, Asks, WasRefused}
+use Rattle.commands.specs.Requests.{Asks, Host, Relations, Request, TellsLine, WasRefused}
 use Rattle.commands.specs.Texts.{IsShown, host_fault_text, shown_name}
 use Rattle.commands.specs.declared.fault.HostFault.TheVariants.{CannotWrite}
 use Rattle.commands.proofs.Told.{folds_on, line_on, lines_on}
@@ -106,11 +106,12 @@ module _ {F E : Type 0} (answers : F → Request → F → Type 0) (tells : E �
     counted = all.counted;
   }
 
+module _ {F W E : Type 0} (by : Relations F W E) (explain : Bool) (old new : Host F W E) where
   -- all of them, and then the totals
-  pub all_checked : (f g : F) (o p q : Option (List ℕ)) (c d e : E) (ns : List (List ℕ)) (t : Totals) (n : ℕ) → length ns ≡ n → n < 2 ^ 64
-      → AreChecked answers f g o p tells c d explain ns t → Keeps p q → tells d (totals_text n t ++ 10 ∷ []) e
-      → ChecksAll answers f g o q tells c e explain ns t.status
-  all_checked f g o p q c d e ns t n long few these kept told =
+  pub all_checked : (p : Option (List ℕ)) (d : E) (ns : List (List ℕ)) (t : Totals) (n : ℕ) → length ns ≡ n → n < 2 ^ 64
+      → AreChecked by.answers old.files new.files (by.contents old.out) p by.tells old.err d explain ns t → Keeps p (by.contents new.out)
+      → by.tells d (totals_text n t ++ 10 ∷ []) new.err → ChecksAll by old new explain ns t.status
+  all_checked p d ns t n long few these kept told =
       let counts = these.counted ∙ kept_totals these.files (subst (λ (m : ℕ). m < 2 ^ 64)
       (sym long ∙ (ap (λ (xs : List (List ℕ)). length xs) (sym these.named) ∙ length-map these.files name_of)) few) in
       record {
@@ -118,24 +119,24 @@ module _ {F E : Type 0} (answers : F → Request → F → Type 0) (tells : E �
         right = these.right;
         named = these.named;
         asked = these.asked;
-        took = Appends-kept o p q (flat_map lines_of these.files) these.took kept;
+        took = Appends-kept (by.contents old.out) p (by.contents new.out) (flat_map lines_of these.files) these.took kept;
         told = (
           d,
           these.told,
-          subst (λ (u : Totals). tells d (totals_text (length ns) u ++ 10 ∷ []) e) counts
-              (subst (λ (m : ℕ). tells d (totals_text m t ++ 10 ∷ []) e) (sym long) told),
+          subst (λ (u : Totals). by.tells d (totals_text (length ns) u ++ 10 ∷ []) new.err) counts
+              (subst (λ (m : ℕ). by.tells d (totals_text m t ++ 10 ∷ []) new.err) (sym long) told),
         );
         ends = ap (λ (u : Totals). u.status) these.counted ∙ worst_of no_totals these.files;
       }
 
   -- standard output was refused
-  pub broken : {W : Type 0} (refuses : W → W → Type 0) (f g : F) (v w : W) (o p : Option (List ℕ)) (c d e : E) (ns rest all : List (List ℕ)) (t : Totals)
-      → ns ++ rest ≡ all → AreChecked answers f g o p tells c d explain ns t → WasRefused refuses w
-      → TellsLine tells d (host_fault_text CannotWrite) e → Asks answers f g refuses v w tells c e (BreaksOff explain all)
-  broken refuses f g v w o p c d e ns rest all t same these refused told = record {
+  pub broken : (o p : Option (List ℕ)) (d : E) (ns rest all : List (List ℕ)) (t : Totals) → ns ++ rest ≡ all
+      → AreChecked by.answers old.files new.files o p by.tells old.err d explain ns t → WasRefused by.refuses new.out
+      → TellsLine by.tells d (host_fault_text CannotWrite) new.err → Asks by old new (BreaksOff explain all)
+  broken o p d ns rest all t same these refused told = record {
     requests = map request_of these.files;
     text = first_told (flat_map faults_of these.files);
     asked = these.asked;
-    told = first_line tells c d e (flat_map faults_of these.files) (of_files explain these.files these.right) these.told told;
+    told = first_line by.tells old.err d new.err (flat_map faults_of these.files) (of_files explain these.files these.right) these.told told;
     means = breaks these.files rest these.right (ap (λ (xs : List (List ℕ)). xs ++ rest) these.named ∙ same) refused;
   }

@@ -1,9 +1,9 @@
 -- What `mcc check FILE FILE ..` asks of its files, prints and ends by.
-use Rattle.std.specs.Prelude.{◌≡◌, ◌==◌, ◌||◌, if◌then◌else◌, ℕ, List, [], ◌∷◌, ◌++◌, All, Bool, true, Option, ⊤}
+use Rattle.std.specs.Prelude.{◌≡◌, ◌==◌, ◌||◌, if◌then◌else◌, ℕ, List, [], ◌∷◌, ◌++◌, All, Bool, true, ⊤}
 use Rattle.std.specs.Prelude.{◌+◌, map, fold, length, max, codes, decimal}
 use Rattle.std.specs.List.{FoldsTo, flat_map}
 use Rattle.std.specs.Io.KnownBytes.{Appends}
-use Rattle.commands.specs.Requests.{Request, TellsLine, reading_fault}
+use Rattle.commands.specs.Requests.{Host, Relations, Request, TellsLine, reading_fault}
 use Rattle.commands.specs.Requests.Request.{Read, NotRead}
 use Rattle.commands.specs.Texts.{host_fault_text, shown_name}
 use Rattle.commands.specs.declared.files.FileFault.{FileFault}
@@ -111,15 +111,15 @@ totals_text n t =
 
 -- each of the files was read, in order; standard output took the lines of each, and standard error was told its fault, if it has
 -- one, and last the totals; the status is the worst
-pub record ChecksAll {F E : Type 0} (answers : F → Request → F → Type 0) (old new : F) (out_old out_new : Option (List ℕ))
-    (tells : E → List ℕ → E → Type 0) (err_old err_new : E) (explain : Bool) (names : List (List ℕ)) (status : ℕ) : Type 0 where
+pub record ChecksAll {F W E : Type 0} (by : Relations F W E) (old new : Host F W E) (explain : Bool) (names : List (List ℕ))
+    (status : ℕ) : Type 0 where
   pub files : List CheckedFile
   pub right : All (IsRight explain) files
   pub named : map name_of files ≡ names
-  pub asked : FoldsTo answers old (map request_of files) new
-  pub took : Appends out_old out_new (flat_map lines_of files)
-  pub told : (mid : E) × FoldsTo (TellsLine tells) err_old (flat_map faults_of files) mid
-      × tells mid (totals_text (length names) (totals_of files) ++ 10 ∷ []) err_new
+  pub asked : FoldsTo by.answers old.files (map request_of files) new.files
+  pub took : Appends (by.contents old.out) (by.contents new.out) (flat_map lines_of files)
+  pub told : (mid : E) × FoldsTo (TellsLine by.tells) old.err (flat_map faults_of files) mid
+      × by.tells mid (totals_text (length names) (totals_of files) ++ 10 ∷ []) new.err
   pub ends : status ≡ fold worse 0 (map status_of files)
 
 -- the same as an answer: what was asked and printed

@@ -1,13 +1,13 @@
 // The command over a file and streams.
 
-ghost use Rattle.std.specs.Prelude.{◌≡◌, ◌≢◌, ◌≤◌, ℕ, List, [], ◌∷◌, ◌++◌, IfOk, IfErr, OnErr, OnOk};
+ghost use Rattle.std.specs.Prelude.{◌≡◌, ℕ, List, [], ◌∷◌, ◌++◌, IfOk, IfErr, OnErr, OnOk};
 ghost use Rattle.std.specs.Io.KnownBytes.{Appends};
 ghost use Rattle.check_command.specs.Checks.{IsAnswerTo, IsCheckFault};
-ghost use Rattle.check_command.specs.Command.{Checks, IsUnprinted, PrintsAnswer, StopsCheck};
+ghost use Rattle.check_command.specs.Command.{Checks, IsUnprinted, PrintsAnswer, check_meaning};
 ghost use Rattle.check_command.specs.Texts.{IsCheckStatus, answer_text, check_fault_text, exit_status};
 ghost use Rattle.check_command.specs.declared.verdicts.CheckAnswer.{CheckAnswer};
 ghost use Rattle.commands.specs.OneFile.{AnswersFile, TookPrint};
-ghost use Rattle.commands.specs.Requests.{Asks, Does, IsNothing, IsSent, LeavesOutput, TellsLine, WasRefused};
+ghost use Rattle.commands.specs.Requests.{IsNothing, IsSent, LeavesOutput, Ran, TellsLine, WasRefused, host_of, relations};
 ghost use Rattle.commands.specs.declared.fault.HostFault.TheVariants.{CannotWrite};
 
 use crate::lines::explain_line;
@@ -176,11 +176,8 @@ pub fn answer_check<P: AnswerPrinter, F: Files, W: Output, E: Complaints>(
     err: &mut E,
 ) -> u8
     ensures possible { IsCheckStatus result }
-    ensures answered { result ≢ 1 → Does F.answers files.old files.new (W.contents out.old) (W.contents out.new)
-        (AnswersFile IsAnswerTo P.prints exit_status file.now result) }
-    ensures sent { result ≢ 1 → IsSent W.sends out.new }
-    ensures quiet { result ≢ 1 → err.new ≡ err.old }
-    ensures stopped { result ≡ 1 → Asks F.answers files.old files.new W.refuses out.old out.new E.tells err.old err.new (StopsCheck file.now) }
+    ensures ran { Ran (relations F.answers W.contents W.sends W.refuses E.tells) (host_of files.old out.old err.old) (host_of files.new out.new err.new)
+        (check_meaning (AnswersFile IsAnswerTo P.prints exit_status file.now) file.now) result }
 {
     answer_file(alloc, &CheckCommand { printer }, file, files, out, err)
 }
@@ -212,11 +209,8 @@ pub fn check_file<F: Files, W: Output, E: Complaints>(
     err: &mut E,
 ) -> u8
     ensures possible { IsCheckStatus result }
-    ensures answered { result ≢ 1
-        → Does F.answers files.old files.new (W.contents out.old) (W.contents out.new) (Checks file.now result) }
-    ensures sent { result ≢ 1 → IsSent W.sends out.new }
-    ensures quiet { result ≢ 1 → err.new ≡ err.old }
-    ensures stopped { result ≡ 1 → Asks F.answers files.old files.new W.refuses out.old out.new E.tells err.old err.new (StopsCheck file.now) }
+    ensures ran { Ran (relations F.answers W.contents W.sends W.refuses E.tells) (host_of files.old out.old err.old) (host_of files.new out.new err.new)
+        (check_meaning (Checks file.now) file.now) result }
 {
     answer_check(alloc, &AnswerLine, file, files, out, err)
 }

@@ -3,7 +3,7 @@
 ghost use Rattle.std.specs.Prelude.{◌≡◌, ◌⊎◌, map};
 ghost use Rattle.check_command.specs.Texts.{IsCheckStatus};
 ghost use Rattle.check_command.specs.Several.{BreaksOff, ChecksAll};
-ghost use Rattle.commands.specs.Requests.{Asks, IsSent};
+ghost use Rattle.commands.specs.Requests.{Asks, IsSent, host_of, relations};
 
 use crate::said::{check_one, print_line};
 use crate::totals::{Totals, TotalsLine};
@@ -23,10 +23,10 @@ pub fn check_files<F: Files, W: Output, E: Complaints>(
     err: &mut E,
 ) -> u8
     ensures possible { IsCheckStatus result }
-    ensures each { (ChecksAll F.answers files.old files.new (W.contents out.old) (W.contents out.new) E.tells err.old err.new
-        explain (map (λ s. s.now) names.now) result × IsSent W.sends out.new)
-        ⊎ ((result ≡ 1) × Asks F.answers files.old files.new W.refuses out.old out.new E.tells err.old err.new
-        (BreaksOff explain (map (λ s. s.now) names.now))) }
+    ensures each { (ChecksAll (relations F.answers W.contents W.sends W.refuses E.tells) (host_of files.old out.old err.old)
+        (host_of files.new out.new err.new) explain (map (λ s. s.now) names.now) result × IsSent W.sends out.new)
+        ⊎ ((result ≡ 1) × Asks (relations F.answers W.contents W.sends W.refuses E.tells) (host_of files.old out.old err.old)
+        (host_of files.new out.new err.new) (BreaksOff explain (map (λ s. s.now) names.now))) }
 {
     let mut totals = Totals::none();
     for name in names {

@@ -1,46 +1,39 @@
 -- What a command did, as what the program did with its words.
-use Rattle.std.proofs.Common.{◌≡◌, ◌≤◌, ℕ, zero, suc, List, [], Option, sym, refl, inl, inr, true, arith, rules}
+use Rattle.std.proofs.Common.{◌≡◌, ◌≤◌, ℕ, zero, suc, List, [], refl, inl, inr, true, arith, rules}
 use Rattle.clap.specs.Words.{HasKind, IsAmong, Kinds, Text, fault_of, kind_of, takes}
 use Rattle.clap.specs.declared.error.Error.{Error}
 use Rattle.clap.specs.declared.error.kind.ErrorKind.{ErrorKind}
 use Rattle.clap.specs.declared.error.kind.ErrorKind.TheVariants.{OutOfMemory}
-use Rattle.commands.specs.Requests.{Request, Asks, Does, LeavesOutput, TellsBeside, TellsLine, WasRefused}
+use Rattle.commands.specs.Requests.{Asks, Does, Host, LeavesOutput, Relations, Request, TellsLine, WasRefused}
 use Rattle.commands.specs.Texts.{host_fault_text}
 use Rattle.commands.specs.declared.fault.HostFault.{HostFault}
 use Rattle.commands.specs.WrongWords.{IsFaultOfWords, IsHelp, IsMistake}
 use Rattle.command_line.specs.Commands.{IsCommand, mcc_app}
-use Rattle.command_line.specs.Programs.{EndsUntaken, HasHelp, HasMistake, IsAnswered, IsFaultBefore, IsRemark, IsStopped}
+use Rattle.command_line.specs.Programs.{EndsUntaken, HasHelp, HasMistake, IsAnswered, IsFaultBefore, IsStopped}
 use Rattle.command_line.specs.declared.command.Command.{Command}
 
--- nothing was told beside its answer
-pub silent : {E : Type 0} (Remarks : Command → ℕ → List (List ℕ) → Type 0) (tells : E → List ℕ → E → Type 0) (words : List Text) (status : ℕ)
-    (command : Command) → IsCommand words command → (p q : E) → Remarks command status [] → q ≡ p → TellsBeside tells p (IsRemark Remarks words status) q
-silent Remarks tells words status command entered p q nothing same = ([], sym same, (command, entered, nothing))
+module _ {F W E : Type 0} (by : Relations F W E) (old new : Host F W E) (words : List Text) where
+  -- it has its answer
+  pub answered_by : (Answers : Command → ℕ → List Request → List ℕ → Type 0) (status : ℕ) (command : Command) → IsCommand words command
+      → Does by old new (Answers command status) → Does by old new (IsAnswered Answers words status)
+  answered_by Answers status command entered does = record {
+    requests = does.requests;
+    printed = does.printed;
+    asked = does.asked;
+    took = does.took;
+    means = record { command = command; entered = entered; answered = does.means };
+  }
 
--- it has its answer
-pub answered_by : {F : Type 0} (Answers : Command → ℕ → List Request → List ℕ → Type 0) (answers : F → Request → F → Type 0) (words : List Text) (status : ℕ)
-    (command : Command) → IsCommand words command → (f g : F) (o r : Option (List ℕ)) → Does answers f g o r (Answers command status)
-    → Does answers f g o r (IsAnswered Answers words status)
-answered_by Answers answers words status command entered f g o r does = record {
-  requests = does.requests;
-  printed = does.printed;
-  asked = does.asked;
-  took = does.took;
-  means = record { command = command; entered = entered; answered = does.means };
-}
-
--- it ended by a fault
-pub stopped_by : {F W E : Type 0} (Stops : Command → (silent refused : Type 0) → List Request → List ℕ → Type 0) (answers : F → Request → F → Type 0)
-    (refuses : W → W → Type 0) (tells : E → List ℕ → E → Type 0) (words : List Text) (command : Command) → IsCommand words command
-    → (f g : F) (o n : W) (p q : E) → Asks answers f g refuses o n tells p q (Stops command)
-    → Asks answers f g refuses o n tells p q (IsStopped Stops words)
-stopped_by Stops answers refuses tells words command entered f g o n p q asks = record {
-  requests = asks.requests;
-  text = asks.text;
-  asked = asks.asked;
-  told = asks.told;
-  means = inr (command, entered, asks.means);
-}
+  -- it ended by a fault
+  pub stopped_by : (Stops : Command → (silent refused : Type 0) → List Request → List ℕ → Type 0) (command : Command) → IsCommand words command
+      → Asks by old new (Stops command) → Asks by old new (IsStopped Stops words)
+  stopped_by Stops command entered asks = record {
+    requests = asks.requests;
+    text = asks.text;
+    asked = asks.asked;
+    told = asks.told;
+    means = inr (command, entered, asks.means);
+  }
 
 -- an error of clap's that isn't refused memory has one of the kinds of the words
 among : (kinds : Kinds) (e : Error) → (kind_of e ≡ OutOfMemory → ⊥) → HasKind kinds e → IsAmong (kind_of e) kinds
@@ -71,15 +64,15 @@ fault_before words e fault taken has (inr help) =
     (λ is. absurd (not_memory (kind_of e) help.0 (taken is)), inr (help.1, help_of (fault_of mcc_app words) e help.0 has))
 
 -- there was no command: the fault of a host is told
-pub stopped_before : {F W E : Type 0} (Stops : Command → (silent refused : Type 0) → List Request → List ℕ → Type 0)
-    (answers : F → Request → F → Type 0) (refuses : W → W → Type 0) (tells : E → List ℕ → E → Type 0) (words : List Text) (f : F) (o n : W) (p q : E)
-    (e : Error) (fault : HostFault) → TellsLine tells p (host_fault_text fault) q → LeavesOutput fault (n ≡ o) (WasRefused refuses n)
+pub stopped_before : {F W E : Type 0} (by : Relations F W E) (old new : Host F W E) (words : List Text)
+    (Stops : Command → (silent refused : Type 0) → List Request → List ℕ → Type 0) (e : Error) (fault : HostFault) → old.files ≡ new.files
+    → TellsLine by.tells old.err (host_fault_text fault) new.err → LeavesOutput fault (new.out ≡ old.out) (WasRefused by.refuses new.out)
     → IsFaultOfWords (kind_of e) fault → (takes mcc_app words ≡ true → kind_of e ≡ OutOfMemory) → HasKind (fault_of mcc_app words) e
-    → Asks answers f f refuses o n tells p q (IsStopped Stops words)
-stopped_before Stops answers refuses tells words f o n p q e fault told left why taken has = record {
+    → Asks by old new (IsStopped Stops words)
+stopped_before by old new words Stops e fault same told left why taken has = record {
   requests = [];
   text = host_fault_text fault;
-  asked = refl;
+  asked = same;
   told = told;
   means = inl (refl, (fault, refl, left, fault_before words e fault taken has why));
 }

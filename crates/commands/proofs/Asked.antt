@@ -1,7 +1,7 @@
 -- What was asked, along equations of the bytes, and what a command did that ended by a fault.
-use Rattle.std.proofs.Common.{◌≡◌, ℕ, List, [], ◌∷◌, refl, sym, subst}
+use Rattle.std.proofs.Common.{◌≡◌, ◌≢◌, ◌⊎◌, ℕ, List, [], ◌∷◌, refl, sym, subst}
 use Rattle.std.specs.List.{FoldsTo}
-use Rattle.commands.specs.Requests.{Asks, Request, TellsLine, WasRefused}
+use Rattle.commands.specs.Requests.{Asks, Does, Host, IsSent, Meaning, Ran, Relations, Request, StopsMidway, TellsBeside, TellsLine, WasRefused}
 use Rattle.commands.specs.Requests.Request.{Read, Written, NotWritten}
 use Rattle.commands.specs.declared.files.FileFault.{FileFault}
 
@@ -22,15 +22,35 @@ module _ {F : Type 0} (answers : F → Request → F → Type 0) where
       → answers old (NotWritten name items fault) new
   not_written_as old new name bytes items fault e h = subst (λ (t : List ℕ). answers old (NotWritten name t fault) new) e h
 
-module _ {F W E : Type 0} (answers : F → Request → F → Type 0) (refuses : W → W → Type 0) (tells : E → List ℕ → E → Type 0) where
+module _ {F W E : Type 0} (by : Relations F W E) (old new : Host F W E) where
   -- it asked once, and told a line
-  pub asks_once : (old new : F) (o n : W) (p q : E) (r : Request) (text : List ℕ)
-      (Means : (silent refused : Type 0) → List Request → List ℕ → Type 0) → answers old r new → TellsLine tells p text q
-      → Means (n ≡ o) (WasRefused refuses n) (r ∷ []) text → Asks answers old new refuses o n tells p q Means
-  asks_once old new o n p q r text Means h told means = record {
+  pub asks_once : (r : Request) (text : List ℕ) (Means : (silent refused : Type 0) → List Request → List ℕ → Type 0)
+      → by.answers old.files r new.files → TellsLine by.tells old.err text new.err
+      → Means (new.out ≡ old.out) (WasRefused by.refuses new.out) (r ∷ []) text → Asks by old new Means
+  asks_once r text Means h told means = record {
     requests = r ∷ [];
     text = text;
-    asked = asked_once answers old new r h;
+    asked = asked_once by.answers old.files new.files r h;
     told = told;
     means = means;
+  }
+
+  -- it has its answer
+  pub ran_answered : (m : Meaning) (status : ℕ) → status ≢ 1 → Does by old new (m.Answers status) → IsSent by.sends new.out
+      → TellsBeside by.tells old.err (m.Remarks status) new.err → Ran by old new m status
+  ran_answered m status other does sent beside = record {
+    answered = λ _. does;
+    sent = λ _ _. sent;
+    beside = λ _. beside;
+    stopped = λ one. absurd (other one);
+  }
+
+  -- it ended by a fault
+  pub ran_stopped : (m : Meaning) (status : ℕ) → status ≡ 1 → Asks by old new m.Stops ⊎ StopsMidway by old new m.Begins
+      → Ran by old new m status
+  ran_stopped m status one stopped = record {
+    answered = λ other. absurd (other one);
+    sent = λ other _. absurd (other one);
+    beside = λ other. absurd (other one);
+    stopped = λ _. stopped;
   }

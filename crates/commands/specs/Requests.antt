@@ -1,5 +1,5 @@
 -- What a program asks of its files and its streams.
-use Rattle.std.specs.Prelude.{◌≡◌, ℕ, List, [], ◌∷◌, ◌++◌, All, Option}
+use Rattle.std.specs.Prelude.{◌≡◌, ◌≢◌, ◌⊎◌, ℕ, List, [], ◌∷◌, ◌++◌, All, Option}
 use Rattle.std.specs.List.{FoldsTo}
 use Rattle.std.specs.Io.KnownBytes.{Appends}
 use Rattle.commands.specs.declared.files.FileFault.{FileFault}
@@ -24,14 +24,36 @@ abbrev pub writing_fault : FileFault → HostFault
 writing_fault file_faults.Failed = host_faults.CannotWrite
 writing_fault file_faults.NoMemory = host_faults.NoMemory
 
+-- what a host's parts have of their own: how files answer a request; what standard output holds, and when it sends that on and when it
+-- refuses; how standard error takes what it is told
+pub record Relations (F W E : Type 0) : Type 1 where
+  pub answers : F → Request → F → Type 0
+  pub contents : W → Option (List ℕ)
+  pub sends : W → W → Type 0
+  pub refuses : W → W → Type 0
+  pub tells : E → List ℕ → E → Type 0
+
+-- its parts before a command, or behind it
+pub record Host (F W E : Type 0) : Type 0 where
+  pub files : F
+  pub out : W
+  pub err : E
+
+abbrev pub relations : {F W E : Type 0} → (F → Request → F → Type 0) → (W → Option (List ℕ)) → (sends refuses : W → W → Type 0)
+    → (E → List ℕ → E → Type 0) → Relations F W E
+relations answers contents sends refuses tells =
+    record { answers = answers; contents = contents; sends = sends; refuses = refuses; tells = tells }
+
+abbrev pub host_of : {F W E : Type 0} → F → W → E → Host F W E
+host_of files out err = record { files = files; out = out; err = err }
+
 -- what a command did: all that it asked of its files, in order, and the bytes that its standard output took, which are as Means
 -- says
-pub record Does {F : Type 0} (answers : F → Request → F → Type 0) (old new : F) (out_old out_new : Option (List ℕ))
-    (Means : List Request → List ℕ → Type 0) : Type 0 where
+pub record Does {F W E : Type 0} (by : Relations F W E) (old new : Host F W E) (Means : List Request → List ℕ → Type 0) : Type 0 where
   pub requests : List Request
   pub printed : List ℕ
-  pub asked : FoldsTo answers old requests new
-  pub took : Appends out_old out_new printed
+  pub asked : FoldsTo by.answers old.files requests new.files
+  pub took : Appends (by.contents old.out) (by.contents new.out) printed
   pub means : Means requests printed
 
 -- standard output was asked to send on what it had taken, and nothing was written after that
@@ -62,21 +84,35 @@ IsNothing told = told ≡ []
 
 -- what a command did that ended by a fault: all that it asked of its files, and the line that it told, which are as Means says. That
 -- also says whether standard output is as it was, or refused what it was asked last
-pub record Asks {F W E : Type 0} (answers : F → Request → F → Type 0) (old new : F) (refuses : W → W → Type 0) (out_old out_new : W)
-    (tells : E → List ℕ → E → Type 0) (err_old err_new : E) (Means : (silent refused : Type 0) → List Request → List ℕ → Type 0) : Type 0 where
+pub record Asks {F W E : Type 0} (by : Relations F W E) (old new : Host F W E)
+    (Means : (silent refused : Type 0) → List Request → List ℕ → Type 0) : Type 0 where
   pub requests : List Request
   pub text : List ℕ
-  pub asked : FoldsTo answers old requests new
-  pub told : TellsLine tells err_old text err_new
-  pub means : Means (out_new ≡ out_old) (WasRefused refuses out_new) requests text
+  pub asked : FoldsTo by.answers old.files requests new.files
+  pub told : TellsLine by.tells old.err text new.err
+  pub means : Means (new.out ≡ old.out) (WasRefused by.refuses new.out) requests text
 
 -- what a command did that memory was refused to once it had begun to print: all that it asked of its files, and the bytes that its
 -- standard output took until then, which are as Begins says; and it told fault 30
-pub record StopsMidway {F E : Type 0} (answers : F → Request → F → Type 0) (old new : F) (out_old out_new : Option (List ℕ))
-    (tells : E → List ℕ → E → Type 0) (err_old err_new : E) (Begins : List Request → List ℕ → Type 0) : Type 0 where
+pub record StopsMidway {F W E : Type 0} (by : Relations F W E) (old new : Host F W E) (Begins : List Request → List ℕ → Type 0) : Type 0 where
   pub requests : List Request
   pub printed : List ℕ
-  pub asked : FoldsTo answers old requests new
-  pub took : Appends out_old out_new printed
-  pub told : TellsLine tells err_old (host_fault_text host_faults.NoMemory) err_new
+  pub asked : FoldsTo by.answers old.files requests new.files
+  pub took : Appends (by.contents old.out) (by.contents new.out) printed
+  pub told : TellsLine by.tells old.err (host_fault_text host_faults.NoMemory) new.err
   pub begins : Begins requests printed
+
+-- a command: what it asks and prints with an answer, what it asks and tells where it ends by a fault, what it asked and printed where memory
+-- was refused once it had begun, and what it tells beside an answer
+pub record Meaning : Type 1 where
+  pub Answers : (status : ℕ) → List Request → List ℕ → Type 0
+  pub Stops : (silent refused : Type 0) → List Request → List ℕ → Type 0
+  pub Begins : List Request → List ℕ → Type 0
+  pub Remarks : (status : ℕ) → List (List ℕ) → Type 0
+
+-- a command did as it means, by its status: 1 is that of a fault, and 2 that of wrong words, where nothing need be sent on
+pub record Ran {F W E : Type 0} (by : Relations F W E) (old new : Host F W E) (m : Meaning) (status : ℕ) : Type 0 where
+  pub answered : status ≢ 1 → Does by old new (m.Answers status)
+  pub sent : status ≢ 1 → status ≢ 2 → IsSent by.sends new.out
+  pub beside : status ≢ 1 → TellsBeside by.tells old.err (m.Remarks status) new.err
+  pub stopped : status ≡ 1 → Asks by old new m.Stops ⊎ StopsMidway by old new m.Begins

@@ -3,7 +3,7 @@
 ghost use Rattle.std.specs.Prelude.{◌≡◌, ◌≢◌, ◌≤◌, ℕ, List, max, IfErr, IfOk, OnOk};
 ghost use Rattle.commands.specs.declared.fault.HostFault.{HostFault};
 ghost use Rattle.commands.specs.OneFile.{AnswersFile, StopsFile, TookPrint};
-ghost use Rattle.commands.specs.Requests.{Asks, Does, IsSent, LeavesOutput, TellsBeside, TellsLine, WasRefused};
+ghost use Rattle.commands.specs.Requests.{IsSent, LeavesOutput, Ran, TellsBeside, TellsLine, WasRefused, host_of, relations};
 
 use crate::fault::{Complaints, HostFault};
 use crate::files::{Files, read_file};
@@ -89,12 +89,14 @@ pub fn answer_file<C: FileCommand, F: Files, W: Output, E: Complaints>(
 ) -> u8
     ensures most { result ≤ max 1 C.most }
     ensures not_wrong_words { result ≢ 2 }
-    ensures answered { result ≢ 1 → Does F.answers files.old files.new (W.contents out.old) (W.contents out.new)
-        (AnswersFile (C.answers command.now) (C.prints command.now) C.status file.now result) }
-    ensures sent { result ≢ 1 → IsSent W.sends out.new }
-    ensures beside { result ≢ 1 → TellsBeside E.tells err.old (C.remarks command.now result) err.new }
-    ensures stopped { result ≡ 1 → Asks F.answers files.old files.new W.refuses out.old out.new E.tells err.old err.new
-        (StopsFile (C.answers command.now) (C.faults command.now) C.line C.unprinted file.now) }
+    ensures ran { Ran (relations F.answers W.contents W.sends W.refuses E.tells) (host_of files.old out.old err.old)
+        (host_of files.new out.new err.new)
+        (record {
+          Answers = AnswersFile (C.answers command.now) (C.prints command.now) C.status file.now;
+          Stops = StopsFile (C.answers command.now) (C.faults command.now) C.line C.unprinted file.now;
+          Begins = λ requests printed. ⊥;
+          Remarks = C.remarks command.now;
+        }) result }
 {
     let text = match read_file(alloc, file, files) {
         Ok(text) => text,

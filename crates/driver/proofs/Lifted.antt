@@ -1,20 +1,26 @@
 -- What a command did, as what the program did with its words: what it told beside its answer, and checks of several files.
-use Rattle.std.proofs.Common.{◌≡◌, ◌≢◌, ◌++◌, ◌⊎◌, All, get_or, ℕ, List, [], ◌∷◌, ◌==◌, ◌||◌, if◌then◌else◌, Bool, true, false, Option, length, map, fold, max, refl, sym, subst, inl, inr}
+use Rattle.std.proofs.Common.{◌≡◌, ◌≢◌, ◌≤◌, ◌++◌, ◌⊎◌, All, get_or, ℕ, zero, suc, List, [], ◌∷◌, ◌==◌, ◌||◌, if◌then◌else◌, Bool, true, false, length, map, fold, max, refl, sym, subst, inl, inr, arith}
 use Rattle.std.specs.declared.vec.Vec.{Vec}
 use Rattle.std.specs.declared.alloc.Global.{Global}
 use Rattle.std.specs.Borrow.{Bor}
 use Rattle.std.specs.List.{FoldsTo, flat_map}
-use Rattle.commands.specs.Requests.{Request, Asks, Does, IsSent, StopsMidway, TellsBeside, TellsLine}
+use Rattle.clap.specs.Words.{HasKind, fault_of, kind_of, takes}
+use Rattle.clap.specs.declared.error.Error.{Error}
+use Rattle.clap.specs.declared.error.kind.ErrorKind.TheVariants.{OutOfMemory}
+use Rattle.commands.specs.Requests.{Asks, Does, Host, IsSent, LeavesOutput, Ran, Relations, StopsMidway, TellsBeside, TellsLine, WasRefused}
+use Rattle.commands.specs.Texts.{IsShown, host_fault_text}
+use Rattle.commands.specs.WrongWords.{IsFaultOfWords, IsHelp, IsMistake}
+use Rattle.commands.specs.declared.fault.HostFault.{HostFault}
+use Rattle.commands.proofs.Asked.{ran_stopped}
 use Rattle.check_command.specs.Several.{BreaksOff, CheckedFile, ChecksAll, ChecksEach, IsTotals, faults_of, lines_of, request_of, status_of, totals_of, totals_text, worse}
 use Rattle.check_command.specs.Several.CheckedFile.{Answered, Unexplained, Faulty, Unread}
-use Rattle.command_line.specs.Commands.{IsCommand}
-use Rattle.command_line.specs.Programs.{IsRemark, IsStopped}
+use Rattle.command_line.specs.Commands.{IsCommand, mcc_app}
+use Rattle.command_line.specs.Programs.{IsStopped}
 use Rattle.command_line.specs.declared.command.Command.{Command}
 use Rattle.command_line.specs.declared.command.Command.TheVariants.{CheckEach}
-use Rattle.command_line.proofs.Programs.{stopped_by}
-use Rattle.driver.specs.Program.{Begins, HasFaultyFile, IsBegun, Remarks, Stops}
+use Rattle.command_line.proofs.Programs.{answered_by, ends_untaken, mistake_of, stopped_before, stopped_by}
+use Rattle.driver.specs.Program.{Answers, Begins, HasFaultyFile, IsBegun, NamesOneFile, RanWords, Stops, meaning_of}
 use Rattle.driver.specs.RunCommand.{IsShown as IsPageByte}
-use Rattle.commands.specs.Texts.{IsShown}
 
 shown_of : (byte : ℕ) → IsPageByte byte → IsShown byte
 shown_of byte (inl feed) = inr (inr feed)
@@ -23,33 +29,6 @@ shown_of byte (inr printable) = inl printable
 -- a page of printable lines steers no terminal
 pub page_shown : (pieces : List (List ℕ)) → All (All IsPageByte) pieces → All (All IsShown) pieces
 page_shown pieces h k d inside i e within = shown_of (get_or (get_or pieces k d) i e) (h k d inside i e within)
-
--- what a command told beside its answer, as what the program did
-pub remarked : {E : Type 0} (tells : E → List ℕ → E → Type 0) (words : List (List ℕ)) (status : ℕ) (command : Command) → IsCommand words command
-    → (p q : E) → TellsBeside tells p (Remarks command status) q → TellsBeside tells p (IsRemark Remarks words status) q
-remarked tells words status command entered p q (told, folds, says) = (told, folds, (command, entered, says))
-
--- one of three
-pub or_begun : {A B C : Type 0} → A ⊎ B → A ⊎ (B ⊎ C)
-or_begun (inl a) = inl a
-or_begun (inr b) = inr (inl b)
-
--- a run that ended by a fault, as what the program did
-pub run_stopped : {F W E : Type 0} (answers : F → Request → F → Type 0) (sends refuses : W → W → Type 0) (tells : E → List ℕ → E → Type 0)
-    (words : List (List ℕ)) (command : Command) → IsCommand words command → (f g : F) (o r : Option (List ℕ)) (v w : W) (p q : E)
-    → Asks answers f g refuses v w tells p q (Stops command) ⊎ StopsMidway answers f g o r tells p q (Begins command)
-    → Asks answers f g refuses v w tells p q (IsStopped Stops words)
-    ⊎ (HasFaultyFile answers f g o r sends w tells p q words ⊎ StopsMidway answers f g o r tells p q (IsBegun words))
-run_stopped answers sends refuses tells words command entered f g o r v w p q (inl a) =
-    inl (stopped_by Stops answers refuses tells words command entered f g v w p q a)
-run_stopped answers sends refuses tells words command entered f g o r v w p q (inr m) = inr (inr (record {
-  requests = m.requests;
-  printed = m.printed;
-  asked = m.asked;
-  took = m.took;
-  told = m.told;
-  begins = (command, entered, m.begins);
-}))
 
 one_or : (b : Bool) (n : ℕ) → (if b || true then 1 else n) ≡ 1
 one_or true n = refl
@@ -74,11 +53,87 @@ no_faults a (Unexplained name text answer ∷ files) other = absurd (other (faul
 no_faults a (Faulty name text fault ∷ files) other = absurd (other (fault_shows a (map status_of files)))
 no_faults a (Unread name fault ∷ files) other = absurd (other (fault_shows a (map status_of files)))
 
-module _ {F E : Type 0} (answers : F → Request → F → Type 0) (tells : E → List ℕ → E → Type 0) (explain : Bool) (names : List (List ℕ)) (status : ℕ)
-    (f g : F) (o r : Option (List ℕ)) (p q : E) (all : ChecksAll answers f g o r tells p q explain names status) where
-  -- several files, as an answer
-  pub each_answered : Does answers f g o r (ChecksEach explain names status)
-  each_answered = record {
+-- the status that is left
+zero_of : (status : ℕ) → status ≤ 2 → status ≢ 1 → status ≢ 2 → status ≡ 0
+zero_of zero most one two = refl
+zero_of (suc zero) most one two = absurd (one refl)
+zero_of (suc (suc zero)) most one two = absurd (two refl)
+zero_of (suc (suc (suc n))) most one two = let no : ⊥ = omega (arith, most) in absurd no
+
+-- what the program did by what its words' command did
+module _ {F W E : Type 0} (by : Relations F W E) (old new : Host F W E) (words : List (List ℕ)) (status : ℕ) where
+  midway : (command : Command) → IsCommand words command → StopsMidway by old new (Begins command) → StopsMidway by old new (IsBegun words)
+  midway command entered m = record {
+    requests = m.requests;
+    printed = m.printed;
+    asked = m.asked;
+    took = m.took;
+    told = m.told;
+    begins = (command, entered, m.begins);
+  }
+
+  stop : (command : Command) → IsCommand words command → Asks by old new (Stops command) ⊎ StopsMidway by old new (Begins command)
+      → Asks by old new (IsStopped Stops words) ⊎ HasFaultyFile by old new words ⊎ StopsMidway by old new (IsBegun words)
+  stop command entered (inl asks) = inl (stopped_by by old new words Stops command entered asks)
+  stop command entered (inr m) = inr (inr (midway command entered m))
+
+  -- a command, which ends by 2 only where it asked nothing
+  pub of_command : (command : Command) → IsCommand words command → fault_of mcc_app words ≡ [] → status ≤ 4
+      → (status ≡ 2 → (new.files ≡ old.files) × (new.out ≡ old.out) × NamesOneFile words) → Ran by old new (meaning_of command) status
+      → RanWords by old new words status
+  of_command command entered none most two ran = record {
+    most = most;
+    taken = λ _ is. (two is).2;
+    answered = λ _ other. answered_by by old new words Answers status command entered (ran.answered other);
+    sent = ran.sent;
+    beside = λ _ other.
+        let beside = ran.beside other in
+        (beside.0, beside.1, (command, entered, beside.2));
+    stopped = λ one. stop command entered (ran.stopped one);
+    wrong = λ is.
+        let refused = two is in
+        (refused.0, refused.1, inr refused.2);
+    untaken = λ some. absurd (some none);
+  }
+
+  -- a command, which doesn't end by 2
+  pub of_answer : (command : Command) → IsCommand words command → fault_of mcc_app words ≡ [] → status ≤ 4 → status ≢ 2
+      → Ran by old new (meaning_of command) status → RanWords by old new words status
+  of_answer command entered none most other = of_command command entered none most (λ two. absurd (other two))
+
+  -- no command
+  pub of_error : (e : Error) → HasKind (fault_of mcc_app words) e → (takes mcc_app words ≡ true → kind_of e ≡ OutOfMemory) → status ≤ 2
+      → old.files ≡ new.files → (status ≡ 0 → IsHelp (kind_of e)) → (status ≡ 0 → IsSent by.sends new.out)
+      → (status ≡ 2 → IsMistake (kind_of e) × (new.out ≡ old.out)) → (kind_of e ≡ OutOfMemory → status ≡ 1)
+      → (status ≡ 1 → (fault : HostFault) × TellsLine by.tells old.err (host_fault_text fault) new.err
+      × LeavesOutput fault (new.out ≡ old.out) (WasRefused by.refuses new.out) × IsFaultOfWords (kind_of e) fault)
+      → RanWords by old new words status
+  of_error e has refused most same help sent wrong memory told = record {
+    most = omega (arith, most);
+    taken = λ is two.
+        let one = memory (refused is) in
+        let no : ⊥ = omega (arith, one, two) in
+        absurd no;
+    answered = λ is other. absurd (other (memory (refused is)));
+    sent = λ one two. sent (zero_of status most one two);
+    beside = λ is other. absurd (other (memory (refused is)));
+    stopped = λ one.
+        let t = told one in
+        inl (stopped_before by old new words Stops e t.0 same t.1 t.2 t.3 refused has);
+    wrong = λ two.
+        let w = wrong two in
+        (sym same, w.1, inl (mistake_of (fault_of mcc_app words) e w.0 has));
+    untaken = λ some. (sym same, ends_untaken (fault_of mcc_app words) e status most has help (λ two. (wrong two).0));
+  }
+
+-- several files, which all have their lines, or which broke off
+module _ {F W E : Type 0} (by : Relations F W E) (old new : Host F W E) (explain : Bool) (status : ℕ) where
+  abbrev Each : List (List ℕ) → Type 0
+  Each names = (ChecksAll by old new explain names status × IsSent by.sends new.out) ⊎ ((status ≡ 1) × Asks by old new (BreaksOff explain names))
+
+  -- all of them, as an answer
+  each_answered : (names : List (List ℕ)) → ChecksAll by old new explain names status → Does by old new (ChecksEach explain names status)
+  each_answered names all = record {
     requests = map request_of all.files;
     printed = flat_map lines_of all.files;
     asked = all.asked;
@@ -87,47 +142,42 @@ module _ {F E : Type 0} (answers : F → Request → F → Type 0) (tells : E �
   }
 
   -- the totals alone are told if none has a fault
-  pub each_counted : status ≢ 1 → TellsBeside tells p (IsTotals explain names) q
-  each_counted other =
+  each_counted : (names : List (List ℕ)) → ChecksAll by old new explain names status → status ≢ 1 → TellsBeside by.tells old.err (IsTotals explain names) new.err
+  each_counted names all other =
       let none = no_faults 0 all.files (λ one. other (subst (λ (s : ℕ). s ≡ 1) (sym all.ends) one)) in
-      let same : p ≡ all.told.0 = subst (λ (lines : List (List ℕ)). FoldsTo (TellsLine tells) p lines all.told.0) none all.told.1 in
+      let same : old.err ≡ all.told.0 = subst (λ (lines : List (List ℕ)). FoldsTo (TellsLine by.tells) old.err lines all.told.0) none all.told.1 in
       let line = totals_text (length names) (totals_of all.files) ++ 10 ∷ [] in
-      (line ∷ [], (q, subst (λ (e : E). tells e line q) (sym same) all.told.2, refl), (all.files, all.right, all.named, refl))
+      (line ∷ [], (new.err, subst (λ (e : E). by.tells e line new.err) (sym same) all.told.2, refl), (all.files, all.right, all.named, refl))
 
--- several files, which all have their lines, or which broke off
-module _ {F W E : Type 0} (answers : F → Request → F → Type 0) (sends refuses : W → W → Type 0) (tells : E → List ℕ → E → Type 0)
-    (explain : Bool) (status : ℕ) (f g : F) (o r : Option (List ℕ)) (v w : W) (p q : E) where
-  abbrev pub Each : List (Bor (List ℕ)) → Type 0
-  Each ns = (ChecksAll answers f g o r tells p q explain (map (λ s. s.now) ns) status × IsSent sends w)
-      ⊎ ((status ≡ 1) × Asks answers f g refuses v w tells p q (BreaksOff explain (map (λ s. s.now) ns)))
+  of_each : (words : List (List ℕ)) (files : Vec (Bor (List ℕ)) Global) → IsCommand words (CheckEach files explain) → fault_of mcc_app words ≡ []
+      → status ≤ 4 → status ≢ 2 → Each (map (λ s. s.now) files.items) → RanWords by old new words status
+  of_each words files entered none most other (inr stopped) =
+      of_answer by old new words status (CheckEach files explain) entered none most other
+      (ran_stopped by old new (meaning_of (CheckEach files explain)) status stopped.0 (inl stopped.1))
+  of_each words files entered none most other (inl all) =
+      let names = map (λ (s : Bor (List ℕ)). s.now) files.items in
+      record {
+        most = most;
+        taken = λ _ two. absurd (other two);
+        answered = λ _ _. answered_by by old new words Answers status (CheckEach files explain) entered (each_answered names all.0);
+        sent = λ _ _. all.1;
+        beside = λ _ not.
+            let told = each_counted names all.0 not in
+            (told.0, told.1, (CheckEach files explain, entered, told.2));
+        stopped = λ one. inr (inl (record {
+          files = files;
+          explain = explain;
+          entered = entered;
+          checked = subst (λ (s : ℕ). ChecksAll by old new explain names s) one all.0;
+          sent = all.1;
+        }));
+        wrong = λ two. absurd (other two);
+        untaken = λ some. absurd (some none);
+      }
 
-  module _ (files : Vec (Bor (List ℕ)) Global) (ns : List (Bor (List ℕ))) (same : ns ≡ files.items) where
-    answered_of : Each files.items → status ≢ 1 → Does answers f g o r (ChecksEach explain (map (λ s. s.now) files.items) status)
-    answered_of (inl all) other = each_answered answers tells explain (map (λ s. s.now) files.items) status f g o r p q all.0
-    answered_of (inr stop) other = absurd (other stop.0)
-
-    counted_of : Each files.items → status ≢ 1 → TellsBeside tells p (IsTotals explain (map (λ s. s.now) files.items)) q
-    counted_of (inl all) other = each_counted answers tells explain (map (λ s. s.now) files.items) status f g o r p q all.0 other
-    counted_of (inr stop) other = absurd (other stop.0)
-
-    stopped_of : (words : List (List ℕ)) → IsCommand words (CheckEach files explain) → Each files.items → status ≡ 1
-        → Asks answers f g refuses v w tells p q (IsStopped Stops words) ⊎ HasFaultyFile answers f g o r sends w tells p q words
-    stopped_of words entered (inl all) one = inr (record {
-      files = files;
-      explain = explain;
-      entered = entered;
-      checked = subst (λ (s : ℕ). ChecksAll answers f g o r tells p q explain (map (λ t. t.now) files.items) s) one all.0;
-      sent = all.1;
-    })
-    stopped_of words entered (inr stop) one =
-        inl (stopped_by Stops answers refuses tells words (CheckEach files explain) entered f g v w p q stop.1)
-
-    pub all_answered : Each ns → status ≢ 1 → Does answers f g o r (ChecksEach explain (map (λ s. s.now) files.items) status)
-    all_answered each = answered_of (subst Each same each)
-
-    pub all_counted : Each ns → status ≢ 1 → TellsBeside tells p (IsTotals explain (map (λ s. s.now) files.items)) q
-    all_counted each = counted_of (subst Each same each)
-
-    pub all_stopped : (words : List (List ℕ)) → IsCommand words (CheckEach files explain) → Each ns → status ≡ 1
-        → Asks answers f g refuses v w tells p q (IsStopped Stops words) ⊎ HasFaultyFile answers f g o r sends w tells p q words
-    all_stopped words entered each = stopped_of words entered (subst Each same each)
+  -- the same by the names as they were lent
+  pub of_files : (words : List (List ℕ)) (files : Vec (Bor (List ℕ)) Global) (ns : List (Bor (List ℕ))) → ns ≡ files.items
+      → IsCommand words (CheckEach files explain) → fault_of mcc_app words ≡ [] → status ≤ 4 → status ≢ 2 → Each (map (λ s. s.now) ns)
+      → RanWords by old new words status
+  of_files words files ns same entered none most other each =
+      of_each words files entered none most other (subst (λ (xs : List (Bor (List ℕ))). Each (map (λ s. s.now) xs)) same each)

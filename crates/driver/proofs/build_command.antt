@@ -2,3 +2,4 @@ pub mod Composed
 pub mod Counts
 pub mod Halves
 pub mod OneBuild
+pub mod TwoNames

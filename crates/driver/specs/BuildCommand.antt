@@ -5,7 +5,8 @@ use Rattle.mblock.specs.declared.limits.TheConstants.{BLOCK_INSTS}
 use Rattle.image.specs.Texts.{counts_text}
 use Rattle.image.specs.Views.{counts_of}
 use Rattle.sched_phase.specs.Phases.{IsPhase}
-use Rattle.commands.specs.Requests.{Request, reading_fault, writing_fault}
+use Rattle.command_line.specs.declared.command.AskedBuild.{AskedBuild}
+use Rattle.commands.specs.Requests.{Meaning, Request, reading_fault, writing_fault}
 use Rattle.commands.specs.declared.files.FileFault.{FileFault}
 use Rattle.commands.specs.Requests.Request.{Read, NotRead, Written, NotWritten}
 use Rattle.commands.specs.Texts.{IsShown, host_fault_text}
@@ -82,3 +83,20 @@ IsBuildRemark status told = ((status ≢ 2) × All (All IsShown) told) ⊎ ((sta
 abbrev pub StopsApart : (source image : List ℕ) → (depth : ℕ) → (plain : Bool) → (silent refused : Type 0) → List Request → List ℕ → Type 0
 StopsApart source image depth plain silent refused requests told =
     (source ≢ image) × StopsBuild source image depth plain silent refused requests told
+
+-- the command, for two names that differ, and for any two
+abbrev pub apart_meaning : AskedBuild → Meaning
+apart_meaning b = record {
+  Answers = Builds b.source.now b.image.now b.depth b.plain;
+  Stops = StopsBuild b.source.now b.image.now b.depth b.plain;
+  Begins = λ requests printed. ⊥;
+  Remarks = λ status told. All (All IsShown) told;
+}
+
+abbrev pub build_meaning : AskedBuild → Meaning
+build_meaning b = record {
+  Answers = AnswersBuild b.source.now b.image.now b.depth b.plain;
+  Stops = StopsApart b.source.now b.image.now b.depth b.plain;
+  Begins = λ requests printed. ⊥;
+  Remarks = IsBuildRemark;
+}

@@ -1,25 +1,27 @@
 -- What each command of the program asks of its files, prints, tells and ends by; the program does what that of its words does
 -- (command_line/specs/Programs.antt).
-use Rattle.std.specs.Prelude.{◌≡◌, ℕ, List, [], ◌∷◌, ◌++◌, Bool, true, false, All, Option, map}
+use Rattle.std.specs.Prelude.{◌≡◌, ◌≢◌, ◌≤◌, ◌⊎◌, ℕ, List, [], ◌∷◌, ◌++◌, Bool, true, false, All, map}
 use Rattle.std.specs.declared.vec.Vec.{Vec}
 use Rattle.std.specs.declared.alloc.Global.{Global}
 use Rattle.std.specs.Borrow.{Bor}
 use Rattle.runs.specs.Runs.{Outcome, outcome_of}
 use Rattle.image.specs.Texts.{image_fault_text}
 use Rattle.image.specs.Images.{IsImageFault}
-use Rattle.commands.specs.Requests.{IsSent, Request}
+use Rattle.clap.specs.Words.{fault_of, takes}
+use Rattle.commands.specs.Requests.{Asks, Does, Host, IsNothing, IsSent, Meaning, Relations, Request, StopsMidway, TellsBeside}
 use Rattle.commands.specs.OneFile.{AnswersFile, StopsFile}
 use Rattle.block_text.specs.Shown.{IsShown}
-use Rattle.check_command.specs.Command.{Checks, StopsCheck}
+use Rattle.check_command.specs.Command.{Checks, check_meaning}
 use Rattle.check_command.specs.Explained.{Explains}
 use Rattle.check_command.specs.Several.{BreaksOff, ChecksAll, ChecksEach, IsTotals}
 use Rattle.driver.specs.SourceFaults.{IsFaultless}
-use Rattle.driver.specs.BuildCommand.{AnswersBuild, IsBuildRemark, StopsApart}
+use Rattle.driver.specs.BuildCommand.{build_meaning}
 use Rattle.commands.specs.Streams.{BeginsFile}
 use Rattle.commands.specs.declared.numbers.WordForm.{WordForm}
-use Rattle.driver.specs.RunCommand.{BeginsRun, IsRefused, IsRunRemark, Runs, StopsRun, words_in}
-use Rattle.driver.specs.declared.run_command.remarks.Counted.TheVariants.{Words, Steps}
-use Rattle.command_line.specs.Commands.{IsCommand}
+use Rattle.driver.specs.RunCommand.{IsRefused, IsRunRemark, run_meaning, words_in}
+use Rattle.driver.specs.declared.run_command.remarks.Counted.TheVariants.{Steps}
+use Rattle.command_line.specs.Commands.{IsCommand, mcc_app}
+use Rattle.command_line.specs.Programs.{EndsUntaken, HasMistake, IsAnswered, IsRemark, IsStopped}
 use Rattle.command_line.specs.declared.command.AskedBuild.{AskedBuild}
 use Rattle.command_line.specs.declared.command.Command.{Command}
 use Rattle.command_line.specs.declared.command.Command.TheVariants.{Check, CheckEach, Interp, Build, Run, List as Listing, NoChoice, Show}
@@ -100,9 +102,27 @@ StopsInterpAt levels.Rtl = StopsBelow belows.Rtl
 StopsInterpAt levels.Blocks = StopsBelow belows.Blocks
 
 abbrev pub BeginsInterpAt : Level → (source : List ℕ) → (depth steps : ℕ) → WordForm → List Request → List ℕ → Type 0
-BeginsInterpAt levels.C source depth steps form requests printed = BeginsInterp source depth steps form requests printed
-BeginsInterpAt levels.Rtl source depth steps form requests printed = ⊥
-BeginsInterpAt levels.Blocks source depth steps form requests printed = ⊥
+BeginsInterpAt levels.C = BeginsInterp
+BeginsInterpAt levels.Rtl = λ source depth steps form requests printed. ⊥
+BeginsInterpAt levels.Blocks = λ source depth steps form requests printed. ⊥
+
+-- the command, at a level below C
+abbrev pub below_meaning : Below → (source : List ℕ) → (depth steps : ℕ) → WordForm → Meaning
+below_meaning below source depth steps form = record {
+  Answers = InterpsBelow below source depth steps form;
+  Stops = StopsBelow below source depth steps;
+  Begins = λ requests printed. ⊥;
+  Remarks = IsRunRemark Steps steps false;
+}
+
+-- the command, at a level
+abbrev pub interp_meaning : Level → (source : List ℕ) → (depth steps : ℕ) → WordForm → (counts : Bool) → Meaning
+interp_meaning level source depth steps form counts = record {
+  Answers = InterpsAt level source depth steps form;
+  Stops = StopsInterpAt level source depth steps;
+  Begins = BeginsInterpAt level source depth steps form;
+  Remarks = IsInterpRemark level steps counts;
+}
 
 abbrev pub StopsList : (image : List ℕ) → (asm : Bool) → (silent refused : Type 0) → List Request → List ℕ → Type 0
 StopsList image asm = StopsFile (IsImagePage asm) IsImageFault image_fault_text IsRefused image
@@ -110,56 +130,68 @@ StopsList image asm = StopsFile (IsImagePage asm) IsImageFault image_fault_text 
 abbrev pub StopsShow : (source : List ℕ) → (silent refused : Type 0) → List Request → List ℕ → Type 0
 StopsShow source = StopsFile (λ text page. IsFaultless text × IsPage page) IsStagesFault stages_fault_text IsRefused source
 
--- a command that has its answer
-abbrev pub Answers : Command → ℕ → List Request → List ℕ → Type 0
-Answers (Check file false) status requests printed = Checks file.now status requests printed
-Answers (Check file true) status requests printed = Explains file.now status requests printed
-Answers (CheckEach files explain) status requests printed = ChecksEach explain (map (λ s. s.now) files.items) status requests printed
-Answers (Interp r) status requests printed = InterpsAt r.level r.source.now r.depth r.steps r.form status requests printed
-Answers (Build b) status requests printed = AnswersBuild b.source.now b.image.now b.depth b.plain status requests printed
-Answers (Run r) status requests printed = Runs r.image.now r.steps r.form status requests printed
-Answers (Listing image asm) status requests printed = Lists image.now asm status requests printed
-Answers (Show source stage function block dot) status requests printed = Shows source.now status requests printed
-Answers (NoChoice choice value) status requests printed = ⊥
+-- a command that prints once it has its answer, and tells nothing beside it
+abbrev pub quiet_meaning : (Answers : (status : ℕ) → List Request → List ℕ → Type 0)
+    → (Stops : (silent refused : Type 0) → List Request → List ℕ → Type 0) → Meaning
+quiet_meaning Answers Stops =
+    record { Answers = Answers; Stops = Stops; Begins = λ requests printed. ⊥; Remarks = λ status told. IsNothing told }
 
--- a command that ended by a fault
+-- what each command means; what is told beside the answer of a check of several files are its totals
+abbrev pub meaning_of : Command → Meaning
+meaning_of (Check file false) = check_meaning (Checks file.now) file.now
+meaning_of (Check file true) = check_meaning (Explains file.now) file.now
+meaning_of (CheckEach files explain) = record {
+  Answers = ChecksEach explain (map (λ s. s.now) files.items);
+  Stops = BreaksOff explain (map (λ s. s.now) files.items);
+  Begins = λ requests printed. ⊥;
+  Remarks = λ status told. IsTotals explain (map (λ s. s.now) files.items) told;
+}
+meaning_of (Interp r) = interp_meaning r.level r.source.now r.depth r.steps r.form r.count
+meaning_of (Build b) = build_meaning b
+meaning_of (Run r) = run_meaning r.image.now r.steps r.form r.count
+meaning_of (Listing image asm) = quiet_meaning (Lists image.now asm) (StopsList image.now asm)
+meaning_of (Show source stage function block dot) = quiet_meaning (Shows source.now) (StopsShow source.now)
+meaning_of (NoChoice choice value) =
+    quiet_meaning (λ status requests printed. ⊥) (λ silent refused requests told. (requests ≡ []) × (told ≡ no_choice_text) × silent)
+
+abbrev pub Answers : Command → (status : ℕ) → List Request → List ℕ → Type 0
+Answers command = (meaning_of command).Answers
+
 abbrev pub Stops : Command → (silent refused : Type 0) → List Request → List ℕ → Type 0
-Stops (Check file explain) silent refused requests told = StopsCheck file.now silent refused requests told
-Stops (CheckEach files explain) silent refused requests told = BreaksOff explain (map (λ s. s.now) files.items) silent refused requests told
-Stops (Interp r) silent refused requests told = StopsInterpAt r.level r.source.now r.depth r.steps silent refused requests told
-Stops (Build b) silent refused requests told = StopsApart b.source.now b.image.now b.depth b.plain silent refused requests told
-Stops (Run r) silent refused requests told = StopsRun r.image.now r.steps silent refused requests told
-Stops (Listing image asm) silent refused requests told = StopsList image.now asm silent refused requests told
-Stops (Show source stage function block dot) silent refused requests told = StopsShow source.now silent refused requests told
-Stops (NoChoice choice value) silent refused requests told = (requests ≡ []) × (told ≡ no_choice_text) × silent
+Stops command = (meaning_of command).Stops
 
--- a command that memory was refused to once it had begun to print: what was printed is a beginning of what it prints
 abbrev pub Begins : Command → List Request → List ℕ → Type 0
-Begins (Interp r) requests printed = BeginsInterpAt r.level r.source.now r.depth r.steps r.form requests printed
-Begins (Run r) requests printed = BeginsRun r.image.now r.steps r.form requests printed
-Begins _ requests printed = ⊥
+Begins command = (meaning_of command).Begins
+
+abbrev pub Remarks : Command → (status : ℕ) → List (List ℕ) → Type 0
+Remarks command = (meaning_of command).Remarks
 
 -- the words are such a command
 abbrev pub IsBegun : List (List ℕ) → List Request → List ℕ → Type 0
 IsBegun words requests printed = (command : Command) × IsCommand words command × Begins command requests printed
-
--- what a command tells beside its answer
-abbrev pub Remarks : Command → (status : ℕ) → List (List ℕ) → Type 0
-Remarks (Interp r) status told = IsInterpRemark r.level r.steps r.count status told
-Remarks (Run r) status told = IsRunRemark Words r.steps r.count status told
-Remarks (Build b) status told = IsBuildRemark status told
-Remarks (CheckEach files explain) status told = IsTotals explain (map (λ s. s.now) files.items) told
-Remarks _ status told = told ≡ []
 
 -- the words ask for a build whose image has the source's name
 abbrev pub NamesOneFile : List (List ℕ) → Type 0
 NamesOneFile words = (b : AskedBuild) × IsCommand words (Build b) × (b.source.now ≡ b.image.now)
 
 -- the program: its words ask for a check of several files, of which one had a fault, and all have their lines, which were sent on
-pub record HasFaultyFile {F W E : Type 0} (answers : F → Request → F → Type 0) (old new : F) (out_old out_new : Option (List ℕ))
-    (sends : W → W → Type 0) (out : W) (tells : E → List ℕ → E → Type 0) (err_old err_new : E) (words : List (List ℕ)) : Type 0 where
+pub record HasFaultyFile {F W E : Type 0} (by : Relations F W E) (old new : Host F W E) (words : List (List ℕ)) : Type 0 where
   pub files : Vec (Bor (List ℕ)) Global
   pub explain : Bool
   pub entered : IsCommand words (CheckEach files explain)
-  pub checked : ChecksAll answers old new out_old out_new tells err_old err_new explain (map (λ s. s.now) files.items) 1
-  pub sent : IsSent sends out
+  pub checked : ChecksAll by old new explain (map (λ s. s.now) files.items) 1
+  pub sent : IsSent by.sends new.out
+
+-- what the program did with its words, by its status
+pub record RanWords {F W E : Type 0} (by : Relations F W E) (old new : Host F W E) (words : List (List ℕ)) (status : ℕ) : Type 0 where
+  pub most : status ≤ 4
+  -- what their command asks and prints, if clap takes them and there was no fault; only a build onto its source ends by 2 then
+  pub taken : takes mcc_app words ≡ true → status ≡ 2 → NamesOneFile words
+  pub answered : takes mcc_app words ≡ true → status ≢ 1 → Does by old new (IsAnswered Answers words status)
+  pub sent : status ≢ 1 → status ≢ 2 → IsSent by.sends new.out
+  pub beside : takes mcc_app words ≡ true → status ≢ 1 → TellsBeside by.tells old.err (IsRemark Remarks words status) new.err
+  -- a fault of the command, or a check of several files one of which has a fault, or memory that was refused to a run
+  pub stopped : status ≡ 1 → Asks by old new (IsStopped Stops words) ⊎ HasFaultyFile by old new words ⊎ StopsMidway by old new (IsBegun words)
+  -- wrong words, and words that ask for help
+  pub wrong : status ≡ 2 → (new.files ≡ old.files) × (new.out ≡ old.out) × (HasMistake (fault_of mcc_app words) ⊎ NamesOneFile words)
+  pub untaken : fault_of mcc_app words ≢ [] → (new.files ≡ old.files) × EndsUntaken (fault_of mcc_app words) status

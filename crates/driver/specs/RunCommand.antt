@@ -7,7 +7,7 @@ use Rattle.mips_steps.specs.Machines.{MachineOutcome}
 use Rattle.commands.specs.Numbers.{word_text}
 use Rattle.commands.specs.declared.numbers.WordForm.{WordForm}
 use Rattle.commands.specs.declared.numbers.WordForm.TheVariants.{Unsigned}
-use Rattle.commands.specs.Requests.{Request}
+use Rattle.commands.specs.Requests.{Meaning, Request}
 use Rattle.commands.specs.OneFile.{AnswersFile, StopsFile, TookPrint}
 pub use Rattle.commands.specs.OneFile.{IsRefused}
 use Rattle.commands.specs.Streams.{BeginsFile}
@@ -84,3 +84,12 @@ pub record IsRunRemark (unit : Counted) (most : ℕ) (counts : Bool) (status : �
       ++ ((if status == 4 then (more_text unit most ++ 10 ∷ []) ∷ [] else []) ++ reason)
   pub shown : All (All IsShown) reason
   pub only : (status ≡ 3 → ⊥) → reason ≡ []
+
+-- the command
+abbrev pub run_meaning : (image : List ℕ) → (steps : ℕ) → WordForm → (counts : Bool) → Meaning
+run_meaning image steps form counts = record {
+  Answers = Runs image steps form;
+  Stops = StopsRun image steps;
+  Begins = BeginsRun image steps form;
+  Remarks = IsRunRemark Words steps counts;
+}

@@ -1,12 +1,13 @@
 // The command that runs a C program.
 
-ghost use Rattle.std.specs.Prelude.{◌≡◌, ◌≢◌, ◌≤◌, ◌⊎◌, IfErr, IfOk, OnOk};
-ghost use Rattle.commands.specs.Requests.{Asks, Does, IsSent, StopsMidway, TellsBeside, TellsLine, WasRefused};
+ghost use Rattle.std.specs.Prelude.{◌≡◌, ◌≢◌, ◌≤◌, IfErr, IfOk, OnOk};
+ghost use Rattle.commands.specs.Requests.{IsSent, Ran, TellsLine, WasRefused, host_of, relations};
 ghost use Rattle.commands.specs.Streams.{BreaksBy, TookAnswer};
 ghost use Rattle.driver.specs.RunCommand.{IsRunRemark};
 ghost use Rattle.driver.specs.declared.run_command.remarks.Counted.TheVariants.{Steps};
 ghost use Rattle.driver.specs.Interps.{IsInterpFault, IsRun};
-ghost use Rattle.driver.specs.Program.{BeginsInterp, Interps, PrintsRun, StopsInterp};
+ghost use Rattle.command_line.specs.declared.command.Level.TheVariants.{C};
+ghost use Rattle.driver.specs.Program.{PrintsRun, interp_meaning};
 ghost use Rattle.driver.specs.Texts.{end_status, interp_fault_text};
 
 use crate::build_command::{source_place, typed_of};
@@ -163,15 +164,8 @@ pub(crate) fn interp_file<F: Files, W: Output, E: Complaints>(
 ) -> u8
     ensures most { result ≤ 4 }
     ensures not_wrong_words { result ≢ 2 }
-    ensures answered { result ≢ 1 → Does F.answers files.old files.new (W.contents out.old) (W.contents out.new)
-        (Interps asked.entry.source.now asked.entry.depth asked.entry.steps asked.entry.form result) }
-    ensures sent { result ≢ 1 → IsSent W.sends out.new }
-    ensures beside { result ≢ 1 → TellsBeside E.tells err.old (IsRunRemark Steps asked.entry.steps asked.entry.count result) err.new }
-    ensures stopped { result ≡ 1
-        → Asks F.answers files.old files.new W.refuses out.old out.new E.tells err.old err.new
-        (StopsInterp asked.entry.source.now asked.entry.depth asked.entry.steps)
-        ⊎ StopsMidway F.answers files.old files.new (W.contents out.old) (W.contents out.new) E.tells err.old err.new
-        (BeginsInterp asked.entry.source.now asked.entry.depth asked.entry.steps asked.entry.form) }
+    ensures ran { Ran (relations F.answers W.contents W.sends W.refuses E.tells) (host_of files.old out.old err.old) (host_of files.new out.new err.new)
+        (interp_meaning C asked.entry.source.now asked.entry.depth asked.entry.steps asked.entry.form asked.entry.count) result }
 {
     answer_stream(
         alloc,

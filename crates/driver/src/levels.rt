@@ -1,10 +1,10 @@
 // The command that runs a C program, at the level that is asked for.
 
-ghost use Rattle.std.specs.Prelude.{◌≡◌, ◌≢◌, ◌≤◌, ◌⊎◌, false};
-ghost use Rattle.commands.specs.Requests.{Asks, Does, IsSent, StopsMidway, TellsBeside};
+ghost use Rattle.std.specs.Prelude.{◌≢◌, ◌≤◌, false};
+ghost use Rattle.commands.specs.Requests.{Ran as CommandRan, host_of, relations};
 ghost use Rattle.driver.specs.RunCommand.{IsRunRemark};
 ghost use Rattle.driver.specs.declared.run_command.remarks.Counted.TheVariants.{Steps};
-ghost use Rattle.driver.specs.Program.{BeginsInterpAt, InterpsAt, InterpsBelow, IsInterpRemark, StopsBelow, StopsInterpAt};
+ghost use Rattle.driver.specs.Program.{below_meaning, interp_meaning};
 
 use crate::build_command::{BuildFault, tell_build};
 use crate::interp_command::{end_status, interp_file};
@@ -111,12 +111,8 @@ fn interp_below<F: Files, W: Output, E: Complaints>(
 ) -> u8
     ensures most { result ≤ 4 }
     ensures not_wrong_words { result ≢ 2 }
-    ensures answered { result ≢ 1 → Does F.answers files.old files.new (W.contents out.old) (W.contents out.new)
-        (InterpsBelow below asked.entry.source.now asked.entry.depth asked.entry.steps asked.entry.form result) }
-    ensures sent { result ≢ 1 → IsSent W.sends out.new }
-    ensures beside { result ≢ 1 → TellsBeside E.tells err.old (IsRunRemark Steps asked.entry.steps false result) err.new }
-    ensures stopped { result ≡ 1 → Asks F.answers files.old files.new W.refuses out.old out.new E.tells err.old err.new
-        (StopsBelow below asked.entry.source.now asked.entry.depth asked.entry.steps) }
+    ensures ran { CommandRan (relations F.answers W.contents W.sends W.refuses E.tells) (host_of files.old out.old err.old) (host_of files.new out.new err.new)
+        (below_meaning below asked.entry.source.now asked.entry.depth asked.entry.steps asked.entry.form) result }
 {
     let command = BelowCommand { asked, below };
     answer_file(alloc, &command, asked.source, files, out, err)
@@ -132,16 +128,8 @@ pub(crate) fn interp_at<F: Files, W: Output, E: Complaints>(
 ) -> u8
     ensures most { result ≤ 4 }
     ensures not_wrong_words { result ≢ 2 }
-    ensures answered { result ≢ 1 → Does F.answers files.old files.new (W.contents out.old) (W.contents out.new)
-        (InterpsAt asked.entry.level asked.entry.source.now asked.entry.depth asked.entry.steps asked.entry.form result) }
-    ensures sent { result ≢ 1 → IsSent W.sends out.new }
-    ensures beside { result ≢ 1
-        → TellsBeside E.tells err.old (IsInterpRemark asked.entry.level asked.entry.steps asked.entry.count result) err.new }
-    ensures stopped { result ≡ 1
-        → Asks F.answers files.old files.new W.refuses out.old out.new E.tells err.old err.new
-        (StopsInterpAt asked.entry.level asked.entry.source.now asked.entry.depth asked.entry.steps)
-        ⊎ StopsMidway F.answers files.old files.new (W.contents out.old) (W.contents out.new) E.tells err.old err.new
-        (BeginsInterpAt asked.entry.level asked.entry.source.now asked.entry.depth asked.entry.steps asked.entry.form) }
+    ensures ran { CommandRan (relations F.answers W.contents W.sends W.refuses E.tells) (host_of files.old out.old err.old) (host_of files.new out.new err.new)
+        (interp_meaning asked.entry.level asked.entry.source.now asked.entry.depth asked.entry.steps asked.entry.form asked.entry.count) result }
 {
     match asked.level {
         Level::C => interp_file(alloc, asked, files, out, err),

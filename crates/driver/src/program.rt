@@ -1,13 +1,9 @@
 // The whole program: its words, its files and its streams.
-ghost use Rattle.std.specs.Prelude.{◌≡◌, ◌≢◌, ◌≤◌, ◌⊎◌, [], map, true};
-ghost use Rattle.clap.specs.Words.{fault_of, takes};
-ghost use Rattle.command_line.specs.Commands.{mcc_app};
-ghost use Rattle.commands.specs.Requests.{Asks, Does, IsNothing, IsSent, StopsMidway, TellsBeside};
-ghost use Rattle.command_line.specs.Programs.{EndsUntaken, HasMistake, IsAnswered, IsRemark, IsStopped};
-ghost use Rattle.check_command.specs.Command.{StopsCheck};
+ghost use Rattle.std.specs.Prelude.{◌≤◌, map};
+ghost use Rattle.commands.specs.Requests.{Ran, host_of, relations};
 ghost use Rattle.check_command.specs.Texts.{IsCheckStatus};
 ghost use Rattle.command_line.specs.declared.command.Command.TheVariants.{Check};
-ghost use Rattle.driver.specs.Program.{Answers, HasFaultyFile, IsBegun, NamesOneFile, Remarks, Shows, Stops, StopsShow};
+ghost use Rattle.driver.specs.Program.{RanWords, Shows, StopsShow, meaning_of, quiet_meaning};
 
 use crate::build_command::build_file;
 use crate::choices::tell_choice;
@@ -33,13 +29,9 @@ fn check_one<F: Files, W: Output, E: Complaints>(
     out: &mut W,
     err: &mut E,
 ) -> u8
-    ensures answered { result ≢ 1 → Does F.answers files.old files.new (W.contents out.old) (W.contents out.new)
-        (Answers (Check file.entry explain) result) }
     ensures possible { IsCheckStatus result }
-    ensures sent { result ≢ 1 → IsSent W.sends out.new }
-    ensures quiet { result ≢ 1 → err.new ≡ err.old }
-    ensures stopped { result ≡ 1 → Asks F.answers files.old files.new W.refuses out.old out.new E.tells err.old err.new
-        (StopsCheck file.now) }
+    ensures ran { Ran (relations F.answers W.contents W.sends W.refuses E.tells) (host_of files.old out.old err.old) (host_of files.new out.new err.new)
+        (meaning_of (Check file.entry explain)) result }
 {
     if explain {
         answer_check(alloc, &ExplainedAnswer, file, files, out, err)
@@ -57,13 +49,9 @@ fn show_source<F: Files, W: Output, E: Complaints>(
     out: &mut W,
     err: &mut E,
 ) -> u8
-    ensures answered { result ≢ 1 → Does F.answers files.old files.new (W.contents out.old) (W.contents out.new)
-        (Shows source.now result) }
     ensures most { result ≤ 1 }
-    ensures sent { result ≢ 1 → IsSent W.sends out.new }
-    ensures beside { result ≢ 1 → TellsBeside E.tells err.old IsNothing err.new }
-    ensures stopped { result ≡ 1 → Asks F.answers files.old files.new W.refuses out.old out.new E.tells err.old err.new
-        (StopsShow source.now) }
+    ensures ran { Ran (relations F.answers W.contents W.sends W.refuses E.tells) (host_of files.old out.old err.old) (host_of files.new out.new err.new)
+        (quiet_meaning (Shows source.now) (StopsShow source.now)) result }
 {
     let command = Paged(ShowCommand { asked });
     answer_file(alloc, &command, source, files, out, err)
@@ -80,26 +68,8 @@ pub fn mcc<T: Threads + Wait + Sync, F: Files, W: Output, E: Complaints>(
     out: &mut W,
     err: &mut E,
 ) -> u8
-    ensures most { result ≤ 4 }
-    ensures taken { takes mcc_app (map (λ s. s.now) args.entry.now) ≡ true → result ≡ 2 → NamesOneFile (map (λ s. s.now) args.entry.now) }
-    ensures answered { takes mcc_app (map (λ s. s.now) args.entry.now) ≡ true → result ≢ 1
-        → Does F.answers files.old files.new (W.contents out.old) (W.contents out.new)
-        (IsAnswered Answers (map (λ s. s.now) args.entry.now) result) }
-    ensures sent { result ≢ 1 → result ≢ 2 → IsSent W.sends out.new }
-    ensures quiet { takes mcc_app (map (λ s. s.now) args.entry.now) ≡ true → result ≢ 1
-        → TellsBeside E.tells err.old (IsRemark Remarks (map (λ s. s.now) args.entry.now) result) err.new }
-    ensures stopped { result ≡ 1
-        → Asks F.answers files.old files.new W.refuses out.old out.new E.tells err.old err.new
-        (IsStopped Stops (map (λ s. s.now) args.entry.now))
-        ⊎ HasFaultyFile F.answers files.old files.new (W.contents out.old) (W.contents out.new) W.sends out.new E.tells err.old err.new
-        (map (λ s. s.now) args.entry.now)
-        ⊎ StopsMidway F.answers files.old files.new (W.contents out.old) (W.contents out.new) E.tells err.old err.new
-        (IsBegun (map (λ s. s.now) args.entry.now)) }
-    ensures wrong { result ≡ 2
-        → (files.new ≡ files.old) × (out.new ≡ out.old)
-        × (HasMistake (fault_of mcc_app (map (λ s. s.now) args.entry.now)) ⊎ NamesOneFile (map (λ s. s.now) args.entry.now)) }
-    ensures untaken { fault_of mcc_app (map (λ s. s.now) args.entry.now) ≢ []
-        → (files.new ≡ files.old) × EndsUntaken (fault_of mcc_app (map (λ s. s.now) args.entry.now)) result }
+    ensures { RanWords (relations F.answers W.contents W.sends W.refuses E.tells) (host_of files.old out.old err.old)
+        (host_of files.new out.new err.new) (map (λ s. s.now) args.entry.now) result }
 {
     match words(alloc, args) {
         Ok(Command::Check { file, explain }) => check_one(alloc, file, explain, files, out, err),

@@ -1,7 +1,7 @@
 //! The program `mcc`: `driver::mcc` over the real arguments, files and streams.
 //!
 //! Contract: `answer`
-//! - What `main` runs has the clauses of `driver::mcc`, over any files and streams; that these are the host's, no contract says.
+//! - What `main` runs does what `driver::mcc` does, over any files and streams; that these are the host's, no contract says.
 //!
 //! | Tested | In |
 //! |---|---|
@@ -16,12 +16,9 @@ mod host;
 mod stack;
 mod streams;
 
-ghost use Rattle.std.specs.Prelude.{◌≡◌, ◌≢◌, ◌≤◌, ◌⊎◌, [], map, true};
-ghost use Rattle.clap.specs.Words.{fault_of, takes};
-ghost use Rattle.command_line.specs.Commands.{mcc_app};
-ghost use Rattle.command_line.specs.Programs.{EndsUntaken, HasMistake, IsAnswered, IsRemark, IsStopped};
-ghost use Rattle.commands.specs.Requests.{Asks, Does, IsSent, StopsMidway, TellsBeside};
-ghost use Rattle.driver.specs.Program.{Answers, HasFaultyFile, IsBegun, NamesOneFile, Remarks, Stops};
+ghost use Rattle.std.specs.Prelude.{map};
+ghost use Rattle.commands.specs.Requests.{host_of, relations};
+ghost use Rattle.driver.specs.Program.{RanWords};
 
 use crate::host::{Host, run};
 use commands::{Complaints, Files, Output};
@@ -34,25 +31,8 @@ use std::thread::Threads;
 pub(crate) fn answer<T: Threads + Wait + Sync, F: Files, W: Output, E: Complaints>(
     host: &mut Host<'_, T, F, W, E>,
 ) -> u8
-    ensures most { result ≤ 4 }
-    ensures taken { takes mcc_app (map (λ s. s.now) host.old.words.now) ≡ true → result ≡ 2 → NamesOneFile (map (λ s. s.now) host.old.words.now) }
-    ensures answered { takes mcc_app (map (λ s. s.now) host.old.words.now) ≡ true → result ≢ 1
-        → Does F.answers host.old.files host.new.files (W.contents host.old.out) (W.contents host.new.out)
-        (IsAnswered Answers (map (λ s. s.now) host.old.words.now) result) }
-    ensures sent { result ≢ 1 → result ≢ 2 → IsSent W.sends host.new.out }
-    ensures quiet { takes mcc_app (map (λ s. s.now) host.old.words.now) ≡ true → result ≢ 1
-        → TellsBeside E.tells host.old.err (IsRemark Remarks (map (λ s. s.now) host.old.words.now) result) host.new.err }
-    ensures stopped { result ≡ 1
-        → Asks F.answers host.old.files host.new.files W.refuses host.old.out host.new.out E.tells host.old.err host.new.err
-        (IsStopped Stops (map (λ s. s.now) host.old.words.now))
-        ⊎ HasFaultyFile F.answers host.old.files host.new.files (W.contents host.old.out) (W.contents host.new.out) W.sends host.new.out
-        E.tells host.old.err host.new.err (map (λ s. s.now) host.old.words.now)
-        ⊎ StopsMidway F.answers host.old.files host.new.files (W.contents host.old.out) (W.contents host.new.out) E.tells host.old.err host.new.err
-        (IsBegun (map (λ s. s.now) host.old.words.now)) }
-    ensures wrong { result ≡ 2 → (host.new.files ≡ host.old.files) × (host.new.out ≡ host.old.out)
-        × (HasMistake (fault_of mcc_app (map (λ s. s.now) host.old.words.now)) ⊎ NamesOneFile (map (λ s. s.now) host.old.words.now)) }
-    ensures untaken { fault_of mcc_app (map (λ s. s.now) host.old.words.now) ≢ []
-        → (host.new.files ≡ host.old.files) × EndsUntaken (fault_of mcc_app (map (λ s. s.now) host.old.words.now)) result }
+    ensures { RanWords (relations F.answers W.contents W.sends W.refuses E.tells) (host_of host.old.files host.old.out host.old.err)
+        (host_of host.new.files host.new.out host.new.err) (map (λ s. s.now) host.old.words.now) result }
 {
     let out = &mut host.out;
     let err = &mut host.err;

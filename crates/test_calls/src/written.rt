@@ -1,8 +1,9 @@
 // What `mcc` writes to its two streams.
-ghost use Rattle.std.specs.Prelude.{◌≡◌, ◌≢◌, ◌≤◌, [], Some, map, true};
+ghost use Rattle.std.specs.Prelude.{◌≡◌, ◌≢◌, ◌≤◌, List, map, true};
+ghost use Rattle.std.specs.List.{FoldsTo};
 ghost use Rattle.clap.specs.Words.{takes};
 ghost use Rattle.command_line.specs.Commands.{mcc_app};
-ghost use Rattle.commands.specs.Requests.{Does};
+ghost use Rattle.commands.specs.Requests.{Request};
 ghost use Rattle.command_line.specs.Programs.{IsAnswered};
 ghost use Rattle.driver.specs.Program.{Answers as AnswersCommand};
 ghost use Rattle.test_calls.specs.Files.{Answers};
@@ -39,8 +40,8 @@ pub fn told_by<T: Threads + Wait + Sync>(
 ) -> Written
     ensures most { result.status ≤ 4 }
     ensures answered { takes mcc_app (map (λ s. s.now) words.entry.now) ≡ true → result.status ≢ 1
-        → Does Answers files.old files.new (Some []) (Some result.out.items)
-        (IsAnswered AnswersCommand (map (λ s. s.now) words.entry.now) result.status) }
+        → (requests : List Request) × FoldsTo Answers files.old requests files.new
+        × IsAnswered AnswersCommand (map (λ s. s.now) words.entry.now) result.status requests result.out.items }
 {
     let mut out = Vec::new(alloc);
     let mut err = Vec::new(alloc);

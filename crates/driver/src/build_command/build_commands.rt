@@ -1,14 +1,14 @@
 // The command that makes an image.
 
-ghost use Rattle.std.specs.Prelude.{◌≡◌, ◌≢◌, ◌≤◌, ℕ, List, All, IfErr, IfOk, OnErr, OnOk};
+ghost use Rattle.std.specs.Prelude.{◌≡◌, ◌≤◌, ℕ, List, All, IfErr, IfOk, OnErr, OnOk};
 ghost use Rattle.std.specs.Io.KnownBytes.{Appends};
-ghost use Rattle.commands.specs.Requests.{Asks, Does, IsSent, TellsBeside, TellsLine, WasRefused};
+ghost use Rattle.commands.specs.Requests.{IsSent, Ran, TellsBeside, TellsLine, WasRefused, host_of, relations};
 ghost use Rattle.c_types.specs.Shape.{program_of};
 ghost use Rattle.c_types.specs.Typed.{SpellsTyped};
 ghost use Rattle.commands.specs.Texts.{IsShown};
 ghost use Rattle.driver.specs.BuildTexts.{build_fault_text};
 ghost use Rattle.driver.specs.BuildFaults.{IsBuildFault};
-ghost use Rattle.driver.specs.BuildCommand.{AnswersBuild, Builds, IsBuildRemark, IsBuiltAs, StopsApart, StopsBuild, built_text, one_name_text};
+ghost use Rattle.driver.specs.BuildCommand.{IsBuiltAs, apart_meaning, build_meaning, built_text};
 
 use crate::build_command::builds::{BuildFault, Built, Limit, front_of, plain_of, unit_of_typed};
 use crate::build_command::largest::largest_line;
@@ -161,12 +161,8 @@ fn build_apart<T: Threads + Wait + Sync, F: Files, W: Output, E: Complaints>(
     err: &mut E,
 ) -> u8
     ensures most { result ≤ 1 }
-    ensures answered { result ≢ 1 → Does F.answers files.old files.new (W.contents out.old) (W.contents out.new)
-        (Builds asked.now.source.now asked.now.image.now asked.now.depth asked.now.plain result) }
-    ensures sent { result ≢ 1 → IsSent W.sends out.new }
-    ensures beside { result ≢ 1 → TellsBeside E.tells err.old (All (All IsShown)) err.new }
-    ensures stopped { result ≡ 1 → Asks F.answers files.old files.new W.refuses out.old out.new E.tells err.old err.new
-        (StopsBuild asked.now.source.now asked.now.image.now asked.now.depth asked.now.plain) }
+    ensures ran { Ran (relations F.answers W.contents W.sends W.refuses E.tells) (host_of files.old out.old err.old) (host_of files.new out.new err.new)
+        (apart_meaning asked.now) result }
 {
     let text = match read_file(alloc, asked.source, files) {
         Ok(text) => text,
@@ -201,12 +197,8 @@ pub fn build_file<T: Threads + Wait + Sync, F: Files, W: Output, E: Complaints>(
     ensures most { result ≤ 2 }
     ensures one_name { asked.now.source.now ≡ asked.now.image.now → result ≡ 2 }
     ensures refused { result ≡ 2 → (asked.now.source.now ≡ asked.now.image.now) × (files.new ≡ files.old) × (out.new ≡ out.old) }
-    ensures answered { result ≢ 1 → Does F.answers files.old files.new (W.contents out.old) (W.contents out.new)
-        (AnswersBuild asked.now.source.now asked.now.image.now asked.now.depth asked.now.plain result) }
-    ensures sent { result ≢ 1 → result ≢ 2 → IsSent W.sends out.new }
-    ensures beside { result ≢ 1 → TellsBeside E.tells err.old (IsBuildRemark result) err.new }
-    ensures stopped { result ≡ 1 → Asks F.answers files.old files.new W.refuses out.old out.new E.tells err.old err.new
-        (StopsApart asked.now.source.now asked.now.image.now asked.now.depth asked.now.plain) }
+    ensures ran { Ran (relations F.answers W.contents W.sends W.refuses E.tells) (host_of files.old out.old err.old) (host_of files.new out.new err.new)
+        (build_meaning asked.now) result }
 {
     if asked.source == asked.image {
         err.text(&ONE_NAME);

@@ -1,11 +1,11 @@
 // The command that runs an image.
 
-ghost use Rattle.std.specs.Prelude.{◌≡◌, ◌≢◌, ◌≤◌, ◌⊎◌, IfErr, IfOk, OnOk};
-ghost use Rattle.driver.specs.RunCommand.{BeginsRun, IsRunRemark, PrintsMachine, Runs, StopsRun};
+ghost use Rattle.std.specs.Prelude.{◌≡◌, ◌≢◌, ◌≤◌, IfErr, IfOk, OnOk};
+ghost use Rattle.driver.specs.RunCommand.{IsRunRemark, PrintsMachine, run_meaning};
 ghost use Rattle.driver.specs.ImageRuns.{IsImageRun};
 ghost use Rattle.driver.specs.RunTexts.{ending_status};
 ghost use Rattle.driver.specs.declared.run_command.remarks.Counted.TheVariants.{Words};
-ghost use Rattle.commands.specs.Requests.{Asks, Does, IsSent, StopsMidway, TellsBeside, WasRefused};
+ghost use Rattle.commands.specs.Requests.{IsSent, Ran, WasRefused, host_of, relations};
 ghost use Rattle.commands.specs.Streams.{BreaksBy, TookAnswer};
 ghost use Rattle.image.specs.Images.{IsImageFault};
 ghost use Rattle.image.specs.Texts.{image_fault_text};
@@ -158,14 +158,8 @@ pub fn run_file<F: Files, W: Output, E: Complaints>(
 ) -> u8
     ensures most { result ≤ 4 }
     ensures not_wrong_words { result ≢ 2 }
-    ensures answered { result ≢ 1 → Does F.answers files.old files.new (W.contents out.old) (W.contents out.new)
-        (Runs image.now steps form result) }
-    ensures sent { result ≢ 1 → IsSent W.sends out.new }
-    ensures beside { result ≢ 1 → TellsBeside E.tells err.old (IsRunRemark Words steps count result) err.new }
-    ensures stopped { result ≡ 1
-        → Asks F.answers files.old files.new W.refuses out.old out.new E.tells err.old err.new (StopsRun image.now steps)
-        ⊎ StopsMidway F.answers files.old files.new (W.contents out.old) (W.contents out.new) E.tells err.old err.new
-        (BeginsRun image.now steps form) }
+    ensures ran { Ran (relations F.answers W.contents W.sends W.refuses E.tells) (host_of files.old out.old err.old) (host_of files.new out.new err.new)
+        (run_meaning image.now steps form count) result }
 {
     let command = RunCommand { steps, form, count };
     answer_stream(alloc, &command, image, files, out, err)

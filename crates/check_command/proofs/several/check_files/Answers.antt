@@ -27,7 +27,7 @@ returns-in-Err-clause-each g c =
     let both = totals_said c.loop-name.totals c.check_one-line.result.said in
     inr (
       c.tell_unprinted.ensures.status,
-      broken g.F.Files.answers g.E.Complaints.tells c.args.explain g.W.Output.refuses _ _ _ _ _ _ _ _ _ (take (k + 1) ns) (drop (k + 1) ns) ns both
+      broken _ c.args.explain _ _ _ _ _ (take (k + 1) ns) (drop (k + 1) ns) ns both
           (take-append-drop (k + 1) ns)
           (next_at g.F.Files.answers g.E.Complaints.tells c.args.explain _ _ _ None None None _ _ _ c.args.names.now k _ c.loop-name.totals both c.check_one-line.result
           c.loop-name-test.true refl (unprinted g.F.Files.answers g.E.Complaints.tells c.args.explain _ _ _ _ _ _ _ _ c.loop-name.invariant.1) c.check_one-line.ensures tt)
@@ -39,7 +39,7 @@ returns-in-Err-send-clause-each g c =
     let ns = map (λ (s : Bor (List ℕ)). s.now) c.args.names.now in
     inr (
       c.tell_unprinted-in-Err-send.ensures.status,
-      broken g.F.Files.answers g.E.Complaints.tells c.args.explain g.W.Output.refuses _ _ _ _ _ _ _ _ _ ns [] ns c.loop-name.totals (append-nil ns)
+      broken _ c.args.explain _ _ _ _ _ ns [] ns c.loop-name.totals (append-nil ns)
           (whole g.F.Files.answers g.E.Complaints.tells c.args.explain _ _ _ _ _ _ c.args.names.now c.loop-name.name-index c.loop-name.totals c.loop-name-test.false
           c.loop-name.invariant.1) (_, c.in-Err-send.ensures.refused) c.tell_unprinted-in-Err-send.ensures.told,
     )
@@ -48,7 +48,7 @@ pub returns-in-Ok-send-clause-each : goal.returns-in-Ok-send-clause-each
 returns-in-Ok-send-clause-each g c =
     let ns = map (λ (s : Bor (List ℕ)). s.now) c.args.names.now in
     inl (
-      all_checked g.F.Files.answers g.E.Complaints.tells c.args.explain _ _ _ _ _ _ _ _ ns c.loop-name.totals (length c.args.names.now)
+      all_checked _ c.args.explain _ _ _ _ ns c.loop-name.totals (length c.args.names.now)
           (length-map c.args.names.now (λ (s : Bor (List ℕ)). s.now)) c.well_formed.1.0.0
           (whole g.F.Files.answers g.E.Complaints.tells c.args.explain _ _ _ _ _ _ c.args.names.now c.loop-name.name-index c.loop-name.totals c.loop-name-test.false
           c.loop-name.invariant.1) c.send.ensures.bytes c.line.ensures,

@@ -1,182 +1,70 @@
-use Rattle.std.proofs.Common.{[], refl, inl, inr, map, subst}
-use Rattle.clap.specs.Words.{fault_of}
-use Rattle.command_line.specs.Commands.{IsCommand, mcc_app}
-use Rattle.command_line.specs.declared.command.Command.TheVariants.{Check, CheckEach, Interp, Build, Run, List as Listing, NoChoice, Show}
-use Rattle.command_line.proofs.Programs.{answered_by, ends_untaken, mistake_of, silent, stopped_by, stopped_before}
-use Rattle.driver.proofs.Lifted.{all_answered, all_counted, all_stopped, or_begun, remarked, run_stopped}
-use Rattle.driver.specs.Program.{Answers, Remarks, Stops}
+use Rattle.std.proofs.Common.{[], refl, inl, map, subst, arith}
+use Rattle.command_line.specs.Commands.{IsCommand}
+use Rattle.command_line.specs.declared.command.Command.TheVariants.{Check, Interp, Build, Run, List as Listing, NoChoice, Show}
+use Rattle.commands.proofs.Asked.{ran_stopped}
+use Rattle.driver.proofs.Lifted.{of_answer, of_command, of_error, of_files}
 use Rattle.driver.specs.Texts.{no_choice_text}
 use Rattle.driver.proofs.program.mcc.Goals as goal
 
-pub returns-in-Ok-Check-clause-answered : goal.returns-in-Ok-Check-clause-answered
-returns-in-Ok-Check-clause-answered g c = λ taken other.
-    answered_by Answers g.F.Files.answers (map (λ s. s.now) c.args.args.now) c.check_one.result (Check c.in-Ok-Check.file c.in-Ok-Check.explain)
+pub returns-in-Ok-Check : goal.returns-in-Ok-Check
+returns-in-Ok-Check g c =
+    let most = c.check_one.ensures.possible.0 in
+    of_answer _ _ _ _ _ (Check c.in-Ok-Check.file c.in-Ok-Check.explain)
     (subst (IsCommand (map (λ s. s.now) c.args.args.now)) c.in-Ok-Check.field-0-is c.in-Ok-Check.ensures.command)
-    _ _ _ _ (c.check_one.ensures.answered other)
+    c.in-Ok-Check.ensures.kinds (omega (arith, most)) c.check_one.ensures.possible.1 c.check_one.ensures.ran
 
-pub returns-in-Ok-Check-clause-quiet : goal.returns-in-Ok-Check-clause-quiet
-returns-in-Ok-Check-clause-quiet g c = λ taken other.
-    silent Remarks g.E.Complaints.tells (map (λ s. s.now) c.args.args.now) c.check_one.result (Check c.in-Ok-Check.file c.in-Ok-Check.explain)
-    (subst (IsCommand (map (λ s. s.now) c.args.args.now)) c.in-Ok-Check.field-0-is c.in-Ok-Check.ensures.command)
-    _ _ refl (c.check_one.ensures.quiet other)
-
-pub returns-in-Ok-Check-clause-stopped : goal.returns-in-Ok-Check-clause-stopped
-returns-in-Ok-Check-clause-stopped g c = λ one.
-    inl (stopped_by Stops g.F.Files.answers g.W.Output.refuses g.E.Complaints.tells (map (λ s. s.now) c.args.args.now) (Check c.in-Ok-Check.file c.in-Ok-Check.explain)
-    (subst (IsCommand (map (λ s. s.now) c.args.args.now)) c.in-Ok-Check.field-0-is c.in-Ok-Check.ensures.command)
-    _ _ _ _ _ _ (c.check_one.ensures.stopped one))
-
-pub returns-in-Ok-CheckEach-clause-answered : goal.returns-in-Ok-CheckEach-clause-answered
-returns-in-Ok-CheckEach-clause-answered g c = λ taken other.
-    answered_by Answers g.F.Files.answers (map (λ s. s.now) c.args.args.now) c.check_files.result (CheckEach c.in-Ok-CheckEach.names c.in-Ok-CheckEach.explain)
+pub returns-in-Ok-CheckEach : goal.returns-in-Ok-CheckEach
+returns-in-Ok-CheckEach g c =
+    let most = c.check_files.ensures.possible.0 in
+    of_files _ _ _ c.in-Ok-CheckEach.explain _ _ c.in-Ok-CheckEach.names _ c.as_slice.ensures.value
     (subst (IsCommand (map (λ s. s.now) c.args.args.now)) c.in-Ok-CheckEach.field-0-is c.in-Ok-CheckEach.ensures.command)
-    _ _ _ _ (all_answered g.F.Files.answers g.W.Output.sends g.W.Output.refuses g.E.Complaints.tells c.in-Ok-CheckEach.explain c.check_files.result _ _ _ _ _ _ _ _ c.in-Ok-CheckEach.names _
-    c.as_slice.ensures.value c.check_files.ensures.each other)
+    c.in-Ok-CheckEach.ensures.kinds (omega (arith, most)) c.check_files.ensures.possible.1 c.check_files.ensures.each
 
-pub returns-in-Ok-CheckEach-clause-quiet : goal.returns-in-Ok-CheckEach-clause-quiet
-returns-in-Ok-CheckEach-clause-quiet g c = λ taken other.
-    remarked g.E.Complaints.tells (map (λ s. s.now) c.args.args.now) c.check_files.result (CheckEach c.in-Ok-CheckEach.names c.in-Ok-CheckEach.explain)
-    (subst (IsCommand (map (λ s. s.now) c.args.args.now)) c.in-Ok-CheckEach.field-0-is c.in-Ok-CheckEach.ensures.command)
-    _ _ (all_counted g.F.Files.answers g.W.Output.sends g.W.Output.refuses g.E.Complaints.tells c.in-Ok-CheckEach.explain c.check_files.result _ _ _ _ _ _ _ _ c.in-Ok-CheckEach.names _
-    c.as_slice.ensures.value c.check_files.ensures.each other)
-
-pub returns-in-Ok-CheckEach-clause-stopped : goal.returns-in-Ok-CheckEach-clause-stopped
-returns-in-Ok-CheckEach-clause-stopped g c = λ one.
-    or_begun (all_stopped g.F.Files.answers g.W.Output.sends g.W.Output.refuses g.E.Complaints.tells c.in-Ok-CheckEach.explain c.check_files.result _ _ _ _ _ _ _ _ c.in-Ok-CheckEach.names _
-    c.as_slice.ensures.value _
-    (subst (IsCommand (map (λ s. s.now) c.args.args.now)) c.in-Ok-CheckEach.field-0-is c.in-Ok-CheckEach.ensures.command)
-    c.check_files.ensures.each one)
-
-pub returns-in-Ok-Interp-clause-answered : goal.returns-in-Ok-Interp-clause-answered
-returns-in-Ok-Interp-clause-answered g c = λ taken other.
-    answered_by Answers g.F.Files.answers (map (λ s. s.now) c.args.args.now) c.interp_at.result (Interp c.in-Ok-Interp.asked)
+pub returns-in-Ok-Interp : goal.returns-in-Ok-Interp
+returns-in-Ok-Interp g c =
+    of_answer _ _ _ _ _ (Interp c.in-Ok-Interp.asked)
     (subst (IsCommand (map (λ s. s.now) c.args.args.now)) c.in-Ok-Interp.field-0-is c.in-Ok-Interp.ensures.command)
-    _ _ _ _ (c.interp_at.ensures.answered other)
+    c.in-Ok-Interp.ensures.kinds c.interp_at.ensures.most c.interp_at.ensures.not_wrong_words c.interp_at.ensures.ran
 
-pub returns-in-Ok-Interp-clause-quiet : goal.returns-in-Ok-Interp-clause-quiet
-returns-in-Ok-Interp-clause-quiet g c = λ taken other.
-    remarked g.E.Complaints.tells (map (λ s. s.now) c.args.args.now) c.interp_at.result (Interp c.in-Ok-Interp.asked)
-    (subst (IsCommand (map (λ s. s.now) c.args.args.now)) c.in-Ok-Interp.field-0-is c.in-Ok-Interp.ensures.command)
-    _ _ (c.interp_at.ensures.beside other)
+pub returns-in-Ok-Build : goal.returns-in-Ok-Build
+returns-in-Ok-Build g c =
+    let most = c.build_file.ensures.most in
+    let entered = (subst (IsCommand (map (λ s. s.now) c.args.args.now)) c.in-Ok-Build.field-0-is c.in-Ok-Build.ensures.command) in
+    of_command _ _ _ _ _ (Build c.in-Ok-Build.asked) entered c.in-Ok-Build.ensures.kinds (omega (arith, most))
+    (λ two.
+    let refused = c.build_file.ensures.refused two in
+    (refused.1, refused.2, (c.in-Ok-Build.asked, entered, refused.0)))
+    c.build_file.ensures.ran
 
-pub returns-in-Ok-Interp-clause-stopped : goal.returns-in-Ok-Interp-clause-stopped
-returns-in-Ok-Interp-clause-stopped g c = λ one.
-    run_stopped g.F.Files.answers g.W.Output.sends g.W.Output.refuses g.E.Complaints.tells (map (λ s. s.now) c.args.args.now) (Interp c.in-Ok-Interp.asked)
-    (subst (IsCommand (map (λ s. s.now) c.args.args.now)) c.in-Ok-Interp.field-0-is c.in-Ok-Interp.ensures.command)
-    _ _ _ _ _ _ _ _ (c.interp_at.ensures.stopped one)
-
-pub returns-in-Ok-Build-clause-answered : goal.returns-in-Ok-Build-clause-answered
-returns-in-Ok-Build-clause-answered g c = λ taken other.
-    answered_by Answers g.F.Files.answers (map (λ s. s.now) c.args.args.now) c.build_file.result (Build c.in-Ok-Build.asked)
-    (subst (IsCommand (map (λ s. s.now) c.args.args.now)) c.in-Ok-Build.field-0-is c.in-Ok-Build.ensures.command)
-    _ _ _ _ (c.build_file.ensures.answered other)
-
-pub returns-in-Ok-Build-clause-quiet : goal.returns-in-Ok-Build-clause-quiet
-returns-in-Ok-Build-clause-quiet g c = λ taken other.
-    remarked g.E.Complaints.tells (map (λ s. s.now) c.args.args.now) c.build_file.result (Build c.in-Ok-Build.asked)
-    (subst (IsCommand (map (λ s. s.now) c.args.args.now)) c.in-Ok-Build.field-0-is c.in-Ok-Build.ensures.command)
-    _ _ (c.build_file.ensures.beside other)
-
-pub returns-in-Ok-Build-clause-taken : goal.returns-in-Ok-Build-clause-taken
-returns-in-Ok-Build-clause-taken g c = λ taken two. (
-  c.in-Ok-Build.asked,
-  subst (IsCommand (map (λ s. s.now) c.args.args.now)) c.in-Ok-Build.field-0-is c.in-Ok-Build.ensures.command,
-  (c.build_file.ensures.refused two).0,
-)
-
-pub returns-in-Ok-Build-clause-wrong : goal.returns-in-Ok-Build-clause-wrong
-returns-in-Ok-Build-clause-wrong g c = λ two.
-    let refused = c.build_file.ensures.refused two in (
-      refused.1,
-      refused.2,
-      inr (
-        c.in-Ok-Build.asked,
-        subst (IsCommand (map (λ s. s.now) c.args.args.now)) c.in-Ok-Build.field-0-is c.in-Ok-Build.ensures.command,
-        refused.0,
-      ),
-    )
-
-pub returns-in-Ok-Build-clause-stopped : goal.returns-in-Ok-Build-clause-stopped
-returns-in-Ok-Build-clause-stopped g c = λ one.
-    inl (stopped_by Stops g.F.Files.answers g.W.Output.refuses g.E.Complaints.tells (map (λ s. s.now) c.args.args.now) (Build c.in-Ok-Build.asked)
-    (subst (IsCommand (map (λ s. s.now) c.args.args.now)) c.in-Ok-Build.field-0-is c.in-Ok-Build.ensures.command)
-    _ _ _ _ _ _ (c.build_file.ensures.stopped one))
-
-pub returns-in-Ok-Run-clause-answered : goal.returns-in-Ok-Run-clause-answered
-returns-in-Ok-Run-clause-answered g c = λ taken other.
-    answered_by Answers g.F.Files.answers (map (λ s. s.now) c.args.args.now) c.run_file.result (Run c.in-Ok-Run.asked)
+pub returns-in-Ok-Run : goal.returns-in-Ok-Run
+returns-in-Ok-Run g c =
+    of_answer _ _ _ _ _ (Run c.in-Ok-Run.asked)
     (subst (IsCommand (map (λ s. s.now) c.args.args.now)) c.in-Ok-Run.field-0-is c.in-Ok-Run.ensures.command)
-    _ _ _ _ (c.run_file.ensures.answered other)
+    c.in-Ok-Run.ensures.kinds c.run_file.ensures.most c.run_file.ensures.not_wrong_words c.run_file.ensures.ran
 
-pub returns-in-Ok-Run-clause-quiet : goal.returns-in-Ok-Run-clause-quiet
-returns-in-Ok-Run-clause-quiet g c = λ taken other.
-    remarked g.E.Complaints.tells (map (λ s. s.now) c.args.args.now) c.run_file.result (Run c.in-Ok-Run.asked)
-    (subst (IsCommand (map (λ s. s.now) c.args.args.now)) c.in-Ok-Run.field-0-is c.in-Ok-Run.ensures.command)
-    _ _ (c.run_file.ensures.beside other)
-
-pub returns-in-Ok-Run-clause-stopped : goal.returns-in-Ok-Run-clause-stopped
-returns-in-Ok-Run-clause-stopped g c = λ one.
-    run_stopped g.F.Files.answers g.W.Output.sends g.W.Output.refuses g.E.Complaints.tells (map (λ s. s.now) c.args.args.now) (Run c.in-Ok-Run.asked)
-    (subst (IsCommand (map (λ s. s.now) c.args.args.now)) c.in-Ok-Run.field-0-is c.in-Ok-Run.ensures.command)
-    _ _ _ _ _ _ _ _ (c.run_file.ensures.stopped one)
-
-pub returns-in-Ok-List-clause-answered : goal.returns-in-Ok-List-clause-answered
-returns-in-Ok-List-clause-answered g c = λ taken other.
-    answered_by Answers g.F.Files.answers (map (λ s. s.now) c.args.args.now) c.answer_file.result (Listing c.in-Ok-List.image c.in-Ok-List.asm)
+pub returns-in-Ok-List : goal.returns-in-Ok-List
+returns-in-Ok-List g c =
+    let most = c.answer_file.ensures.most in
+    of_answer _ _ _ _ _ (Listing c.in-Ok-List.image c.in-Ok-List.asm)
     (subst (IsCommand (map (λ s. s.now) c.args.args.now)) c.in-Ok-List.field-0-is c.in-Ok-List.ensures.command)
-    _ _ _ _ (c.answer_file.ensures.answered other)
+    c.in-Ok-List.ensures.kinds (omega (arith, most)) c.answer_file.ensures.not_wrong_words c.answer_file.ensures.ran
 
-pub returns-in-Ok-List-clause-quiet : goal.returns-in-Ok-List-clause-quiet
-returns-in-Ok-List-clause-quiet g c = λ taken other.
-    remarked g.E.Complaints.tells (map (λ s. s.now) c.args.args.now) c.answer_file.result (Listing c.in-Ok-List.image c.in-Ok-List.asm)
-    (subst (IsCommand (map (λ s. s.now) c.args.args.now)) c.in-Ok-List.field-0-is c.in-Ok-List.ensures.command)
-    _ _ (c.answer_file.ensures.beside other)
-
-pub returns-in-Ok-List-clause-stopped : goal.returns-in-Ok-List-clause-stopped
-returns-in-Ok-List-clause-stopped g c = λ one.
-    inl (stopped_by Stops g.F.Files.answers g.W.Output.refuses g.E.Complaints.tells (map (λ s. s.now) c.args.args.now) (Listing c.in-Ok-List.image c.in-Ok-List.asm)
-    (subst (IsCommand (map (λ s. s.now) c.args.args.now)) c.in-Ok-List.field-0-is c.in-Ok-List.ensures.command)
-    _ _ _ _ _ _ (c.answer_file.ensures.stopped one))
-
-pub returns-in-Ok-Show-clause-answered : goal.returns-in-Ok-Show-clause-answered
-returns-in-Ok-Show-clause-answered g c = λ taken other.
-    answered_by Answers g.F.Files.answers (map (λ s. s.now) c.args.args.now) c.show_source.result (Show c.in-Ok-Show.source c.in-Ok-Show.stage c.in-Ok-Show.function c.in-Ok-Show.block c.in-Ok-Show.dot)
+pub returns-in-Ok-Show : goal.returns-in-Ok-Show
+returns-in-Ok-Show g c =
+    let most = c.show_source.ensures.most in
+    of_answer _ _ _ _ _ (Show c.in-Ok-Show.source c.in-Ok-Show.stage c.in-Ok-Show.function c.in-Ok-Show.block c.in-Ok-Show.dot)
     (subst (IsCommand (map (λ s. s.now) c.args.args.now)) c.in-Ok-Show.field-0-is c.in-Ok-Show.ensures.command)
-    _ _ _ _ (c.show_source.ensures.answered other)
+    c.in-Ok-Show.ensures.kinds (omega (arith, most)) (λ two. omega (arith, most, two)) c.show_source.ensures.ran
 
-pub returns-in-Ok-Show-clause-quiet : goal.returns-in-Ok-Show-clause-quiet
-returns-in-Ok-Show-clause-quiet g c = λ taken other.
-    remarked g.E.Complaints.tells (map (λ s. s.now) c.args.args.now) c.show_source.result (Show c.in-Ok-Show.source c.in-Ok-Show.stage c.in-Ok-Show.function c.in-Ok-Show.block c.in-Ok-Show.dot)
-    (subst (IsCommand (map (λ s. s.now) c.args.args.now)) c.in-Ok-Show.field-0-is c.in-Ok-Show.ensures.command)
-    _ _ (c.show_source.ensures.beside other)
-
-pub returns-in-Ok-Show-clause-stopped : goal.returns-in-Ok-Show-clause-stopped
-returns-in-Ok-Show-clause-stopped g c = λ one.
-    inl (stopped_by Stops g.F.Files.answers g.W.Output.refuses g.E.Complaints.tells (map (λ s. s.now) c.args.args.now) (Show c.in-Ok-Show.source c.in-Ok-Show.stage c.in-Ok-Show.function c.in-Ok-Show.block c.in-Ok-Show.dot)
-    (subst (IsCommand (map (λ s. s.now) c.args.args.now)) c.in-Ok-Show.field-0-is c.in-Ok-Show.ensures.command)
-    _ _ _ _ _ _ (c.show_source.ensures.stopped one))
-
-pub returns-in-Ok-NoChoice-clause-stopped : goal.returns-in-Ok-NoChoice-clause-stopped
-returns-in-Ok-NoChoice-clause-stopped g c = λ one.
-    inl (stopped_by Stops g.F.Files.answers g.W.Output.refuses g.E.Complaints.tells (map (λ s. s.now) c.args.args.now)
-    (NoChoice c.in-Ok-NoChoice.choice c.in-Ok-NoChoice.value)
+pub returns-in-Ok-NoChoice : goal.returns-in-Ok-NoChoice
+returns-in-Ok-NoChoice g c =
+    let one = c.tell_choice.ensures.status in
+    of_answer _ _ _ _ _ (NoChoice c.in-Ok-NoChoice.choice c.in-Ok-NoChoice.value)
     (subst (IsCommand (map (λ s. s.now) c.args.args.now)) c.in-Ok-NoChoice.field-0-is c.in-Ok-NoChoice.ensures.command)
-    _ _ _ _ _ _ (record { requests = []; text = no_choice_text; asked = refl; told = c.tell_choice.ensures.told; means = (refl, refl, refl) }))
+    c.in-Ok-NoChoice.ensures.kinds (omega (arith, one)) (λ two. omega (arith, one, two))
+    (ran_stopped _ _ _ _ _ one
+    (inl (record { requests = []; text = no_choice_text; asked = refl; told = c.tell_choice.ensures.told; means = (refl, refl, refl) })))
 
-pub returns-in-Err-clause-stopped : goal.returns-in-Err-clause-stopped
-returns-in-Err-clause-stopped g c = λ one.
-    let told = c.tell_words.ensures.told one in
-    inl (stopped_before Stops g.F.Files.answers g.W.Output.refuses g.E.Complaints.tells (map (λ s. s.now) c.args.args.now) _ _ _ _ _ c.in-Err.error
-    told.0 told.1 told.2 told.3 c.in-Err.ensures.refused c.in-Err.ensures.kinds)
-
-pub returns-in-Err-clause-wrong : goal.returns-in-Err-clause-wrong
-returns-in-Err-clause-wrong g c = λ two.
-    let wrong = c.tell_words.ensures.wrong two in
-    (refl, wrong.1, inl (mistake_of (fault_of mcc_app (map (λ s. s.now) c.args.args.now)) c.in-Err.error wrong.0 c.in-Err.ensures.kinds))
-
-pub returns-in-Err-clause-untaken : goal.returns-in-Err-clause-untaken
-returns-in-Err-clause-untaken g c = λ some. (
-  refl,
-  ends_untaken (fault_of mcc_app (map (λ s. s.now) c.args.args.now)) c.in-Err.error c.tell_words.result c.tell_words.ensures.most
-      c.in-Err.ensures.kinds c.tell_words.ensures.help (λ two. (c.tell_words.ensures.wrong two).0),
-)
+pub returns-in-Err : goal.returns-in-Err
+returns-in-Err g c = of_error _ _ _ _ _ c.in-Err.error c.in-Err.ensures.kinds c.in-Err.ensures.refused c.tell_words.ensures.most refl
+    c.tell_words.ensures.help c.tell_words.ensures.sent c.tell_words.ensures.wrong c.tell_words.ensures.refused c.tell_words.ensures.told
