@@ -7,7 +7,7 @@ use Rattle.mips_emit.specs.declared.limits.TheConstants.{FRAME_BYTES}
 use Rattle.mips_select.specs.declared.limits.TheConstants.{STACK_BYTES}
 use Rattle.mips_select.specs.Limits.{most_blocks}
 use Rattle.mblock.specs.declared.limits.TheConstants.{UNIT_BLOCKS}
-use Rattle.mips_layout.specs.declared.limits.TheConstants.{FUNCTION_WORDS}
+use Rattle.mips_asm.specs.declared.limits.TheConstants.{FUNCTION_WORDS}
 use Rattle.driver.specs.SourceFaults.{IsFaultless, IsSourceFault}
 use Rattle.driver.specs.declared.build_command.builds.BuildFault.{BuildFault}
 use Rattle.driver.specs.declared.build_command.builds.BuildFault.TheVariants as faults

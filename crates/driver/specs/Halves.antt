@@ -11,7 +11,7 @@ use Rattle.image.specs.Views.{counts_of}
 use Rattle.sched_phase.specs.Schedules.{ScheduledParts, IsScheduled}
 use Rattle.mips_asm.specs.Assembled.{IsAssembled, RunsAsUnit}
 use Rattle.mips_asm.specs.Emitted.{IsWithin}
-use Rattle.mips_layout.specs.declared.limits.TheConstants.{FUNCTION_WORDS}
+use Rattle.mips_asm.specs.declared.limits.TheConstants.{FUNCTION_WORDS}
 use Rattle.runs.specs.Refines.{Refines, Same, AtLeast}
 use Rattle.driver.specs.BuildFaults.{blocks_counted}
 use Rattle.driver.specs.declared.build_command.builds.Built.{Built}

@@ -5,11 +5,11 @@ use Rattle.std.proofs.lemmas.Bool.{ne_eqb, eq-eqb, eqb-true, cases_eq}
 use Rattle.std.specs.Prelude.{slice_index}
 use Rattle.std.proofs.lemmas.List.{get_or_default, take_more}
 use Rattle.mblock.specs.Parts.{OrderParts}
-use Rattle.mips_layout.specs.Layout.{size}
-use Rattle.mips_layout.specs.Functions.{AreFunctions, words_owned}
-use Rattle.mips_layout.proofs.Within.{owner_low}
+use Rattle.mips_asm.specs.Layout.{size}
+use Rattle.mips_asm.specs.Functions.{AreFunctions, words_owned}
+use Rattle.mips_asm.proofs.Within.{owner_low}
 use Rattle.mips_asm.specs.Limits.{FunctionsFit}
-use Rattle.mips_layout.specs.declared.limits.TheConstants.{FUNCTION_WORDS}
+use Rattle.mips_asm.specs.declared.limits.TheConstants.{FUNCTION_WORDS}
 
 module _ (owner : ℕ → ℕ) (f : ℕ) where
   owned_both : (a b : List OrderParts) (k : ℕ) → words_owned owner f k (a ++ b) ≡ words_owned owner f k a + words_owned owner f (k + length a) b

@@ -15,17 +15,17 @@ use Rattle.mblock.specs.declared.exit.Exit.{Exit}
 use Rattle.mblock.specs.declared.exit.Exit.TheVariants.{Goto, BranchPair, BranchZero, Call, Return, Out, Halt}
 use Rattle.mblock.specs.Parts.{OrderParts}
 use Rattle.mblock.specs.Units.{GoesBelow}
-use Rattle.mips_layout.specs.Layout.{size, place, slot_insts, hop, jump_to, branch_offset, set_number, address_of_place, exit_insts}
-use Rattle.mips_layout.specs.Layout.{insts_of, layout, order_insts}
-use Rattle.mips_layout.proofs.Within.{place_next, place_mono}
+use Rattle.mips_asm.specs.Layout.{size, place, slot_insts, hop, jump_to, branch_offset, set_number, address_of_place, exit_insts}
+use Rattle.mips_asm.specs.Layout.{insts_of, layout, order_insts}
+use Rattle.mips_asm.proofs.Within.{place_next, place_mono}
 use Rattle.std.specs.Prelude.{FitsSigned}
 use Rattle.std.specs.Int.{w16}
 use Rattle.std.specs.List.{AllByRecursion}
-use Rattle.mips_layout.specs.Functions.{AreFunctions}
-use Rattle.mips_layout.proofs.Fits.{offset_near}
+use Rattle.mips_asm.specs.Functions.{AreFunctions}
+use Rattle.mips_asm.proofs.Fits.{offset_near}
 use Rattle.mips_asm.specs.Limits.{FunctionsFit}
 use Rattle.mips_asm.specs.Emitted.{Fit, AllThere, IsNear, AllNear, IsOwn, AreUnits, places_from, start_of}
-use Rattle.mips_layout.specs.declared.limits.TheConstants.{CODE_WORDS}
+use Rattle.mips_asm.specs.declared.limits.TheConstants.{CODE_WORDS}
 
 place_in : (os : List OrderParts) (here k : ℕ) → k < length os → slice_index (places_from here os) k ≡ here + place os k
 place_in [] here k lt = absurd (omega arith)

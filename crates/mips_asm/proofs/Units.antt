@@ -17,16 +17,16 @@ use Rattle.mblock.specs.PlainOrders.{plain_order_of}
 use Rattle.mblock.specs.Orders.{AreOrders}
 use Rattle.mblock.specs.Units.{UnitParts, IsUnit, GoesBelow, BranchesWithin, AreOwners}
 use Rattle.image.specs.Images.{Version, IsImage, FitsVersion, is_entry}
-use Rattle.mips_layout.specs.Layout.{exit_size, size, place, order_insts, insts_of, layout}
-use Rattle.mips_layout.specs.Functions.{AreFunctions}
-use Rattle.mips_layout.specs.LayoutRuns.{RunsAs}
-use Rattle.mips_layout.proofs.Within.{place_mono, place_next}
-use Rattle.mips_layout.proofs.Places.{words_length}
-use Rattle.mips_layout.proofs.Composed.{each_layout_runs, each_layout_tells_calls_apart}
-use Rattle.mips_layout.proofs.PlainRuns.{each_plain_layout_runs}
+use Rattle.mips_asm.specs.Layout.{exit_size, size, place, order_insts, insts_of, layout}
+use Rattle.mips_asm.specs.Functions.{AreFunctions}
+use Rattle.mips_asm.specs.LayoutRuns.{RunsAs}
+use Rattle.mips_asm.proofs.Within.{place_mono, place_next}
+use Rattle.mips_asm.proofs.Places.{words_length}
+use Rattle.mips_asm.proofs.Composed.{each_layout_runs, each_layout_tells_calls_apart}
+use Rattle.mips_asm.proofs.PlainRuns.{each_plain_layout_runs}
 use Rattle.mips_asm.specs.Emitted.{IsOwn, AreUnits}
 use Rattle.mips_asm.specs.Assembled.{EachAssembledImageRuns}
-use Rattle.mips_layout.specs.declared.limits.TheConstants.{CODE_WORDS}
+use Rattle.mips_asm.specs.declared.limits.TheConstants.{CODE_WORDS}
 use Rattle.mips_isa.specs.MemoryMap.{code_base}
 
 -- ---- targets, by the shape of an exit alone

@@ -9,8 +9,8 @@ use Rattle.mblock.specs.Orders.{AreOrders}
 use Rattle.mblock.specs.Units.{UnitParts}
 use Rattle.mblock.specs.UnitRuns.{TellsApart}
 use Rattle.image.specs.Images.{ImageParts, IsImage}
-use Rattle.mips_layout.specs.Layout.{layout, links_of, address_of_place}
-use Rattle.mips_layout.specs.LayoutRuns.{RunsAs}
+use Rattle.mips_asm.specs.Layout.{layout, links_of, address_of_place}
+use Rattle.mips_asm.specs.LayoutRuns.{RunsAs}
 
 pub record IsAssembled (u : UnitParts) (orders : List OrderParts) (i : ImageParts) : Type 0 where
   pub code : i.code ≡ map inst_word (layout orders)

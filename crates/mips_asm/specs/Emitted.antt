@@ -10,9 +10,9 @@ use Rattle.mblock.specs.Parts.{OrderParts}
 use Rattle.mblock.specs.Units.{GoesBelow}
 use Rattle.std.specs.Prelude.{FitsSigned}
 use Rattle.std.specs.Int.{w16}
-use Rattle.mips_layout.specs.declared.limits.TheConstants.{CODE_WORDS}
-use Rattle.mips_layout.specs.Layout.{size, place, branch_offset}
-use Rattle.mips_layout.specs.Functions.{AreFunctions}
+use Rattle.mips_asm.specs.declared.limits.TheConstants.{CODE_WORDS}
+use Rattle.mips_asm.specs.Layout.{size, place, branch_offset}
+use Rattle.mips_asm.specs.Functions.{AreFunctions}
 use Rattle.mips_asm.specs.Limits.{FunctionsFit}
 
 -- the places of orders, the first one here

@@ -7,9 +7,9 @@ ghost use Rattle.mips_isa.specs.declared.inst.Inst.TheVariants as insts;
 ghost use Rattle.mips_isa.specs.declared.inst.Control.TheVariants.{SystemCall};
 ghost use Rattle.mips_isa.specs.Ranges.{IsInst};
 ghost use Rattle.mips_code.specs.Words.{inst_word};
-ghost use Rattle.mips_layout.specs.declared.limits.TheConstants.{CODE_WORDS, FUNCTION_WORDS};
-ghost use Rattle.mips_layout.specs.Layout.{jump_to, hop, slot_insts, branch_offset, exit_insts, order_insts, insts_of, layout, place};
-ghost use Rattle.mips_layout.specs.Layout.{set_number};
+ghost use Rattle.mips_asm.specs.declared.limits.TheConstants.{CODE_WORDS, FUNCTION_WORDS};
+ghost use Rattle.mips_asm.specs.Layout.{jump_to, hop, slot_insts, branch_offset, exit_insts, order_insts, insts_of, layout, place};
+ghost use Rattle.mips_asm.specs.Layout.{set_number};
 ghost use Rattle.mips_asm.specs.Emitted.{AllNear, AreUnits, Fit, IsNear, IsWithin, start_of};
 
 use crate::fault::AsmFault;
@@ -18,7 +18,7 @@ use crate::places::{places, size, total};
 use mblock::{BlockNumber, Exit, Order};
 use mips_code::encode;
 use mips_isa::{CODE_BASE, Control, ImmOp, Inst, JumpOp, JumpTarget, Plain, Reg};
-use mips_layout::CODE_WORDS;
+use crate::limits::CODE_WORDS;
 use std::alloc::{AllocError, Global};
 
 fn put(code: &mut Vec<u32>, inst: Inst) -> Result<(), AllocError>

@@ -1,13 +1,18 @@
-// Whether each function is within its limit.
+// The sizes of laid out code, and whether each function is within its limit.
 
 ghost use Rattle.std.specs.Prelude.{◌≡◌, ℕ, ◌*◌, ◌<◌, ◌≤◌, ◌↔◌, ◌==◌, cond, false, IsTrue, length, slice_index};
-ghost use Rattle.mips_layout.specs.declared.limits.TheConstants.{FUNCTION_WORDS};
-ghost use Rattle.mips_layout.specs.Functions.{AreFunctions};
+ghost use Rattle.mips_asm.specs.declared.limits.TheConstants.{FUNCTION_WORDS};
+ghost use Rattle.mips_asm.specs.Functions.{AreFunctions};
 ghost use Rattle.mips_asm.specs.Limits.{FunctionsFit};
 
 use crate::places::size;
 use mblock::{BlockNumber, Order};
-use mips_layout::FUNCTION_WORDS;
+
+/// How many words a function has at most, so that its branches reach.
+pub const FUNCTION_WORDS: u32 = 32_000;
+
+/// How many words the code of a unit has at most.
+pub const CODE_WORDS: u32 = 1_048_576;
 
 // The words so far of the function of block `k`: none where it is the function's first.
 fn words_before(first: usize, k: usize, words: u32) -> u32

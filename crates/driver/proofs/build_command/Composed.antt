@@ -17,8 +17,8 @@ use Rattle.image.specs.Images.{ImageParts}
 use Rattle.mips_steps.specs.Machines.{Machine, MachineOutcome, machine_run, words_code}
 use Rattle.mips_steps.specs.Agreement.{Agrees}
 use Rattle.mips_machine.specs.ImageRuns.{start_machine}
-use Rattle.mips_layout.specs.Layout.{links_of, address_of_place}
-use Rattle.mips_layout.specs.LayoutRuns.{RunsAs}
+use Rattle.mips_asm.specs.Layout.{links_of, address_of_place}
+use Rattle.mips_asm.specs.LayoutRuns.{RunsAs}
 use Rattle.mips_asm.specs.Assembled.{IsAssembled}
 use Rattle.runs.specs.Refines.{Refines, Same, AtLeast, UpTo, Then}
 use Rattle.driver.specs.Follows.{Follows}

@@ -9,7 +9,7 @@ use Rattle.mblock.specs.declared.limits.TheConstants.{BLOCK_INSTS}
 use Rattle.mblock.specs.UnitRuns.{unit_run, TellsApart}
 use Rattle.image.specs.Images.{ImageParts}
 use Rattle.mips_asm.specs.Assembled.{RunsAsUnit}
-use Rattle.mips_layout.specs.LayoutRuns.{RunsAs}
+use Rattle.mips_asm.specs.LayoutRuns.{RunsAs}
 use Rattle.sched_phase.specs.Schedules.{ScheduledParts}
 use Rattle.sched_phase.specs.Phases.{IsPhase}
 use Rattle.driver.specs.declared.build_command.builds.Built.{Built}

@@ -1,7 +1,7 @@
 -- Two builds of one unit that decided each block make one image.
 use Rattle.std.proofs.Common.{◌≡◌, map, sym, ap, subst, ◌∙◌}
 use Rattle.mips_code.specs.Words.{inst_word}
-use Rattle.mips_layout.specs.Layout.{layout}
+use Rattle.mips_asm.specs.Layout.{layout}
 use Rattle.image.specs.Images.{ImageParts, Second, image_bytes}
 use Rattle.sched_phase.specs.Phases.{Proposals}
 use Rattle.sched_phase.specs.Outcomes.{EachDecided}

@@ -1,6 +1,6 @@
 use Rattle.std.proofs.Common.{◌≡◌, ◌+◌, ◌++◌, ◌≤◌, ℕ, length, map, drop, sym, ap, subst, ◌∙◌, arith}
 use Rattle.mips_code.specs.Words.{inst_word}
-use Rattle.mips_layout.specs.Layout.{place, insts_of}
+use Rattle.mips_asm.specs.Layout.{place, insts_of}
 use Rattle.mips_asm.specs.Emitted.{Fit, IsNear, start_of}
 use Rattle.mips_asm.proofs.Starts.{got, place_step, place_room, first_place, words_on, fit_on}
 use Rattle.mips_asm.proofs.emit.put_orders.Goals as goal

@@ -1,6 +1,6 @@
 use Rattle.std.proofs.Common.{◌≡◌, ◌++◌, map, drop}
 use Rattle.mips_code.specs.Words.{inst_word}
-use Rattle.mips_layout.specs.Layout.{insts_of, place}
+use Rattle.mips_asm.specs.Layout.{insts_of, place}
 use Rattle.mips_asm.specs.Emitted.{Fit, start_of}
 use Rattle.mips_asm.proofs.emit.put_orders.Given as goal
 

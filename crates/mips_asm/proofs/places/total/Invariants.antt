@@ -1,5 +1,5 @@
 use Rattle.std.proofs.Common.{◌≡◌, ◌*◌, ◌≤◌}
-use Rattle.mips_layout.specs.Layout.{place}
+use Rattle.mips_asm.specs.Layout.{place}
 use Rattle.mips_asm.proofs.places.total.Given as goal
 
 abbrev pub invariant-loop-order : goal.invariant-loop-order

@@ -16,12 +16,12 @@ use Rattle.mips_isa.specs.Steps.{words_from}
 use Rattle.mips_steps.specs.declared.steps.Fetched.TheVariants.{Fetches}
 use Rattle.mips_isa.specs.Controls.{control_touches, goes_elsewhere, calls_another, jump_target}
 use Rattle.mips_steps.specs.Machines.{Machine, Goes, outcome_behind, machine_run, step_of, instruction_step, jump_step}
-use Rattle.mips_layout.specs.Fetching.{insts_code}
+use Rattle.mips_asm.specs.Fetching.{insts_code}
 use Rattle.mips_isa.specs.Actions.{nop}
-use Rattle.mips_layout.specs.Layout.{address_of_place, jump_to}
-use Rattle.mips_layout.proofs.Unbroken.{plain_goes, control_goes}
-use Rattle.mips_layout.proofs.Places.{HasAt, fetch_at, jump_lands}
-use Rattle.mips_layout.specs.declared.limits.TheConstants.{CODE_WORDS}
+use Rattle.mips_asm.specs.Layout.{address_of_place, jump_to}
+use Rattle.mips_asm.proofs.Unbroken.{plain_goes, control_goes}
+use Rattle.mips_asm.proofs.Places.{HasAt, fetch_at, jump_lands}
+use Rattle.mips_asm.specs.declared.limits.TheConstants.{CODE_WORDS}
 
 abbrev pub machine_at : ℕ → State → List ℕ → Machine
 machine_at p s out = record { flow = quiet s; pc = address_of_place p; target = None; output = out }

@@ -35,13 +35,13 @@ use Rattle.mblock.proofs.Runs.{exited, one_value, ten_value}
 use Rattle.mips_steps.specs.declared.steps.Ending.TheVariants as endings
 use Rattle.mips_isa.specs.Controls.{pair_passes, zero_passes, control_touches, goes_elsewhere, calls_another, jump_target, branch_target}
 use Rattle.mips_steps.specs.Machines.{Machine, Goes, outcome_behind, machine_run, instruction_step, jump_step, system_step}
-use Rattle.mips_layout.specs.Fetching.{insts_code}
+use Rattle.mips_asm.specs.Fetching.{insts_code}
 use Rattle.mips_isa.specs.Actions.{nop}
-use Rattle.mips_layout.specs.Layout.{address_of_place, jump_to, branch_offset, exit_insts, order_insts}
-use Rattle.mips_layout.proofs.Unbroken.{system_goes}
-use Rattle.mips_layout.proofs.Places.{HasAt, map_length, has_front, has_back, jump_lands}
-use Rattle.mips_layout.proofs.Steps.{machine_at, at, Leads, leads_on, goes, at_place, fewer, plain_step, words_lead, within, control_step, slot_step, hop}
-use Rattle.mips_layout.specs.declared.limits.TheConstants.{CODE_WORDS}
+use Rattle.mips_asm.specs.Layout.{address_of_place, jump_to, branch_offset, exit_insts, order_insts}
+use Rattle.mips_asm.proofs.Unbroken.{system_goes}
+use Rattle.mips_asm.proofs.Places.{HasAt, map_length, has_front, has_back, jump_lands}
+use Rattle.mips_asm.proofs.Steps.{machine_at, at, Leads, leads_on, goes, at_place, fewer, plain_step, words_lead, within, control_step, slot_step, hop}
+use Rattle.mips_asm.specs.declared.limits.TheConstants.{CODE_WORDS}
 
 branch_lands : (p q : ℕ) → p < CODE_WORDS → q ≤ CODE_WORDS → branch_target (address_of_place p + 4) (branch_offset p q) ≡ address_of_place q
 branch_lands p q lp lq = omega (arith, ints)

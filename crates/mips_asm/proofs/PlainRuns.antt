@@ -12,15 +12,15 @@ use Rattle.mblock.specs.declared.exit.Exit.TheVariants.{Return}
 use Rattle.mblock.specs.Parts.{BlockParts}
 use Rattle.mblock.proofs.Runs.{AllSafe, Ready, words_run}
 use Rattle.mips_steps.specs.Machines.{machine_run}
-use Rattle.mips_layout.specs.Fetching.{insts_code}
-use Rattle.mips_layout.specs.Layout.{place, exit_insts, layout, links_of}
+use Rattle.mips_asm.specs.Fetching.{insts_code}
+use Rattle.mips_asm.specs.Layout.{place, exit_insts, layout, links_of}
 use Rattle.mblock.specs.UnitRuns.{wrong, items, unit_run}
 use Rattle.mblock.specs.PlainOrders.{padded_inst, plain_order_of}
 use Rattle.mblock.proofs.PlainOrders.{padded_keep, loads_load, padded_append, padded_length, safe_padded, plain_at}
-use Rattle.mips_layout.specs.LayoutRuns.{EachPlainLayoutRuns}
-use Rattle.mips_layout.proofs.Places.{HasAt, has_front}
-use Rattle.mips_layout.proofs.Steps.{machine_at, words_lead}
-use Rattle.mips_layout.proofs.Composed.{is_wrong, not_wrong, said, IsScheduled, scheduled, has_order, from_start, over_words}
+use Rattle.mips_asm.specs.LayoutRuns.{EachPlainLayoutRuns}
+use Rattle.mips_asm.proofs.Places.{HasAt, has_front}
+use Rattle.mips_asm.proofs.Steps.{machine_at, words_lead}
+use Rattle.mips_asm.proofs.Composed.{is_wrong, not_wrong, said, IsScheduled, scheduled, has_order, from_start, over_words}
 
 map_words : (a b : List Plain) → map I.Plain (a ++ b) ≡ map I.Plain a ++ map I.Plain b
 map_words [] b = refl

@@ -1,8 +1,8 @@
 // The laws of layouts, each as the contract of a function that does nothing.
-ghost use Rattle.mips_layout.specs.Fetching.{WordsRunAsInstructions};
-ghost use Rattle.mips_layout.specs.Functions.{EachLayoutFits};
-ghost use Rattle.mips_layout.specs.LayoutRuns.{EachLayoutRuns, EachLayoutTellsCallsApart, EachPlainLayoutRuns};
-ghost use Rattle.mips_layout.specs.Numbers.{LimitsAreTheseNumbers};
+ghost use Rattle.mips_asm.specs.Fetching.{WordsRunAsInstructions};
+ghost use Rattle.mips_asm.specs.Functions.{EachLayoutFits};
+ghost use Rattle.mips_asm.specs.LayoutRuns.{EachLayoutRuns, EachLayoutTellsCallsApart, EachPlainLayoutRuns};
+ghost use Rattle.mips_asm.specs.Numbers.{LimitsAreTheseNumbers};
 
 /// Where each instruction's fields are in their ranges, the words of instructions run as the instructions.
 pub fn words_run_as_instructions()

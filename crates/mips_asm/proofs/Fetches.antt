@@ -9,7 +9,7 @@ use Rattle.mips_code.specs.Words.{inst_word}
 use Rattle.mips_steps.specs.declared.steps.Fetched.TheVariants.{NoWord}
 use Rattle.mips_steps.specs.Machines.{Code, code_base, is_code_address, of_instruction, of_word, words_code, machine_run}
 use Rattle.mips_code.proofs.Exact.{exact}
-use Rattle.mips_layout.specs.Fetching.{of_inst, insts_code, WordsRunAsInstructions}
+use Rattle.mips_asm.specs.Fetching.{of_inst, insts_code, WordsRunAsInstructions}
 
 fetched : (insts : List Inst) (k : ℕ) → AllByRecursion IsInst insts → of_word (slice_get (map inst_word insts) k) ≡ of_inst (slice_get insts k)
 fetched [] k h = refl

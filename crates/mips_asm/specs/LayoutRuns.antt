@@ -12,8 +12,8 @@ use Rattle.mblock.specs.Parts.{BlockParts, OrderParts}
 use Rattle.mblock.specs.PlainOrders.{plain_order_of}
 use Rattle.mblock.specs.Orders.{AreOrders}
 use Rattle.mblock.specs.UnitRuns.{unit_run, TellsApart}
-use Rattle.mips_layout.specs.declared.limits.TheConstants.{CODE_WORDS}
-use Rattle.mips_layout.specs.Layout.{layout, links_of, address_of_place}
+use Rattle.mips_asm.specs.declared.limits.TheConstants.{CODE_WORDS}
+use Rattle.mips_asm.specs.Layout.{layout, links_of, address_of_place}
 
 -- wherever the unit isn't stuck, the code comes to the same, with at most c items a word
 abbrev pub RunsAs : (c : ℕ) → List BlockParts → List OrderParts → List ℕ → Type 0

@@ -26,22 +26,22 @@ use Rattle.mblock.specs.BlockMeaning.{exit_effect_after, run, block_effect}
 use Rattle.mips_steps.specs.declared.steps.Ending.TheVariants as endings
 use Rattle.mips_steps.specs.Machines as def
 use Rattle.mips_steps.specs.Machines.{Machine, words_code, machine_run}
-use Rattle.mips_layout.specs.Fetching.{insts_code}
+use Rattle.mips_asm.specs.Fetching.{insts_code}
 use Rattle.mips_isa.specs.Actions.{nop}
-use Rattle.mips_layout.specs.Layout.{size, place, exit_size, exit_insts, slot_insts, jump_to, order_length, address_of_place, order_insts}
-use Rattle.mips_layout.specs.Layout.{insts_of, layout, links_of}
-use Rattle.mips_layout.proofs.Fetches.{runs_same}
-use Rattle.mips_layout.proofs.Within.{place_next, place_mono}
+use Rattle.mips_asm.specs.Layout.{size, place, exit_size, exit_insts, slot_insts, jump_to, order_length, address_of_place, order_insts}
+use Rattle.mips_asm.specs.Layout.{insts_of, layout, links_of}
+use Rattle.mips_asm.proofs.Fetches.{runs_same}
+use Rattle.mips_asm.proofs.Within.{place_next, place_mono}
 use Rattle.mblock.specs.UnitRuns.{wrong, outcome_at_block, outcome_at_return, call_return_of, return_block_of, outcome_of_departure}
 use Rattle.mblock.specs.UnitRuns.{exit_item, items, unit_run, is_call, TellsApart}
 use Rattle.mblock.specs.Orders.{Means, AreOrders}
 use Rattle.mips_steps.specs.Agreement.{Agrees}
-use Rattle.mips_layout.specs.LayoutRuns.{EachLayoutRuns, EachLayoutTellsCallsApart}
-use Rattle.mips_layout.proofs.Places.{HasAt, has_back, layout_has, words_length, slot_length, map_length}
-use Rattle.mips_layout.proofs.Steps.{machine_at, at, Leads, leads_on, fewer, hop}
-use Rattle.mips_layout.proofs.OrderSteps.{Arrives, Placed, order_arrives}
+use Rattle.mips_asm.specs.LayoutRuns.{EachLayoutRuns, EachLayoutTellsCallsApart}
+use Rattle.mips_asm.proofs.Places.{HasAt, has_back, layout_has, words_length, slot_length, map_length}
+use Rattle.mips_asm.proofs.Steps.{machine_at, at, Leads, leads_on, fewer, hop}
+use Rattle.mips_asm.proofs.OrderSteps.{Arrives, Placed, order_arrives}
 use Rattle.mblock.proofs.StateWords.{run_words, leave_words}
-use Rattle.mips_layout.specs.declared.limits.TheConstants.{CODE_WORDS}
+use Rattle.mips_asm.specs.declared.limits.TheConstants.{CODE_WORDS}
 
 -- ---- ends
 

@@ -15,10 +15,10 @@ use Rattle.mips_isa.specs.Ranges.{IsPlain, IsInst}
 use Rattle.mblock.specs.declared.exit.Exit.{Exit}
 use Rattle.mblock.specs.declared.exit.Exit.TheVariants.{Goto, BranchPair, BranchZero, Call, Return, Out, Halt}
 use Rattle.mblock.specs.Parts.{OrderParts}
-use Rattle.mips_layout.specs.Layout.{exit_size, size, place, address_of_place, slot_insts, hop, branch_offset, exit_insts, order_insts, insts_of, layout}
-use Rattle.mips_layout.specs.Functions.{AreFunctions, words_owned, StaysInside, IsLaidOut, EachLayoutFits}
-use Rattle.mips_layout.proofs.Within.{one_function, place_next, place_grows, place_mono}
-use Rattle.mips_layout.specs.declared.limits.TheConstants.{CODE_WORDS, FUNCTION_WORDS}
+use Rattle.mips_asm.specs.Layout.{exit_size, size, place, address_of_place, slot_insts, hop, branch_offset, exit_insts, order_insts, insts_of, layout}
+use Rattle.mips_asm.specs.Functions.{AreFunctions, words_owned, StaysInside, IsLaidOut, EachLayoutFits}
+use Rattle.mips_asm.proofs.Within.{one_function, place_next, place_grows, place_mono}
+use Rattle.mips_asm.specs.declared.limits.TheConstants.{CODE_WORDS, FUNCTION_WORDS}
 
 abbrev Fit : List Inst → Type 0
 Fit is = AllByRecursion IsInst is

@@ -1,9 +1,0 @@
-pub mod Fetches
-pub mod Within
-pub mod Fits
-pub mod Unbroken
-pub mod Places
-pub mod Steps
-pub mod OrderSteps
-pub mod Composed
-pub mod PlainRuns

@@ -1,5 +1,0 @@
-use Rattle.mips_layout.proofs.PlainRuns.{each_plain_layout_runs}
-use Rattle.mips_layout.proofs.laws.each_plain_layout_runs.Goals as goal
-
-pub returns : goal.returns
-returns c = each_plain_layout_runs
