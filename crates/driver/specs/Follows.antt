@@ -4,7 +4,7 @@ use Rattle.c_typed.specs.Trees.{TypedProgram}
 use Rattle.c_typed.specs.Meaning.{source_run}
 use Rattle.c_types.specs.Typed.{SpellsTyped}
 use Rattle.image.specs.Images.{ImageParts, IsImage, image_bytes}
-use Rattle.mips_steps.specs.Agreement.{Agrees}
+use Rattle.mips_code.specs.Agreement.{Agrees}
 use Rattle.mips_machine.specs.ImageRuns.{image_run}
 use Rattle.runs.specs.Refines.{Refines, UpTo}
 

@@ -1,8 +1,8 @@
 -- The run of an image's bytes.
 use Rattle.std.specs.Prelude.{◌≡◌, ℕ, List}
 use Rattle.image.specs.Images.{ImageParts, IsImage, image_bytes}
-use Rattle.mips_steps.specs.Machines.{MachineOutcome, machine_run, words_code}
-use Rattle.mips_steps.specs.declared.steps.Ending.{Ending}
+use Rattle.mips_code.specs.Machines.{MachineOutcome, machine_run, words_code}
+use Rattle.mips_code.specs.declared.steps.Ending.{Ending}
 use Rattle.mips_machine.specs.Views.{machine_of}
 use Rattle.mips_machine.specs.declared.machine.Machine.{Machine}
 use Rattle.driver.specs.Portions.{RunOutcome}

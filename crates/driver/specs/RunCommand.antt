@@ -3,7 +3,7 @@ use Rattle.std.specs.Prelude.{◌≡◌, ◌⊎◌, ℕ, ◌≤◌, List, [], �
 use Rattle.std.specs.List.{flat_map}
 use Rattle.image.specs.Texts.{image_fault_text}
 use Rattle.image.specs.Images.{IsImageFault}
-use Rattle.mips_steps.specs.Machines.{MachineOutcome}
+use Rattle.mips_code.specs.Machines.{MachineOutcome}
 use Rattle.commands.specs.Numbers.{word_text}
 use Rattle.commands.specs.declared.numbers.WordForm.{WordForm}
 use Rattle.commands.specs.declared.numbers.WordForm.TheVariants.{Unsigned}

@@ -1,8 +1,8 @@
 -- What the ends of an image's run print, and their statuses.
 use Rattle.std.specs.Prelude.{ℕ, List, ◌++◌, codes, decimal}
 use Rattle.mips_isa.specs.Texts.{rule_text}
-use Rattle.mips_steps.specs.declared.steps.Ending.{Ending}
-use Rattle.mips_steps.specs.declared.steps.Ending.TheVariants as endings
+use Rattle.mips_code.specs.declared.steps.Ending.{Ending}
+use Rattle.mips_code.specs.declared.steps.Ending.TheVariants as endings
 
 -- the last line of an image's run, and its status
 abbrev pub ending_text : Ending → List ℕ

@@ -1,7 +1,7 @@
 -- What a view shows, of the parts that its export has.
 use Rattle.std.proofs.Common.{◌≡◌, ◌≤◌, ◌+◌, ℕ, List, Some, sym, subst}
 use Rattle.image.specs.Images.{ImageParts, IsImage, image_bytes}
-use Rattle.mips_steps.specs.Machines.{Machine, words_code}
+use Rattle.mips_code.specs.Machines.{Machine, words_code}
 use Rattle.mips_machine.specs.ImageRuns.{start_machine}
 use Rattle.mcc_web.specs.Machines.{IsFar, Shows, ShowsMachine, ShowsMemory, WasNotAt, behind}
 use Rattle.mcc_web.specs.declared.machines.View.{View}

@@ -1,8 +1,8 @@
 -- One word more.
 use Rattle.std.proofs.Common.{List, length, slice_set, ◌≡◌, ◌≢◌, ◌≤◌, ◌<◌, ◌⊎◌, inl, inr, sym, subst, ℕ, suc, ◌+◌, Option, Some, None, is_some, false, refl, ap, ◌∙◌, arith}
-use Rattle.mips_steps.specs.Machines.{Code, Machine, step_of}
-use Rattle.mips_steps.specs.declared.steps.Ending.{Ending}
-use Rattle.mips_steps.specs.declared.steps.Ending.TheVariants as endings
+use Rattle.mips_code.specs.Machines.{Code, Machine, step_of}
+use Rattle.mips_code.specs.declared.steps.Ending.{Ending}
+use Rattle.mips_code.specs.declared.steps.Ending.TheVariants as endings
 use Rattle.mips_machine.specs.Views.{stepped_of}
 use Rattle.std.proofs.lemmas.Bool.{cases_eq}
 use Rattle.std.proofs.lemmas.List.{get_or-set_other, get_or-set_same}

@@ -1,7 +1,7 @@
 -- What the exports give their host.
 use Rattle.std.specs.Prelude.{◌≡◌, ◌<◌, ◌≤◌, ℕ, List, [], ◌∷◌, ◌++◌, Bool, true, false, All, length, take}
 use Rattle.runs.specs.Runs.{Outcome}
-use Rattle.mips_steps.specs.Machines.{MachineOutcome}
+use Rattle.mips_code.specs.Machines.{MachineOutcome}
 use Rattle.image.specs.Images.{IsImageFault}
 use Rattle.image.specs.Texts.{image_fault_text}
 use Rattle.block_text.specs.Shown.{IsShown}

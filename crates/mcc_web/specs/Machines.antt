@@ -1,7 +1,7 @@
 -- The machine behind so many words, and what a view shows of it.
 use Rattle.std.specs.Prelude.{◌≡◌, ◌≢◌, ◌<◌, ◌≤◌, ◌⊎◌, ◌+◌, ◌-◌, ◌*◌, ◌%◌, ◌^◌, min, ℕ, zero, suc, List, Bool, true, false, Option, Some, None, slice_index}
 use Rattle.mips_isa.specs.Flows.{Pending, Nothing, Loaded}
-use Rattle.mips_steps.specs.Machines.{Code, Machine, Stepped, Goes, Halts, Sticks, step_of, words_code}
+use Rattle.mips_code.specs.Machines.{Code, Machine, Stepped, Goes, Halts, Sticks, step_of, words_code}
 use Rattle.mips_isa.specs.States.{load_at}
 use Rattle.words.specs.declared.width.Width.TheVariants.{Word}
 use Rattle.mips_machine.specs.Rules.{address_rule_of}

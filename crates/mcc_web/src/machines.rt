@@ -1,7 +1,7 @@
 // The export that shows the machine between two words.
 
 ghost use Rattle.std.specs.Prelude.{◌≡◌, ◌≢◌, ◌≤◌, ◌+◌, IfOk, Some, false, true};
-ghost use Rattle.mips_steps.specs.Machines.{words_code};
+ghost use Rattle.mips_code.specs.Machines.{words_code};
 ghost use Rattle.mips_machine.specs.Views.{machine_of};
 ghost use Rattle.mcc_web.specs.Machines.{IsFar, Shows, ShowsMachine, ShowsMemory, WasNotAt, behind};
 

@@ -23,9 +23,9 @@ use Rattle.mblock.specs.Slots.{is_slotted}
 use Rattle.mblock.specs.Clean.{FitsSlot}
 use Rattle.mblock.specs.BlockMeaning.{Calls, exit_shape, Departure, GoesTo, CallsTo, GoesBack, PrintsTo, HaltsWith, exit_effect}
 use Rattle.mblock.specs.BlockMeaning.{exit_effect_after, run, block_effect}
-use Rattle.mips_steps.specs.declared.steps.Ending.TheVariants as endings
-use Rattle.mips_steps.specs.Machines as def
-use Rattle.mips_steps.specs.Machines.{Machine, words_code, machine_run}
+use Rattle.mips_code.specs.declared.steps.Ending.TheVariants as endings
+use Rattle.mips_code.specs.Machines as def
+use Rattle.mips_code.specs.Machines.{Machine, words_code, machine_run}
 use Rattle.mips_asm.specs.Fetching.{insts_code}
 use Rattle.mips_isa.specs.Actions.{nop}
 use Rattle.mips_asm.specs.Layout.{size, place, exit_size, exit_insts, slot_insts, jump_to, order_length, address_of_place, order_insts}
@@ -35,7 +35,7 @@ use Rattle.mips_asm.proofs.Within.{place_next, place_mono}
 use Rattle.mblock.specs.UnitRuns.{wrong, outcome_at_block, outcome_at_return, call_return_of, return_block_of, outcome_of_departure}
 use Rattle.mblock.specs.UnitRuns.{exit_item, items, unit_run, is_call, TellsApart}
 use Rattle.mblock.specs.Orders.{Means, AreOrders}
-use Rattle.mips_steps.specs.Agreement.{Agrees}
+use Rattle.mips_code.specs.Agreement.{Agrees}
 use Rattle.mips_asm.specs.LayoutRuns.{EachLayoutRuns, EachLayoutTellsCallsApart}
 use Rattle.mips_asm.proofs.Places.{HasAt, has_back, layout_has, words_length, slot_length, map_length}
 use Rattle.mips_asm.proofs.Steps.{machine_at, at, Leads, leads_on, fewer, hop}

@@ -6,8 +6,8 @@ use Rattle.std.proofs.lemmas.List.Elements.{recursion_from_All}
 use Rattle.mips_isa.specs.declared.inst.Inst.{Inst}
 use Rattle.mips_isa.specs.Ranges.{IsInst}
 use Rattle.mips_code.specs.Words.{inst_word}
-use Rattle.mips_steps.specs.declared.steps.Fetched.TheVariants.{NoWord}
-use Rattle.mips_steps.specs.Machines.{Code, code_base, is_code_address, of_instruction, of_word, words_code, machine_run}
+use Rattle.mips_code.specs.declared.steps.Fetched.TheVariants.{NoWord}
+use Rattle.mips_code.specs.Machines.{Code, code_base, is_code_address, of_instruction, of_word, words_code, machine_run}
 use Rattle.mips_code.proofs.Exact.{exact}
 use Rattle.mips_asm.specs.Fetching.{of_inst, insts_code, WordsRunAsInstructions}
 

@@ -32,9 +32,9 @@ use Rattle.mblock.specs.BlockMeaning.{exit_shape, Departure, GoesTo, CallsTo, Go
 use Rattle.mblock.specs.OrderMeaning.{exit_touches, number_action, slot_word, effect_at_end, operand_words, system_word, system_call, jump}
 use Rattle.mblock.specs.OrderMeaning.{order_end_effect, order_effect_from, order_effect}
 use Rattle.mblock.proofs.Runs.{exited, one_value, ten_value}
-use Rattle.mips_steps.specs.declared.steps.Ending.TheVariants as endings
+use Rattle.mips_code.specs.declared.steps.Ending.TheVariants as endings
 use Rattle.mips_isa.specs.Controls.{pair_passes, zero_passes, control_touches, goes_elsewhere, calls_another, jump_target, branch_target}
-use Rattle.mips_steps.specs.Machines.{Machine, Goes, outcome_behind, machine_run, instruction_step, jump_step, system_step}
+use Rattle.mips_code.specs.Machines.{Machine, Goes, outcome_behind, machine_run, instruction_step, jump_step, system_step}
 use Rattle.mips_asm.specs.Fetching.{insts_code}
 use Rattle.mips_isa.specs.Actions.{nop}
 use Rattle.mips_asm.specs.Layout.{address_of_place, jump_to, branch_offset, exit_insts, order_insts}

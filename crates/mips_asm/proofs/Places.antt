@@ -11,9 +11,9 @@ use Rattle.mblock.specs.declared.exit.Exit.TheVariants.{Goto, BranchPair, Branch
 use Rattle.mblock.specs.Parts.{OrderParts}
 use Rattle.mblock.specs.Slots.{is_slotted}
 use Rattle.mblock.specs.Clean.{FitsSlot}
-use Rattle.mips_steps.specs.declared.steps.Fetched.TheVariants.{NoWord, Fetches}
+use Rattle.mips_code.specs.declared.steps.Fetched.TheVariants.{NoWord, Fetches}
 use Rattle.mips_isa.specs.Controls.{jump_target}
-use Rattle.mips_steps.specs.Machines.{code_base}
+use Rattle.mips_code.specs.Machines.{code_base}
 use Rattle.mips_asm.specs.Fetching.{of_inst, insts_code}
 use Rattle.mips_asm.specs.Layout.{exit_size, size, place, address_of_place, slot_insts, exit_insts, order_insts, insts_of, layout}
 use Rattle.mips_asm.specs.declared.limits.TheConstants.{CODE_WORDS}

@@ -11,7 +11,7 @@ use Rattle.mips_isa.specs.Steps.{words_from}
 use Rattle.mblock.specs.declared.exit.Exit.TheVariants.{Return}
 use Rattle.mblock.specs.Parts.{BlockParts}
 use Rattle.mblock.proofs.Runs.{AllSafe, Ready, words_run}
-use Rattle.mips_steps.specs.Machines.{machine_run}
+use Rattle.mips_code.specs.Machines.{machine_run}
 use Rattle.mips_asm.specs.Fetching.{insts_code}
 use Rattle.mips_asm.specs.Layout.{place, exit_insts, layout, links_of}
 use Rattle.mblock.specs.UnitRuns.{wrong, items, unit_run}

@@ -13,9 +13,9 @@ use Rattle.mips_isa.specs.Actions.{action_of}
 use Rattle.mips_isa.specs.Flows.{Nothing, Flow, state_with_pending, on_pending, flow_after, quiet}
 use Rattle.mips_isa.specs.Rules.{is_stuck}
 use Rattle.mips_isa.specs.Steps.{words_from}
-use Rattle.mips_steps.specs.declared.steps.Fetched.TheVariants.{Fetches}
+use Rattle.mips_code.specs.declared.steps.Fetched.TheVariants.{Fetches}
 use Rattle.mips_isa.specs.Controls.{control_touches, goes_elsewhere, calls_another, jump_target}
-use Rattle.mips_steps.specs.Machines.{Machine, Goes, outcome_behind, machine_run, step_of, instruction_step, jump_step}
+use Rattle.mips_code.specs.Machines.{Machine, Goes, outcome_behind, machine_run, step_of, instruction_step, jump_step}
 use Rattle.mips_asm.specs.Fetching.{insts_code}
 use Rattle.mips_isa.specs.Actions.{nop}
 use Rattle.mips_asm.specs.Layout.{address_of_place, jump_to}

@@ -12,8 +12,8 @@ use Rattle.mips_isa.specs.Flows.{on_pending}
 use Rattle.mips_isa.specs.Controls.{control_touches, goes_elsewhere, calls_another}
 use Rattle.mips_isa.specs.Rules.{control_breaks, action_rule_of, is_stuck}
 use Rattle.mips_isa.proofs.Rules.{none_found, nothing_found}
-use Rattle.mips_steps.specs.declared.steps.Fetched.TheVariants.{Fetches}
-use Rattle.mips_steps.specs.Machines.{Machine, step_by_rule, instruction_step, step_of}
+use Rattle.mips_code.specs.declared.steps.Fetched.TheVariants.{Fetches}
+use Rattle.mips_code.specs.Machines.{Machine, step_by_rule, instruction_step, step_of}
 
 -- what computes, loads or stores
 pub plain_goes : (p : Plain) (m : Machine) → is_stuck (action_of p) m.flow ≡ false → step_of (Fetches (I.Plain p)) m ≡ instruction_step (I.Plain p) m

@@ -3,9 +3,9 @@ use Rattle.std.specs.Prelude.{◌≡◌, ℕ, ◌-◌, ◌/◌, List, map, All, 
 use Rattle.mips_isa.specs.declared.inst.Inst.{Inst}
 use Rattle.mips_isa.specs.Ranges.{IsInst}
 use Rattle.mips_code.specs.Words.{inst_word}
-use Rattle.mips_steps.specs.declared.steps.Fetched.{Fetched}
-use Rattle.mips_steps.specs.declared.steps.Fetched.TheVariants.{NoWord, Fetches}
-use Rattle.mips_steps.specs.Machines.{Code, Machine, code_base, is_code_address, words_code, machine_run}
+use Rattle.mips_code.specs.declared.steps.Fetched.{Fetched}
+use Rattle.mips_code.specs.declared.steps.Fetched.TheVariants.{NoWord, Fetches}
+use Rattle.mips_code.specs.Machines.{Code, Machine, code_base, is_code_address, words_code, machine_run}
 
 abbrev pub of_inst : Option Inst → Fetched
 of_inst None = NoWord

@@ -8,7 +8,7 @@ use Rattle.mips_isa.specs.declared.inst.Control.TheVariants as controls
 use Rattle.mips_isa.specs.declared.inst.Inst.{Inst}
 use Rattle.mips_isa.specs.declared.inst.Inst.TheVariants as insts
 use Rattle.mips_isa.specs.Actions.{nop}
-use Rattle.mips_steps.specs.Machines.{code_base}
+use Rattle.mips_code.specs.Machines.{code_base}
 use Rattle.mblock.specs.declared.exit.Exit.{Exit}
 use Rattle.mblock.specs.declared.exit.Exit.TheVariants.{Goto, BranchPair, BranchZero, Call, Return, Out, Halt}
 use Rattle.mblock.specs.Parts.{OrderParts}

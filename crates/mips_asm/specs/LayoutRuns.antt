@@ -5,8 +5,8 @@ use Rattle.mips_isa.specs.Ranges.{IsInst}
 use Rattle.mips_isa.specs.States.{State, IsWords}
 use Rattle.mips_isa.specs.Flows.{quiet}
 use Rattle.mips_code.specs.Words.{inst_word}
-use Rattle.mips_steps.specs.Machines.{words_code, machine_run}
-use Rattle.mips_steps.specs.Agreement.{Agrees}
+use Rattle.mips_code.specs.Machines.{words_code, machine_run}
+use Rattle.mips_code.specs.Agreement.{Agrees}
 use Rattle.mblock.specs.declared.limits.TheConstants.{BLOCK_INSTS}
 use Rattle.mblock.specs.Parts.{BlockParts, OrderParts}
 use Rattle.mblock.specs.PlainOrders.{plain_order_of}

@@ -1,11 +1,11 @@
 // A machine's run in portions.
 ghost use Rattle.std.specs.Prelude.{◌≡◌, ◌<◌, IfOk};
-ghost use Rattle.mips_steps.specs.Machines.{words_code};
+ghost use Rattle.mips_code.specs.Machines.{words_code};
 ghost use Rattle.mips_machine.specs.Views.{machine_of};
 ghost use Rattle.mips_machine.specs.Portions.{OutputGoesBefore, WentOn, emptied};
 
 use crate::machine::Machine;
-use mips_steps::Ending;
+use mips_code::Ending;
 use std::alloc::AllocError;
 
 /// How far a machine went on.

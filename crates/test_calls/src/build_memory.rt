@@ -6,7 +6,7 @@ use driver::{BuildFault, BuildOpts, Built, SourceFault, build, build_one, build_
 use image::read_image;
 use list_scheduler::{FilledOrder, ListOrder};
 use mips_machine::{Machine, load};
-use mips_steps::Ending;
+use mips_code::Ending;
 use sched_phase::PhaseOpts;
 use std::alloc::Global;
 use std::sync::Wait;

@@ -1,7 +1,7 @@
 //! Builds of C programs, and what their images do.
 use driver::{BuildOpts, Built, build, build_one, run_image};
 use list_scheduler::{FilledOrder, ListOrder, Reorder};
-use mips_steps::Ending;
+use mips_code::Ending;
 use sched_phase::PhaseOpts;
 use std::alloc::Global;
 use std::sync::Wait;

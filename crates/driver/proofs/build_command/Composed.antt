@@ -14,8 +14,8 @@ use Rattle.mblock.specs.Parts.{OrderParts}
 use Rattle.mblock.specs.Units.{UnitParts}
 use Rattle.mblock.specs.UnitRuns.{unit_run, TellsApart}
 use Rattle.image.specs.Images.{ImageParts}
-use Rattle.mips_steps.specs.Machines.{Machine, MachineOutcome, machine_run, words_code}
-use Rattle.mips_steps.specs.Agreement.{Agrees}
+use Rattle.mips_code.specs.Machines.{Machine, MachineOutcome, machine_run, words_code}
+use Rattle.mips_code.specs.Agreement.{Agrees}
 use Rattle.mips_machine.specs.ImageRuns.{start_machine}
 use Rattle.mips_asm.specs.Layout.{links_of, address_of_place}
 use Rattle.mips_asm.specs.LayoutRuns.{RunsAs}

@@ -19,7 +19,7 @@ use commands::{
 };
 use image::{ImageFault, read_image};
 use mips_machine::load;
-use mips_steps::Ending;
+use mips_code::Ending;
 use std::alloc::Global;
 
 /// The status of an image's run.
@@ -90,7 +90,7 @@ impl StreamCommand for RunCommand {
 
     type Fault = ImageFault;
 
-    ghost use Rattle.mips_steps.specs.Machines.{MachineOutcome};
+    ghost use Rattle.mips_code.specs.Machines.{MachineOutcome};
 
     ghost Answer = { MachineOutcome };
 

@@ -9,14 +9,14 @@ use crate::run_command::portions::{Advance, Resumable};
 use crate::run_command::texts::EndingLine;
 use commands::Output;
 use mips_machine::Machine;
-use mips_steps::Ending;
+use mips_code::Ending;
 use std::alloc::{AllocError, Global};
 use std::io;
 
 impl Resumable for Machine<'_> {
     type End = Ending;
 
-    ghost use Rattle.mips_steps.specs.declared.steps.Ending.TheVariants.{More};
+    ghost use Rattle.mips_code.specs.declared.steps.Ending.TheVariants.{More};
 
     ghost comes_to = { λ m n. comes_to m n };
 

@@ -8,7 +8,7 @@ ghost use Rattle.driver.specs.RunTexts.{ending_text};
 
 use crate::run_command::portions::put_words;
 use commands::{Output, WordForm};
-use mips_steps::Ending;
+use mips_code::Ending;
 use std::{fmt, io};
 
 /// The last line of a machine's run.

@@ -1,5 +1,5 @@
 use Rattle.std.proofs.Common.{refl, sym, ap, ◌∙◌}
-use Rattle.mips_steps.specs.Machines.{step_of, words_code}
+use Rattle.mips_code.specs.Machines.{step_of, words_code}
 use Rattle.mips_machine.specs.Views.{machine_of, stepped_of}
 use Rattle.mcc_web.proofs.Words.{behind_more, none_of, none_passed, passed_more}
 use Rattle.mcc_web.proofs.machines.advance.Goals as goal

@@ -1,5 +1,5 @@
 use Rattle.std.proofs.Common.{◌≡◌, Some}
-use Rattle.mips_steps.specs.Machines.{words_code}
+use Rattle.mips_code.specs.Machines.{words_code}
 use Rattle.mips_machine.specs.Views.{machine_of}
 use Rattle.mcc_web.specs.Machines.{WasNotAt, behind}
 use Rattle.mcc_web.proofs.machines.advance.Given as goal

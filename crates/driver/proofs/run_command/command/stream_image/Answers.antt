@@ -1,7 +1,7 @@
 use Rattle.std.proofs.Common.{◌≡◌, ℕ, List, [], ◌∷◌, ◌++◌, refl, ap, ◌∙◌}
 use Rattle.image.specs.Images.{ImageParts, IsImage, image_bytes}
-use Rattle.mips_steps.specs.Machines as def
-use Rattle.mips_steps.specs.Machines.{MachineOutcome, machine_run, words_code}
+use Rattle.mips_code.specs.Machines as def
+use Rattle.mips_code.specs.Machines.{MachineOutcome, machine_run, words_code}
 use Rattle.mips_machine.specs.Views.{machine_of}
 use Rattle.mips_machine.specs.ImageRuns.{image_run, start_machine}
 use Rattle.mips_machine.specs.declared.machine.Machine.{Machine}

@@ -1,8 +1,8 @@
 use Rattle.std.proofs.Common.{◌≡◌, ◌≢◌, Option, ap, subst, ◌∙◌}
 use Rattle.std.specs.Prelude.{IfSome}
-use Rattle.mips_steps.specs.declared.steps.Ending.{Ending}
-use Rattle.mips_steps.specs.declared.steps.Ending.TheVariants as endings
-use Rattle.mips_steps.specs.Machines.{words_code}
+use Rattle.mips_code.specs.declared.steps.Ending.{Ending}
+use Rattle.mips_code.specs.declared.steps.Ending.TheVariants as endings
+use Rattle.mips_code.specs.Machines.{words_code}
 use Rattle.mips_machine.specs.Views.{machine_of, stepped_of}
 use Rattle.mips_machine.proofs.Going.{ends, goes_on}
 use Rattle.mips_machine.proofs.machine.Machine.go_on.Goals as goal

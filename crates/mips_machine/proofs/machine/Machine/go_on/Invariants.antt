@@ -1,5 +1,5 @@
 use Rattle.std.proofs.Common.{◌≡◌, ◌-◌, None}
-use Rattle.mips_steps.specs.Machines.{words_code}
+use Rattle.mips_code.specs.Machines.{words_code}
 use Rattle.mips_machine.specs.Views.{machine_of}
 use Rattle.mips_machine.specs.Portions.{WentOn}
 use Rattle.mips_machine.proofs.machine.Machine.go_on.Given as goal

@@ -1,7 +1,7 @@
 use Rattle.std.proofs.Common.{sym, ap, ◌∙◌}
-use Rattle.mips_steps.specs.declared.steps.Ending.{Ending}
-use Rattle.mips_steps.specs.Machines as def
-use Rattle.mips_steps.specs.Machines.{MachineOutcome, machine_run, words_code}
+use Rattle.mips_code.specs.declared.steps.Ending.{Ending}
+use Rattle.mips_code.specs.Machines as def
+use Rattle.mips_code.specs.Machines.{MachineOutcome, machine_run, words_code}
 use Rattle.mips_machine.specs.Views.{machine_of}
 use Rattle.mips_machine.specs.declared.code.Code.{Code}
 use Rattle.mips_machine.proofs.Going.{output_before}

@@ -3,9 +3,9 @@ use Rattle.std.specs.Prelude.{◌≡◌}
 use Rattle.runs.specs.declared.ran.End.{End}
 use Rattle.runs.specs.declared.ran.End.TheVariants.{Done, Wrong, More}
 use Rattle.runs.specs.Runs.{Outcome}
-use Rattle.mips_steps.specs.declared.steps.Ending.{Ending}
-use Rattle.mips_steps.specs.declared.steps.Ending.TheVariants as endings
-use Rattle.mips_steps.specs.Machines as machine
+use Rattle.mips_code.specs.declared.steps.Ending.{Ending}
+use Rattle.mips_code.specs.declared.steps.Ending.TheVariants as endings
+use Rattle.mips_code.specs.Machines as machine
 
 -- an end of the machine that says what an end of a program says; it is never stuck
 abbrev pub EndsAs : End → Ending → Type 0

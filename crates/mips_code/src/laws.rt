@@ -1,5 +1,5 @@
 // The law of the machine's rules, as the contract of a function that does nothing.
-ghost use Rattle.mips_steps.specs.Machines.{EachRuleIsLeast};
+ghost use Rattle.mips_code.specs.Machines.{EachRuleIsLeast};
 
 /// A stuck machine tells the least rule that is broken.
 pub fn each_rule_is_least()

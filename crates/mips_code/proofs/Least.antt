@@ -9,10 +9,10 @@ use Rattle.mips_isa.specs.declared.rule.Rule.{Rule}
 use Rattle.mips_isa.specs.declared.rule.Rule.TheVariants.{M7, M8}
 use Rattle.mips_isa.specs.States.{read}
 use Rattle.mips_isa.proofs.Rules.{first_is_least}
-use Rattle.mips_steps.specs.declared.steps.Fetched.{Fetched}
-use Rattle.mips_steps.specs.declared.steps.Fetched.TheVariants.{NoWord, NoInstruction, Fetches}
-use Rattle.mips_steps.specs.Machines.{Machine, Stepped, Goes, Halts, Sticks, breaks, step_rule_of, step_by_rule, instruction_step}
-use Rattle.mips_steps.specs.Machines.{system_step, print_step, EachRuleIsLeast}
+use Rattle.mips_code.specs.declared.steps.Fetched.{Fetched}
+use Rattle.mips_code.specs.declared.steps.Fetched.TheVariants.{NoWord, NoInstruction, Fetches}
+use Rattle.mips_code.specs.Machines.{Machine, Stepped, Goes, Halts, Sticks, breaks, step_rule_of, step_by_rule, instruction_step}
+use Rattle.mips_code.specs.Machines.{system_step, print_step, EachRuleIsLeast}
 
 -- an instruction that breaks no rule isn't stuck
 abbrev is_stuck_step : Stepped → Bool

@@ -1,2 +1,0 @@
-pub mod Machines
-pub mod Agreement
