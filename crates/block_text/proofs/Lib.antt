@@ -1,1 +1,11 @@
+pub mod Decimals
+pub mod Marks
+pub mod Named
+pub mod Lacking
+pub mod Exits
+pub mod Runs
+pub mod Stood
+pub mod Reading
+pub mod Ends
+pub mod Values
 pub mod Readers

@@ -1,3 +1,10 @@
+pub mod Lines
+pub mod Spelling
+pub mod Whole
+pub mod StageParts
+pub mod Stages
+pub mod Faults
+pub mod Named
 pub mod Shown
 pub mod Readers
 pub mod Written

@@ -7,7 +7,7 @@ use Rattle.sym_exec.specs.declared.state.Guard.TheVariants.{Address, Division}
 use Rattle.sym_exec.specs.declared.state.TermPlaces.{TermPlaces}
 use Rattle.sym_exec.specs.declared.state.TermExit.{TermExit}
 use Rattle.sym_exec.specs.declared.state.TermExit.TheVariants.{Goto, BranchPair, BranchZero, Call, Return, Out, Halt}
-use Rattle.block_text.specs.declared.reader.Open.{Open}
+use Rattle.block_text.specs.declared.terms.Open.{Open}
 
 pub record IsReader (o : Open) : Type 0 where
   pub own : IsOf o.table o.pass

@@ -1,7 +1,7 @@
 // What a block or an order leaves, place by place.
 
 use crate::lines::put_block;
-use crate::reader::{Code, Left, ReadFault, left_of};
+use crate::terms::{Code, Left, ReadFault, left_of};
 use crate::text::{pair_sign, root_text, width_name, zero_sign};
 use crate::writer::Writer;
 use block_validator::Place;

@@ -1,20 +1,36 @@
-//! Blocks and orders as text for people, and what they leave in each place, read out of the validator's own table.
+//! Blocks and orders as text: the check text that is read, lines for people, and what a block leaves in each place, read out of the
+//! validator's own table.
 //!
-//! Definitions: `specs/Shown.antt`, `specs/Written.antt`, `specs/Readers.antt`.
-//! Contract: `page_of`, `Writer`
+//! Definitions: `specs/Whole.antt`, `specs/Shown.antt`, `specs/Written.antt`, `specs/Readers.antt`.
+//! Contract: `read`, `page_of`, `Writer`
+//! - `read` gives the block and the order exactly if the check text spells them, memory aside, and else the first line that can't be in its
+//!   place.
 //! - What `page_of` gives is printable ASCII and line ends.
 //! - A `Writer` writes what it is given, or reports refused memory.
 #![tactic(auto)]
 
+mod cuts;
+mod fault;
 mod left;
+mod line;
 mod lines;
+mod names;
+mod numbers;
+mod operands;
 mod page;
 mod reader;
+mod spelled;
+mod stage;
+mod terms;
 mod text;
 mod writer;
 
+pub use fault::PairFault;
 pub use left::{block_place_text, left_lines, order_place_text};
+pub use line::{exit_of, plain_of};
 pub use lines::{ExitLine, put_insts, put_order};
+pub use names::ExitName;
 pub use page::{WIDTH, page_of};
-pub use reader::{Left, ReadFault, Room, TermReader, table_of};
+pub use reader::{Text, read};
+pub use terms::{Left, ReadFault, Room, TermReader, table_of};
 pub use writer::Writer;

@@ -1,10 +1,10 @@
 // Blocks and orders in the lines of a check text.
 
 ghost use Rattle.std.specs.Prelude.{◌≡◌, Some};
-ghost use Rattle.check_text.specs.Spelling.{exit_text, name_of_exit, targets_text};
+ghost use Rattle.block_text.specs.Spelling.{exit_text, name_of_exit, targets_text};
 
 use crate::writer::Writer;
-use check_text::ExitName;
+use crate::ExitName;
 use mblock::{BlockNumber, Exit, Order};
 use mips_isa::Plain;
 use std::fmt;

@@ -1,279 +1,154 @@
-// The terms of what a block or an order leaves, read out of a table.
+// The whole text, line by line.
+ghost use Rattle.std.specs.Prelude.{◌≡◌, ℕ, ◌≤◌, ◌^◌, length, IfOk, IfErr, IfSome, OnOk, MatchResult, Some, true};
+ghost use Rattle.mips_isa.specs.declared.inst.Plain.{Plain};
+ghost use Rattle.mblock.specs.declared.limits.TheConstants.{BLOCK_INSTS, ORDER_INSTS};
+ghost use Rattle.mblock.specs.Parts.{BlockParts, OrderParts};
+ghost use Rattle.mblock.specs.Slots.{is_slotted};
+ghost use Rattle.block_text.specs.Lines.{lines_of};
+ghost use Rattle.block_text.specs.Whole.{SpellsPair, SpellsSlot};
+ghost use Rattle.block_text.specs.StageParts.{LeadsTo, AtBlock, InBlock, AtOrder, InOrder, AtSlot, Done};
+ghost use Rattle.block_text.specs.Stages.{stage_parts, parts_after, Fits};
+ghost use Rattle.block_text.specs.Faults.{IsPairFault};
 
-ghost use Rattle.std.specs.Prelude.{All, IfOk, IfSome, OnOk};
-ghost use Rattle.term_table.specs.Passes.{IsOf};
-ghost use Rattle.sym_exec.specs.MipsTerms.{HasSeen};
-ghost use Rattle.block_text.specs.Readers.{ArePlacesSeen, IsReader, IsSeenExit, IsSeenGuard, IsSeenState};
-
-use mblock::{Block, Order};
+use crate::cuts::first_line;
+use crate::fault::PairFault;
+use crate::line::{exit_of, plain_of};
+use crate::stage::Stage;
+use mblock::{BLOCK_INSTS, Block, Exit, ORDER_INSTS, Order};
+use mips_isa::Plain;
 use std::alloc::{AllocError, Global};
-use std::marker::Model;
-use sym_exec::{Guard, SymState, TermExit, TermPlaces, run_block, run_order};
-use sym_terms::Label;
-use term_table::{Node, Pass, TableFull, TermTable, Ticket};
 
-/// How many terms a table has room for.
-#[derive(Clone, Copy)]
-pub enum Room {
-    /// 4,096, more than most blocks have.
-    Few,
-    /// 65,536.
-    Many,
-}
-
-/// Why there is nothing to read.
-#[derive(Clone, Copy, Debug, PartialEq, Eq)]
-pub enum ReadFault {
-    /// The block has more terms than the table has room for.
-    Full,
-    /// Memory was refused.
-    NoMemory,
-}
-
-impl From<AllocError> for ReadFault {
-    fn from(_refused: AllocError) -> ReadFault {
-        ReadFault::NoMemory
-    }
-}
-
-/// A table with its pass, the tickets of all places, and those that are to be read, the last one first.
+/// A block, and an order that is proposed for it.
 #[derive(Drop)]
-pub(crate) struct Open {
-    pub(crate) table: TermTable,
-    pub(crate) pass: Pass,
-    pub(crate) roots: Vec<Ticket>,
-    pub(crate) waiting: Vec<Ticket>,
+pub struct Text {
+    pub block: Block,
+    pub order: Order,
 }
 
-/// Reads the terms of what a block or an order leaves. Its roots are, in this order: registers 0 to 31, HI, LO, memory, what the
-/// exit reads, and for each guard its address, or dividend and divisor.
-#[derive(Drop)]
-pub struct TermReader {
-    open: Open,
-}
-
-impl Model for TermReader {
-    ghost use Rattle.block_text.specs.declared.reader.Open.{Open};
-    ghost use Rattle.block_text.specs.Readers.{IsReader};
-
-    ghost Value = { Open };
-
-    ghost view = { λ r. r.open };
-
-    ghost invariant = { λ r. IsReader r.open };
-}
-
-/// A table of so many terms and chains, for one pass.
-fn tables(alloc: Global, nodes: u64, heads: u64) -> Option<(TermTable, Vec<Pass>)>
-    ensures { IfSome result (λ t. All (IsOf t.0) t.1.items) }
+fn slot_of(line: &[u8]) -> Option<Plain>
+    ensures found { IfSome result (SpellsSlot line.now) }
+    ensures only { (i : Plain) → SpellsSlot line.now i → result ≡ Some i }
 {
-    TermTable::open(alloc, 1, nodes, heads).ok()
+    plain_of(line.strip_prefix(b"slot ")?)
 }
 
-/// A table for one pass, and its pass; none where memory is refused.
-pub fn table_of(alloc: Global, room: Room) -> Option<(TermTable, Pass)>
-    ensures { IfSome result (λ t. IsOf t.0 t.1) }
+fn in_block(mut insts: Vec<Plain>, line: &[u8]) -> Result<Option<Stage>, AllocError>
+    requires { length insts.items ≤ BLOCK_INSTS }
+    ensures leads { IfOk result (λ r. LeadsTo (InBlock insts.items) line.now (parts_after r)) }
+    ensures fits { IfOk result (λ r. IfSome r Fits) }
 {
-    let (nodes, heads) = match room {
-        Room::Few => (4096, 64),
-        Room::Many => (65536, 1024),
-    };
-    let (table, mut passes) = tables(alloc, nodes, heads)?;
-    let pass = passes.pop()?;
-    Some((table, pass))
-}
-
-/// One more root, which the pass has seen.
-fn put(roots: &mut Vec<Ticket>, ticket: Ticket, _pass: &Pass) -> Result<(), AllocError>
-    requires seen { HasSeen _pass.now ticket }
-    requires all { All (HasSeen _pass.now) roots.old.items }
-    ensures { All (HasSeen _pass.now) roots.new.items }
-{
-    roots.push(ticket)?;
-    Ok(())
-}
-
-fn put_places(roots: &mut Vec<Ticket>, places: &TermPlaces, pass: &Pass) -> Result<(), AllocError>
-    requires seen { ArePlacesSeen pass.now places.now }
-    requires all { All (HasSeen pass.now) roots.old.items }
-    ensures { All (HasSeen pass.now) roots.new.items }
-{
-    for r in 0..32u8 {
-        put(roots, places.regs[r as usize], pass)?;
-    }
-    put(roots, places.hi, pass)?;
-    put(roots, places.lo, pass)?;
-    put(roots, places.memory, pass)
-}
-
-fn put_exit(roots: &mut Vec<Ticket>, exit: &TermExit, pass: &Pass) -> Result<(), AllocError>
-    requires seen { IsSeenExit pass.now exit.now }
-    requires all { All (HasSeen pass.now) roots.old.items }
-    ensures { All (HasSeen pass.now) roots.new.items }
-{
-    match *exit {
-        TermExit::Goto(_) => Ok(()),
-        TermExit::BranchPair { a, b, .. } => {
-            put(roots, a, pass)?;
-            put(roots, b, pass)
-        }
-        TermExit::BranchZero { a, .. } => put(roots, a, pass),
-        TermExit::Call { .. } => Ok(()),
-        TermExit::Return(a) => put(roots, a, pass),
-        TermExit::Out { word, .. } => put(roots, word, pass),
-        TermExit::Halt(a) => put(roots, a, pass),
-    }
-}
-
-fn put_guard(roots: &mut Vec<Ticket>, guard: Guard, pass: &Pass) -> Result<(), AllocError>
-    requires seen { IsSeenGuard pass.now guard }
-    requires all { All (HasSeen pass.now) roots.old.items }
-    ensures { All (HasSeen pass.now) roots.new.items }
-{
-    match guard {
-        Guard::Address { address, .. } => put(roots, address, pass),
-        Guard::Division {
-            dividend,
-            divisor,
-            ..
-        } => {
-            put(roots, dividend, pass)?;
-            put(roots, divisor, pass)
-        }
-    }
-}
-
-fn put_guards(roots: &mut Vec<Ticket>, guards: &[Guard], pass: &Pass) -> Result<(), AllocError>
-    requires seen { All (IsSeenGuard pass.now) guards.now }
-    requires all { All (HasSeen pass.now) roots.old.items }
-    ensures { All (HasSeen pass.now) roots.new.items }
-{
-    for guard in guards {
-        put_guard(roots, *guard, pass)?;
-    }
-    Ok(())
-}
-
-/// The tickets of all places.
-fn roots_of(alloc: Global, state: &SymState, pass: &Pass) -> Result<Vec<Ticket>, AllocError>
-    requires { IsSeenState pass.now state.now.places state.now.exit state.now.guards.items }
-    ensures { IfOk result (λ v. All (HasSeen pass.now) v.items) }
-{
-    let mut roots = Vec::new(alloc);
-    put_places(&mut roots, &state.places, pass)?;
-    put_exit(&mut roots, &state.exit, pass)?;
-    put_guards(&mut roots, state.guards.as_slice(), pass)?;
-    Ok(roots)
-}
-
-/// What a block or an order leaves: its terms, how it is left, and what it relies on.
-#[derive(Drop)]
-pub struct Left {
-    pub reader: TermReader,
-    pub exit: TermExit,
-    pub guards: Vec<Guard>,
-}
-
-/// The reader of a state that a pass has seen.
-fn left_by(alloc: Global, table: TermTable, pass: Pass, state: SymState) -> Result<Left, ReadFault>
-    requires own { IsOf table pass }
-    requires seen { IsSeenState pass state.places state.exit state.guards.items }
-{
-    let roots = roots_of(alloc, &state, &pass)?;
-    let SymState { exit, guards, .. } = state;
-    let open = Open {
-        table,
-        pass,
-        roots,
-        waiting: Vec::new(alloc),
-    };
-    Ok(Left {
-        reader: TermReader { open },
-        exit,
-        guards,
-    })
-}
-
-/// What is run: a block or an order.
-#[derive(Clone, Copy)]
-pub(crate) enum Code<'a> {
-    Block(&'a Block),
-    Order(&'a Order),
-}
-
-/// The tickets of what a block or an order leaves.
-fn run(
-    alloc: Global,
-    table: &TermTable,
-    pass: &mut Pass,
-    code: Code<'_>,
-) -> Result<Result<SymState, TableFull>, AllocError>
-    requires { IsOf table.now pass.old }
-    ensures own { OnOk result (IsOf table.now pass.new) }
-    ensures seen { IfOk result (λ run. IfOk run (λ s. IsSeenState pass.new s.places s.exit s.guards.items)) }
-{
-    match code {
-        Code::Block(block) => run_block(alloc, table, pass, block),
-        Code::Order(order) => run_order(alloc, table, pass, order),
-    }
-}
-
-/// What a block or an order leaves, over a table of some room.
-fn left_in(alloc: Global, code: Code<'_>, size: Room) -> Result<Left, ReadFault> {
-    let Some((table, mut pass)) = table_of(alloc, size) else {
-        return Err(ReadFault::NoMemory);
-    };
-    match run(alloc, &table, &mut pass, code)? {
-        Ok(state) => left_by(alloc, table, pass, state),
-        Err(_) => Err(ReadFault::Full),
-    }
-}
-
-/// What a block or an order leaves.
-pub(crate) fn left_of(alloc: Global, code: Code<'_>) -> Result<Left, ReadFault> {
-    match left_in(alloc, code, Room::Few) {
-        Err(ReadFault::Full) => left_in(alloc, code, Room::Many),
-        left => left,
-    }
-}
-
-impl Open {
-    /// The root of the term that is next, and how many children it has, which are next then, the last one first.
-    fn next(&mut self) -> Result<Option<(Label, usize)>, AllocError>
-        requires { IsReader self.old }
-        ensures { IsReader self.new }
-    {
-        let Some(ticket) = self.waiting.pop() else {
-            return Ok(None);
+    if let Some(exit) = exit_of(line) {
+        return match Block::new(insts, exit) {
+            Some(block) => Ok(Some(Stage::AtOrder(block))),
+            None => Ok(None),
         };
-        let Node { label, children } = self.table.read::<Label>(&mut self.pass, ticket);
-        self.waiting.extend_from_slice(children.as_slice())?;
-        Ok(Some((label, children.len())))
+    }
+    match plain_of(line) {
+        None => Ok(None),
+        Some(inst) => {
+            if insts.len() >= BLOCK_INSTS {
+                return Ok(None);
+            }
+            insts.push(inst)?;
+            Ok(Some(Stage::InBlock(insts)))
+        }
     }
 }
 
-impl TermReader {
-    /// Goes to a root; false where there is none of this number.
-    pub fn start(&mut self, root: usize) -> Result<bool, AllocError> {
-        self.open.waiting.clear();
-        match self.open.roots.get(root).copied() {
-            Some(ticket) => {
-                self.open.waiting.push(ticket)?;
-                Ok(true)
+fn in_order(block: Block, mut insts: Vec<Plain>, line: &[u8]) -> Result<Option<Stage>, AllocError>
+    requires { length insts.items ≤ ORDER_INSTS }
+    ensures leads { IfOk result (λ r. LeadsTo (InOrder block insts.items) line.now (parts_after r)) }
+    ensures fits { IfOk result (λ r. IfSome r Fits) }
+{
+    if let Some(exit) = exit_of(line) {
+        if exit.has_slot() {
+            return Ok(Some(Stage::AtSlot(block, insts, exit)));
+        }
+        return match Order::new(insts, exit, None) {
+            Some(order) => Ok(Some(Stage::Done(block, order))),
+            None => Ok(None),
+        };
+    }
+    match plain_of(line) {
+        None => Ok(None),
+        Some(inst) => {
+            if insts.len() >= ORDER_INSTS {
+                return Ok(None);
             }
-            None => Ok(false),
+            insts.push(inst)?;
+            Ok(Some(Stage::InOrder(block, insts)))
         }
     }
+}
 
-    /// The label of the term that is next, and how many children it has, which are next then, the last one first. None where
-    /// nothing is left.
-    pub fn next(&mut self) -> Result<Option<(Label, usize)>, AllocError> {
-        self.open.next()
+fn at_slot(block: Block, insts: Vec<Plain>, exit: Exit, line: &[u8]) -> Option<Stage>
+    requires size { length insts.items ≤ ORDER_INSTS }
+    requires slotted { is_slotted exit ≡ true }
+    ensures leads { LeadsTo (AtSlot block insts.items exit) line.now (parts_after result) }
+    ensures fits { IfSome result Fits }
+{
+    match slot_of(line) {
+        None => None,
+        Some(inst) => match Order::new(insts, exit, Some(inst)) {
+            Some(order) => Some(Stage::Done(block, order)),
+            None => None,
+        },
     }
+}
 
-    /// Leaves out so many terms that are next.
-    pub fn skip(&mut self, count: usize) {
-        let kept = self.open.waiting.len().saturating_sub(count);
-        self.open.waiting.truncate(kept);
+/// Where one line takes the reader.
+fn step(alloc: Global, place: Stage, line: &[u8]) -> Result<Option<Stage>, AllocError>
+    requires { Fits place }
+    ensures leads { IfOk result (λ r. LeadsTo (stage_parts place) line.now (parts_after r)) }
+    ensures fits { IfOk result (λ r. IfSome r Fits) }
+{
+    match place {
+        Stage::AtBlock => {
+            if line == b"block".as_slice() {
+                Ok(Some(Stage::InBlock(Vec::new(alloc))))
+            } else {
+                Ok(None)
+            }
+        }
+        Stage::InBlock(insts) => in_block(insts, line),
+        Stage::AtOrder(block) => {
+            if line == b"order".as_slice() {
+                Ok(Some(Stage::InOrder(block, Vec::new(alloc))))
+            } else {
+                Ok(None)
+            }
+        }
+        Stage::InOrder(block, insts) => in_order(block, insts, line),
+        Stage::AtSlot(block, insts, exit) => Ok(at_slot(block, insts, exit, line)),
+        Stage::Done(_, _) => Ok(None),
+    }
+}
+
+/// The block and the order that the text, of at most 2^20 bytes, spells: a line `block`, at most 512
+/// instructions, an exit; a line `order`, at most 2,048 instructions, an exit, and a line `slot I` with
+/// an instruction unless the exit is `out` or `halt`.
+pub fn read(alloc: Global, text: &[u8]) -> Result<Text, PairFault>
+    requires { length text.now ≤ 2 ^ 20 }
+    ensures found { IfOk result (λ t. SpellsPair (lines_of text.now) t.block t.order) }
+    ensures only { (b : BlockParts) (o : OrderParts) → SpellsPair (lines_of text.now) b o
+        → MatchResult result (λ t. (t.block ≡ b) × (t.order ≡ o)) (λ e. e ≡ PairFault.NoMemory) }
+    ensures fault { IfErr result (IsPairFault (lines_of text.now)) }
+{
+    let mut place = Stage::AtBlock;
+    let mut rest = text;
+    let mut count: u32 = 0;
+    while !rest.is_empty() {
+        let line = first_line(rest);
+        match step(alloc, place, line.before) {
+            Err(_) => return Err(PairFault::NoMemory),
+            Ok(None) => return Err(PairFault::Line(count + 1)),
+            Ok(Some(next)) => place = next,
+        }
+        count += 1;
+        rest = line.after;
+    }
+    match place {
+        Stage::Done(block, order) => Ok(Text { block, order }),
+        _ => Err(PairFault::Line(count + 1)),
     }
 }

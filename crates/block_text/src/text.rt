@@ -1,6 +1,6 @@
 // The text of a term.
 
-use crate::reader::TermReader;
+use crate::terms::TermReader;
 use crate::writer::Writer;
 use mips_isa::{PairTest, ZeroTest};
 use std::alloc::{AllocError, Global};

@@ -2,8 +2,8 @@
 use Rattle.std.proofs.Common.{◌≡◌, ◌==◌, ◌<◌, ◌≤◌, ◌^◌, ◌+◌, ℕ, List, [], ◌∷◌, Bool, true, false, All, if◌then◌else◌, codes, decimal, length, refl, arith, inl, inr}
 use Rattle.std.specs.List.{onto_first}
 use Rattle.std.proofs.lemmas.List.Elements.{All-append}
-use Rattle.check_text.specs.Lines.{lines_of}
-use Rattle.check_text.specs.Whole.{FailsAt}
+use Rattle.block_text.specs.Lines.{lines_of}
+use Rattle.block_text.specs.Whole.{FailsAt}
 use Rattle.check_command.specs.Checks.{IsCheckFault}
 use Rattle.check_command.specs.Texts.{check_fault_text}
 use Rattle.check_command.specs.declared.verdicts.CheckFault.{CheckFault}

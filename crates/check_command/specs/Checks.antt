@@ -1,8 +1,8 @@
 -- The answers to a check text.
 use Rattle.std.specs.Prelude.{◌≡◌, ◌<◌, ◌≤◌, ◌^◌, ℕ, ◌+◌, List, length}
 use Rattle.mblock.specs.Parts.{BlockParts, OrderParts}
-use Rattle.check_text.specs.Lines.{lines_of}
-use Rattle.check_text.specs.Whole.{FailsAt, SpellsPair}
+use Rattle.block_text.specs.Lines.{lines_of}
+use Rattle.block_text.specs.Whole.{FailsAt, SpellsPair}
 use Rattle.mblock.specs.Clean.{IsClean}
 use Rattle.block_validator.specs.Verdicts.{Decides, same, unclean, differs}
 use Rattle.check_command.specs.declared.verdicts.CheckAnswer.{CheckAnswer}

@@ -2,8 +2,8 @@
 use Rattle.std.specs.Prelude.{◌≢◌, ◌≤◌, ℕ, List, ◌++◌, codes}
 use Rattle.mips_isa.specs.Texts.{register_text}
 use Rattle.mblock.specs.Texts.{unclean_text}
-use Rattle.check_text.specs.declared.fault.PairFault.TheVariants.{Line}
-use Rattle.check_text.specs.Faults.{pair_fault_text}
+use Rattle.block_text.specs.declared.fault.PairFault.TheVariants.{Line}
+use Rattle.block_text.specs.Faults.{pair_fault_text}
 use Rattle.block_validator.specs.declared.place.Place.{Place}
 use Rattle.block_validator.specs.declared.place.Place.TheVariants as places
 use Rattle.check_command.specs.declared.verdicts.CheckAnswer.{CheckAnswer}

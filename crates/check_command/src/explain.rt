@@ -9,7 +9,7 @@ use block_text::{
     ExitLine, ReadFault, WIDTH, Writer, block_place_text, order_place_text, page_of, put_insts,
 };
 use block_validator::Place;
-use check_text::{PairFault, Text, read};
+use block_text::{PairFault, Text, read};
 use mblock::{Block, Exit, Order, Unclean};
 use mips_isa::{Action, Plain, Reg};
 use std::alloc::{AllocError, Global};

@@ -6,7 +6,7 @@ ghost use Rattle.check_command.specs.Texts.{answer_text, check_fault_text, place
 
 use crate::verdicts::{CheckAnswer, CheckFault};
 use block_validator::Place;
-use check_text::PairFault;
+use block_text::PairFault;
 use std::error::Error;
 use std::fmt;
 

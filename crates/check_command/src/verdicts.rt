@@ -1,13 +1,13 @@
 // The verdict of a check text, or its fault.
 ghost use Rattle.std.specs.Prelude.{◌≡◌, ℕ, ◌≤◌, ◌^◌, length, IfOk, IfErr, IfSome, MatchResult, All};
 ghost use Rattle.mblock.specs.Parts.{BlockParts, OrderParts};
-ghost use Rattle.check_text.specs.Lines.{lines_of};
-ghost use Rattle.check_text.specs.Whole.{SpellsPair};
+ghost use Rattle.block_text.specs.Lines.{lines_of};
+ghost use Rattle.block_text.specs.Whole.{SpellsPair};
 ghost use Rattle.term_table.specs.Passes.{IsOf};
 ghost use Rattle.check_command.specs.Checks.{IsAnswer, IsCheckFault};
 
 use block_validator::{Place, Verdict, validate};
-use check_text::{PairFault, Text, read};
+use block_text::{PairFault, Text, read};
 use mblock::{Block, Order, Unclean};
 use std::alloc::Global;
 use term_table::{OpenFault, Pass, TermTable};

@@ -8,7 +8,7 @@
 mod loads_first;
 
 use crate::loads_first::LoadsFirst;
-use check_text::{exit_of, plain_of};
+use block_text::{exit_of, plain_of};
 use list_scheduler::Reorder;
 use mblock::{Block, BlockNumber, Order, Unit};
 use sched_phase::{PhaseOpts, schedule_one};

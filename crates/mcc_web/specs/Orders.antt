@@ -6,7 +6,7 @@ use Rattle.mips_isa.specs.Texts.{instruction_text}
 use Rattle.mblock.specs.Parts.{BlockParts, OrderParts}
 use Rattle.mblock.specs.Units.{UnitParts}
 use Rattle.mblock.specs.Orders.{AreOrders}
-use Rattle.check_text.specs.Spelling.{exit_text}
+use Rattle.block_text.specs.Spelling.{exit_text}
 use Rattle.driver.specs.Halves.{IsUnitOf}
 use Rattle.mcc_web.specs.Answers.{Gives}
 

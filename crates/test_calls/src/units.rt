@@ -3,7 +3,7 @@
 
 ghost use Rattle.std.specs.Prelude.{◌≡◌};
 
-use check_text::{exit_of, plain_of};
+use block_text::{exit_of, plain_of};
 use image::{Counts, Image, NO_COUNTS, read_image, write_image};
 use mblock::{Block, BlockNumber, Unit, plain_orders};
 use mips_asm::{AsmFault, assemble, image_of, list};

@@ -1,7 +1,0 @@
-pub mod Lines
-pub mod Spelling
-pub mod Whole
-pub mod StageParts
-pub mod Stages
-pub mod Faults
-pub mod Named
