@@ -12,8 +12,8 @@ use Rattle.mips_homes.specs.declared.homed.Homed.{Homed}
 use Rattle.mips_homes.specs.Places.{ArePlaced}
 use Rattle.mips_homes.specs.HomedRun.{homed_run}
 use Rattle.mips_homes.proofs.Located.{places_keep_runs}
-use Rattle.mips_split.proofs.Apart.{comes_to}
-use Rattle.mips_split.specs.Split.{split_blocks}
+use Rattle.mips_select.proofs.Apart.{comes_to}
+use Rattle.mips_select.specs.Split.{split_blocks}
 use Rattle.mips_select.proofs.DataPlaces.{have_values}
 use Rattle.mips_select.proofs.DataEnds.{data_starts_same}
 use Rattle.mips_select.specs.Data.{padded_bytes}

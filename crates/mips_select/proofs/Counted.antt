@@ -11,8 +11,8 @@ use Rattle.rtl.specs.declared.block.RGlobal.{RGlobal}
 use Rattle.mips_homes.specs.declared.homed.Frame.{Frame}
 use Rattle.mips_emit.specs.Locations.{locations, no_facts, known_after}
 use Rattle.mips_emit.specs.Comparisons.{insts_code, last_after, no_last}
-use Rattle.mips_split.specs.Split.{first_piece_of, total}
-use Rattle.mips_split.proofs.Counts.{length-split_from}
+use Rattle.mips_select.specs.Split.{first_piece_of, total}
+use Rattle.mips_select.proofs.Counts.{length-split_from}
 use Rattle.mips_select.specs.declared.heads.Naming.{Naming}
 use Rattle.mips_select.specs.declared.heads.Naming.TheVariants.{Unnamed, Called, Jumped}
 use Rattle.mips_select.specs.declared.heads.Head.{Head}

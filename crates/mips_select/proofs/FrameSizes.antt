@@ -19,7 +19,7 @@ use Rattle.mips_homes.specs.Convention.{temporaries}
 use Rattle.mips_homes.specs.Copies.{is_leaf, unused, copies_onto}
 use Rattle.mips_emit.specs.Frames.{IsHome, AreCopies, frame_size, IsFrame}
 use Rattle.mips_select.proofs.Copied.{copies_are}
-use Rattle.mips_split.proofs.Places.{block_there}
+use Rattle.mips_select.proofs.Places.{block_there}
 use Rattle.mips_select.specs.declared.limits.TheConstants.{STACK_BYTES}
 use Rattle.mips_select.specs.Emittable.{AreReachable}
 use Rattle.mips_select.specs.Limits.{frame_bytes_of, largest_frame, largest_by_homes, FramesFit, HaveRoom}

@@ -1,3 +1,12 @@
+pub mod Places
+pub mod Runs
+pub mod SplitReturns
+pub mod SplitSimulation
+pub mod Apart
+pub mod Counts
+pub mod Well
+pub mod Made
+pub mod Owned
 mod Named
 mod Blocks
 mod Returns

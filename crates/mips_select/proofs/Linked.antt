@@ -20,8 +20,8 @@ use Rattle.mips_emit.specs.declared.comparison.Form.TheVariants.{OnPair, OnLeft,
 use Rattle.mips_emit.specs.declared.comparison.Comparison.{Comparison}
 use Rattle.mips_emit.specs.Locations.{Facts, locations, last_operand}
 use Rattle.mips_emit.specs.Comparisons.{exit_by_form, tested, branch_exit}
-use Rattle.mips_split.specs.Functions.{blocks_of, owners_of, IsFrom, GoesWithin, IsFunctionAt, AreFunctions}
-use Rattle.mips_split.proofs.Owned.{functions_owned}
+use Rattle.mips_select.specs.Functions.{blocks_of, owners_of, IsFrom, GoesWithin, IsFunctionAt, AreFunctions}
+use Rattle.mips_select.proofs.Owned.{functions_owned}
 use Rattle.mips_select.specs.declared.heads.Head.{Head}
 use Rattle.mips_select.specs.declared.heads.Head.TheVariants.{Bare, Enters, Takes}
 use Rattle.mips_select.specs.Heads.{heads_of, is_leaf, resumes, count, lead_of, lead_in}

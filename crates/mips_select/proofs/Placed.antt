@@ -21,7 +21,7 @@ use Rattle.mips_emit.specs.declared.limits.TheConstants.{FRAME_BYTES}
 use Rattle.mips_emit.specs.Frames.{IsFrame}
 use Rattle.mips_homes.specs.Copies.{copy_of}
 use Rattle.mips_emit.specs.Locations.{in_frame, location_at, locations}
-use Rattle.mips_split.proofs.Places.{HasAt, has_head, has_tail, has_front, has_back}
+use Rattle.mips_select.proofs.Places.{HasAt, has_head, has_tail, has_front, has_back}
 use Rattle.mips_select.specs.declared.heads.Naming.{Naming}
 use Rattle.mips_select.specs.declared.heads.Naming.TheVariants.{Unnamed, Called, Jumped}
 use Rattle.mips_select.specs.declared.heads.Head.{Head}

@@ -18,10 +18,10 @@ use Rattle.rtl.specs.Programs.{Program, IsExit, IsBlock, IsFunction, IsProgram, 
 use Rattle.mips_homes.specs.declared.homed.Frame.{Frame}
 use Rattle.mips_homes.specs.declared.homed.Homed.{Homed}
 use Rattle.mips_homes.specs.Places.{ArePlaced}
-use Rattle.mips_split.specs.declared.fault.SelectFault.{SelectFault}
-use Rattle.mips_split.specs.declared.fault.SelectFault.TheVariants.{Limit}
-use Rattle.mips_split.specs.Split.{split_blocks, split_owners, first_piece_of, firsts, total}
-use Rattle.mips_split.proofs.Counts.{total_above, length-split_from}
+use Rattle.mips_select.specs.declared.fault.SelectFault.{SelectFault}
+use Rattle.mips_select.specs.declared.fault.SelectFault.TheVariants.{Limit}
+use Rattle.mips_select.specs.Split.{split_blocks, split_owners, first_piece_of, firsts, total}
+use Rattle.mips_select.proofs.Counts.{total_above, length-split_from}
 use Rattle.mips_select.specs.Data.{zeros, data_bytes, starts_from, start_of}
 use Rattle.mips_select.specs.Code.{start_block, end_block}
 use Rattle.mips_select.specs.Emittable.{HasFewArguments, IsEmittable, AreFunctionsEmittable}

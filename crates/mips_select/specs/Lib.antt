@@ -1,3 +1,6 @@
+pub mod Split
+pub mod Functions
+pub mod SplitLaws
 pub mod Heads
 pub mod Data
 pub mod Code

@@ -11,7 +11,7 @@ use Rattle.rtl.specs.declared.block.RFunc.{RFunc}
 use Rattle.rtl.specs.declared.block.RGlobal.{RGlobal}
 use Rattle.mips_homes.specs.declared.homed.Frame.{Frame}
 use Rattle.mips_homes.specs.declared.homed.Homed.{Homed}
-use Rattle.mips_split.specs.Split.{first_piece_of, split_blocks, split_owners}
+use Rattle.mips_select.specs.Split.{first_piece_of, split_blocks, split_owners}
 use Rattle.mips_select.specs.declared.heads.Head.{Head}
 use Rattle.mips_select.specs.declared.heads.Head.TheVariants.{Bare, Enters, Takes}
 use Rattle.mips_select.specs.Heads.{heads_of, is_leaf, resumes, count, lead_in}

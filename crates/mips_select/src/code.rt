@@ -19,7 +19,7 @@ use mblock::{BlockNumber, Exit};
 use mips_emit::{Comparison, Knowledge, Last, Setting, emit_arrival, emit_insts, register};
 use mips_homes::{Frame, RESULT};
 use mips_isa::Plain;
-use mips_split::LongBlock;
+use crate::long::LongBlock;
 use rtl::{RBlock, RExit, Register};
 use std::alloc::{AllocError, Global};
 

@@ -19,7 +19,7 @@ use mblock::{BlockNumber, Exit};
 use mips_emit::{Knowledge, emit_constant};
 use mips_homes::{Frame, GLOBAL_POINTER, is_leaf};
 use mips_isa::{AluOp, DATA_BASE, Plain, Reg};
-use mips_split::LongBlock;
+use crate::long::LongBlock;
 use rtl::{RBlock, RFunc};
 use std::alloc::{AllocError, Global};
 

@@ -1,10 +1,11 @@
 //! Selection of machine code: an RTL program becomes a unit of blocks.
 //!
-//! Definitions: `specs/Laws.antt`, `specs/Limits.antt`, `specs/Whole.antt`.
-//! Contract: `select`, `select_numbered`, `each_unit_keeps_runs`, `each_unit_is_counted`
+//! Definitions: `specs/Laws.antt`, `specs/Limits.antt`, `specs/Whole.antt`, `specs/Split.antt`, `specs/SplitLaws.antt`.
+//! Contract: `select`, `select_numbered`, `each_unit_keeps_runs`, `each_unit_is_counted`, `each_split_unit_comes_to`
 //! - If the program isn't wrong after n steps, its unit has the same end and output after no fewer, whatever the links of calls are.
 //! - The data are the globals' bytes. Ok comes only if frames and stack fit.
 //! - Limit comes only if they don't, or if there would be too many blocks.
+//! - Blocks of any length are cut into pieces of at most 512 instructions. The unit does what the long blocks do.
 //! - A unit has no more blocks than the counts of functions, blocks and instructions allow.
 //!
 //! | Tested | In |
@@ -14,20 +15,28 @@
 
 mod code;
 mod exits;
+mod fault;
 mod functions;
 mod globals;
 mod heads;
 mod laws;
 mod limits;
+mod long;
 mod numbering;
 mod numbers;
+mod pieces;
 mod plan;
 mod program;
 mod prologue;
 mod push;
+mod split_laws;
 
+pub use fault::SelectFault;
 pub use laws::{each_unit_is_counted, each_unit_keeps_runs, limits_are_these_numbers};
 pub use limits::STACK_BYTES;
-pub use mips_split::SelectFault;
 pub use numbering::{Numbered, select_numbered};
 pub use program::select;
+pub use split_laws::{
+    each_list_of_functions_is_owned, each_split_unit_comes_to, each_split_unit_is_well,
+    each_split_unit_runs,
+};

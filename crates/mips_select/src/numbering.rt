@@ -4,7 +4,7 @@ ghost use Rattle.std.specs.Prelude.{◌≡◌, ℕ, ◌+◌, ◌<◌, ◌≤◌,
 ghost use Rattle.mblock.specs.declared.limits.TheConstants.{BLOCK_INSTS, UNIT_BLOCKS};
 ghost use Rattle.rtl.specs.declared.block.RFunc.{RFunc};
 ghost use Rattle.rtl.specs.declared.limits.TheConstants.{MAX_BLOCKS};
-ghost use Rattle.mips_split.specs.Split.{total, first_piece_of};
+ghost use Rattle.mips_select.specs.Split.{total, first_piece_of};
 ghost use Rattle.mips_select.specs.Heads.{AreNamed};
 ghost use Rattle.mips_select.specs.Limits.{FramesFit};
 ghost use Rattle.mips_select.specs.Whole.{functions_size, numbers_from};
@@ -13,7 +13,8 @@ ghost use Rattle.mips_select.specs.Laws.{IsNumbered, IsBeyond};
 use crate::numbers::{number_at, number_each};
 use crate::program::{LongUnit, homes_with_room, long_unit, unit_of};
 use mblock::{BlockNumber, Unit};
-use mips_split::{SelectFault, first_pieces};
+use crate::fault::SelectFault;
+use crate::pieces::first_pieces;
 use rtl::{RFunc, Rtl};
 use std::alloc::{AllocError, Global};
 

@@ -12,7 +12,7 @@ ghost use Rattle.mips_select.specs.Whole.{numbers_in, numbers_from};
 use crate::heads::{Naming, all_namings, count_of, lead_in};
 use crate::push::push;
 use mblock::{BlockNumber, UNIT_BLOCKS};
-use mips_split::SelectFault;
+use crate::fault::SelectFault;
 use rtl::{RBlock, RFunc};
 use std::alloc::{AllocError, Global};
 

@@ -18,7 +18,9 @@ use crate::numbers::{Numbers, number_at, number_functions};
 use crate::plan::Linkage;
 use mblock::{BlockNumber, Unit};
 use mips_homes::{Homed, place};
-use mips_split::{LongBlock, SelectFault, split_unit};
+use crate::fault::SelectFault;
+use crate::long::LongBlock;
+use crate::pieces::split_unit;
 use rtl::Rtl;
 use std::alloc::{AllocError, Global};
 

@@ -1,0 +1,112 @@
+-- Pieces that are being made.
+use Rattle.std.proofs.Common.{◌≡◌, ℕ, suc, ◌+◌, ◌-◌, ◌/◌, ◌<◌, ◌≤◌, List, [], ◌∷◌, ◌++◌, length, length-append, get_or, sym, ap, ap₂, ◌∙◌}
+use Rattle.std.proofs.Common.{subst, arith, take, drop}
+use Rattle.std.specs.Prelude.{All, ◌^◌, slice_index, replicate}
+use Rattle.std.proofs.lemmas.List.{append_assoc, at_drop_more}
+use Rattle.mips_isa.specs.declared.inst.Plain.{Plain}
+use Rattle.mblock.specs.declared.exit.Exit.{Exit}
+use Rattle.mblock.specs.declared.exit.Exit.TheVariants.{Goto}
+use Rattle.mblock.specs.Parts.{BlockParts}
+use Rattle.mips_select.specs.Split.{renumbered_exit, more_pieces, piece, pieces, count_of, total, firsts, split_from, first_piece_of, owners_from, split_blocks}
+use Rattle.mblock.specs.Units.{AreLinked, AreOwners, IsUnit, unit_parts}
+use Rattle.mips_select.proofs.Places.{length-pieces}
+use Rattle.mips_select.proofs.Counts.{length-split_from, total_above}
+use Rattle.mips_select.proofs.Well.{pieces_linked, pieces_owned}
+
+-- one more piece of a block
+pub piece_step : (exit : Exit) (out out' all : List BlockParts) (insts front back : List Plain) (next : ℕ) → 512 < length insts
+    → length back + 512 ≡ length insts → front ≡ take 512 insts → back ≡ drop 512 insts → next ≡ length out + 1
+    → out' ≡ out ++ piece front (Goto next) ∷ [] → length out + (length insts - 1) / 512 < 1048576
+    → out ++ pieces 512 exit ((length insts - 1) / 512) (length out) insts ≡ all
+    → (length out' + (length back - 1) / 512 < 1048576) × (out' ++ pieces 512 exit ((length back - 1) / 512) (length out') back ≡ all)
+piece_step exit out out' all insts front back next many long front_is back_is next_is made few before =
+    let more = (length back - 1) / 512 in
+    let count : (length insts - 1) / 512 ≡ suc more = omega (arith, many, long) in
+    let next_suc : next ≡ suc (length out) = omega (arith, next_is) in
+    let longer : length out' ≡ suc (length out) = ap length made ∙ length-append out (piece front (Goto next) ∷ [])
+    ∙ (let one : length out + 1 ≡ suc (length out) = omega arith in one) in (
+      omega (arith, few, count, longer),
+      ap (λ l. l ++ pieces 512 exit more (length out') back) made
+          ∙ append_assoc out (piece front (Goto next) ∷ []) (pieces 512 exit more (length out') back)
+          ∙ ap (λ n. out ++ piece front (Goto next) ∷ pieces 512 exit more n back) longer
+          ∙ ap (λ n. out ++ piece front (Goto n) ∷ pieces 512 exit more (suc (length out)) back) next_suc
+          ∙ ap₂ (λ (a b : List Plain). out ++ piece a (Goto (suc (length out))) ∷ pieces 512 exit more (suc (length out)) b) front_is back_is
+          ∙ ap (λ n. out ++ pieces 512 exit n (length out) insts) (sym count)
+          ∙ before,
+    )
+
+-- one more block, of those that are left
+pub block_step : (place : ℕ → ℕ) (b : BlockParts) (bs bs' out out' all : List BlockParts) (count : ℕ) (exit old : Exit) → bs ≡ b ∷ bs'
+    → exit ≡ renumbered_exit place old → old ≡ b.exit → out' ≡ out ++ pieces 512 exit (more_pieces 512 b) (length out) b.insts
+    → length out + total 512 bs ≡ count → out ++ split_from 512 place (length out) bs ≡ all
+    → (length out' + total 512 bs' ≡ count) × (out' ++ split_from 512 place (length out') bs' ≡ all)
+block_step place b bs bs' out out' all count exit old left exit_is old_is made counted before =
+    let own = pieces 512 (renumbered_exit place b.exit) (more_pieces 512 b) (length out) b.insts in
+    let here : out' ≡ out ++ own = made
+    ∙ ap (λ (x : Exit). out ++ pieces 512 x (more_pieces 512 b) (length out) b.insts) (exit_is ∙ ap (renumbered_exit place) old_is) in
+    let parts = length-pieces 512 (renumbered_exit place b.exit) (more_pieces 512 b) (length out) b.insts in
+    let longer : length out' ≡ length out + count_of 512 b = ap length here ∙ length-append out own ∙ ap (λ n. length out + n) parts in
+    let counts : total 512 bs ≡ count_of 512 b + total 512 bs' = ap (total 512) left in (
+      omega (arith, counted, counts, longer),
+      ap₂ (λ l n. l ++ split_from 512 place n bs') here longer
+          ∙ append_assoc out own (split_from 512 place (length out + count_of 512 b) bs')
+          ∙ ap (λ l. out ++ split_from 512 place (length out) l) (sym left)
+          ∙ before,
+    )
+
+-- as few pieces as were counted
+pub few_pieces : (place : ℕ → ℕ) (long blocks : List BlockParts) → blocks ≡ split_from 512 place 0 long → total 512 long ≤ 1048576 → length blocks ≤ 1048576
+few_pieces place long blocks made few =
+    let count : length blocks ≡ total 512 long = ap length made ∙ length-split_from 512 place 0 long in
+    omega (arith, few, count)
+
+-- the owner of one more block's pieces
+pub owner_step : (place : ℕ → ℕ) (i o first more : ℕ) (long : List BlockParts) (owner : List ℕ) (b : BlockParts) (out out' all : List ℕ)
+    → i < length long → length owner ≡ length long → b ≡ get_or long i b → o ≡ get_or owner i o
+    → first ≡ place o → more ≡ more_pieces 512 b → out' ≡ out ++ replicate (1 + more) first → out ++ owners_from 512 place (drop i long) (drop i owner) ≡ all
+    → out' ++ owners_from 512 place (drop (i + 1) long) (drop (i + 1) owner) ≡ all
+owner_step place i o first more long owner b out out' all within same b_is o_is first_is more_is made before =
+    let bs = drop (i + 1) long in
+    let os = drop (i + 1) owner in
+    let count : 1 + more ≡ count_of 512 b = omega (arith, more_is) in
+    let here : out' ≡ out ++ replicate (count_of 512 b) (place o) = made ∙ ap₂ (λ n w. out ++ replicate n w) count first_is in
+    let step : owners_from 512 place (drop i long) (drop i owner) ≡ replicate (count_of 512 b) (place o) ++ owners_from 512 place bs os =
+    at_drop_more (λ l. owners_from 512 place l (drop i owner)) long i b within
+    ∙ at_drop_more (λ l. owners_from 512 place (get_or long i b ∷ bs) l) owner i o (omega (arith, within, same))
+    ∙ ap (λ (b : BlockParts). replicate (count_of 512 b) (place (get_or owner i o)) ++ owners_from 512 place bs os) (sym b_is)
+    ∙ ap (λ o. replicate (count_of 512 b) (place o) ++ owners_from 512 place bs os) (sym o_is) in
+    ap (λ l. l ++ owners_from 512 place bs os) here
+    ∙ append_assoc out (replicate (count_of 512 b) (place o)) (owners_from 512 place bs os)
+    ∙ ap (λ l. out ++ l) (sym step)
+    ∙ before
+
+-- pieces by a table of the numbers of first pieces
+pub pieces_are : (long : List BlockParts) (numbers table : List ℕ) (blocks : List BlockParts) → numbers ≡ firsts 512 0 long
+    → table ≡ numbers → blocks ≡ split_from 512 (λ n. slice_index table n) 0 long → blocks ≡ split_blocks long
+pieces_are long numbers table blocks numbers_is table_is blocks_is = blocks_is
+    ∙ ap (λ (t : List ℕ). split_from 512 (λ n. slice_index t n) 0 long) (table_is ∙ numbers_is)
+
+-- pieces with their owners are a unit
+pub unit_made : (long : List BlockParts) (owner globals : List ℕ) (numbers table table2 : List ℕ) (blocks : List BlockParts)
+    (owners : List ℕ) → AreLinked long → AreOwners long owner → 0 < length long → length globals ≤ 1048576 → All (λ b. b < 2 ^ 8) globals
+    → total 512 long ≤ 1048576
+    → numbers ≡ firsts 512 0 long → table ≡ numbers → table2 ≡ numbers → blocks ≡ split_from 512 (λ n. slice_index table n) 0 long
+    → owners ≡ owners_from 512 (λ n. slice_index table2 n) long owner
+    → IsUnit (unit_parts blocks owners globals)
+unit_made long owner globals numbers table table2 blocks owners linked owned some data_few data_small few numbers_is table_is table2_is blocks_is owners_is =
+    subst (λ blocks. IsUnit (unit_parts blocks owners globals)) (sym (pieces_are long numbers table blocks numbers_is table_is blocks_is))
+    (subst (λ owners. IsUnit (unit_parts (split_blocks long) owners globals))
+    (sym (owners_is ∙ ap (λ (t : List ℕ). owners_from 512 (λ n. slice_index t n) long owner) (table2_is ∙ numbers_is))) (record {
+      some = (let many = total_above 512 long in omega (arith, some, many, count));
+      few = omega (arith, few, count);
+      linked = pieces_linked 512 positive long linked;
+      owners = pieces_owned 512 positive long owner owned;
+      data_fits = data_few;
+      data_bytes = data_small;
+    }))
+  where
+    positive : 0 < 512
+    positive = omega arith
+
+    count : length (split_blocks long) ≡ total 512 long
+    count = length-split_from 512 (first_piece_of 512 long) 0 long

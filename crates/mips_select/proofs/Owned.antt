@@ -1,0 +1,154 @@
+-- Functions one behind another are linked and owned.
+use Rattle.std.proofs.Common.{◌≡◌, ◌≢◌, ℕ, zero, suc, ◌+◌, ◌-◌, ◌<◌, ◌≤◌, ◌⊎◌, inl, inr, List, [], ◌∷◌, length, length-append, Some, refl}
+use Rattle.std.proofs.Common.{sym, ap, ◌∙◌, subst, arith}
+use Rattle.std.specs.Prelude.{slice_get, replicate}
+use Rattle.std.proofs.lemmas.List.{length-replicate}
+use Rattle.std.proofs.lemmas.Option.{same_Some, slice_get_within}
+use Rattle.mblock.specs.declared.exit.Exit.{Exit}
+use Rattle.mblock.specs.declared.exit.Exit.TheVariants.{Goto, BranchPair, BranchZero, Call, Return, Out, Halt}
+use Rattle.mblock.specs.Parts.{BlockParts}
+use Rattle.mblock.specs.Units.{GoesBelow, BranchesWithin, Continues, AreLinked, AreOwners}
+use Rattle.mips_select.specs.Functions.{blocks_of, owners_of, IsFrom, GoesWithin, IsFunctionAt, AreFunctions}
+use Rattle.mips_select.proofs.Places.{HasAt, has_whole, has_front, has_back, block_there}
+use Rattle.mips_select.proofs.Counts.{apart_from}
+use Rattle.mips_select.proofs.Well.{get_replicate}
+
+length-owners_of : (k : ℕ) (fs : List (List BlockParts)) → length (owners_of k fs) ≡ length (blocks_of fs)
+length-owners_of k [] = refl
+length-owners_of k (f ∷ fs) =
+    let rest = length-owners_of (k + length f) fs in
+    let here = length-replicate (length f) k in
+    let left = length-append (replicate (length f) k) (owners_of (k + length f) fs) in
+    let right = length-append f (blocks_of fs) in
+    omega (arith, rest, here, left, right)
+
+module _ (bound : ℕ) (blocks : List BlockParts) (owner : List ℕ) where
+  -- block i is in the function that begins at `start`
+  record InFunction (i : ℕ) : Type 0 where
+    start : ℕ
+    behind : ℕ
+    code : List BlockParts
+    is : i ≡ start + behind
+    within : behind < length code
+    fits : start + length code ≤ bound
+    function : IsFunctionAt bound start code
+    blocks_at : HasAt blocks start code
+    owned : HasAt owner start (replicate (length code) start)
+
+  in_function : (k : ℕ) (fs : List (List BlockParts)) → k + length (blocks_of fs) ≤ bound → AreFunctions bound k fs
+      → HasAt blocks k (blocks_of fs) → HasAt owner k (owners_of k fs) → (i : ℕ) → i < length (blocks_of fs) → InFunction (k + i)
+  in_function k [] fits are has owned i lt = absurd (omega (arith, lt))
+  in_function k (f ∷ fs) fits are has owned i lt =
+      by_length (apart_from (length f) i)
+      (λ d d_lt. in_function (k + length f) fs (omega (arith, fits, sum)) are.1 (has_back blocks k f (blocks_of fs) has) owned_behind d d_lt)
+    where
+      sum : length (blocks_of (f ∷ fs)) ≡ length f + length (blocks_of fs)
+      sum = length-append f (blocks_of fs)
+
+      owned_behind : HasAt owner (k + length f) (owners_of (k + length f) fs)
+      owned_behind = (let here : k + length (replicate (length f) k) ≡ k + length f = ap (λ n. k + n) (length-replicate (length f) k) in
+          subst (λ n. HasAt owner n (owners_of (k + length f) fs)) here (has_back owner k (replicate (length f) k) (owners_of (k + length f) fs) owned))
+
+      by_length : (i < length f) ⊎ ((d : ℕ) × (i ≡ length f + d)) → ((d : ℕ) → d < length (blocks_of fs) → InFunction (k + length f + d)) → InFunction (k + i)
+      by_length (inl here) rest = record {
+        start = k;
+        behind = i;
+        code = f;
+        is = refl;
+        within = here;
+        fits = omega (arith, fits, sum);
+        function = are.0;
+        blocks_at = has_front blocks k f (blocks_of fs) has;
+        owned = has_front owner k (replicate (length f) k) (owners_of (k + length f) fs) owned;
+      }
+      by_length (inr e) rest =
+          let same = e.1 in
+          let moved : k + length f + e.0 ≡ k + i = omega (arith, same) in
+          subst InFunction moved (rest e.0 (omega (arith, lt, same, sum)))
+
+  owned_from : (start n : ℕ) → HasAt owner start (replicate n start) → (t : ℕ) → IsFrom start n t → slice_get owner t ≡ Some start
+  owned_from start n owned t at =
+      let low = at.0 in
+      let high = at.1 in
+      let here : t ≡ start + (t - start) = omega (arith, low) in
+      ap (slice_get owner) here ∙ owned.by (t - start) start (get_replicate n start (t - start) (omega (arith, low, high)))
+
+  below : (start n : ℕ) → start + n ≤ bound → (exit : Exit) → GoesWithin bound start n exit → GoesBelow bound exit
+  below start n fits (Goto t) at = at
+  below start n fits (BranchPair test a b t e) at = (let lt = at.0.1 in let lt' = at.1.1 in (omega (arith, fits, lt), omega (arith, fits, lt')))
+  below start n fits (BranchZero test a t e) at = (let lt = at.0.1 in let lt' = at.1.1 in (omega (arith, fits, lt), omega (arith, fits, lt')))
+  below start n fits (Call f next) at = at
+  below start n fits Return at = tt
+  below start n fits (Out next) at = at
+  below start n fits Halt at = tt
+
+  inside : (start n : ℕ) → HasAt owner start (replicate n start) → (exit : Exit) → GoesWithin bound start n exit → BranchesWithin owner start exit
+  inside start n owned (Goto t) at = tt
+  inside start n owned (BranchPair test a b t e) at = (owned_from start n owned t at.0, owned_from start n owned e at.1)
+  inside start n owned (BranchZero test a t e) at = (owned_from start n owned t at.0, owned_from start n owned e at.1)
+  inside start n owned (Call f next) at = tt
+  inside start n owned Return at = tt
+  inside start n owned (Out next) at = tt
+  inside start n owned Halt at = tt
+
+  -- the exit of a block keeps to its function
+  exit_within : (i : ℕ) (b : BlockParts) (at : InFunction i) → slice_get blocks i ≡ Some b → GoesWithin bound at.start (length at.code) b.exit
+  exit_within i b at there =
+      let c = block_there at.code at.behind at.within in
+      let same : c.0 ≡ b = same_Some c.0 b (sym (at.blocks_at.by at.behind c.0 c.1) ∙ sym (ap (slice_get blocks) at.is) ∙ there) in
+      at.function.by at.behind b (c.1 ∙ ap Some same)
+
+  owner_at : (i : ℕ) (at : InFunction i) → slice_get owner i ≡ Some at.start
+  owner_at i at =
+      let is = at.is in
+      let lt = at.within in
+      owned_from at.start (length at.code) at.owned i (omega (arith, is), omega (arith, is, lt))
+
+  goes_on_from : (i o : ℕ) → InFunction i → slice_get owner i ≡ Some o → Continues owner i o
+  goes_on_from zero o at here =
+      let is = at.is in
+      let same = same_Some at.start o (sym (owner_at zero at) ∙ here) in
+      omega (arith, is, same)
+  goes_on_from (suc i) o at here = λ other.
+      let same : at.start ≡ o = same_Some at.start o (sym (owner_at (suc i) at) ∙ here) in
+      by_place at.behind at.is at.within same other
+    where
+      by_place : (j : ℕ) → suc i ≡ at.start + j → j < length at.code → at.start ≡ o → o ≢ suc i → slice_get owner i ≡ Some o
+      by_place zero is lt same other = absurd (other (omega (arith, is, same)))
+      by_place (suc j) is lt same other = owned_from at.start (length at.code) at.owned i (omega (arith, is), omega (arith, is, lt)) ∙ ap Some same
+
+pub functions_owned : (fs : List (List BlockParts)) → AreFunctions (length (blocks_of fs)) 0 fs → AreLinked (blocks_of fs)
+    × AreOwners (blocks_of fs) (owners_of 0 fs)
+functions_owned fs are = (
+  record {
+    by =
+        λ i b there. (let at = place i (slice_get_within blocks i b there) in
+        below bound blocks owner at.start (length at.code) at.fits b.exit (exit_within bound blocks owner i b at there));
+  },
+  record {
+    lengths = same;
+    continues = λ i o here. (let low = slice_get_within owner i o here in goes_on_from bound blocks owner i o (place i (omega (arith, low, same))) here);
+    within = λ i o b there here.
+        (let at = place i (slice_get_within blocks i b there) in
+        subst (λ o. BranchesWithin owner o b.exit) (same_Some at.start o (sym (owner_at bound blocks owner i at) ∙ here))
+        (inside bound blocks owner at.start (length at.code) at.owned b.exit (exit_within bound blocks owner i b at there)));
+  },
+)
+  where
+    blocks : List BlockParts
+    blocks = blocks_of fs
+
+    owner : List ℕ
+    owner = owners_of 0 fs
+
+    bound : ℕ
+    bound = length (blocks_of fs)
+
+    same : length (owners_of 0 fs) ≡ length (blocks_of fs)
+    same = length-owners_of 0 fs
+
+    place : (i : ℕ) → i < length (blocks_of fs) → InFunction (length (blocks_of fs)) (blocks_of fs) (owners_of 0 fs) i
+    place i lt = (let zero_i : 0 + i ≡ i = omega arith in
+        subst (InFunction (length (blocks_of fs)) (blocks_of fs) (owners_of 0 fs)) zero_i
+        (in_function (length (blocks_of fs)) (blocks_of fs) (owners_of 0 fs) 0 fs (omega arith) are (has_whole (blocks_of fs))
+        (has_whole (owners_of 0 fs)) i lt))

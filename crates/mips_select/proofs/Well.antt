@@ -1,0 +1,253 @@
+-- Pieces are short, go to pieces that exist, and keep their functions together.
+use Rattle.std.proofs.Common.{◌≡◌, ◌≢◌, ℕ, zero, suc, ◌+◌, ◌<◌, ◌≤◌, ◌==◌, ◌⊎◌, inl, inr, Bool, true, false, List, [], ◌∷◌, length}
+use Rattle.std.proofs.Common.{length-append, Some, refl, sym, ap, ◌∙◌, subst, arith, eqb-true, eq-eqb, true≢false}
+use Rattle.std.specs.Prelude.{slice_get, slice_index, replicate}
+use Rattle.std.proofs.lemmas.List.{length-replicate}
+use Rattle.std.proofs.lemmas.Option.{same_Some, none-some, slice_get_within}
+use Rattle.mblock.specs.declared.exit.Exit.{Exit}
+use Rattle.mblock.specs.declared.exit.Exit.TheVariants.{Goto, BranchPair, BranchZero, Call, Return, Out, Halt}
+use Rattle.mblock.specs.Parts.{BlockParts}
+use Rattle.mblock.specs.Units.{GoesBelow, BranchesWithin, Continues, AreLinked, AreOwners}
+use Rattle.mips_select.specs.Split.{renumbered_exit, more_pieces, pieces, count_of, firsts, first_piece_of, split_at_most, owners_from, total}
+use Rattle.mips_select.proofs.Places.{HasAt, has_whole, has_front, has_back, has_pieces, block_there, length-pieces}
+use Rattle.mips_select.proofs.Counts.{length-split_from, Located, located, first_next, pieces_enough, IsPieceAt, piece_at}
+
+pub get_replicate : {A : Type 0} (n : ℕ) (x : A) (j : ℕ) → j < n → slice_get (replicate n x) j ≡ Some x
+get_replicate zero x j lt = absurd (omega (arith, lt))
+get_replicate (suc n) x zero lt = refl
+get_replicate (suc n) x (suc j) lt = get_replicate n x j (omega (arith, lt))
+
+length-owners_from : (most : ℕ) (place : ℕ → ℕ) (bs : List BlockParts) (os : List ℕ) → length os ≡ length bs
+    → length (owners_from most place bs os) ≡ total most bs
+length-owners_from most place [] os same = refl
+length-owners_from most place (b ∷ bs) [] same = absurd (omega (arith, same))
+length-owners_from most place (b ∷ bs) (o ∷ os) same =
+    let rest = length-owners_from most place bs os (omega (arith, same)) in
+    let sum = length-append (replicate (count_of most b) (place o)) (owners_from most place bs os) in
+    let here = length-replicate (count_of most b) (place o) in
+    omega (arith, rest, sum, here)
+
+-- the owners of the pieces of block n
+has_owners : (most : ℕ) (place : ℕ → ℕ) (whole : List ℕ) (k : ℕ) (bs : List BlockParts) (os : List ℕ)
+    → HasAt whole k (owners_from most place bs os) → (n o : ℕ) (b : BlockParts) → slice_get bs n ≡ Some b → slice_get os n ≡ Some o
+    → HasAt whole (slice_index (firsts most k bs) n) (replicate (count_of most b) (place o))
+has_owners most place whole k [] os has n o b there owned = absurd (none-some b there)
+has_owners most place whole k (x ∷ bs) [] has n o b there owned = absurd (none-some o owned)
+has_owners most place whole k (x ∷ bs) (y ∷ os) has zero o b there owned =
+    subst (λ (b : BlockParts). HasAt whole k (replicate (count_of most b) (place o))) (same_Some x b there)
+    (subst (λ o. HasAt whole k (replicate (count_of most x) (place o))) (same_Some y o owned)
+    (has_front whole k (replicate (count_of most x) (place y)) (owners_from most place bs os) has))
+has_owners most place whole k (x ∷ bs) (y ∷ os) has (suc n) o b there owned =
+    let next : k + length (replicate (count_of most x) (place y)) ≡ k + count_of most x = ap (λ n. k + n) (length-replicate (count_of most x) (place y)) in
+    has_owners most place whole (k + count_of most x) bs os
+    (subst (λ n. HasAt whole n (owners_from most place bs os)) next
+    (has_back whole k (replicate (count_of most x) (place y)) (owners_from most place bs os) has)) n o b there owned
+
+first_zero : (most : ℕ) (bs : List BlockParts) → slice_index (firsts most 0 bs) 0 ≡ 0
+first_zero most [] = refl
+first_zero most (b ∷ bs) = refl
+
+module _ (most : ℕ) (some : 0 < most) (blocks : List BlockParts) where
+  abbrev place : ℕ → ℕ
+  place n = first_piece_of most blocks n
+
+  abbrev whole : List BlockParts
+  whole = split_at_most most blocks
+
+  at_block : (n : ℕ) (b : BlockParts) → slice_get blocks n ≡ Some b
+      → HasAt whole (place n) (pieces most (renumbered_exit place b.exit) (more_pieces most b) (place n) b.insts)
+  at_block n b there = has_pieces most place whole 0 blocks (has_whole whole) n b there
+
+  -- each piece of a block is there
+  piece_there : (n : ℕ) (b : BlockParts) → slice_get blocks n ≡ Some b → (j : ℕ) → j ≤ more_pieces most b → place n + j < length whole
+  piece_there n b there j le =
+      let long = length-pieces most (renumbered_exit place b.exit) (more_pieces most b) (place n) b.insts in
+      let p = block_there (pieces most (renumbered_exit place b.exit) (more_pieces most b) (place n) b.insts) j (omega (arith, le, long)) in
+      slice_get_within whole (place n + j) p.0 ((at_block n b there).by j p.0 p.1)
+
+  place_below : (t : ℕ) → t < length blocks → place t < length whole
+  place_below t lt =
+      let b = block_there blocks t lt in
+      let below = piece_there t b.0 b.1 0 (omega arith) in
+      omega (arith, below)
+
+  -- piece i of the unit
+  record Piece (i : ℕ) (p : BlockParts) : Type 0 where
+    at : Located most 0 blocks i
+    is : i ≡ place at.number + at.behind
+    looks : IsPieceAt most (renumbered_exit place at.block.exit) (more_pieces most at.block) (place at.number) at.behind p
+
+  piece_of : (i : ℕ) (p : BlockParts) → slice_get whole i ≡ Some p → Piece i p
+  piece_of i p there =
+      let low = slice_get_within whole i p there in
+      let long = length-split_from most place 0 blocks in
+      let at = located most 0 blocks i (omega (arith, low, long)) in
+      let exit = renumbered_exit place at.block.exit in
+      let parts = pieces most exit (more_pieces most at.block) (place at.number) at.block.insts in
+      let found = at.is in
+      let is : i ≡ place at.number + at.behind = omega (arith, found) in
+      let many = length-pieces most exit (more_pieces most at.block) (place at.number) at.block.insts in
+      let within = at.within in
+      let q = block_there parts at.behind (omega (arith, within, many)) in
+      let same : q.0 ≡ p = same_Some q.0 p (sym ((at_block at.number at.block at.there).by at.behind q.0 q.1) ∙ sym (ap (slice_get whole) is) ∙ there) in
+      record {
+        at = at;
+        is = is;
+        looks = piece_at most exit (more_pieces most at.block) (place at.number) at.block.insts
+            (pieces_enough most (length at.block.insts) some) at.behind p (q.1 ∙ ap Some same);
+      }
+
+  pub pieces_short : (i : ℕ) (p : BlockParts) → slice_get whole i ≡ Some p → length p.insts ≤ most
+  pieces_short i p there = (piece_of i p there).looks.short
+
+  goes_below : (exit : Exit) → GoesBelow (length blocks) exit → GoesBelow (length whole) (renumbered_exit place exit)
+  goes_below (Goto t) low = place_below t low
+  goes_below (BranchPair test a b t e) low = (place_below t low.0, place_below e low.1)
+  goes_below (BranchZero test a t e) low = (place_below t low.0, place_below e low.1)
+  goes_below (Call f n) low = (place_below f low.0, place_below n low.1)
+  goes_below Return low = tt
+  goes_below (Out n) low = place_below n low
+  goes_below Halt low = tt
+
+  pub pieces_linked : AreLinked blocks → AreLinked whole
+  pieces_linked linked = record { by = λ i p there. by_piece i p (piece_of i p there) }
+    where
+      by_piece : (i : ℕ) (p : BlockParts) → Piece i p → GoesBelow (length whole) p.exit
+      by_piece i p is = go is.looks.leaves
+        where
+          go : ((is.at.behind ≡ more_pieces most is.at.block) × (p.exit ≡ renumbered_exit place is.at.block.exit)) ⊎
+              ((is.at.behind < more_pieces most is.at.block) × (p.exit ≡ Goto (suc (place is.at.number + is.at.behind)))) → GoesBelow (length whole) p.exit
+          go (inl last) = subst (λ x. GoesBelow (length whole) x) (sym last.1) (goes_below is.at.block.exit (linked.by is.at.number is.at.block is.at.there))
+          go (inr other) =
+              let lt = other.0 in
+              let next = piece_there is.at.number is.at.block is.at.there (suc is.at.behind) (omega (arith, lt)) in
+              subst (λ x. GoesBelow (length whole) x) (sym other.1) (omega (arith, next))
+
+  module _ (owner : List ℕ) (owners : AreOwners blocks owner) where
+    abbrev owned : List ℕ
+    owned = owners_from most place blocks owner
+
+    -- each piece has its block's owner
+    piece_owner : (n o : ℕ) (b : BlockParts) → slice_get blocks n ≡ Some b → slice_get owner n ≡ Some o → (j : ℕ) → j ≤ more_pieces most b
+        → slice_get owned (place n + j) ≡ Some (place o)
+    piece_owner n o b there is j le =
+        (has_owners most place owned 0 blocks owner (has_whole owned) n o b there is).by j (place o)
+        (get_replicate (count_of most b) (place o) j (omega (arith, le)))
+
+    owner_moved : (t o : ℕ) → slice_get owner t ≡ Some o → slice_get owned (place t) ≡ Some (place o)
+    owner_moved t o is =
+        let low = slice_get_within owner t o is in
+        let same = owners.lengths in
+        let b = block_there blocks t (omega (arith, low, same)) in
+        let here : place t ≡ place t + 0 = omega arith in
+        ap (slice_get owned) here ∙ piece_owner t o b.0 b.1 is 0 (omega arith)
+
+    stays_within : (o : ℕ) (exit : Exit) → BranchesWithin owner o exit → BranchesWithin owned (place o) (renumbered_exit place exit)
+    stays_within o (Goto t) in_o = tt
+    stays_within o (BranchPair test a b t e) in_o = (owner_moved t o in_o.0, owner_moved e o in_o.1)
+    stays_within o (BranchZero test a t e) in_o = (owner_moved t o in_o.0, owner_moved e o in_o.1)
+    stays_within o (Call f n) in_o = tt
+    stays_within o Return in_o = tt
+    stays_within o (Out n) in_o = tt
+    stays_within o Halt in_o = tt
+
+    -- a place among the pieces, with the owner of its block
+    record Owned (i : ℕ) : Type 0 where
+      at : Located most 0 blocks i
+      is : i ≡ place at.number + at.behind
+      owner_is : ℕ
+      by : slice_get owner at.number ≡ Some owner_is
+      here : slice_get owned i ≡ Some (place owner_is)
+
+    owned_at : (i : ℕ) → i < total most blocks → Owned i
+    owned_at i lt =
+        let at = located most 0 blocks i lt in
+        let found = at.is in
+        let is : i ≡ place at.number + at.behind = omega (arith, found) in
+        let low = slice_get_within blocks at.number at.block at.there in
+        let same = owners.lengths in
+        let o = block_there owner at.number (omega (arith, low, same)) in
+        record {
+          at = at;
+          is = is;
+          owner_is = o.0;
+          by = o.1;
+          here =
+              ap (slice_get owned) is ∙ piece_owner at.number o.0 at.block at.there o.1 at.behind at.within;
+        }
+
+    pieces_within : (i o : ℕ) (p : BlockParts) → slice_get whole i ≡ Some p → slice_get owned i ≡ Some o → BranchesWithin owned o p.exit
+    pieces_within i o p there is = by_piece (piece_of i p there)
+      where
+        by_piece : Piece i p → BranchesWithin owned o p.exit
+        by_piece q =
+            let n = q.at.number in
+            let low = slice_get_within blocks n q.at.block q.at.there in
+            let same = owners.lengths in
+            let w = block_there owner n (omega (arith, low, same)) in
+            let o_is : place w.0 ≡ o =
+            same_Some (place w.0) o
+            (sym (piece_owner n w.0 q.at.block q.at.there w.1 q.at.behind q.at.within) ∙ sym (ap (slice_get owned) q.is) ∙ is) in
+            go w.0 o_is (owners.within n w.0 q.at.block q.at.there w.1) q.looks.leaves
+          where
+            go : (w : ℕ) → place w ≡ o → BranchesWithin owner w q.at.block.exit
+                → ((q.at.behind ≡ more_pieces most q.at.block) × (p.exit ≡ renumbered_exit place q.at.block.exit)) ⊎
+                ((q.at.behind < more_pieces most q.at.block) × (p.exit ≡ Goto (suc (place q.at.number + q.at.behind)))) → BranchesWithin owned o p.exit
+            go w e within (inl last) =
+                subst (λ x. BranchesWithin owned o x) (sym last.1)
+                (subst (λ o. BranchesWithin owned o (renumbered_exit place q.at.block.exit)) e (stays_within w q.at.block.exit within))
+            go w e within (inr other) = subst (λ x. BranchesWithin owned o x) (sym other.1) tt
+
+    starts_first : (w n j : ℕ) → slice_get owner n ≡ Some w → 0 ≡ place n + j → place w ≡ 0
+    starts_first w zero j is e =
+        let first : w ≡ 0 = owners.continues 0 w is in
+        ap place first ∙ omega (arith, e)
+    starts_first w (suc m) j is e =
+        let low = slice_get_within owner (suc m) w is in
+        let same = owners.lengths in
+        let a = block_there blocks m (omega (arith, low, same)) in
+        let b = block_there blocks (suc m) (omega (arith, low, same)) in
+        let next = first_next most 0 blocks m a.0 b.0 a.1 b.1 in
+        absurd (omega (arith, next, e))
+
+    continues_from : (i w n j : ℕ) (b : BlockParts) → slice_get blocks n ≡ Some b → j ≤ more_pieces most b → slice_get owner n ≡ Some w
+        → suc i ≡ place n + j → place w ≢ suc i → slice_get owned i ≡ Some (place w)
+    continues_from i w n (suc j) b there le is e other =
+        let here : i ≡ place n + j = omega (arith, e) in
+        ap (slice_get owned) here ∙ piece_owner n w b there is j (omega (arith, le))
+    continues_from i w zero zero b there le is e other =
+        let first = first_zero most blocks in
+        absurd (omega (arith, first, e))
+    continues_from i w (suc m) zero b there le is e other =
+        by_test (w == suc m) refl
+      where
+        by_test : (test : Bool) → (w == suc m) ≡ test → slice_get owned i ≡ Some (place w)
+        by_test true same =
+            let at : w ≡ suc m = eqb-true w (suc m) same in
+            let here : place (suc m) ≡ suc i = omega (arith, e) in
+            absurd (other (ap place at ∙ here))
+        by_test false same =
+            let before : slice_get owner m ≡ Some w = owners.continues (suc m) w is (λ at. true≢false (sym (eq-eqb w (suc m) at) ∙ same)) in
+            let low = slice_get_within owner m w before in
+            let lengths = owners.lengths in
+            let a = block_there blocks m (omega (arith, low, lengths)) in
+            let next = first_next most 0 blocks m a.0 b a.1 there in
+            let here : i ≡ place m + more_pieces most a.0 = omega (arith, next, e) in
+            ap (slice_get owned) here ∙ piece_owner m w a.0 a.1 before (more_pieces most a.0) (omega arith)
+
+    pieces_continue : (i o : ℕ) → slice_get owned i ≡ Some o → Continues owned i o
+    pieces_continue i o is =
+        by_owned i is (owned_at i (omega (arith, slice_get_within owned i o is, length-owners_from most place blocks owner owners.lengths)))
+      where
+        by_owned : (i : ℕ) → slice_get owned i ≡ Some o → Owned i → Continues owned i o
+        by_owned zero is q = sym (same_Some (place q.owner_is) o (sym q.here ∙ is)) ∙ starts_first q.owner_is q.at.number q.at.behind q.by q.is
+        by_owned (suc i) is q = λ other.
+            let same : place q.owner_is ≡ o = same_Some (place q.owner_is) o (sym q.here ∙ is) in
+            continues_from i q.owner_is q.at.number q.at.behind q.at.block q.at.there q.at.within q.by q.is (λ e. other (sym same ∙ e)) ∙ ap Some same
+
+    pub pieces_owned : AreOwners whole owned
+    pieces_owned = record {
+      lengths = length-owners_from most place blocks owner owners.lengths ∙ sym (length-split_from most place 0 blocks);
+      continues = pieces_continue;
+      within = pieces_within;
+    }

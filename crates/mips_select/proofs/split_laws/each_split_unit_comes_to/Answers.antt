@@ -1,0 +1,5 @@
+use Rattle.mips_select.proofs.Apart.{comes_to}
+use Rattle.mips_select.proofs.split_laws.each_split_unit_comes_to.Goals as goal
+
+pub returns : goal.returns
+returns c = comes_to 512

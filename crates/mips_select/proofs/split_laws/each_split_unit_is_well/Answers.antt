@@ -1,0 +1,16 @@
+use Rattle.std.proofs.Common.{◌<◌, arith}
+use Rattle.mips_select.specs.Split.{first_piece_of}
+use Rattle.mips_select.proofs.Counts.{total_above, length-split_from}
+use Rattle.mips_select.proofs.Well.{pieces_short, pieces_linked, pieces_owned}
+use Rattle.mips_select.proofs.split_laws.each_split_unit_is_well.Goals as goal
+
+pub returns : goal.returns
+returns c = λ blocks owner linked owners. record {
+  short = pieces_short 512 some blocks;
+  linked = pieces_linked 512 some blocks linked;
+  owners = pieces_owned 512 some blocks owner owners;
+  some = (let many = total_above 512 blocks in let long = length-split_from 512 (first_piece_of 512 blocks) 0 blocks in omega (arith, many, long));
+}
+  where
+    some : 0 < 512
+    some = omega arith

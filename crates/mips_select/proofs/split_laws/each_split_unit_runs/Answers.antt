@@ -1,0 +1,6 @@
+use Rattle.mips_select.proofs.SplitSimulation.{unit_runs}
+use Rattle.mips_select.proofs.Apart.{told_apart}
+use Rattle.mips_select.proofs.split_laws.each_split_unit_runs.Goals as goal
+
+pub returns : goal.returns
+returns c = λ blocks linked links tells. (told_apart 512 blocks links tells, λ s i. unit_runs 512 blocks linked links s i)

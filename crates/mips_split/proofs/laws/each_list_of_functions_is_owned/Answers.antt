@@ -1,5 +1,0 @@
-use Rattle.mips_split.proofs.Owned.{functions_owned}
-use Rattle.mips_split.proofs.laws.each_list_of_functions_is_owned.Goals as goal
-
-pub returns : goal.returns
-returns c = functions_owned

@@ -1,5 +1,0 @@
-use Rattle.mips_split.proofs.Apart.{comes_to}
-use Rattle.mips_split.proofs.laws.each_split_unit_comes_to.Goals as goal
-
-pub returns : goal.returns
-returns c = comes_to 512
