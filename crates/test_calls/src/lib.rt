@@ -2,6 +2,7 @@
 //!
 //! - Public calls of passes: the homes of pseudo-registers, units assembled and run, the operators of the machine.
 //! - Orders that schedulers propose, wrong ones too, the pool of workers, phases over them, and many builds in one process.
+//! - The table of terms: small callers with their contracts, what threads do with one table, and what they tell one another.
 //! - `mcc`: streams and files that fail half way. Memory that is refused to builds by workers, to a verdict and to a machine.
 //!
 //! `files`, `written` and `scarce_memory` stand in for the host. They are a file and streams in memory, what `mcc` does over them, and all
@@ -12,12 +13,18 @@
 mod build_memory;
 #[cfg(test)]
 mod builds;
+#[cfg(test)]
+mod callers;
 // (specs/Files.antt speaks of it, so it is there without the tests, too)
 mod files;
+#[cfg(test)]
+mod full_tests;
 #[cfg(test)]
 mod homes;
 #[cfg(test)]
 mod hostile_builds;
+#[cfg(test)]
+mod opened;
 #[cfg(test)]
 mod operators;
 #[cfg(test)]
@@ -34,6 +41,12 @@ mod refused_memory;
 mod scarce_memory;
 #[cfg(test)]
 mod streams;
+#[cfg(test)]
+mod table_tests;
+#[cfg(test)]
+mod telling;
+#[cfg(test)]
+mod telling_tests;
 #[cfg(test)]
 mod units;
 #[cfg(test)]

@@ -1,6 +1,6 @@
 use Rattle.term_table.proofs.Callers.{extends_more}
 use Rattle.sym_exec.proofs.MipsTerms.{still_seen, tree_seen}
-use Rattle.test_term_table.proofs.callers.sums_probes.Goals as goal
+use Rattle.test_calls.proofs.callers.sums_probes.Goals as goal
 
 pub loop-m-preserved : goal.loop-m-preserved
 loop-m-preserved c = (

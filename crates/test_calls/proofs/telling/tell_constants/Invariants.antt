@@ -1,5 +1,5 @@
 use Rattle.term_table.specs.Passes.{IsOf}
-use Rattle.test_term_table.proofs.telling.hear_constants.Given as goal
+use Rattle.test_calls.proofs.telling.tell_constants.Given as goal
 
 abbrev pub invariant-loop-n : goal.invariant-loop-n
 invariant-loop-n g l = IsOf l.table l.pass

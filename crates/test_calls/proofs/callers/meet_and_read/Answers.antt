@@ -1,5 +1,5 @@
 use Rattle.term_table.proofs.TermCallers.{still_seen_term, learns_seen_term}
-use Rattle.test_term_table.proofs.callers.meet_and_read.Goals as goal
+use Rattle.test_calls.proofs.callers.meet_and_read.Goals as goal
 
 pub read-node-requires-clause-seen : goal.read-node-requires-clause-seen
 read-node-requires-clause-seen c = learns_seen_term c.meet.ensures.second_learns c.requires.seen.1

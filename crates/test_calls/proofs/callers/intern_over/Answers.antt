@@ -1,6 +1,6 @@
 use Rattle.sym_terms.specs.Trees.{none, more}
 use Rattle.sym_exec.proofs.MipsTerms.{still_tree}
-use Rattle.test_term_table.proofs.callers.intern_over.Goals as goal
+use Rattle.test_calls.proofs.callers.intern_over.Goals as goal
 
 pub returns-clause-first : goal.returns-clause-first
 returns-clause-first c = still_tree c.in_ok-b.ensures.extends c.in_ok-a.ensures.tree
