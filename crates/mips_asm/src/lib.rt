@@ -1,19 +1,15 @@
-//! Images of scheduled units: the words of the orders, exactly as their layout has them, each field in its range, and the laws by
-//! which these run as the unit of their blocks.
+//! Images of scheduled units: the words of the orders, exactly as their layout has them, each field in its range.
 //!
 //! Definitions: `specs/Layout.antt`, `specs/LayoutRuns.antt`, `specs/Assembled.antt`, `specs/Limits.antt`, `specs/Listing.antt`.
-//! Contract: `assemble`, `image_of`, `code_of`, `list`, `each_layout_runs`, `each_plain_layout_runs`,
-//! `each_layout_tells_calls_apart`, `each_layout_fits`
-//! - `assemble` gives the image of a scheduled unit, which runs as the unit.
-//! - If a unit isn't stuck, the laid-out words of orders that mean its blocks end and print alike.
-//! - A word counts for at most 513 steps of the unit, in plain orders for one.
+//! Contract: `assemble`, `image_of`, `code_of`, `list`, `each_layout_runs`, `each_plain_layout_runs`
+//! - `assemble` gives the image of a scheduled unit, which runs as the unit. `list` gives exactly the listing.
 //! - Limit comes exactly beyond 32,000 words of a function or 1,048,576 in all.
-//! - `list` gives exactly the listing.
+//! - If a unit isn't stuck, the laid-out words of orders that mean its blocks end and print alike. A word counts for at most 513 steps of
+//!   the unit, in plain orders for one.
 //!
 //! | Tested | In |
 //! |---|---|
-//! | each rule and each rejection by worked words | tests/images |
-//! | the words that GNU as gives; refused memory | test_calls, `.ci/refuse` |
+//! | worked words, those that GNU as gives, refused memory | tests/images, test_calls, `.ci/refuse` |
 #![tactic(auto)]
 
 mod assembly;

@@ -26,7 +26,7 @@ use Rattle.mips_homes.specs.declared.homed.Home.{Home}
 use Rattle.mips_homes.specs.declared.homed.Home.TheVariants.{Reg, Slot}
 use Rattle.mips_emit.specs.declared.location.Source.{Source}
 use Rattle.mips_emit.specs.declared.comparison.Form.{Form}
-use Rattle.mips_emit.specs.declared.comparison.Form.TheVariants.{OnPair, OnLeft, OnRight, ByResult, ByOpposite, InResult}
+use Rattle.mips_emit.specs.declared.comparison.Form.TheVariants.{Known, OnPair, OnLeft, OnRight, ByResult, ByOpposite, InResult}
 use Rattle.mips_emit.specs.declared.comparison.Asked.{Asked}
 use Rattle.mips_emit.specs.declared.comparison.Asked.TheVariants.{Nothing, Branched, Returned}
 use Rattle.mips_emit.specs.declared.comparison.Comparison.{Comparison}
@@ -35,7 +35,7 @@ use Rattle.mips_homes.specs.declared.homed.SlotCopy.{SlotCopy}
 use Rattle.mips_homes.specs.Copies.{copy_of}
 use Rattle.mips_emit.specs.Locations.{Locations, in_frame, Facts, known_in, locations_of, location_at, operand}
 use Rattle.mips_emit.specs.Code.{nop, fetch, operand_register, op_code}
-use Rattle.mips_emit.specs.Comparisons.{is_known_zero, is_immediate, opposite_if, form_of, opposite_op, code_by_form, comparison_code, is_asked, is_caller_saved}
+use Rattle.mips_emit.specs.Comparisons.{is_known_zero, is_immediate, opposite_if, form_of, truth_of, known_truth, form_with, opposite_op, code_by_form, comparison_code, is_asked, is_caller_saved}
 use Rattle.mips_emit.specs.Comparisons.{form_for, operator_comparison, comparison_of, last_with, is_result, returned}
 use Rattle.mips_emit.proofs.Runs.{RunsTo, runs_then}
 use Rattle.mips_emit.proofs.View.{IsTarget, first_inner, read_register}
@@ -288,9 +288,30 @@ module _ (most total : ℕ) (gs : List RGlobal) (starts : ℕ → ℕ) where
       decides ShrU form is e = absurd (none-some form is)
       decides ShrS form is e = absurd (none-some form is)
 
+      -- both are known, and so is the truth
+      known : (op : Op) (b : Bool) → b ≡ not (nat_eq u 0) → Given op (Known b)
+      known op b e = record {
+        to = s;
+        runs = runs_nop s;
+        some = omega arith;
+        stands = h;
+        tells = e;
+        result = λ e. absurd (true≢false (sym e));
+      }
+
+      with_truth : (op : Op) (form : Form) → (a b : Option ℕ) → k ≡ a → l ≡ b → (o : Option Form) → form_of op k l ≡ o
+          → form_with (known_truth op a b) o ≡ Some form → op_result op v w ≡ Some u → Given op form
+      with_truth op form a b ka lb None is e r = absurd (none-some form e)
+      with_truth op form None b ka lb (Some made) is e r = decides op form (is ∙ e) r
+      with_truth op form (Some a) None ka lb (Some made) is e r = decides op form (is ∙ e) r
+      with_truth op form (Some a) (Some b) ka lb (Some made) is e r =
+          let there : op_result op a b ≡ Some u = ap₂ (op_result op) (kv a ka) (lw b lb) ∙ r in
+          let is_known : Some (Known (not (nat_eq u 0))) ≡ Some form = sym (ap (λ o. form_with (truth_of o) (Some made)) there) ∙ e in
+          subst (Given op) (same_Some (Known (not (nat_eq u 0))) form is_known) (known op (not (nat_eq u 0)) refl)
+
       pub decides_for : (asked : Asked) (op : Op) (form : Form) → form_for asked op k l ≡ Some form → op_result op v w ≡ Some u → Given op form
       decides_for Nothing op form is e = absurd (none-some form is)
-      decides_for (Branched c) op form is e = decides op form is e
+      decides_for (Branched c) op form is e = with_truth op form k l refl refl (form_of op k l) refl is e
       decides_for (Returned c) op form is e = subst (Given op) (same_Some InResult form is) (in_result op e)
 
   module _ (g : Arrays) (fs : List Stored) (hs : List Home) (P : Run → Type 0) (out : List ℕ) (failed : P (Failed out)) where

@@ -25,7 +25,7 @@ use Rattle.mips_emit.specs.declared.location.Location.TheVariants.{Held, InSlot,
 use Rattle.mips_emit.specs.declared.location.Source.{Source}
 use Rattle.mips_emit.specs.declared.location.Source.TheVariants.{Zero, Word, From}
 use Rattle.mips_emit.specs.declared.comparison.Form.{Form}
-use Rattle.mips_emit.specs.declared.comparison.Form.TheVariants.{OnPair, OnLeft, OnRight, ByResult, ByOpposite, InResult}
+use Rattle.mips_emit.specs.declared.comparison.Form.TheVariants.{Known, OnPair, OnLeft, OnRight, ByResult, ByOpposite, InResult}
 use Rattle.mips_emit.specs.declared.comparison.Comparison.{Comparison}
 use Rattle.mips_emit.specs.declared.facts.Last.{Last}
 use Rattle.mips_emit.specs.Frames.{AreFrameHomes, IsFrame}
@@ -178,6 +178,7 @@ none_fresh copies hs registers slots s = record { by = λ x w e. absurd (none-so
 
 -- whether the branch for a comparison is taken
 abbrev pub passes : Form → Source → Source → State → Bool
+passes (Known b) x y s = b
 passes (OnPair test) x y s = pair_passes test (read 0 s.regs (operand_register 1 x)) (read 0 s.regs (operand_register 3 y))
 passes (OnLeft test) x y s = zero_passes test (read 0 s.regs (operand_register 3 x))
 passes (OnRight test) x y s = zero_passes test (read 0 s.regs (operand_register 3 y))

@@ -5,9 +5,10 @@ use Rattle.mips_isa.specs.declared.inst.PairTest.TheVariants.{Equal, NotEqual}
 use Rattle.mips_isa.specs.declared.inst.ZeroTest.TheVariants.{AtMostZero, AboveZero, BelowZero, AtLeastZero}
 use Rattle.mips_isa.specs.declared.inst.Plain.{Plain}
 use Rattle.mblock.specs.declared.exit.Exit.{Exit}
-use Rattle.mblock.specs.declared.exit.Exit.TheVariants.{BranchPair, BranchZero}
+use Rattle.mblock.specs.declared.exit.Exit.TheVariants.{Goto, BranchPair, BranchZero}
 use Rattle.rtl.specs.declared.operator.Op.{Op}
 use Rattle.rtl.specs.declared.operator.Op.TheVariants.{Eq, Ne, LtS, LtU, LeS, LeU}
+use Rattle.rtl.specs.Operators.{op_result}
 use Rattle.rtl.specs.declared.instruction.RInst.{RInst}
 use Rattle.rtl.specs.declared.instruction.RInst.TheVariants.{Const, Move, Bin, Load, Store}
 use Rattle.rtl.specs.declared.block.RGlobal.{RGlobal}
@@ -18,7 +19,7 @@ use Rattle.mips_emit.specs.declared.location.Location.{Location}
 use Rattle.mips_emit.specs.declared.location.Location.TheVariants.{Held, InSlot, Copied}
 use Rattle.mips_emit.specs.declared.location.Source.{Source}
 use Rattle.mips_emit.specs.declared.comparison.Form.{Form}
-use Rattle.mips_emit.specs.declared.comparison.Form.TheVariants.{OnPair, OnLeft, OnRight, ByResult, ByOpposite, InResult}
+use Rattle.mips_emit.specs.declared.comparison.Form.TheVariants.{Known, OnPair, OnLeft, OnRight, ByResult, ByOpposite, InResult}
 use Rattle.mips_emit.specs.declared.comparison.Asked.{Asked}
 use Rattle.mips_emit.specs.declared.comparison.Asked.TheVariants.{Nothing, Branched, Returned}
 use Rattle.mips_emit.specs.declared.comparison.Comparison.{Comparison}
@@ -57,6 +58,22 @@ form_of LeS l r =
 form_of LeU l r = Some (opposite_if (not (is_immediate LeU r)))
 form_of _ l r = None
 
+-- whether the result of an operator on known words isn't 0
+abbrev pub truth_of : (result : Option ℕ) → Option Bool
+truth_of None = None
+truth_of (Some u) = Some (not (nat_eq u 0))
+
+abbrev pub known_truth : Op → (left right : Option ℕ) → Option Bool
+known_truth op None r = None
+known_truth op (Some a) None = None
+known_truth op (Some a) (Some b) = truth_of (op_result op a b)
+
+-- a comparison of known words isn't made
+abbrev pub form_with : (truth : Option Bool) → Option Form → Option Form
+form_with truth None = None
+form_with None (Some form) = Some form
+form_with (Some b) (Some form) = Some (Known b)
+
 -- one is less than another where that isn't at most the one
 abbrev pub opposite_op : Op → Op
 opposite_op LtS = LeS
@@ -70,6 +87,7 @@ opposite_op op = op
 -- what stands before the branch; a nop where that would be nothing. It is in the third scratch register and not in the first, so that what stands before may
 -- be done behind it
 abbrev pub code_by_form : Form → Op → (left right : Option ℕ) → Source → Source → List Plain
+code_by_form (Known b) op l r x y = nop ∷ []
 code_by_form (OnPair test) op l r x y = fetch SCRATCH_1 x ++ (fetch SCRATCH_3 y ++ nop ∷ [])
 code_by_form (OnLeft test) op l r x y = fetch SCRATCH_3 x ++ nop ∷ []
 code_by_form (OnRight test) op l r x y = fetch SCRATCH_3 y ++ nop ∷ []
@@ -81,6 +99,7 @@ abbrev pub comparison_code : Comparison → List Plain
 comparison_code m = code_by_form m.form m.op m.left m.right m.x m.y
 
 abbrev pub exit_by_form : Form → Source → Source → (t e : ℕ) → Exit
+exit_by_form (Known b) x y t e = Goto (if b then t else e)
 exit_by_form (OnPair test) x y t e = BranchPair test (operand_register SCRATCH_1 x) (operand_register SCRATCH_3 y) t e
 exit_by_form (OnLeft test) x y t e = BranchZero test (operand_register SCRATCH_3 x) t e
 exit_by_form (OnRight test) x y t e = BranchZero test (operand_register SCRATCH_3 y) t e
@@ -102,7 +121,7 @@ is_asked (Returned c) d = nat_eq c d
 -- a branch goes by comparisons, a return by any operator
 abbrev pub form_for : Asked → Op → (left right : Option ℕ) → Option Form
 form_for Nothing op l r = None
-form_for (Branched c) op l r = form_of op l r
+form_for (Branched c) op l r = form_with (known_truth op l r) (form_of op l r)
 form_for (Returned c) op l r = Some InResult
 
 -- a location that no other block reads
@@ -179,14 +198,16 @@ abbrev pub tested : Option Comparison → ℕ → Option Comparison
 tested None c = None
 tested (Some m) c = if nat_eq m.result c then Some m else None
 
--- a branch: on an operand, or on what was compared
-abbrev pub branch_code : (tested : Option Comparison) → Source → List Plain
-branch_code None x = fetch SCRATCH_1 x
-branch_code (Some m) x = []
+-- a branch: on what was compared, or on an operand, where its word isn't known
+abbrev pub branch_code : (tested : Option Comparison) → (known : Option ℕ) → Source → List Plain
+branch_code None None x = fetch SCRATCH_1 x
+branch_code None (Some w) x = []
+branch_code (Some m) known x = []
 
-abbrev pub branch_exit : (tested : Option Comparison) → Source → (t e : ℕ) → Exit
-branch_exit None x t e = BranchPair NotEqual (operand_register SCRATCH_1 x) 0 t e
-branch_exit (Some m) x t e = comparison_exit m t e
+abbrev pub branch_exit : (tested : Option Comparison) → (known : Option ℕ) → Source → (t e : ℕ) → Exit
+branch_exit None None x t e = BranchPair NotEqual (operand_register SCRATCH_1 x) 0 t e
+branch_exit None (Some w) x t e = Goto (if nat_eq w 0 then e else t)
+branch_exit (Some m) known x t e = comparison_exit m t e
 
 -- ---- returns
 

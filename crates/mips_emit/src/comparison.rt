@@ -7,7 +7,7 @@ ghost use Rattle.mblock.specs.declared.exit.Exit.TheVariants.{BranchPair, Branch
 ghost use Rattle.rtl.specs.declared.operator.Op.TheVariants.{LtS, LeS};
 ghost use Rattle.mips_emit.specs.Frames.{IsReachable};
 ghost use Rattle.mips_emit.specs.Locations.{facts_of, locations, FitsSource};
-ghost use Rattle.mips_emit.specs.Comparisons.{is_known_zero, is_immediate, opposite_if, form_of, opposite_op};
+ghost use Rattle.mips_emit.specs.Comparisons.{is_known_zero, is_immediate, opposite_if, form_of, opposite_op, known_truth, form_with};
 ghost use Rattle.mips_emit.specs.Comparisons.{comparison_code, comparison_exit, is_asked, form_for, is_caller_saved, is_result, returned};
 ghost use Rattle.mips_emit.specs.Comparisons.{operator_comparison, comparison_of, FitsComparison, tested};
 ghost use Rattle.mips_emit.specs.Code.{fetch, nop};
@@ -27,6 +27,8 @@ use std::alloc::AllocError;
 /// How a branch tells the result of a comparison, or a return has that of an operator.
 #[derive(Clone, Copy)]
 pub enum Form {
+    /// It is no branch: both operands are known, and so is whether the comparison holds.
+    Known(bool),
     /// It tests both operands.
     OnPair(PairTest),
     /// It tests the sign of the left operand, where the right one is 0.
@@ -137,6 +139,25 @@ fn form_of(op: Op, left: Option<u32>, right: Option<u32>) -> Option<Form>
     }
 }
 
+// Whether the result of an operator on known words isn't 0.
+fn known_truth(op: Op, left: Option<u32>, right: Option<u32>) -> Option<bool>
+    ensures { result ≡ known_truth op left right }
+{
+    let word = op.result(left?, right?)?;
+    Some(word != 0)
+}
+
+// A comparison of known words isn't made.
+fn form_with(truth: Option<bool>, form: Option<Form>) -> Option<Form>
+    ensures { result ≡ form_with truth form }
+{
+    let form = form?;
+    match truth {
+        None => Some(form),
+        Some(holds) => Some(Form::Known(holds)),
+    }
+}
+
 // The comparison that holds of turned operands exactly where this one doesn't.
 fn opposite_op(op: Op) -> Op
     ensures { result ≡ opposite_op op }
@@ -186,6 +207,7 @@ pub(crate) fn emit_comparison(code: &mut Vec<Plain>, m: &Comparison) -> Result<(
     let inner = register(SCRATCH_1);
     let rd = register(SCRATCH_3).reg();
     match m.form {
+        Form::Known(_) => emit_one(code, Plain::nop()),
         Form::OnPair(_) => {
             emit_fetch(code, inner, &m.x)?;
             emit_tested(code, &m.y)
@@ -240,6 +262,7 @@ pub fn comparison_exit(m: &Comparison, then: BlockNumber, other: BlockNumber) ->
     let right = operand_register(register(SCRATCH_3), &m.y);
     let truth = register(SCRATCH_3).reg();
     match m.form {
+        Form::Known(holds) => Exit::Goto(if holds { then } else { other }),
         Form::OnPair(test) => Exit::BranchPair {
             test,
             rs: operand_register(register(SCRATCH_1), &m.x),
@@ -272,7 +295,7 @@ fn form_for(asked: Asked, op: Op, left: Option<u32>, right: Option<u32>) -> Opti
 {
     match asked {
         Asked::Nothing => None,
-        Asked::Branched(_) => form_of(op, left, right),
+        Asked::Branched(_) => form_with(known_truth(op, left, right), form_of(op, left, right)),
         Asked::Returned(_) => Some(Form::InResult),
     }
 }

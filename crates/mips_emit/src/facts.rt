@@ -81,7 +81,7 @@ fn known_of(facts: &[Fact], x: Register) -> Option<u32>
 }
 
 /// The word that a pseudo-register is known to hold.
-pub(crate) fn known_word(facts: &Knowledge, x: Register) -> Option<u32>
+pub fn known_word(facts: &Knowledge, x: Register) -> Option<u32>
     ensures { result ≡ known_in (facts_of facts.now) x }
 {
     known_of(facts.known.as_slice(), x)

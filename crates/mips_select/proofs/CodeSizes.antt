@@ -27,7 +27,7 @@ use Rattle.mips_emit.specs.declared.location.Source.TheVariants.{Zero, Word as K
 use Rattle.mips_emit.specs.declared.comparison.Asked.{Asked}
 use Rattle.mips_emit.specs.declared.comparison.Comparison.{Comparison}
 use Rattle.mips_emit.specs.declared.comparison.Form.{Form}
-use Rattle.mips_emit.specs.declared.comparison.Form.TheVariants.{OnPair, OnLeft, OnRight, ByResult, ByOpposite, InResult}
+use Rattle.mips_emit.specs.declared.comparison.Form.TheVariants.{Known, OnPair, OnLeft, OnRight, ByResult, ByOpposite, InResult}
 use Rattle.mips_emit.specs.declared.facts.Last.{Last}
 use Rattle.mips_emit.specs.Locations.{Locations, Facts, location_at, locations_of, locations, known_in, learned, operand, last_operand, inner_of, word_source}
 use Rattle.mips_emit.specs.Elements.{direct, scaled, base_sum, scaled_register, width_of, page, address_of_place}
@@ -211,6 +211,7 @@ inst_few globals starts at facts (Store a i b) =
     (one_behind _ 2 3 (fetch 2 (operand at facts b)) (fetch_few 2 (operand at facts b)) (omega arith)) (omega arith)
 
 form_few : (f : Form) (op : Op) (l r : Option ℕ) (x y : Source) → length (code_by_form f op l r x y) ≤ 8
+form_few (Known b) op l r x y = omega arith
 form_few (OnPair test) op l r x y =
     joined _ 2 3 8 (fetch 1 x) (fetch_few 1 x) (one_behind _ 2 3 (fetch 3 y) (fetch_few 3 y) (omega arith)) (omega arith)
 form_few (OnLeft test) op l r x y = one_behind _ 2 8 (fetch 3 x) (fetch_few 3 x) (omega arith)
@@ -313,9 +314,10 @@ arguments_few at facts t (x ∷ xs) =
     let sum = length-append (carry t (operand at facts x)) (arguments_code at facts (suc t) xs) in
     omega (arith, one, rest, sum)
 
-branch_few : (o : Option Comparison) (x : Source) → length (branch_code o x) ≤ 2
-branch_few None x = fetch_few 1 x
-branch_few (Some m) x = omega arith
+branch_few : (o : Option Comparison) (known : Option ℕ) (x : Source) → length (branch_code o known x) ≤ 2
+branch_few None None x = fetch_few 1 x
+branch_few None (Some w) x = omega arith
+branch_few (Some m) known x = omega arith
 
 return_few : (b : Bool) (x : Source) → length (return_code b x) ≤ 2
 return_few true x = omega arith
@@ -337,8 +339,8 @@ pub exit_few : (leaf : Bool) (f : Frame) (facts : Facts) (last : Last) (x : RExi
     → length (exit_code leaf f facts last x) + behind_most x ≤ exit_most leaf
 exit_few leaf f facts last (Goto b) eight few = ten_most leaf 0 (omega arith)
 exit_few leaf f facts last (Branch c t e) eight few =
-    let code = branch_code (tested last.comparison c) (last_operand (locations f) facts last.fresh c) in
-    let n = branch_few (tested last.comparison c) (last_operand (locations f) facts last.fresh c) in
+    let code = branch_code (tested last.comparison c) (known_in facts c) (last_operand (locations f) facts last.fresh c) in
+    let n = branch_few (tested last.comparison c) (known_in facts c) (last_operand (locations f) facts last.fresh c) in
     ten_most leaf (length code + 0) (omega (arith, n))
 exit_few leaf f facts last (Call g xs d next) eight few =
     let n = arguments_few (locations f) facts 4 xs.items in

@@ -16,11 +16,11 @@ use Rattle.mips_homes.specs.HomedRun.{read_home, read_homes, callee_saved}
 use Rattle.mips_homes.specs.declared.homed.Frame.{Frame}
 use Rattle.mips_homes.specs.declared.homed.Home.{Home}
 use Rattle.mips_emit.specs.declared.comparison.Form.{Form}
-use Rattle.mips_emit.specs.declared.comparison.Form.TheVariants.{OnPair, OnLeft, OnRight, ByResult, ByOpposite, InResult}
+use Rattle.mips_emit.specs.declared.comparison.Form.TheVariants.{Known, OnPair, OnLeft, OnRight, ByResult, ByOpposite, InResult}
 use Rattle.mips_emit.specs.declared.comparison.Asked.TheVariants.{Branched}
 use Rattle.mips_emit.specs.declared.comparison.Comparison.{Comparison}
 use Rattle.mips_emit.specs.declared.location.Source.{Source}
-use Rattle.mips_emit.specs.Locations.{Locations, Facts, locations, last_operand}
+use Rattle.mips_emit.specs.Locations.{Locations, Facts, known_in, locations, last_operand}
 use Rattle.mips_emit.specs.Comparisons.{exit_by_form, comparison_of, last_with, tested, branch_code, branch_exit, return_code}
 use Rattle.mips_emit.proofs.Operands.{passes}
 use Rattle.mips_emit.proofs.Comparing.{none_asked, asked_result, returned_result}
@@ -58,6 +58,10 @@ pub either : (head : ℕ → List Plain) (x y : ℕ) (b : Bool) → (head y ≡ 
 either head x y true e = e.1
 either head x y false e = e.0
 
+pub either_place : (place : ℕ → ℕ) (x y : ℕ) (b : Bool) → (if b then place x else place y) ≡ place (if b then x else y)
+either_place place x y true = refl
+either_place place x y false = refl
+
 -- a callee-saved register is none of those in which arguments are passed
 pub above_arguments : (r : Places) (q w : ℕ) → callee_saved r q ≡ Some w → 8 ≤ q
 above_arguments r q w e = by (nat_lt 15 q) (nat_lt q 24) refl e
@@ -71,6 +75,7 @@ pub goes_by : (blocks : List BlockParts) (links : ℕ → ℕ) (form : Form) (x 
     → outcome_of_departure blocks links (exit_effect (exit_by_form form x y t e) s (links k)).goes (items blocks links n)
     (exit_effect (exit_by_form form x y t e) s (links k)).state out
     ≡ outcome_at_block (if passes form x y s then t else e) (slice_get blocks (if passes form x y s then t else e)) (items blocks links n) s out
+goes_by blocks links (Known b) x y t e k s out n = refl
 goes_by blocks links (OnPair test) x y t e k s out n = refl
 goes_by blocks links (OnLeft test) x y t e k s out n = refl
 goes_by blocks links (OnRight test) x y t e k s out n = refl
@@ -88,8 +93,8 @@ pub same_exit : (entry place : ℕ → ℕ) (f : Frame) (facts known known' : Fa
     → exit_of entry place f known (last_with (Some m) None) n x ≡ exit_of entry place f known' (last_with (Some m) None) n x
 same_exit entry place f facts known known' i m n (Branch c t e) is =
     let test = asked_test (locations f) facts c i m is in
-    ap (λ o. branch_exit o (last_operand (locations f) known None c) (place t) (place e)) test
-    ∙ sym (ap (λ o. branch_exit o (last_operand (locations f) known' None c) (place t) (place e)) test)
+    ap (λ o. branch_exit o (known_in known c) (last_operand (locations f) known None c) (place t) (place e)) test
+    ∙ sym (ap (λ o. branch_exit o (known_in known' c) (last_operand (locations f) known' None c) (place t) (place e)) test)
 same_exit entry place f facts known known' i m n (Goto b) is = absurd (none_asked (locations f) facts i m is)
 same_exit entry place f facts known known' i m n (Call g xs d next) is = absurd (none_asked (locations f) facts i m is)
 same_exit entry place f facts known known' i m n (Return None) is = absurd (none_asked (locations f) facts i m is)
@@ -101,8 +106,8 @@ pub same_code : (leaf : Bool) (f : Frame) (facts known known' : Facts) (i : RIns
     → exit_code leaf f known (last_with (Some m) None) x ≡ exit_code leaf f known' (last_with (Some m) None) x
 same_code leaf f facts known known' i m (Branch c t e) is =
     let test = asked_test (locations f) facts c i m is in
-    ap (λ o. branch_code o (last_operand (locations f) known None c)) test
-    ∙ sym (ap (λ o. branch_code o (last_operand (locations f) known' None c)) test)
+    ap (λ o. branch_code o (known_in known c) (last_operand (locations f) known None c)) test
+    ∙ sym (ap (λ o. branch_code o (known_in known' c) (last_operand (locations f) known' None c)) test)
 same_code leaf f facts known known' i m (Goto b) is = absurd (none_asked (locations f) facts i m is)
 same_code leaf f facts known known' i m (Call g xs d next) is = absurd (none_asked (locations f) facts i m is)
 same_code leaf f facts known known' i m (Return None) is = absurd (none_asked (locations f) facts i m is)

@@ -1,5 +1,5 @@
 -- The blocks for a program are functions one behind another.
-use Rattle.std.proofs.Common.{◌≡◌, ℕ, zero, suc, ◌+◌, ◌<◌, ◌≤◌, Bool, true, false, List, [], ◌∷◌, ◌++◌, length, length-append, Option, None, Some}
+use Rattle.std.proofs.Common.{◌≡◌, ℕ, zero, suc, ◌+◌, ◌<◌, ◌≤◌, Bool, true, false, List, [], ◌∷◌, ◌++◌, length, length-append, Option, None, Some, nat_eq}
 use Rattle.std.proofs.Common.{refl, sym, ap, subst, ◌∙◌, arith}
 use Rattle.std.specs.Prelude.{slice_get, slice_index, replicate, if◌then◌else◌}
 use Rattle.std.proofs.lemmas.Option.{same_Some, none-some, slice_get_within}
@@ -16,17 +16,17 @@ use Rattle.mips_homes.specs.declared.homed.Homed.{Homed}
 use Rattle.mips_emit.specs.declared.facts.Last.{Last}
 use Rattle.mips_emit.specs.declared.location.Source.{Source}
 use Rattle.mips_emit.specs.declared.comparison.Form.{Form}
-use Rattle.mips_emit.specs.declared.comparison.Form.TheVariants.{OnPair, OnLeft, OnRight, ByResult, ByOpposite, InResult}
+use Rattle.mips_emit.specs.declared.comparison.Form.TheVariants.{Known, OnPair, OnLeft, OnRight, ByResult, ByOpposite, InResult}
 use Rattle.mips_emit.specs.declared.comparison.Comparison.{Comparison}
-use Rattle.mips_emit.specs.Locations.{Facts, locations, last_operand}
-use Rattle.mips_emit.specs.Comparisons.{exit_by_form, tested, branch_exit}
+use Rattle.mips_emit.specs.Locations.{Facts, known_in, known_after, no_facts, locations, last_operand}
+use Rattle.mips_emit.specs.Comparisons.{exit_by_form, last_after, no_last, tested, branch_exit}
 use Rattle.mips_select.specs.Functions.{blocks_of, owners_of, IsFrom, GoesWithin, IsFunctionAt, AreFunctions}
 use Rattle.mips_select.proofs.Owned.{functions_owned}
 use Rattle.mips_select.specs.declared.heads.Head.{Head}
 use Rattle.mips_select.specs.declared.heads.Head.TheVariants.{Bare, Enters, Takes}
 use Rattle.mips_select.specs.Heads.{heads_of, is_leaf, resumes, count, lead_of, lead_in}
 use Rattle.mips_select.specs.Data.{start_of}
-use Rattle.mips_select.specs.Code.{exit_of, own_block, head_code, after_block, prologue_block, start_block, end_block}
+use Rattle.mips_select.specs.Code.{asked_of, exit_of, own_block, head_code, after_block, prologue_block, start_block, end_block}
 use Rattle.mips_select.proofs.Lists.{all_at}
 use Rattle.mips_select.specs.Whole.{size_of_blocks, numbers, next_of, behind, blocks_from, place_in, lead_blocks, function_blocks, size_in}
 use Rattle.mips_select.specs.Whole.{function_size, functions_size, entries_from, entry_of, owners_from, owners_for, functions_blocks, program_blocks}
@@ -105,7 +105,12 @@ module _ (globals : List RGlobal) (starts entry : ℕ → ℕ) (functions : List
     place_below : (t : ℕ) → t < blocks → place t < bound
     place_below t lt = (let high = (place_from t lt).1 in omega (arith, fits, high))
 
+    from_below : (t : ℕ) → IsFrom start size t → t < bound
+    from_below t at_t = (let high = at_t.1 in omega (arith, fits, high))
+
     compared_goes : (form : Form) (x y : Source) (t e : ℕ) → IsFrom start size t → IsFrom start size e → GoesWithin bound start size (exit_by_form form x y t e)
+    compared_goes (Known true) x y t e at_t at_e = from_below t at_t
+    compared_goes (Known false) x y t e at_t at_e = from_below e at_e
     compared_goes (OnPair test) x y t e at_t at_e = (at_t, at_e)
     compared_goes (OnLeft test) x y t e at_t at_e = (at_t, at_e)
     compared_goes (OnRight test) x y t e at_t at_e = (at_t, at_e)
@@ -113,9 +118,15 @@ module _ (globals : List RGlobal) (starts entry : ℕ → ℕ) (functions : List
     compared_goes ByOpposite x y t e at_t at_e = (at_t, at_e)
     compared_goes InResult x y t e at_t at_e = (at_t, at_e)
 
-    branch_goes : (test : Option Comparison) (x : Source) (t e : ℕ) → IsFrom start size t → IsFrom start size e → GoesWithin bound start size (branch_exit test x t e)
-    branch_goes None x t e at_t at_e = (at_t, at_e)
-    branch_goes (Some m) x t e at_t at_e = compared_goes m.form m.x m.y t e at_t at_e
+    known_goes : (b : Bool) (t e : ℕ) → IsFrom start size t → IsFrom start size e → (if b then e else t) < bound
+    known_goes true t e at_t at_e = from_below e at_e
+    known_goes false t e at_t at_e = from_below t at_t
+
+    branch_goes : (test : Option Comparison) (known : Option ℕ) (x : Source) (t e : ℕ) → IsFrom start size t → IsFrom start size e
+        → GoesWithin bound start size (branch_exit test known x t e)
+    branch_goes None None x t e at_t at_e = (at_t, at_e)
+    branch_goes None (Some w) x t e at_t at_e = known_goes (nat_eq w 0) t e at_t at_e
+    branch_goes (Some m) known x t e at_t at_e = compared_goes m.form m.x m.y t e at_t at_e
 
     next_below : (k : ℕ) (g : ℕ) (d : Option ℕ) (next : ℕ) → next < blocks → (b : Bool) → k + (if b then 1 else 2) ≤ bound
         → (if b then place next else suc k) < bound
@@ -126,7 +137,7 @@ module _ (globals : List RGlobal) (starts entry : ℕ → ℕ) (functions : List
     exit_goes : (k : ℕ) (facts : Facts) (last : Last) (x : RExit) → IsExit functions blocks x → k + count heads x ≤ bound
         → GoesWithin bound start size (exit_of entry place f facts last (next_of heads place k x) x)
     exit_goes k facts last (Goto b) ok le = place_below b ok
-    exit_goes k facts last (Branch c t e) ok le = branch_goes (tested last.comparison c) (last_operand (locations f) facts last.fresh c) (place t) (place e)
+    exit_goes k facts last (Branch c t e) ok le = branch_goes (tested last.comparison c) (known_in facts c) (last_operand (locations f) facts last.fresh c) (place t) (place e)
         (place_from t (ok.1).0) (place_from e (ok.1).1)
     exit_goes k facts last (Call g xs d next) ok le = (
       entry_below g (slice_get_within functions g (ok.0).callee (ok.0).there),
@@ -158,7 +169,8 @@ module _ (globals : List RGlobal) (starts entry : ℕ → ℕ) (functions : List
     blocks_go k j (x ∷ bs) le ok zero b there =
         subst (λ (b : BlockParts). GoesWithin bound start size b.exit) (same_Some
         (own_block globals starts entry place leaf f (head_code leaf f n (heads j)) (next_of heads place k x.exit) x) b there)
-        (exit_goes k _ _ x.exit (ok 0 x refl) (omega (arith, le)))
+        (exit_goes k (known_after (locations f) x.insts.items no_facts) (last_after (locations f) (asked_of x.exit) no_facts x.insts.items no_last) x.exit
+        (ok 0 x refl) (omega (arith, le)))
     blocks_go k j (x ∷ bs) le ok (suc i) b there =
         behind_goes x.exit (ok 0 x refl) (blocks_from globals starts entry place leaf heads f n (k + count heads x.exit) (suc j) bs)
         (λ i b there. blocks_go (k + count heads x.exit) (suc j) bs (omega (arith, le)) (λ i b there. ok (suc i) b there) i b there) i b there

@@ -50,7 +50,7 @@ use Rattle.mips_select.specs.Data.{padded_bytes, start_of}
 use Rattle.mips_select.specs.Code.{saves, frame_bytes, link_save, lowers, parameters_code, prologue, epilogue, asked_of, exit_code, exit_of, code_insts}
 use Rattle.mips_select.specs.Code.{own_block, result_code, after_block, prologue_block, end_block}
 use Rattle.mips_select.specs.Selected.{AreClear, GoesOn, StandsAt, IsPlaced, IsFunction, IsSelected}
-use Rattle.mips_select.proofs.Departures.{read_length, first_true, second_true, branch_words, either, above_arguments, goes_by, same_exit, same_code}
+use Rattle.mips_select.proofs.Departures.{read_length, first_true, second_true, branch_words, either, either_place, above_arguments, goes_by, same_exit, same_code}
 use Rattle.mips_select.proofs.Frames.{all_shown, all_denote, arguments, parameters}
 use Rattle.mips_select.proofs.Returns.{return_found}
 use Rattle.mips_select.proofs.Calls.{stored_frame, frames_of, linked_frames, enters, leaves_frame}
@@ -450,7 +450,7 @@ module _ (h : Homed) (depth : ℕ) (blocks : List BlockParts) (ok : IsSelected h
       (jump k c.form (place b) (own_block gs starts ok.entry place leaf a.frame (head b) stood.next block) s out c.there c.exit stood.there))
   exits leaf (Branch x y z) facts last a k link below place head ws r g out s c kn lz new placed frame waits st =
       value_or_failed (λ run. Reach 1 (At k (exit_code leaf a.frame facts last (Branch x y z)) s out) run) (read_home a.frame.homes.items r a.slots x) out
-      (λ v. state_at_block (if nat_eq v 0 then z else y) a (callee_saved r) a.slots ws g out) tt (λ v e. branch v e (tested last.comparison x) refl c.exit)
+      (λ v. state_at_block (if nat_eq v 0 then z else y) a (callee_saved r) a.slots ws g out) tt (λ v e. branch v e (tested last.comparison x) refl (known_in facts x) refl c.exit)
     where
       o : Source
       o = last_operand (locations a.frame) facts last.fresh x
@@ -467,10 +467,21 @@ module _ (h : Homed) (depth : ℕ) (blocks : List BlockParts) (ok : IsSelected h
               (new.comparison n v is (ap (read_home a.frame.homes.items r a.slots) (eqb-true n.result x eb) ∙ e))
 
       branch : (v : ℕ) → read_home a.frame.homes.items r a.slots x ≡ Some v → (t : Option Comparison) → tested last.comparison x ≡ t
-          → (c.form).exit ≡ branch_exit t (last_operand (locations a.frame) facts last.fresh x) (place y) (place z)
-          → Reach 1 (At k (branch_code t (last_operand (locations a.frame) facts last.fresh x)) s out)
+          → (known : Option ℕ) → known_in facts x ≡ known
+          → (c.form).exit ≡ branch_exit t known (last_operand (locations a.frame) facts last.fresh x) (place y) (place z)
+          → Reach 1 (At k (branch_code t known (last_operand (locations a.frame) facts last.fresh x)) s out)
           (state_at_block (if nat_eq v 0 then z else y) a (callee_saved r) a.slots ws g out)
-      branch v e None is_test is_exit =
+      branch v e None is_test (Some w) is_known is_exit =
+          let b = if nat_eq v 0 then z else y in
+          let same : w ≡ v = same_Some w v (sym (kn.by x w is_known) ∙ e) in
+          let goes : (c.form).exit ≡ E.Goto (place b) =
+              is_exit ∙ ap (λ w. E.Goto (if nat_eq w 0 then place z else place y)) same ∙ ap E.Goto (either_place place z y (nat_eq v 0)) in
+          jumps leaf (At k [] s out) 1 a link below place head ws placed frame waits b (callee_saved r) a.slots g out s
+          (settled facts.deferred r g (stored_frame leaf a.frame a.slots a.aside link ∷ frames_of ws below) s lz st) (omega arith)
+          (λ block stood. no_head 1 (At k [] s out) (place b) (head b) (code_insts gs starts leaf a.frame no_facts no_last (code_of block)) s out
+          (either head z y (nat_eq v 0) c.leads_on)
+          (jump k c.form (place b) (own_block gs starts ok.entry place leaf a.frame (head b) stood.next block) s out c.there goes stood.there))
+      branch v e None is_test None is_known is_exit =
           let code = fetch 1 (last_operand (locations a.frame) facts last.fresh x) in
           let means = last_means ok.most total gs starts facts.deferred r g (stored_frame leaf a.frame a.slots a.aside link) (frames_of ws below) s st lz (known_in facts)
           last.fresh a.frame.homes.items x v (frame_homes ok.most a.frame frame) kn new.fresh e in
@@ -492,7 +503,7 @@ module _ (h : Homed) (depth : ℕ) (blocks : List BlockParts) (ok : IsSelected h
           ∙ ap (λ o. outcome_at_block (place b) o (items blocks links n) s1 out) stood.there) in
           leads_then blocks links (length code) 1 (At k code s out) (At k [] s1 out) (At (place b) rest s1 out) l1
           (no_head 1 (At k [] s1 out) (place b) (head b) rest s1 out (either head z y (nat_eq v 0) c.leads_on) l2))
-      branch v e (Some m) is_test is_exit =
+      branch v e (Some m) is_test known is_known is_exit =
           let b = if nat_eq v 0 then z else y in
           let taken : passes m.form m.x m.y s ≡ not (nat_eq v 0) = found v m e last.comparison refl is_test in
           jumps leaf (At k [] s out) 1 a link below place head ws placed frame waits b (callee_saved r) a.slots g out s

@@ -20,7 +20,7 @@ use Rattle.mips_emit.specs.declared.comparison.Asked.{Asked}
 use Rattle.mips_emit.specs.declared.comparison.Asked.TheVariants.{Nothing, Branched, Returned}
 use Rattle.mips_emit.specs.Frames.{link_words}
 use Rattle.mips_emit.specs.Elements.{data_middle}
-use Rattle.mips_emit.specs.Locations.{Locations, locations, Facts, no_facts, known_after, last_operand}
+use Rattle.mips_emit.specs.Locations.{Locations, locations, Facts, no_facts, known_after, known_in, last_operand}
 use Rattle.mips_emit.specs.Code.{constant, load_word_at, store_word_at, move_code, carry, arrive, arguments_code}
 use Rattle.mips_emit.specs.Comparisons.{insts_code, last_after, no_last, tested, branch_code, branch_exit, returned, return_code}
 use Rattle.mips_select.specs.declared.heads.Head.{Head}
@@ -105,7 +105,8 @@ asked_of (Out x next) = Nothing
 -- what stands before an exit
 abbrev pub exit_code : Bool → Frame → Facts → Last → RExit → List Plain
 exit_code leaf f facts last (Goto b) = []
-exit_code leaf f facts last (Branch c t e) = branch_code (tested last.comparison c) (last_operand (locations f) facts last.fresh c)
+exit_code leaf f facts last (Branch c t e) =
+    branch_code (tested last.comparison c) (known_in facts c) (last_operand (locations f) facts last.fresh c)
 exit_code leaf f facts last (Call g xs d next) = arguments_code (locations f) facts FIRST_ARGUMENT xs.items
 exit_code leaf f facts last (Return None) = epilogue leaf f
 exit_code leaf f facts last (Return (Some x)) =
@@ -116,7 +117,7 @@ exit_code leaf f facts last (Out x next) = carry FIRST_ARGUMENT (last_operand (l
 abbrev pub exit_of : (entry place : ℕ → ℕ) → Frame → Facts → Last → ℕ → RExit → Exit
 exit_of entry place f facts last n (Goto b) = exits.Goto (place b)
 exit_of entry place f facts last n (Branch c t e) =
-    branch_exit (tested last.comparison c) (last_operand (locations f) facts last.fresh c) (place t) (place e)
+    branch_exit (tested last.comparison c) (known_in facts c) (last_operand (locations f) facts last.fresh c) (place t) (place e)
 exit_of entry place f facts last n (Call g xs d next) = exits.Call (entry g) n
 exit_of entry place f facts last n (Return o) = exits.Return
 exit_of entry place f facts last n (Out x next) = exits.Out (place next)

@@ -3,7 +3,7 @@
 ghost use Rattle.std.specs.Prelude.{◌≡◌, ◌+◌, ◌≤◌, ◌++◌, IfOk, OnOk, slice_index};
 ghost use Rattle.mblock.specs.declared.limits.TheConstants.{UNIT_BLOCKS};
 ghost use Rattle.mips_emit.specs.Frames.{IsReachable};
-ghost use Rattle.mips_emit.specs.Locations.{facts_of, locations, last_operand};
+ghost use Rattle.mips_emit.specs.Locations.{facts_of, known_in, locations, last_operand};
 ghost use Rattle.mips_emit.specs.Comparisons.{tested, branch_code, branch_exit, returned, return_code};
 ghost use Rattle.mips_select.specs.Heads.{heads_in, count};
 ghost use Rattle.mips_select.specs.Code.{asked_of, exit_code, exit_of};
@@ -17,7 +17,7 @@ use crate::prologue::emit_epilogue;
 use mblock::{BlockNumber, Exit};
 use mips_emit::{
     Asked, Knowledge, Last, comparison_exit, emit_arguments, emit_departure, emit_fetch,
-    last_operand, operand_register, register, returned, tested,
+    known_word, last_operand, operand_register, register, returned, tested,
 };
 use mips_homes::{FIRST_ARGUMENT, Frame, RESULT, SCRATCH_1};
 use mips_isa::{PairTest, Plain, Reg};
@@ -75,24 +75,27 @@ fn emit_branch(
 ) -> Result<Exit, AllocError>
     requires { IsReachable frame.now }
     ensures code { OnOk result (code.new.items ≡ code.old.items ++ branch_code (tested last.now.comparison c)
+        (known_in (facts_of facts.now) c)
         (last_operand (locations frame.now) (facts_of facts.now) last.now.fresh c)) }
     ensures exit { IfOk result (λ x. x ≡ branch_exit (tested last.now.comparison c)
+        (known_in (facts_of facts.now) c)
         (last_operand (locations frame.now) (facts_of facts.now) last.now.fresh c) then other) }
 {
-    let operand = last_operand(facts, last.fresh, frame, c);
-    match tested(&last.comparison, c) {
-        None => {
-            emit_fetch(code, register(SCRATCH_1), &operand)?;
-            Ok(Exit::BranchPair {
-                test: PairTest::NotEqual,
-                rs: operand_register(register(SCRATCH_1), &operand),
-                rt: Reg::ZERO,
-                then,
-                other,
-            })
-        }
-        Some(m) => Ok(comparison_exit(&m, then, other)),
+    if let Some(m) = tested(&last.comparison, c) {
+        return Ok(comparison_exit(&m, then, other));
     }
+    if let Some(word) = known_word(facts, c) {
+        return Ok(Exit::Goto(if word == 0 { other } else { then }));
+    }
+    let operand = last_operand(facts, last.fresh, frame, c);
+    emit_fetch(code, register(SCRATCH_1), &operand)?;
+    Ok(Exit::BranchPair {
+        test: PairTest::NotEqual,
+        rs: operand_register(register(SCRATCH_1), &operand),
+        rt: Reg::ZERO,
+        then,
+        other,
+    })
 }
 
 // A pseudo-register into the result's register, but where it is there already.

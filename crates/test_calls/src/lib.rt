@@ -2,7 +2,7 @@
 //!
 //! - Public calls of passes: the homes of pseudo-registers, units assembled and run, the operators of the machine.
 //! - Orders that schedulers propose, wrong ones too, the pool of workers, phases over them, and many builds in one process.
-//! - The table of terms: small callers with their contracts, what threads do with one table, and what they tell one another.
+//! - The table of terms: small callers with their contracts, what threads do with one table, and notes between threads.
 //! - `mcc`: streams and files that fail half way. Memory that is refused to builds by workers, to a verdict and to a machine.
 //!
 //! `files`, `written` and `scarce_memory` stand in for the host. They are a file and streams in memory, what `mcc` does over them, and all
