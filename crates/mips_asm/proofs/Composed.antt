@@ -37,7 +37,7 @@ use Rattle.mblock.specs.UnitRuns.{exit_item, items, unit_run, is_call, TellsApar
 use Rattle.mblock.specs.Orders.{Means, AreOrders}
 use Rattle.mips_code.specs.Agreement.{Agrees}
 use Rattle.mips_asm.specs.LayoutRuns.{EachLayoutRuns, EachLayoutTellsCallsApart}
-use Rattle.mips_asm.proofs.Places.{HasAt, has_back, layout_has, words_length, slot_length, map_length}
+use Rattle.mips_asm.proofs.LayoutPlaces.{HasAt, has_back, layout_has, words_length, slot_length, map_length}
 use Rattle.mips_asm.proofs.Steps.{machine_at, at, Leads, leads_on, fewer, hop}
 use Rattle.mips_asm.proofs.OrderSteps.{Arrives, Placed, order_arrives}
 use Rattle.mblock.proofs.StateWords.{run_words, leave_words}

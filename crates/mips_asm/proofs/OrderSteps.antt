@@ -39,7 +39,7 @@ use Rattle.mips_asm.specs.Fetching.{insts_code}
 use Rattle.mips_isa.specs.Actions.{nop}
 use Rattle.mips_asm.specs.Layout.{address_of_place, jump_to, branch_offset, exit_insts, order_insts}
 use Rattle.mips_asm.proofs.Unbroken.{system_goes}
-use Rattle.mips_asm.proofs.Places.{HasAt, map_length, has_front, has_back, jump_lands}
+use Rattle.mips_asm.proofs.LayoutPlaces.{HasAt, map_length, has_front, has_back, jump_lands}
 use Rattle.mips_asm.proofs.Steps.{machine_at, at, Leads, leads_on, goes, at_place, fewer, plain_step, words_lead, within, control_step, slot_step, hop}
 use Rattle.mips_asm.specs.declared.limits.TheConstants.{CODE_WORDS}
 

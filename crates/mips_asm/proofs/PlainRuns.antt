@@ -18,7 +18,7 @@ use Rattle.mblock.specs.UnitRuns.{wrong, items, unit_run}
 use Rattle.mblock.specs.PlainOrders.{padded_inst, plain_order_of}
 use Rattle.mblock.proofs.PlainOrders.{padded_keep, loads_load, padded_append, padded_length, safe_padded, plain_at}
 use Rattle.mips_asm.specs.LayoutRuns.{EachPlainLayoutRuns}
-use Rattle.mips_asm.proofs.Places.{HasAt, has_front}
+use Rattle.mips_asm.proofs.LayoutPlaces.{HasAt, has_front}
 use Rattle.mips_asm.proofs.Steps.{machine_at, words_lead}
 use Rattle.mips_asm.proofs.Composed.{is_wrong, not_wrong, said, IsScheduled, scheduled, has_order, from_start, over_words}
 

@@ -20,7 +20,7 @@ use Rattle.mips_asm.specs.Fetching.{insts_code}
 use Rattle.mips_isa.specs.Actions.{nop}
 use Rattle.mips_asm.specs.Layout.{address_of_place, jump_to}
 use Rattle.mips_asm.proofs.Unbroken.{plain_goes, control_goes}
-use Rattle.mips_asm.proofs.Places.{HasAt, fetch_at, jump_lands}
+use Rattle.mips_asm.proofs.LayoutPlaces.{HasAt, fetch_at, jump_lands}
 use Rattle.mips_asm.specs.declared.limits.TheConstants.{CODE_WORDS}
 
 abbrev pub machine_at : ℕ → State → List ℕ → Machine

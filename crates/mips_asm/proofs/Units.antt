@@ -21,7 +21,7 @@ use Rattle.mips_asm.specs.Layout.{exit_size, size, place, order_insts, insts_of,
 use Rattle.mips_asm.specs.Functions.{AreFunctions}
 use Rattle.mips_asm.specs.LayoutRuns.{RunsAs}
 use Rattle.mips_asm.proofs.Within.{place_mono, place_next}
-use Rattle.mips_asm.proofs.Places.{words_length}
+use Rattle.mips_asm.proofs.LayoutPlaces.{words_length}
 use Rattle.mips_asm.proofs.Composed.{each_layout_runs, each_layout_tells_calls_apart}
 use Rattle.mips_asm.proofs.PlainRuns.{each_plain_layout_runs}
 use Rattle.mips_asm.specs.Emitted.{IsOwn, AreUnits}
