@@ -88,15 +88,23 @@ abbrev mutual
       if is_logical o then condition_insts r + condition_insts l else value_insts r + value_insts l + 1 + 2
   condition_insts (conditional k c a b) = condition_insts a + condition_insts b + condition_insts c
 
--- a local is read in its own register, another operand in the first free one
+-- whether branches join with the value
+abbrev pub is_joined : TypedExpression → Bool
+is_joined (unary U.Not k e) = by_branches e
+is_joined (binary o k l r) = is_logical o
+is_joined (conditional k c a b) = true
+is_joined _ = false
+
+-- a local is read in its own register. Another operand has the first of two that are free, or the second where branches join with its
+-- value: so the first is seldom read by another block
 abbrev pub place_registers : TypedExpression → (free : ℕ) → ℕ
 place_registers (local x k) free = x + 1
-place_registers e free = free + 1
+place_registers e free = if is_joined e then free + 2 else free + 1
 
 -- the first that is free while the operand is held
 abbrev pub next_free : TypedExpression → (free : ℕ) → ℕ
 next_free (local x k) free = free
-next_free e free = free + 1
+next_free e free = free + 2
 
 -- an operation at an operand and a constant, which has the register behind it
 abbrev pub combined_registers : (place next value : ℕ) → ℕ
@@ -121,7 +129,7 @@ has_contrary _ = false
 abbrev pub choice_registers : (likely contrary : Bool) (free operands : ℕ) → ℕ
 choice_registers true contrary free operands = max (free + 1) operands
 choice_registers false true free operands = max (free + 1) operands
-choice_registers false false free operands = test_registers false free (free + 1) (free + 1) operands
+choice_registers false false free operands = test_registers false free (free + 1) (free + 2) operands
 
 -- two operands
 abbrev pub operands_registers : (first second first_value second_value : ℕ) → ℕ
@@ -147,13 +155,13 @@ abbrev mutual
   pub condition_registers : TypedExpression → (likely : Bool) (free : ℕ) → ℕ
   condition_registers (constant c) likely free = 0
   condition_registers (local x k) likely free = test_registers likely free (x + 1) free (x + 1)
-  condition_registers (global x k) likely free = test_registers likely free (free + 1) (free + 1) (free + 1)
+  condition_registers (global x k) likely free = test_registers likely free (free + 1) (free + 2) (free + 1)
   condition_registers (element x k i) likely free =
-      test_registers likely free (free + 1) (free + 1) (max (place_registers i free) (value_registers i free))
+      test_registers likely free (free + 1) (free + 2) (max (place_registers i free) (value_registers i free))
   condition_registers (unary U.Identity k e) likely free = condition_registers e likely free
   condition_registers (unary U.Not k e) likely free = condition_registers e (not likely) free
   condition_registers (unary o k e) likely free =
-      test_registers likely free (free + 1) (free + 1) (combined_registers (place_registers e free) (next_free e free)
+      test_registers likely free (free + 1) (free + 2) (combined_registers (place_registers e free) (next_free e free)
       (value_registers e free))
   condition_registers (binary o k l r) likely free =
       if is_logical o then max (condition_registers r likely free) (condition_registers l likely free)

@@ -39,7 +39,7 @@ fn constant(value: u32) -> u32
 }
 
 // Whether an expression is `&&`, `||` or `!`, whose value its branches tell.
-fn is_logical(e: &TypedExpression) -> bool
+pub(crate) fn is_logical(e: &TypedExpression) -> bool
     ensures { result ≡ by_branches (typed_expression_of e.now) }
 {
     match e {

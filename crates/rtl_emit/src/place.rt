@@ -4,9 +4,11 @@ ghost use Rattle.c_typed.specs.Shape.{typed_expression_of, typed_expressions_of}
 ghost use Rattle.rtl.specs.declared.limits.TheConstants.{MAX_REGISTERS};
 ghost use Rattle.rtl_emit.specs.declared.place.Place.{Place};
 ghost use Rattle.rtl_emit.specs.Expressions.{IsPlace, AddPlaces};
-ghost use Rattle.rtl_emit.specs.Sizes.{place_registers, places_registers};
+ghost use Rattle.rtl_emit.specs.Sizes.{is_joined, place_registers, places_registers};
 
+use crate::expression::is_logical;
 use crate::fault::LowerFault;
+use c_tree::UnaryOp;
 use c_typed::TypedExpression;
 use rtl::{MAX_REGISTERS, Register};
 use std::alloc::{AllocError, Global};
@@ -42,7 +44,22 @@ pub fn spare_register(free: Register) -> Result<Register, LowerFault>
     Ok(free)
 }
 
-/// Where the value of an operand is found: a local in its own register, others in a free one. A Limit where there is none.
+// Whether branches join with the value of an expression.
+fn is_joined(e: &TypedExpression) -> bool
+    ensures { result ≡ is_joined (typed_expression_of e.now) }
+{
+    match e {
+        TypedExpression::Unary(operator, _, part) => {
+            *operator == UnaryOp::Not && is_logical(part)
+        }
+        TypedExpression::Binary(_, _, _) => is_logical(e),
+        TypedExpression::Conditional(_, _) => true,
+        _ => false,
+    }
+}
+
+/// Where the value of an operand is found: a local in its own register, others in the first of two free ones, or in the second if
+/// branches join with the value. A Limit where there is none.
 pub fn place_of(e: &TypedExpression, free: Register) -> Result<Place, LowerFault>
     ensures place { IfOk result (λ p. IsPlace (typed_expression_of e.now) free p.register p.free) }
     ensures room { OnOk result (place_registers (typed_expression_of e.now) free ≤ MAX_REGISTERS) }
@@ -52,10 +69,15 @@ pub fn place_of(e: &TypedExpression, free: Register) -> Result<Place, LowerFault
         let register = register_of(*number)?;
         return Ok(Place { register, free });
     }
-    let register = spare_register(free)?;
+    let first = spare_register(free)?;
+    let register = if is_joined(e) {
+        spare_register(first + 1)?
+    } else {
+        first
+    };
     Ok(Place {
         register,
-        free: register + 1,
+        free: first + 2,
     })
 }
 
