@@ -190,16 +190,31 @@ pub(crate) fn learn(facts: &mut Knowledge, frame: &Frame, inst: &RInst) -> Resul
     Ok(())
 }
 
+/// A pseudo-register as an operand, from the word that it is known to hold.
+pub(crate) fn operand_by(
+    facts: &Knowledge,
+    frame: &Frame,
+    x: Register,
+    known: Option<u32>,
+) -> Source
+    requires frame { IsReachable frame.now }
+    requires known { known ≡ known_in (facts_of facts.now) x }
+    ensures value { result ≡ operand (locations frame.now) (facts_of facts.now) x }
+    ensures fits { FitsSource result }
+{
+    match deferred_at(&facts.deferred, locate(frame, x)) {
+        Some(word) => word_source(word),
+        None => source_of(known, locate(frame, x)),
+    }
+}
+
 /// A pseudo-register as an operand.
 pub(crate) fn operand(facts: &Knowledge, frame: &Frame, x: Register) -> Source
     requires { IsReachable frame.now }
     ensures value { result ≡ operand (locations frame.now) (facts_of facts.now) x }
     ensures fits { FitsSource result }
 {
-    match deferred_at(&facts.deferred, locate(frame, x)) {
-        Some(word) => word_source(word),
-        None => source_of(known_word(facts, x), locate(frame, x)),
-    }
+    operand_by(facts, frame, x, known_word(facts, x))
 }
 
 // A pseudo-register, if it is in a slot.

@@ -18,7 +18,7 @@ ghost use Rattle.mips_emit.specs.Prefixes.{Emits, StopsAmong};
 use crate::comparison::{Asked, Comparison, comparison_of, emit_comparison};
 use crate::constant::emit_one;
 use crate::element::{direct, element_load, element_store, emit_element};
-use crate::facts::{Knowledge, Last, fresh_of, known_word, last_with, learn, operand};
+use crate::facts::{Knowledge, Last, fresh_of, known_word, last_with, learn, operand, operand_by};
 use crate::location::{Location, inner_of, locate, register, word_source};
 use crate::operation::{Operand, emit_op, operand_with};
 use crate::transfer::{emit_bring, emit_fetch, emit_finish, emit_put, into_of, operand_register};
@@ -127,8 +127,9 @@ fn emit_load(
         (load_code (locations frame.now) (facts_of facts.now) array.width array.start d i)
         code.new.items }
 {
-    let x = operand(facts, frame, i);
-    let place = direct(array.width, array.start, known_word(facts, i));
+    let known = known_word(facts, i);
+    let x = operand_by(facts, frame, i, known);
+    let place = direct(array.width, array.start, known);
     let rt = into_of(locate(frame, d));
     emit_element(code, array.width, array.start, place, &x)?;
     emit_one(code, element_load(array.width, rt, array.start, place))?;
@@ -150,9 +151,10 @@ fn emit_store(
         (store_code (locations frame.now) (facts_of facts.now) array.width array.start i b)
         code.new.items }
 {
-    let x = operand(facts, frame, i);
+    let known = known_word(facts, i);
+    let x = operand_by(facts, frame, i, known);
     let y = operand(facts, frame, b);
-    let place = direct(array.width, array.start, known_word(facts, i));
+    let place = direct(array.width, array.start, known);
     emit_element(code, array.width, array.start, place, &x)?;
     emit_fetch(code, register(SCRATCH_2), &y)?;
     let rt = operand_register(register(SCRATCH_2), &y);

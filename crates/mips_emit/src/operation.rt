@@ -14,7 +14,7 @@ ghost use Rattle.mips_emit.specs.Code.{turned_less_of, code_by_word, op_code};
 ghost use Rattle.mips_emit.specs.Prefixes.{Emits};
 
 use crate::constant::{emit_one_or_two, half, is_small};
-use crate::facts::{Knowledge, known_word, operand};
+use crate::facts::{Knowledge, known_word, operand_by};
 use crate::location::{Source, register};
 use crate::product::{emit_multiple, multiple_of};
 use crate::transfer::{emit_fetch, operand_register};
@@ -257,9 +257,10 @@ pub(crate) fn operand_with(facts: &Knowledge, frame: &Frame, x: Register) -> Ope
     ensures source { result.source ≡ operand (locations frame.now) (facts_of facts.now) x }
     ensures fits { FitsSource result.source }
 {
+    let known = known_word(facts, x);
     Operand {
-        known: known_word(facts, x),
-        source: operand(facts, frame, x),
+        known,
+        source: operand_by(facts, frame, x, known),
     }
 }
 
