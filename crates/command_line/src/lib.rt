@@ -9,6 +9,7 @@
 mod command;
 mod grammar;
 mod laws;
+mod pages;
 mod parts;
 mod values;
 

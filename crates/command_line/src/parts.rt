@@ -7,6 +7,7 @@ ghost use Rattle.command_line.specs.Commands.{number_rule};
 ghost use Rattle.command_line.specs.Commands.{with_required_subcommand, with_version};
 ghost use Rattle.command_line.specs.Parts.{app_over, command_app, option_rule, placed_rule, rule_for};
 
+use crate::pages::Page;
 use clap::builder::ValueParser;
 use clap::{Arg, ArgAction, Command as CommandLine};
 use std::alloc::{AllocError, Global};
@@ -39,7 +40,7 @@ pub(crate) struct Part<'a> {
 pub(crate) struct CommandParts<'a> {
     pub(crate) name: &'a str,
     pub(crate) about: &'a str,
-    pub(crate) help: &'a str,
+    pub(crate) page: Page,
     pub(crate) parts: &'a [Part<'a>],
 }
 
@@ -51,7 +52,7 @@ pub(crate) trait CommandBuilder<'a>: Sized + Drop {
     ghost has_globals: { Self → Bool };
 
     /// A command with no argument yet.
-    fn new_command(alloc: Global, name: &'a str, about: &'a str, help: &'a str) -> Self
+    fn new_command(alloc: Global, name: &'a str, about: &'a str, page: Page) -> Self
         ensures app { app result ≡ new_app name.entry.now }
         ensures local { has_globals result ≡ false };
 
@@ -79,8 +80,10 @@ impl<'a> CommandBuilder<'a> for CommandLine<'a> {
 
     ghost has_globals = { λ c. (out-Command c).has_globals };
 
-    fn new_command(alloc: Global, name: &'a str, about: &'a str, help: &'a str) -> Self {
-        CommandLine::new(alloc, name).about(about).after_help(help)
+    fn new_command(alloc: Global, name: &'a str, about: &'a str, page: Page) -> Self {
+        CommandLine::new(alloc, name)
+            .about(about)
+            .after_help(page.text())
     }
 
     fn with(self, alloc: Global, part: &Part<'a>) -> Result<Self, AllocError> {
@@ -108,7 +111,7 @@ fn command_of<'a, C: CommandBuilder<'a>>(
     ensures app { IfOk result (λ c. C.app c ≡ command_app parts.now) }
     ensures local { IfOk result (λ c. C.has_globals c ≡ false) }
 {
-    let mut command = C::new_command(alloc, parts.name, parts.about, parts.help);
+    let mut command = C::new_command(alloc, parts.name, parts.about, parts.page);
     for part in parts.parts {
         command = command.with(alloc, part)?;
     }
