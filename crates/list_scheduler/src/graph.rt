@@ -82,6 +82,22 @@ impl Builder {
         Ok(())
     }
 
+    // The words from a writer of a register to who touches the register next.
+    fn words_behind_write(&self, writer: usize) -> u32 {
+        match self.graph.nodes.get(writer) {
+            Some(node) if node.inst.action().is_load() => AFTER_LOAD,
+            _ => NEXT,
+        }
+    }
+
+    // The words from a reader of a register to who writes the register next.
+    fn words_behind_read(&self, reader: usize) -> u32 {
+        match self.graph.nodes.get(reader) {
+            Some(node) if node.inst.action().is_move() => PRODUCT_AFTER_MOVE,
+            _ => NEXT,
+        }
+    }
+
     // Behind the last writer of each register that it touches.
     fn link_behind_writers(
         &mut self,
@@ -94,12 +110,7 @@ impl Builder {
                 break;
             };
             if let Some(writer) = self.uses.writer(resource) {
-                let loads = self
-                    .graph
-                    .nodes
-                    .get(writer)
-                    .is_some_and(|it| it.inst.action().is_load());
-                self.stand_before(writer, next, if loads { AFTER_LOAD } else { NEXT })?;
+                self.stand_before(writer, next, self.words_behind_write(writer))?;
             }
             left = others;
         }
@@ -122,12 +133,7 @@ impl Builder {
                 let Some((reader, earlier)) = self.uses.split_last(readers) else {
                     break;
                 };
-                let moves = self
-                    .graph
-                    .nodes
-                    .get(reader)
-                    .is_some_and(|it| it.inst.action().is_move());
-                self.stand_before(reader, next, if moves { PRODUCT_AFTER_MOVE } else { NEXT })?;
+                self.stand_before(reader, next, self.words_behind_read(reader))?;
                 readers = earlier;
             }
             left = others;

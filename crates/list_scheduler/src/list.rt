@@ -1,6 +1,7 @@
 //! The list scheduler.
 ghost use Rattle.std.specs.Prelude.{⊤};
 
+use crate::chains::Chain;
 use crate::graph::{Edge, Graph, Node};
 use crate::needs::keep_needed;
 use crate::reorder::Reorder;
@@ -60,6 +61,14 @@ impl Free {
         })
     }
 
+    // The best of those that are ready.
+    fn take_best(&mut self) -> Option<usize> {
+        match self.ready.pop() {
+            Some((_, Reverse(k))) => Some(k),
+            None => None,
+        }
+    }
+
     // Those that may stand at this word are ready.
     fn reach(&mut self, nodes: &[Node], word: u32) -> Result<(), AllocError> {
         let mut later = 0;
@@ -96,6 +105,24 @@ fn release(nodes: &mut [Node], free: &mut Free, edge: Edge, word: u32) -> Result
     Ok(())
 }
 
+// Those that waited for an instruction which now stands at a word.
+fn release_all(
+    graph: &mut Graph,
+    free: &mut Free,
+    edges: Chain,
+    word: u32,
+) -> Result<(), AllocError> {
+    let mut left = edges;
+    for _ in 0..graph.edges.len() {
+        let Some((edge, others)) = graph.edges.split_last(left) else {
+            break;
+        };
+        release(graph.nodes.as_mut_slice(), free, edge, word)?;
+        left = others;
+    }
+    Ok(())
+}
+
 // The instruction of a node, or a Nop, stands at a word.
 fn place(
     graph: &mut Graph,
@@ -103,19 +130,14 @@ fn place(
     best: Option<usize>,
     word: u32,
 ) -> Result<Plain, AllocError> {
-    let Some(node) = best.and_then(|k| graph.nodes.get(k)) else {
+    let Some(k) = best else {
         return Ok(Plain::nop());
     };
-    let inst = node.inst;
-    let mut edges = node.edges;
-    for _ in 0..graph.edges.len() {
-        let Some((edge, others)) = graph.edges.split_last(edges) else {
-            break;
-        };
-        release(graph.nodes.as_mut_slice(), free, edge, word)?;
-        edges = others;
-    }
-    Ok(inst)
+    let Some(node) = graph.nodes.get(k).copied() else {
+        return Ok(Plain::nop());
+    };
+    release_all(graph, free, node.edges, word)?;
+    Ok(node.inst)
 }
 
 // A Nop behind a load whose register the exit's first word touches.
@@ -134,21 +156,27 @@ fn finish(list: &mut Vec<Plain>, exit: &Exit) -> Result<(), AllocError> {
 }
 
 // The instructions of the graph word by word, one more than an order may have at most.
-fn list_nodes(alloc: Global, mut graph: Graph, exit: &Exit) -> Result<Vec<Plain>, AllocError> {
-    let mut free = Free::of(alloc, graph.nodes.as_slice())?;
-    let mut list = Vec::with_capacity(alloc, graph.nodes.len())?;
+fn list_words(graph: &mut Graph, free: &mut Free, list: &mut Vec<Plain>) -> Result<(), AllocError> {
     let mut left = graph.nodes.len();
     for word in 0..=ORDER_INSTS as u32 {
         if left == 0 {
             break;
         }
         free.reach(graph.nodes.as_slice(), word)?;
-        let best = free.ready.pop().map(|(_, Reverse(k))| k);
+        let best = free.take_best();
         if best.is_some() {
             left = left.saturating_sub(1);
         }
-        list.push(place(&mut graph, &mut free, best, word)?)?;
+        list.push(place(graph, free, best, word)?)?;
     }
+    Ok(())
+}
+
+// The same, and a Nop behind them where the exit has to wait.
+fn list_nodes(alloc: Global, mut graph: Graph, exit: &Exit) -> Result<Vec<Plain>, AllocError> {
+    let mut free = Free::of(alloc, graph.nodes.as_slice())?;
+    let mut list = Vec::with_capacity(alloc, graph.nodes.len())?;
+    list_words(&mut graph, &mut free, &mut list)?;
     finish(&mut list, exit)?;
     Ok(list)
 }
