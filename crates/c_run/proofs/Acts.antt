@@ -12,15 +12,15 @@ use Rattle.runs.specs.declared.reached.Reached.{Reached}
 
 pub acted-here : {E : Type 0} (p : TypedProgram) (depth : ℕ) (s : TypedStatement) (t : Trees.TypedStatement) (before after : Interpreter)
     (result : Result Reached E) → statement_of s ≡ t → IfOk result (λ r. DoesAtAnyDepth p t before r after) → IfOk result
-    (λ r. state_after_step p depth (Do (statement_of s) ∷ todos before.frame.todo.items) before ≡ reached_by frame_of r after)
+    (λ r. state_after_step p depth (Do (statement_of s) ∷ todos before.frame.todo) before ≡ reached_by frame_of r after)
 acted-here p depth s t before after result is does =
-    IfOk-weaker result (λ r. DoesAtAnyDepth p t before r after) (λ r. state_after_step p depth (Do (statement_of s) ∷ todos before.frame.todo.items) before
+    IfOk-weaker result (λ r. DoesAtAnyDepth p t before r after) (λ r. state_after_step p depth (Do (statement_of s) ∷ todos before.frame.todo) before
     ≡ reached_by frame_of r after)
-    (λ r d. ap (λ t. state_after_step p depth (Do t ∷ todos before.frame.todo.items) before) is ∙ d depth) does
+    (λ r d. ap (λ t. state_after_step p depth (Do t ∷ todos before.frame.todo) before) is ∙ d depth) does
 
 pub acted : {E : Type 0} (p : TypedProgram) (depth : ℕ) (s : TypedStatement) (t : Trees.TypedStatement) (before after : Interpreter) (result : Result Reached E)
     → statement_of s ≡ t → IfOk result (λ r. Does t before r after) → IfOk result
-    (λ r. state_after_step p depth (Do (statement_of s) ∷ todos before.frame.todo.items) before ≡ reached_by frame_of r after)
+    (λ r. state_after_step p depth (Do (statement_of s) ∷ todos before.frame.todo) before ≡ reached_by frame_of r after)
 acted p depth s t before after result is does =
     acted-here p depth s t before after result is
     (IfOk-weaker result (λ r. Does t before r after) (λ r. DoesAtAnyDepth p t before r after) (λ r d. d p) does)

@@ -1,5 +1,5 @@
 -- Calls of functions.
-use Rattle.std.proofs.Common.{◌≡◌, ℕ, zero, suc, List, [], ◌∷◌, ◌++◌, Option, Some, None, true, false, refl, sym, ◌∙◌, ap, length, nat_lt}
+use Rattle.std.proofs.Common.{◌≡◌, ℕ, zero, suc, List, [], ◌∷◌, Option, Some, None, true, false, refl, sym, ◌∙◌, ap, length, nat_lt}
 use Rattle.std.proofs.Common.{get_or, map, Bor}
 use mathlib.Core.Path.{fun_ext}
 use Rattle.std.specs.Prelude.{if◌then◌else◌}
@@ -7,7 +7,6 @@ use Rattle.std.specs.List.{slice_get}
 use Rattle.std.specs.Option.{option_map}
 use Rattle.std.specs.declared.vec.Vec.{Vec}
 use Rattle.std.specs.declared.alloc.Global.{Global}
-use Rattle.c_run.proofs.Turns.{popped}
 use Rattle.runs.specs.Stores.{Places, Arrays, unset_places}
 use Rattle.runs.specs.Calls.{calls_of, state_by}
 use Rattle.runs.proofs.Waiting.{room-of, with-calls}
@@ -23,8 +22,7 @@ use Rattle.c_typed.specs.Meaning.{Todo, Run, argument_places, state_after_call, 
 use Rattle.runs.specs.Kept.{places, arrays}
 use Rattle.c_run.specs.Interpreter.{Interpreter, todos, frame_of}
 use Rattle.c_run.specs.declared.interpreter.Frame.{Frame}
-use Rattle.c_run.specs.declared.pending.Pending.{Pending}
-use Rattle.c_run.specs.declared.pending.Pending.TheVariants.{Rest}
+use Rattle.c_run.specs.declared.pending.Agenda.{Agenda}
 
 abbrev called_frame : TypedFunction → List ℕ → Option Destination → List Meaning.Frame → Arrays → List ℕ → Run
 called_frame f vs to frames g out =
@@ -67,13 +65,12 @@ called-deep p depth i vs to frames g out full =
 abbrev frame_with : Places → List Todo → Option Destination → Meaning.Frame
 frame_with l k to = record { locals = l; todo = k; result_to = to }
 
-pub new-frame : (values : Vec (Option ℕ) Global) (todo : Vec Pending Global) (fresh : List Pending) (slice : Bor (List TypedStatement)) (x : Function)
-    (to : Option Destination) (l : Places) → places values.items ≡ l → todo.items ≡ fresh ++ Rest slice ∷ [] → fresh ≡ [] → slice.now ≡ x.body.items
+pub new-frame : (values : Vec (Option ℕ) Global) (todo : Agenda) (slice : Bor (List TypedStatement)) (x : Function) (to : Option Destination) (l : Places)
+    → places values.items ≡ l → todos todo ≡ before_all (statements_of slice.now) [] → slice.now ≡ x.body.items
     → frame_of (record { locals = values; todo = todo; result_to = to }) ≡ frame_with l (before_all (statements_of x.body.items) []) to
-new-frame values todo fresh slice x to l values-are pushed empty-first body =
-    ap (λ l. frame_with l (todos todo.items) to) values-are
-    ∙ ap (λ k. frame_with l k to) (popped todo.items fresh (Rest slice) pushed
-    ∙ ap (λ k. before_all (statements_of slice.now) (todos k)) empty-first ∙ ap (λ all. before_all (statements_of all) []) body)
+new-frame values todo slice x to l values-are listed body =
+    ap (λ l. frame_with l (todos todo) to) values-are
+    ∙ ap (λ k. frame_with l k to) (listed ∙ ap (λ all. before_all (statements_of all) []) body)
 
 module _ (p : TypedParts) (depth i : ℕ) (vs : List ℕ) (to : Option Destination) (m : Interpreter) where
   abbrev after-call : Run

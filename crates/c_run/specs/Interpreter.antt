@@ -14,23 +14,28 @@ use Rattle.c_typed.specs.Meaning.{Todo, Do, Next, before, before_all, Point, Run
 use Rattle.c_typed.specs.Meaning.{state_after_return}
 use Rattle.c_run.specs.declared.pending.Pending.{Pending}
 use Rattle.c_run.specs.declared.pending.Pending.TheVariants.{One, Rest, Turn}
+use Rattle.c_run.specs.declared.pending.Agenda.{Agenda}
 use Rattle.c_run.specs.declared.pending.Head.{Head}
 use Rattle.c_run.specs.declared.pending.Head.TheVariants as Heads
 use Rattle.c_run.specs.declared.interpreter.Frame.{Frame}
 
 -- one that is pending, taken apart before the others
 abbrev pub with_pending : Pending → List Todo → List Todo
-with_pending (One s) k = before (statement_of s.now) k
-with_pending (Rest all) k = before_all (statements_of all.now) k
-with_pending (Turn last again) k = Next (statement_of last.now) (statement_of again.now) ∷ k
+with_pending (One s list) k = before (statement_of s.now) (before_all (statements_of list.now) k)
+with_pending (Rest list) k = before_all (statements_of list.now) k
+with_pending (Turn last again list) k = Next (statement_of last.now) (statement_of again.now) ∷ before_all (statements_of list.now) k
 
 abbrev pub todo_list_of : List Pending → List Todo
 todo_list_of [] = []
 todo_list_of (t ∷ rest) = with_pending t (todo_list_of rest)
 
--- the last one is done first
-abbrev pub todos : List Pending → List Todo
-todos all = todo_list_of (reverse all)
+-- what waits, of which the last one is done first
+abbrev pub waiting_of : List Pending → List Todo
+waiting_of all = todo_list_of (reverse all)
+
+-- what is left of the list comes before what waits
+abbrev pub todos : Agenda → List Todo
+todos a = before_all (statements_of a.list.now) (waiting_of a.behind.items)
 
 -- what was first, and the others behind it
 abbrev pub with_head : Head → List Todo → List Todo
@@ -45,7 +50,7 @@ with_part (Heads.Statement s) k = before (statement_of s.now) k
 with_part (Heads.Turn last again) k = Next (statement_of last.now) (statement_of again.now) ∷ k
 
 abbrev pub frame_of : Frame → Meaning.Frame
-frame_of c = record { locals = places c.locals.items; todo = todos c.todo.items; result_to = c.result_to }
+frame_of c = record { locals = places c.locals.items; todo = todos c.todo; result_to = c.result_to }
 
 abbrev pub Interpreter : Type 0
 Interpreter = Runs.Interpreter Frame
@@ -53,7 +58,7 @@ Interpreter = Runs.Interpreter Frame
 -- the same interpreter with other locals and globals
 abbrev pub state_with : Interpreter → Places → Arrays → Run
 state_with m l g =
-    state_with_call frame_of m (record { locals = l; todo = todos m.frame.todo.items; result_to = m.frame.result_to }) g
+    state_with_call frame_of m (record { locals = l; todo = todos m.frame.todo; result_to = m.frame.result_to }) g
 
 -- a step at this list
 abbrev pub state_after_step : TypedProgram → (depth : ℕ) → List Todo → Interpreter → Run
@@ -62,7 +67,7 @@ state_after_step p depth k m =
 
 -- this statement takes the interpreter before to what is reached, in one step of a program
 abbrev pub DoesIn : TypedProgram → (depth : ℕ) → TypedStatement → Interpreter → Reached → Interpreter → Type 0
-DoesIn p depth s before r after = state_after_step p depth (Do s ∷ todos before.frame.todo.items) before ≡ reached_by frame_of r after
+DoesIn p depth s before r after = state_after_step p depth (Do s ∷ todos before.frame.todo) before ≡ reached_by frame_of r after
 
 -- the same at any depth
 abbrev pub DoesAtAnyDepth : TypedProgram → TypedStatement → Interpreter → Reached → Interpreter → Type 0

@@ -4,6 +4,7 @@ use Rattle.c_typed.specs.Trees.{TypedStatement, TypedStatements, block, no_state
 use Rattle.c_typed.specs.Shape.{statement_of, statements_of}
 use Rattle.c_run.specs.declared.pending.Pending.{Pending}
 use Rattle.c_run.specs.declared.pending.Pending.TheVariants.{One, Rest, Turn}
+use Rattle.c_run.specs.declared.pending.Agenda.{Agenda}
 use Rattle.c_run.specs.declared.pending.Head.{Head}
 use Rattle.c_run.specs.declared.pending.Head.TheVariants as Heads
 
@@ -17,13 +18,16 @@ abbrev mutual
   sizes (more_statements s rest) = size s + sizes rest
 
 abbrev pub weight : Pending → ℕ
-weight (One s) = size (statement_of s.now)
-weight (Rest all) = sizes (statements_of all.now) + 1
-weight (Turn last again) = 1
+weight (One s list) = size (statement_of s.now) + sizes (statements_of list.now)
+weight (Rest list) = sizes (statements_of list.now) + 1
+weight (Turn last again list) = sizes (statements_of list.now) + 1
 
 abbrev pub weights : List Pending → ℕ
 weights [] = 0
 weights (t ∷ rest) = weight t + weights rest
+
+abbrev pub load : Agenda → ℕ
+load a = sizes (statements_of a.list.now) + weights a.behind.items
 
 abbrev pub head_size : Head → ℕ
 head_size (Heads.Statement s) = size (statement_of s.now)

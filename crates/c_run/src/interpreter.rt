@@ -9,7 +9,7 @@ ghost use Rattle.c_typed.specs.Meaning.{source_step};
 ghost use Rattle.runs.specs.Calls.{state_by, reached_by};
 ghost use Rattle.c_run.specs.Interpreter.{frame_of, Assigns, Calls, Returns, Does, DoesAtAnyDepth, DoesIn};
 
-use crate::pending::{Head, Pending, put, put_statement, settle};
+use crate::pending::{Agenda, Head};
 use crate::value::{arguments, value};
 use c_typed::{Destination, TypedExpression, TypedStatement};
 use c_types::Typed;
@@ -20,7 +20,7 @@ use std::alloc::{AllocError, Global};
 #[derive(Drop)]
 pub struct Frame<'a> {
     pub locals: Vec<Option<u32>>,
-    pub todo: Vec<Pending<'a>>,
+    pub todo: Agenda<'a>,
     pub result_to: Option<Destination>,
 }
 
@@ -94,11 +94,9 @@ fn enter<'a>(
     if !interpreter.has_room(depth) {
         return Ok(Reached::Failed);
     }
-    let mut todo = Vec::new(alloc);
-    put(&mut todo, Pending::Rest(function.body.as_slice()))?;
     interpreter.enter(Frame {
         locals: values,
-        todo,
+        todo: Agenda::of(alloc, function.body.as_slice()),
         result_to: to,
     })?;
     Ok(Reached::Going)
@@ -214,9 +212,9 @@ fn branch_on<'a>(
         return Ok(Reached::Failed);
     };
     if v == 0 {
-        put_statement(&mut interpreter.frame.todo, second)?;
+        interpreter.frame.todo.put(second)?;
     } else {
-        put_statement(&mut interpreter.frame.todo, first)?;
+        interpreter.frame.todo.put(first)?;
     }
     Ok(Reached::Going)
 }
@@ -236,8 +234,7 @@ fn repeat<'a>(
         return Ok(Reached::Failed);
     };
     if v != 0 {
-        put(&mut interpreter.frame.todo, Pending::Turn(last, again))?;
-        put_statement(&mut interpreter.frame.todo, body)?;
+        interpreter.frame.todo.put_turn(body, last, again)?;
     }
     Ok(Reached::Going)
 }
@@ -305,7 +302,7 @@ pub(crate) fn step<'a>(
         ≡ reached_by frame_of r interpreter.new) }
 {
     let frame = &mut interpreter.frame;
-    let head = settle(&mut frame.todo, &mut frame.locals)?;
+    let head = frame.todo.settle(&mut frame.locals)?;
     let Head::Statement(s) = head else {
         return Ok(Reached::Failed);
     };

@@ -1,23 +1,30 @@
-// The statements that an active call still has to do.
-ghost use Rattle.std.specs.Prelude.{◌≡◌, ℕ, ◌++◌, ◌∷◌, [], OnOk, IfOk, None, length, ◌+◌, ◌≤◌};
+// What an active call still has to do.
+ghost use Rattle.std.specs.Prelude.{◌≡◌, ℕ, [], ◌∷◌, OnOk, IfOk, None, length, ◌+◌, ◌≤◌};
 ghost use Rattle.runs.specs.Stores.{places_with};
-ghost use Rattle.c_typed.specs.Meaning.{before, next_point, Going};
-ghost use Rattle.c_typed.specs.Shape.{statement_of};
+ghost use Rattle.c_typed.specs.Meaning.{before, before_all, next_point, Going, Next};
+ghost use Rattle.c_typed.specs.Shape.{statement_of, statements_of};
 ghost use Rattle.runs.specs.Kept.{places};
 ghost use Rattle.c_run.specs.Interpreter.{point_at, todos, with_head, with_part};
-ghost use Rattle.c_run.specs.Sizes.{weights, head_size};
+ghost use Rattle.c_run.specs.Sizes.{load, sizes, head_size};
 ghost use Rattle.c_run.specs.Turns.{past_turn, at_turn};
 
 use c_typed::TypedStatement;
-use std::alloc::AllocError;
+use std::alloc::{AllocError, Global};
 
-/// What is still to do: a statement, a list of statements, or the end of a turn: its last part, and the loop. A list
-/// is lent, so to enter a block is one push.
+/// What waits behind a list of statements, each with the list that it stands before: that list alone, a statement, or the
+/// end of a turn: its last part, and the loop. A list is lent, so to enter a block is one push.
 #[derive(Clone, Copy)]
 pub enum Pending<'a> {
-    One(&'a TypedStatement),
     Rest(&'a [TypedStatement]),
-    Turn(&'a TypedStatement, &'a TypedStatement),
+    One(&'a TypedStatement, &'a [TypedStatement]),
+    Turn(&'a TypedStatement, &'a TypedStatement, &'a [TypedStatement]),
+}
+
+/// What a call still has to do: what is left of the list that it is in, and what waits behind it, the first one last.
+#[derive(Drop)]
+pub struct Agenda<'a> {
+    pub list: &'a [TypedStatement],
+    pub behind: Vec<Pending<'a>>,
 }
 
 /// What comes first: nothing, a statement that is no list, or the end of a turn.
@@ -26,93 +33,6 @@ pub enum Head<'a> {
     Nothing,
     Statement(&'a TypedStatement),
     Turn(&'a TypedStatement, &'a TypedStatement),
-}
-
-// One more thing to do first.
-pub(crate) fn put<'a>(todo: &mut Vec<Pending<'a>>, t: Pending<'a>) -> Result<(), AllocError>
-    ensures { OnOk result (todo.new.items ≡ todo.old.items ++ t.entry ∷ []) }
-{
-    todo.push(t)?;
-    Ok(())
-}
-
-// A statement to do first; a block is the list that it is.
-pub(crate) fn put_statement<'a>(
-    todo: &mut Vec<Pending<'a>>,
-    s: &'a TypedStatement,
-) -> Result<(), AllocError>
-    ensures { OnOk result (todos todo.new.items ≡ before (statement_of s.now) (todos todo.old.items)) }
-{
-    match s {
-        TypedStatement::Block(all) => put(todo, Pending::Rest(all.as_slice())),
-        _ => put(todo, Pending::One(s)),
-    }
-}
-
-// Takes a statement, which may be a list of them, or the end of a turn off the list. A list stays where it is, one shorter.
-#[inline(always)]
-fn take_one<'a>(todo: &mut Vec<Pending<'a>>) -> Head<'a>
-    ensures same { todos todo.old.items ≡ with_part result (todos todo.new.items) }
-    ensures less { weights todo.new.items + head_size result ≤ weights todo.old.items }
-{
-    while let Some(t) = todo.pop() {
-        match t {
-            Pending::Turn(last, again) => return Head::Turn(last, again),
-            Pending::One(s) => return Head::Statement(s),
-            Pending::Rest(all) => {
-                if let Some((s, rest)) = all.split_first() {
-                    todo.push_reserved(Pending::Rest(rest));
-                    return Head::Statement(s);
-                }
-            }
-        }
-    }
-    Head::Nothing
-}
-
-// Takes what comes first off the list.
-#[inline]
-fn take_first<'a>(todo: &mut Vec<Pending<'a>>) -> Result<Head<'a>, AllocError>
-    ensures { IfOk result (λ h. todos todo.old.items ≡ with_head h (todos todo.new.items)) }
-{
-    loop {
-        let head = take_one(todo);
-        match head {
-            Head::Statement(s) => match s {
-                TypedStatement::Empty => {}
-                TypedStatement::Block(all) => put(todo, Pending::Rest(all.as_slice()))?,
-                _ => return Ok(head),
-            },
-            Head::Nothing | Head::Turn(_, _) => return Ok(head),
-        }
-    }
-}
-
-// Past the end of the turn: what `break` leaves.
-fn leave_turn(todo: &mut Vec<Pending>)
-    ensures { todos todo.new.items ≡ past_turn (todos todo.old.items) }
-{
-    while let Some(t) = todo.pop() {
-        match t {
-            Pending::Turn(_, _) => return,
-            Pending::One(_) | Pending::Rest(_) => {}
-        }
-    }
-}
-
-// To the end of the turn: where `continue` leads.
-fn to_turn(todo: &mut Vec<Pending>)
-    ensures { todos todo.new.items ≡ at_turn (todos todo.old.items) }
-{
-    while let Some(t) = todo.pop() {
-        match t {
-            Pending::Turn(_, _) => {
-                todo.push_reserved(t);
-                return;
-            }
-            Pending::One(_) | Pending::Rest(_) => {}
-        }
-    }
 }
 
 // A local is unset.
@@ -124,30 +44,201 @@ fn unset(locals: &mut [Option<u32>], number: usize)
     }
 }
 
-// On to the next statement that takes a step, which is taken off the list.
-pub(crate) fn settle<'a>(
-    todo: &mut Vec<Pending<'a>>,
-    locals: &mut [Option<u32>],
-) -> Result<Head<'a>, AllocError>
-    ensures { IfOk result (λ h. next_point Going (places locals.old) (todos todo.old.items)
-        ≡ point_at (places locals.new) h (todos todo.new.items)) }
-{
-    loop {
-        let head = take_first(todo)?;
-        match head {
-            Head::Nothing => return Ok(head),
-            Head::Turn(last, again) => {
-                put(todo, Pending::One(again))?;
-                put(todo, Pending::One(last))?;
-                let head = take_first(todo)?;
-                return Ok(head);
+impl<'a> Agenda<'a> {
+    /// A list of statements to do, and nothing behind it.
+    pub(crate) fn of(alloc: Global, list: &'a [TypedStatement]) -> Agenda<'a>
+        ensures { todos result ≡ before_all (statements_of list.now) [] }
+    {
+        Agenda {
+            list,
+            behind: Vec::new(alloc),
+        }
+    }
+
+    /// How many statements are left of the list.
+    pub(crate) fn left(&self) -> usize {
+        self.list.len()
+    }
+
+    // Another list to do first; what is left of the one before waits.
+    #[inline(always)]
+    fn put_list(&mut self, list: &'a [TypedStatement]) -> Result<(), AllocError>
+        ensures todo { OnOk result (todos self.new ≡ before_all (statements_of list.now) (todos self.old)) }
+        ensures more { OnOk result (load self.new ≤ sizes (statements_of list.now) + load self.old + 1) }
+    {
+        if self.list.len() == 0 {
+            self.list = list;
+            return Ok(());
+        }
+        self.behind.push(Pending::Rest(self.list))?;
+        self.list = list;
+        Ok(())
+    }
+
+    // One more statement to do first; a block is the list that it is.
+    #[inline(always)]
+    pub(crate) fn put(&mut self, s: &'a TypedStatement) -> Result<(), AllocError>
+        ensures { OnOk result (todos self.new ≡ before (statement_of s.now) (todos self.old)) }
+    {
+        match s {
+            TypedStatement::Block(all) => self.put_list(all.as_slice()),
+            _ => {
+                self.behind.push(Pending::One(s, self.list))?;
+                self.list = &[];
+                Ok(())
             }
-            Head::Statement(s) => match s {
-                TypedStatement::Unset(number) => unset(locals, *number),
-                TypedStatement::Break => leave_turn(todo),
-                TypedStatement::Continue => to_turn(todo),
-                _ => return Ok(head),
-            },
+        }
+    }
+
+    // A turn of a loop to do first: its body, and then its last part and the loop again.
+    #[inline(always)]
+    pub(crate) fn put_turn(
+        &mut self,
+        body: &'a TypedStatement,
+        last: &'a TypedStatement,
+        again: &'a TypedStatement,
+    ) -> Result<(), AllocError>
+        ensures { OnOk result (todos self.new
+            ≡ before (statement_of body.now) (Next (statement_of last.now) (statement_of again.now) ∷ todos self.old)) }
+    {
+        self.behind.push(Pending::Turn(last, again, self.list))?;
+        self.list = &[];
+        self.put(body)
+    }
+
+    // Takes what waits behind a list that is done, which may be a list.
+    fn take_behind(&mut self) -> Head<'a>
+        requires { length self.old.list.now ≡ 0 }
+        ensures same { todos self.old ≡ with_part result (todos self.new) }
+        ensures less { load self.new + head_size result ≤ load self.old }
+    {
+        while let Some(t) = self.behind.pop() {
+            match t {
+                Pending::Turn(last, again, list) => {
+                    self.list = list;
+                    return Head::Turn(last, again);
+                }
+                Pending::One(s, list) => {
+                    self.list = list;
+                    return Head::Statement(s);
+                }
+                Pending::Rest(list) => {
+                    if let Some((s, rest)) = list.split_first() {
+                        self.list = rest;
+                        return Head::Statement(s);
+                    }
+                }
+            }
+        }
+        Head::Nothing
+    }
+
+    // Takes a statement, which may be a list of them, or the end of a turn.
+    #[inline(always)]
+    fn take_one(&mut self) -> Head<'a>
+        ensures same { todos self.old ≡ with_part result (todos self.new) }
+        ensures less { load self.new + head_size result ≤ load self.old }
+    {
+        match self.list.split_first() {
+            None => self.take_behind(),
+            Some((s, rest)) => {
+                self.list = rest;
+                Head::Statement(s)
+            }
+        }
+    }
+
+    // Takes what comes first.
+    #[inline(always)]
+    fn take_first(&mut self) -> Result<Head<'a>, AllocError>
+        ensures { IfOk result (λ h. todos self.old ≡ with_head h (todos self.new)) }
+    {
+        loop {
+            let head = self.take_one();
+            match head {
+                Head::Statement(s) => match s {
+                    TypedStatement::Empty => {}
+                    TypedStatement::Block(all) => self.put_list(all.as_slice())?,
+                    _ => return Ok(head),
+                },
+                Head::Nothing | Head::Turn(_, _) => return Ok(head),
+            }
+        }
+    }
+
+    // Past the end of the turn: what `break` leaves.
+    fn leave_turn(&mut self)
+        ensures { todos self.new ≡ past_turn (todos self.old) }
+    {
+        self.list = &[];
+        while let Some(t) = self.behind.pop() {
+            match t {
+                Pending::Turn(_, _, list) => {
+                    self.list = list;
+                    return;
+                }
+                Pending::One(_, _) | Pending::Rest(_) => {}
+            }
+        }
+    }
+
+    // To the end of the turn: where `continue` leads.
+    fn to_turn(&mut self)
+        ensures { todos self.new ≡ at_turn (todos self.old) }
+    {
+        self.list = &[];
+        while let Some(t) = self.behind.pop() {
+            match t {
+                Pending::Turn(_, _, _) => {
+                    self.behind.push_reserved(t);
+                    return;
+                }
+                Pending::One(_, _) | Pending::Rest(_) => {}
+            }
+        }
+    }
+
+    // Takes the first part of the next turn, behind the end of one: a `while` has no last part, so that is the loop.
+    #[inline(always)]
+    fn take_turn(
+        &mut self,
+        last: &'a TypedStatement,
+        again: &'a TypedStatement,
+    ) -> Result<Head<'a>, AllocError>
+        ensures { IfOk result (λ h. before (statement_of last.now) (before (statement_of again.now) (todos self.old))
+            ≡ with_head h (todos self.new)) }
+    {
+        match (last, again) {
+            (TypedStatement::Empty, TypedStatement::Loop(_, _, _)) => Ok(Head::Statement(again)),
+            _ => {
+                self.put(again)?;
+                self.put(last)?;
+                self.take_first()
+            }
+        }
+    }
+
+    // On to the next statement that takes a step, which is taken off the list.
+    #[inline]
+    pub(crate) fn settle(&mut self, locals: &mut [Option<u32>]) -> Result<Head<'a>, AllocError>
+        ensures { IfOk result (λ h. next_point Going (places locals.old) (todos self.old)
+            ≡ point_at (places locals.new) h (todos self.new)) }
+    {
+        loop {
+            let head = self.take_first()?;
+            match head {
+                Head::Nothing => return Ok(head),
+                Head::Turn(last, again) => {
+                    let head = self.take_turn(last, again)?;
+                    return Ok(head);
+                }
+                Head::Statement(s) => match s {
+                    TypedStatement::Unset(number) => unset(locals, *number),
+                    TypedStatement::Break => self.leave_turn(),
+                    TypedStatement::Continue => self.to_turn(),
+                    _ => return Ok(head),
+                },
+            }
         }
     }
 }

@@ -1,6 +1,6 @@
 // Where a run is wrong: the function that runs, and its statement.
 use crate::interpreter::act;
-use crate::pending::{Head, Pending, settle};
+use crate::pending::Head;
 use crate::steps::start;
 use c_typed::TypedStatement;
 use c_types::Typed;
@@ -16,14 +16,6 @@ pub struct WrongPlace<'a> {
     pub statement: Option<&'a TypedStatement>,
     /// How many statements follow it in its block; 0 for the body of a loop without braces, and for the last part of a `for`.
     pub left: usize,
-}
-
-/// Counts the statements that are left of the innermost block.
-fn count_left(todo: &[Pending<'_>]) -> usize {
-    match todo.last() {
-        Some(Pending::Rest(rest)) => rest.len(),
-        _ => 0,
-    }
 }
 
 /// Keeps the numbers of the functions whose calls are active after a statement; the one that runs is the last.
@@ -58,12 +50,12 @@ pub fn wrong_place_of<'a>(
             left: 0,
         };
         let frame = &mut interpreter.frame;
-        let head = settle(&mut frame.todo, &mut frame.locals)?;
+        let head = frame.todo.settle(&mut frame.locals)?;
         let Head::Statement(s) = head else {
             return Ok(Some(place));
         };
         place.statement = Some(s);
-        place.left = count_left(&interpreter.frame.todo);
+        place.left = interpreter.frame.todo.left();
         match act(alloc, program, depth, &mut interpreter, s)? {
             Reached::Going => keep_active(&mut active, s, interpreter.waiting.len())?,
             Reached::Failed => return Ok(Some(place)),

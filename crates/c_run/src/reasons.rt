@@ -9,7 +9,7 @@ ghost use Rattle.c_run.specs.Interpreter.{frame_of};
 ghost use Rattle.c_run.specs.Reasons.{IsReason};
 
 use crate::interpreter::{Interpreter, act};
-use crate::pending::{Head, settle};
+use crate::pending::Head;
 use crate::steps::start;
 use crate::value::{binary_value, unary_value, value};
 use c_tokens::IntegerType;
@@ -212,7 +212,7 @@ fn explained_step<'a>(
     ensures reason { IfOk result (λ r. IfSome r.1 IsReason) }
 {
     let frame = &mut interpreter.frame;
-    let head = settle(&mut frame.todo, &mut frame.locals)?;
+    let head = frame.todo.settle(&mut frame.locals)?;
     let Head::Statement(s) = head else {
         return Ok((Reached::Failed, Some(Reason::NoResult)));
     };

@@ -8,7 +8,7 @@ ghost use Rattle.runs.specs.Calls.{state_by};
 ghost use Rattle.c_run.specs.Interpreter.{frame_of};
 
 use crate::interpreter::{Frame, Interpreter, step};
-use crate::pending::{Pending, put};
+use crate::pending::Agenda;
 use c_types::Typed;
 use runs::{Ran, run_steps};
 use std::alloc::{AllocError, Global};
@@ -31,11 +31,9 @@ pub(crate) fn start<'a>(alloc: Global, program: &'a Typed) -> Result<Interpreter
     ensures { IfOk result (λ r. source_start (program_of program.now) ≡ state_by frame_of r) }
 {
     let main = &program.functions()[program.main()];
-    let mut todo = Vec::new(alloc);
-    put(&mut todo, Pending::Rest(main.body.as_slice()))?;
     let frame = Frame {
         locals: Vec::new(alloc),
-        todo,
+        todo: Agenda::of(alloc, main.body.as_slice()),
         result_to: None,
     };
     let globals = first_globals(alloc, program)?;

@@ -22,8 +22,8 @@ returns-then-not-has_room c vs is =
 pub returns : goal.returns
 returns c vs is =
     let x = c.in-Some.function.now in
-    let f = new-frame c.args.values c.put.new.todo c.new-todo.result.items c.as_slice.result x c.args.to _ (ap places is ∙ places-set_to vs)
-    c.in_ok-put.ensures c.new-todo.ensures.items c.as_slice.ensures.value in
+    let f = new-frame c.args.values c.of.result c.as_slice.result x c.args.to _ (ap places is ∙ places-set_to vs) c.of.ensures
+    c.as_slice.ensures.value in
     let there = found c.args.program.now.functions c.args.function c.get.result c.in-Some.function
     (rw (sym c.functions.ensures.value) c.get.ensures.lookup.0) (rw (sym c.functions.ensures.value) c.get.ensures.lookup.1) c.in-Some.is in
     entered c.args.program.now c.args.depth c.args.function vs c.args.to c.args.interpreter.now x c.enter.new.self _ there

@@ -1,0 +1,13 @@
+use Rattle.std.proofs.Common.{◌≡◌, [], length}
+use Rattle.c_run.specs.Turns.{past_turn}
+use Rattle.c_run.specs.Interpreter.{todos, waiting_of}
+use Rattle.c_run.proofs.pending.Agenda.leave_turn.Given as goal
+
+abbrev pub invariant-loop-t : goal.invariant-loop-t
+invariant-loop-t l = record {
+  same : past_turn (waiting_of l.self.behind.items) ≡ past_turn (todos l.fn.self);
+  none : l.self.list.now ≡ [];
+}
+
+abbrev pub decreases-loop-t : goal.decreases-loop-t
+decreases-loop-t l = length l.self.behind.items
