@@ -52,6 +52,7 @@ fn assign_element(
 }
 
 // A word goes to a local, or to a global variable.
+#[inline(always)]
 fn put_at(
     program: &Typed,
     interpreter: &mut Interpreter,
@@ -258,6 +259,7 @@ fn return_word(
 }
 
 // A statement that was first is done.
+#[inline(always)]
 pub(crate) fn act<'a>(
     alloc: Global,
     program: &'a Typed,
@@ -292,6 +294,7 @@ pub(crate) fn act<'a>(
 }
 
 /// One step of the program.
+#[inline(always)]
 pub(crate) fn step<'a>(
     alloc: Global,
     program: &'a Typed,

@@ -36,8 +36,8 @@ pub enum Head<'a> {
 }
 
 // A local is unset.
-fn unset(locals: &mut [Option<u32>], number: usize)
-    ensures { places locals.new ≡ places_with (places locals.old) number None }
+fn unset(locals: &mut Vec<Option<u32>>, number: usize)
+    ensures { places locals.new.items ≡ places_with (places locals.old.items) number None }
 {
     if number < locals.len() {
         locals[number] = None;
@@ -218,11 +218,12 @@ impl<'a> Agenda<'a> {
         }
     }
 
-    // On to the next statement that takes a step, which is taken off the list.
-    #[inline]
-    pub(crate) fn settle(&mut self, locals: &mut [Option<u32>]) -> Result<Head<'a>, AllocError>
-        ensures { IfOk result (λ h. next_point Going (places locals.old) (todos self.old)
-            ≡ point_at (places locals.new) h (todos self.new)) }
+    // On to the next statement that takes a step, which is taken off the list. (The locals are seldom looked at, so that their
+    // slice isn't made here.)
+    #[inline(always)]
+    pub(crate) fn settle(&mut self, locals: &mut Vec<Option<u32>>) -> Result<Head<'a>, AllocError>
+        ensures { IfOk result (λ h. next_point Going (places locals.old.items) (todos self.old)
+            ≡ point_at (places locals.new.items) h (todos self.new)) }
     {
         loop {
             let head = self.take_first()?;

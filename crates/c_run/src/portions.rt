@@ -56,9 +56,10 @@ impl<'a> UnderWay<'a> {
         ensures program { self.new.program ≡ self.old.program }
         ensures depth { self.new.depth ≡ self.old.depth }
     {
+        let (program, depth) = (self.program, self.depth);
         let mut done = 0;
         while done < steps {
-            let reached = step(alloc, self.program, self.depth, &mut self.interpreter)?;
+            let reached = step(alloc, program, depth, &mut self.interpreter)?;
             done += 1;
             if let Some(end) = reached.end() {
                 return Ok(Portion {

@@ -12,7 +12,7 @@ loop-head-smaller-in-Break c = break-shorter (todos c.loop-head.self) (todos c.t
     c.leave_turn.ensures
 
 pub loop-head-preserved-in-Break : goal.loop-head-preserved-in-Break
-loop-head-preserved-in-Break c = break_settles (todos c.loop-head.self) (todos c.take_first.new.self) (todos c.leave_turn.new.self) (places c.loop-head.locals)
+loop-head-preserved-in-Break c = break_settles (todos c.loop-head.self) (todos c.take_first.new.self) (todos c.leave_turn.new.self) (places c.loop-head.locals.items)
     (at-head (todos c.loop-head.self) (todos c.take_first.new.self) c.in_ok-head.head c.in-Statement.s Break c.in_ok-head.ensures c.in-Statement.is
     c.in-Break.is)
     c.leave_turn.ensures ∙ c.loop-head.invariant
@@ -24,7 +24,7 @@ loop-head-smaller c = continue-shorter (todos c.loop-head.self) (todos c.take_fi
     c.to_turn.ensures
 
 pub loop-head-preserved : goal.loop-head-preserved
-loop-head-preserved c = continue_settles (todos c.loop-head.self) (todos c.take_first.new.self) (todos c.to_turn.new.self) (places c.loop-head.locals)
+loop-head-preserved c = continue_settles (todos c.loop-head.self) (todos c.take_first.new.self) (todos c.to_turn.new.self) (places c.loop-head.locals.items)
     (at-head (todos c.loop-head.self) (todos c.take_first.new.self) c.in_ok-head.head c.in-Statement.s Continue c.in_ok-head.ensures c.in-Statement.is
     c.in-Continue.is)
     c.to_turn.ensures ∙ c.loop-head.invariant

@@ -8,21 +8,21 @@ use Rattle.c_run.proofs.portions.UnderWay.go_on.Goals as goal
 
 pub returns-in-Some-clause-went : goal.returns-in-Some-clause-went
 returns-in-Some-clause-went c =
-    let step = rw (c.loop-done.invariant.program, c.loop-done.invariant.depth) at c.in_ok-reached.ensures in
+    let step = c.in_ok-reached.ensures in
     one_more (program_of c.args.self.now.program.now) c.args.self.now.depth c.args.steps (state_of c.args.self.now) (state_of c.loop-done.self)
     (state_by frame_of c.step.new.interpreter) c.in_ok-reached.reached (Some c.in-Some.end) c.loop-done.done c.loop-done-test.true
     c.loop-done.invariant.went refl step (sym c.end.ensures ∙ c.in-Some.is)
 
 pub returns-then-outputs-len-clause-went : goal.returns-then-outputs-len-clause-went
 returns-then-outputs-len-clause-went c =
-    let step = rw (c.loop-done.invariant.program, c.loop-done.invariant.depth) at c.in_ok-reached.ensures in
+    let step = c.in_ok-reached.ensures in
     one_more (program_of c.args.self.now.program.now) c.args.self.now.depth c.args.steps (state_of c.args.self.now) (state_of c.loop-done.self)
     (state_by frame_of c.step.new.interpreter) c.in_ok-reached.reached None c.loop-done.done c.loop-done-test.true
     c.loop-done.invariant.went refl step (sym c.end.ensures ∙ c.in_default.is)
 
 pub loop-done-preserved : goal.loop-done-preserved
 loop-done-preserved c =
-    let step = rw (c.loop-done.invariant.program, c.loop-done.invariant.depth) at c.in_ok-reached.ensures in
+    let step = c.in_ok-reached.ensures in
     record {
       went = one_more (program_of c.args.self.now.program.now) c.args.self.now.depth c.args.steps (state_of c.args.self.now) (state_of c.loop-done.self)
           (state_by frame_of c.step.new.interpreter) c.in_ok-reached.reached None c.loop-done.done c.loop-done-test.true
