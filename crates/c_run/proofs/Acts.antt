@@ -1,13 +1,16 @@
 -- The step of a statement, by its kind.
-use Rattle.std.proofs.Common.{◌≡◌, ◌∙◌, ℕ, ◌∷◌, ap, Result, IfOk}
+use Rattle.std.proofs.Common.{◌≡◌, ◌∙◌, ℕ, List, ◌∷◌, ap, map, Bor, Result, IfOk}
 use Rattle.std.proofs.lemmas.Result.{IfOk-weaker}
 use Rattle.c_typed.specs.declared.tree.TypedStatement.{TypedStatement}
 use Rattle.c_typed.specs.Trees as Trees
 use Rattle.c_typed.specs.Trees.{TypedProgram}
-use Rattle.c_typed.specs.Shape.{statement_of}
-use Rattle.c_typed.specs.Meaning.{Do}
-use Rattle.runs.specs.Calls.{reached_by}
-use Rattle.c_run.specs.Interpreter.{Does, DoesAtAnyDepth, Interpreter, frame_of, state_after_step, todos}
+use Rattle.c_typed.specs.Shape.{statement_of, statements_of}
+use Rattle.c_typed.specs.declared.tree.Destination.{Destination}
+use Rattle.c_typed.specs.Meaning.{Do, Todo, Run, before, before_all, source_step}
+use Rattle.runs.specs.Calls.{callers_of, state_by, reached_by}
+use Rattle.runs.specs.Kept.{places, arrays}
+use Rattle.runs.specs.Runs.{Running}
+use Rattle.c_run.specs.Interpreter.{Does, DoesAtAnyDepth, Interpreter, frame_of, state_after_step, todos, waiting_of}
 use Rattle.runs.specs.declared.reached.Reached.{Reached}
 
 pub acted-here : {E : Type 0} (p : TypedProgram) (depth : ℕ) (s : TypedStatement) (t : Trees.TypedStatement) (before after : Interpreter)
@@ -24,3 +27,38 @@ pub acted : {E : Type 0} (p : TypedProgram) (depth : ℕ) (s : TypedStatement) (
 acted p depth s t before after result is does =
     acted-here p depth s t before after result is
     (IfOk-weaker result (λ r. Does t before r after) (λ r. DoesAtAnyDepth p t before r after) (λ r d. d p) does)
+
+-- ---- a statement that is next in its list
+
+-- the same interpreter with this left of the list
+abbrev pub left_of : Interpreter → Bor (List TypedStatement) → Interpreter
+left_of m rest = record m { frame = record m.frame { todo = record m.frame.todo { list = rest } } }
+
+-- a step at these things to do
+abbrev step_with : TypedProgram → (depth : ℕ) → List Todo → Interpreter → Run
+step_with p depth k m =
+    source_step p depth (Running (record { locals = places m.frame.locals.items; todo = k; result_to = m.frame.result_to } ∷ map frame_of (callers_of m))
+    (arrays m.globals.items) m.output.items)
+
+module _ {E : Type 0} (p : TypedProgram) (depth : ℕ) (m after : Interpreter) (rest : Bor (List TypedStatement)) (s : TypedStatement)
+    (result : Result Reached E) (split : m.frame.todo.list.now ≡ s ∷ rest.now) where
+  first-is : (t : Trees.TypedStatement) → statement_of s ≡ t
+      → source_step p depth (state_by frame_of m)
+      ≡ step_with p depth (before t (before_all (statements_of rest.now) (waiting_of m.frame.todo.behind.items))) m
+  first-is t is =
+      ap (λ all. step_with p depth (before_all (statements_of all) (waiting_of m.frame.todo.behind.items)) m) split
+      ∙ ap (λ t. step_with p depth (before t (before_all (statements_of rest.now) (waiting_of m.frame.todo.behind.items))) m) is
+
+  pub assigned-first : (x : Destination) (e : Trees.TypedExpression) → statement_of s ≡ Trees.assign x e
+      → IfOk result (λ r. DoesAtAnyDepth p (Trees.assign x e) (left_of m rest) r after)
+      → IfOk result (λ r. source_step p depth (state_by frame_of m) ≡ reached_by frame_of r after)
+  assigned-first x e is does =
+      IfOk-weaker result (λ r. DoesAtAnyDepth p (Trees.assign x e) (left_of m rest) r after)
+      (λ r. source_step p depth (state_by frame_of m) ≡ reached_by frame_of r after) (λ r d. first-is (Trees.assign x e) is ∙ d depth) does
+
+  pub stored-first : (a : ℕ) (i e : Trees.TypedExpression) → statement_of s ≡ Trees.store a i e
+      → IfOk result (λ r. DoesAtAnyDepth p (Trees.store a i e) (left_of m rest) r after)
+      → IfOk result (λ r. source_step p depth (state_by frame_of m) ≡ reached_by frame_of r after)
+  stored-first a i e is does =
+      IfOk-weaker result (λ r. DoesAtAnyDepth p (Trees.store a i e) (left_of m rest) r after)
+      (λ r. source_step p depth (state_by frame_of m) ≡ reached_by frame_of r after) (λ r d. first-is (Trees.store a i e) is ∙ d depth) does

@@ -221,6 +221,7 @@ fn branch_on<'a>(
 }
 
 // A test of a loop: its body is next, and then its last part and the loop again.
+#[inline(always)]
 fn repeat<'a>(
     interpreter: &mut Interpreter<'a>,
     again: &'a TypedStatement,
@@ -259,7 +260,6 @@ fn return_word(
 }
 
 // A statement that was first is done.
-#[inline(always)]
 pub(crate) fn act<'a>(
     alloc: Global,
     program: &'a Typed,
@@ -293,9 +293,9 @@ pub(crate) fn act<'a>(
     }
 }
 
-/// One step of the program.
+// One step of the program, at whatever comes first. (The test of a loop comes with each turn: it is spared the call of `act`.)
 #[inline(always)]
-pub(crate) fn step<'a>(
+fn settled_step<'a>(
     alloc: Global,
     program: &'a Typed,
     depth: u32,
@@ -309,5 +309,35 @@ pub(crate) fn step<'a>(
     let Head::Statement(s) = head else {
         return Ok(Reached::Failed);
     };
-    act(alloc, program, depth, interpreter, s)
+    match s {
+        TypedStatement::Loop(test, last, body) => repeat(interpreter, s, test, last, body),
+        _ => act(alloc, program, depth, interpreter, s),
+    }
+}
+
+/// One step of the program. An assignment that is next in its list is done without a look at what waits behind it.
+#[inline(always)]
+pub(crate) fn step<'a>(
+    alloc: Global,
+    program: &'a Typed,
+    depth: u32,
+    interpreter: &mut Interpreter<'a>,
+) -> Result<Reached, AllocError>
+    ensures { IfOk result (λ r. source_step (program_of program.now) depth (state_by frame_of interpreter.old)
+        ≡ reached_by frame_of r interpreter.new) }
+{
+    let Some((s, rest)) = interpreter.frame.todo.list.split_first() else {
+        return settled_step(alloc, program, depth, interpreter);
+    };
+    match s {
+        TypedStatement::Assign(place, e) => {
+            interpreter.frame.todo.list = rest;
+            assign_to(program, interpreter, *place, e)
+        }
+        TypedStatement::Store(array, i, e) => {
+            interpreter.frame.todo.list = rest;
+            store_at(program, interpreter, *array, i, e)
+        }
+        _ => settled_step(alloc, program, depth, interpreter),
+    }
 }
