@@ -87,6 +87,11 @@ fn emit_own(
     emit_exit(code, facts, &last, linkage, plan, next, &block.exit)
 }
 
+// For how many instructions there is room at once, as most blocks need: a list that grows is copied at each step.
+fn room_for(count: usize) -> usize {
+    count.saturating_add(count / 2).saturating_add(2)
+}
+
 // The block for a block.
 fn block_for(
     facts: &mut Knowledge,
@@ -104,7 +109,7 @@ fn block_for(
         (slice_index linkage.now.entries.now) (slice_index plan.now.places.now)
         plan.now.leaf plan.now.frame.now (head_code plan.now.leaf plan.now.frame.now plan.now.parameters head) next block.now) }
 {
-    let mut insts = Vec::new(linkage.alloc);
+    let mut insts = Vec::with_capacity(linkage.alloc, room_for(block.insts.len()))?;
     emit_head(&mut insts, plan, head)?;
     let exit = emit_own(&mut insts, facts, linkage, plan, next, block)?;
     Ok(LongBlock::new(insts, exit))
