@@ -36,10 +36,16 @@ pub fn exit_block(alloc: Global, exit: RExit) -> OpenBlock
     }
 }
 
+/// So many instructions have room at once, as most blocks need; a list that grows is copied at each step.
+const ROOM: usize = 8;
+
 /// An instruction before the code; an Err is refused memory.
 pub fn put_first(inst: RInst, mut code: OpenBlock) -> Result<OpenBlock, AllocError>
     ensures { IfOk result (λ c. open_code c ≡ first inst (open_code code)) }
 {
+    if code.insts.is_empty() {
+        code.insts.reserve(ROOM)?;
+    }
     code.insts.push(inst)?;
     Ok(code)
 }
