@@ -1,6 +1,6 @@
 // The names in sight, scope by scope (C99 6.2.1).
 ghost use Rattle.std.specs.Prelude.{◌≡◌, OnOk, OnErr, is_some};
-ghost use Rattle.c_statements.specs.Shape.{scopes_of};
+ghost use Rattle.c_statements.specs.Shape.{bindings_of, scopes_of};
 ghost use Rattle.c_statements.specs.Names.{Scopes, named_in, environment_in, with_spelling, no_scopes, within};
 ghost use Rattle.c_statements.specs.Names.{outside, with_declared, with_local, without_locals, spelling_in};
 
@@ -20,6 +20,19 @@ pub struct Scopes<'a> {
     inner: Scope<'a>,
     around: Vec<Scope<'a>>,
     locals: Vec<IntegerType>,
+}
+
+/// What a spelling stands for in a scope, if it is declared there. In a scope without names nothing is looked up.
+fn named_at(scope: &Scope<'_>, spelling: &[u8]) -> Option<Named>
+    ensures { result ≡ bindings_of scope.now spelling.now }
+{
+    if scope.is_empty() {
+        return None;
+    }
+    match scope.get(spelling) {
+        Some(named) => Some(*named),
+        None => None,
+    }
 }
 
 impl<'a> Scopes<'a> {
@@ -48,12 +61,12 @@ impl<'a> Scopes<'a> {
     pub fn find_spelling(&self, spelling: &[u8]) -> Option<Named>
         ensures { result ≡ named_in (scopes_of self.now) spelling.now }
     {
-        if let Some(named) = self.inner.get(spelling) {
-            return Some(*named);
+        if let Some(named) = named_at(&self.inner, spelling) {
+            return Some(named);
         }
         for i in (0..self.around.len()).rev() {
-            if let Some(named) = self.around[i].get(spelling) {
-                return Some(*named);
+            if let Some(named) = named_at(&self.around[i], spelling) {
+                return Some(named);
             }
         }
         None
