@@ -1,11 +1,10 @@
 // A text piece by piece: its tokens with their places, or the first refusal (C99 6.4).
-ghost use Rattle.std.specs.Prelude.{◌≡◌, ◌+◌, ◌<◌, ◌≤◌, ◌^◌, [], length, true, IfOk, IfErr, List, ℕ};
+ghost use Rattle.std.specs.Prelude.{◌≡◌, ◌+◌, ◌<◌, ◌≤◌, ◌^◌, [], length, IfOk, IfErr, List, ℕ};
 ghost use Rattle.c_tokens.specs.Lexing.{comment_length};
 ghost use Rattle.c_tokens.specs.Fronts.{lexeme_of, comment_lexeme, line_lexeme, line_length};
 ghost use Rattle.c_tokens.specs.declared.token.Token.{Token};
 ghost use Rattle.c_tokens.specs.declared.sizes.TheConstants.{MAX_TEXT};
 ghost use Rattle.c_tokens.specs.declared.fault.Refusal.{Refusal};
-ghost use Rattle.c_tokens.specs.declared.lexer.Step.TheVariants.{Skip};
 ghost use Rattle.c_tokens.specs.Texts.{Lexes, LexStops, IsStep, Fits, IsNarrow, StepFits, step_of, IsLexFault};
 
 use crate::constants::constant;
@@ -124,17 +123,6 @@ fn next_step(at: u32, text: &[u8]) -> Step
     step_at(at, next(text))
 }
 
-/// Whether the step at a place is one byte of white space, which is quick to tell.
-fn is_blank(text: &[u8]) -> bool
-    ensures found { result ≡ true → (at : ℕ) → IsStep at text.now (Skip 1) }
-    ensures fits { result ≡ true → 1 ≤ length text.now }
-{
-    match split(text) {
-        None => false,
-        Some((byte, _)) => is_space(byte),
-    }
-}
-
 /// The tokens of a text, and where they stand.
 pub fn lex(alloc: Global, text: &[u8]) -> Result<(Vec<Token>, Vec<u32>), LexFault>
     requires { length text.now ≤ MAX_TEXT }
@@ -152,11 +140,6 @@ pub fn lex(alloc: Global, text: &[u8]) -> Result<(Vec<Token>, Vec<u32>), LexFaul
         nested: 0,
     };
     'lexemes: loop {
-        if is_blank(rest) {
-            rest = after(rest, 1);
-            at += 1;
-            continue;
-        }
         let here = at as u32;
         match next_step(here, rest) {
             Step::Done => return Ok((tokens, places)),

@@ -5,7 +5,7 @@ pub returns-in-Done-clause-ok : goal.returns-in-Done-clause-ok
 returns-in-Done-clause-ok c = goes-end _ _ _ _ _ _ c.lexemes.invariant c.in-Done.ensures.found
 
 pub lexemes-preserved-in-Skip : goal.lexemes-preserved-in-Skip
-lexemes-preserved-in-Skip c = goes-skip _ _ _ _ _ _ _ _ c.lexemes.invariant c.in-Skip.ensures.found c.in-Skip.ensures.fits.1 c.after-rest-in-Skip.ensures
+lexemes-preserved-in-Skip c = goes-skip _ _ _ _ _ _ _ _ c.lexemes.invariant c.in-Skip.ensures.found c.in-Skip.ensures.fits.1 c.after-rest.ensures
 
 pub returns-in-None-clause-err : goal.returns-in-None-clause-err
 returns-in-None-clause-err c = goes-big _ _ _ _ _ _ _ _ c.lexemes.invariant c.in-Take.ensures.found c.in-None.ensures.none
@@ -16,7 +16,3 @@ lexemes-preserved c = goes-take _ _ _ _ _ _ _ _ _ _ _ _ c.lexemes.invariant c.in
 
 pub returns-in-Stop-clause-err : goal.returns-in-Stop-clause-err
 returns-in-Stop-clause-err c = goes-stop _ _ _ _ _ _ _ _ c.lexemes.invariant c.in-Stop.ensures.found
-
-pub lexemes-preserved-then-is_blank : goal.lexemes-preserved-then-is_blank
-lexemes-preserved-then-is_blank c = goes-skip _ _ _ _ 1 _ _ _ c.lexemes.invariant (c.is_blank.ensures.found c.if-is_blank.true c.lexemes.at)
-    (c.is_blank.ensures.fits c.if-is_blank.true) c.after-rest.ensures
