@@ -112,12 +112,17 @@ fn built_as_asked<T: Threads + Wait + Sync>(
     ensures fault { IfErr result (λ f. (text : List ℕ) → SpellsTyped text (program_of typed.now) → IsBuildFault text asked.now.depth f) }
 {
     let unit = unit_of_typed(alloc, typed, asked.depth)?;
+    // the program ends soon, and nothing would use the memory of the blocks
     if asked.plain {
-        plain_of(alloc, &unit)
+        let built = plain_of(alloc, &unit);
+        forget(unit);
+        built
     } else {
         let workers = workers_for(unit.blocks().len(), asked.workers);
         let phase = phase_of(workers, asked.nodes, asked.heads);
-        scheduled_of(rt, alloc, &unit, phase, &FilledOrder(ListOrder), &Open)
+        let built = scheduled_of(rt, alloc, &unit, phase, &FilledOrder(ListOrder), &Open);
+        forget(unit);
+        built
     }
 }
 
