@@ -41,7 +41,7 @@ use crate::source::Source;
 use crate::syntax::say_syntax;
 use crate::types::{say_kind, say_undeclared};
 use c_front::{FrontFault, FrontFaultKind};
-use c_statements::TypeFaultKind;
+use c_statements::{TypeFault, TypeFaultKind};
 use commands::Explanation;
 pub use fault::SourceFault;
 pub use statements::{PlacedStatement, placed_statements};
@@ -72,6 +72,22 @@ fn say_front(
     Ok(())
 }
 
+fn say_types(
+    alloc: Global,
+    said: &mut Said,
+    source: &Source<'_>,
+    fault: TypeFault,
+) -> Result<(), AllocError> {
+    let k = source.index_of(fault.at);
+    let names = names_before(alloc, source, k)?;
+    if fault.kind == TypeFaultKind::Undeclared {
+        return say_undeclared(alloc, said, source, names.as_slice(), k);
+    }
+    let declared = in_sight(source, names.as_slice(), k);
+    say_kind(said, source, fault.kind, k, declared);
+    Ok(())
+}
+
 /// What is wrong with a text that has this fault, and what to write in its place.
 /// Like the reading of the text it descends into it: run it on a thread with a large stack where the text may be hostile.
 pub fn explain(alloc: Global, text: &[u8], fault: SourceFault) -> Result<Explanation, AllocError>
@@ -81,16 +97,7 @@ pub fn explain(alloc: Global, text: &[u8], fault: SourceFault) -> Result<Explana
     let mut said = Said::new(alloc);
     match fault {
         SourceFault::Front(fault) => say_front(alloc, &mut said, &source, fault)?,
-        SourceFault::Types(fault) => {
-            let k = source.index_of(fault.at);
-            let names = names_before(alloc, &source, k)?;
-            if fault.kind == TypeFaultKind::Undeclared {
-                say_undeclared(alloc, &mut said, &source, names.as_slice(), k)?;
-            } else {
-                let declared = in_sight(&source, names.as_slice(), k);
-                say_kind(&mut said, &source, fault.kind, k, declared);
-            }
-        }
+        SourceFault::Types(fault) => say_types(alloc, &mut said, &source, fault)?,
     }
     said.end(alloc)
 }

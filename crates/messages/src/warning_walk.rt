@@ -122,6 +122,26 @@ fn chosen(outcomes: (bool, bool), first: Option<u32>, second: Option<u32>) -> Op
     }
 }
 
+/// What is said of an index outside its array, which is shown by its name.
+fn index_message(
+    alloc: Global,
+    index: i64,
+    shown: &str,
+    length: usize,
+) -> Result<String, AllocError> {
+    let elements = if length == 1 { "element" } else { "elements" };
+    format!(in alloc; "the index {index} is outside '{shown}', which has {length} {elements}")
+}
+
+/// What is said of a left shift of an int that has no value.
+fn left_shift_message(alloc: Global, value: i32, count: u32) -> Result<String, AllocError> {
+    if value < 0 {
+        format!(in alloc; "{value} << {count} shifts a negative int")
+    } else {
+        format!(in alloc; "{value} << {count} goes beyond 2147483647: shift {value}u")
+    }
+}
+
 impl<'a, 't> Walk<'a, 't> {
     pub(crate) fn new(
         alloc: Global,
@@ -209,11 +229,8 @@ impl<'a, 't> Walk<'a, 't> {
         if (value as usize) < length {
             return Ok(());
         }
-        let (index, shown) = (number(value, index.integer_type()), self.name(name));
-        let elements = if length == 1 { "element" } else { "elements" };
-        let message = format!(in self.alloc;
-            "the index {index} is outside '{shown}', which has {length} {elements}"
-        )?;
+        let index = number(value, index.integer_type());
+        let message = index_message(self.alloc, index, self.name(name), length)?;
         self.warn(name.at as usize, message)
     }
 
@@ -244,11 +261,7 @@ impl<'a, 't> Walk<'a, 't> {
             return Ok(());
         }
         let value = value.cast_signed();
-        let message = if value < 0 {
-            format!(in self.alloc; "{value} << {count} shifts a negative int")?
-        } else {
-            format!(in self.alloc; "{value} << {count} goes beyond 2147483647: shift {value}u")?
-        };
+        let message = left_shift_message(self.alloc, value, count)?;
         self.warn(at, message)
     }
 

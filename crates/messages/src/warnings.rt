@@ -33,14 +33,20 @@ fn walk_through(
     Ok(())
 }
 
+/// The warning of a comparison of a comparison.
+fn chain_warning(alloc: Global, at: usize) -> Result<Warning, AllocError> {
+    let message = String::from_str(
+        alloc,
+        "a comparison of a comparison: a < b < c compares 0 or 1 with c",
+    )?;
+    Ok(Warning { at, message })
+}
+
 /// Warns of each comparison of a comparison without parentheses.
 fn push_chains(alloc: Global, warnings: &mut Vec<Warning>, text: &[u8]) -> Result<(), AllocError> {
-    for at in chains(alloc, text)? {
-        let message = String::from_str(
-            alloc,
-            "a comparison of a comparison: a < b < c compares 0 or 1 with c",
-        )?;
-        warnings.push(Warning { at, message })?;
+    let places = chains(alloc, text)?;
+    for at in places.as_slice() {
+        warnings.push(chain_warning(alloc, *at)?)?;
     }
     Ok(())
 }
