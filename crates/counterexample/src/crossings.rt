@@ -2,7 +2,7 @@
 
 use crate::origins::{Pair, access_of};
 use mblock::{Block, Order};
-use mips_isa::Plain;
+use mips_isa::{Plain, Reg};
 use std::alloc::{AllocError, Global};
 
 /// At most so many pairs are tried.
@@ -17,6 +17,16 @@ fn has_store(one: &Plain, other: &Plain) -> bool {
     !one.action().is_load() || !other.action().is_load()
 }
 
+/// Whether an instruction from the first on and before the second writes the register.
+fn is_written(insts: &[Plain], pair: Pair, register: Reg) -> bool {
+    for inst in insts.get(pair.first..pair.second).unwrap_or_default() {
+        if inst.writes(register) {
+            return true;
+        }
+    }
+    false
+}
+
 /// Whether two instructions have one base, which isn't written from the first on: so the offsets tell whether they meet.
 fn is_one_base(insts: &[Plain], pair: Pair) -> bool {
     let (Some(one), Some(other)) = (insts.get(pair.first), insts.get(pair.second)) else {
@@ -26,12 +36,7 @@ fn is_one_base(insts: &[Plain], pair: Pair) -> bool {
     else {
         return false;
     };
-    p == q
-        && !insts
-            .iter()
-            .take(pair.second)
-            .skip(pair.first)
-            .any(|inst| inst.writes(p))
+    p == q && !is_written(insts, pair, p)
 }
 
 /// The accesses of a block, by their places, up to those that an order has done.
