@@ -11,8 +11,8 @@ ghost use Rattle.c_run.specs.Turns.{past_turn, at_turn};
 use c_typed::TypedStatement;
 use std::alloc::{AllocError, Global};
 
-/// What waits behind a list of statements, each with the list that it stands before: that list alone, a statement, or the
-/// end of a turn: its last part, and the loop. A list is lent, so to enter a block is one push.
+/// What waits behind a list of statements: a list, a statement, or the end of a turn (its last part, and the loop). The last two have
+/// the list that comes behind them. A list is lent, so to enter a block is one push.
 #[derive(Clone, Copy)]
 pub enum Pending<'a> {
     Rest(&'a [TypedStatement]),
