@@ -3,8 +3,8 @@
 ghost use Rattle.std.specs.Prelude.{◌≡◌, Some};
 ghost use Rattle.block_text.specs.Spelling.{exit_text, name_of_exit, targets_text};
 
-use crate::writer::Writer;
 use crate::ExitName;
+use crate::writer::Writer;
 use mblock::{BlockNumber, Exit, Order};
 use mips_isa::Plain;
 use std::fmt;

@@ -6,10 +6,10 @@ ghost use Rattle.block_text.specs.Shown.{IsShown};
 use crate::verdicts::{CheckAnswer, LONGEST};
 use crate::witness::put_found;
 use block_text::{
-    ExitLine, ReadFault, WIDTH, Writer, block_place_text, order_place_text, page_of, put_insts,
+    ExitLine, PairFault, ReadFault, Text, WIDTH, Writer, block_place_text, order_place_text,
+    page_of, put_insts, read,
 };
 use block_validator::Place;
-use block_text::{PairFault, Text, read};
 use mblock::{Block, Exit, Order, Unclean};
 use mips_isa::{Action, Plain, Reg};
 use std::alloc::{AllocError, Global};

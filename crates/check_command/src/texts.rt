@@ -5,8 +5,8 @@ ghost use Rattle.std.specs.Fmt.{DisplaysOnOk};
 ghost use Rattle.check_command.specs.Texts.{answer_text, check_fault_text, place_text};
 
 use crate::verdicts::{CheckAnswer, CheckFault};
-use block_validator::Place;
 use block_text::PairFault;
+use block_validator::Place;
 use std::error::Error;
 use std::fmt;
 

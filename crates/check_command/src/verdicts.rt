@@ -6,8 +6,8 @@ ghost use Rattle.block_text.specs.Whole.{SpellsPair};
 ghost use Rattle.term_table.specs.Passes.{IsOf};
 ghost use Rattle.check_command.specs.Checks.{IsAnswer, IsCheckFault};
 
-use block_validator::{Place, Verdict, validate};
 use block_text::{PairFault, Text, read};
+use block_validator::{Place, Verdict, validate};
 use mblock::{Block, Order, Unclean};
 use std::alloc::Global;
 use term_table::{OpenFault, Pass, TermTable};

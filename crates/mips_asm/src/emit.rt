@@ -13,12 +13,11 @@ ghost use Rattle.mips_asm.specs.Layout.{set_number};
 ghost use Rattle.mips_asm.specs.Emitted.{AllNear, AreUnits, Fit, IsNear, IsWithin, start_of};
 
 use crate::fault::AsmFault;
-use crate::limits::functions_fit;
+use crate::limits::{CODE_WORDS, functions_fit};
 use crate::places::{places, size, total};
 use mblock::{BlockNumber, Exit, Order};
 use mips_code::encode;
 use mips_isa::{CODE_BASE, Control, ImmOp, Inst, JumpOp, JumpTarget, Plain, Reg};
-use crate::limits::CODE_WORDS;
 use std::alloc::{AllocError, Global};
 
 fn put(code: &mut Vec<u32>, inst: Inst) -> Result<(), AllocError>

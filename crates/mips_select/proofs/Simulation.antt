@@ -475,7 +475,7 @@ module _ (h : Homed) (depth : ℕ) (blocks : List BlockParts) (ok : IsSelected h
           let b = if nat_eq v 0 then z else y in
           let same : w ≡ v = same_Some w v (sym (kn.by x w is_known) ∙ e) in
           let goes : (c.form).exit ≡ E.Goto (place b) =
-              is_exit ∙ ap (λ w. E.Goto (if nat_eq w 0 then place z else place y)) same ∙ ap E.Goto (either_place place z y (nat_eq v 0)) in
+          is_exit ∙ ap (λ w. E.Goto (if nat_eq w 0 then place z else place y)) same ∙ ap E.Goto (either_place place z y (nat_eq v 0)) in
           jumps leaf (At k [] s out) 1 a link below place head ws placed frame waits b (callee_saved r) a.slots g out s
           (settled facts.deferred r g (stored_frame leaf a.frame a.slots a.aside link ∷ frames_of ws below) s lz st) (omega arith)
           (λ block stood. no_head 1 (At k [] s out) (place b) (head b) (code_insts gs starts leaf a.frame no_facts no_last (code_of block)) s out

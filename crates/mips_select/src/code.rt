@@ -11,6 +11,7 @@ ghost use Rattle.mips_select.specs.Whole.{next_of, behind};
 
 use crate::exits::{asked_of, emit_exit, next_at};
 use crate::heads::{Head, head_at, resumes};
+use crate::long::LongBlock;
 use crate::numbers::number_at;
 use crate::plan::{Linkage, Plan};
 use crate::prologue::emit_prologue;
@@ -19,7 +20,6 @@ use mblock::{BlockNumber, Exit};
 use mips_emit::{Comparison, Knowledge, Last, Setting, emit_arrival, emit_insts, register};
 use mips_homes::{Frame, RESULT};
 use mips_isa::Plain;
-use crate::long::LongBlock;
 use rtl::{RBlock, RExit, Register};
 use std::alloc::{AllocError, Global};
 

@@ -11,6 +11,7 @@ ghost use Rattle.mips_select.specs.Whole.{functions_blocks};
 
 use crate::code::emit_block;
 use crate::heads::{Head, Naming, count_of, head_at, lead_in};
+use crate::long::LongBlock;
 use crate::numbers::{number, number_at, number_blocks};
 use crate::plan::{Linkage, Plan};
 use crate::prologue::emit_prologue;
@@ -19,7 +20,6 @@ use mblock::{BlockNumber, Exit};
 use mips_emit::{Knowledge, emit_constant};
 use mips_homes::{Frame, GLOBAL_POINTER, is_leaf};
 use mips_isa::{AluOp, DATA_BASE, Plain, Reg};
-use crate::long::LongBlock;
 use rtl::{RBlock, RFunc};
 use std::alloc::{AllocError, Global};
 

@@ -10,11 +10,11 @@ ghost use Rattle.mips_select.specs.Limits.{FramesFit};
 ghost use Rattle.mips_select.specs.Whole.{functions_size, numbers_from};
 ghost use Rattle.mips_select.specs.Laws.{IsNumbered, IsBeyond};
 
+use crate::fault::SelectFault;
 use crate::numbers::{number_at, number_each};
+use crate::pieces::first_pieces;
 use crate::program::{LongUnit, homes_with_room, long_unit, unit_of};
 use mblock::{BlockNumber, Unit};
-use crate::fault::SelectFault;
-use crate::pieces::first_pieces;
 use rtl::{RFunc, Rtl};
 use std::alloc::{AllocError, Global};
 

@@ -9,10 +9,10 @@ ghost use Rattle.mips_select.specs.Heads.{heads_in, namings_of, AreNamed};
 ghost use Rattle.mips_select.specs.Whole.{size_of_blocks, numbers, function_size, functions_size, entries_from, owners_for};
 ghost use Rattle.mips_select.specs.Whole.{numbers_in, numbers_from};
 
+use crate::fault::SelectFault;
 use crate::heads::{Naming, all_namings, count_of, lead_in};
 use crate::push::push;
 use mblock::{BlockNumber, UNIT_BLOCKS};
-use crate::fault::SelectFault;
 use rtl::{RBlock, RFunc};
 use std::alloc::{AllocError, Global};
 

@@ -10,17 +10,17 @@ ghost use Rattle.mips_select.specs.Limits.{FramesFit};
 ghost use Rattle.mips_select.specs.Whole.{functions_size, entries_from, owners_for, program_blocks, unit_for};
 ghost use Rattle.mips_select.specs.Laws.{KeepsRuns, IsSelected, IsBeyond};
 
+use crate::fault::SelectFault;
 use crate::functions::{emit_end, emit_functions, emit_start};
 use crate::globals::{globals_bytes, globals_starts};
 use crate::heads::Naming;
 use crate::limits::have_room;
+use crate::long::LongBlock;
 use crate::numbers::{Numbers, number_at, number_functions};
+use crate::pieces::split_unit;
 use crate::plan::Linkage;
 use mblock::{BlockNumber, Unit};
 use mips_homes::{Homed, place};
-use crate::fault::SelectFault;
-use crate::long::LongBlock;
-use crate::pieces::split_unit;
 use rtl::Rtl;
 use std::alloc::{AllocError, Global};
 

@@ -1,7 +1,7 @@
 //! The orders that schedulers propose for worked blocks, and the verdicts on them.
 use crate::refused_memory::opened;
-use block_validator::{Place, Verdict, validate};
 use block_text::{Text, read};
+use block_validator::{Place, Verdict, validate};
 use list_scheduler::{FilledOrder, Hostile, ListOrder, Reorder, fill};
 use mblock::{Block, Exit, Order, Unclean, plain};
 use mips_isa::{HiLo, Plain, Reg};

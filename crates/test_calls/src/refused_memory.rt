@@ -4,8 +4,8 @@ ghost use Rattle.term_table.specs.Passes.{IsOf};
 
 use crate::orders::text_of;
 use crate::scarce_memory::AllMemory;
-use block_validator::{Verdict, validate};
 use block_text::Text;
+use block_validator::{Verdict, validate};
 use std::alloc::Global;
 use term_table::{Pass, TermTable};
 

@@ -7,8 +7,8 @@ use block_text::{exit_of, plain_of};
 use image::{Counts, Image, NO_COUNTS, read_image, write_image};
 use mblock::{Block, BlockNumber, Unit, plain_orders};
 use mips_asm::{AsmFault, assemble, image_of, list};
-use mips_machine::run;
 use mips_code::Ending;
+use mips_machine::run;
 use sched_phase::schedule_plain;
 use std::alloc::Global;
 

@@ -18,8 +18,8 @@ use commands::{
     BadFile, Broken, Complaints, Files, Output, StreamCommand, WordForm, answer_stream,
 };
 use image::{ImageFault, read_image};
-use mips_machine::load;
 use mips_code::Ending;
+use mips_machine::load;
 use std::alloc::Global;
 
 /// The status of an image's run.
