@@ -67,8 +67,7 @@ fn insert_all(set: &mut [u64], others: &[u64]) {
 #[derive(Drop)]
 pub struct Accesses {
     seen: Vec<Seen>,
-    // The sets of places that stay before each, themselves or by way of others, one set behind the other. One vector, since an
-    // array in `Seen` is a place for each word to the borrow checker.
+    // The sets of places that stay before each, themselves or by way of others, one set behind the other.
     before: Vec<u64>,
     // Room for the set of the next one.
     next_before: Vec<u64>,
