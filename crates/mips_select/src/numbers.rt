@@ -39,7 +39,11 @@ pub(crate) fn number_at(table: &[BlockNumber], i: u32) -> BlockNumber
 }
 
 // One number, several times.
-fn push_copies(table: &mut Vec<BlockNumber>, n: BlockNumber, count: usize) -> Result<(), AllocError>
+pub(crate) fn push_copies(
+    table: &mut Vec<BlockNumber>,
+    n: BlockNumber,
+    count: usize,
+) -> Result<(), AllocError>
     ensures { OnOk result (table.new.items ≡ table.old.items ++ replicate count n) }
 {
     for _ in 0..count {

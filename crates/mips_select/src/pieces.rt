@@ -1,7 +1,7 @@
 // Long blocks to pieces.
 
 ghost use Rattle.std.specs.Prelude.{◌≡◌, ◌↔◌, ℕ, suc, ◌+◌, ◌-◌, ◌/◌, ◌^◌, ◌<◌, ◌≤◌, ◌++◌, ◌∷◌, [], length, IfOk, OnOk, IfErr, IsTrue};
-ghost use Rattle.std.specs.Prelude.{slice_index, replicate};
+ghost use Rattle.std.specs.Prelude.{slice_index};
 ghost use Rattle.mips_select.specs.Split.{renumbered_exit, more_pieces, piece, pieces, count_of, total, firsts, split_from, owners_from};
 ghost use Rattle.mips_select.specs.Split.{split_blocks, split_owners};
 ghost use Rattle.mips_isa.specs.States.{State};
@@ -12,6 +12,8 @@ ghost use Rattle.mblock.specs.Units.{AreLinked, AreOwners, unit_parts};
 
 use crate::fault::SelectFault;
 use crate::long::LongBlock;
+use crate::numbers::{number, push_copies};
+use crate::push::push;
 use mblock::{BLOCK_INSTS, Block, BlockNumber, Exit, UNIT_BLOCKS, Unit};
 use mips_isa::Plain;
 use std::alloc::{AllocError, Global};
@@ -25,25 +27,6 @@ fn count_more(block: &LongBlock) -> usize
     if n == 0 { 0 } else { (n - 1) / BLOCK_INSTS }
 }
 
-// One more number.
-fn push_number(numbers: &mut Vec<BlockNumber>, n: BlockNumber) -> Result<(), AllocError>
-    ensures { OnOk result (numbers.new.items ≡ numbers.old.items ++ n ∷ []) }
-{
-    numbers.push(n)?;
-    Ok(())
-}
-
-// The number of a block.
-fn number(n: usize) -> BlockNumber
-    requires { n < UNIT_BLOCKS }
-    ensures { result ≡ n }
-{
-    match BlockNumber::new(n as u32) {
-        Some(number) => number,
-        None => unreachable!(),
-    }
-}
-
 // Behind `k` pieces there is no place for one and `more`.
 fn is_beyond(k: usize, more: usize) -> bool
     requires { k ≤ UNIT_BLOCKS }
@@ -53,7 +36,10 @@ fn is_beyond(k: usize, more: usize) -> bool
 }
 
 /// The number of each block's first piece.
-pub fn first_pieces(alloc: Global, long: &[LongBlock]) -> Result<Vec<BlockNumber>, SelectFault>
+pub(crate) fn first_pieces(
+    alloc: Global,
+    long: &[LongBlock],
+) -> Result<Vec<BlockNumber>, SelectFault>
     ensures numbers { IfOk result (λ ns. ns.items ≡ firsts BLOCK_INSTS 0 long.now) }
     ensures few { IfOk result (λ _. total BLOCK_INSTS long.now ≤ UNIT_BLOCKS) }
     ensures limit { IfErr result (λ e. e ≡ SelectFault.Limit → UNIT_BLOCKS < total BLOCK_INSTS long.now) }
@@ -65,7 +51,7 @@ pub fn first_pieces(alloc: Global, long: &[LongBlock]) -> Result<Vec<BlockNumber
         if is_beyond(k, more) {
             return Err(SelectFault::Limit);
         }
-        push_number(&mut numbers, number(k))?;
+        push(&mut numbers, number(k))?;
         k += 1 + more;
     }
     Ok(numbers)
@@ -189,31 +175,6 @@ fn pieces_of(
     Ok(out)
 }
 
-/// The blocks cut into pieces of at most 512 instructions.
-pub fn split(alloc: Global, long: Vec<LongBlock>) -> Result<Vec<Block>, SelectFault>
-    ensures pieces { IfOk result (λ blocks. blocks.items ≡ split_blocks long.items) }
-    ensures few { IfOk result (λ blocks. length blocks.items ≤ UNIT_BLOCKS) }
-    ensures limit { IfErr result (λ e. e ≡ SelectFault.Limit → UNIT_BLOCKS < length (split_blocks long.items)) }
-{
-    let numbers = first_pieces(alloc, long.as_slice())?;
-    let blocks = pieces_of(alloc, numbers.as_slice(), long)?;
-    Ok(blocks)
-}
-
-// One owner, several times.
-fn push_copies(
-    owners: &mut Vec<BlockNumber>,
-    o: BlockNumber,
-    count: usize,
-) -> Result<(), AllocError>
-    ensures { OnOk result (owners.new.items ≡ owners.old.items ++ replicate count o) }
-{
-    for _ in 0..count {
-        push_number(owners, o)?;
-    }
-    Ok(())
-}
-
 // The owner of each piece.
 fn owners_of(
     alloc: Global,
@@ -233,7 +194,7 @@ fn owners_of(
 }
 
 /// The unit of the pieces of blocks with their owners.
-pub fn split_unit(
+pub(crate) fn split_unit(
     alloc: Global,
     long: Vec<LongBlock>,
     owner: &[BlockNumber],

@@ -21,7 +21,7 @@ loop-block-preserved c =
     record {
       few = grind (arith, common_steps);
       counts = omega (arith, sizes, count, counts);
-      numbers = ap (λ l. l ++ rest (1 + c.count_more-more.result)) c.in_ok-push_number.ensures
+      numbers = ap (λ l. l ++ rest (1 + c.count_more-more.result)) c.in_ok-push.ensures
           ∙ append_assoc before (c.number.result ∷ []) (rest (1 + c.count_more-more.result))
           ∙ ap₂ (λ n m. before ++ (n ∷ rest m)) c.number.ensures count
           ∙ sym (ap (λ l. before ++ l) (at_drop_more (firsts 512 k) long i b c.loop-block-test.true)) ∙ c.loop-block.invariant.numbers;
