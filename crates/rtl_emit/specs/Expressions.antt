@@ -1,6 +1,6 @@
 -- Which code stands for an expression: what the emitter promises of every list of blocks that has those which it made.
 -- In all of this `free` is the first register that is free, from which on code may write.
-use Rattle.std.specs.Prelude.{◌≡◌, ℕ, ◌<◌, ◌≤◌, ◌⊎◌, ◌==◌, List, [], ◌∷◌, ◌++◌, Some, if◌then◌else◌}
+use Rattle.std.specs.Prelude.{◌≡◌, ℕ, ◌+◌, ◌<◌, ◌≤◌, ◌⊎◌, ◌==◌, List, [], ◌∷◌, ◌++◌, Some, if◌then◌else◌}
 use Rattle.words.specs.Words.{wrap}
 use Rattle.runs.specs.Stores.{Places, Arrays}
 use Rattle.c_typed.specs.Trees.{TypedExpression}
@@ -25,7 +25,7 @@ pub record IsPlace (e : TypedExpression) (free p next : ℕ) : Type 0 where
   pub rooms : free ≤ next
   pub next_is : next ≡ next_free e free
   pub within : p < MAX_REGISTERS
-  pub counted : p < place_registers e free
+  pub counted : place_registers e free ≡ p + 1
   pub is : Reads e p ⊎ ((free ≤ p) × (p < next))
 
 -- the code from here on puts the value of e into the register d, and goes on there
