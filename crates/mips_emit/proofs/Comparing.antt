@@ -44,7 +44,7 @@ use Rattle.mips_emit.proofs.Operands.{passes, IsLast, none_fresh, IsKnown, Denot
 use Rattle.mips_emit.proofs.Operands.{AreDeferred, one_deferred, shown_deferred}
 use Rattle.mips_emit.proofs.Homes.{fewer_stand}
 use Rattle.mips_emit.proofs.Homes.{operand_below, operand_means, fetches, ends_stands}
-use Rattle.mips_emit.proofs.Insts.{Computed, value_or_failed, computes}
+use Rattle.mips_emit.proofs.Insts.{and_first, and_second, Computed, value_or_failed, computes}
 
 -- ---- truth words
 
@@ -77,14 +77,6 @@ at_least_zero w lt = grind (arith, ints)
 known_zero : (k : Option ℕ) (v : ℕ) → ((c : ℕ) → k ≡ Some c → c ≡ v) → is_known_zero k ≡ true → v ≡ 0
 known_zero None v said is = absurd (true≢false (sym is))
 known_zero (Some c) v said is = sym (said c refl) ∙ eqb-true c 0 is
-
-and_first : (a b : Bool) → (a && b) ≡ true → a ≡ true
-and_first true b e = refl
-and_first false b e = absurd (true≢false (sym e))
-
-and_second : (a b : Bool) → (a && b) ≡ true → b ≡ true
-and_second true b e = e
-and_second false b e = absurd (true≢false (sym e))
 
 not_true : (b : Bool) → not b ≡ true → b ≡ false
 not_true true e = absurd (true≢false (sym e))
@@ -142,7 +134,7 @@ t2 = record { low = omega arith; high = omega arith }
 
 -- what is known then: nothing but that a register doesn't hold its word
 abbrev pub waiting : Facts → (q u : ℕ) → Facts
-waiting facts q u = record { known = []; deferred = places_with facts.deferred q (Some u) }
+waiting facts q u = record { known = []; deferred = places_with facts.deferred q (Some u); kept = None }
 
 module _ (most total : ℕ) (gs : List RGlobal) (starts : ℕ → ℕ) where
   module _ (registers : Places) (g : Arrays) (top : Stored) (fs : List Stored) (s : State) (h : Stands most total gs starts registers g (top ∷ fs) s) where

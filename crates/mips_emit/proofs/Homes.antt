@@ -31,7 +31,7 @@ use Rattle.mips_emit.proofs.View.{moves, loads_word, stores_word, Sets, set_sets
 use Rattle.mips_emit.proofs.Stands.{Stored, size_of, with_slots, StackHolds, stack_same, stack_top, LeafHolds, Linked, linked_kept, Stands, open_stack}
 use Rattle.mips_emit.proofs.Operands.{IsKnown, hidden, hide, AreDeferred, deferred_written, one_deferred, shown_written, shown_deferred}
 use Rattle.mips_emit.proofs.Operands.{known_register, known_slot, IsFresh, stack_apart, Denotes, IsAway, longer, longer_behind, bring_some}
-use Rattle.mips_emit.proofs.Operands.{IsElsewhere, Ends, runs_nop}
+use Rattle.mips_emit.proofs.Operands.{IsElsewhere, Keeps, Ends, runs_nop}
 
 module _ (most total : ℕ) (gs : List RGlobal) (starts : ℕ → ℕ) where
   -- registers, HI and LO change, but not 28 and 29
@@ -88,6 +88,16 @@ module _ (most total : ℕ) (gs : List RGlobal) (starts : ℕ → ℕ) where
       → Stands most total gs starts registers g fs (record s { regs = f })
   regs_kept registers g fs is s f e same h =
       words_kept registers g fs s f (run_words (map action_of is) s (record s { regs = f }) h.words e.ends) same h
+
+  -- the base of elements changes
+  pub base_changed : (registers : Places) (g : Arrays) (fs : List Stored) (is : List Plain) (s : State) (f : ℕ → ℕ) → RunsTo is s (record s { regs = f })
+      → ((r : ℕ) → 4 ≤ r → r ≢ 30 → f r ≡ s.regs r) → Stands most total gs starts registers g fs s
+      → Stands most total gs starts registers g fs (record s { regs = f })
+  base_changed registers g fs is s f e same h =
+      let link : 31 ≢ 30 = λ e. absurd (omega (arith, e)) in
+      call_kept registers g fs s f (run_words (map action_of is) s (record s { regs = f }) h.words e.ends)
+      (linked_kept fs registers registers s.regs f (same 31 (omega arith) link) (λ r low high. same r (omega (arith, low)) (omega (arith, high))) (λ q w e. e)
+      h.linked) (λ r low high. same r low (omega (arith, high))) h
 
   module _ (registers : Places) (g : Arrays) (top : Stored) (fs : List Stored) (s : State) (h : Stands most total gs starts registers g (top ∷ fs) s) where
     -- a word of the top frame
@@ -379,7 +389,7 @@ module _ (most total : ℕ) (gs : List RGlobal) (starts : ℕ → ℕ) where
         word_means w w_v below false t = ((w_v, below), tt)
 
         held_means : (r : ℕ) → IsHome top.count (Reg r) → deferred r ≡ None → registers r ≡ Some v → Means (From (Held r)) v
-        held_means r ok none is = (let low = ok.0 in read_register s.regs r (omega (arith, low)) ∙ h.held r v ok.0 ok.1 (shown r v none is), ok.0)
+        held_means r ok none is = (let low = ok.0 in read_register s.regs r (omega (arith, low)) ∙ h.held r v ok.0 ok.1 (shown r v none is), ok)
 
         either : (r w : ℕ) → w ≡ v → (b : Bool) → nat_eq w 0 ≡ b → Means (From (Held r)) v → Means (if b then Zero else From (Held r)) v
         either r w w_v true t m = (sym w_v ∙ eqb-true w 0 t, tt)
@@ -397,7 +407,7 @@ module _ (most total : ℕ) (gs : List RGlobal) (starts : ℕ → ℕ) where
         copied_means q r e copy =
             let range = (ok.copied).range q r copy in
             let l = copy_holds (hide deferred registers) g top fs s h q r copy in
-            (read_register s.regs r (omega (arith, range.0)) ∙ l.copied q r v copy e, omega (arith, range.0))
+            (read_register s.regs r (omega (arith, range.0)) ∙ l.copied q r v copy e, (omega (arith, range.0), range.1))
 
         slot : (q : ℕ) → slice_get hs x ≡ Some (Slot q) → top.slots q ≡ Some v → (p : Option ℕ) → known x ≡ p → (c : Option ℕ) → copy_of top.copies q ≡ c
             → Means (deferred_source (deferred_at deferred (Some (in_frame q c))) (source p (Some (in_frame q c)))) v
@@ -461,7 +471,7 @@ module _ (most total : ℕ) (gs : List RGlobal) (starts : ℕ → ℕ) where
         (l : Option Location) → Type 0
     Go P go is s0 known x o hs l = (registers' slots' : Places) (s' : State) → 1 ≤ length is → RunsTo is s0 s'
         → Stands most total gs starts (hide (deferred_none l deferred) registers') g (with_slots top slots' ∷ fs) s'
-        → AreDeferred (deferred_none l deferred) registers' → IsKnown (places_with known x o) hs registers' slots'
+        → AreDeferred (deferred_none l deferred) registers' → IsKnown (places_with known x o) hs registers' slots' → Keeps l s.regs s'.regs
         → P (go registers' slots')
 
     -- and that a result for a slot is still in the slot's inner temporary
@@ -470,7 +480,25 @@ module _ (most total : ℕ) (gs : List RGlobal) (starts : ℕ → ℕ) where
     GoOn P go is s0 known x o hs l fresh = (registers' slots' : Places) (s' : State) → 1 ≤ length is → RunsTo is s0 s'
         → Stands most total gs starts (hide (deferred_none l deferred) registers') g (with_slots top slots' ∷ fs) s'
         → AreDeferred (deferred_none l deferred) registers' → IsKnown (places_with known x o) hs registers' slots'
-        → IsFresh fresh top.copies hs registers' slots' s' → P (go registers' slots')
+        → Keeps l s.regs s'.regs → IsFresh fresh top.copies hs registers' slots' s' → P (go registers' slots')
+
+    -- writes of a register for a location
+    held_keeps : (r : ℕ) (regs : ℕ → ℕ) → r < 28 → ((q : ℕ) → q ≢ r → regs q ≡ s.regs q) → Keeps (Some (Held r)) s.regs regs
+    held_keeps r regs high others = record { base = (let ne : 30 ≢ r = omega (arith, high) in others 30 ne); others = λ q _ ne. others q ne }
+
+    copy_keeps : (hs : List Home) → AreFrameHomes hs top.copies top.count → (j r : ℕ) → copy_of top.copies j ≡ Some r → (regs : ℕ → ℕ)
+        → ((q : ℕ) → q ≢ r → regs q ≡ s.regs q) → Keeps (Some (Copied r j)) s.regs regs
+    copy_keeps hs ok j r copy regs others =
+        let range = (ok.copied).range j r copy in
+        record { base = (let ne : 30 ≢ r = omega (arith, range.1) in others 30 ne); others = λ q _ ne. others q ne }
+
+    inner_keeps : (j : ℕ) (regs : ℕ → ℕ) → ((q : ℕ) → q ≢ inner_of (Some (InSlot j)) → regs q ≡ s.regs q) → Keeps (Some (InSlot j)) s.regs regs
+    inner_keeps j regs others =
+        let is_inner = inner_is (Some (InSlot j)) in
+        record {
+          base = others 30 (omega (arith, is_inner.high));
+          others = λ q low _. others q (omega (arith, is_inner.high, low));
+        }
 
     -- a result, computed into the register for its location
     pub finishes : (P : Run → Type 0) (go : Places → Places → Run) (hs : List Home) (x v : ℕ) (o : Option ℕ) (out : List ℕ) (known : Places)
@@ -498,7 +526,7 @@ module _ (most total : ℕ) (gs : List RGlobal) (starts : ℕ → ℕ) where
             let c = copy_stored (hide deferred registers) g top fs s h hs ok j r v copy lt e.below e.regs e.here e.others in
             f registers (places_with top.slots j (Some v)) (set_word s1 (e.regs 29 + 4 * j) v) (longer is (store_word_at r (4 * j) ∷ []) some)
             (runs_then e.runs c.0) c.1 are_deferred (known_slot known hs top.copies top.count registers top.slots x j v o ok at said k)
-            (record { by = λ c w is. absurd (none-some c is) })
+            (copy_keeps hs ok j r copy e.regs e.others) (record { by = λ c w is. absurd (none-some c is) })
         slot j at None none e f =
             let lt = ok.by x (Slot j) at in
             let s1 : State = record s { regs = e.regs } in
@@ -513,6 +541,7 @@ module _ (most total : ℕ) (gs : List RGlobal) (starts : ℕ → ℕ) where
             (runs_then e.runs store)
             (slot_written (hide deferred registers) g top fs s1 st j v lt e.below (λ r c. absurd (none-some r (sym none ∙ c)))) are_deferred
             (known_slot known hs top.copies top.count registers top.slots x j v o ok at said k)
+            (inner_keeps j e.regs e.others)
             (record {
               by = λ c w is there. ap e.regs (slot_inner j c at none (same_Some x c is)) ∙ e.here ∙ same_Some v w (sym (slot_read j at)
                   ∙ ap (read_home hs registers (places_with top.slots j (Some v))) (same_Some x c is) ∙ there);
@@ -529,7 +558,8 @@ module _ (most total : ℕ) (gs : List RGlobal) (starts : ℕ → ℕ) where
             (runs_then e.runs (runs_none (record s { regs = e.regs })))
             (written r v (record s { regs = e.regs }) (register_written (hide deferred registers) g top fs s h r v e.regs range.0 range.1 (λ k c. (ok.copied).idle x k r at c) e.below e.here e.others))
             (deferred_written deferred registers r (Some v) are_deferred)
-            (known_register known hs top.copies top.count registers top.slots x r v o ok at said k) (record { by = λ c w is. absurd (none-some c is) })
+            (known_register known hs top.copies top.count registers top.slots x r v o ok at said k) (held_keeps r e.regs range.1 e.others)
+            (record { by = λ c w is. absurd (none-some c is) })
         by (Some (Slot j)) at e f = slot j at (copy_of top.copies j) refl e f
 
     module _ (P : Run → Type 0) (go : Places → Places → Run) (hs : List Home) (x v : ℕ) (o : Option ℕ) (known : Places) (y : Source)
@@ -545,7 +575,7 @@ module _ (most total : ℕ) (gs : List RGlobal) (starts : ℕ → ℕ) where
           f (places_with registers r (Some v)) top.slots (record s { regs = c.regs }) (bring_some r y) c.runs
           (written r v (record s { regs = c.regs }) (register_written (hide deferred registers) g top fs s h r v c.regs range.0 range.1 (λ k q. (ok.copied).idle x k r at q) below c.here c.others))
           (deferred_written deferred registers r (Some v) are_deferred)
-          (known_register known hs top.copies top.count registers top.slots x r v o ok at said k)
+          (known_register known hs top.copies top.count registers top.slots x r v o ok at said k) (held_keeps r c.regs range.1 c.others)
 
       -- and into a slot
       puts_slot : (j : ℕ) → slice_get hs x ≡ Some (Slot j) → (c : Option ℕ) → copy_of top.copies j ≡ c
@@ -558,6 +588,7 @@ module _ (most total : ℕ) (gs : List RGlobal) (starts : ℕ → ℕ) where
           let m = copy_stored (hide deferred registers) g top fs s h hs ok j r v copy lt below c.regs c.here c.others in
           f registers (places_with top.slots j (Some v)) (set_word s1 (c.regs 29 + 4 * j) v) (longer (bring r y) (store_word_at r (4 * j) ∷ []) (bring_some r y))
           (runs_then c.runs m.0) m.1 are_deferred (known_slot known hs top.copies top.count registers top.slots x j v o ok at said k)
+          (copy_keeps hs ok j r copy c.regs c.others)
       puts_slot j at None none f =
           let lt = ok.by x (Slot j) at in
           let t = inner_of (Some (InSlot j)) in
@@ -571,7 +602,7 @@ module _ (most total : ℕ) (gs : List RGlobal) (starts : ℕ → ℕ) where
           f registers (places_with top.slots j (Some v)) (set_word s1 (s1.regs 29 + 4 * j) v)
           (longer_behind (fetch t y) (store_word_at (operand_register t y) (4 * j) ∷ []) (omega arith)) (runs_then c.runs store)
           (slot_written (hide deferred registers) g top fs s1 c.stands j v lt below (λ r c. absurd (none-some r (sym none ∙ c)))) are_deferred
-          (known_slot known hs top.copies top.count registers top.slots x j v o ok at said k)
+          (known_slot known hs top.copies top.count registers top.slots x j v o ok at said k) (inner_keeps j c.regs c.others)
 
     -- an operand into a location
     pub puts : (P : Run → Type 0) (go : Places → Places → Run) (hs : List Home) (x v : ℕ) (o : Option ℕ) (out : List ℕ) (known : Places) (y : Source)
@@ -643,14 +674,15 @@ module _ (most total : ℕ) (gs : List RGlobal) (starts : ℕ → ℕ) where
         → RunsTo (const_code (location_at top.copies (slice_get hs x)) v) s s'
         → Stands most total gs starts (hide (deferred_const (location_at top.copies (slice_get hs x)) v deferred) registers') g (with_slots top slots' ∷ fs) s'
         → AreDeferred (deferred_const (location_at top.copies (slice_get hs x)) v deferred) registers' → IsKnown (places_with known x (Some v)) hs registers' slots'
-        → P (go registers' slots'))
+        → Keeps (location_at top.copies (slice_get hs x)) s.regs s'.regs → P (go registers' slots'))
         → P (write_home hs registers top.slots x v out go)
     tells P go hs x v out known below ok k failed f = by (slice_get hs x) refl f
       where
         Put : Option Location → Type 0
         Put l = (registers' slots' : Places) (s' : State) → 1 ≤ length (const_code l v) → RunsTo (const_code l v) s s'
             → Stands most total gs starts (hide (deferred_const l v deferred) registers') g (with_slots top slots' ∷ fs) s'
-            → AreDeferred (deferred_const l v deferred) registers' → IsKnown (places_with known x (Some v)) hs registers' slots' → P (go registers' slots')
+            → AreDeferred (deferred_const l v deferred) registers' → IsKnown (places_with known x (Some v)) hs registers' slots' → Keeps l s.regs s'.regs
+            → P (go registers' slots')
 
         word : (b : Bool) → nat_eq v 0 ≡ b → Denotes top.count s (if b then Zero else Word v) v
         word true t = eqb-true v 0 t
@@ -664,7 +696,7 @@ module _ (most total : ℕ) (gs : List RGlobal) (starts : ℕ → ℕ) where
             → RunsTo (if b then bring r (word_source v) else nop ∷ []) s s'
             → Stands most total gs starts (hide (places_with deferred r (if b then None else Some v)) registers') g (with_slots top slots' ∷ fs) s'
             → AreDeferred (places_with deferred r (if b then None else Some v)) registers' → IsKnown (places_with known x (Some v)) hs registers' slots'
-            → P (go registers' slots'))
+            → Keeps (Some (Held r)) s.regs s'.regs → P (go registers' slots'))
             → P (go (places_with registers r (Some v)) top.slots)
         reg r at true lasts f = puts_held P go hs x v (Some v) known (word_source v) (word (nat_eq v 0) refl) below said ok k r at f
         reg r at false caller_saved f =
@@ -672,7 +704,7 @@ module _ (most total : ℕ) (gs : List RGlobal) (starts : ℕ → ℕ) where
             (fewer_stand (hide deferred registers) (hide (places_with deferred r (Some v)) (places_with registers r (Some v))) g (top ∷ fs) s
             (λ q w e. shown_deferred deferred registers r v q w e) h)
             (one_deferred deferred registers r v caller_saved below are_deferred)
-            (known_register known hs top.copies top.count registers top.slots x r v (Some v) ok at said k)
+            (known_register known hs top.copies top.count registers top.slots x r v (Some v) ok at said k) (record { base = refl; others = λ q low ne. refl })
 
         by : (p : Option Home) → slice_get hs x ≡ p → Put (location_at top.copies p) → P (with_value p out (λ h. write_at h registers top.slots v go))
         by None at f = failed

@@ -1,6 +1,6 @@
 -- Each instruction's code does what the instruction does.
-use Rattle.std.proofs.Common.{◌≡◌, ◌≢◌, ℕ, ℤ, zero, suc, ◌+◌, ◌^◌, ◌<◌, ◌≤◌, Bool, true, false, List, [], ◌∷◌, ◌++◌, take, map}
-use Rattle.std.proofs.Common.{length, Option, Some, None, refl, sym, ap, ◌∙◌, subst, arith, nat_eq, ltb-true, eqb-true}
+use Rattle.std.proofs.Common.{◌≡◌, ◌≢◌, ℕ, ℤ, zero, suc, ◌+◌, ◌^◌, ◌*◌, ◌<◌, ◌≤◌, Bool, true, false, true≢false, ◌&&◌, List, [], ◌∷◌, ◌++◌, take, map}
+use Rattle.std.proofs.Common.{length, Option, Some, None, refl, sym, ap, ◌∙◌, subst, arith, ap₂, nat_eq, ltb-true, eqb-true}
 use Rattle.std.specs.Prelude.{if◌then◌else◌, slice_get, nat_lt}
 use Rattle.std.proofs.lemmas.Option.{same_Some, none-some}
 use Rattle.words.specs.declared.operator.Operator.TheVariants as operators
@@ -37,18 +37,21 @@ use Rattle.mips_emit.specs.Frames.{AreFrameHomes}
 use Rattle.mips_homes.specs.declared.homed.SlotCopy.{SlotCopy}
 use Rattle.mips_homes.specs.Copies.{copy_of}
 use Rattle.mips_emit.specs.Locations.{in_frame, Facts, known_of, known_in, with_fact, learned, location_at, locations_of}
-use Rattle.mips_emit.specs.Locations.{last_of, inner_of, word_source, operand}
+use Rattle.mips_emit.specs.Locations.{last_of, inner_of, word_source, operand, index_register, index_of, kept_with}
+use Rattle.mips_emit.specs.declared.facts.Kept.{Kept}
+use Rattle.mips_emit.specs.declared.element.Reach.{Reach}
+use Rattle.mips_emit.specs.declared.element.Reach.TheVariants.{ByPointer, ByKept, ByNew}
 use Rattle.mips_emit.specs.Elements.{width_of, width_bytes, element_place, place_in, address_of_place, data_middle, direct, near, base_code}
-use Rattle.mips_emit.specs.Elements.{base_offset, element_base, element_offset}
+use Rattle.mips_emit.specs.Elements.{base_offset, base_word, shares_base, reach_by, element_base, element_offset}
 use Rattle.mips_emit.specs.Code.{fetch, operand_register, into, operation, immediate_of, is_symmetric, turned_immediate_of, turned_less_of, code_by_less, code_by_left}
 use Rattle.mips_emit.specs.Code.{multiple_of, multiple_code, code_by_multiple, code_by_word}
-use Rattle.mips_emit.specs.Code.{code_by_right, op_code, element_code, element_load, element_store, inst_code}
+use Rattle.mips_emit.specs.Code.{code_by_right, op_code, holds_base, reach_with, reach_of, element_code, element_load, element_store, inst_code}
 use Rattle.mips_emit.proofs.Runs.{RunsTo, runs_none, runs_then}
-use Rattle.mips_emit.proofs.View.{shown_at, word_of_offset, shown_below, set, set_at, set_sets, read_register, put_here, put_other, IsTarget, IsInner, inner_is, inner_target, loads_at, stores_at, near_word, based}
+use Rattle.mips_emit.proofs.View.{shown_at, word_of_offset, shown_below, set, set_at, set_sets, read_register, put_here, put_other, IsTarget, IsInner, inner_is, inner_target, loads_at, stores_at, near_word, read_other, Based, based, from_base}
 use Rattle.mips_emit.proofs.Stands.{Stored, with_slots, Stands}
 use Rattle.mips_emit.proofs.Operands.{IsLast, none_last, known_with, known_without, IsKnown, Denotes, IsAway, operand_register_kept, longer_behind}
-use Rattle.mips_emit.proofs.Operands.{Ends, hide, AreDeferred}
-use Rattle.mips_emit.proofs.Homes.{regs_kept, tells}
+use Rattle.mips_emit.proofs.Operands.{Ends, hide, AreDeferred, IsKept, kept_here, kept_same, kept_written}
+use Rattle.mips_emit.proofs.Homes.{regs_kept, base_changed, tells}
 use Rattle.mips_emit.proofs.Homes.{operand_below, operand_means, fetches, sets_kept, finishes, puts, stands_with}
 use Rattle.mips_emit.proofs.Globals.{kept_is, data_open, data_written, stored_at}
 use Rattle.mips_emit.proofs.Operations.{Gives, alu_gives, operation_gives, immediate_gives, less_gives, symmetric}
@@ -112,17 +115,21 @@ word_means count w v s e lt = go (nat_eq w 0) refl
     go true t = sym e ∙ eqb-true w 0 t
     go false t = (e, lt)
 
-base_kept : (o : Option ℕ) (f f' : ℕ → ℕ) → ((r : ℕ) → r ≢ 2 → f' r ≡ f r) → read 0 f' (element_base o) ≡ read 0 f (element_base o)
-base_kept None f f' same = same 1 (λ e. absurd (omega (arith, e)))
-base_kept (Some p) f f' same = same 28 (λ e. absurd (omega (arith, e)))
+pub and_first : (a b : Bool) → (a && b) ≡ true → a ≡ true
+and_first true b e = refl
+and_first false b e = absurd (true≢false (sym e))
+
+pub and_second : (a b : Bool) → (a && b) ≡ true → b ≡ true
+and_second true b e = e
+and_second false b e = absurd (true≢false (sym e))
 
 -- an operand away from the lower registers isn't shown by register 2
 operand_register_apart : (x : Source) → IsAway x → operand_register 1 x ≢ 2
 operand_register_apart Zero away = λ e. absurd (omega (arith, e))
 operand_register_apart (Word w) away = λ e. absurd (omega (arith, e))
-operand_register_apart (From (Held r)) away = λ e. absurd (omega (arith, e, away))
+operand_register_apart (From (Held r)) away = λ e. absurd (omega (arith, e, away.0))
 operand_register_apart (From (InSlot k)) away = λ e. absurd (omega (arith, e))
-operand_register_apart (From (Copied r k)) away = λ e. absurd (omega (arith, e, away))
+operand_register_apart (From (Copied r k)) away = λ e. absurd (omega (arith, e, away.0))
 
 module _ (most total : ℕ) (gs : List RGlobal) (starts : ℕ → ℕ) where
   -- HI and LO change
@@ -131,9 +138,12 @@ module _ (most total : ℕ) (gs : List RGlobal) (starts : ℕ → ℕ) where
   product_kept registers g fs s hi lo words h =
       stands_with most total gs starts registers registers g fs s s.regs hi lo words h.linked refl refl h.held h
 
-  -- a state in which a register and an offset lead to a place of the data
-  pub record AtElement (registers : Places) (g : Arrays) (fs : List Stored) (s : State) (is : List Plain) (w : Width) (b : ℕ) (z : ℤ) (p : ℕ) : Type 0 where
+  -- a state in which a register and an offset lead to a place of the data, and what base is kept there
+  pub record AtElement (registers : Places) (g : Arrays) (fs : List Stored) (s : State) (is : List Plain) (w : Width) (b : ℕ) (z : ℤ) (p : ℕ)
+      (kept : Option Kept) : Type 0 where
     pub to : State
+    pub apart : b ≢ 2
+    pub is_kept : IsKept gs starts kept to.regs
     pub runs : RunsTo is s to
     pub here : wrap (read 0 to.regs b + word_of_offset z) ≡ address_of_place p
     pub ok : is_open w to.mapped (address_of_place p) ≡ true
@@ -148,37 +158,48 @@ module _ (most total : ℕ) (gs : List RGlobal) (starts : ℕ → ℕ) where
       by widths.Word p le few = omega (arith, le, few)
       by widths.Byte p le few = omega (arith, le, few)
 
-  points : (registers : Places) (g : Arrays) (fs : List Stored) (s : State) (q a i v : ℕ) → read 0 s.regs q ≡ i → q ≢ 2 → element_at g a i ≡ Some v
-      → Stands most total gs starts registers g fs s
-      → AtElement registers g fs s (base_code (width_of gs a) (starts a) q) (width_of gs a) 1 (base_offset (starts a)) (place_in gs starts a i)
-  points registers g fs s q a i v is apart there h =
-      let c = based (width_of gs a) s q (starts a) i is apart h.gp (element_few registers g fs s a i v there h) in
-      record {
-        to = record s { regs = c.regs };
-        runs = c.runs;
-        here = c.here;
-        ok = data_open most total gs starts registers g fs s a i v there h;
-        stands = regs_kept most total gs starts registers g fs (base_code (width_of gs a) (starts a) q) s c.regs c.runs
-            (λ r low high. c.others r (λ e. absurd (omega (arith, e, low))) (λ e. absurd (omega (arith, e, low)))) h;
-      }
+  -- a base for the element is in register b
+  at_base : (registers : Places) (g : Arrays) (fs : List Stored) (s m : State) (is : List Plain) (b a i v : ℕ) (kept : Option Kept) → RunsTo is s m → 0 < b
+      → b ≢ 2 → m.regs b ≡ width_bytes (width_of gs a) * i + base_word (starts a) → element_at g a i ≡ Some v → IsKept gs starts kept m.regs
+      → Stands most total gs starts registers g fs m
+      → AtElement registers g fs s is (width_of gs a) b (base_offset (starts a)) (place_in gs starts a i) kept
+  at_base registers g fs s m is b a i v kept run low apart base there k h = record {
+    to = m;
+    apart = apart;
+    is_kept = k;
+    runs = run;
+    here = ap (λ r. wrap (r + word_of_offset (base_offset (starts a)))) (read_register m.regs b low)
+        ∙ from_base (starts a) (width_bytes (width_of gs a) * i) (m.regs b) (element_few registers g fs m a i v there h) base;
+    ok = data_open most total gs starts registers g fs m a i v there h;
+    stands = h;
+  }
+
+  -- it is made there
+  made : (registers : Places) (g : Arrays) (fs : List Stored) (s : State) (t q a i v : ℕ) → IsTarget t → t ≢ 2 → t ≢ 28 → read 0 s.regs q ≡ i → q ≢ 2
+      → element_at g a i ≡ Some v → Stands most total gs starts registers g fs s
+      → Based (base_code (width_of gs a) t (starts a) q) s t (width_bytes (width_of gs a) * i + base_word (starts a))
+  made registers g fs s t q a i v ok t_apart middle is apart there h =
+      based (width_of gs a) s t q (starts a) i ok t_apart middle is apart h.gp (element_few registers g fs s a i v there h)
 
   module _ (registers : Places) (g : Arrays) (top : Stored) (fs : List Stored) (s : State) (h : Stands most total gs starts registers g (top ∷ fs) s) where
     -- instructions that compute a word in register d
     pub record Computed (is : List Plain) (d v : ℕ) : Type 0 where
       pub to : State
+      pub others : (q : ℕ) → 4 ≤ q → to.regs q ≡ s.regs q
       pub stands : Stands most total gs starts registers g (top ∷ fs) to
       pub ends : Ends is s to d v
       pub some : 1 ≤ length is
 
     -- the last of them from a state that the others have reached
-    computed : (is js : List Plain) (m : State) (d u : ℕ) → Stands most total gs starts registers g (top ∷ fs) m
+    computed : (is js : List Plain) (m : State) (d u : ℕ) → Stands most total gs starts registers g (top ∷ fs) m → ((q : ℕ) → 4 ≤ q → m.regs q ≡ s.regs q)
         → ((t : State) → RunsTo is m t → RunsTo js s t) → (1 ≤ length is → 1 ≤ length js) → u < 2 ^ 32
         → Gives is m d u → Computed js d u
-    computed is js m d u st lead some lt c =
+    computed is js m d u st others lead some lt c =
         let all : State = record m { regs = c.regs; hi = c.hi; lo = c.lo } in
         let words = run_words (map action_of is) m all st.words (c.runs).ends in
         record {
           to = record m { hi = c.hi; lo = c.lo };
+          others = others;
           stands = product_kept registers g (top ∷ fs) m c.hi c.lo (record {
             regs = (st.words).regs;
             hi = words.hi;
@@ -199,7 +220,7 @@ module _ (most total : ℕ) (gs : List RGlobal) (starts : ℕ → ℕ) where
     one_operand t d v u x is low high mx lt gives =
         let a = fetches most total gs starts registers g top fs s h t v x low high (mx s h) in
         let s1 : State = record s { regs = a.regs } in
-        computed is (fetch t x ++ is) s1 d u a.stands (λ m e. runs_then a.runs e) (λ some. longer_behind (fetch t x) is some) lt (gives s1 a.here)
+        computed is (fetch t x ++ is) s1 d u a.stands (λ q up. a.others q (omega (arith, high, up))) (λ m e. runs_then a.runs e) (λ some. longer_behind (fetch t x) is some) lt (gives s1 a.here)
 
     -- both operands
     record Both (t : ℕ) (x y : Source) (v w : ℕ) : Type 0 where
@@ -207,6 +228,7 @@ module _ (most total : ℕ) (gs : List RGlobal) (starts : ℕ → ℕ) where
       runs : (is : List Plain) (m : State) → RunsTo is to m → RunsTo (fetch t x ++ (fetch 2 y ++ is)) s m
       left : read 0 to.regs (operand_register t x) ≡ v
       right : read 0 to.regs (operand_register 2 y) ≡ w
+      others : (q : ℕ) → 4 ≤ q → to.regs q ≡ s.regs q
       stands : Stands most total gs starts registers g (top ∷ fs) to
 
     both : (t : ℕ) (x y : Source) (v w : ℕ) → IsInner t → IsAway x → Means x v → Means y w → Both t x y v w
@@ -219,6 +241,7 @@ module _ (most total : ℕ) (gs : List RGlobal) (starts : ℕ → ℕ) where
           runs = λ is m e. runs_then a.runs (runs_then b.runs e);
           left = operand_register_kept x t 2 a.regs b.regs away is_inner.apart (omega arith) b.others ∙ a.here;
           right = b.here;
+          others = λ q up. (let ne : q ≢ 2 = omega (arith, up) in b.others q ne) ∙ a.others q (omega (arith, is_inner.high, up));
           stands = b.stands;
         }
 
@@ -238,7 +261,7 @@ module _ (most total : ℕ) (gs : List RGlobal) (starts : ℕ → ℕ) where
         let left : read 0 c.regs 2 ≡ is.shown = read_register c.regs 2 (omega arith) ∙ c.here in
         let right : read 0 c.regs q ≡ v = operand_register_kept x t 2 a.regs c.regs away is_inner.apart (omega arith) c.others ∙ a.here in
         computed (sum ∷ []) (multiple_code t d m x) s2 d u (sets_kept most total gs starts registers g top fs s1 a.stands (shift ∷ []) 2 is.shown (omega arith) c)
-        (λ m e. runs_then a.runs (runs_then c.runs e)) (λ some. longer_behind (fetch t x) (shift ∷ sum ∷ []) (omega arith)) lt
+        (λ q up. (let ne : q ≢ 2 = omega (arith, up) in c.others q ne) ∙ a.others q (omega (arith, is_inner.high, up))) (λ m e. runs_then a.runs (runs_then c.runs e)) (λ some. longer_behind (fetch t x) (shift ∷ sum ∷ []) (omega arith)) lt
         (alu_gives m.op s2 d 2 q is.shown v u ok left right is.sums)
 
     pub computes : (op : Op) (t d v w u : ℕ) (k l : Option ℕ) (x y : Source) → IsInner t → IsTarget d → IsAway x → IsAway y → Means x v → Means y w
@@ -253,7 +276,7 @@ module _ (most total : ℕ) (gs : List RGlobal) (starts : ℕ → ℕ) where
         plainly =
             let c = both t x y v w is_inner away mx my in
             let last = operation op d (operand_register t x) (operand_register 2 y) in
-            computed last (fetch t x ++ (fetch 2 y ++ last)) c.to d u c.stands (c.runs last)
+            computed last (fetch t x ++ (fetch 2 y ++ last)) c.to d u c.stands c.others (c.runs last)
             (λ some. longer_behind (fetch t x) (fetch 2 y ++ last) (longer_behind (fetch 2 y) last some)) below
             (operation_gives op c.to d (operand_register t x) (operand_register 2 y) v w u ok c.left c.right vb wb e)
 
@@ -294,66 +317,124 @@ module _ (most total : ℕ) (gs : List RGlobal) (starts : ℕ → ℕ) where
         by_multiple None None _ _ = by_right l lw (immediate_of op d (operand_register t x) l) refl
 
     -- an element of a global
-    pub elements : (known : Option ℕ) (x : Source) (a i v : ℕ) → IsAway x → Means x i → ((w : ℕ) → known ≡ Some w → w ≡ i) → element_at g a i ≡ Some v
-        → AtElement registers g (top ∷ fs) s (element_code (width_of gs a) (starts a) (direct (width_of gs a) (starts a) known) x) (width_of gs a)
-        (element_base (direct (width_of gs a) (starts a) known)) (element_offset (starts a) (direct (width_of gs a) (starts a) known)) (place_in gs starts a i)
-    elements known x a i v away mx said there = by known said
-      where
-        E : Option ℕ → Type 0
-        E o = AtElement registers g (top ∷ fs) s (element_code (width_of gs a) (starts a) o x) (width_of gs a) (element_base o) (element_offset (starts a) o)
-            (place_in gs starts a i)
+    module _ (kept : Option Kept) (a i v : ℕ) (there : element_at g a i ≡ Some v) (k : IsKept gs starts kept s.regs) where
+      abbrev Reached : Reach → Source → Option Kept → Type 0
+      Reached by x now = AtElement registers g (top ∷ fs) s (element_code (width_of gs a) (starts a) by x) (width_of gs a) (element_base by)
+          (element_offset (starts a) by) (place_in gs starts a i) now
 
-        far : AtElement registers g (top ∷ fs) s (fetch 1 x ++ base_code (width_of gs a) (starts a) (operand_register 1 x)) (width_of gs a) 1 (base_offset (starts a))
-            (place_in gs starts a i)
-        far =
-            let c = fetches most total gs starts registers g top fs s h 1 i x (omega arith) (omega arith) (mx s h) in
-            let p = points registers g (top ∷ fs) (record s { regs = c.regs }) (operand_register 1 x) a i v c.here (operand_register_apart x away) there c.stands in
-            record { to = p.to; runs = runs_then c.runs p.runs; here = p.here; ok = p.ok; stands = p.stands }
+      abbrev this : ℕ → Option Kept
+      this r = Some (record { global = a; index = r })
 
-        close : (p : ℕ) → p ≡ place_in gs starts a i → nat_lt p 65536 ≡ true
-            → AtElement registers g (top ∷ fs) s [] (width_of gs a) 28 (near p) (place_in gs starts a i)
-        close p same lt =
-            let below : p < 65536 = ltb-true p 65536 lt in
-            let none : p + 0 ≡ p = omega arith in
-            let from : wrap (0 + data_middle + word_of_offset (near p)) ≡ address_of_place (p + 0) = near_word p 0 below (omega (arith, below)) in
-            record {
-              to = s;
-              runs = runs_none s;
-              here = ap (λ x. wrap (x + word_of_offset (near p))) h.gp ∙ from ∙ ap address_of_place (none ∙ same);
-              ok = data_open most total gs starts registers g (top ∷ fs) s a i v there h;
-              stands = h;
-            }
+      -- from a base in register 1
+      far : (x : Source) → IsAway x → Means x i → Reached (ByNew 1) x kept
+      far x away mx =
+          let c = fetches most total gs starts registers g top fs s h 1 i x (omega arith) (omega arith) (mx s h) in
+          let s1 : State = record s { regs = c.regs } in
+          let q = operand_register 1 x in
+          let b = made registers g (top ∷ fs) s1 1 q a i v (record { low = omega arith; high = omega arith }) (λ e. absurd (omega (arith, e)))
+          (λ e. absurd (omega (arith, e))) c.here (operand_register_apart x away) there c.stands in
+          at_base registers g (top ∷ fs) s (record s1 { regs = b.regs }) (fetch 1 x ++ base_code (width_of gs a) 1 (starts a) q) 1 a i v kept
+          (runs_then c.runs b.runs) (omega arith) (λ e. absurd (omega (arith, e))) b.here there
+          (kept_same gs starts kept s.regs b.regs (λ r low. b.others r (omega (arith, low)) (omega (arith, low)) ∙ c.others r (omega (arith, low))) k)
+          (regs_kept most total gs starts registers g (top ∷ fs) (base_code (width_of gs a) 1 (starts a) q) s1 b.regs b.runs
+          (λ r low high. b.others r (omega (arith, low)) (omega (arith, low))) c.stands)
 
-        by : (o : Option ℕ) → ((w : ℕ) → o ≡ Some w → w ≡ i) → E (direct (width_of gs a) (starts a) o)
-        by None said = far
-        by (Some w) said = go (nat_lt w 65536) (nat_lt (element_place (width_of gs a) (starts a) w) 65536) refl
-          where
-            go : (b c : Bool) → nat_lt (element_place (width_of gs a) (starts a) w) 65536 ≡ c
-                → E (if b then (if c then Some (element_place (width_of gs a) (starts a) w) else None) else None)
-            go false c e = far
-            go true false e = far
-            go true true e = close (element_place (width_of gs a) (starts a) w) (ap (element_place (width_of gs a) (starts a)) (said w refl)) e
+      -- from a base that is made in register 30, and kept
+      anew : (r : ℕ) → IsAway (From (Held r)) → read 0 s.regs r ≡ i → Reached (ByNew 30) (From (Held r)) (this r)
+      anew r away is =
+          let low = away.0 in
+          let high = away.1 in
+          let b = made registers g (top ∷ fs) s 30 r a i v (record { low = omega arith; high = omega arith }) (λ e. absurd (omega (arith, e)))
+          (λ e. absurd (omega (arith, e))) is (omega (arith, low)) there h in
+          let index : i ≡ b.regs r = sym is ∙ read_register s.regs r (omega (arith, low)) ∙ sym (b.others r (omega (arith, high)) (omega (arith, low))) in
+          at_base registers g (top ∷ fs) s (record s { regs = b.regs }) (base_code (width_of gs a) 30 (starts a) r) 30 a i v (this r) b.runs (omega arith)
+          (λ e. absurd (omega (arith, e))) b.here there
+          (kept_here gs starts a r b.regs low (b.here ∙ ap (λ i. width_bytes (width_of gs a) * i + base_word (starts a)) index))
+          (base_changed most total gs starts registers g (top ∷ fs) (base_code (width_of gs a) 30 (starts a) r) s b.regs b.runs
+          (λ q up ne. b.others q ne (omega (arith, up))) h)
+
+      -- from the base that is kept
+      again : (r : ℕ) → IsAway (From (Held r)) → read 0 s.regs r ≡ i → (o : Option Kept) → kept ≡ o → holds_base gs starts o a (Some r) ≡ true
+          → Reached ByKept (From (Held r)) (this r)
+      again r away is None same e = absurd (true≢false (sym e))
+      again r away is (Some j) same e =
+          let low = away.0 in
+          let b = j.global in
+          let register : j.index ≡ r = eqb-true j.index r (and_first (nat_eq j.index r) (shares_base gs starts b a) e) in
+          let shares = and_second (nat_eq j.index r) (shares_base gs starts b a) e in
+          let bytes = width_bytes (width_of gs b) in
+          let bytes' = width_bytes (width_of gs a) in
+          let word = base_word (starts b) in
+          let word' = base_word (starts a) in
+          let same_bytes : bytes ≡ bytes' = eqb-true bytes bytes' (and_first (nat_eq bytes bytes') (nat_eq word word') shares) in
+          let same_word : word ≡ word' = eqb-true word word' (and_second (nat_eq bytes bytes') (nat_eq word word') shares) in
+          let index : s.regs r ≡ i = sym (read_register s.regs r (omega (arith, low))) ∙ is in
+          let base : s.regs 30 ≡ bytes' * s.regs r + word' =
+          k.base j same ∙ ap₂ (λ n m. n * s.regs j.index + m) same_bytes same_word ∙ ap (λ q. bytes' * s.regs q + word') register in
+          at_base registers g (top ∷ fs) s s [] 30 a i v (this r) (runs_none s) (omega arith) (λ e. absurd (omega (arith, e)))
+          (base ∙ ap (λ i. bytes' * i + word') index) there (kept_here gs starts a r s.regs low base) h
+
+      -- from the global pointer
+      close : (x : Source) (p : ℕ) → p ≡ place_in gs starts a i → nat_lt p 65536 ≡ true → Reached (ByPointer p) x kept
+      close x p same lt =
+          let below : p < 65536 = ltb-true p 65536 lt in
+          let none : p + 0 ≡ p = omega arith in
+          let from : wrap (0 + data_middle + word_of_offset (near p)) ≡ address_of_place (p + 0) = near_word p 0 below (omega (arith, below)) in
+          record {
+            to = s;
+            apart = λ e. absurd (omega (arith, e));
+            is_kept = k;
+            runs = runs_none s;
+            here = ap (λ x. wrap (x + word_of_offset (near p))) h.gp ∙ from ∙ ap address_of_place (none ∙ same);
+            ok = data_open most total gs starts registers g (top ∷ fs) s a i v there h;
+            stands = h;
+          }
+
+      pub elements : (known : Option ℕ) (x : Source) → IsAway x → Means x i → ((w : ℕ) → known ≡ Some w → w ≡ i)
+          → Reached (reach_with gs starts kept a known x) x (kept_with a (index_register known x) kept)
+      elements None Zero away mx said = far Zero away mx
+      elements None (Word w) away mx said = far (Word w) away mx
+      elements None (From (InSlot j)) away mx said = far (From (InSlot j)) away mx
+      elements None (From (Copied r j)) away mx said = far (From (Copied r j)) away mx
+      elements None (From (Held r)) away mx said = go (holds_base gs starts kept a (Some r)) refl
+        where
+          go : (b : Bool) → holds_base gs starts kept a (Some r) ≡ b → Reached (if b then ByKept else ByNew 30) (From (Held r)) (this r)
+          go true e = again r away (mx s h) kept refl e
+          go false e = anew r away (mx s h)
+      elements (Some w) x away mx said = go (nat_lt w 65536) (nat_lt (element_place (width_of gs a) (starts a) w) 65536) refl
+        where
+          place : ℕ
+          place = element_place (width_of gs a) (starts a) w
+
+          go : (b c : Bool) → nat_lt (element_place (width_of gs a) (starts a) w) 65536 ≡ c
+              → Reached (reach_by (if b then (if c then Some (element_place (width_of gs a) (starts a) w) else None) else None) None
+              (holds_base gs starts kept a None)) x kept
+          go false c e = far x away mx
+          go true false e = far x away mx
+          go true true e = close x (element_place (width_of gs a) (starts a) w) (ap (element_place (width_of gs a) (starts a)) (said w refl)) e
 
   module _ (g : Arrays) (fs : List Stored) (hs : List Home) (P : Run → Type 0) (out : List ℕ) (failed : P (Failed out)) where
     pub performs : (i : RInst) (facts : Facts) (registers : Places) (top : Stored) (s : State) (go : Places → Places → Arrays → Run)
         → AreFrameHomes hs top.copies top.count → IsKnown (known_in facts) hs registers top.slots → AreDeferred facts.deferred registers
-        → Stands most total gs starts (hide facts.deferred registers) g (top ∷ fs) s
+        → IsKept gs starts facts.kept s.regs → Stands most total gs starts (hide facts.deferred registers) g (top ∷ fs) s
         → ((registers' slots' : Places) (g' : Arrays) (s' : State) → 1 ≤ length (inst_code gs starts (locations_of top.copies hs) facts i)
         → RunsTo (inst_code gs starts (locations_of top.copies hs) facts i) s s' → Stands most total gs starts (hide (learned (locations_of top.copies hs) i facts).deferred registers') g' (with_slots top slots' ∷ fs) s'
-        → AreDeferred (learned (locations_of top.copies hs) i facts).deferred registers' → IsKnown (known_in (learned (locations_of top.copies hs) i facts)) hs registers' slots' → IsLast (last_of (locations_of top.copies hs) facts i) top.copies hs registers' slots' s'
+        → AreDeferred (learned (locations_of top.copies hs) i facts).deferred registers' → IsKept gs starts (learned (locations_of top.copies hs) i facts).kept s'.regs → IsKnown (known_in (learned (locations_of top.copies hs) i facts)) hs registers' slots' → IsLast (last_of (locations_of top.copies hs) facts i) top.copies hs registers' slots' s'
         → P (go registers' slots' g'))
         → P (with_inst gs i hs registers top.slots g out go)
-    performs (Const d w) facts registers top s go ok k lz h f =
+    performs (Const d w) facts registers top s go ok k lz kp h f =
         tells most total gs starts facts.deferred registers g top fs s h lz P (λ r s. go r s g) hs d (wrap w) out (known_in facts) (omega arith) ok k failed
-        (λ r' s' to some e st lz' kn. f r' s' g to some e st lz' (fact_known hs r' s' facts d (Some (wrap w)) kn) (none_last top.copies hs r' s' to))
-    performs (Move d a) facts registers top s go ok k lz h f =
+        (λ r' s' to some e st lz' kn keeps. f r' s' g to some e st lz' (kept_written gs starts (locations_of top.copies hs d) facts.kept s.regs to.regs keeps kp)
+        (fact_known hs r' s' facts d (Some (wrap w)) kn) (none_last top.copies hs r' s' to))
+    performs (Move d a) facts registers top s go ok k lz kp h f =
         value_or_failed P (read_home hs registers top.slots a) out _ failed (λ v e.
         let x = operand_means most total gs starts facts.deferred registers g top fs s h lz (known_in facts) hs a v ok k e in
         puts most total gs starts facts.deferred registers g top fs s h lz P (λ r s. go r s g) hs d v (known_in facts a) out (known_in facts)
         (operand (locations_of top.copies hs) facts a) x.0 (operand_below most total gs starts facts.deferred registers g top fs s h lz hs a v ok e)
         (λ u is. same_Some u v (sym (k.by a u is) ∙ e)) ok k failed
-        (λ r' s' to some e st lz' kn. f r' s' g to some e st lz' (fact_known hs r' s' facts d (known_in facts a) kn) (none_last top.copies hs r' s' to)))
-    performs (Bin op d a b) facts registers top s go ok k lz h f =
+        (λ r' s' to some e st lz' kn keeps. f r' s' g to some e st lz' (kept_written gs starts (locations_of top.copies hs d) facts.kept s.regs to.regs keeps kp)
+        (fact_known hs r' s' facts d (known_in facts a) kn) (none_last top.copies hs r' s' to)))
+    performs (Bin op d a b) facts registers top s go ok k lz kp h f =
         value_or_failed P (read_home hs registers top.slots a) out _ failed (λ v ev.
         value_or_failed P (read_home hs registers top.slots b) out _ failed (λ w ew.
         value_or_failed P (op_result op v w) out _ failed (λ u eu.
@@ -372,18 +453,21 @@ module _ (most total : ℕ) (gs : List RGlobal) (starts : ℕ → ℕ) where
         (op_code op (inner_of (locations_of top.copies hs d)) (into (locations_of top.copies hs d)) (known_in facts a) (known_in facts b)
         (operand (locations_of top.copies hs) facts a) (operand (locations_of top.copies hs) facts b)) s z.ends z.some
         (λ c is. sym (same_Some u c is)) ok (known_with known hs registers top.slots b w ew k) failed
-        (λ r' s' to some e st lz' kn new. f r' s' g to some e st lz' (fact_known hs r' s' facts d None
-        (known_without known hs r' s' b w d u (λ c is. same_Some c w (sym (k.by b c is) ∙ ew)) kn))
+        (λ r' s' to some e st lz' kn keeps new. f r' s' g to some e st lz'
+        (kept_written gs starts (locations_of top.copies hs d) facts.kept (z.to).regs to.regs keeps (kept_same gs starts facts.kept s.regs (z.to).regs z.others kp))
+        (fact_known hs r' s' facts d None (known_without known hs r' s' b w d u (λ c is. same_Some c w (sym (k.by b c is) ∙ ew)) kn))
         (record { fresh = new; comparison = λ m v' is. absurd (none-some m is); result = λ m v' is. absurd (none-some m is) })))))
-    performs (Load d a i) facts registers top s go ok k lz h f =
+    performs (Load d a i) facts registers top s go ok k lz kp h f =
         value_or_failed P (read_home hs registers top.slots i) out _ failed (λ v ev.
         value_or_failed P (element_at g a v) out _ failed (λ w there.
         let known = known_in facts in
         let x = operand (locations_of top.copies hs) facts i in
         let width = width_of gs a in
-        let o = direct width (starts a) (known_in facts i) in
-        let p = elements (hide facts.deferred registers) g top fs s h (known_in facts i) x a v w (operand_means most total gs starts facts.deferred registers g top fs s h lz known hs i v ok k ev).1
-        (λ s h. (operand_means most total gs starts facts.deferred registers g top fs s h lz known hs i v ok k ev).0) (λ u is. same_Some u v (sym (k.by i u is) ∙ ev)) there in
+        let o = reach_of gs starts (locations_of top.copies hs) facts a i in
+        let p = elements (hide facts.deferred registers) g top fs s h facts.kept a v w there kp (known_in facts i) x
+        (operand_means most total gs starts facts.deferred registers g top fs s h lz known hs i v ok k ev).1
+        (λ s h. (operand_means most total gs starts facts.deferred registers g top fs s h lz known hs i v ok k ev).0) (λ u is. same_Some u v (sym (k.by i u is) ∙ ev)) in
+        let now = kept_with a (index_of (locations_of top.copies hs) facts i) facts.kept in
         let to = p.to in
         let at = address_of_place (place_in gs starts a v) in
         let d' = into (locations_of top.copies hs d) in
@@ -394,9 +478,10 @@ module _ (most total : ℕ) (gs : List RGlobal) (starts : ℕ → ℕ) where
         finishes most total gs starts facts.deferred registers g top fs to p.stands lz P (λ r s. go r s g) hs d w None out known is s
         (ends_set is s to d' (shown_at width to at) w (into_target hs top.copies top.count d ok) (runs_then p.runs load) value below)
         (longer_behind (element_code width (starts a) o x) _ (omega arith)) (λ w e. absurd (none-some w e)) ok k failed
-        (λ r' s' to some e st lz' kn new. f r' s' g to some e st lz' (fact_known hs r' s' facts d None kn)
+        (λ r' s' end some e st lz' kn keeps new. f r' s' g end some e st lz' (kept_written gs starts (locations_of top.copies hs d) now to.regs end.regs keeps p.is_kept)
+        (fact_known hs r' s' facts d None kn)
         (record { fresh = new; comparison = λ m v' is. absurd (none-some m is); result = λ m v' is. absurd (none-some m is) }))))
-    performs (Store a i b) facts registers top s go ok k lz h f =
+    performs (Store a i b) facts registers top s go ok k lz kp h f =
         value_or_failed P (read_home hs registers top.slots i) out _ failed (λ v ev.
         value_or_failed P (read_home hs registers top.slots b) out _ failed (λ w ew.
         value_or_failed P (kept_in gs a w) out _ failed (λ c ec.
@@ -406,22 +491,24 @@ module _ (most total : ℕ) (gs : List RGlobal) (starts : ℕ → ℕ) where
         let at_g = stored_at g a v c g' eg in
         let x = operand (locations_of top.copies hs) facts i in
         let y = operand (locations_of top.copies hs) facts b in
-        let o = direct width (starts a) (known_in facts i) in
-        let p = elements (hide facts.deferred registers) g top fs s h (known_in facts i) x a v at_g.old
+        let o = reach_of gs starts (locations_of top.copies hs) facts a i in
+        let p = elements (hide facts.deferred registers) g top fs s h facts.kept a v at_g.old at_g.was kp (known_in facts i) x
         (operand_means most total gs starts facts.deferred registers g top fs s h lz known hs i v ok k ev).1
-        (λ s h. (operand_means most total gs starts facts.deferred registers g top fs s h lz known hs i v ok k ev).0) (λ u is. same_Some u v (sym (k.by i u is) ∙ ev)) at_g.was in
+        (λ s h. (operand_means most total gs starts facts.deferred registers g top fs s h lz known hs i v ok k ev).0) (λ u is. same_Some u v (sym (k.by i u is) ∙ ev)) in
+        let now = kept_with a (index_of (locations_of top.copies hs) facts i) facts.kept in
         let m = p.to in
         let at = address_of_place (place_in gs starts a v) in
         let z = fetches most total gs starts (hide facts.deferred registers) g top fs m p.stands 2 w y (omega arith) (omega arith)
         (operand_means most total gs starts facts.deferred registers g top fs m p.stands lz known hs b w ok k ew).0 in
         let to : State = record m { regs = z.regs } in
         let here : wrap (read 0 z.regs (element_base o) + word_of_offset (element_offset (starts a) o)) ≡ at =
-        ap (λ r. wrap (r + word_of_offset (element_offset (starts a) o))) (base_kept o m.regs z.regs z.others) ∙ p.here in
+        ap (λ r. wrap (r + word_of_offset (element_offset (starts a) o))) (read_other m.regs z.regs (element_base o) (λ _. z.others (element_base o) p.apart)) ∙ p.here in
         let last = element_store width (operand_register 2 y) (starts a) o in
         let store = stores_at width to (operand_register 2 y) (element_base o) (element_offset (starts a) o) at here p.ok in
         let store' : RunsTo (last ∷ []) to (set_at width to at w) = subst (λ w. RunsTo (last ∷ []) to (set_at width to at w)) z.here store in
         f registers top.slots g' (set_at width to at w) (longer_behind (element_code width (starts a) o x) _
         (longer_behind (fetch 2 y) (last ∷ []) (omega arith))) (runs_then p.runs (runs_then z.runs store'))
         (data_written most total gs starts (hide facts.deferred registers) g (top ∷ fs) to a v w g' (operand_below most total gs starts facts.deferred registers g top fs s h lz hs b w ok ew)
-        (ap (arrays_with g a v) (sym (kept_is gs a w c ec)) ∙ eg) z.stands) lz k
+        (ap (arrays_with g a v) (sym (kept_is gs a w c ec)) ∙ eg) z.stands) lz
+        (kept_same gs starts now m.regs z.regs (λ q up. (let ne : q ≢ 2 = omega (arith, up) in z.others q ne)) p.is_kept) k
         (none_last top.copies hs registers top.slots (set_at width to at w))))))

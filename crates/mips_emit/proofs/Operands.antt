@@ -27,13 +27,15 @@ use Rattle.mips_emit.specs.declared.location.Source.TheVariants.{Zero, Word, Fro
 use Rattle.mips_emit.specs.declared.comparison.Form.{Form}
 use Rattle.mips_emit.specs.declared.comparison.Form.TheVariants.{Known, OnPair, OnLeft, OnRight, ByResult, ByOpposite, InResult}
 use Rattle.mips_emit.specs.declared.comparison.Comparison.{Comparison}
+use Rattle.mips_emit.specs.declared.facts.Kept.{Kept}
 use Rattle.mips_emit.specs.declared.facts.Last.{Last}
+use Rattle.rtl.specs.declared.block.RGlobal.{RGlobal}
 use Rattle.mips_emit.specs.Frames.{AreFrameHomes, IsFrame}
 use Rattle.mips_emit.specs.Comparisons.{no_last, is_result}
-use Rattle.mips_emit.specs.Locations.{known_in, no_facts, location_at}
+use Rattle.mips_emit.specs.Locations.{known_in, no_facts, location_at, kept_without, kept_past}
 use Rattle.mips_emit.specs.declared.location.Location.{Location}
 use Rattle.mips_emit.specs.Locations.{inner_of}
-use Rattle.mips_emit.specs.Elements.{width_bytes, address_of_place}
+use Rattle.mips_emit.specs.Elements.{width_bytes, width_of, base_word, address_of_place}
 use Rattle.mips_emit.specs.Code.{nop, is_small, half, constant, li, operand_register, bring}
 use Rattle.mips_emit.proofs.Runs.{RunsTo}
 use Rattle.mips_emit.proofs.View.{word_at}
@@ -231,19 +233,19 @@ Denotes count s (From (Held r)) v = read 0 s.regs r ≡ v
 Denotes count s (From (Copied r k)) v = read 0 s.regs r ≡ v
 Denotes count s (From (InSlot k)) v = (k < count) × (word_at s (s.regs 29 + 4 * k) ≡ v)
 
--- an operand that isn't in a register below 4
+-- an operand that is in no register but one of homes and copies
 abbrev pub IsAway : Source → Type 0
-IsAway (From (Held r)) = 4 ≤ r
+IsAway (From (Held r)) = (4 ≤ r) × (r < 28)
 IsAway (From (InSlot k)) = Unit {0}
-IsAway (From (Copied r k)) = 4 ≤ r
+IsAway (From (Copied r k)) = (4 ≤ r) × (r < 28)
 IsAway Zero = Unit {0}
 IsAway (Word w) = Unit {0}
 
 pub operand_register_kept : (x : Source) (t u : ℕ) (f f' : ℕ → ℕ) → IsAway x → t ≢ u → u < 4 → ((r : ℕ) → r ≢ u → f' r ≡ f r) → read 0 f' (operand_register t x) ≡ read 0 f (operand_register t x)
 operand_register_kept Zero t u f f' away ne low same = refl
 operand_register_kept (Word w) t u f f' away ne low same = read_other f f' t (λ _. same t ne)
-operand_register_kept (From (Held r)) t u f f' away ne low same = read_other f f' r (λ _. same r (omega (arith, away, low)))
-operand_register_kept (From (Copied r k)) t u f f' away ne low same = read_other f f' r (λ _. same r (omega (arith, away, low)))
+operand_register_kept (From (Held r)) t u f f' away ne low same = read_other f f' r (λ _. same r (omega (arith, away.0, low)))
+operand_register_kept (From (Copied r k)) t u f f' away ne low same = read_other f f' r (λ _. same r (omega (arith, away.0, low)))
 operand_register_kept (From (InSlot k)) t u f f' away ne low same = read_other f f' t (λ _. same t ne)
 
 pub longer : (a b : List Plain) → 1 ≤ length a → 1 ≤ length (a ++ b)
@@ -294,6 +296,69 @@ IsElsewhere None q = Unit {0}
 IsElsewhere (Some (Held r)) q = q ≢ r
 IsElsewhere (Some (InSlot k)) q = Unit {0}
 IsElsewhere (Some (Copied r k)) q = q ≢ r
+
+-- ---- the base that is kept
+
+-- register 30 is the base of a global's elements at the index in a register
+pub record IsKept (gs : List RGlobal) (starts : ℕ → ℕ) (kept : Option Kept) (regs : ℕ → ℕ) : Type 0 where
+  pub index : (k : Kept) → kept ≡ Some k → 4 ≤ k.index
+  pub base : (k : Kept) → kept ≡ Some k → regs 30 ≡ width_bytes (width_of gs k.global) * regs k.index + base_word (starts k.global)
+
+pub none_kept : (gs : List RGlobal) (starts : ℕ → ℕ) (regs : ℕ → ℕ) → IsKept gs starts None regs
+none_kept gs starts regs = record { index = λ k e. absurd (none-some k e); base = λ k e. absurd (none-some k e) }
+
+-- it and the registers of homes are as they were, but for one that is written
+pub record Keeps (l : Option Location) (f f' : ℕ → ℕ) : Type 0 where
+  pub base : f' 30 ≡ f 30
+  pub others : (q : ℕ) → 4 ≤ q → IsElsewhere l q → f' q ≡ f q
+
+-- it is one of this global and this register
+pub kept_here : (gs : List RGlobal) (starts : ℕ → ℕ) (a r : ℕ) (f : ℕ → ℕ) → 4 ≤ r → f 30 ≡ width_bytes (width_of gs a) * f r + base_word (starts a)
+    → IsKept gs starts (Some (record { global = a; index = r })) f
+kept_here gs starts a r f low is =
+    let here : Kept = record { global = a; index = r } in
+    record {
+      index = λ k e. subst (λ (k : Kept). 4 ≤ k.index) (same_Some here k e) low;
+      base = λ k e. subst (λ (k : Kept). f 30 ≡ width_bytes (width_of gs k.global) * f k.index + base_word (starts k.global)) (same_Some here k e) is;
+    }
+
+pub kept_same : (gs : List RGlobal) (starts : ℕ → ℕ) (kept : Option Kept) (f f' : ℕ → ℕ) → ((q : ℕ) → 4 ≤ q → f' q ≡ f q) → IsKept gs starts kept f
+    → IsKept gs starts kept f'
+kept_same gs starts kept f f' same h = record {
+  index = h.index;
+  base = λ k e. same 30 (omega arith) ∙ h.base k e
+      ∙ ap (λ v. width_bytes (width_of gs k.global) * v + base_word (starts k.global)) (sym (same k.index (h.index k e)));
+}
+
+-- the base that is kept past a write
+pub kept_written : (gs : List RGlobal) (starts : ℕ → ℕ) (l : Option Location) (kept : Option Kept) (f f' : ℕ → ℕ) → Keeps l f f' → IsKept gs starts kept f
+    → IsKept gs starts (kept_past l kept) f'
+kept_written gs starts l kept f f' same h = by l same
+  where
+    as_was : (l : Option Location) → Keeps l f f' → ((k : Kept) → kept ≡ Some k → IsElsewhere l k.index) → IsKept gs starts kept f'
+    as_was l same away = record {
+      index = h.index;
+      base = λ k e. same.base ∙ h.base k e
+          ∙ ap (λ v. width_bytes (width_of gs k.global) * v + base_word (starts k.global))
+          (sym (same.others k.index (h.index k e) (away k e)));
+    }
+
+    without : (l : Option Location) (r : ℕ) → ((q : ℕ) → q ≢ r → IsElsewhere l q) → Keeps l f f' → (o : Option Kept) → kept ≡ o
+        → IsKept gs starts (kept_without r o) f'
+    without l r away same None is = none_kept gs starts f'
+    without l r away same (Some k) is = go (nat_eq k.index r) refl
+      where
+        go : (b : Bool) → nat_eq k.index r ≡ b → IsKept gs starts (if b then None else Some k) f'
+        go true t = none_kept gs starts f'
+        go false t =
+            let index : (j : Kept) → kept ≡ Some j → k.index ≡ j.index = λ j e. ap (λ (k : Kept). k.index) (same_Some k j (sym is ∙ e)) in
+            subst (λ o. IsKept gs starts o f') is (as_was l same (λ j e. away j.index (λ x. eqb-false k.index r t (index j e ∙ x))))
+
+    by : (l : Option Location) → Keeps l f f' → IsKept gs starts (kept_past l kept) f'
+    by None same = as_was None same (λ k e. tt)
+    by (Some (Held r)) same = without (Some (Held r)) r (λ q ne. ne) same kept refl
+    by (Some (InSlot j)) same = as_was (Some (InSlot j)) same (λ k e. tt)
+    by (Some (Copied r j)) same = without (Some (Copied r j)) r (λ q ne. ne) same kept refl
 
 -- instructions that end in a write of register d, from a state m that they have reached but for it
 pub record Ends (is : List Plain) (s m : State) (d v : ℕ) : Type 0 where

@@ -25,7 +25,7 @@ use Rattle.mips_emit.specs.declared.location.Location.{Location}
 use Rattle.mips_emit.specs.declared.location.Location.TheVariants.{Held, InSlot, Copied}
 use Rattle.mips_emit.specs.Locations.{inner_of}
 use Rattle.mips_emit.specs.Elements.{width_bytes, element_place, address_of_place, data_middle, near, page, low, scaled, scaled_register, base_sum}
-use Rattle.mips_emit.specs.Elements.{base_code, base_offset}
+use Rattle.mips_emit.specs.Elements.{base_code, base_offset, base_word}
 use Rattle.mips_emit.specs.Code.{is_small, half, constant, li, load_word_at, store_word_at, move_code}
 use Rattle.mips_emit.proofs.Runs.{RunsTo, runs_then, runs_none}
 
@@ -291,64 +291,58 @@ low_word at k few = go (nat_lt (at % 65536) 32768) refl
     go false e = (let above : 32768 ≤ at % 65536 = ltb-false (at % 65536) 32768 e in omega (arith, above, few))
 
 -- an index times the width of its elements
-record Scaled (is : List Plain) (s : State) (q k : ℕ) : Type 0 where
+record Scaled (is : List Plain) (s : State) (t q k : ℕ) : Type 0 where
   regs : ℕ → ℕ
   runs : RunsTo is s (record s { regs = regs })
   here : read 0 regs q ≡ k
-  others : (r : ℕ) → r ≢ 1 → regs r ≡ s.regs r
+  others : (r : ℕ) → r ≢ t → regs r ≡ s.regs r
   apart : q ≢ 2
-
-t1 : IsTarget 1
-t1 = record { low = omega arith; high = omega arith }
 
 t2 : IsTarget 2
 t2 = record { low = omega arith; high = omega arith }
 
-scales : (w : Width) (s : State) (q i : ℕ) → read 0 s.regs q ≡ i → q ≢ 2 → width_bytes w * i < 2 ^ 31
-    → Scaled (scaled w q) s (scaled_register w q) (width_bytes w * i)
-scales Word s q i is ne few =
+scales : (w : Width) (s : State) (t q i : ℕ) → IsTarget t → t ≢ 2 → read 0 s.regs q ≡ i → q ≢ 2 → width_bytes w * i < 2 ^ 31
+    → Scaled (scaled w t q) s t (scaled_register w t q) (width_bytes w * i)
+scales Word s t q i ok t_apart is ne few =
     let v = op_value operators.Sll (read 0 s.regs q) (wrap 2) in
     let value : wrap (i * 4) ≡ 4 * i = omega (arith, few) in
     let four : op_value operators.Sll (read 0 s.regs q) (wrap 2) ≡ 4 * i = shift_value (read 0 s.regs q) 2 ∙ ap (λ x. wrap (x * 4)) is ∙ value in
     record {
-      regs = put s.regs 1 v;
+      regs = put s.regs t v;
       runs = record { ends = refl };
-      here = put_here s.regs 1 v t1 ∙ four;
-      others = λ r other. put_other s.regs 1 v r other;
-      apart = λ e. absurd (omega (arith, e));
+      here = read_register (put s.regs t v) t ok.low ∙ put_here s.regs t v ok ∙ four;
+      others = λ r other. put_other s.regs t v r other;
+      apart = t_apart;
     }
-scales Byte s q i is ne few =
+scales Byte s t q i ok t_apart is ne few =
     let one : i ≡ 1 * i = omega arith in
     record { regs = s.regs; runs = runs_none s; here = is ∙ one; others = λ r other. refl; apart = ne }
 
--- from an index to a base for an element, in register 1
-pub record Based (is : List Plain) (s : State) (z : ℤ) (a : ℕ) : Type 0 where
+-- from an index to a base for an element, in register t
+pub record Based (is : List Plain) (s : State) (t b : ℕ) : Type 0 where
   pub regs : ℕ → ℕ
   pub runs : RunsTo is s (record s { regs = regs })
-  pub here : wrap (regs 1 + word_of_offset z) ≡ a
-  pub others : (r : ℕ) → r ≢ 1 → r ≢ 2 → regs r ≡ s.regs r
+  pub here : regs t ≡ b
+  pub others : (r : ℕ) → r ≢ t → r ≢ 2 → regs r ≡ s.regs r
 
-sums : (s : State) (q start k : ℕ) → read 0 s.regs q ≡ k → q ≢ 2 → s.regs 28 ≡ data_middle → start + k < 1048576
-    → Based (base_sum start q) s (base_offset start) (address_of_place (start + k))
-sums s q start k is apart gp few = go (nat_lt start 65536) refl
+sums : (s : State) (t q start k : ℕ) → IsTarget t → read 0 s.regs q ≡ k → q ≢ 2 → s.regs 28 ≡ data_middle → start + k < 1048576
+    → Based (base_sum t start q) s t (k + base_word start)
+sums s t q start k ok is apart gp few = go (nat_lt start 65536) refl
   where
     high_is : start + k < 1048576 → wrap (page (address_of_place start) * 2 ^ 16) ≡ page (address_of_place start) * 65536
     high_is few = omega (arith, few)
 
     go : (b : Bool) → nat_lt start 65536 ≡ b
-        → Based (if b then Alu Addu 1 q 28 ∷ [] else LoadUpper 2 (page (address_of_place start)) ∷ Alu Addu 1 q 2 ∷ []) s
-        (if b then near start else low (address_of_place start)) (address_of_place (start + k))
+        → Based (if b then Alu Addu t q 28 ∷ [] else LoadUpper 2 (page (address_of_place start)) ∷ Alu Addu t q 2 ∷ []) s t
+        (k + (if b then data_middle else page (address_of_place start) * 65536))
     go true e =
         let all = op_value operators.Addu (read 0 s.regs q) (s.regs 28) in
-        let below : start < 65536 = ltb-true start 65536 e in
         let total : wrap (k + data_middle) ≡ k + data_middle = omega (arith, few) in
-        let sum : put s.regs 1 (op_value operators.Addu (read 0 s.regs q) (s.regs 28)) 1 ≡ k + data_middle =
-        put_here s.regs 1 all t1 ∙ ap₂ (op_value operators.Addu) is gp ∙ sum_value k data_middle ∙ total in
         record {
-          regs = put s.regs 1 all;
+          regs = put s.regs t all;
           runs = record { ends = refl };
-          here = ap (λ x. wrap (x + word_of_offset (near start))) sum ∙ near_word start k below few;
-          others = λ r n1 n2. put_other s.regs 1 all r n1;
+          here = put_here s.regs t all ok ∙ ap₂ (op_value operators.Addu) is gp ∙ sum_value k data_middle ∙ total;
+          others = λ r n1 n2. put_other s.regs t all r n1;
         }
     go false e =
         let v = wrap (page (address_of_place start) * 2 ^ 16) in
@@ -357,21 +351,29 @@ sums s q start k is apart gp few = go (nat_lt start 65536) refl
         let index : read 0 s1.regs q ≡ k = read_other s.regs s1.regs q (λ _. put_other s.regs 2 v q apart) ∙ is in
         let upper : s1.regs 2 ≡ page (address_of_place start) * 65536 = put_here s.regs 2 v t2 ∙ high_is few in
         let total : wrap (k + page (address_of_place start) * 65536) ≡ k + page (address_of_place start) * 65536 = omega (arith, few) in
-        let sum : put s1.regs 1 (op_value operators.Addu (read 0 s1.regs q) (s1.regs 2)) 1 ≡ k + page (address_of_place start) * 65536 =
-        put_here s1.regs 1 all t1 ∙ ap₂ (op_value operators.Addu) index upper ∙ sum_value k (page (address_of_place start) * 65536) ∙ total in
-        let place : address_of_place start + k ≡ address_of_place (start + k) = omega arith in
         record {
-          regs = put s1.regs 1 all;
+          regs = put s1.regs t all;
           runs = record { ends = refl };
-          here = ap (λ x. wrap (x + word_of_offset (low (address_of_place start)))) sum ∙ low_word (address_of_place start) k (omega (arith, few)) ∙ place;
-          others = λ r n1 n2. put_other s1.regs 1 all r n1 ∙ put_other s.regs 2 v r n2;
+          here = put_here s1.regs t all ok ∙ ap₂ (op_value operators.Addu) index upper ∙ sum_value k (page (address_of_place start) * 65536) ∙ total;
+          others = λ r n1 n2. put_other s1.regs t all r n1 ∙ put_other s.regs 2 v r n2;
         }
 
-pub based : (w : Width) (s : State) (q start i : ℕ) → read 0 s.regs q ≡ i → q ≢ 2 → s.regs 28 ≡ data_middle → element_place w start i < 1048576
-    → Based (base_code w start q) s (base_offset start) (address_of_place (element_place w start i))
-based w s q start i is apart gp few =
-    let a = scales w s q i is apart (omega (arith, few)) in
+pub based : (w : Width) (s : State) (t q start i : ℕ) → IsTarget t → t ≢ 2 → t ≢ 28 → read 0 s.regs q ≡ i → q ≢ 2 → s.regs 28 ≡ data_middle
+    → element_place w start i < 1048576 → Based (base_code w t start q) s t (width_bytes w * i + base_word start)
+based w s t q start i ok t_apart middle is apart gp few =
+    let a = scales w s t q i ok t_apart is apart (omega (arith, few)) in
     let s1 : State = record s { regs = a.regs } in
-    let ne : 28 ≢ 1 = λ e. absurd (omega (arith, e)) in
-    let b = sums s1 (scaled_register w q) start (width_bytes w * i) a.here a.apart (a.others 28 ne ∙ gp) few in
+    let b = sums s1 t (scaled_register w t q) start (width_bytes w * i) ok a.here a.apart (a.others 28 (λ e. middle (sym e)) ∙ gp) few in
     record { regs = b.regs; runs = runs_then a.runs b.runs; here = b.here; others = λ r n1 n2. b.others r n1 n2 ∙ a.others r n1 }
+
+-- from the base to the element
+pub from_base : (start k b : ℕ) → start + k < 1048576 → b ≡ k + base_word start → wrap (b + word_of_offset (base_offset start)) ≡ address_of_place (start + k)
+from_base start k b few is = ap (λ b. wrap (b + word_of_offset (base_offset start))) is ∙ go (nat_lt start 65536) refl
+  where
+    go : (c : Bool) → nat_lt start 65536 ≡ c
+        → wrap (k + (if c then data_middle else page (address_of_place start) * 65536) + word_of_offset (if c then near start else low (address_of_place start)))
+        ≡ address_of_place (start + k)
+    go true e = near_word start k (ltb-true start 65536 e) few
+    go false e =
+        let place : address_of_place start + k ≡ address_of_place (start + k) = omega arith in
+        low_word (address_of_place start) k (omega (arith, few)) ∙ place

@@ -1,5 +1,5 @@
 -- The machine code of each instruction, and of arguments. The scratch registers are free between instructions.
-use Rattle.std.specs.Prelude.{ℕ, ℤ, pos, negsuc, suc, ◌-◌, ◌*◌, ◌/◌, ◌%◌, ◌^◌, Bool, true, false, ◌||◌, nat_eq, nat_lt}
+use Rattle.std.specs.Prelude.{ℕ, ℤ, pos, negsuc, suc, ◌-◌, ◌*◌, ◌/◌, ◌%◌, ◌^◌, Bool, true, false, ◌||◌, ◌&&◌, nat_eq, nat_lt}
 use Rattle.std.specs.Prelude.{◌+◌, if◌then◌else◌, List, [], ◌∷◌, ◌++◌, Option, Some, None}
 use Rattle.std.specs.Int.{w32, trailing_zeros}
 use Rattle.words.specs.declared.sign.Sign.TheVariants.{Signed, Unsigned}
@@ -28,8 +28,11 @@ use Rattle.mips_emit.specs.declared.location.Source.{Source}
 use Rattle.mips_emit.specs.declared.product.ShiftedSum.{ShiftedSum}
 use Rattle.mips_emit.specs.declared.operation.Selection.{Selection}
 use Rattle.mips_emit.specs.declared.location.Source.TheVariants.{Zero, Word, From}
-use Rattle.mips_emit.specs.Locations.{Locations, inner_of, Facts, known_in, operand, word_source}
-use Rattle.mips_emit.specs.Elements.{width_of, direct, base_code, element_base, element_offset}
+use Rattle.mips_emit.specs.declared.element.Reach.{Reach}
+use Rattle.mips_emit.specs.declared.element.Reach.TheVariants.{ByPointer, ByKept, ByNew}
+use Rattle.mips_emit.specs.declared.facts.Kept.{Kept}
+use Rattle.mips_emit.specs.Locations.{Locations, inner_of, Facts, known_in, operand, index_register, word_source}
+use Rattle.mips_emit.specs.Elements.{width_of, direct, base_code, shares_base, reach_by, element_base, element_offset}
 
 -- ---- words and frames
 
@@ -276,10 +279,25 @@ op_code op t d left right x y =
 
 -- ---- instructions
 
+-- whether the base that is kept is one of a global's elements at the index in a register
+abbrev pub holds_base : List RGlobal → (starts : ℕ → ℕ) → Option Kept → (a : ℕ) → (index : Option ℕ) → Bool
+holds_base globals starts None a index = false
+holds_base globals starts (Some k) a None = false
+holds_base globals starts (Some k) a (Some r) = nat_eq k.index r && shares_base globals starts k.global a
+
+-- how an element of a global is reached, whose index is operand x and may be known
+abbrev pub reach_with : List RGlobal → (starts : ℕ → ℕ) → Option Kept → (a : ℕ) → (known : Option ℕ) → (x : Source) → Reach
+reach_with globals starts kept a known x =
+    reach_by (direct (width_of globals a) (starts a) known) (index_register known x) (holds_base globals starts kept a (index_register known x))
+
+abbrev pub reach_of : List RGlobal → (starts : ℕ → ℕ) → Locations → Facts → (a i : ℕ) → Reach
+reach_of globals starts at facts a i = reach_with globals starts facts.kept a (known_in facts i) (operand at facts i)
+
 -- what stands before an element is used, from the operand that is its index
-abbrev pub element_code : Width → (start : ℕ) → Option ℕ → Source → List Plain
-element_code w start None x = fetch SCRATCH_1 x ++ base_code w start (operand_register SCRATCH_1 x)
-element_code w start (Some p) x = []
+abbrev pub element_code : Width → (start : ℕ) → Reach → Source → List Plain
+element_code w start (ByPointer p) x = []
+element_code w start ByKept x = []
+element_code w start (ByNew t) x = fetch SCRATCH_1 x ++ base_code w t start (operand_register SCRATCH_1 x)
 
 abbrev pub bin_code : Locations → Facts → Op → (d a b : ℕ) → List Plain
 bin_code at facts op d a b =
@@ -287,23 +305,19 @@ bin_code at facts op d a b =
     ++ finish (at d)
 
 -- an element into a register, and back
-abbrev pub element_load : Width → ℕ → (start : ℕ) → Option ℕ → Plain
-element_load w t start place = plain.Load w t (element_base place) (element_offset start place)
+abbrev pub element_load : Width → ℕ → (start : ℕ) → Reach → Plain
+element_load w t start by = plain.Load w t (element_base by) (element_offset start by)
 
-abbrev pub element_store : Width → ℕ → (start : ℕ) → Option ℕ → Plain
-element_store w t start place = plain.Store w t (element_base place) (element_offset start place)
+abbrev pub element_store : Width → ℕ → (start : ℕ) → Reach → Plain
+element_store w t start by = plain.Store w t (element_base by) (element_offset start by)
 
-abbrev pub load_code : Locations → Facts → Width → (start d i : ℕ) → List Plain
-load_code at facts w start d i =
-    (element_code w start (direct w start (known_in facts i)) (operand at facts i)
-    ++ element_load w (into (at d)) start (direct w start (known_in facts i)) ∷ [])
-    ++ finish (at d)
+-- an element at index x into a location, and operand y into an element
+abbrev pub load_code : Option Location → Width → (start : ℕ) → Reach → (x : Source) → List Plain
+load_code to w start by x = (element_code w start by x ++ element_load w (into to) start by ∷ []) ++ finish to
 
-abbrev pub store_code : Locations → Facts → Width → (start i b : ℕ) → List Plain
-store_code at facts w start i b =
-    element_code w start (direct w start (known_in facts i)) (operand at facts i)
-    ++ (fetch SCRATCH_2 (operand at facts b)
-    ++ element_store w (operand_register SCRATCH_2 (operand at facts b)) start (direct w start (known_in facts i)) ∷ [])
+abbrev pub store_code : Width → (start : ℕ) → Reach → (x y : Source) → List Plain
+store_code w start by x y =
+    element_code w start by x ++ (fetch SCRATCH_2 y ++ element_store w (operand_register SCRATCH_2 y) start by ∷ [])
 
 -- nothing is done
 abbrev pub nop : Plain
@@ -320,8 +334,10 @@ abbrev pub inst_code : List RGlobal → (starts : ℕ → ℕ) → Locations →
 inst_code globals starts at facts (Const d w) = const_code (at d) (wrap w)
 inst_code globals starts at facts (Move d a) = put_at (at d) (operand at facts a)
 inst_code globals starts at facts (Bin op d a b) = bin_code at facts op d a b
-inst_code globals starts at facts (Load d a i) = load_code at facts (width_of globals a) (starts a) d i
-inst_code globals starts at facts (Store a i b) = store_code at facts (width_of globals a) (starts a) i b
+inst_code globals starts at facts (Load d a i) =
+    load_code (at d) (width_of globals a) (starts a) (reach_of globals starts at facts a i) (operand at facts i)
+inst_code globals starts at facts (Store a i b) =
+    store_code (width_of globals a) (starts a) (reach_of globals starts at facts a i) (operand at facts i) (operand at facts b)
 
 -- ---- exits
 

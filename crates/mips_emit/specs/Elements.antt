@@ -1,5 +1,5 @@
 -- Elements of globals in data memory: where they are, and how instructions reach them.
-use Rattle.std.specs.Prelude.{◌≡◌, ℕ, ℤ, pos, negsuc, ◌+◌, ◌-◌, ◌*◌, ◌/◌, ◌%◌, ◌<◌, ◌≤◌, Option, Some, None, List, [], ◌∷◌, ◌++◌, nat_lt}
+use Rattle.std.specs.Prelude.{◌≡◌, ℕ, ℤ, pos, negsuc, ◌+◌, ◌-◌, ◌*◌, ◌/◌, ◌%◌, ◌<◌, ◌≤◌, Bool, ◌&&◌, Option, Some, None, List, [], ◌∷◌, ◌++◌, nat_lt, nat_eq}
 use Rattle.std.specs.Prelude.{slice_get}
 use Rattle.std.specs.Prelude.{if◌then◌else◌}
 use Rattle.words.specs.declared.width.Width.{Width}
@@ -12,6 +12,9 @@ use Rattle.mips_isa.specs.Starting.{data_base}
 use Rattle.mblock.specs.declared.limits.TheConstants.{UNIT_BYTES}
 use Rattle.rtl.specs.declared.block.RGlobal.{RGlobal}
 use Rattle.mips_homes.specs.declared.convention.TheConstants.{SCRATCH_1, SCRATCH_2, GLOBAL_POINTER}
+use Rattle.mips_emit.specs.declared.element.TheConstants.{KEPT_BASE}
+use Rattle.mips_emit.specs.declared.element.Reach.{Reach}
+use Rattle.mips_emit.specs.declared.element.Reach.TheVariants.{ByPointer, ByKept, ByNew}
 
 -- ---- places in data
 
@@ -74,32 +77,56 @@ page at = (at + 32768) / 65536
 abbrev pub low : ℕ → ℤ
 low at = if nat_lt (at % 65536) 32768 then pos (at % 65536) else negsuc (65535 - at % 65536)
 
--- an index in a register, times the width
-abbrev pub scaled : Width → ℕ → List Plain
-scaled Word q = Shift Sll SCRATCH_1 q 2 ∷ []
-scaled Byte q = []
+-- an index in register q, times the width, through register t
+abbrev pub scaled : Width → (t q : ℕ) → List Plain
+scaled Word t q = Shift Sll t q 2 ∷ []
+scaled Byte t q = []
 
-abbrev pub scaled_register : Width → ℕ → ℕ
-scaled_register Word q = SCRATCH_1
-scaled_register Byte q = q
+abbrev pub scaled_register : Width → (t q : ℕ) → ℕ
+scaled_register Word t q = t
+scaled_register Byte t q = q
 
--- from an index in a register to a base for the element, in the first scratch register, and the offset from it
-abbrev pub base_sum : (start q : ℕ) → List Plain
-base_sum start q =
-    if nat_lt start 65536 then Alu Addu SCRATCH_1 q GLOBAL_POINTER ∷ []
-    else LoadUpper SCRATCH_2 (page (address_of_place start)) ∷ Alu Addu SCRATCH_1 q SCRATCH_2 ∷ []
+-- from an index in register q to a base for the element, in register t, and the offset from it
+abbrev pub base_sum : (t start q : ℕ) → List Plain
+base_sum t start q =
+    if nat_lt start 65536 then Alu Addu t q GLOBAL_POINTER ∷ []
+    else LoadUpper SCRATCH_2 (page (address_of_place start)) ∷ Alu Addu t q SCRATCH_2 ∷ []
 
-abbrev pub base_code : Width → (start q : ℕ) → List Plain
-base_code w start q = scaled w q ++ base_sum start (scaled_register w q)
+abbrev pub base_code : Width → (t start q : ℕ) → List Plain
+base_code w t start q = scaled w t q ++ base_sum t start (scaled_register w t q)
 
 abbrev pub base_offset : ℕ → ℤ
 base_offset start = if nat_lt start 65536 then near start else low (address_of_place start)
 
--- the base of an element and the offset from it, by its place if the global pointer reaches that
-abbrev pub element_base : Option ℕ → ℕ
-element_base None = SCRATCH_1
-element_base (Some p) = GLOBAL_POINTER
+-- what a base is more than the index times the width
+abbrev pub base_word : ℕ → ℕ
+base_word start = if nat_lt start 65536 then data_middle else page (address_of_place start) * 65536
 
-abbrev pub element_offset : (start : ℕ) → Option ℕ → ℤ
-element_offset start None = base_offset start
-element_offset start (Some p) = near p
+-- whether elements of one global have the same bases as those of another
+abbrev pub shares_base : List RGlobal → (starts : ℕ → ℕ) → (a b : ℕ) → Bool
+shares_base globals starts a b =
+    nat_eq (width_bytes (width_of globals a)) (width_bytes (width_of globals b)) && nat_eq (base_word (starts a)) (base_word (starts b))
+
+-- how an element is reached: by its place if the global pointer reaches that; if its index is in a register, from the base that is kept,
+-- which may have to be made
+abbrev pub reach_by : (place index : Option ℕ) → (is_kept : Bool) → Reach
+reach_by (Some p) index b = ByPointer p
+reach_by None None b = ByNew SCRATCH_1
+reach_by None (Some r) b = if b then ByKept else ByNew KEPT_BASE
+
+-- the base of an element and the offset from it
+abbrev pub element_base : Reach → ℕ
+element_base (ByPointer p) = GLOBAL_POINTER
+element_base ByKept = KEPT_BASE
+element_base (ByNew t) = t
+
+abbrev pub element_offset : (start : ℕ) → Reach → ℤ
+element_offset start (ByPointer p) = near p
+element_offset start ByKept = base_offset start
+element_offset start (ByNew t) = base_offset start
+
+-- the global pointer reaches the place
+abbrev pub IsInReach : Reach → Type 0
+IsInReach (ByPointer p) = p < 65536
+IsInReach ByKept = Unit {0}
+IsInReach (ByNew t) = Unit {0}

@@ -18,6 +18,7 @@ use Rattle.mips_emit.specs.declared.location.Location.TheVariants.{Held, InSlot,
 use Rattle.mips_emit.specs.declared.location.Source.{Source}
 use Rattle.mips_emit.specs.declared.location.Source.TheVariants.{Zero, Word, From}
 use Rattle.mips_emit.specs.declared.facts.Fact.{Fact}
+use Rattle.mips_emit.specs.declared.facts.Kept.{Kept}
 use Rattle.mips_emit.specs.declared.facts.Knowledge.{Knowledge}
 use Rattle.mips_emit.specs.declared.facts.Last.{Last}
 
@@ -57,10 +58,12 @@ inner_of (Some (Copied r k)) = SCRATCH_3 - 2 * (r % 2)
 
 -- ---- words that are known
 
--- facts, the newest first, and the words that caller-saved registers should hold but don't yet
+-- facts, the newest first, the words that caller-saved registers should hold but don't yet, and the base that register 30 holds, of an index
+-- in a register
 pub record Facts : Type 0 where
   pub known : List Fact
   pub deferred : Places
+  pub kept : Option Kept
 
 -- the word that a pseudo-register is known to hold
 abbrev pub known_of : List Fact → Places
@@ -86,58 +89,6 @@ deferred_none None deferred = deferred
 deferred_none (Some (Held r)) deferred = places_with deferred r None
 deferred_none (Some (InSlot k)) deferred = deferred
 deferred_none (Some (Copied r k)) deferred = deferred
-
--- what is known after an instruction
-abbrev pub learned : Locations → RInst → Facts → Facts
-learned at (Const d w) facts = record { known = with_fact d (Some (wrap w)) facts.known; deferred = deferred_const (at d) (wrap w) facts.deferred }
-learned at (Move d a) facts = record { known = with_fact d (known_in facts a) facts.known; deferred = deferred_none (at d) facts.deferred }
-learned at (Bin op d a b) facts = record { known = with_fact d None facts.known; deferred = deferred_none (at d) facts.deferred }
-learned at (Load d a i) facts = record { known = with_fact d None facts.known; deferred = deferred_none (at d) facts.deferred }
-learned at (Store a i b) facts = facts
-
--- and after several
-abbrev pub known_after : Locations → List RInst → Facts → Facts
-known_after at [] facts = facts
-known_after at (i ∷ is) facts = known_after at is (learned at i facts)
-
--- the words of a table, by their places
-abbrev pub flatten : Option (Option ℕ) → Option ℕ
-flatten None = None
-flatten (Some o) = o
-
-abbrev pub word_in : List (Option ℕ) → Places
-word_in table q = flatten (slice_get table q)
-
--- the last of some facts, the newest first
-abbrev pub newest : List Fact → List Fact
-newest facts = take KEPT_FACTS (reverse facts)
-
--- the same as the code has it
-abbrev pub facts_of : Knowledge → Facts
-facts_of k = record { known = newest k.known.items; deferred = word_in k.deferred }
-
--- at the head of a block
-abbrev pub no_facts : Facts
-no_facts = record { known = []; deferred = λ q. None }
-
--- ---- what an exit can use of the last instruction
-
--- a pseudo-register in a slot, whose word is in its inner temporary when it has been written
-abbrev pub in_slot : Option Location → ℕ → Option ℕ
-in_slot None x = None
-in_slot (Some (Held r)) x = None
-in_slot (Some (InSlot k)) x = Some x
-in_slot (Some (Copied r k)) x = None
-
-abbrev pub fresh_of : Locations → RInst → Option ℕ
-fresh_of at (Const d w) = None
-fresh_of at (Move d a) = None
-fresh_of at (Bin op d a b) = in_slot (at d) d
-fresh_of at (Load d a i) = in_slot (at d) d
-fresh_of at (Store a i b) = None
-
-abbrev pub last_of : Locations → Facts → RInst → Last
-last_of at facts i = record { fresh = fresh_of at i; comparison = None }
 
 -- ---- operands
 
@@ -173,6 +124,109 @@ deferred_source (Some w) x = word_source w
 
 abbrev pub operand : Locations → Facts → ℕ → Source
 operand at facts x = deferred_source (deferred_at facts.deferred (at x)) (source (known_in facts x) (at x))
+
+-- ---- what is known after an instruction
+
+-- the register of an index that is no known word
+abbrev pub index_register : (known : Option ℕ) → Source → Option ℕ
+index_register (Some w) x = None
+index_register None Zero = None
+index_register None (Word w) = None
+index_register None (From (Held r)) = Some r
+index_register None (From (InSlot k)) = None
+index_register None (From (Copied r k)) = None
+
+abbrev pub index_of : Locations → Facts → ℕ → Option ℕ
+index_of at facts i = index_register (known_in facts i) (operand at facts i)
+
+-- the base that is kept once an element is used whose index is in a register
+abbrev pub kept_with : (global : ℕ) → (index : Option ℕ) → Option Kept → Option Kept
+kept_with a None kept = kept
+kept_with a (Some r) kept = Some (record { global = a; index = r })
+
+-- it is so while that register isn't written
+abbrev pub kept_without : ℕ → Option Kept → Option Kept
+kept_without r None = None
+kept_without r (Some k) = if nat_eq k.index r then None else Some k
+
+abbrev pub kept_past : Option Location → Option Kept → Option Kept
+kept_past None kept = kept
+kept_past (Some (Held r)) kept = kept_without r kept
+kept_past (Some (InSlot k)) kept = kept
+kept_past (Some (Copied r k)) kept = kept_without r kept
+
+abbrev pub learned : Locations → RInst → Facts → Facts
+learned at (Const d w) facts = record {
+  known = with_fact d (Some (wrap w)) facts.known;
+  deferred = deferred_const (at d) (wrap w) facts.deferred;
+  kept = kept_past (at d) facts.kept;
+}
+learned at (Move d a) facts = record {
+  known = with_fact d (known_in facts a) facts.known;
+  deferred = deferred_none (at d) facts.deferred;
+  kept = kept_past (at d) facts.kept;
+}
+learned at (Bin op d a b) facts = record {
+  known = with_fact d None facts.known;
+  deferred = deferred_none (at d) facts.deferred;
+  kept = kept_past (at d) facts.kept;
+}
+learned at (Load d a i) facts = record {
+  known = with_fact d None facts.known;
+  deferred = deferred_none (at d) facts.deferred;
+  kept = kept_past (at d) (kept_with a (index_of at facts i) facts.kept);
+}
+learned at (Store a i b) facts = record {
+  known = facts.known;
+  deferred = facts.deferred;
+  kept = kept_with a (index_of at facts i) facts.kept;
+}
+
+-- and after several
+abbrev pub known_after : Locations → List RInst → Facts → Facts
+known_after at [] facts = facts
+known_after at (i ∷ is) facts = known_after at is (learned at i facts)
+
+-- the words of a table, by their places
+abbrev pub flatten : Option (Option ℕ) → Option ℕ
+flatten None = None
+flatten (Some o) = o
+
+abbrev pub word_in : List (Option ℕ) → Places
+word_in table q = flatten (slice_get table q)
+
+-- the last of some facts, the newest first
+abbrev pub newest : List Fact → List Fact
+newest facts = take KEPT_FACTS (reverse facts)
+
+-- the same as the code has it
+abbrev pub facts_of : Knowledge → Facts
+facts_of k = record { known = newest k.known.items; deferred = word_in k.deferred; kept = k.kept }
+
+-- at the head of a block
+abbrev pub no_facts : Facts
+no_facts = record { known = []; deferred = λ q. None; kept = None }
+
+-- ---- what an exit can use of the last instruction
+
+-- a pseudo-register in a slot, whose word is in its inner temporary when it has been written
+abbrev pub in_slot : Option Location → ℕ → Option ℕ
+in_slot None x = None
+in_slot (Some (Held r)) x = None
+in_slot (Some (InSlot k)) x = Some x
+in_slot (Some (Copied r k)) x = None
+
+abbrev pub fresh_of : Locations → RInst → Option ℕ
+fresh_of at (Const d w) = None
+fresh_of at (Move d a) = None
+fresh_of at (Bin op d a b) = in_slot (at d) d
+fresh_of at (Load d a i) = in_slot (at d) d
+fresh_of at (Store a i b) = None
+
+abbrev pub last_of : Locations → Facts → RInst → Last
+last_of at facts i = record { fresh = fresh_of at i; comparison = None }
+
+-- ---- operands of an exit
 
 -- an operand of an exit: what the last instruction left in its inner temporary, or any other
 abbrev pub fresh_source : Option ℕ → (x inner : ℕ) → Source → Source

@@ -2,12 +2,13 @@
 
 #![tactic(auto, using(crate::proofs::Prefixes::prefix_behind, crate::proofs::Prefixes::prefix_among, crate::proofs::Prefixes::emits_behind))]
 
-ghost use Rattle.std.specs.Prelude.{◌≡◌, ◌≤◌, ◌<◌, ◌++◌, ◌∷◌, []};
+ghost use Rattle.std.specs.Prelude.{◌≡◌, ◌≤◌, ◌<◌, ◌++◌, ◌∷◌, [], ◌&&◌, nat_eq};
 ghost use Rattle.mblock.specs.declared.limits.TheConstants.{UNIT_BYTES};
 ghost use Rattle.mips_emit.specs.Locations.{FitsSource};
 ghost use Rattle.mips_emit.specs.Elements.{width_bytes, element_place, address_of_place, direct, IsNear, near, page, low, scaled};
 ghost use Rattle.mips_emit.specs.Elements.{scaled_register};
-ghost use Rattle.mips_emit.specs.Elements.{base_sum, base_code, base_offset, element_base, element_offset};
+ghost use Rattle.mips_emit.specs.declared.element.Reach.TheVariants.{ByNew};
+ghost use Rattle.mips_emit.specs.Elements.{base_sum, base_code, base_offset, base_word, reach_by, element_base, element_offset, IsInReach};
 ghost use Rattle.mips_emit.specs.Code.{element_code, element_load, element_store};
 ghost use Rattle.mips_emit.specs.Prefixes.{Emits};
 
@@ -18,6 +19,20 @@ use mips_homes::{GLOBAL_POINTER, SCRATCH_1, SCRATCH_2};
 use mips_isa::{AluOp, Amount, DATA_BASE, NonzeroReg, Plain, Reg, ShiftOp};
 use std::alloc::AllocError;
 use words::Width;
+
+/// Keeps the base of an element for the next one: nothing else uses this register.
+pub(crate) const KEPT_BASE: u8 = 30;
+
+/// How an element is reached.
+#[derive(Clone, Copy)]
+pub enum Reach {
+    /// From the global pointer, by its place.
+    ByPointer(u32),
+    /// From the base that is kept.
+    ByKept,
+    /// From a base that is made in a register.
+    ByNew(NonzeroReg),
+}
 
 // How many bytes an element has.
 fn bytes_of(width: Width) -> u32
@@ -81,15 +96,62 @@ fn page_of(start: u32) -> u16
     ((DATA_BASE + start + 32_768) / 65_536) as u16
 }
 
-// An index in a register, times the width.
-fn emit_scaled(code: &mut Vec<Plain>, width: Width, index: Reg) -> Result<(), AllocError>
-    ensures { Emits result code.old.items (scaled width index) code.new.items }
+// What a base is more than the index times the width.
+fn base_word(start: u32) -> u32
+    requires { start ≤ UNIT_BYTES }
+    ensures { result ≡ base_word start }
+{
+    if start < 65_536 {
+        DATA_BASE + 32_768
+    } else {
+        page_of(start) as u32 * 65_536
+    }
+}
+
+/// Whether the elements of one global have the same bases as those of another.
+pub(crate) fn same_base(w: Width, start: u32, v: Width, other: u32) -> bool
+    requires first { start ≤ UNIT_BYTES }
+    requires second { other ≤ UNIT_BYTES }
+    ensures { result ≡ (nat_eq (width_bytes w) (width_bytes v) && nat_eq (base_word start) (base_word other)) }
+{
+    bytes_of(w) == bytes_of(v) && base_word(start) == base_word(other)
+}
+
+/// How an element is reached.
+pub(crate) fn reach_by(place: Option<u32>, index: Option<NonzeroReg>, is_kept: bool) -> Reach
+    requires { IsNear place }
+    ensures value { result ≡ reach_by place index is_kept }
+    ensures near { IsInReach result }
+{
+    match place {
+        Some(p) => Reach::ByPointer(p),
+        None => match index {
+            None => Reach::ByNew(register(SCRATCH_1)),
+            Some(_) => {
+                if is_kept {
+                    Reach::ByKept
+                } else {
+                    Reach::ByNew(register(KEPT_BASE))
+                }
+            }
+        },
+    }
+}
+
+// An index in a register, times the width, through another.
+fn emit_scaled(
+    code: &mut Vec<Plain>,
+    width: Width,
+    t: NonzeroReg,
+    index: Reg,
+) -> Result<(), AllocError>
+    ensures { Emits result code.old.items (scaled width t index) code.new.items }
 {
     match width {
         Width::Word => {
             let inst = Plain::Shift {
                 op: ShiftOp::Sll,
-                rd: Reg::masked(SCRATCH_1),
+                rd: t.reg(),
                 rt: index,
                 amount: Amount::masked(2),
             };
@@ -100,19 +162,19 @@ fn emit_scaled(code: &mut Vec<Plain>, width: Width, index: Reg) -> Result<(), Al
 }
 
 // The register that shows it then.
-fn scaled_register(width: Width, index: Reg) -> Reg
-    ensures { result ≡ scaled_register width index }
+fn scaled_register(width: Width, t: NonzeroReg, index: Reg) -> Reg
+    ensures { result ≡ scaled_register width t index }
 {
     match width {
-        Width::Word => Reg::masked(SCRATCH_1),
+        Width::Word => t.reg(),
         Width::Byte => index,
     }
 }
 
-// From a scaled index to a base for the element, in the first scratch register.
-fn emit_sum(code: &mut Vec<Plain>, start: u32, index: Reg) -> Result<(), AllocError>
+// From a scaled index to a base for the element, in a register.
+fn emit_sum(code: &mut Vec<Plain>, t: NonzeroReg, start: u32, index: Reg) -> Result<(), AllocError>
     requires { start ≤ UNIT_BYTES }
-    ensures { Emits result code.old.items (base_sum start index) code.new.items }
+    ensures { Emits result code.old.items (base_sum t start index) code.new.items }
 {
     let base = Reg::masked(if start < 65_536 {
         GLOBAL_POINTER
@@ -121,7 +183,7 @@ fn emit_sum(code: &mut Vec<Plain>, start: u32, index: Reg) -> Result<(), AllocEr
     });
     let sum = Plain::Alu {
         op: AluOp::Addu,
-        rd: Reg::masked(SCRATCH_1),
+        rd: t.reg(),
         rs: index,
         rt: base,
     };
@@ -147,73 +209,91 @@ fn base_offset(start: u32) -> i16
     }
 }
 
+// A base for an element, in a register.
+fn emit_base(
+    code: &mut Vec<Plain>,
+    width: Width,
+    t: NonzeroReg,
+    start: u32,
+    x: &Source,
+) -> Result<(), AllocError>
+    requires few { start ≤ UNIT_BYTES }
+    requires fits { FitsSource x.now }
+    ensures { Emits result code.old.items (element_code width start (ByNew t) x.now) code.new.items }
+{
+    let index = operand_register(register(SCRATCH_1), x);
+    emit_fetch(code, register(SCRATCH_1), x)?;
+    emit_scaled(code, width, t, index)?;
+    emit_sum(code, t, start, scaled_register(width, t, index))
+}
+
 /// What stands before an element is used; an Err is refused memory.
 pub(crate) fn emit_element(
     code: &mut Vec<Plain>,
     width: Width,
     start: u32,
-    place: Option<u32>,
+    by: &Reach,
     x: &Source,
 ) -> Result<(), AllocError>
     requires few { start ≤ UNIT_BYTES }
     requires fits { FitsSource x.now }
-    ensures { Emits result code.old.items (element_code width start place x.now) code.new.items }
+    ensures { Emits result code.old.items (element_code width start by.now x.now) code.new.items }
 {
-    if place.is_some() {
-        return Ok(());
+    match by {
+        Reach::ByPointer(_) => Ok(()),
+        Reach::ByKept => Ok(()),
+        Reach::ByNew(t) => emit_base(code, width, *t, start, x),
     }
-    let index = operand_register(register(SCRATCH_1), x);
-    emit_fetch(code, register(SCRATCH_1), x)?;
-    emit_scaled(code, width, index)?;
-    emit_sum(code, start, scaled_register(width, index))
 }
 
 // The register from which an element is reached.
-fn element_base(place: Option<u32>) -> Reg
-    ensures { result ≡ element_base place }
+fn element_base(by: &Reach) -> Reg
+    ensures { result ≡ element_base by.now }
 {
-    match place {
-        None => Reg::masked(SCRATCH_1),
-        Some(_) => Reg::masked(GLOBAL_POINTER),
+    match by {
+        Reach::ByPointer(_) => Reg::masked(GLOBAL_POINTER),
+        Reach::ByKept => Reg::masked(KEPT_BASE),
+        Reach::ByNew(t) => t.reg(),
     }
 }
 
 // The offset of an element from that register.
-fn element_offset(start: u32, place: Option<u32>) -> i16
+fn element_offset(start: u32, by: &Reach) -> i16
     requires few { start ≤ UNIT_BYTES }
-    requires near { IsNear place }
-    ensures { result ≡ element_offset start place }
+    requires near { IsInReach by.now }
+    ensures { result ≡ element_offset start by.now }
 {
-    match place {
-        None => base_offset(start),
-        Some(p) => near(p),
+    match by {
+        Reach::ByPointer(p) => near(*p),
+        Reach::ByKept => base_offset(start),
+        Reach::ByNew(_) => base_offset(start),
     }
 }
 
 /// A load of an element.
-pub(crate) fn element_load(width: Width, rt: NonzeroReg, start: u32, place: Option<u32>) -> Plain
+pub(crate) fn element_load(width: Width, rt: NonzeroReg, start: u32, by: &Reach) -> Plain
     requires few { start ≤ UNIT_BYTES }
-    requires near { IsNear place }
-    ensures { result ≡ element_load width rt start place }
+    requires near { IsInReach by.now }
+    ensures { result ≡ element_load width rt start by.now }
 {
     Plain::Load {
         width,
         rt,
-        base: element_base(place),
-        offset: element_offset(start, place),
+        base: element_base(by),
+        offset: element_offset(start, by),
     }
 }
 
 /// A store to an element.
-pub(crate) fn element_store(width: Width, rt: Reg, start: u32, place: Option<u32>) -> Plain
+pub(crate) fn element_store(width: Width, rt: Reg, start: u32, by: &Reach) -> Plain
     requires few { start ≤ UNIT_BYTES }
-    requires near { IsNear place }
-    ensures { result ≡ element_store width rt start place }
+    requires near { IsInReach by.now }
+    ensures { result ≡ element_store width rt start by.now }
 {
     Plain::Store {
         width,
         rt,
-        base: element_base(place),
-        offset: element_offset(start, place),
+        base: element_base(by),
+        offset: element_offset(start, by),
     }
 }

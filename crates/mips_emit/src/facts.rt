@@ -5,6 +5,7 @@ ghost use Rattle.mips_emit.specs.Frames.{IsReachable};
 ghost use Rattle.runs.specs.Stores.{places_with};
 ghost use Rattle.mips_emit.specs.Locations.{known_of, known_in, facts_of, no_facts, word_in, deferred_at, deferred_const, deferred_none};
 ghost use Rattle.mips_emit.specs.Locations.{newest, with_fact, learned, in_slot, fresh_of};
+ghost use Rattle.mips_emit.specs.Locations.{index_register, index_of, kept_with, kept_without, kept_past};
 ghost use Rattle.mips_emit.specs.Comparisons.{last_with};
 ghost use Rattle.mips_emit.specs.Locations.{locations, operand, last_operand, FitsSource};
 
@@ -13,7 +14,7 @@ use crate::limits::KEPT_FACTS;
 use crate::location::{Location, Source, inner_of, locate, source_of, word_source};
 use mips_homes::{Frame, is_callee_saved};
 use mips_isa::NonzeroReg;
-use rtl::{RInst, Register};
+use rtl::{GlobalNumber, RInst, Register};
 use std::alloc::{AllocError, Global};
 
 /// A write of a pseudo-register, and the word that it is known to hold since, if any.
@@ -31,12 +32,20 @@ pub struct Last {
     pub comparison: Option<Comparison>,
 }
 
-/// What is known within a block: words of pseudo-registers, the newest last, and by the numbers of registers the words that
-/// these should hold but don't yet.
+/// A base of elements that a register of its own holds: of a global's elements at the index in another register.
+#[derive(Clone, Copy)]
+pub struct Kept {
+    pub global: GlobalNumber,
+    pub index: NonzeroReg,
+}
+
+/// What is known within a block: words of pseudo-registers, the newest last, by the numbers of registers the words that
+/// these should hold but don't yet, and the base that is kept.
 #[derive(Drop)]
 pub struct Knowledge {
     pub known: Vec<Fact>,
     pub deferred: [Option<u32>; 32],
+    pub kept: Option<Kept>,
 }
 
 impl Knowledge {
@@ -47,6 +56,7 @@ impl Knowledge {
         Ok(Knowledge {
             known: Vec::new(alloc),
             deferred: [None; 32],
+            kept: None,
         })
     }
 
@@ -56,6 +66,7 @@ impl Knowledge {
     {
         self.known.clear();
         self.deferred = [None; 32];
+        self.kept = None;
     }
 }
 
@@ -165,6 +176,69 @@ fn put_fact(facts: &mut Vec<Fact>, register: Register, word: Option<u32>) -> Res
     Ok(())
 }
 
+// The base that is kept while a register isn't written.
+fn kept_without(r: NonzeroReg, kept: Option<Kept>) -> Option<Kept>
+    ensures { result ≡ kept_without r kept }
+{
+    match kept {
+        None => None,
+        Some(k) => if k.index == r { None } else { Some(k) },
+    }
+}
+
+// The base that is kept past a write.
+fn kept_past(place: Option<Location>, kept: Option<Kept>) -> Option<Kept>
+    ensures { result ≡ kept_past place kept }
+{
+    match place {
+        None => kept,
+        // (rattle 13f: a nested pattern through another crate's type ends in "a bug in rattle": CONTRIBUTING.md)
+        Some(location) => match location {
+            Location::Held(r) => kept_without(r, kept),
+            Location::InSlot(_) => kept,
+            Location::Copied(r, _) => kept_without(r, kept),
+        },
+    }
+}
+
+// The base that is kept once an element is used.
+fn kept_with(global: GlobalNumber, index: Option<NonzeroReg>, kept: Option<Kept>) -> Option<Kept>
+    ensures { result ≡ kept_with global index kept }
+{
+    match index {
+        None => kept,
+        Some(index) => Some(Kept { global, index }),
+    }
+}
+
+/// The register of an index that is no known word.
+pub(crate) fn index_register(known: Option<u32>, x: &Source) -> Option<NonzeroReg>
+    ensures { result ≡ index_register known x.now }
+{
+    match known {
+        Some(_) => None,
+        None => match x {
+            Source::Zero => None,
+            Source::Word(_) => None,
+            Source::From(location) => match location {
+                Location::Held(r) => Some(*r),
+                Location::InSlot(_) => None,
+                Location::Copied(_, _) => None,
+            },
+        },
+    }
+}
+
+// The base that is kept once an element is used whose index is a pseudo-register.
+fn kept_at(facts: &Knowledge, frame: &Frame, a: GlobalNumber, i: Register) -> Option<Kept>
+    requires { IsReachable frame.now }
+    ensures { result ≡ kept_with a (index_of (locations frame.now) (facts_of facts.now) i) (facts_of facts.now).kept }
+{
+    let known = known_word(facts, i);
+    let x = operand_by(facts, frame, i, known);
+    kept_with(a, index_register(known, &x), facts.kept)
+}
+
 /// What is known after an instruction; an Err is refused memory, and leaves what was known.
 pub(crate) fn learn(facts: &mut Knowledge, frame: &Frame, inst: &RInst) -> Result<(), AllocError>
     requires frame { IsReachable frame.now }
@@ -175,17 +249,26 @@ pub(crate) fn learn(facts: &mut Knowledge, frame: &Frame, inst: &RInst) -> Resul
         RInst::Const(d, word) => {
             put_fact(&mut facts.known, *d, Some(*word))?;
             defer(&mut facts.deferred, locate(frame, *d), *word);
+            facts.kept = kept_past(locate(frame, *d), facts.kept);
         }
         RInst::Move(d, a) => {
             let word = known_word(facts, *a);
             put_fact(&mut facts.known, *d, word)?;
             clear_deferred(&mut facts.deferred, locate(frame, *d));
+            facts.kept = kept_past(locate(frame, *d), facts.kept);
         }
-        RInst::Bin(_, d, _, _) | RInst::Load(d, _, _) => {
+        RInst::Bin(_, d, _, _) => {
             put_fact(&mut facts.known, *d, None)?;
             clear_deferred(&mut facts.deferred, locate(frame, *d));
+            facts.kept = kept_past(locate(frame, *d), facts.kept);
         }
-        RInst::Store(_, _, _) => {}
+        RInst::Load(d, a, i) => {
+            let kept = kept_at(facts, frame, *a, *i);
+            put_fact(&mut facts.known, *d, None)?;
+            clear_deferred(&mut facts.deferred, locate(frame, *d));
+            facts.kept = kept_past(locate(frame, *d), kept);
+        }
+        RInst::Store(a, i, _) => facts.kept = kept_at(facts, frame, *a, *i),
     }
     Ok(())
 }

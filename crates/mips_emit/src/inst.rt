@@ -11,15 +11,20 @@ ghost use Rattle.mips_emit.specs.Frames.{IsReachable};
 ghost use Rattle.mips_emit.specs.declared.comparison.Asked.TheVariants.{Nothing};
 ghost use Rattle.mips_emit.specs.Locations.{facts_of, inner_of, locations, word_source, operand, known_after, FitsSource};
 ghost use Rattle.mips_emit.specs.Comparisons.{FitsComparison, next_code, last_after, no_last, code_of_insts};
-ghost use Rattle.mips_emit.specs.Elements.{AreStarts, width_of};
-ghost use Rattle.mips_emit.specs.Code.{const_code, put_at, into, finish, op_code, load_code, store_code, inst_code};
+ghost use Rattle.mips_emit.specs.Elements.{AreStarts, IsInReach, width_of};
+ghost use Rattle.mips_emit.specs.Code.{const_code, put_at, into, finish, op_code, holds_base, reach_with, load_code, store_code, inst_code};
 ghost use Rattle.mips_emit.specs.Prefixes.{Emits, StopsAmong};
 
 use crate::comparison::{Asked, Comparison, comparison_of, emit_comparison};
 use crate::constant::emit_one;
-use crate::element::{direct, element_load, element_store, emit_element};
-use crate::facts::{Knowledge, Last, fresh_of, known_word, last_with, learn, operand, operand_by};
-use crate::location::{Location, inner_of, locate, register, word_source};
+use crate::element::{
+    Reach, direct, element_load, element_store, emit_element, reach_by, same_base,
+};
+use crate::facts::{
+    Kept, Knowledge, Last, fresh_of, index_register, known_word, last_with, learn, operand,
+    operand_by,
+};
+use crate::location::{Location, Source, inner_of, locate, register, word_source};
 use crate::operation::{Operand, emit_op, operand_with};
 use crate::transfer::{emit_bring, emit_fetch, emit_finish, emit_put, into_of, operand_register};
 use mips_homes::{Frame, SCRATCH_2, is_callee_saved};
@@ -36,11 +41,12 @@ pub struct Setting<'a> {
     pub frame: &'a Frame,
 }
 
-// A global in data memory: the width of its elements, and where it begins.
+// An element: its width, where its global begins, and how it is reached.
 #[derive(Clone, Copy)]
-struct Array {
+struct Element {
     width: Width,
     start: u32,
+    by: Reach,
 }
 
 // A word into a register, or nothing yet.
@@ -115,50 +121,50 @@ fn emit_op_into(
 // An element into a pseudo-register.
 fn emit_load(
     code: &mut Vec<Plain>,
-    facts: &Knowledge,
     frame: &Frame,
-    array: Array,
+    element: &Element,
+    x: &Source,
     d: Register,
-    i: Register,
 ) -> Result<(), AllocError>
     requires frame { IsReachable frame.now }
-    requires few { array.start ≤ UNIT_BYTES }
+    requires few { element.now.start ≤ UNIT_BYTES }
+    requires near { IsInReach element.now.by }
+    requires fits { FitsSource x.now }
     ensures { Emits result code.old.items
-        (load_code (locations frame.now) (facts_of facts.now) array.width array.start d i)
+        (load_code (locations frame.now d) element.now.width element.now.start element.now.by x.now)
         code.new.items }
 {
-    let known = known_word(facts, i);
-    let x = operand_by(facts, frame, i, known);
-    let place = direct(array.width, array.start, known);
     let rt = into_of(locate(frame, d));
-    emit_element(code, array.width, array.start, place, &x)?;
-    emit_one(code, element_load(array.width, rt, array.start, place))?;
+    emit_element(code, element.width, element.start, &element.by, x)?;
+    emit_one(
+        code,
+        element_load(element.width, rt, element.start, &element.by),
+    )?;
     emit_finish(code, locate(frame, d))
 }
 
-// A pseudo-register into an element.
+// An operand into an element.
 fn emit_store(
     code: &mut Vec<Plain>,
-    facts: &Knowledge,
-    frame: &Frame,
-    array: Array,
-    i: Register,
-    b: Register,
+    element: &Element,
+    x: &Source,
+    y: &Source,
 ) -> Result<(), AllocError>
-    requires frame { IsReachable frame.now }
-    requires few { array.start ≤ UNIT_BYTES }
+    requires few { element.now.start ≤ UNIT_BYTES }
+    requires near { IsInReach element.now.by }
+    requires index { FitsSource x.now }
+    requires value { FitsSource y.now }
     ensures { Emits result code.old.items
-        (store_code (locations frame.now) (facts_of facts.now) array.width array.start i b)
+        (store_code element.now.width element.now.start element.now.by x.now y.now)
         code.new.items }
 {
-    let known = known_word(facts, i);
-    let x = operand_by(facts, frame, i, known);
-    let y = operand(facts, frame, b);
-    let place = direct(array.width, array.start, known);
-    emit_element(code, array.width, array.start, place, &x)?;
-    emit_fetch(code, register(SCRATCH_2), &y)?;
-    let rt = operand_register(register(SCRATCH_2), &y);
-    emit_one(code, element_store(array.width, rt, array.start, place))
+    emit_element(code, element.width, element.start, &element.by, x)?;
+    emit_fetch(code, register(SCRATCH_2), y)?;
+    let rt = operand_register(register(SCRATCH_2), y);
+    emit_one(
+        code,
+        element_store(element.width, rt, element.start, &element.by),
+    )
 }
 
 // The width of a global's elements.
@@ -171,17 +177,68 @@ fn width_of(globals: &[RGlobal], a: GlobalNumber) -> Width
     }
 }
 
-// A global by its number.
-fn array_of(setting: &Setting<'_>, a: GlobalNumber) -> Array
+// Where a global begins.
+fn start_of(starts: &[u32], a: GlobalNumber) -> u32
+    requires { AreStarts starts.now }
+    ensures start { result ≡ slice_index starts.now a }
+    ensures few { result ≤ UNIT_BYTES }
+{
+    match starts.get(a as usize) {
+        Some(start) => *start,
+        None => 0,
+    }
+}
+
+// Whether the base that is kept is one of a global's elements at the index in a register.
+fn holds_base(
+    setting: &Setting<'_>,
+    kept: &Option<Kept>,
+    a: GlobalNumber,
+    index: &Option<NonzeroReg>,
+) -> bool
+    requires { AreStarts setting.now.starts.now }
+    ensures { result ≡ holds_base setting.now.globals.now (slice_index setting.now.starts.now) kept.now a index.now }
+{
+    match kept {
+        None => false,
+        Some(k) => match index {
+            None => false,
+            Some(r) => {
+                k.index == *r
+                    && same_base(
+                        width_of(setting.globals, k.global),
+                        start_of(setting.starts, k.global),
+                        width_of(setting.globals, a),
+                        start_of(setting.starts, a),
+                    )
+            }
+        },
+    }
+}
+
+// An element of a global, whose index is a pseudo-register.
+fn element_at(
+    setting: &Setting<'_>,
+    facts: &Knowledge,
+    a: GlobalNumber,
+    known: Option<u32>,
+    x: &Source,
+) -> Element
     requires few { AreStarts setting.now.starts.now }
-    requires named { a < length setting.now.starts.now }
     ensures width { result.width ≡ width_of setting.now.globals.now a }
     ensures start { result.start ≡ slice_index setting.now.starts.now a }
     ensures few { result.start ≤ UNIT_BYTES }
+    ensures by { result.by ≡ reach_with setting.now.globals.now (slice_index setting.now.starts.now) (facts_of facts.now).kept a known x.now }
+    ensures near { IsInReach result.by }
 {
-    Array {
-        width: width_of(setting.globals, a),
-        start: setting.starts[a as usize],
+    let width = width_of(setting.globals, a);
+    let start = start_of(setting.starts, a);
+    let index = index_register(known, x);
+    let is_kept = holds_base(setting, &facts.kept, a, &index);
+    Element {
+        width,
+        start,
+        by: reach_by(direct(width, start, known), index, is_kept),
     }
 }
 
@@ -208,8 +265,19 @@ fn emit_inst(
             let y = operand_with(facts, frame, *b);
             emit_op_into(code, frame, *op, *d, &x, &y)
         }
-        RInst::Load(d, a, i) => emit_load(code, facts, frame, array_of(setting, *a), *d, *i),
-        RInst::Store(a, i, b) => emit_store(code, facts, frame, array_of(setting, *a), *i, *b),
+        RInst::Load(d, a, i) => {
+            let known = known_word(facts, *i);
+            let x = operand_by(facts, frame, *i, known);
+            let element = element_at(setting, facts, *a, known, &x);
+            emit_load(code, frame, &element, &x, *d)
+        }
+        RInst::Store(a, i, b) => {
+            let known = known_word(facts, *i);
+            let x = operand_by(facts, frame, *i, known);
+            let element = element_at(setting, facts, *a, known, &x);
+            let y = operand(facts, frame, *b);
+            emit_store(code, &element, &x, &y)
+        }
     }
 }
 

@@ -21,8 +21,9 @@ mod transfer;
 
 pub use comparison::{Asked, Comparison, Form, comparison_exit, returned, tested};
 pub use constant::{emit_constant, emit_load_word, emit_store_word};
+pub use element::Reach;
 pub use exit::{emit_arguments, emit_arrival, emit_departure};
-pub use facts::{Fact, Knowledge, Last, known_word, last_operand};
+pub use facts::{Fact, Kept, Knowledge, Last, known_word, last_operand};
 pub use inst::{Setting, emit_insts};
 pub use limits::{FRAME_BYTES, limits_are_these_numbers};
 pub use location::{Location, Source, register};

@@ -1,4 +1,4 @@
-// The calling convention: what each register is for. Register 0 is always 0, and register 30 isn't used.
+// The calling convention: what each register is for. Register 0 is always 0, and register 30 keeps bases of elements within a block.
 
 ghost use Rattle.std.specs.Prelude.{◌≡◌};
 ghost use Rattle.mips_homes.specs.Convention.{is_callee_saved};

@@ -30,9 +30,11 @@ use Rattle.mips_emit.specs.declared.comparison.Form.{Form}
 use Rattle.mips_emit.specs.declared.comparison.Form.TheVariants.{Known, OnPair, OnLeft, OnRight, ByResult, ByOpposite, InResult}
 use Rattle.mips_emit.specs.declared.facts.Last.{Last}
 use Rattle.mips_emit.specs.Locations.{Locations, Facts, location_at, locations_of, locations, known_in, learned, operand, last_operand, inner_of, word_source}
-use Rattle.mips_emit.specs.Elements.{direct, scaled, base_sum, scaled_register, width_of, page, address_of_place}
+use Rattle.mips_emit.specs.declared.element.Reach.{Reach}
+use Rattle.mips_emit.specs.declared.element.Reach.TheVariants.{ByPointer, ByKept, ByNew}
+use Rattle.mips_emit.specs.Elements.{scaled, base_sum, scaled_register, width_of, page, address_of_place}
 use Rattle.mips_emit.specs.Code.{constant, is_small, half, li, fetch, operand_register, bring, stays, carry, into, finish, put_at, arrive, operation, code_by_less}
-use Rattle.mips_emit.specs.Code.{code_by_left, code_by_right, code_by_word, multiple_of, multiple_code, code_by_multiple, op_code, element_code}
+use Rattle.mips_emit.specs.Code.{code_by_left, code_by_right, code_by_word, multiple_of, multiple_code, code_by_multiple, op_code, reach_of, element_code}
 use Rattle.mips_emit.specs.Code.{immediate_of, turned_immediate_of, turned_less_of, element_load, const_code, nop, inst_code, arguments_code}
 use Rattle.mips_emit.specs.Comparisons.{code_by_form, opposite_op, comparison_of, asked_last, next_code, insts_code, branch_code}
 use Rattle.mips_emit.specs.Comparisons.{tested, returned, return_code}
@@ -166,22 +168,23 @@ op_few op t d left right x y =
 
 -- ---- instructions
 
-scaled_few : (w : Width) (q : ℕ) → length (scaled w q) ≤ 1
-scaled_few Word q = omega arith
-scaled_few Byte q = omega arith
+scaled_few : (w : Width) (t q : ℕ) → length (scaled w t q) ≤ 1
+scaled_few Word t q = omega arith
+scaled_few Byte t q = omega arith
 
-sum_few : (start q : ℕ) → length (base_sum start q) ≤ 2
-sum_few start q = by (nat_lt start 65536)
+sum_few : (t start q : ℕ) → length (base_sum t start q) ≤ 2
+sum_few t start q = by (nat_lt start 65536)
   where
-    by : (near : Bool) → length (if near then Alu Addu 1 q 28 ∷ [] else LoadUpper 2 (page (address_of_place start)) ∷ Alu Addu 1 q 2 ∷ []) ≤ 2
+    by : (near : Bool) → length (if near then Alu Addu t q 28 ∷ [] else LoadUpper 2 (page (address_of_place start)) ∷ Alu Addu t q 2 ∷ []) ≤ 2
     by true = omega arith
     by false = omega arith
 
-element_few : (w : Width) (start : ℕ) (o : Option ℕ) (x : Source) → length (element_code w start o x) ≤ 5
-element_few w start None x =
+element_few : (w : Width) (start : ℕ) (by : Reach) (x : Source) → length (element_code w start by x) ≤ 5
+element_few w start (ByNew t) x =
     joined _ 2 3 5 (fetch 1 x) (fetch_few 1 x)
-    (joined _ 1 2 3 (scaled w (operand_register 1 x)) (scaled_few w (operand_register 1 x)) (sum_few start (scaled_register w (operand_register 1 x))) (omega arith)) (omega arith)
-element_few w start (Some p) x = omega arith
+    (joined _ 1 2 3 (scaled w t (operand_register 1 x)) (scaled_few w t (operand_register 1 x)) (sum_few t start (scaled_register w t (operand_register 1 x))) (omega arith)) (omega arith)
+element_few w start (ByPointer p) x = omega arith
+element_few w start ByKept x = omega arith
 
 const_few : (o : Option Location) (w : ℕ) → length (const_code o w) ≤ 8
 const_few None w = omega arith
@@ -200,14 +203,14 @@ inst_few globals starts at facts (Bin op d a b) =
     (omega arith)
 inst_few globals starts at facts (Load d a i) =
     let w = width_of globals a in
-    let place = direct w (starts a) (known_in facts i) in
-    joined _ 6 1 8 (element_code w (starts a) place (operand at facts i) ++ element_load w (into (at d)) (starts a) place ∷ [])
-    (one_behind _ 5 6 (element_code w (starts a) place (operand at facts i)) (element_few w (starts a) place (operand at facts i)) (omega arith))
+    let by = reach_of globals starts at facts a i in
+    joined _ 6 1 8 (element_code w (starts a) by (operand at facts i) ++ element_load w (into (at d)) (starts a) by ∷ [])
+    (one_behind _ 5 6 (element_code w (starts a) by (operand at facts i)) (element_few w (starts a) by (operand at facts i)) (omega arith))
     (finish_few (at d)) (omega arith)
 inst_few globals starts at facts (Store a i b) =
     let w = width_of globals a in
-    let place = direct w (starts a) (known_in facts i) in
-    joined _ 5 3 8 (element_code w (starts a) place (operand at facts i)) (element_few w (starts a) place (operand at facts i))
+    let by = reach_of globals starts at facts a i in
+    joined _ 5 3 8 (element_code w (starts a) by (operand at facts i)) (element_few w (starts a) by (operand at facts i))
     (one_behind _ 2 3 (fetch 2 (operand at facts b)) (fetch_few 2 (operand at facts b)) (omega arith)) (omega arith)
 
 form_few : (f : Form) (op : Op) (l r : Option ℕ) (x y : Source) → length (code_by_form f op l r x y) ≤ 8
