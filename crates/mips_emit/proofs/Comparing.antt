@@ -134,7 +134,7 @@ t2 = record { low = omega arith; high = omega arith }
 
 -- what is known then: nothing but that a register doesn't hold its word
 abbrev pub waiting : Facts → (q u : ℕ) → Facts
-waiting facts q u = record { known = []; deferred = places_with facts.deferred q (Some u); kept = None }
+waiting facts q u = record { known = []; deferred = places_with facts.deferred q (Some u); kept = None; offset = None }
 
 module _ (most total : ℕ) (gs : List RGlobal) (starts : ℕ → ℕ) where
   module _ (registers : Places) (g : Arrays) (top : Stored) (fs : List Stored) (s : State) (h : Stands most total gs starts registers g (top ∷ fs) s) where

@@ -31,7 +31,7 @@ use Rattle.mips_emit.proofs.View.{moves, loads_word, stores_word, Sets, set_sets
 use Rattle.mips_emit.proofs.Stands.{Stored, size_of, with_slots, StackHolds, stack_same, stack_top, LeafHolds, Linked, linked_kept, Stands, open_stack}
 use Rattle.mips_emit.proofs.Operands.{IsKnown, hidden, hide, AreDeferred, deferred_written, one_deferred, shown_written, shown_deferred}
 use Rattle.mips_emit.proofs.Operands.{known_register, known_slot, IsFresh, stack_apart, Denotes, IsAway, longer, longer_behind, bring_some}
-use Rattle.mips_emit.proofs.Operands.{IsElsewhere, Keeps, Ends, runs_nop}
+use Rattle.mips_emit.proofs.Operands.{IsElsewhere, Keeps, Holds, Ends, runs_nop}
 
 module _ (most total : ℕ) (gs : List RGlobal) (starts : ℕ → ℕ) where
   -- registers, HI and LO change, but not 28 and 29
@@ -476,11 +476,11 @@ module _ (most total : ℕ) (gs : List RGlobal) (starts : ℕ → ℕ) where
 
     -- and that a result for a slot is still in the slot's inner temporary
     abbrev pub GoOn : (P : Run → Type 0) (go : Places → Places → Run) (is : List Plain) (s0 : State) (known : Places) (x : ℕ) (o : Option ℕ) (hs : List Home)
-        (l : Option Location) (fresh : Option ℕ) → Type 0
-    GoOn P go is s0 known x o hs l fresh = (registers' slots' : Places) (s' : State) → 1 ≤ length is → RunsTo is s0 s'
+        (l : Option Location) (v : ℕ) (fresh : Option ℕ) → Type 0
+    GoOn P go is s0 known x o hs l v fresh = (registers' slots' : Places) (s' : State) → 1 ≤ length is → RunsTo is s0 s'
         → Stands most total gs starts (hide (deferred_none l deferred) registers') g (with_slots top slots' ∷ fs) s'
         → AreDeferred (deferred_none l deferred) registers' → IsKnown (places_with known x o) hs registers' slots'
-        → Keeps l s.regs s'.regs → IsFresh fresh top.copies hs registers' slots' s' → P (go registers' slots')
+        → Keeps l s.regs s'.regs → Holds l s'.regs v → IsFresh fresh top.copies hs registers' slots' s' → P (go registers' slots')
 
     -- writes of a register for a location
     held_keeps : (r : ℕ) (regs : ℕ → ℕ) → r < 28 → ((q : ℕ) → q ≢ r → regs q ≡ s.regs q) → Keeps (Some (Held r)) s.regs regs
@@ -504,7 +504,7 @@ module _ (most total : ℕ) (gs : List RGlobal) (starts : ℕ → ℕ) where
     pub finishes : (P : Run → Type 0) (go : Places → Places → Run) (hs : List Home) (x v : ℕ) (o : Option ℕ) (out : List ℕ) (known : Places)
         (is : List Plain) (s0 : State) → Ends is s0 s (into (location_at top.copies (slice_get hs x))) v → 1 ≤ length is → ((w : ℕ) → o ≡ Some w → w ≡ v)
         → AreFrameHomes hs top.copies top.count → IsKnown known hs registers top.slots → P (Failed out)
-        → GoOn P go (is ++ finish (location_at top.copies (slice_get hs x))) s0 known x o hs (location_at top.copies (slice_get hs x)) (in_slot (location_at top.copies (slice_get hs x)) x)
+        → GoOn P go (is ++ finish (location_at top.copies (slice_get hs x))) s0 known x o hs (location_at top.copies (slice_get hs x)) v (in_slot (location_at top.copies (slice_get hs x)) x)
         → P (write_home hs registers top.slots x v out go)
     finishes P go hs x v o out known is s0 e some said ok k failed f = by (slice_get hs x) refl e f
       where
@@ -518,7 +518,7 @@ module _ (most total : ℕ) (gs : List RGlobal) (starts : ℕ → ℕ) where
             ∙ ap (λ p. inner_of (location_at top.copies p)) at ∙ ap (λ c. inner_of (Some (in_frame j c))) none
 
         slot : (j : ℕ) → slice_get hs x ≡ Some (Slot j) → (c : Option ℕ) → copy_of top.copies j ≡ c → Ends is s0 s (into (Some (in_frame j c))) v
-            → GoOn P go (is ++ finish (Some (in_frame j c))) s0 known x o hs (Some (in_frame j c)) (in_slot (Some (in_frame j c)) x)
+            → GoOn P go (is ++ finish (Some (in_frame j c))) s0 known x o hs (Some (in_frame j c)) v (in_slot (Some (in_frame j c)) x)
             → P (go registers (places_with top.slots j (Some v)))
         slot j at (Some r) copy e f =
             let lt = ok.by x (Slot j) at in
@@ -526,7 +526,7 @@ module _ (most total : ℕ) (gs : List RGlobal) (starts : ℕ → ℕ) where
             let c = copy_stored (hide deferred registers) g top fs s h hs ok j r v copy lt e.below e.regs e.here e.others in
             f registers (places_with top.slots j (Some v)) (set_word s1 (e.regs 29 + 4 * j) v) (longer is (store_word_at r (4 * j) ∷ []) some)
             (runs_then e.runs c.0) c.1 are_deferred (known_slot known hs top.copies top.count registers top.slots x j v o ok at said k)
-            (copy_keeps hs ok j r copy e.regs e.others) (record { by = λ c w is. absurd (none-some c is) })
+            (copy_keeps hs ok j r copy e.regs e.others) tt (record { by = λ c w is. absurd (none-some c is) })
         slot j at None none e f =
             let lt = ok.by x (Slot j) at in
             let s1 : State = record s { regs = e.regs } in
@@ -541,14 +541,14 @@ module _ (most total : ℕ) (gs : List RGlobal) (starts : ℕ → ℕ) where
             (runs_then e.runs store)
             (slot_written (hide deferred registers) g top fs s1 st j v lt e.below (λ r c. absurd (none-some r (sym none ∙ c)))) are_deferred
             (known_slot known hs top.copies top.count registers top.slots x j v o ok at said k)
-            (inner_keeps j e.regs e.others)
+            (inner_keeps j e.regs e.others) tt
             (record {
               by = λ c w is there. ap e.regs (slot_inner j c at none (same_Some x c is)) ∙ e.here ∙ same_Some v w (sym (slot_read j at)
                   ∙ ap (read_home hs registers (places_with top.slots j (Some v))) (same_Some x c is) ∙ there);
             })
 
         by : (p : Option Home) → slice_get hs x ≡ p → Ends is s0 s (into (location_at top.copies p)) v
-            → GoOn P go (is ++ finish (location_at top.copies p)) s0 known x o hs (location_at top.copies p) (in_slot (location_at top.copies p) x)
+            → GoOn P go (is ++ finish (location_at top.copies p)) s0 known x o hs (location_at top.copies p) v (in_slot (location_at top.copies p) x)
             → P (with_value p out (λ h. write_at h registers top.slots v go))
         by None at e f = failed
         by (Some (Reg r)) at e f =
@@ -558,7 +558,7 @@ module _ (most total : ℕ) (gs : List RGlobal) (starts : ℕ → ℕ) where
             (runs_then e.runs (runs_none (record s { regs = e.regs })))
             (written r v (record s { regs = e.regs }) (register_written (hide deferred registers) g top fs s h r v e.regs range.0 range.1 (λ k c. (ok.copied).idle x k r at c) e.below e.here e.others))
             (deferred_written deferred registers r (Some v) are_deferred)
-            (known_register known hs top.copies top.count registers top.slots x r v o ok at said k) (held_keeps r e.regs range.1 e.others)
+            (known_register known hs top.copies top.count registers top.slots x r v o ok at said k) (held_keeps r e.regs range.1 e.others) e.here
             (record { by = λ c w is. absurd (none-some c is) })
         by (Some (Slot j)) at e f = slot j at (copy_of top.copies j) refl e f
 

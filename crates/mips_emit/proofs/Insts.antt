@@ -1,7 +1,7 @@
 -- Each instruction's code does what the instruction does.
 use Rattle.std.proofs.Common.{◌≡◌, ◌≢◌, ℕ, ℤ, zero, suc, ◌+◌, ◌^◌, ◌*◌, ◌<◌, ◌≤◌, Bool, true, false, true≢false, ◌&&◌, List, [], ◌∷◌, ◌++◌, take, map}
 use Rattle.std.proofs.Common.{length, Option, Some, None, refl, sym, ap, ◌∙◌, subst, arith, ap₂, nat_eq, ltb-true, eqb-true}
-use Rattle.std.specs.Prelude.{if◌then◌else◌, slice_get, nat_lt}
+use Rattle.std.specs.Prelude.{◌-◌, if◌then◌else◌, slice_get, nat_lt}
 use Rattle.std.proofs.lemmas.Option.{same_Some, none-some}
 use Rattle.words.specs.declared.operator.Operator.TheVariants as operators
 use Rattle.words.specs.declared.width.Width.{Width}
@@ -40,17 +40,23 @@ use Rattle.mips_emit.specs.Locations.{in_frame, Facts, known_of, known_in, with_
 use Rattle.mips_emit.specs.Locations.{last_of, inner_of, word_source, operand, index_register, index_of, kept_with}
 use Rattle.mips_emit.specs.declared.facts.Kept.{Kept}
 use Rattle.mips_emit.specs.declared.element.Reach.{Reach}
-use Rattle.mips_emit.specs.declared.element.Reach.TheVariants.{ByPointer, ByKept, ByNew}
-use Rattle.mips_emit.specs.Elements.{width_of, width_bytes, element_place, place_in, address_of_place, data_middle, direct, near, base_code}
-use Rattle.mips_emit.specs.Elements.{base_offset, base_word, shares_base, reach_by, element_base, element_offset}
+use Rattle.mips_emit.specs.declared.element.Reach.TheVariants.{ByPointer, ByScratch, ByKept, ByNew}
+use Rattle.mips_emit.specs.declared.location.Location.{Location}
+use Rattle.mips_emit.specs.declared.offset.Offset.{Offset}
+use Rattle.mips_emit.specs.Offsets.{addend, offset_from, offset_of, sum_offset, or_offset, offset_past, offset_in, index_with}
+use Rattle.rtl.specs.declared.operator.Op.TheVariants.{Add, Sub, Mul, DivS, DivU, RemS, RemU, And, Or, Xor, Shl, ShrU, ShrS, Eq, Ne, LtS, LtU, LeS, LeU}
+use Rattle.std.proofs.lemmas.Bool.{eqb-false}
+use Rattle.mips_emit.specs.Elements.{width_of, width_bytes, element_place, place_in, address_of_place, data_middle, near, base_code}
+use Rattle.mips_emit.specs.Elements.{base_offset, base_word, shares_base, base_index, shifted_offset, reach_by, element_base, element_offset}
 use Rattle.mips_emit.specs.Code.{fetch, operand_register, into, operation, immediate_of, is_symmetric, turned_immediate_of, turned_less_of, code_by_less, code_by_left}
 use Rattle.mips_emit.specs.Code.{multiple_of, multiple_code, code_by_multiple, code_by_word}
 use Rattle.mips_emit.specs.Code.{code_by_right, op_code, holds_base, reach_with, reach_of, element_code, element_load, element_store, inst_code}
 use Rattle.mips_emit.proofs.Runs.{RunsTo, runs_none, runs_then}
-use Rattle.mips_emit.proofs.View.{shown_at, word_of_offset, shown_below, set, set_at, set_sets, read_register, put_here, put_other, IsTarget, IsInner, inner_is, inner_target, loads_at, stores_at, near_word, read_other, Based, based, from_base}
+use Rattle.mips_emit.proofs.View.{shown_at, word_of_offset, shown_below, set, set_at, set_sets, read_register, put_here, put_other, IsTarget, IsInner, inner_is, inner_target, loads_at, stores_at, near_word, read_other, Based, based, from_base, from_shifted}
 use Rattle.mips_emit.proofs.Stands.{Stored, with_slots, Stands}
 use Rattle.mips_emit.proofs.Operands.{IsLast, none_last, known_with, known_without, IsKnown, Denotes, IsAway, operand_register_kept, longer_behind}
-use Rattle.mips_emit.proofs.Operands.{Ends, hide, AreDeferred, IsKept, kept_here, kept_same, kept_written}
+use Rattle.mips_emit.proofs.Operands.{Ends, hide, AreDeferred, Keeps, Holds, IsKept, IsOffset, AreBases, IsIndex, kept_here, offset_here, of_index, kept_same, offset_same}
+use Rattle.mips_emit.proofs.Operands.{kept_written, offset_written, bases_written, index_is, index_same}
 use Rattle.mips_emit.proofs.Homes.{regs_kept, base_changed, tells}
 use Rattle.mips_emit.proofs.Homes.{operand_below, operand_means, fetches, sets_kept, finishes, puts, stands_with}
 use Rattle.mips_emit.proofs.Globals.{kept_is, data_open, data_written, stored_at}
@@ -131,6 +137,96 @@ operand_register_apart (From (Held r)) away = λ e. absurd (omega (arith, e, awa
 operand_register_apart (From (InSlot k)) away = λ e. absurd (omega (arith, e))
 operand_register_apart (From (Copied r k)) away = λ e. absurd (omega (arith, e, away.0))
 
+-- what an operator with a known word adds
+difference : (v w : ℕ) → wrap (v + (2 ^ 32 - w)) ≡ wrap (v + wrap (2 ^ 32 - w))
+difference v w = omega arith
+
+sums_to : (op : Op) (v w u c : ℕ) → op_result op v w ≡ Some u → addend op w ≡ Some c → u ≡ wrap (v + c)
+sums_to Add v w u c e is = sym (same_Some (wrap (v + w)) u e) ∙ ap (λ c. wrap (v + c)) (same_Some w c is)
+sums_to Sub v w u c e is = sym (same_Some (wrap (v + (2 ^ 32 - w))) u e) ∙ difference v w ∙ ap (λ c. wrap (v + c)) (same_Some (wrap (2 ^ 32 - w)) c is)
+sums_to Mul v w u c e is = absurd (none-some c is)
+sums_to DivS v w u c e is = absurd (none-some c is)
+sums_to DivU v w u c e is = absurd (none-some c is)
+sums_to RemS v w u c e is = absurd (none-some c is)
+sums_to RemU v w u c e is = absurd (none-some c is)
+sums_to And v w u c e is = absurd (none-some c is)
+sums_to Or v w u c e is = absurd (none-some c is)
+sums_to Xor v w u c e is = absurd (none-some c is)
+sums_to Shl v w u c e is = absurd (none-some c is)
+sums_to ShrU v w u c e is = absurd (none-some c is)
+sums_to ShrS v w u c e is = absurd (none-some c is)
+sums_to Eq v w u c e is = absurd (none-some c is)
+sums_to Ne v w u c e is = absurd (none-some c is)
+sums_to LtS v w u c e is = absurd (none-some c is)
+sums_to LtU v w u c e is = absurd (none-some c is)
+sums_to LeS v w u c e is = absurd (none-some c is)
+sums_to LeU v w u c e is = absurd (none-some c is)
+
+-- a register that is a home
+abbrev IsRegister : Option Location → Type 0
+IsRegister None = Unit {0}
+IsRegister (Some (Held r)) = (4 ≤ r) × (r < 28)
+IsRegister (Some (InSlot k)) = Unit {0}
+IsRegister (Some (Copied r k)) = Unit {0}
+
+home_register : (hs : List Home) (copies : List SlotCopy) (count x : ℕ) → AreFrameHomes hs copies count → IsRegister (location_at copies (slice_get hs x))
+home_register hs copies count x ok = go (slice_get hs x) refl
+  where
+    slot : (k : ℕ) (c : Option ℕ) → IsRegister (Some (in_frame k c))
+    slot k None = tt
+    slot k (Some r) = tt
+
+    go : (o : Option Home) → slice_get hs x ≡ o → IsRegister (location_at copies o)
+    go None e = tt
+    go (Some (Reg r)) e = ok.by x (Reg r) e
+    go (Some (Slot k)) e = slot k (copy_of copies k)
+
+-- what an operator leaves in a register, of which the right operand may be known
+module _ (op : Op) (v w u : ℕ) (f f' : ℕ → ℕ) (old : Option Offset) (e : op_result op v w ≡ Some u) (before : IsOffset old f) where
+  sum_held : (t : ℕ) (right : Option ℕ) (x : Source) → 4 ≤ t → t < 28 → IsAway x → ((r : ℕ) → x ≡ From (Held r) → f r ≡ v)
+      → ((c : ℕ) → right ≡ Some c → c ≡ w) → Keeps (Some (Held t)) f f' → f' t ≡ u
+      → IsOffset (or_offset (offset_of t op right x) (offset_past (Some (Held t)) old)) f'
+  sum_held t right x low high away at said keeps is = by right x away at said
+    where
+      others : IsOffset (offset_past (Some (Held t)) old) f'
+      others = offset_written (Some (Held t)) old f f' keeps before
+
+      from : (r c : ℕ) → 4 ≤ r → r < 28 → f r ≡ v → c ≡ w → (o : Option ℕ) → addend op c ≡ o
+          → IsOffset (or_offset (offset_from t r o) (offset_past (Some (Held t)) old)) f'
+      from r c r_low r_high at same None added = others
+      from r c r_low r_high at same (Some d) added = go (nat_eq r t) refl
+        where
+          go : (b : Bool) → nat_eq r t ≡ b
+              → IsOffset (or_offset (if b then None else Some (record { register = t; base = r; word = d })) (offset_past (Some (Held t)) old)) f'
+          go true n = others
+          go false n =
+              let ne = eqb-false r t n in
+              let here : f' t ≡ wrap (f' r + d) =
+              is ∙ sums_to op v w u d e (ap (addend op) (sym same) ∙ added) ∙ ap (λ v. wrap (v + d)) (sym (keeps.others r r_low ne ∙ at)) in
+              offset_here (record { register = t; base = r; word = d }) f' low r_low high r_high here
+
+      by : (right : Option ℕ) (x : Source) → IsAway x → ((r : ℕ) → x ≡ From (Held r) → f r ≡ v) → ((c : ℕ) → right ≡ Some c → c ≡ w)
+          → IsOffset (or_offset (offset_of t op right x) (offset_past (Some (Held t)) old)) f'
+      by None x away at said = others
+      by (Some c) Zero away at said = others
+      by (Some c) (Word n) away at said = others
+      by (Some c) (From (InSlot j)) away at said = others
+      by (Some c) (From (Copied r j)) away at said = others
+      by (Some c) (From (Held r)) away at said = from r c away.0 away.1 (at r refl) (said c refl) (addend op c) refl
+
+  sum_known : (l : Option Location) (right : Option ℕ) (x : Source) → IsRegister l → IsAway x → ((r : ℕ) → x ≡ From (Held r) → f r ≡ v)
+      → ((c : ℕ) → right ≡ Some c → c ≡ w) → Keeps l f f' → Holds l f' u → IsOffset (or_offset (sum_offset l op right x) (offset_past l old)) f'
+  sum_known None right x ok away at said keeps is = offset_written None old f f' keeps before
+  sum_known (Some (InSlot j)) right x ok away at said keeps is = offset_written (Some (InSlot j)) old f f' keeps before
+  sum_known (Some (Copied r j)) right x ok away at said keeps is = offset_written (Some (Copied r j)) old f f' keeps before
+  sum_known (Some (Held t)) right x ok away at said keeps is = sum_held t right x ok.0 ok.1 away at said keeps is
+
+-- a register that is an operand
+held_operand : (count : ℕ) (s : State) (x : Source) (v : ℕ) → IsAway x → Denotes count s x v → (r : ℕ) → x ≡ From (Held r) → s.regs r ≡ v
+held_operand count s x v away d r e =
+    let low = (subst IsAway e away).0 in
+    sym (read_register s.regs r (omega (arith, low))) ∙ subst (λ x. Denotes count s x v) e d
+
 module _ (most total : ℕ) (gs : List RGlobal) (starts : ℕ → ℕ) where
   -- HI and LO change
   product_kept : (registers : Places) (g : Arrays) (fs : List Stored) (s : State) (hi lo : ℕ) → IsWords (record s { hi = hi; lo = lo })
@@ -144,6 +240,7 @@ module _ (most total : ℕ) (gs : List RGlobal) (starts : ℕ → ℕ) where
     pub to : State
     pub apart : b ≢ 2
     pub is_kept : IsKept gs starts kept to.regs
+    pub others : (q : ℕ) → 4 ≤ q → q ≢ 30 → to.regs q ≡ s.regs q
     pub runs : RunsTo is s to
     pub here : wrap (read 0 to.regs b + word_of_offset z) ≡ address_of_place p
     pub ok : is_open w to.mapped (address_of_place p) ≡ true
@@ -158,28 +255,29 @@ module _ (most total : ℕ) (gs : List RGlobal) (starts : ℕ → ℕ) where
       by widths.Word p le few = omega (arith, le, few)
       by widths.Byte p le few = omega (arith, le, few)
 
-  -- a base for the element is in register b
-  at_base : (registers : Places) (g : Arrays) (fs : List Stored) (s m : State) (is : List Plain) (b a i v : ℕ) (kept : Option Kept) → RunsTo is s m → 0 < b
-      → b ≢ 2 → m.regs b ≡ width_bytes (width_of gs a) * i + base_word (starts a) → element_at g a i ≡ Some v → IsKept gs starts kept m.regs
-      → Stands most total gs starts registers g fs m
-      → AtElement registers g fs s is (width_of gs a) b (base_offset (starts a)) (place_in gs starts a i) kept
-  at_base registers g fs s m is b a i v kept run low apart base there k h = record {
+  -- a register and an offset lead to it
+  at_base : (registers : Places) (g : Arrays) (fs : List Stored) (s m : State) (is : List Plain) (b : ℕ) (z : ℤ) (a i v : ℕ) (kept : Option Kept) → RunsTo is s m
+      → 0 < b → b ≢ 2 → wrap (m.regs b + word_of_offset z) ≡ address_of_place (place_in gs starts a i) → element_at g a i ≡ Some v
+      → IsKept gs starts kept m.regs → ((q : ℕ) → 4 ≤ q → q ≢ 30 → m.regs q ≡ s.regs q) → Stands most total gs starts registers g fs m
+      → AtElement registers g fs s is (width_of gs a) b z (place_in gs starts a i) kept
+  at_base registers g fs s m is b z a i v kept run low apart here there k others h = record {
     to = m;
     apart = apart;
     is_kept = k;
+    others = others;
     runs = run;
-    here = ap (λ r. wrap (r + word_of_offset (base_offset (starts a)))) (read_register m.regs b low)
-        ∙ from_base (starts a) (width_bytes (width_of gs a) * i) (m.regs b) (element_few registers g fs m a i v there h) base;
+    here = ap (λ r. wrap (r + word_of_offset z)) (read_register m.regs b low) ∙ here;
     ok = data_open most total gs starts registers g fs m a i v there h;
     stands = h;
   }
 
-  -- it is made there
-  made : (registers : Places) (g : Arrays) (fs : List Stored) (s : State) (t q a i v : ℕ) → IsTarget t → t ≢ 2 → t ≢ 28 → read 0 s.regs q ≡ i → q ≢ 2
+  -- a base is made in register t
+  made : (registers : Places) (g : Arrays) (fs : List Stored) (s : State) (t q a i v : ℕ) → IsTarget t → t ≢ 2 → t ≢ 28 → q ≢ 2
       → element_at g a i ≡ Some v → Stands most total gs starts registers g fs s
-      → Based (base_code (width_of gs a) t (starts a) q) s t (width_bytes (width_of gs a) * i + base_word (starts a))
-  made registers g fs s t q a i v ok t_apart middle is apart there h =
-      based (width_of gs a) s t q (starts a) i ok t_apart middle is apart h.gp (element_few registers g fs s a i v there h)
+      → Based (base_code (width_of gs a) t (starts a) q) s t (wrap (width_bytes (width_of gs a) * read 0 s.regs q + base_word (starts a)))
+  made registers g fs s t q a i v ok t_apart middle apart there h =
+      let few = element_few registers g fs s a i v there h in
+      based (width_of gs a) s t q (starts a) (read 0 s.regs q) ok t_apart middle refl apart h.gp (omega (arith, few))
 
   module _ (registers : Places) (g : Arrays) (top : Stored) (fs : List Stored) (s : State) (h : Stands most total gs starts registers g (top ∷ fs) s) where
     -- instructions that compute a word in register d
@@ -317,62 +415,103 @@ module _ (most total : ℕ) (gs : List RGlobal) (starts : ℕ → ℕ) where
         by_multiple None None _ _ = by_right l lw (immediate_of op d (operand_register t x) l) refl
 
     -- an element of a global
-    module _ (kept : Option Kept) (a i v : ℕ) (there : element_at g a i ≡ Some v) (k : IsKept gs starts kept s.regs) where
+    module _ (kept : Option Kept) (offset : Option Offset) (a i v : ℕ) (there : element_at g a i ≡ Some v) (k : IsKept gs starts kept s.regs)
+        (offsets : IsOffset offset s.regs) where
       abbrev Reached : Reach → Source → Option Kept → Type 0
       Reached by x now = AtElement registers g (top ∷ fs) s (element_code (width_of gs a) (starts a) by x) (width_of gs a) (element_base by)
-          (element_offset (starts a) by) (place_in gs starts a i) now
+          (element_offset (width_of gs a) (starts a) by) (place_in gs starts a i) now
 
       abbrev this : ℕ → Option Kept
-      this r = Some (record { global = a; index = r })
+      this t = Some (record { global = a; index = offset_in offset t })
+
+      few : place_in gs starts a i < UNIT_BYTES
+      few = element_few registers g (top ∷ fs) s a i v there h
 
       -- from a base in register 1
-      far : (x : Source) → IsAway x → Means x i → Reached (ByNew 1) x kept
+      far : (x : Source) → IsAway x → Means x i → Reached ByScratch x kept
       far x away mx =
           let c = fetches most total gs starts registers g top fs s h 1 i x (omega arith) (omega arith) (mx s h) in
           let s1 : State = record s { regs = c.regs } in
           let q = operand_register 1 x in
           let b = made registers g (top ∷ fs) s1 1 q a i v (record { low = omega arith; high = omega arith }) (λ e. absurd (omega (arith, e)))
-          (λ e. absurd (omega (arith, e))) c.here (operand_register_apart x away) there c.stands in
-          at_base registers g (top ∷ fs) s (record s1 { regs = b.regs }) (fetch 1 x ++ base_code (width_of gs a) 1 (starts a) q) 1 a i v kept
-          (runs_then c.runs b.runs) (omega arith) (λ e. absurd (omega (arith, e))) b.here there
-          (kept_same gs starts kept s.regs b.regs (λ r low. b.others r (omega (arith, low)) (omega (arith, low)) ∙ c.others r (omega (arith, low))) k)
+          (λ e. absurd (omega (arith, e))) (operand_register_apart x away) there c.stands in
+          let others : (r : ℕ) → 4 ≤ r → b.regs r ≡ s.regs r = λ r low. b.others r (omega (arith, low)) (omega (arith, low)) ∙ c.others r (omega (arith, low)) in
+          at_base registers g (top ∷ fs) s (record s1 { regs = b.regs }) (fetch 1 x ++ base_code (width_of gs a) 1 (starts a) q) 1 (base_offset (starts a)) a i v kept
+          (runs_then c.runs b.runs) (omega arith) (λ e. absurd (omega (arith, e)))
+          (from_base (starts a) (width_bytes (width_of gs a) * i) (b.regs 1) few
+          (b.here ∙ ap (λ i. wrap (width_bytes (width_of gs a) * i + base_word (starts a))) c.here)) there
+          (kept_same gs starts kept s.regs b.regs others k) (λ r low _. others r low)
           (regs_kept most total gs starts registers g (top ∷ fs) (base_code (width_of gs a) 1 (starts a) q) s1 b.regs b.runs
           (λ r low high. b.others r (omega (arith, low)) (omega (arith, low))) c.stands)
 
+      -- what is known of the index
+      index_of_register : (t : ℕ) → IsAway (From (Held t)) → IsIndex (offset_in offset t) t s.regs
+      index_of_register t away = index_is offset t s.regs away.0 away.1 ((h.words).regs t) offsets
+
+      -- register 30 is a base for the index
+      shifts : (t : ℕ) (m : State) → IsAway (From (Held t)) → m.regs t ≡ i → IsIndex (offset_in offset t) t m.regs
+          → m.regs 30 ≡ wrap (width_bytes (width_of gs a) * m.regs (base_index (width_of gs a) (starts a) (offset_in offset t)) + base_word (starts a))
+          → wrap (m.regs 30 + word_of_offset (shifted_offset (width_of gs a) (starts a) (offset_in offset t).word)) ≡ address_of_place (place_in gs starts a i)
+      shifts t m away is index base =
+          from_shifted (width_of gs a) (starts a) (offset_in offset t) i (m.regs 30) m.regs (ap m.regs index.register ∙ is) index.sum few base
+
+      now_kept : (t : ℕ) (m : State) → IsAway (From (Held t)) → IsIndex (offset_in offset t) t m.regs
+          → m.regs 30 ≡ wrap (width_bytes (width_of gs a) * m.regs (base_index (width_of gs a) (starts a) (offset_in offset t)) + base_word (starts a))
+          → IsKept gs starts (this t) m.regs
+      now_kept t m away index base =
+          let low = away.0 in
+          let register = index.register in
+          kept_here gs starts a (offset_in offset t) m.regs (omega (arith, low, register)) index.low base
+
       -- from a base that is made in register 30, and kept
-      anew : (r : ℕ) → IsAway (From (Held r)) → read 0 s.regs r ≡ i → Reached (ByNew 30) (From (Held r)) (this r)
-      anew r away is =
+      anew : (t : ℕ) → IsAway (From (Held t)) → read 0 s.regs t ≡ i
+          → Reached (ByNew (base_index (width_of gs a) (starts a) (offset_in offset t)) (offset_in offset t).word) (From (Held t)) (this t)
+      anew t away is =
           let low = away.0 in
           let high = away.1 in
-          let b = made registers g (top ∷ fs) s 30 r a i v (record { low = omega arith; high = omega arith }) (λ e. absurd (omega (arith, e)))
-          (λ e. absurd (omega (arith, e))) is (omega (arith, low)) there h in
-          let index : i ≡ b.regs r = sym is ∙ read_register s.regs r (omega (arith, low)) ∙ sym (b.others r (omega (arith, high)) (omega (arith, low))) in
-          at_base registers g (top ∷ fs) s (record s { regs = b.regs }) (base_code (width_of gs a) 30 (starts a) r) 30 a i v (this r) b.runs (omega arith)
-          (λ e. absurd (omega (arith, e))) b.here there
-          (kept_here gs starts a r b.regs low (b.here ∙ ap (λ i. width_bytes (width_of gs a) * i + base_word (starts a)) index))
-          (base_changed most total gs starts registers g (top ∷ fs) (base_code (width_of gs a) 30 (starts a) r) s b.regs b.runs
-          (λ q up ne. b.others q ne (omega (arith, up))) h)
+          let o = offset_in offset t in
+          let q = base_index (width_of gs a) (starts a) o in
+          let index = index_of_register t away in
+          let register = index.register in
+          let q_low : 4 ≤ q = of_index (λ q. 4 ≤ q) (width_of gs a) (starts a) o (omega (arith, low, register)) index.low in
+          let q_high : q < 28 = of_index (λ q. q < 28) (width_of gs a) (starts a) o (omega (arith, high, register)) index.high in
+          let b = made registers g (top ∷ fs) s 30 q a i v (record { low = omega arith; high = omega arith }) (λ e. absurd (omega (arith, e)))
+          (λ e. absurd (omega (arith, e))) (omega (arith, q_low)) there h in
+          let others : (r : ℕ) → 4 ≤ r → r ≢ 30 → b.regs r ≡ s.regs r = λ r up ne. b.others r ne (omega (arith, up)) in
+          let m : State = record s { regs = b.regs } in
+          let at : b.regs t ≡ i = others t low (omega (arith, high)) ∙ sym (read_register s.regs t (omega (arith, low))) ∙ is in
+          let base : b.regs 30 ≡ wrap (width_bytes (width_of gs a) * b.regs q + base_word (starts a)) =
+          b.here ∙ ap (λ v. wrap (width_bytes (width_of gs a) * v + base_word (starts a)))
+          (read_register s.regs q (omega (arith, q_low)) ∙ sym (others q q_low (omega (arith, q_high)))) in
+          let after = index_same o t s.regs b.regs low high others index in
+          at_base registers g (top ∷ fs) s m (base_code (width_of gs a) 30 (starts a) q) 30 (shifted_offset (width_of gs a) (starts a) o.word) a i v (this t) b.runs
+          (omega arith) (λ e. absurd (omega (arith, e))) (shifts t m away at after base) there (now_kept t m away after base) others
+          (base_changed most total gs starts registers g (top ∷ fs) (base_code (width_of gs a) 30 (starts a) q) s b.regs b.runs others h)
 
       -- from the base that is kept
-      again : (r : ℕ) → IsAway (From (Held r)) → read 0 s.regs r ≡ i → (o : Option Kept) → kept ≡ o → holds_base gs starts o a (Some r) ≡ true
-          → Reached ByKept (From (Held r)) (this r)
-      again r away is None same e = absurd (true≢false (sym e))
-      again r away is (Some j) same e =
+      again : (t : ℕ) → IsAway (From (Held t)) → read 0 s.regs t ≡ i → (p : Option Kept) → kept ≡ p → holds_base gs starts p a (Some (offset_in offset t)) ≡ true
+          → Reached (ByKept (offset_in offset t).word) (From (Held t)) (this t)
+      again t away is None same e = absurd (true≢false (sym e))
+      again t away is (Some j) same e =
           let low = away.0 in
+          let o = offset_in offset t in
           let b = j.global in
-          let register : j.index ≡ r = eqb-true j.index r (and_first (nat_eq j.index r) (shares_base gs starts b a) e) in
-          let shares = and_second (nat_eq j.index r) (shares_base gs starts b a) e in
+          let p = base_index (width_of gs b) (starts b) j.index in
+          let q = base_index (width_of gs a) (starts a) o in
+          let register : p ≡ q = eqb-true p q (and_first (nat_eq p q) (shares_base gs starts b a) e) in
+          let shares = and_second (nat_eq p q) (shares_base gs starts b a) e in
           let bytes = width_bytes (width_of gs b) in
           let bytes' = width_bytes (width_of gs a) in
           let word = base_word (starts b) in
           let word' = base_word (starts a) in
           let same_bytes : bytes ≡ bytes' = eqb-true bytes bytes' (and_first (nat_eq bytes bytes') (nat_eq word word') shares) in
           let same_word : word ≡ word' = eqb-true word word' (and_second (nat_eq bytes bytes') (nat_eq word word') shares) in
-          let index : s.regs r ≡ i = sym (read_register s.regs r (omega (arith, low))) ∙ is in
-          let base : s.regs 30 ≡ bytes' * s.regs r + word' =
-          k.base j same ∙ ap₂ (λ n m. n * s.regs j.index + m) same_bytes same_word ∙ ap (λ q. bytes' * s.regs q + word') register in
-          at_base registers g (top ∷ fs) s s [] 30 a i v (this r) (runs_none s) (omega arith) (λ e. absurd (omega (arith, e)))
-          (base ∙ ap (λ i. bytes' * i + word') index) there (kept_here gs starts a r s.regs low base) h
+          let at : s.regs t ≡ i = sym (read_register s.regs t (omega (arith, low))) ∙ is in
+          let index = index_of_register t away in
+          let base : s.regs 30 ≡ wrap (bytes' * s.regs q + word') =
+          k.base j same ∙ ap₂ (λ n m. wrap (n * s.regs p + m)) same_bytes same_word ∙ ap (λ q. wrap (bytes' * s.regs q + word')) register in
+          at_base registers g (top ∷ fs) s s [] 30 (shifted_offset (width_of gs a) (starts a) o.word) a i v (this t) (runs_none s) (omega arith)
+          (λ e. absurd (omega (arith, e))) (shifts t s away at index base) there (now_kept t s away index base) (λ q _ _. refl) h
 
       -- from the global pointer
       close : (x : Source) (p : ℕ) → p ≡ place_in gs starts a i → nat_lt p 65536 ≡ true → Reached (ByPointer p) x kept
@@ -380,34 +519,26 @@ module _ (most total : ℕ) (gs : List RGlobal) (starts : ℕ → ℕ) where
           let below : p < 65536 = ltb-true p 65536 lt in
           let none : p + 0 ≡ p = omega arith in
           let from : wrap (0 + data_middle + word_of_offset (near p)) ≡ address_of_place (p + 0) = near_word p 0 below (omega (arith, below)) in
-          record {
-            to = s;
-            apart = λ e. absurd (omega (arith, e));
-            is_kept = k;
-            runs = runs_none s;
-            here = ap (λ x. wrap (x + word_of_offset (near p))) h.gp ∙ from ∙ ap address_of_place (none ∙ same);
-            ok = data_open most total gs starts registers g (top ∷ fs) s a i v there h;
-            stands = h;
-          }
+          at_base registers g (top ∷ fs) s s [] 28 (near p) a i v kept (runs_none s) (omega arith) (λ e. absurd (omega (arith, e)))
+          (ap (λ x. wrap (x + word_of_offset (near p))) h.gp ∙ from ∙ ap address_of_place (none ∙ same)) there k (λ q _ _. refl) h
 
       pub elements : (known : Option ℕ) (x : Source) → IsAway x → Means x i → ((w : ℕ) → known ≡ Some w → w ≡ i)
-          → Reached (reach_with gs starts kept a known x) x (kept_with a (index_register known x) kept)
+          → Reached (reach_with gs starts kept a known (index_with offset (index_register known x))) x (kept_with a (index_with offset (index_register known x)) kept)
       elements None Zero away mx said = far Zero away mx
       elements None (Word w) away mx said = far (Word w) away mx
       elements None (From (InSlot j)) away mx said = far (From (InSlot j)) away mx
       elements None (From (Copied r j)) away mx said = far (From (Copied r j)) away mx
-      elements None (From (Held r)) away mx said = go (holds_base gs starts kept a (Some r)) refl
+      elements None (From (Held t)) away mx said = go (holds_base gs starts kept a (Some (offset_in offset t))) refl
         where
-          go : (b : Bool) → holds_base gs starts kept a (Some r) ≡ b → Reached (if b then ByKept else ByNew 30) (From (Held r)) (this r)
-          go true e = again r away (mx s h) kept refl e
-          go false e = anew r away (mx s h)
+          go : (b : Bool) → holds_base gs starts kept a (Some (offset_in offset t)) ≡ b
+              → Reached (if b then ByKept (offset_in offset t).word else ByNew (base_index (width_of gs a) (starts a) (offset_in offset t)) (offset_in offset t).word)
+              (From (Held t)) (this t)
+          go true e = again t away (mx s h) kept refl e
+          go false e = anew t away (mx s h)
       elements (Some w) x away mx said = go (nat_lt w 65536) (nat_lt (element_place (width_of gs a) (starts a) w) 65536) refl
         where
-          place : ℕ
-          place = element_place (width_of gs a) (starts a) w
-
           go : (b c : Bool) → nat_lt (element_place (width_of gs a) (starts a) w) 65536 ≡ c
-              → Reached (reach_by (if b then (if c then Some (element_place (width_of gs a) (starts a) w) else None) else None) None
+              → Reached (reach_by (width_of gs a) (starts a) (if b then (if c then Some (element_place (width_of gs a) (starts a) w) else None) else None) None
               (holds_base gs starts kept a None)) x kept
           go false c e = far x away mx
           go true false e = far x away mx
@@ -416,15 +547,15 @@ module _ (most total : ℕ) (gs : List RGlobal) (starts : ℕ → ℕ) where
   module _ (g : Arrays) (fs : List Stored) (hs : List Home) (P : Run → Type 0) (out : List ℕ) (failed : P (Failed out)) where
     pub performs : (i : RInst) (facts : Facts) (registers : Places) (top : Stored) (s : State) (go : Places → Places → Arrays → Run)
         → AreFrameHomes hs top.copies top.count → IsKnown (known_in facts) hs registers top.slots → AreDeferred facts.deferred registers
-        → IsKept gs starts facts.kept s.regs → Stands most total gs starts (hide facts.deferred registers) g (top ∷ fs) s
+        → AreBases gs starts facts s.regs → Stands most total gs starts (hide facts.deferred registers) g (top ∷ fs) s
         → ((registers' slots' : Places) (g' : Arrays) (s' : State) → 1 ≤ length (inst_code gs starts (locations_of top.copies hs) facts i)
         → RunsTo (inst_code gs starts (locations_of top.copies hs) facts i) s s' → Stands most total gs starts (hide (learned (locations_of top.copies hs) i facts).deferred registers') g' (with_slots top slots' ∷ fs) s'
-        → AreDeferred (learned (locations_of top.copies hs) i facts).deferred registers' → IsKept gs starts (learned (locations_of top.copies hs) i facts).kept s'.regs → IsKnown (known_in (learned (locations_of top.copies hs) i facts)) hs registers' slots' → IsLast (last_of (locations_of top.copies hs) facts i) top.copies hs registers' slots' s'
+        → AreDeferred (learned (locations_of top.copies hs) i facts).deferred registers' → AreBases gs starts (learned (locations_of top.copies hs) i facts) s'.regs → IsKnown (known_in (learned (locations_of top.copies hs) i facts)) hs registers' slots' → IsLast (last_of (locations_of top.copies hs) facts i) top.copies hs registers' slots' s'
         → P (go registers' slots' g'))
         → P (with_inst gs i hs registers top.slots g out go)
     performs (Const d w) facts registers top s go ok k lz kp h f =
         tells most total gs starts facts.deferred registers g top fs s h lz P (λ r s. go r s g) hs d (wrap w) out (known_in facts) (omega arith) ok k failed
-        (λ r' s' to some e st lz' kn keeps. f r' s' g to some e st lz' (kept_written gs starts (locations_of top.copies hs d) facts.kept s.regs to.regs keeps kp)
+        (λ r' s' to some e st lz' kn keeps. f r' s' g to some e st lz' (bases_written gs starts (locations_of top.copies hs d) facts.kept facts.offset s.regs to.regs keeps kp)
         (fact_known hs r' s' facts d (Some (wrap w)) kn) (none_last top.copies hs r' s' to))
     performs (Move d a) facts registers top s go ok k lz kp h f =
         value_or_failed P (read_home hs registers top.slots a) out _ failed (λ v e.
@@ -432,13 +563,15 @@ module _ (most total : ℕ) (gs : List RGlobal) (starts : ℕ → ℕ) where
         puts most total gs starts facts.deferred registers g top fs s h lz P (λ r s. go r s g) hs d v (known_in facts a) out (known_in facts)
         (operand (locations_of top.copies hs) facts a) x.0 (operand_below most total gs starts facts.deferred registers g top fs s h lz hs a v ok e)
         (λ u is. same_Some u v (sym (k.by a u is) ∙ e)) ok k failed
-        (λ r' s' to some e st lz' kn keeps. f r' s' g to some e st lz' (kept_written gs starts (locations_of top.copies hs d) facts.kept s.regs to.regs keeps kp)
+        (λ r' s' to some e st lz' kn keeps. f r' s' g to some e st lz' (bases_written gs starts (locations_of top.copies hs d) facts.kept facts.offset s.regs to.regs keeps kp)
         (fact_known hs r' s' facts d (known_in facts a) kn) (none_last top.copies hs r' s' to)))
     performs (Bin op d a b) facts registers top s go ok k lz kp h f =
         value_or_failed P (read_home hs registers top.slots a) out _ failed (λ v ev.
         value_or_failed P (read_home hs registers top.slots b) out _ failed (λ w ew.
         value_or_failed P (op_result op v w) out _ failed (λ u eu.
         let known = known_in facts in
+        let x = operand (locations_of top.copies hs) facts a in
+        let x_means = operand_means most total gs starts facts.deferred registers g top fs s h lz known hs a v ok k ev in
         let z = computes (hide facts.deferred registers) g top fs s h op (inner_of (locations_of top.copies hs d)) (into (locations_of top.copies hs d)) v w u (known_in facts a)
         (known_in facts b) (operand (locations_of top.copies hs) facts a) (operand (locations_of top.copies hs) facts b) (inner_is (locations_of top.copies hs d)) (into_target hs top.copies top.count d ok)
         (operand_means most total gs starts facts.deferred registers g top fs s h lz known hs a v ok k ev).1
@@ -453,8 +586,13 @@ module _ (most total : ℕ) (gs : List RGlobal) (starts : ℕ → ℕ) where
         (op_code op (inner_of (locations_of top.copies hs d)) (into (locations_of top.copies hs d)) (known_in facts a) (known_in facts b)
         (operand (locations_of top.copies hs) facts a) (operand (locations_of top.copies hs) facts b)) s z.ends z.some
         (λ c is. sym (same_Some u c is)) ok (known_with known hs registers top.slots b w ew k) failed
-        (λ r' s' to some e st lz' kn keeps new. f r' s' g to some e st lz'
-        (kept_written gs starts (locations_of top.copies hs d) facts.kept (z.to).regs to.regs keeps (kept_same gs starts facts.kept s.regs (z.to).regs z.others kp))
+        (λ r' s' to some e st lz' kn keeps held new. f r' s' g to some e st lz' (
+          kept_written gs starts (locations_of top.copies hs d) facts.kept (z.to).regs to.regs keeps (kept_same gs starts facts.kept s.regs (z.to).regs z.others kp.0),
+          sum_known op v w u (z.to).regs to.regs facts.offset eu (offset_same facts.offset s.regs (z.to).regs (λ q up _. z.others q up) kp.1) (locations_of top.copies hs d)
+              (known_in facts b) x (home_register hs top.copies top.count d ok) x_means.1
+              (λ r is. (let up = (subst IsAway is x_means.1).0 in z.others r up) ∙ held_operand top.count s x v x_means.1 x_means.0 r is)
+              (λ c is. same_Some c w (sym (k.by b c is) ∙ ew)) keeps held,
+        )
         (fact_known hs r' s' facts d None (known_without known hs r' s' b w d u (λ c is. same_Some c w (sym (k.by b c is) ∙ ew)) kn))
         (record { fresh = new; comparison = λ m v' is. absurd (none-some m is); result = λ m v' is. absurd (none-some m is) })))))
     performs (Load d a i) facts registers top s go ok k lz kp h f =
@@ -464,21 +602,24 @@ module _ (most total : ℕ) (gs : List RGlobal) (starts : ℕ → ℕ) where
         let x = operand (locations_of top.copies hs) facts i in
         let width = width_of gs a in
         let o = reach_of gs starts (locations_of top.copies hs) facts a i in
-        let p = elements (hide facts.deferred registers) g top fs s h facts.kept a v w there kp (known_in facts i) x
+        let p = elements (hide facts.deferred registers) g top fs s h facts.kept facts.offset a v w there kp.0 kp.1 (known_in facts i) x
         (operand_means most total gs starts facts.deferred registers g top fs s h lz known hs i v ok k ev).1
         (λ s h. (operand_means most total gs starts facts.deferred registers g top fs s h lz known hs i v ok k ev).0) (λ u is. same_Some u v (sym (k.by i u is) ∙ ev)) in
         let now = kept_with a (index_of (locations_of top.copies hs) facts i) facts.kept in
         let to = p.to in
         let at = address_of_place (place_in gs starts a v) in
         let d' = into (locations_of top.copies hs d) in
-        let load = loads_at width to d' (element_base o) (element_offset (starts a) o) at p.here p.ok in
+        let load = loads_at width to d' (element_base o) (element_offset width (starts a) o) at p.here p.ok in
         let value : shown_at width to at ≡ w = (p.stands).elements a v w there in
         let below : w < 2 ^ 32 = subst (λ w. w < 2 ^ 32) value (shown_below width to at (p.stands).words) in
         let is = element_code width (starts a) o x ++ element_load width d' (starts a) o ∷ [] in
         finishes most total gs starts facts.deferred registers g top fs to p.stands lz P (λ r s. go r s g) hs d w None out known is s
         (ends_set is s to d' (shown_at width to at) w (into_target hs top.copies top.count d ok) (runs_then p.runs load) value below)
         (longer_behind (element_code width (starts a) o x) _ (omega arith)) (λ w e. absurd (none-some w e)) ok k failed
-        (λ r' s' end some e st lz' kn keeps new. f r' s' g end some e st lz' (kept_written gs starts (locations_of top.copies hs d) now to.regs end.regs keeps p.is_kept)
+        (λ r' s' end some e st lz' kn keeps held new. f r' s' g end some e st lz' (
+          kept_written gs starts (locations_of top.copies hs d) now to.regs end.regs keeps p.is_kept,
+          offset_written (locations_of top.copies hs d) facts.offset to.regs end.regs keeps (offset_same facts.offset s.regs to.regs p.others kp.1),
+        )
         (fact_known hs r' s' facts d None kn)
         (record { fresh = new; comparison = λ m v' is. absurd (none-some m is); result = λ m v' is. absurd (none-some m is) }))))
     performs (Store a i b) facts registers top s go ok k lz kp h f =
@@ -492,7 +633,7 @@ module _ (most total : ℕ) (gs : List RGlobal) (starts : ℕ → ℕ) where
         let x = operand (locations_of top.copies hs) facts i in
         let y = operand (locations_of top.copies hs) facts b in
         let o = reach_of gs starts (locations_of top.copies hs) facts a i in
-        let p = elements (hide facts.deferred registers) g top fs s h facts.kept a v at_g.old at_g.was kp (known_in facts i) x
+        let p = elements (hide facts.deferred registers) g top fs s h facts.kept facts.offset a v at_g.old at_g.was kp.0 kp.1 (known_in facts i) x
         (operand_means most total gs starts facts.deferred registers g top fs s h lz known hs i v ok k ev).1
         (λ s h. (operand_means most total gs starts facts.deferred registers g top fs s h lz known hs i v ok k ev).0) (λ u is. same_Some u v (sym (k.by i u is) ∙ ev)) in
         let now = kept_with a (index_of (locations_of top.copies hs) facts i) facts.kept in
@@ -501,14 +642,16 @@ module _ (most total : ℕ) (gs : List RGlobal) (starts : ℕ → ℕ) where
         let z = fetches most total gs starts (hide facts.deferred registers) g top fs m p.stands 2 w y (omega arith) (omega arith)
         (operand_means most total gs starts facts.deferred registers g top fs m p.stands lz known hs b w ok k ew).0 in
         let to : State = record m { regs = z.regs } in
-        let here : wrap (read 0 z.regs (element_base o) + word_of_offset (element_offset (starts a) o)) ≡ at =
-        ap (λ r. wrap (r + word_of_offset (element_offset (starts a) o))) (read_other m.regs z.regs (element_base o) (λ _. z.others (element_base o) p.apart)) ∙ p.here in
+        let here : wrap (read 0 z.regs (element_base o) + word_of_offset (element_offset width (starts a) o)) ≡ at =
+        ap (λ r. wrap (r + word_of_offset (element_offset width (starts a) o))) (read_other m.regs z.regs (element_base o) (λ _. z.others (element_base o) p.apart)) ∙ p.here in
         let last = element_store width (operand_register 2 y) (starts a) o in
-        let store = stores_at width to (operand_register 2 y) (element_base o) (element_offset (starts a) o) at here p.ok in
+        let store = stores_at width to (operand_register 2 y) (element_base o) (element_offset width (starts a) o) at here p.ok in
         let store' : RunsTo (last ∷ []) to (set_at width to at w) = subst (λ w. RunsTo (last ∷ []) to (set_at width to at w)) z.here store in
         f registers top.slots g' (set_at width to at w) (longer_behind (element_code width (starts a) o x) _
         (longer_behind (fetch 2 y) (last ∷ []) (omega arith))) (runs_then p.runs (runs_then z.runs store'))
         (data_written most total gs starts (hide facts.deferred registers) g (top ∷ fs) to a v w g' (operand_below most total gs starts facts.deferred registers g top fs s h lz hs b w ok ew)
-        (ap (arrays_with g a v) (sym (kept_is gs a w c ec)) ∙ eg) z.stands) lz
-        (kept_same gs starts now m.regs z.regs (λ q up. (let ne : q ≢ 2 = omega (arith, up) in z.others q ne)) p.is_kept) k
+        (ap (arrays_with g a v) (sym (kept_is gs a w c ec)) ∙ eg) z.stands) lz (
+          kept_same gs starts now m.regs z.regs (λ q up. (let ne : q ≢ 2 = omega (arith, up) in z.others q ne)) p.is_kept,
+          offset_same facts.offset s.regs z.regs (λ q up ne. (let apart : q ≢ 2 = omega (arith, up) in z.others q apart) ∙ p.others q up ne) kp.1,
+        ) k
         (none_last top.copies hs registers top.slots (set_at width to at w))))))

@@ -1,7 +1,7 @@
 -- What pseudo-registers are known to hold, and what operands mean in a state.
 use Rattle.std.proofs.Common.{◌≡◌, ◌≢◌, ℕ, ◌+◌, ◌*◌, ◌/◌, ◌%◌, ◌^◌, ◌<◌, ◌≤◌, Bool, true, false, List, [], ◌∷◌, ◌++◌, length, length-append}
-use Rattle.std.proofs.Common.{Option, Some, None, refl, sym, ap, ◌∙◌, subst, arith, eq-eqb, eqb-true, nat_eq}
-use Rattle.std.specs.Prelude.{if◌then◌else◌, not, slice_get}
+use Rattle.std.proofs.Common.{Option, Some, None, refl, sym, ap, ◌∙◌, subst, arith, true≢false, eq-eqb, eqb-true, nat_eq}
+use Rattle.std.specs.Prelude.{if◌then◌else◌, not, slice_get, ◌||◌}
 use Rattle.std.proofs.lemmas.Bool.{eqb-false}
 use Rattle.std.proofs.lemmas.Option.{same_Some, none-some}
 use Rattle.words.specs.declared.width.Width.{Width}
@@ -32,10 +32,13 @@ use Rattle.mips_emit.specs.declared.facts.Last.{Last}
 use Rattle.rtl.specs.declared.block.RGlobal.{RGlobal}
 use Rattle.mips_emit.specs.Frames.{AreFrameHomes, IsFrame}
 use Rattle.mips_emit.specs.Comparisons.{no_last, is_result}
-use Rattle.mips_emit.specs.Locations.{known_in, no_facts, location_at, kept_without, kept_past}
+use Rattle.mips_emit.specs.Locations.{Facts, known_in, no_facts, location_at, kept_without, kept_past}
 use Rattle.mips_emit.specs.declared.location.Location.{Location}
 use Rattle.mips_emit.specs.Locations.{inner_of}
-use Rattle.mips_emit.specs.Elements.{width_bytes, width_of, base_word, address_of_place}
+use Rattle.words.specs.Words.{wrap}
+use Rattle.mips_emit.specs.Elements.{width_bytes, width_of, base_word, fits_offset, base_index, address_of_place}
+use Rattle.mips_emit.specs.declared.offset.Offset.{Offset}
+use Rattle.mips_emit.specs.Offsets.{no_offset, touches, offset_without, offset_past, offset_in}
 use Rattle.mips_emit.specs.Code.{nop, is_small, half, constant, li, operand_register, bring}
 use Rattle.mips_emit.proofs.Runs.{RunsTo}
 use Rattle.mips_emit.proofs.View.{word_at}
@@ -299,66 +302,197 @@ IsElsewhere (Some (Copied r k)) q = q ≢ r
 
 -- ---- the base that is kept
 
--- register 30 is the base of a global's elements at the index in a register
+-- register 30 is the base of a global's elements at an index
 pub record IsKept (gs : List RGlobal) (starts : ℕ → ℕ) (kept : Option Kept) (regs : ℕ → ℕ) : Type 0 where
-  pub index : (k : Kept) → kept ≡ Some k → 4 ≤ k.index
-  pub base : (k : Kept) → kept ≡ Some k → regs 30 ≡ width_bytes (width_of gs k.global) * regs k.index + base_word (starts k.global)
+  pub low : (k : Kept) → kept ≡ Some k → (4 ≤ (k.index).register) × (4 ≤ (k.index).base)
+  pub base : (k : Kept) → kept ≡ Some k
+      → regs 30 ≡ wrap (width_bytes (width_of gs k.global) * regs (base_index (width_of gs k.global) (starts k.global) k.index) + base_word (starts k.global))
+
+-- a register is the sum of another one and a word
+pub record IsOffset (offset : Option Offset) (regs : ℕ → ℕ) : Type 0 where
+  pub low : (o : Offset) → offset ≡ Some o → (4 ≤ o.register) × (4 ≤ o.base)
+  pub high : (o : Offset) → offset ≡ Some o → (o.register < 28) × (o.base < 28)
+  pub sum : (o : Offset) → offset ≡ Some o → regs o.register ≡ wrap (regs o.base + o.word)
 
 pub none_kept : (gs : List RGlobal) (starts : ℕ → ℕ) (regs : ℕ → ℕ) → IsKept gs starts None regs
-none_kept gs starts regs = record { index = λ k e. absurd (none-some k e); base = λ k e. absurd (none-some k e) }
+none_kept gs starts regs = record { low = λ k e. absurd (none-some k e); base = λ k e. absurd (none-some k e) }
+
+pub none_offset : (regs : ℕ → ℕ) → IsOffset None regs
+none_offset regs = record { low = λ k e. absurd (none-some k e); high = λ k e. absurd (none-some k e); sum = λ k e. absurd (none-some k e) }
+
+-- what registers hold by what is known
+abbrev pub AreBases : (gs : List RGlobal) (starts : ℕ → ℕ) (facts : Facts) (regs : ℕ → ℕ) → Type 0
+AreBases gs starts facts regs = IsKept gs starts facts.kept regs × IsOffset facts.offset regs
+
+pub no_bases : (gs : List RGlobal) (starts : ℕ → ℕ) (regs : ℕ → ℕ) → IsKept gs starts None regs × IsOffset None regs
+no_bases gs starts regs = (none_kept gs starts regs, none_offset regs)
 
 -- it and the registers of homes are as they were, but for one that is written
 pub record Keeps (l : Option Location) (f f' : ℕ → ℕ) : Type 0 where
   pub base : f' 30 ≡ f 30
   pub others : (q : ℕ) → 4 ≤ q → IsElsewhere l q → f' q ≡ f q
 
--- it is one of this global and this register
-pub kept_here : (gs : List RGlobal) (starts : ℕ → ℕ) (a r : ℕ) (f : ℕ → ℕ) → 4 ≤ r → f 30 ≡ width_bytes (width_of gs a) * f r + base_word (starts a)
-    → IsKept gs starts (Some (record { global = a; index = r })) f
-kept_here gs starts a r f low is =
-    let here : Kept = record { global = a; index = r } in
+-- what a write leaves in a register
+abbrev pub Holds : Option Location → (ℕ → ℕ) → ℕ → Type 0
+Holds None f v = Unit {0}
+Holds (Some (Held r)) f v = f r ≡ v
+Holds (Some (InSlot k)) f v = Unit {0}
+Holds (Some (Copied r k)) f v = Unit {0}
+
+-- it is one of this global and this index
+pub kept_here : (gs : List RGlobal) (starts : ℕ → ℕ) (a : ℕ) (o : Offset) (f : ℕ → ℕ) → 4 ≤ o.register → 4 ≤ o.base
+    → f 30 ≡ wrap (width_bytes (width_of gs a) * f (base_index (width_of gs a) (starts a) o) + base_word (starts a))
+    → IsKept gs starts (Some (record { global = a; index = o })) f
+kept_here gs starts a o f low low' is =
+    let here : Kept = record { global = a; index = o } in
     record {
-      index = λ k e. subst (λ (k : Kept). 4 ≤ k.index) (same_Some here k e) low;
-      base = λ k e. subst (λ (k : Kept). f 30 ≡ width_bytes (width_of gs k.global) * f k.index + base_word (starts k.global)) (same_Some here k e) is;
+      low = λ k e. subst (λ (k : Kept). (4 ≤ (k.index).register) × (4 ≤ (k.index).base)) (same_Some here k e) (low, low');
+      base = λ k e. subst (λ (k : Kept). f 30
+          ≡ wrap (width_bytes (width_of gs k.global) * f (base_index (width_of gs k.global) (starts k.global) k.index) + base_word (starts k.global)))
+          (same_Some here k e) is;
     }
+
+pub offset_here : (o : Offset) (f : ℕ → ℕ) → 4 ≤ o.register → 4 ≤ o.base → o.register < 28 → o.base < 28 → f o.register ≡ wrap (f o.base + o.word) → IsOffset (Some o) f
+offset_here o f low low' high high' is = record {
+  low = λ x e. subst (λ (o : Offset). (4 ≤ o.register) × (4 ≤ o.base)) (same_Some o x e) (low, low');
+  high = λ x e. subst (λ (o : Offset). (o.register < 28) × (o.base < 28)) (same_Some o x e) (high, high');
+  sum = λ x e. subst (λ (o : Offset). f o.register ≡ wrap (f o.base + o.word)) (same_Some o x e) is;
+}
+
+-- a base is made from one register or the other
+pub of_index : (P : ℕ → Type 0) (w : Width) (start : ℕ) (o : Offset) → P o.register → P o.base → P (base_index w start o)
+of_index P w start o p q = go (fits_offset w start o.word)
+  where
+    go : (b : Bool) → P (if b then o.base else o.register)
+    go true = q
+    go false = p
+
+-- what was known of registers that are as they were
+kept_as : (gs : List RGlobal) (starts : ℕ → ℕ) (kept : Option Kept) (f f' : ℕ → ℕ) → f' 30 ≡ f 30
+    → ((k : Kept) → kept ≡ Some k → (f' (k.index).register ≡ f (k.index).register) × (f' (k.index).base ≡ f (k.index).base)) → IsKept gs starts kept f
+    → IsKept gs starts kept f'
+kept_as gs starts kept f f' same both h = record {
+  low = h.low;
+  base = λ k e. (let w = width_of gs k.global in
+      same ∙ h.base k e ∙ ap (λ v. wrap (width_bytes w * v + base_word (starts k.global)))
+      (sym (of_index (λ q. f' q ≡ f q) w (starts k.global) k.index (both k e).0 (both k e).1)));
+}
+
+offset_as : (offset : Option Offset) (f f' : ℕ → ℕ) → ((o : Offset) → offset ≡ Some o → (f' o.register ≡ f o.register) × (f' o.base ≡ f o.base))
+    → IsOffset offset f → IsOffset offset f'
+offset_as offset f f' both h = record {
+  low = h.low;
+  high = h.high;
+  sum = λ o e. (both o e).0 ∙ h.sum o e ∙ ap (λ v. wrap (v + o.word)) (sym (both o e).1);
+}
 
 pub kept_same : (gs : List RGlobal) (starts : ℕ → ℕ) (kept : Option Kept) (f f' : ℕ → ℕ) → ((q : ℕ) → 4 ≤ q → f' q ≡ f q) → IsKept gs starts kept f
     → IsKept gs starts kept f'
-kept_same gs starts kept f f' same h = record {
-  index = h.index;
-  base = λ k e. same 30 (omega arith) ∙ h.base k e
-      ∙ ap (λ v. width_bytes (width_of gs k.global) * v + base_word (starts k.global)) (sym (same k.index (h.index k e)));
-}
+kept_same gs starts kept f f' same h = kept_as gs starts kept f f' (same 30 (omega arith))
+    (λ k e. (same (k.index).register (h.low k e).0, same (k.index).base (h.low k e).1)) h
 
--- the base that is kept past a write
+pub offset_same : (offset : Option Offset) (f f' : ℕ → ℕ) → ((q : ℕ) → 4 ≤ q → q ≢ 30 → f' q ≡ f q) → IsOffset offset f → IsOffset offset f'
+offset_same offset f f' same h = offset_as offset f f' (λ o e. let high = h.high o e in (
+  same o.register (h.low o e).0 (omega (arith, high.0)),
+  same o.base (h.low o e).1 (omega (arith, high.1)),
+)) h
+
+-- and past a write
+touched : (o : Offset) (r : ℕ) → touches o r ≡ false → (o.register ≢ r) × (o.base ≢ r)
+touched o r e = go (nat_eq o.register r) (nat_eq o.base r) refl refl e
+  where
+    go : (a b : Bool) → nat_eq o.register r ≡ a → nat_eq o.base r ≡ b → (a || b) ≡ false → (o.register ≢ r) × (o.base ≢ r)
+    go true b ea eb e = absurd (true≢false e)
+    go false true ea eb e = absurd (true≢false e)
+    go false false ea eb e = (eqb-false o.register r ea, eqb-false o.base r eb)
+
 pub kept_written : (gs : List RGlobal) (starts : ℕ → ℕ) (l : Option Location) (kept : Option Kept) (f f' : ℕ → ℕ) → Keeps l f f' → IsKept gs starts kept f
     → IsKept gs starts (kept_past l kept) f'
 kept_written gs starts l kept f f' same h = by l same
   where
-    as_was : (l : Option Location) → Keeps l f f' → ((k : Kept) → kept ≡ Some k → IsElsewhere l k.index) → IsKept gs starts kept f'
-    as_was l same away = record {
-      index = h.index;
-      base = λ k e. same.base ∙ h.base k e
-          ∙ ap (λ v. width_bytes (width_of gs k.global) * v + base_word (starts k.global))
-          (sym (same.others k.index (h.index k e) (away k e)));
-    }
+    as_was : (l : Option Location) → Keeps l f f' → ((k : Kept) → kept ≡ Some k → IsElsewhere l (k.index).register × IsElsewhere l (k.index).base)
+        → IsKept gs starts kept f'
+    as_was l same away = kept_as gs starts kept f f' same.base (λ k e. (
+      same.others (k.index).register (h.low k e).0 (away k e).0,
+      same.others (k.index).base (h.low k e).1 (away k e).1,
+    )) h
 
     without : (l : Option Location) (r : ℕ) → ((q : ℕ) → q ≢ r → IsElsewhere l q) → Keeps l f f' → (o : Option Kept) → kept ≡ o
         → IsKept gs starts (kept_without r o) f'
     without l r away same None is = none_kept gs starts f'
-    without l r away same (Some k) is = go (nat_eq k.index r) refl
+    without l r away same (Some k) is = go (touches k.index r) refl
       where
-        go : (b : Bool) → nat_eq k.index r ≡ b → IsKept gs starts (if b then None else Some k) f'
+        go : (b : Bool) → touches k.index r ≡ b → IsKept gs starts (if b then None else Some k) f'
         go true t = none_kept gs starts f'
         go false t =
-            let index : (j : Kept) → kept ≡ Some j → k.index ≡ j.index = λ j e. ap (λ (k : Kept). k.index) (same_Some k j (sym is ∙ e)) in
-            subst (λ o. IsKept gs starts o f') is (as_was l same (λ j e. away j.index (λ x. eqb-false k.index r t (index j e ∙ x))))
+            let apart : (j : Kept) → kept ≡ Some j → ((j.index).register ≢ r) × ((j.index).base ≢ r) = λ j e.
+            subst (λ (k : Kept). ((k.index).register ≢ r) × ((k.index).base ≢ r)) (same_Some k j (sym is ∙ e)) (touched k.index r t) in
+            subst (λ o. IsKept gs starts o f') is
+            (as_was l same (λ j e. (away (j.index).register (apart j e).0, away (j.index).base (apart j e).1)))
 
     by : (l : Option Location) → Keeps l f f' → IsKept gs starts (kept_past l kept) f'
-    by None same = as_was None same (λ k e. tt)
+    by None same = as_was None same (λ k e. (tt, tt))
     by (Some (Held r)) same = without (Some (Held r)) r (λ q ne. ne) same kept refl
-    by (Some (InSlot j)) same = as_was (Some (InSlot j)) same (λ k e. tt)
+    by (Some (InSlot j)) same = as_was (Some (InSlot j)) same (λ k e. (tt, tt))
     by (Some (Copied r j)) same = without (Some (Copied r j)) r (λ q ne. ne) same kept refl
+
+pub offset_written : (l : Option Location) (offset : Option Offset) (f f' : ℕ → ℕ) → Keeps l f f' → IsOffset offset f → IsOffset (offset_past l offset) f'
+offset_written l offset f f' same h = by l same
+  where
+    as_was : (l : Option Location) → Keeps l f f' → ((o : Offset) → offset ≡ Some o → IsElsewhere l o.register × IsElsewhere l o.base) → IsOffset offset f'
+    as_was l same away = offset_as offset f f' (λ o e. (
+      same.others o.register (h.low o e).0 (away o e).0,
+      same.others o.base (h.low o e).1 (away o e).1,
+    )) h
+
+    without : (l : Option Location) (r : ℕ) → ((q : ℕ) → q ≢ r → IsElsewhere l q) → Keeps l f f' → (o : Option Offset) → offset ≡ o
+        → IsOffset (offset_without r o) f'
+    without l r away same None is = none_offset f'
+    without l r away same (Some o) is = go (touches o r) refl
+      where
+        go : (b : Bool) → touches o r ≡ b → IsOffset (if b then None else Some o) f'
+        go true t = none_offset f'
+        go false t =
+            let apart : (x : Offset) → offset ≡ Some x → (x.register ≢ r) × (x.base ≢ r) = λ x e.
+            subst (λ (o : Offset). (o.register ≢ r) × (o.base ≢ r)) (same_Some o x (sym is ∙ e)) (touched o r t) in
+            subst (λ o. IsOffset o f') is (as_was l same (λ x e. (away x.register (apart x e).0, away x.base (apart x e).1)))
+
+    by : (l : Option Location) → Keeps l f f' → IsOffset (offset_past l offset) f'
+    by None same = as_was None same (λ k e. (tt, tt))
+    by (Some (Held r)) same = without (Some (Held r)) r (λ q ne. ne) same offset refl
+    by (Some (InSlot j)) same = as_was (Some (InSlot j)) same (λ k e. (tt, tt))
+    by (Some (Copied r j)) same = without (Some (Copied r j)) r (λ q ne. ne) same offset refl
+
+pub bases_written : (gs : List RGlobal) (starts : ℕ → ℕ) (l : Option Location) (kept : Option Kept) (offset : Option Offset) (f f' : ℕ → ℕ) → Keeps l f f'
+    → IsKept gs starts kept f × IsOffset offset f → IsKept gs starts (kept_past l kept) f' × IsOffset (offset_past l offset) f'
+bases_written gs starts l kept offset f f' keeps h = (kept_written gs starts l kept f f' keeps h.0, offset_written l offset f f' keeps h.1)
+
+-- what is known of a register
+pub record IsIndex (o : Offset) (t : ℕ) (f : ℕ → ℕ) : Type 0 where
+  pub register : o.register ≡ t
+  pub low : 4 ≤ o.base
+  pub high : o.base < 28
+  pub sum : f o.register ≡ wrap (f o.base + o.word)
+
+pub index_is : (offset : Option Offset) (t : ℕ) (f : ℕ → ℕ) → 4 ≤ t → t < 28 → f t < 2 ^ 32 → IsOffset offset f → IsIndex (offset_in offset t) t f
+index_is None t f low high below h = record { register = refl; low = low; high = high; sum = omega (arith, below) }
+index_is (Some o) t f low high below h = go (nat_eq o.register t) refl
+  where
+    go : (b : Bool) → nat_eq o.register t ≡ b → IsIndex (if b then o else no_offset t) t f
+    go true e = record { register = eqb-true o.register t e; low = (h.low o refl).1; high = (h.high o refl).1; sum = h.sum o refl }
+    go false e = record { register = refl; low = low; high = high; sum = omega (arith, below) }
+
+pub index_same : (o : Offset) (t : ℕ) (f f' : ℕ → ℕ) → 4 ≤ t → t < 28 → ((q : ℕ) → 4 ≤ q → q ≢ 30 → f' q ≡ f q) → IsIndex o t f → IsIndex o t f'
+index_same o t f f' low high same h =
+    let register = h.register in
+    let base = h.high in
+    record {
+      register = h.register;
+      low = h.low;
+      high = h.high;
+      sum = same o.register (omega (arith, low, register)) (omega (arith, high, register)) ∙ h.sum
+          ∙ ap (λ v. wrap (v + o.word)) (sym (same o.base h.low (omega (arith, base))));
+    }
 
 -- instructions that end in a write of register d, from a state m that they have reached but for it
 pub record Ends (is : List Plain) (s m : State) (d v : ℕ) : Type 0 where

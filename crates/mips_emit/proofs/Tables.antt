@@ -11,5 +11,5 @@ none_in (suc n) zero = refl
 none_in (suc n) (suc q) = none_in n q
 
 pub nothing : (known : List Fact) → known ≡ []
-    → (let f : Facts = record { known = newest known; deferred = word_in (replicate 32 None); kept = None } in f) ≡ no_facts
-nothing known e = ap₂ (λ k l. (let f : Facts = record { known = newest k; deferred = l; kept = None } in f)) e (fun_ext (λ q. none_in 32 q))
+    → (let f : Facts = record { known = newest known; deferred = word_in (replicate 32 None); kept = None; offset = None } in f) ≡ no_facts
+nothing known e = ap₂ (λ k l. (let f : Facts = record { known = newest k; deferred = l; kept = None; offset = None } in f)) e (fun_ext (λ q. none_in 32 q))

@@ -24,8 +24,9 @@ use Rattle.mips_isa.proofs.StateWords as words
 use Rattle.mips_emit.specs.declared.location.Location.{Location}
 use Rattle.mips_emit.specs.declared.location.Location.TheVariants.{Held, InSlot, Copied}
 use Rattle.mips_emit.specs.Locations.{inner_of}
-use Rattle.mips_emit.specs.Elements.{width_bytes, element_place, address_of_place, data_middle, near, page, low, scaled, scaled_register, base_sum}
-use Rattle.mips_emit.specs.Elements.{base_code, base_offset, base_word}
+use Rattle.mips_emit.specs.Elements.{width_bytes, address_of_place, data_middle, near, page, low, scaled, scaled_register, base_sum}
+use Rattle.mips_emit.specs.Elements.{base_code, base_offset, base_word, shifted_place, base_index, shifted_offset}
+use Rattle.mips_emit.specs.declared.offset.Offset.{Offset}
 use Rattle.mips_emit.specs.Code.{is_small, half, constant, li, load_word_at, store_word_at, move_code}
 use Rattle.mips_emit.proofs.Runs.{RunsTo, runs_then, runs_none}
 
@@ -294,29 +295,28 @@ low_word at k few = go (nat_lt (at % 65536) 32768) refl
 record Scaled (is : List Plain) (s : State) (t q k : ℕ) : Type 0 where
   regs : ℕ → ℕ
   runs : RunsTo is s (record s { regs = regs })
-  here : read 0 regs q ≡ k
+  here : wrap (read 0 regs q) ≡ wrap k
   others : (r : ℕ) → r ≢ t → regs r ≡ s.regs r
   apart : q ≢ 2
 
 t2 : IsTarget 2
 t2 = record { low = omega arith; high = omega arith }
 
-scales : (w : Width) (s : State) (t q i : ℕ) → IsTarget t → t ≢ 2 → read 0 s.regs q ≡ i → q ≢ 2 → width_bytes w * i < 2 ^ 31
+scales : (w : Width) (s : State) (t q i : ℕ) → IsTarget t → t ≢ 2 → read 0 s.regs q ≡ i → q ≢ 2
     → Scaled (scaled w t q) s t (scaled_register w t q) (width_bytes w * i)
-scales Word s t q i ok t_apart is ne few =
+scales Word s t q i ok t_apart is ne =
     let v = op_value operators.Sll (read 0 s.regs q) (wrap 2) in
-    let value : wrap (i * 4) ≡ 4 * i = omega (arith, few) in
-    let four : op_value operators.Sll (read 0 s.regs q) (wrap 2) ≡ 4 * i = shift_value (read 0 s.regs q) 2 ∙ ap (λ x. wrap (x * 4)) is ∙ value in
+    let value : wrap (wrap (i * 4)) ≡ wrap (4 * i) = omega arith in
     record {
       regs = put s.regs t v;
       runs = record { ends = refl };
-      here = read_register (put s.regs t v) t ok.low ∙ put_here s.regs t v ok ∙ four;
+      here = ap wrap (read_register (put s.regs t v) t ok.low ∙ put_here s.regs t v ok ∙ shift_value (read 0 s.regs q) 2 ∙ ap (λ x. wrap (x * 4)) is) ∙ value;
       others = λ r other. put_other s.regs t v r other;
       apart = t_apart;
     }
-scales Byte s t q i ok t_apart is ne few =
+scales Byte s t q i ok t_apart is ne =
     let one : i ≡ 1 * i = omega arith in
-    record { regs = s.regs; runs = runs_none s; here = is ∙ one; others = λ r other. refl; apart = ne }
+    record { regs = s.regs; runs = runs_none s; here = ap wrap (is ∙ one); others = λ r other. refl; apart = ne }
 
 -- from an index to a base for an element, in register t
 pub record Based (is : List Plain) (s : State) (t b : ℕ) : Type 0 where
@@ -325,23 +325,22 @@ pub record Based (is : List Plain) (s : State) (t b : ℕ) : Type 0 where
   pub here : regs t ≡ b
   pub others : (r : ℕ) → r ≢ t → r ≢ 2 → regs r ≡ s.regs r
 
-sums : (s : State) (t q start k : ℕ) → IsTarget t → read 0 s.regs q ≡ k → q ≢ 2 → s.regs 28 ≡ data_middle → start + k < 1048576
-    → Based (base_sum t start q) s t (k + base_word start)
+sums : (s : State) (t q start k : ℕ) → IsTarget t → read 0 s.regs q ≡ k → q ≢ 2 → s.regs 28 ≡ data_middle → start < 1048576
+    → Based (base_sum t start q) s t (wrap (k + base_word start))
 sums s t q start k ok is apart gp few = go (nat_lt start 65536) refl
   where
-    high_is : start + k < 1048576 → wrap (page (address_of_place start) * 2 ^ 16) ≡ page (address_of_place start) * 65536
+    high_is : start < 1048576 → wrap (page (address_of_place start) * 2 ^ 16) ≡ page (address_of_place start) * 65536
     high_is few = omega (arith, few)
 
     go : (b : Bool) → nat_lt start 65536 ≡ b
         → Based (if b then Alu Addu t q 28 ∷ [] else LoadUpper 2 (page (address_of_place start)) ∷ Alu Addu t q 2 ∷ []) s t
-        (k + (if b then data_middle else page (address_of_place start) * 65536))
+        (wrap (k + (if b then data_middle else page (address_of_place start) * 65536)))
     go true e =
         let all = op_value operators.Addu (read 0 s.regs q) (s.regs 28) in
-        let total : wrap (k + data_middle) ≡ k + data_middle = omega (arith, few) in
         record {
           regs = put s.regs t all;
           runs = record { ends = refl };
-          here = put_here s.regs t all ok ∙ ap₂ (op_value operators.Addu) is gp ∙ sum_value k data_middle ∙ total;
+          here = put_here s.regs t all ok ∙ ap₂ (op_value operators.Addu) is gp ∙ sum_value k data_middle;
           others = λ r n1 n2. put_other s.regs t all r n1;
         }
     go false e =
@@ -350,25 +349,37 @@ sums s t q start k ok is apart gp few = go (nat_lt start 65536) refl
         let all = op_value operators.Addu (read 0 s1.regs q) (s1.regs 2) in
         let index : read 0 s1.regs q ≡ k = read_other s.regs s1.regs q (λ _. put_other s.regs 2 v q apart) ∙ is in
         let upper : s1.regs 2 ≡ page (address_of_place start) * 65536 = put_here s.regs 2 v t2 ∙ high_is few in
-        let total : wrap (k + page (address_of_place start) * 65536) ≡ k + page (address_of_place start) * 65536 = omega (arith, few) in
         record {
           regs = put s1.regs t all;
           runs = record { ends = refl };
-          here = put_here s1.regs t all ok ∙ ap₂ (op_value operators.Addu) index upper ∙ sum_value k (page (address_of_place start) * 65536) ∙ total;
+          here = put_here s1.regs t all ok ∙ ap₂ (op_value operators.Addu) index upper ∙ sum_value k (page (address_of_place start) * 65536);
           others = λ r n1 n2. put_other s1.regs t all r n1 ∙ put_other s.regs 2 v r n2;
         }
 
+same_sum : (k m n : ℕ) → wrap k ≡ wrap m → wrap (k + n) ≡ wrap (m + n)
+same_sum k m n e = omega (arith, e)
+
 pub based : (w : Width) (s : State) (t q start i : ℕ) → IsTarget t → t ≢ 2 → t ≢ 28 → read 0 s.regs q ≡ i → q ≢ 2 → s.regs 28 ≡ data_middle
-    → element_place w start i < 1048576 → Based (base_code w t start q) s t (width_bytes w * i + base_word start)
+    → start < 1048576 → Based (base_code w t start q) s t (wrap (width_bytes w * i + base_word start))
 based w s t q start i ok t_apart middle is apart gp few =
-    let a = scales w s t q i ok t_apart is apart (omega (arith, few)) in
+    let a = scales w s t q i ok t_apart is apart in
     let s1 : State = record s { regs = a.regs } in
-    let b = sums s1 t (scaled_register w t q) start (width_bytes w * i) ok a.here a.apart (a.others 28 (λ e. middle (sym e)) ∙ gp) few in
-    record { regs = b.regs; runs = runs_then a.runs b.runs; here = b.here; others = λ r n1 n2. b.others r n1 n2 ∙ a.others r n1 }
+    let b = sums s1 t (scaled_register w t q) start (read 0 a.regs (scaled_register w t q)) ok refl a.apart (a.others 28 (λ e. middle (sym e)) ∙ gp) few in
+    record {
+      regs = b.regs;
+      runs = runs_then a.runs b.runs;
+      here = b.here ∙ same_sum (read 0 a.regs (scaled_register w t q)) (width_bytes w * i) (base_word start) a.here;
+      others = λ r n1 n2. b.others r n1 n2 ∙ a.others r n1;
+    }
 
 -- from the base to the element
-pub from_base : (start k b : ℕ) → start + k < 1048576 → b ≡ k + base_word start → wrap (b + word_of_offset (base_offset start)) ≡ address_of_place (start + k)
-from_base start k b few is = ap (λ b. wrap (b + word_of_offset (base_offset start))) is ∙ go (nat_lt start 65536) refl
+wrapped_sum : (n z : ℕ) → wrap (wrap n + z) ≡ wrap (n + z)
+wrapped_sum n z = omega arith
+
+pub from_base : (start k b : ℕ) → start + k < 1048576 → b ≡ wrap (k + base_word start) → wrap (b + word_of_offset (base_offset start)) ≡ address_of_place (start + k)
+from_base start k b few is =
+    ap (λ b. wrap (b + word_of_offset (base_offset start))) is ∙ wrapped_sum (k + base_word start) (word_of_offset (base_offset start))
+    ∙ go (nat_lt start 65536) refl
   where
     go : (c : Bool) → nat_lt start 65536 ≡ c
         → wrap (k + (if c then data_middle else page (address_of_place start) * 65536) + word_of_offset (if c then near start else low (address_of_place start)))
@@ -377,3 +388,31 @@ from_base start k b few is = ap (λ b. wrap (b + word_of_offset (base_offset sta
     go false e =
         let place : address_of_place start + k ≡ address_of_place (start + k) = omega arith in
         low_word (address_of_place start) k (omega (arith, few)) ∙ place
+
+-- and to one some places further
+shifted_word : (w : Width) (start c r v z : ℕ) → v ≡ wrap (r + c) → start + width_bytes w * v < 1048576
+    → wrap (0 + data_middle + z) ≡ address_of_place (shifted_place w start c)
+    → wrap (wrap (width_bytes w * r + data_middle) + z) ≡ address_of_place (start + width_bytes w * v)
+shifted_word Word start c r v z is few at = omega (arith, is, few, at)
+shifted_word Byte start c r v z is few at = omega (arith, is, few, at)
+
+pub from_shifted : (w : Width) (start : ℕ) (o : Offset) (v b : ℕ) (f : ℕ → ℕ) → f o.register ≡ v → f o.register ≡ wrap (f o.base + o.word)
+    → start + width_bytes w * v < 1048576 → b ≡ wrap (width_bytes w * f (base_index w start o) + base_word start)
+    → wrap (b + word_of_offset (shifted_offset w start o.word)) ≡ address_of_place (start + width_bytes w * v)
+from_shifted w start o v b f at sum few is = go (nat_lt start 65536) (nat_lt (shifted_place w start o.word) 65536) refl refl is
+  where
+    plainly : b ≡ wrap (width_bytes w * f o.register + base_word start) → wrap (b + word_of_offset (base_offset start)) ≡ address_of_place (start + width_bytes w * v)
+    plainly is = from_base start (width_bytes w * v) b few (is ∙ ap (λ x. wrap (width_bytes w * x + base_word start)) at)
+
+    go : (a c : Bool) → nat_lt start 65536 ≡ a → nat_lt (shifted_place w start o.word) 65536 ≡ c
+        → b ≡ wrap (width_bytes w * f (if a && c then o.base else o.register) + base_word start)
+        → wrap (b + word_of_offset (if a && c then near (shifted_place w start o.word) else base_offset start)) ≡ address_of_place (start + width_bytes w * v)
+    go false c ea ec is = plainly is
+    go true false ea ec is = plainly is
+    go true true ea ec is =
+        let p = shifted_place w start o.word in
+        let below : p < 65536 = ltb-true p 65536 ec in
+        let none : p + 0 ≡ p = omega arith in
+        let from : wrap (0 + data_middle + word_of_offset (near p)) ≡ address_of_place p = near_word p 0 below (omega (arith, below)) ∙ ap address_of_place none in
+        ap (λ b. wrap (b + word_of_offset (near p))) (is ∙ ap (λ c. wrap (width_bytes w * f o.base + (if c then data_middle else page (address_of_place start) * 65536))) ea)
+        ∙ shifted_word w start o.word (f o.base) v (word_of_offset (near p)) (sym at ∙ sum) few from

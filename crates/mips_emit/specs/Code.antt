@@ -21,6 +21,7 @@ use Rattle.rtl.specs.declared.instruction.RInst.{RInst}
 use Rattle.rtl.specs.declared.instruction.RInst.TheVariants.{Const, Move, Bin, Load, Store}
 use Rattle.rtl.specs.declared.block.RGlobal.{RGlobal}
 use Rattle.mips_homes.specs.declared.convention.TheConstants.{SCRATCH_1, SCRATCH_2, STACK_POINTER}
+use Rattle.mips_emit.specs.declared.element.TheConstants.{KEPT_BASE}
 use Rattle.mips_homes.specs.Convention.{is_callee_saved}
 use Rattle.mips_emit.specs.declared.location.Location.{Location}
 use Rattle.mips_emit.specs.declared.location.Location.TheVariants.{Held, InSlot, Copied}
@@ -29,10 +30,11 @@ use Rattle.mips_emit.specs.declared.product.ShiftedSum.{ShiftedSum}
 use Rattle.mips_emit.specs.declared.operation.Selection.{Selection}
 use Rattle.mips_emit.specs.declared.location.Source.TheVariants.{Zero, Word, From}
 use Rattle.mips_emit.specs.declared.element.Reach.{Reach}
-use Rattle.mips_emit.specs.declared.element.Reach.TheVariants.{ByPointer, ByKept, ByNew}
+use Rattle.mips_emit.specs.declared.element.Reach.TheVariants.{ByPointer, ByScratch, ByKept, ByNew}
+use Rattle.mips_emit.specs.declared.offset.Offset.{Offset}
 use Rattle.mips_emit.specs.declared.facts.Kept.{Kept}
-use Rattle.mips_emit.specs.Locations.{Locations, inner_of, Facts, known_in, operand, index_register, word_source}
-use Rattle.mips_emit.specs.Elements.{width_of, direct, base_code, shares_base, reach_by, element_base, element_offset}
+use Rattle.mips_emit.specs.Locations.{Locations, inner_of, Facts, known_in, operand, index_of, word_source}
+use Rattle.mips_emit.specs.Elements.{width_of, direct, base_code, shares_base, base_index, reach_by, element_base, element_offset}
 
 -- ---- words and frames
 
@@ -279,25 +281,28 @@ op_code op t d left right x y =
 
 -- ---- instructions
 
--- whether the base that is kept is one of a global's elements at the index in a register
-abbrev pub holds_base : List RGlobal → (starts : ℕ → ℕ) → Option Kept → (a : ℕ) → (index : Option ℕ) → Bool
+-- whether the base that is kept is one of a global's elements at an index
+abbrev pub holds_base : List RGlobal → (starts : ℕ → ℕ) → Option Kept → (a : ℕ) → (index : Option Offset) → Bool
 holds_base globals starts None a index = false
 holds_base globals starts (Some k) a None = false
-holds_base globals starts (Some k) a (Some r) = nat_eq k.index r && shares_base globals starts k.global a
+holds_base globals starts (Some k) a (Some o) =
+    nat_eq (base_index (width_of globals k.global) (starts k.global) k.index) (base_index (width_of globals a) (starts a) o)
+    && shares_base globals starts k.global a
 
--- how an element of a global is reached, whose index is operand x and may be known
-abbrev pub reach_with : List RGlobal → (starts : ℕ → ℕ) → Option Kept → (a : ℕ) → (known : Option ℕ) → (x : Source) → Reach
-reach_with globals starts kept a known x =
-    reach_by (direct (width_of globals a) (starts a) known) (index_register known x) (holds_base globals starts kept a (index_register known x))
+-- how an element of a global is reached, whose index may be known or in a register
+abbrev pub reach_with : List RGlobal → (starts : ℕ → ℕ) → Option Kept → (a : ℕ) → (known : Option ℕ) → (index : Option Offset) → Reach
+reach_with globals starts kept a known index =
+    reach_by (width_of globals a) (starts a) (direct (width_of globals a) (starts a) known) index (holds_base globals starts kept a index)
 
 abbrev pub reach_of : List RGlobal → (starts : ℕ → ℕ) → Locations → Facts → (a i : ℕ) → Reach
-reach_of globals starts at facts a i = reach_with globals starts facts.kept a (known_in facts i) (operand at facts i)
+reach_of globals starts at facts a i = reach_with globals starts facts.kept a (known_in facts i) (index_of at facts i)
 
 -- what stands before an element is used, from the operand that is its index
 abbrev pub element_code : Width → (start : ℕ) → Reach → Source → List Plain
 element_code w start (ByPointer p) x = []
-element_code w start ByKept x = []
-element_code w start (ByNew t) x = fetch SCRATCH_1 x ++ base_code w t start (operand_register SCRATCH_1 x)
+element_code w start ByScratch x = fetch SCRATCH_1 x ++ base_code w SCRATCH_1 start (operand_register SCRATCH_1 x)
+element_code w start (ByKept c) x = []
+element_code w start (ByNew q c) x = base_code w KEPT_BASE start q
 
 abbrev pub bin_code : Locations → Facts → Op → (d a b : ℕ) → List Plain
 bin_code at facts op d a b =
@@ -306,10 +311,10 @@ bin_code at facts op d a b =
 
 -- an element into a register, and back
 abbrev pub element_load : Width → ℕ → (start : ℕ) → Reach → Plain
-element_load w t start by = plain.Load w t (element_base by) (element_offset start by)
+element_load w t start by = plain.Load w t (element_base by) (element_offset w start by)
 
 abbrev pub element_store : Width → ℕ → (start : ℕ) → Reach → Plain
-element_store w t start by = plain.Store w t (element_base by) (element_offset start by)
+element_store w t start by = plain.Store w t (element_base by) (element_offset w start by)
 
 -- an element at index x into a location, and operand y into an element
 abbrev pub load_code : Option Location → Width → (start : ℕ) → Reach → (x : Source) → List Plain

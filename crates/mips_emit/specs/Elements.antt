@@ -14,7 +14,9 @@ use Rattle.rtl.specs.declared.block.RGlobal.{RGlobal}
 use Rattle.mips_homes.specs.declared.convention.TheConstants.{SCRATCH_1, SCRATCH_2, GLOBAL_POINTER}
 use Rattle.mips_emit.specs.declared.element.TheConstants.{KEPT_BASE}
 use Rattle.mips_emit.specs.declared.element.Reach.{Reach}
-use Rattle.mips_emit.specs.declared.element.Reach.TheVariants.{ByPointer, ByKept, ByNew}
+use Rattle.mips_emit.specs.declared.element.Reach.TheVariants.{ByPointer, ByScratch, ByKept, ByNew}
+use Rattle.mips_emit.specs.declared.offset.Offset.{Offset}
+use Rattle.words.specs.Words.{wrap}
 
 -- ---- places in data
 
@@ -107,26 +109,44 @@ abbrev pub shares_base : List RGlobal → (starts : ℕ → ℕ) → (a b : ℕ)
 shares_base globals starts a b =
     nat_eq (width_bytes (width_of globals a)) (width_bytes (width_of globals b)) && nat_eq (base_word (starts a)) (base_word (starts b))
 
--- how an element is reached: by its place if the global pointer reaches that; if its index is in a register, from the base that is kept,
--- which may have to be made
-abbrev pub reach_by : (place index : Option ℕ) → (is_kept : Bool) → Reach
-reach_by (Some p) index b = ByPointer p
-reach_by None None b = ByNew SCRATCH_1
-reach_by None (Some r) b = if b then ByKept else ByNew KEPT_BASE
+-- the place of an element, some more of them after another one's
+abbrev pub shifted_place : Width → (start c : ℕ) → ℕ
+shifted_place w start c = wrap (start + width_bytes w * c)
+
+-- whether the global pointer's offset to it is one of an instruction
+abbrev pub fits_offset : Width → (start c : ℕ) → Bool
+fits_offset w start c = nat_lt start 65536 && nat_lt (shifted_place w start c) 65536
+
+-- the register from which a base is made for an index, and the offset from that base
+abbrev pub base_index : Width → (start : ℕ) → Offset → ℕ
+base_index w start o = if fits_offset w start o.word then o.base else o.register
+
+abbrev pub shifted_offset : Width → (start c : ℕ) → ℤ
+shifted_offset w start c = if fits_offset w start c then near (shifted_place w start c) else base_offset start
+
+-- how an element is reached: by its place if the global pointer reaches that. If its index is in a register, the base is kept, and made
+-- if it isn't there
+abbrev pub reach_by : Width → (start : ℕ) → (place : Option ℕ) → (index : Option Offset) → (is_kept : Bool) → Reach
+reach_by w start (Some p) index b = ByPointer p
+reach_by w start None None b = ByScratch
+reach_by w start None (Some o) b = if b then ByKept o.word else ByNew (base_index w start o) o.word
 
 -- the base of an element and the offset from it
 abbrev pub element_base : Reach → ℕ
 element_base (ByPointer p) = GLOBAL_POINTER
-element_base ByKept = KEPT_BASE
-element_base (ByNew t) = t
+element_base ByScratch = SCRATCH_1
+element_base (ByKept c) = KEPT_BASE
+element_base (ByNew q c) = KEPT_BASE
 
-abbrev pub element_offset : (start : ℕ) → Reach → ℤ
-element_offset start (ByPointer p) = near p
-element_offset start ByKept = base_offset start
-element_offset start (ByNew t) = base_offset start
+abbrev pub element_offset : Width → (start : ℕ) → Reach → ℤ
+element_offset w start (ByPointer p) = near p
+element_offset w start ByScratch = base_offset start
+element_offset w start (ByKept c) = shifted_offset w start c
+element_offset w start (ByNew q c) = shifted_offset w start c
 
 -- the global pointer reaches the place
 abbrev pub IsInReach : Reach → Type 0
 IsInReach (ByPointer p) = p < 65536
-IsInReach ByKept = Unit {0}
-IsInReach (ByNew t) = Unit {0}
+IsInReach ByScratch = Unit {0}
+IsInReach (ByKept c) = Unit {0}
+IsInReach (ByNew q c) = Unit {0}

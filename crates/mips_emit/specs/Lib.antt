@@ -1,4 +1,5 @@
 pub mod Frames
+pub mod Offsets
 pub mod Locations
 pub mod Elements
 pub mod Code

@@ -19,6 +19,8 @@ use Rattle.mips_emit.specs.declared.location.Source.{Source}
 use Rattle.mips_emit.specs.declared.location.Source.TheVariants.{Zero, Word, From}
 use Rattle.mips_emit.specs.declared.facts.Fact.{Fact}
 use Rattle.mips_emit.specs.declared.facts.Kept.{Kept}
+use Rattle.mips_emit.specs.declared.offset.Offset.{Offset}
+use Rattle.mips_emit.specs.Offsets.{touches, sum_offset, or_offset, offset_past, index_with}
 use Rattle.mips_emit.specs.declared.facts.Knowledge.{Knowledge}
 use Rattle.mips_emit.specs.declared.facts.Last.{Last}
 
@@ -58,12 +60,13 @@ inner_of (Some (Copied r k)) = SCRATCH_3 - 2 * (r % 2)
 
 -- ---- words that are known
 
--- facts, the newest first, the words that caller-saved registers should hold but don't yet, and the base that register 30 holds, of an index
--- in a register
+-- facts, the newest first, and the words that caller-saved registers should hold but don't yet. Then the base that register 30 holds, and a
+-- register that is the sum of another one and a word
 pub record Facts : Type 0 where
   pub known : List Fact
   pub deferred : Places
   pub kept : Option Kept
+  pub offset : Option Offset
 
 -- the word that a pseudo-register is known to hold
 abbrev pub known_of : List Fact → Places
@@ -136,18 +139,18 @@ index_register None (From (Held r)) = Some r
 index_register None (From (InSlot k)) = None
 index_register None (From (Copied r k)) = None
 
-abbrev pub index_of : Locations → Facts → ℕ → Option ℕ
-index_of at facts i = index_register (known_in facts i) (operand at facts i)
+abbrev pub index_of : Locations → Facts → ℕ → Option Offset
+index_of at facts i = index_with facts.offset (index_register (known_in facts i) (operand at facts i))
 
 -- the base that is kept once an element is used whose index is in a register
-abbrev pub kept_with : (global : ℕ) → (index : Option ℕ) → Option Kept → Option Kept
+abbrev pub kept_with : (global : ℕ) → (index : Option Offset) → Option Kept → Option Kept
 kept_with a None kept = kept
-kept_with a (Some r) kept = Some (record { global = a; index = r })
+kept_with a (Some o) kept = Some (record { global = a; index = o })
 
--- it is so while that register isn't written
+-- it is so while its registers aren't written
 abbrev pub kept_without : ℕ → Option Kept → Option Kept
 kept_without r None = None
-kept_without r (Some k) = if nat_eq k.index r then None else Some k
+kept_without r (Some k) = if touches k.index r then None else Some k
 
 abbrev pub kept_past : Option Location → Option Kept → Option Kept
 kept_past None kept = kept
@@ -160,26 +163,31 @@ learned at (Const d w) facts = record {
   known = with_fact d (Some (wrap w)) facts.known;
   deferred = deferred_const (at d) (wrap w) facts.deferred;
   kept = kept_past (at d) facts.kept;
+  offset = offset_past (at d) facts.offset;
 }
 learned at (Move d a) facts = record {
   known = with_fact d (known_in facts a) facts.known;
   deferred = deferred_none (at d) facts.deferred;
   kept = kept_past (at d) facts.kept;
+  offset = offset_past (at d) facts.offset;
 }
 learned at (Bin op d a b) facts = record {
   known = with_fact d None facts.known;
   deferred = deferred_none (at d) facts.deferred;
   kept = kept_past (at d) facts.kept;
+  offset = or_offset (sum_offset (at d) op (known_in facts b) (operand at facts a)) (offset_past (at d) facts.offset);
 }
 learned at (Load d a i) facts = record {
   known = with_fact d None facts.known;
   deferred = deferred_none (at d) facts.deferred;
   kept = kept_past (at d) (kept_with a (index_of at facts i) facts.kept);
+  offset = offset_past (at d) facts.offset;
 }
 learned at (Store a i b) facts = record {
   known = facts.known;
   deferred = facts.deferred;
   kept = kept_with a (index_of at facts i) facts.kept;
+  offset = facts.offset;
 }
 
 -- and after several
@@ -201,11 +209,11 @@ newest facts = take KEPT_FACTS (reverse facts)
 
 -- the same as the code has it
 abbrev pub facts_of : Knowledge → Facts
-facts_of k = record { known = newest k.known.items; deferred = word_in k.deferred; kept = k.kept }
+facts_of k = record { known = newest k.known.items; deferred = word_in k.deferred; kept = k.kept; offset = k.offset }
 
 -- at the head of a block
 abbrev pub no_facts : Facts
-no_facts = record { known = []; deferred = λ q. None; kept = None }
+no_facts = record { known = []; deferred = λ q. None; kept = None; offset = None }
 
 -- ---- what an exit can use of the last instruction
 

@@ -7,13 +7,15 @@ ghost use Rattle.mblock.specs.declared.limits.TheConstants.{UNIT_BYTES};
 ghost use Rattle.mips_emit.specs.Locations.{FitsSource};
 ghost use Rattle.mips_emit.specs.Elements.{width_bytes, element_place, address_of_place, direct, IsNear, near, page, low, scaled};
 ghost use Rattle.mips_emit.specs.Elements.{scaled_register};
-ghost use Rattle.mips_emit.specs.declared.element.Reach.TheVariants.{ByNew};
-ghost use Rattle.mips_emit.specs.Elements.{base_sum, base_code, base_offset, base_word, reach_by, element_base, element_offset, IsInReach};
+ghost use Rattle.mips_emit.specs.declared.element.Reach.TheVariants.{ByScratch};
+ghost use Rattle.mips_emit.specs.Elements.{base_sum, base_code, base_offset, base_word, element_base, element_offset, IsInReach};
+ghost use Rattle.mips_emit.specs.Elements.{shifted_place, fits_offset, base_index, shifted_offset, reach_by};
 ghost use Rattle.mips_emit.specs.Code.{element_code, element_load, element_store};
 ghost use Rattle.mips_emit.specs.Prefixes.{Emits};
 
 use crate::constant::{emit_one, emit_one_or_two};
 use crate::location::{Source, register};
+use crate::offset::Offset;
 use crate::transfer::{emit_fetch, operand_register};
 use mips_homes::{GLOBAL_POINTER, SCRATCH_1, SCRATCH_2};
 use mips_isa::{AluOp, Amount, DATA_BASE, NonzeroReg, Plain, Reg, ShiftOp};
@@ -28,10 +30,12 @@ pub(crate) const KEPT_BASE: u8 = 30;
 pub enum Reach {
     /// From the global pointer, by its place.
     ByPointer(u32),
-    /// From the base that is kept.
-    ByKept,
-    /// From a base that is made in a register.
-    ByNew(NonzeroReg),
+    /// From a base that is made in a scratch register.
+    ByScratch,
+    /// From the base that is kept, so many elements after it.
+    ByKept(u32),
+    /// From that base, made from a register, so many elements after it.
+    ByNew(NonzeroReg, u32),
 }
 
 // How many bytes an element has.
@@ -117,21 +121,65 @@ pub(crate) fn same_base(w: Width, start: u32, v: Width, other: u32) -> bool
     bytes_of(w) == bytes_of(v) && base_word(start) == base_word(other)
 }
 
+// The place of an element, some more of them after another one's.
+fn shifted_place(width: Width, start: u32, word: u32) -> u32
+    ensures { result ≡ shifted_place width start word }
+{
+    start.wrapping_add(bytes_of(width).wrapping_mul(word))
+}
+
+// Whether the global pointer's offset to it is one of an instruction.
+fn fits_offset(width: Width, start: u32, word: u32) -> bool
+    ensures { result ≡ fits_offset width start word }
+{
+    start < 65_536 && shifted_place(width, start, word) < 65_536
+}
+
+/// The register from which a base is made for an index.
+pub(crate) fn base_index(width: Width, start: u32, index: &Offset) -> NonzeroReg
+    ensures { result ≡ base_index width start index.now }
+{
+    if fits_offset(width, start, index.word) {
+        index.base
+    } else {
+        index.register
+    }
+}
+
+// The offset from that base.
+fn shifted_offset(width: Width, start: u32, word: u32) -> i16
+    requires { start ≤ UNIT_BYTES }
+    ensures { result ≡ shifted_offset width start word }
+{
+    let place = shifted_place(width, start, word);
+    if start < 65_536 && place < 65_536 {
+        near(place)
+    } else {
+        base_offset(start)
+    }
+}
+
 /// How an element is reached.
-pub(crate) fn reach_by(place: Option<u32>, index: Option<NonzeroReg>, is_kept: bool) -> Reach
+pub(crate) fn reach_by(
+    width: Width,
+    start: u32,
+    place: Option<u32>,
+    index: &Option<Offset>,
+    is_kept: bool,
+) -> Reach
     requires { IsNear place }
-    ensures value { result ≡ reach_by place index is_kept }
+    ensures value { result ≡ reach_by width start place index.now is_kept }
     ensures near { IsInReach result }
 {
     match place {
         Some(p) => Reach::ByPointer(p),
         None => match index {
-            None => Reach::ByNew(register(SCRATCH_1)),
-            Some(_) => {
+            None => Reach::ByScratch,
+            Some(o) => {
                 if is_kept {
-                    Reach::ByKept
+                    Reach::ByKept(o.word)
                 } else {
-                    Reach::ByNew(register(KEPT_BASE))
+                    Reach::ByNew(base_index(width, start, o), o.word)
                 }
             }
         },
@@ -215,16 +263,29 @@ fn emit_base(
     width: Width,
     t: NonzeroReg,
     start: u32,
+    index: Reg,
+) -> Result<(), AllocError>
+    requires { start ≤ UNIT_BYTES }
+    ensures { Emits result code.old.items (base_code width t start index) code.new.items }
+{
+    emit_scaled(code, width, t, index)?;
+    emit_sum(code, t, start, scaled_register(width, t, index))
+}
+
+// A base for an element, in a scratch register.
+fn emit_scratch(
+    code: &mut Vec<Plain>,
+    width: Width,
+    start: u32,
     x: &Source,
 ) -> Result<(), AllocError>
     requires few { start ≤ UNIT_BYTES }
     requires fits { FitsSource x.now }
-    ensures { Emits result code.old.items (element_code width start (ByNew t) x.now) code.new.items }
+    ensures { Emits result code.old.items (element_code width start ByScratch x.now) code.new.items }
 {
     let index = operand_register(register(SCRATCH_1), x);
     emit_fetch(code, register(SCRATCH_1), x)?;
-    emit_scaled(code, width, t, index)?;
-    emit_sum(code, t, start, scaled_register(width, t, index))
+    emit_base(code, width, register(SCRATCH_1), start, index)
 }
 
 /// What stands before an element is used; an Err is refused memory.
@@ -241,8 +302,9 @@ pub(crate) fn emit_element(
 {
     match by {
         Reach::ByPointer(_) => Ok(()),
-        Reach::ByKept => Ok(()),
-        Reach::ByNew(t) => emit_base(code, width, *t, start, x),
+        Reach::ByScratch => emit_scratch(code, width, start, x),
+        Reach::ByKept(_) => Ok(()),
+        Reach::ByNew(q, _) => emit_base(code, width, register(KEPT_BASE), start, q.reg()),
     }
 }
 
@@ -252,21 +314,23 @@ fn element_base(by: &Reach) -> Reg
 {
     match by {
         Reach::ByPointer(_) => Reg::masked(GLOBAL_POINTER),
-        Reach::ByKept => Reg::masked(KEPT_BASE),
-        Reach::ByNew(t) => t.reg(),
+        Reach::ByScratch => Reg::masked(SCRATCH_1),
+        Reach::ByKept(_) => Reg::masked(KEPT_BASE),
+        Reach::ByNew(_, _) => Reg::masked(KEPT_BASE),
     }
 }
 
 // The offset of an element from that register.
-fn element_offset(start: u32, by: &Reach) -> i16
+fn element_offset(width: Width, start: u32, by: &Reach) -> i16
     requires few { start ≤ UNIT_BYTES }
     requires near { IsInReach by.now }
-    ensures { result ≡ element_offset start by.now }
+    ensures { result ≡ element_offset width start by.now }
 {
     match by {
         Reach::ByPointer(p) => near(*p),
-        Reach::ByKept => base_offset(start),
-        Reach::ByNew(_) => base_offset(start),
+        Reach::ByScratch => base_offset(start),
+        Reach::ByKept(word) => shifted_offset(width, start, *word),
+        Reach::ByNew(_, word) => shifted_offset(width, start, *word),
     }
 }
 
@@ -280,7 +344,7 @@ pub(crate) fn element_load(width: Width, rt: NonzeroReg, start: u32, by: &Reach)
         width,
         rt,
         base: element_base(by),
-        offset: element_offset(start, by),
+        offset: element_offset(width, start, by),
     }
 }
 
@@ -294,6 +358,6 @@ pub(crate) fn element_store(width: Width, rt: Reg, start: u32, by: &Reach) -> Pl
         width,
         rt,
         base: element_base(by),
-        offset: element_offset(start, by),
+        offset: element_offset(width, start, by),
     }
 }

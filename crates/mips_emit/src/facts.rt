@@ -6,15 +6,17 @@ ghost use Rattle.runs.specs.Stores.{places_with};
 ghost use Rattle.mips_emit.specs.Locations.{known_of, known_in, facts_of, no_facts, word_in, deferred_at, deferred_const, deferred_none};
 ghost use Rattle.mips_emit.specs.Locations.{newest, with_fact, learned, in_slot, fresh_of};
 ghost use Rattle.mips_emit.specs.Locations.{index_register, index_of, kept_with, kept_without, kept_past};
+ghost use Rattle.mips_emit.specs.Offsets.{sum_offset, or_offset};
 ghost use Rattle.mips_emit.specs.Comparisons.{last_with};
 ghost use Rattle.mips_emit.specs.Locations.{locations, operand, last_operand, FitsSource};
 
 use crate::comparison::Comparison;
 use crate::limits::KEPT_FACTS;
 use crate::location::{Location, Source, inner_of, locate, source_of, word_source};
+use crate::offset::{Offset, index_with, offset_past, sum_offset, touches};
 use mips_homes::{Frame, is_callee_saved};
 use mips_isa::NonzeroReg;
-use rtl::{GlobalNumber, RInst, Register};
+use rtl::{GlobalNumber, Op, RInst, Register};
 use std::alloc::{AllocError, Global};
 
 /// A write of a pseudo-register, and the word that it is known to hold since, if any.
@@ -32,20 +34,21 @@ pub struct Last {
     pub comparison: Option<Comparison>,
 }
 
-/// A base of elements that a register of its own holds: of a global's elements at the index in another register.
+/// A base of elements that a register of its own holds: of a global's elements at an index.
 #[derive(Clone, Copy)]
 pub struct Kept {
     pub global: GlobalNumber,
-    pub index: NonzeroReg,
+    pub index: Offset,
 }
 
-/// What is known within a block: words of pseudo-registers, the newest last, by the numbers of registers the words that
-/// these should hold but don't yet, and the base that is kept.
+/// What is known within a block: words of pseudo-registers, the newest last, and by the numbers of registers the words that
+/// these should hold but don't yet. Then the base that is kept, and a register that is the sum of another one and a word.
 #[derive(Drop)]
 pub struct Knowledge {
     pub known: Vec<Fact>,
     pub deferred: [Option<u32>; 32],
     pub kept: Option<Kept>,
+    pub offset: Option<Offset>,
 }
 
 impl Knowledge {
@@ -57,6 +60,7 @@ impl Knowledge {
             known: Vec::new(alloc),
             deferred: [None; 32],
             kept: None,
+            offset: None,
         })
     }
 
@@ -67,6 +71,7 @@ impl Knowledge {
         self.known.clear();
         self.deferred = [None; 32];
         self.kept = None;
+        self.offset = None;
     }
 }
 
@@ -182,7 +187,7 @@ fn kept_without(r: NonzeroReg, kept: Option<Kept>) -> Option<Kept>
 {
     match kept {
         None => None,
-        Some(k) => if k.index == r { None } else { Some(k) },
+        Some(k) => if touches(&k.index, r) { None } else { Some(k) },
     }
 }
 
@@ -202,7 +207,7 @@ fn kept_past(place: Option<Location>, kept: Option<Kept>) -> Option<Kept>
 }
 
 // The base that is kept once an element is used.
-fn kept_with(global: GlobalNumber, index: Option<NonzeroReg>, kept: Option<Kept>) -> Option<Kept>
+fn kept_with(global: GlobalNumber, index: Option<Offset>, kept: Option<Kept>) -> Option<Kept>
     ensures { result ≡ kept_with global index kept }
 {
     match index {
@@ -236,7 +241,38 @@ fn kept_at(facts: &Knowledge, frame: &Frame, a: GlobalNumber, i: Register) -> Op
 {
     let known = known_word(facts, i);
     let x = operand_by(facts, frame, i, known);
-    kept_with(a, index_register(known, &x), facts.kept)
+    kept_with(
+        a,
+        index_with(&facts.offset, index_register(known, &x)),
+        facts.kept,
+    )
+}
+
+// What an operator leaves in a register.
+fn sum_at(
+    facts: &Knowledge,
+    frame: &Frame,
+    op: Op,
+    d: Register,
+    a: Register,
+    b: Register,
+) -> Option<Offset>
+    requires { IsReachable frame.now }
+    ensures { result ≡ sum_offset (locations frame.now d) op (known_in (facts_of facts.now) b) (operand (locations frame.now) (facts_of facts.now) a) }
+{
+    let known = known_word(facts, b);
+    let x = operand(facts, frame, a);
+    sum_offset(locate(frame, d), op, known, &x)
+}
+
+// The newer of two offsets.
+fn or_offset(new: Option<Offset>, old: Option<Offset>) -> Option<Offset>
+    ensures { result ≡ or_offset new old }
+{
+    match new {
+        None => old,
+        Some(o) => Some(o),
+    }
 }
 
 /// What is known after an instruction; an Err is refused memory, and leaves what was known.
@@ -250,23 +286,28 @@ pub(crate) fn learn(facts: &mut Knowledge, frame: &Frame, inst: &RInst) -> Resul
             put_fact(&mut facts.known, *d, Some(*word))?;
             defer(&mut facts.deferred, locate(frame, *d), *word);
             facts.kept = kept_past(locate(frame, *d), facts.kept);
+            facts.offset = offset_past(locate(frame, *d), &facts.offset);
         }
         RInst::Move(d, a) => {
             let word = known_word(facts, *a);
             put_fact(&mut facts.known, *d, word)?;
             clear_deferred(&mut facts.deferred, locate(frame, *d));
             facts.kept = kept_past(locate(frame, *d), facts.kept);
+            facts.offset = offset_past(locate(frame, *d), &facts.offset);
         }
-        RInst::Bin(_, d, _, _) => {
+        RInst::Bin(op, d, a, b) => {
+            let sum = sum_at(facts, frame, *op, *d, *a, *b);
             put_fact(&mut facts.known, *d, None)?;
             clear_deferred(&mut facts.deferred, locate(frame, *d));
             facts.kept = kept_past(locate(frame, *d), facts.kept);
+            facts.offset = or_offset(sum, offset_past(locate(frame, *d), &facts.offset));
         }
         RInst::Load(d, a, i) => {
             let kept = kept_at(facts, frame, *a, *i);
             put_fact(&mut facts.known, *d, None)?;
             clear_deferred(&mut facts.deferred, locate(frame, *d));
             facts.kept = kept_past(locate(frame, *d), kept);
+            facts.offset = offset_past(locate(frame, *d), &facts.offset);
         }
         RInst::Store(a, i, _) => facts.kept = kept_at(facts, frame, *a, *i),
     }

@@ -13,18 +13,21 @@ ghost use Rattle.mips_emit.specs.Locations.{facts_of, inner_of, locations, word_
 ghost use Rattle.mips_emit.specs.Comparisons.{FitsComparison, next_code, last_after, no_last, code_of_insts};
 ghost use Rattle.mips_emit.specs.Elements.{AreStarts, IsInReach, width_of};
 ghost use Rattle.mips_emit.specs.Code.{const_code, put_at, into, finish, op_code, holds_base, reach_with, load_code, store_code, inst_code};
+ghost use Rattle.mips_emit.specs.Locations.{index_register};
+ghost use Rattle.mips_emit.specs.Offsets.{index_with};
 ghost use Rattle.mips_emit.specs.Prefixes.{Emits, StopsAmong};
 
 use crate::comparison::{Asked, Comparison, comparison_of, emit_comparison};
 use crate::constant::emit_one;
 use crate::element::{
-    Reach, direct, element_load, element_store, emit_element, reach_by, same_base,
+    Reach, base_index, direct, element_load, element_store, emit_element, reach_by, same_base,
 };
 use crate::facts::{
     Kept, Knowledge, Last, fresh_of, index_register, known_word, last_with, learn, operand,
     operand_by,
 };
 use crate::location::{Location, Source, inner_of, locate, register, word_source};
+use crate::offset::{Offset, index_with};
 use crate::operation::{Operand, emit_op, operand_with};
 use crate::transfer::{emit_bring, emit_fetch, emit_finish, emit_put, into_of, operand_register};
 use mips_homes::{Frame, SCRATCH_2, is_callee_saved};
@@ -189,12 +192,12 @@ fn start_of(starts: &[u32], a: GlobalNumber) -> u32
     }
 }
 
-// Whether the base that is kept is one of a global's elements at the index in a register.
+// Whether the base that is kept is one of a global's elements at an index.
 fn holds_base(
     setting: &Setting<'_>,
     kept: &Option<Kept>,
     a: GlobalNumber,
-    index: &Option<NonzeroReg>,
+    index: &Option<Offset>,
 ) -> bool
     requires { AreStarts setting.now.starts.now }
     ensures { result ≡ holds_base setting.now.globals.now (slice_index setting.now.starts.now) kept.now a index.now }
@@ -203,14 +206,13 @@ fn holds_base(
         None => false,
         Some(k) => match index {
             None => false,
-            Some(r) => {
-                k.index == *r
-                    && same_base(
-                        width_of(setting.globals, k.global),
-                        start_of(setting.starts, k.global),
-                        width_of(setting.globals, a),
-                        start_of(setting.starts, a),
-                    )
+            Some(o) => {
+                let w = width_of(setting.globals, k.global);
+                let v = width_of(setting.globals, a);
+                let start = start_of(setting.starts, k.global);
+                let other = start_of(setting.starts, a);
+                base_index(w, start, &k.index) == base_index(v, other, o)
+                    && same_base(w, start, v, other)
             }
         },
     }
@@ -228,17 +230,17 @@ fn element_at(
     ensures width { result.width ≡ width_of setting.now.globals.now a }
     ensures start { result.start ≡ slice_index setting.now.starts.now a }
     ensures few { result.start ≤ UNIT_BYTES }
-    ensures by { result.by ≡ reach_with setting.now.globals.now (slice_index setting.now.starts.now) (facts_of facts.now).kept a known x.now }
+    ensures by { result.by ≡ reach_with setting.now.globals.now (slice_index setting.now.starts.now) (facts_of facts.now).kept a known (index_with (facts_of facts.now).offset (index_register known x.now)) }
     ensures near { IsInReach result.by }
 {
     let width = width_of(setting.globals, a);
     let start = start_of(setting.starts, a);
-    let index = index_register(known, x);
+    let index = index_with(&facts.offset, index_register(known, x));
     let is_kept = holds_base(setting, &facts.kept, a, &index);
     Element {
         width,
         start,
-        by: reach_by(direct(width, start, known), index, is_kept),
+        by: reach_by(width, start, direct(width, start, known), &index, is_kept),
     }
 }
 

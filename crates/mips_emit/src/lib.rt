@@ -1,6 +1,6 @@
 //! Machine code of RTL instructions whose pseudo-registers live in homes: what happens inside a block.
 //!
-//! Definitions: `specs/Code.antt`, `specs/Locations.antt`, `specs/Elements.antt`, `specs/Comparisons.antt`, `specs/Prefixes.antt`.
+//! Definitions: `specs/Code.antt`, `specs/Locations.antt`, `specs/Offsets.antt`, `specs/Elements.antt`, `specs/Comparisons.antt`, `specs/Prefixes.antt`.
 //! Contract: `emit_insts`, `emit_arguments`, `emit_arrival`, `emit_departure`
 //! - The code of an instruction is exactly `inst_code`, and by the lemmas `performs` and `compares` it does what the instruction does over
 //!   homes.
@@ -15,6 +15,7 @@ mod facts;
 mod inst;
 mod limits;
 mod location;
+mod offset;
 mod operation;
 mod product;
 mod transfer;
@@ -27,4 +28,5 @@ pub use facts::{Fact, Kept, Knowledge, Last, known_word, last_operand};
 pub use inst::{Setting, emit_insts};
 pub use limits::{FRAME_BYTES, limits_are_these_numbers};
 pub use location::{Location, Source, register};
+pub use offset::Offset;
 pub use transfer::{emit_fetch, operand_register};

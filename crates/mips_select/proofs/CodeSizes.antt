@@ -31,7 +31,7 @@ use Rattle.mips_emit.specs.declared.comparison.Form.TheVariants.{Known, OnPair, 
 use Rattle.mips_emit.specs.declared.facts.Last.{Last}
 use Rattle.mips_emit.specs.Locations.{Locations, Facts, location_at, locations_of, locations, known_in, learned, operand, last_operand, inner_of, word_source}
 use Rattle.mips_emit.specs.declared.element.Reach.{Reach}
-use Rattle.mips_emit.specs.declared.element.Reach.TheVariants.{ByPointer, ByKept, ByNew}
+use Rattle.mips_emit.specs.declared.element.Reach.TheVariants.{ByPointer, ByScratch, ByKept, ByNew}
 use Rattle.mips_emit.specs.Elements.{scaled, base_sum, scaled_register, width_of, page, address_of_place}
 use Rattle.mips_emit.specs.Code.{constant, is_small, half, li, fetch, operand_register, bring, stays, carry, into, finish, put_at, arrive, operation, code_by_less}
 use Rattle.mips_emit.specs.Code.{code_by_left, code_by_right, code_by_word, multiple_of, multiple_code, code_by_multiple, op_code, reach_of, element_code}
@@ -180,11 +180,13 @@ sum_few t start q = by (nat_lt start 65536)
     by false = omega arith
 
 element_few : (w : Width) (start : ℕ) (by : Reach) (x : Source) → length (element_code w start by x) ≤ 5
-element_few w start (ByNew t) x =
+element_few w start ByScratch x =
     joined _ 2 3 5 (fetch 1 x) (fetch_few 1 x)
-    (joined _ 1 2 3 (scaled w t (operand_register 1 x)) (scaled_few w t (operand_register 1 x)) (sum_few t start (scaled_register w t (operand_register 1 x))) (omega arith)) (omega arith)
+    (joined _ 1 2 3 (scaled w 1 (operand_register 1 x)) (scaled_few w 1 (operand_register 1 x)) (sum_few 1 start (scaled_register w 1 (operand_register 1 x))) (omega arith)) (omega arith)
+element_few w start (ByNew q c) x =
+    joined _ 1 2 5 (scaled w 30 q) (scaled_few w 30 q) (sum_few 30 start (scaled_register w 30 q)) (omega arith)
 element_few w start (ByPointer p) x = omega arith
-element_few w start ByKept x = omega arith
+element_few w start (ByKept c) x = omega arith
 
 const_few : (o : Option Location) (w : ℕ) → length (const_code o w) ≤ 8
 const_few None w = omega arith

@@ -41,7 +41,7 @@ use Rattle.mips_emit.specs.Frames.{IsFrame}
 use Rattle.mips_emit.proofs.Runs.{RunsTo, runs_none, runs_then, Point, At, Stopped, from, Leads, leads_nowhere, leads_then, leads_run, leads_exit}
 use Rattle.mips_emit.proofs.View.{word_at, set, set_words, put_here, put_other, moves}
 use Rattle.mips_emit.proofs.Stands.{Stored, stack_room, Stands}
-use Rattle.mips_emit.proofs.Operands.{passes, hidden, hide, AreDeferred, none_deferred, IsKept, none_kept, IsLast, none_last, frame_homes, IsKnown, nothing_known}
+use Rattle.mips_emit.proofs.Operands.{passes, hidden, hide, AreDeferred, none_deferred, AreBases, no_bases, IsLast, none_last, frame_homes, IsKnown, nothing_known}
 use Rattle.mips_emit.proofs.Homes.{fewer_stand, words_kept, call_kept, last_means, fetches, carries, sets_kept, caller_saved_kept, arrives}
 use Rattle.mips_emit.proofs.Insts.{value_or_failed, performs}
 use Rattle.mips_emit.proofs.Comparing.{none_asked, waiting, compares}
@@ -145,7 +145,7 @@ module _ (h : Homed) (depth : ℕ) (blocks : List BlockParts) (ok : IsSelected h
     pub code : CodeAt leaf a.frame place head (known_after (locations a.frame) a.code.insts facts) (last_after (locations a.frame) (asked_of a.code.exit) facts a.code.insts last) number a.code.exit
     pub is_known : IsKnown (known_in facts) a.frame.homes.items r a.slots
     pub are_deferred : AreDeferred facts.deferred r
-    pub is_kept : IsKept gs starts facts.kept state.regs
+    pub are_bases : AreBases gs starts facts state.regs
     pub is_last : IsLast last a.frame.copies.items a.frame.homes.items r a.slots state
     pub placed : Placed leaf a.frame place head a.blocks
     pub frame : IsFrame ok.most a.frame
@@ -231,7 +231,7 @@ module _ (h : Homed) (depth : ℕ) (blocks : List BlockParts) (ok : IsSelected h
           code = code_at leaf a.frame place head (place b) (head b) block at;
           is_known = nothing_known a.frame.homes.items r slots;
           are_deferred = none_deferred r;
-          is_kept = none_kept gs starts s.regs;
+          are_bases = no_bases gs starts s.regs;
           is_last =
               none_last a.frame.copies.items a.frame.homes.items r slots s;
           placed = placed;
@@ -371,7 +371,7 @@ module _ (h : Homed) (depth : ℕ) (blocks : List BlockParts) (ok : IsSelected h
               c.exit) (sym m.code) (code_at false w.frame m.place m.head m.next m.first m.block m.at);
           is_known = nothing_known w.frame.homes.items r' slots';
           are_deferred = none_deferred r';
-          is_kept = none_kept gs starts s'.regs;
+          are_bases = no_bases gs starts s'.regs;
           is_last = none_last w.frame.copies.items w.frame.homes.items r' slots' s';
           placed = m.placed;
           frame = m.frame;
@@ -673,10 +673,10 @@ module _ (h : Homed) (depth : ℕ) (blocks : List BlockParts) (ok : IsSelected h
 
       -- the match where some instructions are left
       matched : (is : List RInst) (facts : Facts) (last : Last) (r' slots' : Places) (g' : Arrays) (s' : State) → Coded is facts last
-          → IsKnown (known_in facts) a.frame.homes.items r' slots' → AreDeferred facts.deferred r' → IsKept gs starts facts.kept s'.regs → IsLast last a.frame.copies.items a.frame.homes.items r' slots' s'
+          → IsKnown (known_in facts) a.frame.homes.items r' slots' → AreDeferred facts.deferred r' → AreBases gs starts facts s'.regs → IsLast last a.frame.copies.items a.frame.homes.items r' slots' s'
           → Stand (hide facts.deferred r') g' (stored_frame m.leaf a.frame slots' a.aside m.link ∷ frames_of ws m.below) s'
           → Match r' (at_code a slots' (record { insts = is; exit = a.code.exit })) ws g' out (at is facts last s')
-      matched is facts last r' slots' g' s' code known deferred kept fresh stands = record {
+      matched is facts last r' slots' g' s' code known deferred bases fresh stands = record {
         state = s';
         spot = m.spot;
         facts = facts;
@@ -685,7 +685,7 @@ module _ (h : Homed) (depth : ℕ) (blocks : List BlockParts) (ok : IsSelected h
         code = code;
         is_known = known;
         are_deferred = deferred;
-        is_kept = kept;
+        are_bases = bases;
         is_last = fresh;
         placed = m.placed;
         frame = m.frame;
@@ -710,7 +710,7 @@ module _ (h : Homed) (depth : ℕ) (blocks : List BlockParts) (ok : IsSelected h
           run) out tt i
           m.facts r (stored_frame m.leaf a.frame a.slots a.aside m.link) m.state
           (λ r' s' g'. Running r' (at_code a s' (record { insts = is; exit = a.code.exit }) ∷ ws) g' out) (frame_homes ok.most a.frame m.frame) m.is_known m.are_deferred
-          m.is_kept m.stands
+          m.are_bases m.stands
           (λ r' slots' g' s' some e st lz kp kn new. record {
             to = at is (learned (locations a.frame) i m.facts) (last_with None (fresh_of (locations a.frame) i)) s';
             count = length (inst_code gs starts (locations a.frame) m.facts i);
@@ -750,7 +750,7 @@ module _ (h : Homed) (depth : ℕ) (blocks : List BlockParts) (ok : IsSelected h
                       ∙ same_exit ok.entry m.place a.frame m.facts (learned (locations a.frame) i m.facts) (waiting m.facts q u) i n c.next a.code.exit is;
                   leads_on = c.leads_on;
                 })
-                (nothing_known a.frame.homes.items (places_with r q (Some u)) a.slots) lz (none_kept gs starts s'.regs) new st;
+                (nothing_known a.frame.homes.items (places_with r q (Some u)) a.slots) lz (no_bases gs starts s'.regs) new st;
           })
 
       step : (is : List RInst) → Coded is m.facts m.last → Reach 1 (at is m.facts m.last m.state) (step_at h depth is a.code.exit a r ws g out)

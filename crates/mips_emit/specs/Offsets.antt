@@ -1,0 +1,68 @@
+-- Indices that are the sum of a register and a known word.
+use Rattle.std.specs.Prelude.{ℕ, ◌-◌, ◌^◌, Bool, ◌||◌, nat_eq, if◌then◌else◌, Option, Some, None}
+use Rattle.words.specs.Words.{wrap}
+use Rattle.rtl.specs.declared.operator.Op.{Op}
+use Rattle.rtl.specs.declared.operator.Op.TheVariants.{Add, Sub}
+use Rattle.mips_emit.specs.declared.location.Location.{Location}
+use Rattle.mips_emit.specs.declared.location.Location.TheVariants.{Held, InSlot, Copied}
+use Rattle.mips_emit.specs.declared.location.Source.{Source}
+use Rattle.mips_emit.specs.declared.location.Source.TheVariants.{Zero, Word, From}
+use Rattle.mips_emit.specs.declared.offset.Offset.{Offset}
+
+-- a register alone
+abbrev pub no_offset : ℕ → Offset
+no_offset t = record { register = t; base = t; word = 0 }
+
+-- the word that an operator with a known word on the right adds
+abbrev pub addend : Op → ℕ → Option ℕ
+addend Add c = Some c
+addend Sub c = Some (wrap (2 ^ 32 - c))
+addend _ c = None
+
+-- register t is another one and a word
+abbrev pub offset_from : (t r : ℕ) → (added : Option ℕ) → Option Offset
+offset_from t r None = None
+offset_from t r (Some c) = if nat_eq r t then None else Some (record { register = t; base = r; word = c })
+
+abbrev pub offset_of : (t : ℕ) → Op → (right : Option ℕ) → Source → Option Offset
+offset_of t op None x = None
+offset_of t op (Some c) Zero = None
+offset_of t op (Some c) (Word w) = None
+offset_of t op (Some c) (From (Held r)) = offset_from t r (addend op c)
+offset_of t op (Some c) (From (InSlot k)) = None
+offset_of t op (Some c) (From (Copied r k)) = None
+
+-- what an operator on operand x and what is known of the right one leaves in a location
+abbrev pub sum_offset : Option Location → Op → (right : Option ℕ) → Source → Option Offset
+sum_offset None op right x = None
+sum_offset (Some (Held t)) op right x = offset_of t op right x
+sum_offset (Some (InSlot k)) op right x = None
+sum_offset (Some (Copied r k)) op right x = None
+
+abbrev pub or_offset : Option Offset → Option Offset → Option Offset
+or_offset None old = old
+or_offset (Some o) old = Some o
+
+-- whether it has to do with a register
+abbrev pub touches : Offset → ℕ → Bool
+touches o r = nat_eq o.register r || nat_eq o.base r
+
+abbrev pub offset_without : ℕ → Option Offset → Option Offset
+offset_without r None = None
+offset_without r (Some o) = if touches o r then None else Some o
+
+-- it is so while neither register is written
+abbrev pub offset_past : Option Location → Option Offset → Option Offset
+offset_past None o = o
+offset_past (Some (Held r)) o = offset_without r o
+offset_past (Some (InSlot k)) o = o
+offset_past (Some (Copied r k)) o = offset_without r o
+
+-- what is known of a register
+abbrev pub offset_in : Option Offset → ℕ → Offset
+offset_in None t = no_offset t
+offset_in (Some o) t = if nat_eq o.register t then o else no_offset t
+
+abbrev pub index_with : Option Offset → (register : Option ℕ) → Option Offset
+index_with o None = None
+index_with o (Some t) = Some (offset_in o t)

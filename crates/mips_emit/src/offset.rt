@@ -1,0 +1,149 @@
+// Indices that are the sum of a register and a known word.
+
+ghost use Rattle.std.specs.Prelude.{◌≡◌};
+ghost use Rattle.mips_emit.specs.Offsets.{no_offset, addend, offset_from, offset_of, sum_offset, touches, offset_without, offset_past};
+ghost use Rattle.mips_emit.specs.Offsets.{offset_in, index_with};
+
+use crate::location::{Location, Source};
+use mips_isa::NonzeroReg;
+use rtl::Op;
+
+/// A register that holds what another one holds and a word more; a register alone is itself and 0.
+#[derive(Clone, Copy)]
+pub struct Offset {
+    pub register: NonzeroReg,
+    pub base: NonzeroReg,
+    pub word: u32,
+}
+
+// A register alone.
+fn no_offset(t: NonzeroReg) -> Offset
+    ensures { result ≡ no_offset t }
+{
+    Offset {
+        register: t,
+        base: t,
+        word: 0,
+    }
+}
+
+// The word that an operator with a known word on the right adds.
+fn addend(op: Op, word: u32) -> Option<u32>
+    ensures { result ≡ addend op word }
+{
+    match op {
+        Op::Add => Some(word),
+        Op::Sub => Some(word.wrapping_neg()),
+        _ => None,
+    }
+}
+
+// A register that is another one and a word.
+fn offset_from(t: NonzeroReg, r: NonzeroReg, added: Option<u32>) -> Option<Offset>
+    ensures { result ≡ offset_from t r added }
+{
+    match added {
+        None => None,
+        Some(word) => {
+            if r == t {
+                None
+            } else {
+                Some(Offset {
+                    register: t,
+                    base: r,
+                    word,
+                })
+            }
+        }
+    }
+}
+
+// What an operator leaves in a register.
+fn offset_of(t: NonzeroReg, op: Op, right: Option<u32>, x: &Source) -> Option<Offset>
+    ensures { result ≡ offset_of t op right x.now }
+{
+    match right {
+        None => None,
+        Some(word) => match x {
+            Source::Zero => None,
+            Source::Word(_) => None,
+            Source::From(location) => match location {
+                Location::Held(r) => offset_from(t, *r, addend(op, word)),
+                Location::InSlot(_) => None,
+                Location::Copied(_, _) => None,
+            },
+        },
+    }
+}
+
+/// What an operator on an operand and what is known of the right one leaves in a location.
+pub(crate) fn sum_offset(
+    place: Option<Location>,
+    op: Op,
+    right: Option<u32>,
+    x: &Source,
+) -> Option<Offset>
+    ensures { result ≡ sum_offset place op right x.now }
+{
+    match place {
+        None => None,
+        // (rattle 13f: a nested pattern through another crate's type ends in "a bug in rattle": CONTRIBUTING.md)
+        Some(location) => match location {
+            Location::Held(t) => offset_of(t, op, right, x),
+            Location::InSlot(_) => None,
+            Location::Copied(_, _) => None,
+        },
+    }
+}
+
+/// Whether an offset has to do with a register.
+pub(crate) fn touches(offset: &Offset, r: NonzeroReg) -> bool
+    ensures { result ≡ touches offset.now r }
+{
+    offset.register == r || offset.base == r
+}
+
+// What is left of it when a register is written.
+fn offset_without(r: NonzeroReg, offset: &Option<Offset>) -> Option<Offset>
+    ensures { result ≡ offset_without r offset.now }
+{
+    match offset {
+        None => None,
+        Some(o) => { if touches(o, r) { None } else { Some(*o) } }
+    }
+}
+
+/// What is left of it past a write.
+pub(crate) fn offset_past(place: Option<Location>, offset: &Option<Offset>) -> Option<Offset>
+    ensures { result ≡ offset_past place offset.now }
+{
+    match place {
+        None => *offset,
+        // (rattle 13f: a nested pattern through another crate's type ends in "a bug in rattle": CONTRIBUTING.md)
+        Some(location) => match location {
+            Location::Held(r) => offset_without(r, offset),
+            Location::InSlot(_) => *offset,
+            Location::Copied(r, _) => offset_without(r, offset),
+        },
+    }
+}
+
+// What is known of a register.
+fn offset_in(offset: &Option<Offset>, t: NonzeroReg) -> Offset
+    ensures { result ≡ offset_in offset.now t }
+{
+    match offset {
+        None => no_offset(t),
+        Some(o) => { if o.register == t { *o } else { no_offset(t) } }
+    }
+}
+
+/// An index, from its register.
+pub(crate) fn index_with(offset: &Option<Offset>, register: Option<NonzeroReg>) -> Option<Offset>
+    ensures { result ≡ index_with offset.now register }
+{
+    match register {
+        None => None,
+        Some(t) => Some(offset_in(offset, t)),
+    }
+}
