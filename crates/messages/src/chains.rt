@@ -1,7 +1,7 @@
 // Comparisons of comparisons without parentheses, as `1 < x < 3`, which compares 0 or 1 with 3.
 
 use crate::more_tokens::line_end;
-use crate::source::back;
+use crate::source::{back, front};
 use std::alloc::{AllocError, Global};
 
 /// Where a comment ends that begins with `/*` at an offset.
@@ -36,24 +36,82 @@ fn relation(text: &[u8], at: usize, first: u8) -> (bool, usize) {
     }
 }
 
-/// Where such a comparison's second sign stands, for each, in the order of a text that spells a program.
-pub(crate) fn chains(alloc: Global, text: &[u8]) -> Result<Vec<usize>, AllocError> {
-    let mut found = Vec::new(alloc);
+/// A part of a text, from where one statement begins to where a later one does.
+#[derive(Clone, Copy)]
+struct Part {
+    from: usize,
+    end: usize,
+}
+
+/// The parts of a text that have a comparison of a comparison, with parentheses or without.
+#[derive(Drop)]
+pub(crate) struct ChainParts {
+    parts: Vec<Part>,
+    /// Where the statement in front begins.
+    from: usize,
+    /// Whether a comparison is compared since then.
+    has_chain: bool,
+}
+
+impl ChainParts {
+    /// No parts, at the beginning of a text.
+    pub(crate) fn new(alloc: Global) -> ChainParts {
+        ChainParts {
+            parts: Vec::new(alloc),
+            from: 0,
+            has_chain: false,
+        }
+    }
+
+    /// A statement begins here, in no brackets but those of a `for`; statements are told in the order of the text.
+    pub(crate) fn begin(&mut self, at: usize) -> Result<(), AllocError> {
+        if self.has_chain {
+            let from = self.from;
+            self.parts.push(Part { from, end: at })?;
+            self.has_chain = false;
+        }
+        self.from = at;
+        Ok(())
+    }
+
+    /// A comparison is compared in the statement in front.
+    pub(crate) fn compare(&mut self) {
+        self.has_chain = true;
+    }
+
+    /// Where such a comparison's second sign stands, for each without parentheses, in the order of the text.
+    pub(crate) fn places(mut self, alloc: Global, text: &[u8]) -> Result<Vec<usize>, AllocError> {
+        self.begin(text.len())?;
+        let mut found = Vec::new(alloc);
+        for part in self.parts.as_slice() {
+            push_chains(alloc, &mut found, front(text, part.end), part.from)?;
+        }
+        Ok(found)
+    }
+}
+
+/// Finds those behind an offset at which a statement begins.
+fn push_chains(
+    alloc: Global,
+    found: &mut Vec<usize>,
+    text: &[u8],
+    from: usize,
+) -> Result<(), AllocError> {
     // whether a comparison stands before, here and between each of the open brackets around
     let (mut is_behind, mut around) = (false, Vec::new(alloc));
-    let mut next = 0usize;
-    for (at, byte) in text.iter().enumerate() {
+    let mut next = from;
+    for at in from..text.len() {
         if at < next {
             continue;
         }
-        match *byte {
+        match text[at] {
             b'(' | b'[' => {
                 around.push(is_behind)?;
                 is_behind = false;
             }
             b')' | b']' => is_behind = around.pop().unwrap_or(false),
             b'<' | b'>' => {
-                let (compares, end) = relation(text, at, *byte);
+                let (compares, end) = relation(text, at, text[at]);
                 if compares && is_behind {
                     found.push(at)?;
                 }
@@ -67,5 +125,5 @@ pub(crate) fn chains(alloc: Global, text: &[u8]) -> Result<Vec<usize>, AllocErro
             _ => {}
         }
     }
-    Ok(found)
+    Ok(())
 }

@@ -1,6 +1,7 @@
 // A walk through a program, beside its typed form, that finds what has no meaning. What can't be reached has no warnings, as far
 // as constants tell it.
 
+use crate::chains::ChainParts;
 use crate::folded::{folded_binary, folded_unary, is_decided};
 use crate::source::{Source, shown_text};
 use crate::warnings::Warning;
@@ -36,8 +37,7 @@ pub(crate) struct Walk<'a, 't> {
     source: &'a Source<'t>,
     variables: &'a [Variable],
     warnings: Vec<Warning>,
-    /// Whether a comparison is compared, with parentheses or without.
-    has_chain: bool,
+    chains: ChainParts,
     /// The next token that may be an operator.
     cursor: usize,
     locals: Vec<Local>,
@@ -97,6 +97,15 @@ fn is_comparison(e: &Expression) -> bool {
     }
 }
 
+/// The name that a simple statement begins with.
+fn first_name(s: &Simple) -> Identifier {
+    match s {
+        Simple::Assign(name, _) => *name,
+        Simple::AssignAt(name, _, _) => *name,
+        Simple::CallStatement(call) => call.name,
+    }
+}
+
 /// A word as a number of its type.
 fn number(value: u32, integer_type: IntegerType) -> i64 {
     match integer_type {
@@ -153,7 +162,7 @@ impl<'a, 't> Walk<'a, 't> {
             source,
             variables,
             warnings: Vec::new(alloc),
-            has_chain: false,
+            chains: ChainParts::new(alloc),
             cursor: 0,
             locals: Vec::new(alloc),
             has_break: false,
@@ -162,13 +171,9 @@ impl<'a, 't> Walk<'a, 't> {
         }
     }
 
-    /// Whether a comparison is compared, with parentheses or without, as far as it was walked.
-    pub(crate) fn has_chain(&self) -> bool {
-        self.has_chain
-    }
-
-    pub(crate) fn end(self) -> Vec<Warning> {
-        self.warnings
+    /// The warnings, and where comparisons are compared.
+    pub(crate) fn end(self) -> (Vec<Warning>, ChainParts) {
+        (self.warnings, self.chains)
     }
 
     fn warn(&mut self, at: usize, message: String) -> Result<(), AllocError> {
@@ -341,7 +346,9 @@ impl<'a, 't> Walk<'a, 't> {
             ) => {
                 let (left, right) = &**operands;
                 let (one, other) = &**typed;
-                self.has_chain = self.has_chain || (is_relation(*operator) && is_comparison(left));
+                if is_relation(*operator) && is_comparison(left) {
+                    self.chains.compare();
+                }
                 let left = self.expression(left, one, is_live)?;
                 let place = self.between(*operator, left, is_live);
                 let right = self.expression(right, other, place.1)?;
@@ -427,6 +434,7 @@ impl<'a, 't> Walk<'a, 't> {
         typed: &TypedStatement,
         is_live: bool,
     ) -> Result<bool, AllocError> {
+        self.chains.begin(first_name(s).at as usize)?;
         match (s, typed) {
             (Simple::Assign(_, value), _) => self.value(value, typed, is_live),
             (Simple::AssignAt(name, index, e), TypedStatement::Store(k, part, typed)) => {
@@ -575,7 +583,10 @@ impl<'a, 't> Walk<'a, 't> {
         for (k, item) in items.iter().enumerate() {
             if let Some(one) = typed.get(k) {
                 is_live = match item {
-                    Item::Declare(_, _, Some(value)) => self.value(value, one, is_live)?,
+                    Item::Declare(_, name, Some(value)) => {
+                        self.chains.begin(name.at as usize)?;
+                        self.value(value, one, is_live)?
+                    }
                     Item::Declare(_, _, None) => is_live,
                     Item::Statement(s) => self.statement(s, one, is_live)?,
                 };
@@ -625,6 +636,7 @@ impl<'a, 't> Walk<'a, 't> {
         typed: &Function,
     ) -> Result<(), AllocError> {
         self.enter(function, typed)?;
+        self.chains.begin(function.name.at as usize)?;
         let is_live = self.items(&function.body, &typed.body, true)?;
         self.unset_locals()?;
         self.endless.push(!is_live && !self.has_return)?;

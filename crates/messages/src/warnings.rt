@@ -1,6 +1,6 @@
 // Warnings of a program without faults: what has no meaning in C and is plain to see.
 
-use crate::chains::chains;
+use crate::chains::ChainParts;
 use crate::source::Source;
 use crate::warning_walk::Walk;
 use c_tree::{Declaration, Program};
@@ -43,8 +43,13 @@ fn chain_warning(alloc: Global, at: usize) -> Result<Warning, AllocError> {
 }
 
 /// Warns of each comparison of a comparison without parentheses.
-fn push_chains(alloc: Global, warnings: &mut Vec<Warning>, text: &[u8]) -> Result<(), AllocError> {
-    let places = chains(alloc, text)?;
+fn push_chains(
+    alloc: Global,
+    warnings: &mut Vec<Warning>,
+    text: &[u8],
+    chains: ChainParts,
+) -> Result<(), AllocError> {
+    let places = chains.places(alloc, text)?;
     for at in places.as_slice() {
         warnings.push(chain_warning(alloc, *at)?)?;
     }
@@ -64,16 +69,13 @@ pub fn warnings_of(
     let unread = Source::without_tokens(alloc, text);
     let mut walk = Walk::new(alloc, &unread, variables);
     walk_through(&mut walk, program, functions)?;
-    let has_chain = walk.has_chain();
-    let mut warnings = walk.end();
+    let (mut warnings, mut chains) = walk.end();
     if !warnings.is_empty() {
         let source = Source::read(alloc, text)?;
         let mut walk = Walk::new(alloc, &source, variables);
         walk_through(&mut walk, program, functions)?;
-        warnings = walk.end();
+        (warnings, chains) = walk.end();
     }
-    if has_chain {
-        push_chains(alloc, &mut warnings, text)?;
-    }
+    push_chains(alloc, &mut warnings, text, chains)?;
     Ok(warnings)
 }
