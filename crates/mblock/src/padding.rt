@@ -46,7 +46,9 @@ pub fn plain(alloc: Global, block: &Block) -> Result<Order, AllocError>
     ensures order { IfOk result (λ o. o ≡ plain_order_of block.now) }
     ensures limit { length block.now.insts ≤ BLOCK_INSTS }
 {
-    let mut insts = Vec::new(alloc);
+    // room for a Nop behind every second instruction: few blocks have more of them
+    let count = block.insts().len();
+    let mut insts = Vec::with_capacity(alloc, count + count / 2 + 1)?;
     for inst in block.insts() {
         push_padded(&mut insts, inst)?;
     }
@@ -60,7 +62,7 @@ pub fn plain_orders(alloc: Global, unit: &Unit) -> Result<Vec<Order>, AllocError
     ensures plain { IfOk result (λ os. os.items ≡ map plain_order_of unit.now.blocks) }
     ensures orders { IfOk result (λ os. AreOrders unit.now.blocks os.items) }
 {
-    let mut orders = Vec::new(alloc);
+    let mut orders = Vec::with_capacity(alloc, unit.blocks().len())?;
     for block in unit.blocks() {
         orders.push(plain(alloc, block)?)?;
     }
