@@ -265,7 +265,10 @@ pub fn items<'a>(alloc: Global, tokens: &'a [Token]) -> Parsed<'a, Vec<Item>>
     ensures shorter { IfOk result (λ r. length r.1.now ≤ length tokens.now) }
     ensures err { IfErr result (IsStuck items tokens.now) }
 {
-    let mut all = Vec::new(alloc);
+    // most blocks have few items, and room for more would stay empty
+    let Ok(mut all) = Vec::with_capacity(alloc, 1) else {
+        return Err(ParseStop::NoMemory);
+    };
     let mut rest = tokens;
     'items: while !ends_items(rest) {
         rest = push_part(&mut all, item(alloc, rest))?;
