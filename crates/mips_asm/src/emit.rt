@@ -232,11 +232,12 @@ pub fn code_of(alloc: Global, owner: &[BlockNumber], orders: &[Order]) -> Result
     ensures limit { result ≡ Err AsmFault.Limit → IsWithin (slice_index owner.now) orders.now → ⊥ }
     ensures many { result ≡ Err AsmFault.Limit → FUNCTION_WORDS < 2052 * length orders.now }
 {
-    if !functions_fit(owner, orders) || total(orders) > CODE_WORDS {
+    let words = total(orders);
+    if !functions_fit(owner, orders) || words > CODE_WORDS {
         return Err(AsmFault::Limit);
     }
     let places = places(alloc, orders)?;
-    let mut code = Vec::new(alloc);
+    let mut code = Vec::with_capacity(alloc, words as usize)?;
     put_orders(&mut code, &places, orders)?;
     Ok(code)
 }

@@ -12,7 +12,7 @@ returns-clause-word c =
     let orders = c.args.orders.now in
     let at = c.deref.ensures.value ∙ c.in_ok-places.ensures in
     c.in_ok-put_orders.ensures.word
-    ∙ ap (λ (xs : List ℕ). xs ++ map inst_word (insts_of (start_of c.deref.result.now) 0 orders)) c.new-code.ensures.items
+    ∙ ap (λ (xs : List ℕ). xs ++ map inst_word (insts_of (start_of c.deref.result.now) 0 orders)) c.in_ok-code.ensures.items
     ∙ ap (λ (p : List ℕ). map inst_word (insts_of (start_of p) 0 orders)) at
     ∙ ap (map inst_word) (same_layout orders c.requires.unit.there)
 
@@ -26,8 +26,8 @@ returns-clause-fit c =
 pub put_orders-requires-clause-places : goal.put_orders-requires-clause-places
 put_orders-requires-clause-places c =
     let at = c.deref.ensures.value ∙ c.in_ok-places.ensures in
-    let total = c.total.ensures.value in
-    let le = c.if-total-gt-CODE_WORDS.false in
+    let total = c.total-words.ensures.value in
+    let le = c.if-words-gt-CODE_WORDS.false in
     subst (λ (p : List ℕ). All (λ q. q ≤ CODE_WORDS) p) (sym at) (all_small c.args.orders.now (omega arith))
 
 pub put_orders-requires-clause-near : goal.put_orders-requires-clause-near
