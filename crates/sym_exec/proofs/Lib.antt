@@ -7,4 +7,4 @@ pub mod MipsTerms
 pub mod Parts
 pub mod Asked
 mod Growth
-mod Starts
+pub mod Starts

@@ -470,6 +470,28 @@ fn run_order_from(
     )
 }
 
+/// What a block and an order leave from the start on.
+fn run_pair_from(
+    terms: &mut Interner,
+    start: &TermPlaces,
+    block: &Block,
+    order: &Order,
+    lists: (RunLists, RunLists),
+) -> Result<(SymState, SymState), TableFull>
+    requires start { IsStart terms.old.pass.now start.now }
+    requires block_room { IsRoomFor (length block.now.insts) lists.0 }
+    requires order_room { IsRoomFor (length order.now.insts) lists.1 }
+    ensures block { IfOk result (λ s. StandsFor terms.new.pass.now s.0.places s.0.exit s.0.guards.items (block_trees block.now)) }
+    ensures order { IfOk result (λ s. StandsFor terms.new.pass.now s.1.places s.1.exit s.1.guards.items (order_trees order.now)) }
+    ensures absent { OnErr result (LacksOne terms.new.pass.now (block_asked block.now ++ order_asked order.now)) }
+    ensures pass { Interns terms.old result terms.new }
+    ensures grows { linked terms.new.pass.now + 35 ≤ linked terms.old.pass.now + (block_growth block.now + order_growth order.now) }
+{
+    let first = run_block_from(terms, start, block, lists.0)?;
+    let second = run_order_from(terms, start, order, lists.1)?;
+    Ok((first, second))
+}
+
 /// What a block and an order leave.
 fn run_pair(
     terms: &mut Interner,
@@ -487,9 +509,7 @@ fn run_pair(
     ensures grows { linked terms.new.pass.now ≤ linked terms.old.pass.now + (block_growth block.now + order_growth order.now) }
 {
     let start = start(terms)?;
-    let first = run_block_from(terms, &start, block, lists.0)?;
-    let second = run_order_from(terms, &start, order, lists.1)?;
-    Ok((first, second))
+    run_pair_from(terms, &start, block, order, lists)
 }
 
 /// The tickets of what a block and an order leave, as `run_block` and `run_order` give them. The terms of the start are made
@@ -512,6 +532,43 @@ pub fn run_both(
     let order_lists = RunLists::new(alloc, order.insts())?;
     let mut terms = Interner::new(table, pass);
     Ok(run_pair(&mut terms, block, order, (block_lists, order_lists)))
+}
+
+/// The tickets of what registers, HI, LO and memory hold at the start, for runs of many blocks by passes that know them.
+///
+/// `TableFull` comes only if the pass has linked all it may and one of these terms isn't in the table. At most 35 terms are linked.
+pub fn start_places(table: &TermTable, pass: &mut Pass) -> Result<TermPlaces, TableFull>
+    requires { IsOf table.now pass.old }
+    ensures start { IfOk result (IsStart pass.new) }
+    ensures runs { Runs asked_first 35 table.now pass.old result pass.new }
+{
+    let mut terms = Interner::new(table, pass);
+    start(&mut terms)
+}
+
+/// The same as `run_both`, from a start whose terms the pass knows.
+pub fn run_both_from(
+    alloc: Global,
+    table: &TermTable,
+    pass: &mut Pass,
+    start: &TermPlaces,
+    block: &Block,
+    order: &Order,
+) -> Result<Result<(SymState, SymState), TableFull>, AllocError>
+    requires pass { IsOf table.now pass.old }
+    requires start { IsStart pass.old start.now }
+    ensures block { IfOk result (λ run. IfOk run (λ s. StandsFor pass.new s.0.places s.0.exit s.0.guards.items (block_trees block.now))) }
+    ensures order { IfOk result (λ run. IfOk run (λ s. StandsFor pass.new s.1.places s.1.exit s.1.guards.items (order_trees order.now))) }
+    ensures runs { IfOk result (λ run. Runs (block_asked block.now ++ order_asked order.now) (block_growth block.now + order_growth order.now)
+        table.now pass.old run pass.new) }
+    ensures refused { OnErr result (pass.new ≡ pass.old) }
+{
+    let block_lists = RunLists::new(alloc, block.insts())?;
+    let order_lists = RunLists::new(alloc, order.insts())?;
+    // Tells the check that the history is legal.
+    let _linked = pass.linked();
+    let mut terms = Interner::new(table, pass);
+    Ok(run_pair_from(&mut terms, start, block, order, (block_lists, order_lists)))
 }
 
 /// What a run may link is at most quadratic in the number of its actions. A law: it computes nothing.
