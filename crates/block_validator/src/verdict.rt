@@ -8,6 +8,7 @@ ghost use Rattle.term_table.specs.Trees.{HasLegalHistory};
 ghost use Rattle.sym_exec.specs.Symbolic.{block_trees, order_trees};
 ghost use Rattle.sym_exec.specs.Standing.{Later};
 ghost use Rattle.sym_exec.specs.Runs.{Runs};
+ghost use Rattle.sym_exec.specs.Starts.{IsStart};
 ghost use Rattle.sym_exec.specs.Asked.{LacksOne, block_asked, order_asked};
 ghost use Rattle.sym_exec.specs.Growth.{block_growth, order_growth};
 ghost use Rattle.mblock.specs.Orders.{Means};
@@ -20,7 +21,7 @@ use crate::place::Place;
 use mblock::{Block, Order, Unclean, clean};
 use std::alloc::{AllocError, Global};
 use std::marker::Model;
-use sym_exec::run_both;
+use sym_exec::{TermPlaces, run_both, run_both_from};
 use term_table::{Pass, TableFull, TermTable};
 
 /// A lent block, and a clean order that has its terms in every place. Only `validate` makes one.
@@ -117,6 +118,29 @@ fn compare(
     }
 }
 
+// The same, from a start whose terms the pass knows.
+fn compare_from(
+    alloc: Global,
+    table: &TermTable,
+    pass: &mut Pass,
+    start: &TermPlaces,
+    block: &Block,
+    order: &Order,
+) -> Result<Result<Option<Place>, TableFull>, AllocError>
+    requires pass { IsOf table.now pass.old }
+    requires start { IsStart pass.old start.now }
+    ensures exact { IfOk result (λ compared. IfOk compared (λ r. MatchOption r (SameTrees (block_trees block.now) (order_trees order.now))
+        (DiffersFirst (block_trees block.now) (order_trees order.now)))) }
+    ensures runs { IfOk result (λ compared. Runs (block_asked block.now ++ order_asked order.now)
+        (block_growth block.now + order_growth order.now) table.now pass.old compared pass.new) }
+    ensures refused { OnErr result (pass.new ≡ pass.old) }
+{
+    match run_both_from(alloc, table, pass, start, block, order)? {
+        Ok((first, second)) => Ok(Ok(first_difference(&first, &second))),
+        Err(full) => Ok(Err(full)),
+    }
+}
+
 // What a comparison says of a clean order.
 fn verdict_of<'a>(
     block: &'a Block,
@@ -171,6 +195,39 @@ pub fn validate<'a>(
         return Verdict::NoMemory;
     };
     verdict_of(block, order, compared)
+}
+
+/// The verdict on an order for a block, as `validate` gives it, from a start whose terms the pass knows: they are made once for many
+/// blocks.
+pub fn validate_from<'a>(
+    alloc: Global,
+    table: &TermTable,
+    pass: &mut Pass,
+    start: &TermPlaces,
+    block: &'a Block,
+    order: Order,
+) -> Verdict<'a>
+    requires pass { IsOf table.now pass.old }
+    requires start { IsStart pass.old start.now }
+    ensures exact { IsVerdict block.now order result }
+    ensures table { IsOf table.now pass.new }
+    ensures later { Later pass.old pass.new }
+    ensures legal { HasLegalHistory pass.new }
+    ensures full { result ≡ Verdict.Full → linked pass.new ≡ pass.new.nodes }
+    ensures absent { result ≡ Verdict.Full → LacksOne pass.new (block_asked block.now ++ order_asked order) }
+    ensures grows { linked pass.new ≤ linked pass.old + (block_growth block.now + order_growth order) }
+    ensures memory { result ≡ Verdict.NoMemory → pass.new ≡ pass.old }
+    ensures unclean { (rule : ARule) → result ≡ Verdict.Unclean rule → pass.new ≡ pass.old }
+{
+    // Tells the check that the history is legal, for the verdicts before the first term.
+    let _linked = pass.linked();
+    if let Err(rule) = clean(&order) {
+        return Verdict::Unclean(rule);
+    }
+    let Ok(found) = compare_from(alloc, table, pass, start, block, &order) else {
+        return Verdict::NoMemory;
+    };
+    verdict_of(block, order, found)
 }
 
 /// Each clean order that has its block's trees means the block. A law: it computes nothing.
