@@ -1,3 +1,4 @@
 pub mod Serving
 pub mod Settled
 pub mod Outcomes
+pub mod Starting

@@ -1,5 +1,5 @@
 -- One more block and its order.
-use Rattle.std.specs.Prelude.{◌≡◌, ℕ, ◌+◌, ◌≤◌, List, Option, Some, None, length, slice_get}
+use Rattle.std.specs.Prelude.{◌≡◌, ℕ, ◌+◌, ◌≤◌, List, Option, Some, None, IfSome, length, slice_get}
 use Rattle.mblock.specs.declared.limits.TheConstants.{BLOCK_INSTS}
 use Rattle.mblock.specs.Parts.{BlockParts, OrderParts}
 use Rattle.mblock.specs.Clean.{FitsSlot}
@@ -11,8 +11,12 @@ use Rattle.image.specs.Views.{counts_of}
 use Rattle.block_validator.specs.declared.verdict.Verdict.{Verdict}
 use Rattle.block_validator.specs.declared.verdict.Verdict.TheVariants as verdicts
 use Rattle.steal_pool.specs.Places.{EachPlace}
+use Rattle.term_table.specs.Passes.{TableState, PassState, IsOf}
+use Rattle.sym_exec.specs.declared.state.TermPlaces.{TermPlaces}
+use Rattle.sym_exec.specs.Starts.{IsStart}
 use Rattle.sched_phase.specs.Phases.{Kind, same, unclean, differs, full, no_memory, missed, Proposals, AreSettled, IsRightFor, count_of}
 use Rattle.sched_phase.specs.declared.settle.Progress.{Progress}
+use Rattle.sched_phase.specs.declared.terms.BatchTerms.{BatchTerms}
 
 -- what the block is counted under that has this verdict, or none
 abbrev pub kind_of : Option Verdict → Kind
@@ -48,3 +52,10 @@ pub record AreDone (proposes : Proposals) (blocks : List BlockParts) (p : Progre
 -- the verdicts of a batch: each that stands in the list is one for the block whose number is that of its place behind the first
 abbrev pub AreRightFrom : Proposals → List BlockParts → ℕ → List (Option Verdict) → Type 0
 AreRightFrom proposes blocks first verdicts = EachPlace (λ i v. IsRightFor proposes blocks (first + i) v) verdicts
+
+-- the pass is the table's, and knows the terms of the start, if they are there
+abbrev pub Knows : TableState → Option TermPlaces → PassState → Type 0
+Knows table start p = IsOf table p × IfSome start (IsStart p)
+
+abbrev pub ServesTerms : BatchTerms → PassState → Type 0
+ServesTerms b p = Knows b.table b.start p

@@ -18,6 +18,7 @@ mod phase;
 mod plain;
 mod scheduled;
 mod settle;
+mod terms;
 mod work;
 
 pub use image::Counts;

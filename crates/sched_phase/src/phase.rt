@@ -1,15 +1,15 @@
 //! All blocks of a unit, a batch after another, each by workers that share a table, or one after another.
 ghost use Rattle.std.specs.Prelude.{◌≡◌, ℕ, ◌+◌, ◌<◌, ◌≤◌, IfOk, OnOk, IfSome, length};
 ghost use Rattle.image.specs.Images.{total};
-ghost use Rattle.term_table.specs.Passes.{IsOf};
 ghost use Rattle.sched_phase.specs.Phases.{IsPhase, IsRightFor};
-ghost use Rattle.sched_phase.specs.Settling.{AreDone, AreRightFrom};
+ghost use Rattle.sched_phase.specs.Settling.{AreDone, AreRightFrom, ServesTerms};
 
 use crate::batch::{batch_from, workers_for};
 use crate::options::PhaseOpts;
 use crate::scheduled::Scheduled;
 use crate::settle::Progress;
-use crate::work::{BatchGate, BlockJob, last_verdict, open_table};
+use crate::terms::{BatchTerms, open_terms};
+use crate::work::{BatchGate, BlockJob, last_verdict};
 use block_validator::Verdict;
 use list_scheduler::Reorder;
 use mblock::Unit;
@@ -18,7 +18,7 @@ use std::mem;
 use std::sync::Wait;
 use std::thread::Threads;
 use steal_pool::{Gate, run};
-use term_table::{Pass, TermTable};
+use term_table::Pass;
 
 /// An order for each block of a unit: the one that the scheduler proposes, where the validator finds that it means its
 /// block, else the plain one. The options' workers do so at once, over one table for each batch of blocks; the gate is told of
@@ -63,13 +63,13 @@ fn schedule_batch<T: Threads + Wait + Sync, R: Reorder + Sync, G: Gate + Sync>(
     let first = progress.orders.len();
     let (end, terms) = batch_from(unit.blocks(), first);
     let count = end - first;
-    let (table, passes) = open_table(alloc, workers_for(options, count), options, terms)?;
+    let (terms, passes) = open_terms(alloc, workers_for(options, count), options, terms)?;
     let job = BlockJob {
         alloc,
         unit,
         first,
         options,
-        table: &table,
+        terms: &terms,
         reorder,
     };
     let gate = BatchGate { first, gate };
@@ -160,7 +160,7 @@ fn batch_by_one<R: Reorder>(
 {
     let first = progress.orders.len();
     let (end, terms) = batch_from(unit.blocks(), first);
-    let (table, mut passes) = open_table(alloc, 1, options, terms)?;
+    let (terms, mut passes) = open_terms(alloc, 1, options, terms)?;
     let Some(mut pass) = passes.pop() else {
         unreachable!()
     };
@@ -168,7 +168,7 @@ fn batch_by_one<R: Reorder>(
         alloc,
         unit,
         options,
-        &table,
+        &terms,
         &mut pass,
         reorder,
         end - first,
@@ -181,13 +181,13 @@ fn one_by_one<R: Reorder>(
     alloc: Global,
     unit: &Unit,
     options: PhaseOpts,
-    table: &TermTable,
+    terms: &BatchTerms,
     pass: &mut Pass,
     reorder: &R,
     count: usize,
     progress: &mut Progress,
 ) -> Result<(), AllocError>
-    requires pass { IsOf table.now pass.old }
+    requires pass { ServesTerms terms.now pass.old }
     requires room { length progress.old.orders.items + count ≤ length unit.now.blocks }
     requires done { AreDone (R.proposes reorder.now) unit.now.blocks progress.old }
     ensures more { OnOk result (length progress.new.orders.items ≡ length progress.old.orders.items + count) }
@@ -198,7 +198,7 @@ fn one_by_one<R: Reorder>(
     let blocks = unit.blocks();
     for i in 0..count {
         let block = &blocks[first + i];
-        let verdict = last_verdict(alloc, options, table, pass, reorder, block);
+        let verdict = last_verdict(alloc, options, terms, pass, reorder, block);
         progress.settle(alloc, reorder, unit, block, Some(verdict))?;
     }
     Ok(())

@@ -1,26 +1,27 @@
 //! The work on one block: an order is proposed and checked.
-ghost use Rattle.std.specs.Prelude.{◌≡◌, ◌<◌, ◌≤◌, ◌+◌, ℕ, All, IfOk, Some, slice_get, vec_len};
-ghost use Rattle.term_table.specs.declared.limits.TheConstants.{MAX_PASSES};
-ghost use Rattle.term_table.specs.Passes.{PassState, IsOf};
+ghost use Rattle.std.specs.Prelude.{◌≡◌, ◌+◌, ℕ, Some, slice_get};
+ghost use Rattle.term_table.specs.Passes.{PassState};
 ghost use Rattle.sched_phase.specs.Phases.{Fits, IsRightFor};
+ghost use Rattle.sched_phase.specs.Settling.{ServesTerms};
 
-use crate::batch::{heads_for, nodes_for, terms_alone};
+use crate::batch::terms_alone;
 use crate::options::PhaseOpts;
-use block_validator::{Verdict, validate};
+use crate::terms::{BatchTerms, open_table};
+use block_validator::{Verdict, validate, validate_from};
 use list_scheduler::Reorder;
 use mblock::{Block, Unit};
-use std::alloc::{AllocError, Global};
+use std::alloc::Global;
 use steal_pool::{Gate, Job};
-use term_table::{MAX_NODES, OpenFault, Pass, TermTable};
+use term_table::{MAX_NODES, Pass};
 
-/// A batch: the blocks of a unit from one number on, the table that the workers share, and who proposes orders.
+/// A batch: the blocks of a unit from one number on, the terms that the workers share, and who proposes orders.
 #[derive(Drop)]
 pub(crate) struct BlockJob<'a, 't, R> {
     pub(crate) alloc: Global,
     pub(crate) unit: &'a Unit,
     pub(crate) first: usize,
     pub(crate) options: PhaseOpts,
-    pub(crate) table: &'t TermTable,
+    pub(crate) terms: &'t BatchTerms,
     pub(crate) reorder: &'t R,
 }
 
@@ -29,7 +30,7 @@ impl<'a, 't, R: Reorder + Sync> Job for BlockJob<'a, 't, R> {
 
     ghost right = { λ job i out. IsRightFor (R.proposes job.reorder.now) job.unit.now.blocks (job.first + i) out };
 
-    ghost suits = { λ job pass. IsOf job.table.now pass };
+    ghost suits = { λ job pass. ServesTerms job.terms.now pass };
 
     fn work(&self, i: usize, pass: &mut Pass) -> Verdict<'a> {
         let Some(number) = self.first.checked_add(i) else {
@@ -41,7 +42,7 @@ impl<'a, 't, R: Reorder + Sync> Job for BlockJob<'a, 't, R> {
         last_verdict(
             self.alloc,
             self.options,
-            self.table,
+            self.terms,
             pass,
             self.reorder,
             block,
@@ -64,41 +65,21 @@ impl<'g, G: Gate> Gate for BatchGate<'g, G> {
     }
 }
 
-/// A table for so many workers and so many terms, with no more nodes for each than by the options, and no fewer chains.
-pub(crate) fn open_table(
-    alloc: Global,
-    workers: u64,
-    options: PhaseOpts,
-    terms: u64,
-) -> Result<(TermTable, Vec<Pass>), AllocError>
-    requires { (0 < workers) × (workers ≤ MAX_PASSES) }
-    ensures count { IfOk result (λ t. vec_len t.1 ≡ workers) }
-    ensures own { IfOk result (λ t. All (IsOf t.0) t.1.items) }
-{
-    let nodes = nodes_for(options, workers, terms);
-    let heads = heads_for(options, terms);
-    match TermTable::open(alloc, workers, nodes, heads) {
-        Ok(opened) => Ok(opened),
-        Err(OpenFault::NoMemory) => Err(AllocError),
-        Err(OpenFault::Range) => unreachable!(),
-    }
-}
-
 /// The verdict on the order that is proposed for a block; if the table is full, the verdict over a table of the block's own. First it has
 /// room for the terms that the block may have, then all the nodes of the options.
 pub(crate) fn last_verdict<'a, R: Reorder>(
     alloc: Global,
     options: PhaseOpts,
-    table: &TermTable,
+    terms: &BatchTerms,
     pass: &mut Pass,
     reorder: &R,
     block: &'a Block,
 ) -> Verdict<'a>
-    requires { IsOf table.now pass.old }
+    requires { ServesTerms terms.now pass.old }
     ensures fits { Fits (R.proposes reorder.now) block.now result }
-    ensures pass { IsOf table.now pass.new }
+    ensures pass { ServesTerms terms.now pass.new }
 {
-    match proposal_verdict(alloc, table, pass, reorder, block) {
+    match proposal_verdict(alloc, terms, pass, reorder, block) {
         Verdict::Full => verdict_apart(alloc, options, reorder, block),
         verdict => verdict,
     }
@@ -135,23 +116,27 @@ fn verdict_alone<'a, R: Reorder>(
     let Some(mut pass) = passes.pop() else {
         unreachable!()
     };
-    proposal_verdict(alloc, &table, &mut pass, reorder, block)
+    let alone = BatchTerms { table, start: None };
+    proposal_verdict(alloc, &alone, &mut pass, reorder, block)
 }
 
 // The verdict on the order that is proposed for a block; NoMemory where none is.
 fn proposal_verdict<'a, R: Reorder>(
     alloc: Global,
-    table: &TermTable,
+    terms: &BatchTerms,
     pass: &mut Pass,
     reorder: &R,
     block: &'a Block,
 ) -> Verdict<'a>
-    requires { IsOf table.now pass.old }
+    requires { ServesTerms terms.now pass.old }
     ensures fits { Fits (R.proposes reorder.now) block.now result }
-    ensures pass { IsOf table.now pass.new }
+    ensures pass { ServesTerms terms.now pass.new }
 {
     let Ok(order) = reorder.reorder(alloc, block) else {
         return Verdict::NoMemory;
     };
-    validate(alloc, table, pass, block, order)
+    match &terms.start {
+        Some(start) => validate_from(alloc, &terms.table, pass, start, block, order),
+        None => validate(alloc, &terms.table, pass, block, order),
+    }
 }

@@ -1,11 +1,10 @@
 use Rattle.std.proofs.Common.{◌≡◌, ◌+◌, length}
-use Rattle.term_table.specs.Passes.{IsOf}
-use Rattle.sched_phase.specs.Settling.{AreDone}
+use Rattle.sched_phase.specs.Settling.{AreDone, ServesTerms}
 use Rattle.sched_phase.proofs.phase.one_by_one.Given as goal
 
 abbrev pub invariant-loop-i : goal.invariant-loop-i
 invariant-loop-i g l =
-    IsOf l.table l.pass
+    ServesTerms l.terms l.pass
     × AreDone (g.R.Reorder.proposes l.reorder) l.unit.blocks l.progress
     × (length l.progress.orders.items ≡ l.first + l.i)
     × (l.progress.report.missed ≡ l.fn.progress.report.missed)

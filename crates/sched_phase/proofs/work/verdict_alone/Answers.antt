@@ -5,4 +5,4 @@ use Rattle.sched_phase.proofs.work.verdict_alone.Goals as goal
 
 pub proposal_verdict-requires : goal.proposal_verdict-requires
 proposal_verdict-requires g c =
-    (All-pop (IsOf c.in-Ok.table) _ _ (Some c.in-Some.pass) c.in-Some.ensures.items c.in-Ok.ensures.own).1
+    ((All-pop (IsOf c.in-Ok.table) _ _ (Some c.in-Some.pass) c.in-Some.ensures.items c.in-Ok.ensures.own).1, tt)
