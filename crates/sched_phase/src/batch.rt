@@ -11,13 +11,13 @@ use mips_isa::Plain;
 use term_table::MAX_HEADS;
 
 // A batch has at most so many terms, if it has more than one block.
-const BATCH_TERMS: u64 = 32_768;
+const BATCH_TERMS: u64 = 16_384;
 
 // The terms of a start, and some that many blocks have.
 const START_TERMS: u64 = 64;
 
-// How many terms a block and an order of it are likely to have at most, beside those of a start. An instruction has a result
-// and its constants, which are mostly those of others; a load may need the memory behind half the stores anew.
+// How many terms a block and an order of it are likely to have at most, beside those of a start and of other blocks. About each
+// second instruction has a result that no other has; a load may need the memory behind half the stores anew.
 fn terms_of(block: &Block) -> u64 {
     let mut terms: u64 = 2;
     let mut stores: u64 = 0;
@@ -27,7 +27,7 @@ fn terms_of(block: &Block) -> u64 {
             Plain::Store { .. } => stores = stores.saturating_add(1),
             _ => {}
         }
-        terms = terms.saturating_add(2);
+        terms = terms.saturating_add(1);
     }
     terms
 }
@@ -65,32 +65,14 @@ pub(crate) fn workers_for(options: PhaseOpts, blocks: usize) -> u64
     if most < workers { most } else { workers }
 }
 
-// Each pass has nodes for so many times its share of the terms, if that isn't all of them.
-const SHARES: u64 = 2;
-
-// How many terms each of so many passes may have to link.
-fn share_of(workers: u64, terms: u64) -> u64
-    requires { 0 < workers }
-{
-    if workers <= SHARES {
-        return terms;
-    }
-    let share = terms / workers;
-    share.saturating_mul(SHARES).saturating_add(START_TERMS)
-}
-
-/// How many nodes each of so many passes has for so many terms.
+/// How many nodes each of so many passes has for so many terms: those of its share, and of a start.
 pub(crate) fn nodes_for(options: PhaseOpts, workers: u64, terms: u64) -> u64
     requires { 0 < workers }
     ensures { (0 < result) × (result ≤ MAX_NODES) }
 {
     let nodes = options.nodes();
-    let share = share_of(workers, terms);
-    if share > 0 && share < nodes {
-        share
-    } else {
-        nodes
-    }
+    let share = (terms / workers).saturating_add(START_TERMS);
+    if share < nodes { share } else { nodes }
 }
 
 /// How many chains a table has for so many terms.
