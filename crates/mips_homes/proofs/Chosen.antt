@@ -6,6 +6,7 @@ use mathlib.Core.Path.{fun_ext}
 use Rattle.std.specs.Prelude.{if◌then◌else◌, slice_get}
 use Rattle.std.proofs.lemmas.Bool.{cases_lt, ltb-false}
 use Rattle.std.proofs.lemmas.Option.{slice_get_within, same_Some}
+use Rattle.rtl.proofs.Names.{bound_one, bound_least}
 use Rattle.rtl.specs.Names.{bound, blocks_names, how_many, uses_of}
 use Rattle.mips_homes.specs.Convention.{IsCalleeSaved}
 use Rattle.mips_homes.specs.HomedRun.{is_in, is_callee_saved, homed_run}
@@ -187,17 +188,6 @@ slots_fit us us' best best' n used homes few e ok f n_is made =
     omega (arith, few, same, slots)
 
 -- names are below the bound
-bound_one : (n x : ℕ) → (n ≤ (if nat_lt x n then n else suc x)) × (x < (if nat_lt x n then n else suc x))
-bound_one n x = by (nat_lt x n) refl
-  where
-    by : (c : Bool) → nat_lt x n ≡ c → (n ≤ (if c then n else suc x)) × (x < (if c then n else suc x))
-    by true e = (omega arith, ltb-true x n e)
-    by false e = (let ge = ltb-false x n e in (omega (arith, ge), omega arith))
-
-pub bound_least : (n : ℕ) (xs : List ℕ) → n ≤ bound n xs
-bound_least n [] = omega arith
-bound_least n (x ∷ xs) = (let one = (bound_one n x).0 in let rest = bound_least (if nat_lt x n then n else suc x) xs in omega (arith, one, rest))
-
 pub named_below : (homes : List Home) (n : ℕ) (xs : List ℕ) → bound n xs ≤ length homes → HaveHomes homes xs
 named_below homes n [] le = tt
 named_below homes n (x ∷ xs) le =

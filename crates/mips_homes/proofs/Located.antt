@@ -15,7 +15,8 @@ use Rattle.mips_homes.specs.Preferences.{reach_from, exit_reach, blocks_reach, r
 use Rattle.mips_homes.specs.Convention.{temporaries}
 use Rattle.mips_homes.specs.Places.{first_free, free_register, home_or, also, places_from, is_register, lives_in, still_saved, is_slot, some_slot, IsPlaced, ArePlaced}
 use Rattle.mips_homes.proofs.Choosing.{at_index, drop_at}
-use Rattle.mips_homes.proofs.Chosen.{home_callee_saved, home_at, bound_least, named_below}
+use Rattle.rtl.proofs.Names.{bound_least}
+use Rattle.mips_homes.proofs.Chosen.{home_callee_saved, home_at, named_below}
 use Rattle.mips_homes.proofs.Lockstep.{each_homed_run}
 use Rattle.mips_homes.specs.declared.homed.Home.{Home}
 use Rattle.mips_homes.specs.declared.homed.Home.TheVariants.{Reg, Slot}

@@ -8,6 +8,7 @@ use Rattle.runs.specs.Runs.{Outcome, steps}
 use Rattle.rtl.specs.declared.block.RGlobal.{RGlobal}
 use Rattle.rtl.specs.Operators.{op_result}
 use Rattle.rtl.specs.Meaning.{Code, code_of, kept_in, first_values}
+pub use Rattle.rtl.specs.Names.{is_in}
 pub use Rattle.mips_homes.specs.Convention.{is_callee_saved}
 use Rattle.mips_homes.specs.declared.homed.Home.{Home}
 use Rattle.mips_homes.specs.declared.homed.Home.TheVariants.{Reg, Slot}
@@ -72,11 +73,6 @@ abbrev pub write_homes : List Home → Places → Places → ℕ → List ℕ �
 write_homes homes registers slots x [] out go = go registers slots
 write_homes homes registers slots x (v ∷ vs) out go =
     write_home homes registers slots x v out (λ r s. write_homes homes r s (suc x) vs out go)
-
--- whether a number is in a list
-abbrev pub is_in : List ℕ → ℕ → Bool
-is_in [] r = false
-is_in (x ∷ xs) r = nat_eq r x || is_in xs r
 
 -- the registers that a function saves are unset at its entry, and come back at its return
 abbrev pub registers_at_entry : List ℕ → Places → Places

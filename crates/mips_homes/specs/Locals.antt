@@ -1,28 +1,12 @@
 -- Pseudo-registers that are local to blocks.
 use Rattle.std.specs.Prelude.{ℕ, Bool, true, false, ◌&&◌, List, [], ◌∷◌, if◌then◌else◌}
-use Rattle.rtl.specs.Names.{optional}
+pub use Rattle.rtl.specs.Names.{inst_reads, inst_writes}
+use Rattle.rtl.specs.Names.{optional, is_in}
 use Rattle.rtl.specs.declared.instruction.RInst.{RInst}
 use Rattle.rtl.specs.declared.instruction.RInst.TheVariants.{Const, Move, Bin, Load, Store}
 use Rattle.rtl.specs.declared.instruction.RExit.{RExit}
 use Rattle.rtl.specs.declared.instruction.RExit.TheVariants.{Goto, Branch, Call, Return, Out}
 use Rattle.rtl.specs.declared.block.RBlock.{RBlock}
-use Rattle.mips_homes.specs.HomedRun.{is_in}
-
--- what an instruction reads
-abbrev pub inst_reads : RInst → List ℕ
-inst_reads (Const d w) = []
-inst_reads (Move d a) = a ∷ []
-inst_reads (Bin op d a b) = a ∷ b ∷ []
-inst_reads (Load d a i) = i ∷ []
-inst_reads (Store a i b) = i ∷ b ∷ []
-
--- what it writes
-abbrev pub inst_writes : RInst → List ℕ
-inst_writes (Const d w) = d ∷ []
-inst_writes (Move d a) = d ∷ []
-inst_writes (Bin op d a b) = d ∷ []
-inst_writes (Load d a i) = d ∷ []
-inst_writes (Store a i b) = []
 
 -- what an exit reads
 abbrev pub exit_reads : RExit → List ℕ

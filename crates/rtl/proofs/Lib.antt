@@ -4,3 +4,7 @@ pub mod Keeping
 pub mod Lookups
 pub mod Loops
 pub mod Results
+pub mod Duplication
+pub mod Copies
+pub mod Simulation
+pub mod Names

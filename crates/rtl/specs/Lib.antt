@@ -8,3 +8,4 @@ pub mod Numbers
 pub mod Names
 -- words of private functions
 pub mod Interpreter
+pub mod Tails

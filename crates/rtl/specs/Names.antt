@@ -1,5 +1,5 @@
 -- The pseudo-registers that a function names, and how often.
-use Rattle.std.specs.Prelude.{ℕ, suc, ◌+◌, List, [], ◌∷◌, ◌++◌, Option, Some, None, nat_eq, nat_lt, if◌then◌else◌}
+use Rattle.std.specs.Prelude.{ℕ, suc, ◌+◌, Bool, false, ◌||◌, List, [], ◌∷◌, ◌++◌, Option, Some, None, nat_eq, nat_lt, if◌then◌else◌}
 use Rattle.rtl.specs.declared.instruction.RInst.{RInst}
 use Rattle.rtl.specs.declared.instruction.RInst.TheVariants.{Const, Move, Bin, Load, Store}
 use Rattle.rtl.specs.declared.instruction.RExit.{RExit}
@@ -14,6 +14,26 @@ inst_names (Move d a) = d ∷ a ∷ []
 inst_names (Bin op d a b) = d ∷ a ∷ b ∷ []
 inst_names (Load d a i) = d ∷ i ∷ []
 inst_names (Store a i b) = i ∷ b ∷ []
+
+-- which an instruction reads
+abbrev pub inst_reads : RInst → List ℕ
+inst_reads (Const d w) = []
+inst_reads (Move d a) = a ∷ []
+inst_reads (Bin op d a b) = a ∷ b ∷ []
+inst_reads (Load d a i) = i ∷ []
+inst_reads (Store a i b) = i ∷ b ∷ []
+
+-- which it writes
+abbrev pub inst_writes : RInst → List ℕ
+inst_writes (Const d w) = d ∷ []
+inst_writes (Move d a) = d ∷ []
+inst_writes (Bin op d a b) = d ∷ []
+inst_writes (Load d a i) = d ∷ []
+inst_writes (Store a i b) = []
+
+abbrev pub is_in : List ℕ → ℕ → Bool
+is_in [] r = false
+is_in (x ∷ xs) r = nat_eq r x || is_in xs r
 
 -- of a register that may be absent
 abbrev pub optional : Option ℕ → List ℕ

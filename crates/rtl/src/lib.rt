@@ -1,8 +1,9 @@
 //! RTL, the intermediate language: functions of blocks over pseudo-registers. The idea of three-address code is CompCert's.
 //!
-//! Definitions: `specs/Programs.antt`, `specs/Meaning.antt`, `specs/Laws.antt`.
-//! Contract: `Rtl::new`, `run`, `values_are_words`, `operators_compute_as_c`
+//! Definitions: `specs/Programs.antt`, `specs/Meaning.antt`, `specs/Tails.antt`, `specs/Laws.antt`.
+//! Contract: `Rtl::new`, `run`, `Rtl::with_tails`, `values_are_words`, `operators_compute_as_c`
 //! - `Rtl::new` is Some exactly on programs, and `run` is exactly what n steps lead to.
+//! - With tails a program comes to the same after each number of steps.
 //! - Where C's operators give a value, RTL's give the same.
 #![tactic(auto)]
 
@@ -15,6 +16,7 @@ mod operator;
 mod program;
 mod steps;
 mod stores;
+mod tails;
 
 pub use block::{RBlock, RFunc, RGlobal};
 pub use instruction::{BlockNumber, FunctionNumber, GlobalNumber, RExit, RInst, Register};
@@ -26,3 +28,4 @@ pub use limits::{MAX_BLOCKS, MAX_GLOBAL_WORDS, MAX_PARAMETERS, MAX_REGISTERS};
 pub use operator::Op;
 pub use program::Rtl;
 pub use steps::run;
+pub use tails::{TAIL_INSTS, TAIL_OPERATIONS};

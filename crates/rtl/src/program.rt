@@ -1,13 +1,16 @@
 // Programs of RTL, and which parts make one.
-ghost use Rattle.std.specs.Prelude.{◌≡◌, ℕ, ◌<◌, ◌≤◌, ◌↔◌, IsTrue, All, length, sum_by};
+ghost use Rattle.std.specs.Prelude.{◌≡◌, ℕ, ◌<◌, ◌≤◌, ◌↔◌, IsTrue, IfOk, All, length, sum_by};
 ghost use Rattle.std.specs.Option.{SomeIff};
 ghost use Rattle.rtl.specs.Programs.{IsRegister, IsMaybeRegister, IsInst, IsCallee, IsExit, IsBlock, IsFunction, IsGlobal, IsProgram};
 ghost use Rattle.rtl.specs.Programs.{program_of};
+ghost use Rattle.rtl.specs.Tails.{IsTailed, RunsAlike};
 ghost use Rattle.rtl.specs.Programs.{block_count, word_count};
 
 use crate::block::{RBlock, RFunc, RGlobal};
 use crate::instruction::{FunctionNumber, RExit, RInst, Register};
 use crate::limits::{MAX_BLOCKS, MAX_GLOBAL_WORDS, MAX_PARAMETERS, MAX_REGISTERS};
+use crate::tails::functions_with_tails;
+use std::alloc::{AllocError, Global};
 use std::marker::Model;
 
 /// A program: functions, globals, and the number of the function that is run. What they name is there, and the sizes are
@@ -227,6 +230,25 @@ impl Rtl {
         } else {
             None
         }
+    }
+
+    /// The same program, where each block that goes to a short one before it ends with that one's code: at most eight
+    /// instructions, of which at most four aren't constants. Each run has the same steps. An Err is refused memory.
+    pub fn with_tails(self, alloc: Global) -> Result<Rtl, AllocError>
+        ensures tails { IfOk result (λ p. IsTailed self p) }
+        ensures runs { IfOk result (λ p. RunsAlike self p) }
+    {
+        let Rtl {
+            functions,
+            globals,
+            main,
+        } = self;
+        let functions = functions_with_tails(alloc, functions)?;
+        Ok(Rtl {
+            functions,
+            globals,
+            main,
+        })
     }
 
     /// The functions.

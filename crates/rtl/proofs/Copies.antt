@@ -1,0 +1,289 @@
+-- A block is as it was, or ends with a copy of another; and what is named is there.
+use Rattle.std.proofs.Common.{◌≡◌, ℕ, zero, suc, ◌+◌, ◌<◌, ◌≤◌, ◌⊎◌, inl, inr, Bool, true, false, List, [], ◌∷◌, ◌++◌, Option, Some, None}
+use Rattle.std.proofs.Common.{length, refl, ap, subst, sym, ◌∙◌, arith}
+use Rattle.std.specs.Prelude.{All, slice_get, sum_by, if◌then◌else◌}
+use Rattle.std.proofs.lemmas.Option.{same_Some, none-some}
+use Rattle.std.proofs.lemmas.List.Elements.{All-nil, All-cons, All-head, All-tail, All-append}
+use Rattle.std.proofs.lemmas.List.Sums.{sum_by-cons}
+use Rattle.rtl.specs.declared.limits.TheConstants.{MAX_PARAMETERS, MAX_BLOCKS}
+use Rattle.rtl.specs.declared.instruction.RInst.{RInst}
+use Rattle.rtl.specs.declared.instruction.RInst.TheVariants.{Const, Move, Bin, Load, Store}
+use Rattle.rtl.specs.declared.instruction.RExit.{RExit}
+use Rattle.rtl.specs.declared.instruction.RExit.TheVariants.{Goto, Branch, Call, Return, Out}
+use Rattle.rtl.specs.declared.block.RBlock.{RBlock}
+use Rattle.rtl.specs.declared.block.RFunc.{RFunc}
+use Rattle.rtl.specs.declared.block.RGlobal.{RGlobal}
+use Rattle.rtl.specs.Meaning.{Code, code_of}
+use Rattle.rtl.specs.Programs.{Program, IsInst, IsCallee, IsExit, IsBlock, IsFunction, IsRegister, IsProgram, program_of, block_count}
+use Rattle.rtl.specs.Tails.{writes_first, constant_of, spare_constant, is_short, again, joined, joined_if, with_tail, tailed_by, tailed, AreTailed, HasTails, HaveTails, IsTailed}
+
+-- the code of a block that goes to another of some blocks, with a copy of that one
+pub record Tail (bs : List RBlock) (c c' : Code) : Type 0 where
+  pub number : ℕ
+  pub block : RBlock
+  pub d : ℕ
+  pub there : slice_get bs number ≡ Some block
+  pub short : is_short block.insts.items ≡ true
+  pub goes : c.exit ≡ Goto number
+  pub first : writes_first block.insts.items d ≡ true
+  pub sets : spare_constant block.insts.items ≡ Some d
+  pub same : again block.exit ≡ Some block.exit
+  pub is : c' ≡ joined c d block.insts.items block.exit
+
+abbrev pub Copy : List RBlock → Code → Code → Type 0
+Copy bs c c' = (c' ≡ c) ⊎ Tail bs c c'
+
+-- it is written before it is read
+constant_first : (all is : List RInst) (d : ℕ) → constant_of all is ≡ Some d → writes_first all d ≡ true
+constant_first all [] d e = absurd (none-some d e)
+constant_first all (Const x w ∷ is) d e = by (writes_first all x) refl (λ f. constant_first all is d f) e
+  where
+    by : (b : Bool) → writes_first all x ≡ b → (constant_of all is ≡ Some d → writes_first all d ≡ true)
+        → (if b then Some x else constant_of all is) ≡ Some d → writes_first all d ≡ true
+    by true f rest e = subst (λ d. writes_first all d ≡ true) (same_Some x d e) f
+    by false f rest e = rest e
+constant_first all (Move x a ∷ is) d e = constant_first all is d e
+constant_first all (Bin op x a b ∷ is) d e = constant_first all is d e
+constant_first all (Load x g i ∷ is) d e = constant_first all is d e
+constant_first all (Store g i a ∷ is) d e = constant_first all is d e
+
+again_same : (x e : RExit) → again x ≡ Some e → e ≡ x
+again_same (Goto b) e is = sym (same_Some (Goto b) e is)
+again_same (Branch c t o) e is = sym (same_Some (Branch c t o) e is)
+again_same (Call g xs d next) e is = absurd (none-some e is)
+again_same (Return o) e is = sym (same_Some (Return o) e is)
+again_same (Out x next) e is = sym (same_Some (Out x next) e is)
+
+pub copy_of_code : (bs : List RBlock) (c : Code) → Copy bs c (tailed bs c)
+copy_of_code bs c = by c.exit refl
+  where
+    by : (x : RExit) → c.exit ≡ x → Copy bs c (tailed_by bs c x)
+    by (Goto b) goes = at (slice_get bs b) refl
+      where
+        at : (o : Option RBlock) → slice_get bs b ≡ o → Copy bs c (with_tail c o)
+        at None there = inl refl
+        at (Some t) there = small (is_short t.insts.items) refl
+          where
+            small : (s : Bool) → is_short t.insts.items ≡ s
+                → Copy bs c (if s then joined_if c t.insts.items (spare_constant t.insts.items) (again t.exit) else c)
+            small false short = inl refl
+            small true short = first (spare_constant t.insts.items) refl
+              where
+                first : (o : Option ℕ) → spare_constant t.insts.items ≡ o → Copy bs c (joined_if c t.insts.items o (again t.exit))
+                first None target = inl refl
+                first (Some d) target = exit (again t.exit) refl
+                  where
+                    exit : (e : Option RExit) → again t.exit ≡ e → Copy bs c (joined_if c t.insts.items (Some d) e)
+                    exit None same = inl refl
+                    exit (Some e) same = let is = again_same t.exit e same in inr (record {
+                      number = b;
+                      block = t;
+                      d = d;
+                      there = there;
+                      short = short;
+                      goes = goes;
+                      first = constant_first t.insts.items t.insts.items d target;
+                      sets = target;
+                      same = same ∙ ap Some is;
+                      is = ap (joined c d t.insts.items) is;
+                    })
+    by (Branch x t e) goes = inl refl
+    by (Call g xs d next) goes = inl refl
+    by (Return o) goes = inl refl
+    by (Out x next) goes = inl refl
+
+-- among more blocks
+get_before : {A : Type 0} (xs ys : List A) (i : ℕ) (x : A) → slice_get xs i ≡ Some x → slice_get (xs ++ ys) i ≡ Some x
+get_before [] ys i x is = absurd (none-some x is)
+get_before (y ∷ xs) ys zero x is = is
+get_before (y ∷ xs) ys (suc i) x is = get_before xs ys i x is
+
+wider : (bs more : List RBlock) (c c' : Code) → Copy bs c c' → Copy (bs ++ more) c c'
+wider bs more c c' (inl is) = inl is
+wider bs more c c' (inr t) = inr (record {
+  number = t.number;
+  block = t.block;
+  d = t.d;
+  there = get_before bs more t.number t.block t.there;
+  short = t.short;
+  goes = t.goes;
+  first = t.first;
+  sets = t.sets;
+  same = t.same;
+  is = t.is;
+})
+
+append_one : (xs : List RBlock) (y : RBlock) (ys : List RBlock) → (xs ++ y ∷ []) ++ ys ≡ xs ++ y ∷ ys
+append_one [] y ys = refl
+append_one (x ∷ xs) y ys = ap (λ l. x ∷ l) (append_one xs y ys)
+
+-- each block, and that which stands for it
+pub record Stands (all new : List RBlock) (i : ℕ) (b : RBlock) : Type 0 where
+  pub block : RBlock
+  pub there : slice_get new i ≡ Some block
+  pub copy : Copy all (code_of b) (code_of block)
+
+stands_from : (before bs new : List RBlock) → AreTailed before bs new → (i : ℕ) (b : RBlock) → slice_get bs i ≡ Some b → Stands (before ++ bs) new i b
+stands_from before [] new h i b is = absurd (none-some b is)
+stands_from before (a ∷ bs) [] h i b is = absurd h
+stands_from before (a ∷ bs) (c ∷ cs) h zero b is = record {
+  block = c;
+  there = refl;
+  copy = subst (λ k. Copy (before ++ a ∷ bs) k (code_of c)) (ap code_of (same_Some a b is))
+      (wider before (a ∷ bs) (code_of a) (code_of c) (subst (Copy before (code_of a)) (sym h.0) (copy_of_code before (code_of a))));
+}
+stands_from before (a ∷ bs) (c ∷ cs) h (suc i) b is =
+    let s = stands_from (before ++ a ∷ []) bs cs h.1 i b is in
+    record { block = s.block; there = s.there; copy = subst (λ all. Copy all (code_of b) (code_of s.block)) (append_one before a bs) s.copy }
+
+pub stands : (bs new : List RBlock) → AreTailed [] bs new → (i : ℕ) (b : RBlock) → slice_get bs i ≡ Some b → Stands bs new i b
+stands bs new h i b is = stands_from [] bs new h i b is
+
+none_from : (before bs new : List RBlock) → AreTailed before bs new → (i : ℕ) → slice_get bs i ≡ None → slice_get new i ≡ None
+none_from before [] [] h i is = is
+none_from before [] (c ∷ cs) h i is = absurd h
+none_from before (a ∷ bs) [] h i is = absurd h
+none_from before (a ∷ bs) (c ∷ cs) h zero is = absurd (none-some a (sym is))
+none_from before (a ∷ bs) (c ∷ cs) h (suc i) is = none_from (before ++ a ∷ []) bs cs h.1 i is
+
+pub none_stands : (bs new : List RBlock) → AreTailed [] bs new → (i : ℕ) → slice_get bs i ≡ None → slice_get new i ≡ None
+none_stands bs new h i is = none_from [] bs new h i is
+
+same_length : (before bs new : List RBlock) → AreTailed before bs new → length new ≡ length bs
+same_length before [] [] h = refl
+same_length before [] (c ∷ cs) h = absurd h
+same_length before (a ∷ bs) [] h = absurd h
+same_length before (a ∷ bs) (c ∷ cs) h = ap suc (same_length (before ++ a ∷ []) bs cs h.1)
+
+pub as_many : (bs new : List RBlock) → AreTailed [] bs new → length new ≡ length bs
+as_many bs new h = same_length [] bs new h
+
+-- ---- what is named is there
+
+pub function_at : (fs new : List RFunc) → HaveTails fs new → (i : ℕ) (f : RFunc) → slice_get fs i ≡ Some f
+    → (n : RFunc) × (slice_get new i ≡ Some n) × HasTails f n
+function_at [] new h i f is = absurd (none-some f is)
+function_at (g ∷ fs) [] h i f is = absurd h
+function_at (g ∷ fs) (n ∷ ns) h zero f is = (n, refl, subst (λ f. HasTails f n) (same_Some g f is) h.0)
+function_at (g ∷ fs) (n ∷ ns) h (suc i) f is = function_at fs ns h.1 i f is
+
+pub no_function_at : (fs new : List RFunc) → HaveTails fs new → (i : ℕ) → slice_get fs i ≡ None → slice_get new i ≡ None
+no_function_at [] [] h i is = is
+no_function_at [] (n ∷ ns) h i is = absurd h
+no_function_at (g ∷ fs) [] h i is = absurd h
+no_function_at (g ∷ fs) (n ∷ ns) h zero is = absurd (none-some g (sym is))
+no_function_at (g ∷ fs) (n ∷ ns) h (suc i) is = no_function_at fs ns h.1 i is
+
+pub all_at : {A : Type 0} (P : A → Type 0) (xs : List A) (i : ℕ) (x : A) → All P xs → slice_get xs i ≡ Some x → P x
+all_at P [] i x all is = absurd (none-some x is)
+all_at P (y ∷ xs) zero x all is = subst P (same_Some y x is) (All-head P y xs all)
+all_at P (y ∷ xs) (suc i) x all is = all_at P xs i x (All-tail P y xs all) is
+
+-- what holds of a register that an instruction sets to a constant
+abbrev pub HoldsOfConstant : (ℕ → Type 0) → RInst → Type 0
+HoldsOfConstant P (Const x w) = P x
+HoldsOfConstant P (Move x a) = Unit {0}
+HoldsOfConstant P (Bin op x a b) = Unit {0}
+HoldsOfConstant P (Load x g i) = Unit {0}
+HoldsOfConstant P (Store g i a) = Unit {0}
+
+pub constant_holds : (P : ℕ → Type 0) (Q : RInst → Type 0) (of : (i : RInst) → Q i → HoldsOfConstant P i) (all is : List RInst) (d : ℕ) → All Q is
+    → constant_of all is ≡ Some d → P d
+constant_holds P Q of all [] d holds e = absurd (none-some d e)
+constant_holds P Q of all (Const x w ∷ is) d holds e = by (writes_first all x) (λ f. constant_holds P Q of all is d (All-tail Q (Const x w) is holds) f) e
+  where
+    by : (b : Bool) → (constant_of all is ≡ Some d → P d) → (if b then Some x else constant_of all is) ≡ Some d → P d
+    by true rest e = subst P (same_Some x d e) (of (Const x w) (All-head Q (Const x w) is holds))
+    by false rest e = rest e
+constant_holds P Q of all (Move x a ∷ is) d holds e = constant_holds P Q of all is d (All-tail Q (Move x a) is holds) e
+constant_holds P Q of all (Bin op x a b ∷ is) d holds e = constant_holds P Q of all is d (All-tail Q (Bin op x a b) is holds) e
+constant_holds P Q of all (Load x g i ∷ is) d holds e = constant_holds P Q of all is d (All-tail Q (Load x g i) is holds) e
+constant_holds P Q of all (Store g i a ∷ is) d holds e = constant_holds P Q of all is d (All-tail Q (Store g i a) is holds) e
+
+constant_fits : (g : ℕ) (i : RInst) → IsInst g i → HoldsOfConstant IsRegister i
+constant_fits g (Const x w) fits = fits
+constant_fits g (Move x a) fits = tt
+constant_fits g (Bin op x a b) fits = tt
+constant_fits g (Load x a i) fits = tt
+constant_fits g (Store a i b) fits = tt
+
+module _ (fs new : List RFunc) (h : HaveTails fs new) (g count : ℕ) where
+  callee_fits : (f n : ℕ) → IsCallee fs f n → IsCallee new f n
+  callee_fits f n c = let m = function_at fs new h f c.callee c.there in record { callee = m.0; there = m.1; takes = m.2.parameters ∙ c.takes }
+
+  exit_fits : (x : RExit) → IsExit fs count x → IsExit new count x
+  exit_fits (Goto b) fits = fits
+  exit_fits (Branch c t e) fits = fits
+  exit_fits (Call f xs d next) fits = (callee_fits f (length xs.items) fits.0, fits.1)
+  exit_fits (Return o) fits = fits
+  exit_fits (Out x next) fits = fits
+
+  block_fits : (before : List RBlock) (b c : RBlock) → All (IsBlock fs g count) before → IsBlock fs g count b → Copy before (code_of b) (code_of c)
+      → IsBlock new g count c
+  block_fits before b c all fits (inl is) = record {
+    insts = subst (All (IsInst g)) (sym (ap (λ (k : Code). k.insts) is)) fits.insts;
+    exit = subst (IsExit new count) (sym (ap (λ (k : Code). k.exit) is)) (exit_fits b.exit fits.exit);
+  }
+  block_fits before b c all fits (inr t) =
+      let tail = all_at (IsBlock fs g count) before t.number t.block all t.there in
+      let target = constant_holds IsRegister (IsInst g) (constant_fits g) t.block.insts.items t.block.insts.items t.d tail.insts t.sets in
+      record {
+        insts = subst (All (IsInst g)) (sym (ap (λ (k : Code). k.insts) t.is))
+            (All-append (IsInst g) b.insts.items (Const t.d 0 ∷ t.block.insts.items) fits.insts
+            (All-cons (IsInst g) (Const t.d 0) t.block.insts.items target tail.insts));
+        exit = subst (IsExit new count) (sym (ap (λ (k : Code). k.exit) t.is)) (exit_fits t.block.exit tail.exit);
+      }
+
+  blocks_fit_from : (before bs cs : List RBlock) → All (IsBlock fs g count) before → All (IsBlock fs g count) bs → AreTailed before bs cs
+      → All (IsBlock new g count) cs
+  blocks_fit_from before [] [] all rest t = All-nil (IsBlock new g count)
+  blocks_fit_from before [] (c ∷ cs) all rest t = absurd t
+  blocks_fit_from before (b ∷ bs) [] all rest t = absurd t
+  blocks_fit_from before (b ∷ bs) (c ∷ cs) all rest t =
+      let one = All-head (IsBlock fs g count) b bs rest in
+      let copy = subst (Copy before (code_of b)) (sym t.0) (copy_of_code before (code_of b)) in
+      All-cons (IsBlock new g count) c cs (block_fits before b c all one copy)
+      (blocks_fit_from (before ++ b ∷ []) bs cs
+      (All-append (IsBlock fs g count) before (b ∷ []) all (All-cons (IsBlock fs g count) b [] one (All-nil (IsBlock fs g count))))
+      (All-tail (IsBlock fs g count) b bs rest) t.1)
+
+module _ (fs new : List RFunc) (h : HaveTails fs new) (g : ℕ) where
+  function_fits : (f n : RFunc) → HasTails f n → IsFunction fs g f → IsFunction new g n
+  function_fits f n t fits =
+      let many = as_many f.blocks.items n.blocks.items t.blocks in
+      record {
+        parameters = subst (λ k. k ≤ MAX_PARAMETERS) (sym t.parameters) fits.parameters;
+        entry = subst (λ k. 0 < k) (sym many) fits.entry;
+        blocks = subst (λ k. All (IsBlock new g k) n.blocks.items) (sym many)
+            (blocks_fit_from fs new h g (length f.blocks.items) [] f.blocks.items n.blocks.items (All-nil (IsBlock fs g (length f.blocks.items)))
+            fits.blocks t.blocks);
+      }
+
+  functions_fit : (xs ys : List RFunc) → HaveTails xs ys → All (IsFunction fs g) xs → All (IsFunction new g) ys
+  functions_fit [] [] t all = All-nil (IsFunction new g)
+  functions_fit [] (y ∷ ys) t all = absurd t
+  functions_fit (x ∷ xs) [] t all = absurd t
+  functions_fit (x ∷ xs) (y ∷ ys) t all =
+      All-cons (IsFunction new g) y ys (function_fits x y t.0 (All-head (IsFunction fs g) x xs all))
+      (functions_fit xs ys t.1 (All-tail (IsFunction fs g) x xs all))
+
+same_count : (xs ys : List RFunc) → HaveTails xs ys → sum_by block_count ys ≡ sum_by block_count xs
+same_count [] [] t = refl
+same_count [] (y ∷ ys) t = absurd t
+same_count (x ∷ xs) [] t = absurd t
+same_count (x ∷ xs) (y ∷ ys) t =
+    let one = as_many x.blocks.items y.blocks.items t.0.blocks in
+    let rest = same_count xs ys t.1 in
+    let a = sum_by-cons block_count x xs in
+    let b = sum_by-cons block_count y ys in
+    omega (arith, one, rest, a, b)
+
+pub program_fits : (fs new : List RFunc) (globals : List RGlobal) (main : ℕ) → HaveTails fs new → IsProgram (program_of fs globals main)
+    → IsProgram (program_of new globals main)
+program_fits fs new globals main h is = record {
+  functions = functions_fit fs new h (length globals) fs new h is.functions;
+  globals = is.globals;
+  main = callee_fits fs new h 0 0 main 0 is.main;
+  blocks_fit = subst (λ n. n ≤ MAX_BLOCKS) (sym (same_count fs new h)) is.blocks_fit;
+  words_fit = is.words_fit;
+}

@@ -1,0 +1,44 @@
+-- What comes of programs whose blocks have their tails.
+use Rattle.std.proofs.Common.{◌≡◌, ℕ, zero, suc, ◌+◌, ◌<◌, ◌≤◌, List, [], ◌∷◌, ◌++◌, length, take, get_or, refl, ap, subst, sym, ◌∙◌, arith}
+use Rattle.std.specs.Prelude.{reverse}
+use Rattle.std.proofs.Math.Seq.{take-suc}
+use Rattle.rtl.specs.declared.instruction.RInst.{RInst}
+use Rattle.rtl.specs.declared.instruction.RInst.TheVariants.{Const, Move, Bin, Load, Store}
+use Rattle.rtl.specs.Tails.{weight, operations}
+
+operations_push : (xs : List RInst) (x : RInst) → operations (xs ++ x ∷ []) ≡ operations xs + weight x
+operations_push [] x = omega arith
+operations_push (y ∷ xs) x = let rest = operations_push xs x in omega (arith, rest)
+
+-- one more
+pub operations_next : (xs : List RInst) (i n w : ℕ) (d : RInst) → i < length xs → n ≡ operations (take i xs) → w ≡ weight (get_or xs i d)
+    → n + w ≡ operations (take (i + 1) xs)
+operations_next xs i n w d lt so_far one =
+    let x = get_or xs i d in
+    let next : i + 1 ≡ suc i = omega arith in
+    let cut : take (i + 1) xs ≡ take i xs ++ x ∷ [] = ap (λ n. take n xs) next ∙ take-suc xs i d lt in
+    let all : operations (take (i + 1) xs) ≡ operations (take i xs) + weight x = ap operations cut ∙ operations_push (take i xs) x in
+    omega (arith, so_far, one, all)
+
+weight_small : (x : RInst) → weight x ≤ 1
+weight_small (Const d w) = omega arith
+weight_small (Move d a) = omega arith
+weight_small (Bin op d a b) = omega arith
+weight_small (Load d g i) = omega arith
+weight_small (Store g i a) = omega arith
+
+pub weight_at : (w : ℕ) (x : RInst) → w ≡ weight x → w ≤ 1
+weight_at w x is = let small = weight_small x in omega (arith, is, small)
+
+operations_few : (xs : List RInst) → operations xs ≤ length xs
+operations_few [] = omega arith
+operations_few (x ∷ xs) = let rest = operations_few xs in let one = weight_small x in omega (arith, rest, one)
+
+length_take : (xs : List RInst) (i : ℕ) → length (take i xs) ≤ i
+length_take xs zero = omega arith
+length_take [] (suc i) = omega arith
+length_take (x ∷ xs) (suc i) = let rest = length_take xs i in omega (arith, rest)
+
+-- no more than have been seen
+pub operations_so_far : (xs : List RInst) (i : ℕ) → operations (take i xs) ≤ i
+operations_so_far xs i = let few = operations_few (take i xs) in let long = length_take xs i in omega (arith, few, long)

@@ -1,0 +1,133 @@
+-- The greatest register that is named, and that a program with tails names no greater one.
+use Rattle.std.proofs.Common.{◌≡◌, ℕ, suc, ◌<◌, ◌≤◌, inl, inr, Bool, true, false, List, [], ◌∷◌, ◌++◌, Option, Some, None, refl, ap, subst, sym, arith, nat_lt, ltb-true}
+use Rattle.std.specs.Prelude.{All, if◌then◌else◌}
+use Rattle.std.proofs.lemmas.Bool.{ltb-false}
+use Rattle.std.proofs.lemmas.List.Elements.{All-nil, All-cons, All-head, All-tail, All-append}
+use Rattle.rtl.specs.declared.instruction.RInst.{RInst}
+use Rattle.rtl.specs.declared.instruction.RInst.TheVariants.{Const, Move, Bin, Load, Store}
+use Rattle.rtl.specs.declared.instruction.RExit.{RExit}
+use Rattle.rtl.specs.declared.block.RBlock.{RBlock}
+use Rattle.rtl.specs.declared.block.RFunc.{RFunc}
+use Rattle.rtl.specs.Meaning.{Code, code_of}
+use Rattle.rtl.specs.Names.{inst_names, exit_names, insts_names, blocks_names, bound, how_many}
+use Rattle.rtl.specs.Tails.{AreTailed, HasTails}
+use Rattle.rtl.proofs.Copies.{Copy, copy_of_code, all_at, HoldsOfConstant, constant_holds}
+
+pub bound_one : (n x : ℕ) → (n ≤ (if nat_lt x n then n else suc x)) × (x < (if nat_lt x n then n else suc x))
+bound_one n x = by (nat_lt x n) refl
+  where
+    by : (c : Bool) → nat_lt x n ≡ c → (n ≤ (if c then n else suc x)) × (x < (if c then n else suc x))
+    by true e = (omega arith, ltb-true x n e)
+    by false e = (let ge = ltb-false x n e in (omega (arith, ge), omega arith))
+
+pub bound_least : (n : ℕ) (xs : List ℕ) → n ≤ bound n xs
+bound_least n [] = omega arith
+bound_least n (x ∷ xs) = (let one = (bound_one n x).0 in let rest = bound_least (if nat_lt x n then n else suc x) xs in omega (arith, one, rest))
+
+-- names that are below a number
+abbrev Below : ℕ → List ℕ → Type 0
+Below m xs = All (λ x. x < m) xs
+
+bound_names : (n : ℕ) (xs : List ℕ) → Below (bound n xs) xs
+bound_names n [] = All-nil (λ x. x < bound n [])
+bound_names n (x ∷ xs) =
+    let next = if nat_lt x n then n else suc x in
+    let one = (bound_one n x).1 in
+    let rest = bound_least next xs in
+    All-cons (λ y. y < bound next xs) x xs (omega (arith, one, rest)) (bound_names next xs)
+
+bound_most : (n m : ℕ) (xs : List ℕ) → n ≤ m → Below m xs → bound n xs ≤ m
+bound_most n m [] le all = le
+bound_most n m (x ∷ xs) le all =
+    bound_most (if nat_lt x n then n else suc x) m xs (by (nat_lt x n) (All-head (λ y. y < m) x xs all)) (All-tail (λ y. y < m) x xs all)
+  where
+    by : (b : Bool) → x < m → (if b then n else suc x) ≤ m
+    by true lt = le
+    by false lt = omega (arith, lt)
+
+left : (m : ℕ) (xs ys : List ℕ) → Below m (xs ++ ys) → Below m xs
+left m [] ys all = All-nil (λ x. x < m)
+left m (x ∷ xs) ys all =
+    All-cons (λ x. x < m) x xs (All-head (λ x. x < m) x (xs ++ ys) all) (left m xs ys (All-tail (λ x. x < m) x (xs ++ ys) all))
+
+right : (m : ℕ) (xs ys : List ℕ) → Below m (xs ++ ys) → Below m ys
+right m [] ys all = all
+right m (x ∷ xs) ys all = right m xs ys (All-tail (λ x. x < m) x (xs ++ ys) all)
+
+joins : (m : ℕ) (xs ys : List ℕ) → Below m xs → Below m ys → Below m (xs ++ ys)
+joins m xs ys a b = All-append (λ x. x < m) xs ys a b
+
+-- a block names registers below a number
+record BlockBelow (m : ℕ) (b : RBlock) : Type 0 where
+  insts : Below m (insts_names b.insts.items)
+  exit : Below m (exit_names b.exit)
+
+names_join : (m : ℕ) (xs ys : List RInst) → Below m (insts_names xs) → Below m (insts_names ys) → Below m (insts_names (xs ++ ys))
+names_join m [] ys a b = b
+names_join m (x ∷ xs) ys a b =
+    joins m (inst_names x) (insts_names (xs ++ ys)) (left m (inst_names x) (insts_names xs) a)
+    (names_join m xs ys (right m (inst_names x) (insts_names xs) a) b)
+
+each_below : (m : ℕ) (bs : List RBlock) → Below m (blocks_names bs) → All (BlockBelow m) bs
+each_below m [] all = All-nil (BlockBelow m)
+each_below m (b ∷ bs) all =
+    let behind = right m (insts_names b.insts.items) (exit_names b.exit ++ blocks_names bs) all in
+    All-cons (BlockBelow m) b bs
+    (record { insts = left m (insts_names b.insts.items) (exit_names b.exit ++ blocks_names bs) all; exit = left m (exit_names b.exit) (blocks_names bs) behind })
+    (each_below m bs (right m (exit_names b.exit) (blocks_names bs) behind))
+
+all_below : (m : ℕ) (bs : List RBlock) → All (BlockBelow m) bs → Below m (blocks_names bs)
+all_below m [] all = All-nil (λ x. x < m)
+all_below m (b ∷ bs) all =
+    let one = All-head (BlockBelow m) b bs all in
+    joins m (insts_names b.insts.items) (exit_names b.exit ++ blocks_names bs) one.insts
+    (joins m (exit_names b.exit) (blocks_names bs) one.exit (all_below m bs (All-tail (BlockBelow m) b bs all)))
+
+-- a register that is set to a constant is named
+each_inst : (m : ℕ) (is : List RInst) → Below m (insts_names is) → All (λ i. Below m (inst_names i)) is
+each_inst m [] all = All-nil (λ i. Below m (inst_names i))
+each_inst m (i ∷ is) all =
+    All-cons (λ i. Below m (inst_names i)) i is (left m (inst_names i) (insts_names is) all) (each_inst m is (right m (inst_names i) (insts_names is) all))
+
+constant_below : (m : ℕ) (i : RInst) → Below m (inst_names i) → HoldsOfConstant (λ x. x < m) i
+constant_below m (Const x w) all = All-head (λ x. x < m) x [] all
+constant_below m (Move x a) all = tt
+constant_below m (Bin op x a b) all = tt
+constant_below m (Load x g i) all = tt
+constant_below m (Store g i a) all = tt
+
+block_below : (m : ℕ) (before : List RBlock) (b c : RBlock) → All (BlockBelow m) before → BlockBelow m b → Copy before (code_of b) (code_of c)
+    → BlockBelow m c
+block_below m before b c all below (inl is) = record {
+  insts = subst (λ l. Below m (insts_names l)) (sym (ap (λ (k : Code). k.insts) is)) below.insts;
+  exit = subst (λ x. Below m (exit_names x)) (sym (ap (λ (k : Code). k.exit) is)) below.exit;
+}
+block_below m before b c all below (inr t) =
+    let tail = all_at (BlockBelow m) before t.number t.block all t.there in
+    let lt = constant_holds (λ x. x < m) (λ i. Below m (inst_names i)) (constant_below m) t.block.insts.items t.block.insts.items t.d
+    (each_inst m t.block.insts.items tail.insts) t.sets in
+    record {
+      insts = subst (λ l. Below m (insts_names l)) (sym (ap (λ (k : Code). k.insts) t.is))
+          (names_join m b.insts.items (Const t.d 0 ∷ t.block.insts.items) below.insts
+          (All-cons (λ x. x < m) t.d (insts_names t.block.insts.items) lt tail.insts));
+      exit = subst (λ x. Below m (exit_names x)) (sym (ap (λ (k : Code). k.exit) t.is)) tail.exit;
+    }
+
+blocks_below : (m : ℕ) (before bs cs : List RBlock) → All (BlockBelow m) before → All (BlockBelow m) bs → AreTailed before bs cs → All (BlockBelow m) cs
+blocks_below m before [] [] all rest t = All-nil (BlockBelow m)
+blocks_below m before [] (c ∷ cs) all rest t = absurd t
+blocks_below m before (b ∷ bs) [] all rest t = absurd t
+blocks_below m before (b ∷ bs) (c ∷ cs) all rest t =
+    let one = All-head (BlockBelow m) b bs rest in
+    let copy = subst (Copy before (code_of b)) (sym t.0) (copy_of_code before (code_of b)) in
+    All-cons (BlockBelow m) c cs (block_below m before b c all one copy)
+    (blocks_below m (before ++ b ∷ []) bs cs
+    (All-append (BlockBelow m) before (b ∷ []) all (All-cons (BlockBelow m) b [] one (All-nil (BlockBelow m)))) (All-tail (BlockBelow m) b bs rest) t.1)
+
+pub no_more_names : (f n : RFunc) → HasTails f n → how_many n ≤ how_many f
+no_more_names f n t =
+    let m = how_many f in
+    let few = bound_least f.parameters (blocks_names f.blocks.items) in
+    bound_most n.parameters m (blocks_names n.blocks.items) (subst (λ k. k ≤ m) (sym t.parameters) few)
+    (all_below m n.blocks.items (blocks_below m [] f.blocks.items n.blocks.items (All-nil (BlockBelow m))
+    (each_below m f.blocks.items (bound_names f.parameters (blocks_names f.blocks.items))) t.blocks))

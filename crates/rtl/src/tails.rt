@@ -1,0 +1,192 @@
+// Tail duplication: a block that goes to a short one ends with its code.
+
+ghost use Rattle.std.specs.Prelude.{◌≡◌, ◌≤◌, [], ◌∷◌, ◌++◌, length, IfOk};
+ghost use Rattle.rtl.specs.declared.tails.TheConstants.{TAIL_INSTS};
+ghost use Rattle.rtl.specs.declared.instruction.RInst.TheVariants.{Const};
+ghost use Rattle.rtl.specs.Meaning.{code_of};
+ghost use Rattle.rtl.specs.Names.{is_in, inst_reads, inst_writes};
+ghost use Rattle.rtl.specs.Tails.{writes_first, spare_constant, operations, weight, is_short, again, tailed, AreTailed, HasTails, HaveTails};
+
+use crate::block::{RBlock, RFunc};
+use crate::instruction::{RExit, RInst, Register};
+use std::alloc::{AllocError, Global};
+
+/// The most instructions of a block that is copied.
+pub const TAIL_INSTS: usize = 8;
+
+/// The most of them that aren't constants.
+pub const TAIL_OPERATIONS: usize = 4;
+
+// Whether an instruction reads a register.
+fn reads(inst: RInst, d: Register) -> bool
+    ensures { result ≡ is_in (inst_reads inst) d }
+{
+    match inst {
+        RInst::Const(_, _) => false,
+        RInst::Move(_, a) => d == a,
+        RInst::Bin(_, _, a, b) => d == a || d == b,
+        RInst::Load(_, _, i) => d == i,
+        RInst::Store(_, i, a) => d == i || d == a,
+    }
+}
+
+// Whether it writes it.
+fn writes(inst: RInst, d: Register) -> bool
+    ensures { result ≡ is_in (inst_writes inst) d }
+{
+    match inst {
+        RInst::Const(x, _) => d == x,
+        RInst::Move(x, _) => d == x,
+        RInst::Bin(_, x, _, _) => d == x,
+        RInst::Load(x, _, _) => d == x,
+        RInst::Store(_, _, _) => false,
+    }
+}
+
+// Whether instructions write a register before they read it.
+fn writes_first(insts: &[RInst], d: Register) -> bool
+    ensures { result ≡ writes_first insts.now d }
+{
+    for inst in insts {
+        if reads(*inst, d) {
+            return false;
+        }
+        if writes(*inst, d) {
+            return true;
+        }
+    }
+    false
+}
+
+// The first register that an instruction sets to a constant, and that all write before they read it.
+fn spare_constant(insts: &[RInst]) -> Option<Register>
+    ensures { result ≡ spare_constant insts.now }
+{
+    for inst in insts {
+        if let RInst::Const(d, _) = inst {
+            if writes_first(insts, *d) {
+                return Some(*d);
+            }
+        }
+    }
+    None
+}
+
+// 0 for a constant, 1 for any other instruction.
+fn weight(inst: RInst) -> usize
+    ensures { result ≡ weight inst }
+{
+    match inst {
+        RInst::Const(_, _) => 0,
+        _ => 1,
+    }
+}
+
+// How many instructions aren't constants.
+fn operations(insts: &[RInst]) -> usize
+    requires { length insts.now ≤ TAIL_INSTS }
+    ensures { result ≡ operations insts.now }
+{
+    let mut count = 0;
+    for inst in insts {
+        count += weight(*inst);
+    }
+    count
+}
+
+// Whether a block of these instructions is copied.
+fn is_short(insts: &[RInst]) -> bool
+    ensures { result ≡ is_short insts.now }
+{
+    if insts.len() > TAIL_INSTS {
+        return false;
+    }
+    operations(insts) <= TAIL_OPERATIONS
+}
+
+// The exit once more, but for a call.
+fn again(exit: &RExit) -> Option<RExit>
+    ensures { result ≡ again exit.now }
+{
+    match exit {
+        RExit::Goto(block) => Some(RExit::Goto(*block)),
+        RExit::Branch(test, then, other) => Some(RExit::Branch(*test, *then, *other)),
+        RExit::Call(_, _, _, _) => None,
+        RExit::Return(from) => Some(RExit::Return(*from)),
+        RExit::Out(from, next) => Some(RExit::Out(*from, *next)),
+    }
+}
+
+// Code with a copy of these instructions and this exit behind it, by way of a constant for a register.
+fn join(
+    mut insts: Vec<RInst>,
+    register: Register,
+    tail: &[RInst],
+    exit: RExit,
+) -> Result<RBlock, AllocError>
+    ensures { IfOk result (λ b. code_of b ≡ record { insts = insts.items ++ Const register 0 ∷ tail.now; exit = exit }) }
+{
+    insts.push(RInst::Const(register, 0))?;
+    insts.extend_from_slice(tail)?;
+    Ok(RBlock { insts, exit })
+}
+
+// A block with the code that it goes to, if that is one of these blocks and short.
+fn with_tail(block: RBlock, before: &[RBlock]) -> Result<RBlock, AllocError>
+    ensures { IfOk result (λ b. code_of b ≡ tailed before.now (code_of block)) }
+{
+    let RExit::Goto(number) = &block.exit else {
+        return Ok(block);
+    };
+    let Some(tail) = before.get(*number as usize) else {
+        return Ok(block);
+    };
+    if !is_short(tail.insts.as_slice()) {
+        return Ok(block);
+    }
+    let Some(register) = spare_constant(tail.insts.as_slice()) else {
+        return Ok(block);
+    };
+    let Some(exit) = again(&tail.exit) else {
+        return Ok(block);
+    };
+    join(block.insts, register, tail.insts.as_slice(), exit)
+}
+
+// Each block with its tail, from the last one on: those before it are as they were.
+fn with_tails(alloc: Global, mut blocks: Vec<RBlock>) -> Result<Vec<RBlock>, AllocError>
+    ensures { IfOk result (λ bs. AreTailed [] blocks.items bs.items) }
+{
+    let mut made = Vec::with_capacity(alloc, blocks.len())?;
+    while let Some(block) = blocks.pop() {
+        let next = with_tail(block, blocks.as_slice())?;
+        made.push(next)?;
+    }
+    made.reverse();
+    Ok(made)
+}
+
+// A function whose blocks have their tails.
+fn function_with_tails(alloc: Global, function: RFunc) -> Result<RFunc, AllocError>
+    ensures { IfOk result (λ f. HasTails function f) }
+{
+    let RFunc { parameters, blocks } = function;
+    let blocks = with_tails(alloc, blocks)?;
+    Ok(RFunc { parameters, blocks })
+}
+
+/// Functions whose blocks have their tails; an Err is refused memory.
+pub(crate) fn functions_with_tails(
+    alloc: Global,
+    mut functions: Vec<RFunc>,
+) -> Result<Vec<RFunc>, AllocError>
+    ensures { IfOk result (λ fs. HaveTails functions.items fs.items) }
+{
+    let mut made = Vec::with_capacity(alloc, functions.len())?;
+    while let Some(function) = functions.pop() {
+        let next = function_with_tails(alloc, function)?;
+        made.push(next)?;
+    }
+    made.reverse();
+    Ok(made)
+}
