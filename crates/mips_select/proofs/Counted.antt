@@ -21,8 +21,8 @@ use Rattle.mips_select.specs.Code.{asked_of, exit_code, own_block, head_code, af
 use Rattle.mips_select.specs.Data.{start_of}
 use Rattle.mips_select.specs.Emittable.{HasFewArguments}
 use Rattle.mips_select.specs.Heads.{head_at, heads_of, is_leaf, namings, unnamed, resumes, count, lead_in}
-use Rattle.mips_select.specs.Laws.{EachUnitIsCounted}
-use Rattle.mips_select.specs.Limits.{insts_in, most_blocks_for}
+use Rattle.mips_select.specs.Laws.{EachUnitIsCounted, EachUnitIsCountedByExits}
+use Rattle.mips_select.specs.Limits.{insts_in, exit_blocks, exits_blocks, most_blocks_for, most_by_exits_for}
 use Rattle.mips_select.specs.Whole.{behind, next_of, blocks_from, blocks_in, lead_blocks, place_in, function_blocks, function_size, functions_blocks, program_blocks, entry_of}
 use Rattle.mips_select.proofs.CodeSizes.{insts_few, prologue_most, prologue_few, exit_most, exit_few, behind_most, result_few}
 use Rattle.mips_select.proofs.FrameSizes.{placed_eight, are_alone}
@@ -63,7 +63,7 @@ both xs ys a b c d x y =
 
 module _ (globals : List RGlobal) (starts entry place : ℕ → ℕ) (leaf : Bool) (heads : ℕ → Head) (f : Frame) (n : ℕ)
     (eight : length f.saved.items ≤ 8) (four : n ≤ 4) (alone : leaf ≡ false → f.copies.items ≡ []) where
-  behind_few : (x : RExit) → Few (behind heads place f x) 1 (behind_most x)
+  behind_few : (x : RExit) → Few (behind heads place f x) (exit_blocks x - 1) (behind_most x)
   behind_few (Call g xs d next) = by (resumes d (heads next))
     where
       by : (b : Bool) → Few (if b then [] else after_block f d (place next) ∷ []) 1 2
@@ -86,16 +86,24 @@ module _ (globals : List RGlobal) (starts entry place : ℕ → ℕ) (leaf : Boo
       (exit_code leaf f facts last b.exit)) in
       omega (arith, exit, code, sum)
 
+  one_or_more : (x : RExit) → 1 ≤ exit_blocks x
+  one_or_more (Call g xs d next) = omega arith
+  one_or_more (Goto b) = omega arith
+  one_or_more (Branch c t e) = omega arith
+  one_or_more (Return o) = omega arith
+  one_or_more (Out x next) = omega arith
+
   -- a block, and what is behind it
   one_few : (k j : ℕ) (b : RBlock) (bs : List RBlock) (blocks words : ℕ) → HasFewArguments b.exit
       → Few (blocks_from globals starts entry place leaf heads f n (k + count heads b.exit) (suc j) bs) blocks words
-      → Few (blocks_from globals starts entry place leaf heads f n k j (b ∷ bs)) (2 + blocks)
+      → Few (blocks_from globals starts entry place leaf heads f n k j (b ∷ bs)) (exit_blocks b.exit + blocks)
       (length (head_code leaf f n (heads j)) + (exit_most leaf + 8 * length b.insts.items) + words)
   one_few k j b bs blocks words few rest =
       let own = own_few j (next_of heads place k b.exit) b few in
-      let more = both (behind heads place f b.exit) (blocks_from globals starts entry place leaf heads f n (k + count heads b.exit) (suc j) bs) 1
+      let more = both (behind heads place f b.exit) (blocks_from globals starts entry place leaf heads f n (k + count heads b.exit) (suc j) bs) (exit_blocks b.exit - 1)
       (behind_most b.exit) blocks words (behind_few b.exit) rest in
-      record { blocks_few = omega (arith, more.blocks_few); words_few = omega (arith, own, more.words_few) }
+      let some = one_or_more b.exit in
+      record { blocks_few = omega (arith, some, more.blocks_few); words_few = omega (arith, own, more.words_few) }
 
   -- what an exit has at most, and a prologue with it
   most : (leaf : Bool) → (exit_most leaf ≤ 12) × (prologue_most leaf + exit_most leaf ≤ 28)
@@ -105,13 +113,13 @@ module _ (globals : List RGlobal) (starts entry place : ℕ → ℕ) (leaf : Boo
   -- those behind the first begin with two instructions at most
   rest_few : ((j : ℕ) → length (head_code leaf f n (heads (suc j))) ≤ 2) → (k j : ℕ) (bs : List RBlock)
       → ((i : ℕ) (b : RBlock) → slice_get bs i ≡ Some b → HasFewArguments b.exit)
-      → Few (blocks_from globals starts entry place leaf heads f n k (suc j) bs) (2 * length bs) (14 * length bs + 8 * insts_in bs)
+      → Few (blocks_from globals starts entry place leaf heads f n k (suc j) bs) (exits_blocks bs) (14 * length bs + 8 * insts_in bs)
   rest_few small k j [] few = record { blocks_few = omega arith; words_few = omega arith }
   rest_few small k j (b ∷ bs) few =
       let head = small j in
       let exit = (most leaf).0 in
       let rest = rest_few small (k + count heads b.exit) (suc j) bs (λ i c e. few (suc i) c e) in
-      let all = one_few k (suc j) b bs (2 * length bs) (14 * length bs + 8 * insts_in bs) (few 0 b refl) rest in
+      let all = one_few k (suc j) b bs (exits_blocks bs) (14 * length bs + 8 * insts_in bs) (few 0 b refl) rest in
       record { blocks_few = omega (arith, all.blocks_few); words_few = omega (arith, head, exit, all.words_few) }
 
   -- the prologue is in a block of its own, or at the head of the first
@@ -143,7 +151,7 @@ later_head leaf f n l j = by (slice_get l (suc j))
 
 function_few : (globals : List RGlobal) (starts entry : ℕ → ℕ) (n k : ℕ) (bs : List RBlock) (f : Frame) → length f.saved.items ≤ 8 → n ≤ 4
     → (is_leaf bs ≡ false → f.copies.items ≡ []) → 0 < length bs → ((i : ℕ) (b : RBlock) → slice_get bs i ≡ Some b → HasFewArguments b.exit)
-    → Few (blocks_in globals starts entry n k bs f) (1 + 2 * length bs) (14 + 14 * length bs + 8 * insts_in bs)
+    → Few (blocks_in globals starts entry n k bs f) (1 + exits_blocks bs) (14 + 14 * length bs + 8 * insts_in bs)
 function_few globals starts entry n k [] f eight four alone some few = absurd (omega (arith, some))
 function_few globals starts entry n k (b ∷ bs) f eight four alone some few =
     let all = b ∷ bs in
@@ -156,7 +164,7 @@ function_few globals starts entry n k (b ∷ bs) f eight four alone some few =
     let fits = (most globals starts entry place leaf heads f n eight four alone leaf).1 in
     let rest = rest_few globals starts entry place leaf heads f n eight four alone (λ j. small j) (k + lead_in heads + count heads b.exit) 0 bs
     (λ i c e. few (suc i) c e) in
-    let first = one_few globals starts entry place leaf heads f n eight four alone (k + lead_in heads) 0 b bs (2 * length bs)
+    let first = one_few globals starts entry place leaf heads f n eight four alone (k + lead_in heads) 0 b bs (exits_blocks bs)
     (14 * length bs + 8 * insts_in bs) (few 0 b refl) rest in
     let m = length-append (lead_blocks leaf (heads 0) f n (place 0)) (blocks_from globals starts entry place leaf heads f n (k + lead_in heads) 0 all) in
     let w = words_append (lead_blocks leaf (heads 0) f n (place 0)) (blocks_from globals starts entry place leaf heads f n (k + lead_in heads) 0 all) in
@@ -173,7 +181,7 @@ record IsFew (func : RFunc) (f : Frame) : Type 0 where
 
 functions_few : (globals : List RGlobal) (starts entry : ℕ → ℕ) (k : ℕ) (funcs : List RFunc) (fs : List Frame)
     → ((i : ℕ) (func : RFunc) (f : Frame) → slice_get funcs i ≡ Some func → slice_get fs i ≡ Some f → IsFew func f)
-    → total 512 (functions_blocks globals starts entry k funcs fs) ≤ most_blocks_for funcs
+    → total 512 (functions_blocks globals starts entry k funcs fs) ≤ most_by_exits_for funcs
 functions_few globals starts entry k [] fs each = omega arith
 functions_few globals starts entry k (func ∷ funcs) [] each = omega arith
 functions_few globals starts entry k (func ∷ funcs) (f ∷ fs) each =
@@ -184,8 +192,8 @@ functions_few globals starts entry k (func ∷ funcs) (f ∷ fs) each =
     let sum = total_append (function_blocks globals starts entry k func f) (functions_blocks globals starts entry (k + function_size func) funcs fs) in
     omega (arith, one.blocks_few, one.words_few, cut, rest, sum)
 
-pub each_counted : EachUnitIsCounted
-each_counted h ok places =
+pub each_counted_by_exits : EachUnitIsCountedByExits
+each_counted_by_exits h ok places =
     let p = h.rtl.now in
     let starts = start_of p.globals in
     let entry = entry_of p.functions in
@@ -199,3 +207,25 @@ each_counted h ok places =
     }) in
     let long = length-split_from 512 (first_piece_of 512 (program_blocks h)) 0 (program_blocks h) in
     omega (arith, few, long)
+
+-- a block has two at most
+exits_few : (bs : List RBlock) → exits_blocks bs ≤ 2 * length bs
+exits_few [] = omega arith
+exits_few (b ∷ bs) = let rest = exits_few bs in let one = by b.exit in omega (arith, one, rest)
+  where
+    by : (x : RExit) → exit_blocks x ≤ 2
+    by (Call g xs d next) = omega arith
+    by (Goto b) = omega arith
+    by (Branch c t e) = omega arith
+    by (Return o) = omega arith
+    by (Out x next) = omega arith
+
+most_few : (funcs : List RFunc) → most_by_exits_for funcs ≤ most_blocks_for funcs
+most_few [] = omega arith
+most_few (func ∷ funcs) = let one = exits_few func.blocks.items in let rest = most_few funcs in omega (arith, one, rest)
+
+pub each_counted : EachUnitIsCounted
+each_counted h ok places =
+    let counted = each_counted_by_exits h ok places in
+    let few = most_few (h.rtl.now).functions in
+    omega (arith, counted, few)

@@ -9,7 +9,7 @@ use Rattle.rtl.specs.Programs.{Program, IsProgram}
 use Rattle.rtl.specs.Meaning.{rtl_run}
 use Rattle.mips_homes.specs.declared.homed.Homed.{Homed}
 use Rattle.mips_homes.specs.Places.{ArePlaced}
-use Rattle.mips_select.specs.Limits.{FramesFit, most_blocks_for}
+use Rattle.mips_select.specs.Limits.{FramesFit, most_blocks_for, most_by_exits_for}
 use Rattle.mips_select.specs.Whole.{unit_for, block_numbers}
 
 -- at every bound after which the program isn't wrong, the unit comes to the same end and output in as many items or more
@@ -45,3 +45,8 @@ pub record IsBeyond (p : Program) : Type 0 where
 abbrev pub EachUnitIsCounted : Type 0
 EachUnitIsCounted = (h : Homed) → IsProgram h.rtl.now → ArePlaced h
     → length (unit_for h).blocks ≤ 2 + most_blocks_for (h.rtl.now).functions
+
+-- and so it is by how blocks end
+abbrev pub EachUnitIsCountedByExits : Type 0
+EachUnitIsCountedByExits = (h : Homed) → IsProgram h.rtl.now → ArePlaced h
+    → length (unit_for h).blocks ≤ 2 + most_by_exits_for (h.rtl.now).functions

@@ -1,6 +1,8 @@
 -- The frames of functions and the limits of the stack, and at most how many blocks a unit has.
 use Rattle.std.specs.Prelude.{◌≡◌, ℕ, ◌+◌, ◌*◌, ◌/◌, ◌≤◌, ◌<◌, List, [], ◌∷◌, length, max, Option, None, Some}
 use Rattle.mblock.specs.declared.limits.TheConstants.{BLOCK_INSTS}
+use Rattle.rtl.specs.declared.instruction.RExit.{RExit}
+use Rattle.rtl.specs.declared.instruction.RExit.TheVariants.{Goto, Branch, Call, Return, Out}
 use Rattle.rtl.specs.declared.block.RBlock.{RBlock}
 use Rattle.rtl.specs.declared.block.RFunc.{RFunc}
 use Rattle.rtl.specs.Names.{how_many}
@@ -45,6 +47,18 @@ abbrev pub insts_in : List RBlock → ℕ
 insts_in [] = 0
 insts_in (b ∷ bs) = length b.insts.items + insts_in bs
 
+-- a block has one, and a second behind it only if it ends with a call
+abbrev pub exit_blocks : RExit → ℕ
+exit_blocks (Call g xs d next) = 2
+exit_blocks (Goto b) = 1
+exit_blocks (Branch c t e) = 1
+exit_blocks (Return o) = 1
+exit_blocks (Out x next) = 1
+
+abbrev pub exits_blocks : List RBlock → ℕ
+exits_blocks [] = 0
+exits_blocks (b ∷ bs) = exit_blocks b.exit + exits_blocks bs
+
 abbrev pub most_blocks_of : RFunc → ℕ
 most_blocks_of func = most_blocks (block_count func) (insts_in func.blocks.items)
 
@@ -52,3 +66,12 @@ most_blocks_of func = most_blocks (block_count func) (insts_in func.blocks.items
 abbrev pub most_blocks_for : List RFunc → ℕ
 most_blocks_for [] = 0
 most_blocks_for (func ∷ funcs) = most_blocks_of func + most_blocks_for funcs
+
+-- the same by how blocks end
+abbrev pub most_by_exits : RFunc → ℕ
+most_by_exits func =
+    1 + exits_blocks func.blocks.items + (14 + 14 * block_count func + 8 * insts_in func.blocks.items) / BLOCK_INSTS
+
+abbrev pub most_by_exits_for : List RFunc → ℕ
+most_by_exits_for [] = 0
+most_by_exits_for (func ∷ funcs) = most_by_exits func + most_by_exits_for funcs
