@@ -1,10 +1,11 @@
 -- Why nothing of a text is shown.
-use Rattle.std.specs.Prelude.{◌≡◌, ◌⊎◌, ℕ, List, codes}
-use Rattle.c_typed.specs.Trees.{TypedProgram}
+use Rattle.std.specs.Prelude.{◌≡◌, ◌≤◌, ◌⊎◌, ℕ, List, codes}
+use Rattle.c_typed.specs.Trees.{TypedFunction, TypedProgram}
 use Rattle.c_types.specs.Typed.{SpellsTyped}
 use Rattle.rtl.specs.Programs.{Program, IsProgram}
-use Rattle.rtl_lower.specs.Laws.{AreOfSizes}
-use Rattle.driver.specs.BuildFaults.{IsBuildFault}
+use Rattle.rtl_lower.specs.Laws.{KeepsRuns}
+use Rattle.mips_select.specs.Limits.{largest_frame, most_by_exits_for}
+use Rattle.driver.specs.BuildFaults.{largest_counted, functions_counted, IsBuildFault}
 use Rattle.driver.specs.SourceFaults.{IsFaultless}
 use Rattle.driver.specs.BuildTexts.{build_fault_text}
 use Rattle.driver.specs.declared.build_command.builds.BuildFault.TheVariants as builds
@@ -12,12 +13,22 @@ use Rattle.driver.specs.declared.build_command.builds.Limit.TheVariants as limit
 use Rattle.driver.specs.declared.show_commands.StagesFault.{StagesFault}
 use Rattle.driver.specs.declared.show_commands.StagesFault.TheVariants as faults
 
--- RTL of the program that the text spells, of the sizes that are counted on it
+-- RTL whose frames and blocks of machine code are no more than is counted on the typed functions
+pub record IsCounted (fs : List TypedFunction) (r : Program) : Type 0 where
+  pub frames : largest_frame r.functions ≤ largest_counted fs
+  pub blocks : most_by_exits_for r.functions ≤ functions_counted fs
+
+-- RTL of a typed program
+pub record IsLowered (p : TypedProgram) (r : Program) : Type 0 where
+  pub runs : KeepsRuns p r
+  pub counted : IsCounted p.functions r
+  pub fits : IsProgram r
+
+-- and of the program that the text spells
 pub record IsRtlOf (text : List ℕ) (r : Program) : Type 0 where
   pub program : TypedProgram
   pub spelled : SpellsTyped text program
-  pub sizes : AreOfSizes program.functions r.functions
-  pub fits : IsProgram r
+  pub lowered : IsLowered program r
 
 -- the fault of a build of the text, one of whose calls is active; a listing is too long, or the words ask for what isn't there, only
 -- where the text has none

@@ -11,6 +11,7 @@ mod texts;
 mod warnings;
 
 pub use build_commands::{build_file, print_built, tell_build};
+pub(crate) use builds::rtl_of_typed;
 pub use builds::{BuildFault, Built, Limit, build_plain, typed_of, unit_of};
 pub use laws::one_build;
 pub use places::source_place;

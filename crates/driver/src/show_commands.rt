@@ -9,7 +9,7 @@ ghost use Rattle.mips_select.specs.Limits.{FramesFit};
 ghost use Rattle.mips_select.specs.Laws.{IsBeyond};
 ghost use Rattle.driver.specs.Stages.{IsRtlOf, IsStagesFault, stages_fault_text};
 
-use crate::build_command::{BuildFault, Limit, tell_build, typed_of};
+use crate::build_command::{BuildFault, Limit, rtl_of_typed, tell_build, typed_of};
 use crate::pages::PageCommand;
 use crate::reasons::page;
 use crate::run_command::tell_page;
@@ -18,7 +18,6 @@ use c_tree::{Declaration, Program};
 use commands::{BadFile, Complaints, tell};
 use mips_select::{Numbered, SelectFault, select_numbered};
 use rtl::Rtl;
-use rtl_lower::{LowerFault, lower};
 use show::{Asked, ShowFault, Shown, show};
 use std::alloc::{AllocError, Global};
 use std::error::Error;
@@ -58,11 +57,7 @@ pub(crate) fn rtl_of(alloc: Global, text: &[u8]) -> Result<Rtl, BuildFault>
     ensures fault { IfErr result (IsBuildFault text.now 1) }
 {
     let typed = typed_of(alloc, text)?;
-    match lower(alloc, &typed) {
-        Ok(rtl) => Ok(rtl),
-        Err(LowerFault::Limit) => Err(BuildFault::Limit(Limit::Lowering)),
-        Err(LowerFault::NoMemory) => Err(BuildFault::NoMemory),
-    }
+    rtl_of_typed(alloc, &typed)
 }
 
 /// The numbered blocks of a program, of which one call is active at most: nothing is run.

@@ -6,6 +6,7 @@ ghost use Rattle.driver.specs.Builds.{IsPlain, IsScheduledBuild};
 ghost use Rattle.driver.specs.Follows.{FollowsText};
 ghost use Rattle.driver.specs.BuildFaults.{IsBuildFault};
 ghost use Rattle.driver.specs.SourceFaults.{IsSourceFault};
+ghost use Rattle.driver.specs.Stages.{IsLowered};
 ghost use Rattle.driver.specs.Halves.{IsUnitOf, IsUnwrittenOf, IsWrittenOf};
 
 use c_front::read;
@@ -16,6 +17,7 @@ use mblock::Unit;
 use messages::SourceFault;
 use mips_asm::{AsmFault, assemble};
 use mips_select::{SelectFault, select};
+use rtl::Rtl;
 use rtl_lower::{LowerFault, lower};
 use sched_phase::{Scheduled, schedule_plain};
 use std::alloc::{AllocError, Global};
@@ -85,16 +87,31 @@ pub fn typed_of(alloc: Global, text: &[u8]) -> Result<Typed, SourceFault>
     Ok(typed)
 }
 
+/// RTL of a program, whatever text spells it: that of its lowering, with a copy of each short block that a block goes to.
+pub(crate) fn rtl_of_typed(alloc: Global, typed: &Typed) -> Result<Rtl, BuildFault>
+    ensures rtl { IfOk result (IsLowered (program_of typed.now)) }
+    ensures fault { IfErr result (λ f. (text : List ℕ) (depth : ℕ) → SpellsTyped text (program_of typed.now) → IsBuildFault text depth f) }
+{
+    let lowered = match lower(alloc, typed) {
+        Ok(rtl) => rtl,
+        Err(LowerFault::Limit) => return Err(BuildFault::Limit(Limit::Lowering)),
+        Err(LowerFault::NoMemory) => return Err(BuildFault::NoMemory),
+    };
+    let Ok(rtl) = lowered.with_tails(alloc) else {
+        return Err(BuildFault::NoMemory);
+    };
+    Ok(rtl)
+}
+
 /// The unit of a program, whatever text spells it.
 pub(crate) fn unit_of_typed(alloc: Global, typed: &Typed, depth: u32) -> Result<Unit, BuildFault>
     requires { 1 ≤ depth }
     ensures unit { IfOk result (λ u. (text : List ℕ) → SpellsTyped text (program_of typed.now) → IsUnitOf text depth u) }
     ensures fault { IfErr result (λ f. (text : List ℕ) → SpellsTyped text (program_of typed.now) → IsBuildFault text depth f) }
 {
-    let rtl = match lower(alloc, typed) {
+    let rtl = match rtl_of_typed(alloc, typed) {
         Ok(rtl) => rtl,
-        Err(LowerFault::Limit) => return Err(BuildFault::Limit(Limit::Lowering)),
-        Err(LowerFault::NoMemory) => return Err(BuildFault::NoMemory),
+        Err(fault) => return Err(fault),
     };
     match select(alloc, &rtl, depth) {
         Ok(unit) => Ok(unit),

@@ -1,10 +1,7 @@
 use Rattle.c_types.specs.Shape.{program_of}
+use Rattle.driver.proofs.Staged.{spelled_rtl}
 use Rattle.driver.proofs.show_commands.rtl_of.Goals as goal
 
-pub returns-in-Ok-clause-spelled : goal.returns-in-Ok-clause-spelled
-returns-in-Ok-clause-spelled c = record {
-  program = program_of c.in_ok-typed.typed;
-  spelled = c.in_ok-typed.ensures.typed;
-  sizes = c.in-Ok.ensures.sizes;
-  fits = c.in-Ok.ensures.program;
-}
+pub returns-clause-spelled : goal.returns-clause-spelled
+returns-clause-spelled c =
+    spelled_rtl c.args.text.now (program_of c.in_ok-typed.typed) c.in_ok-typed.ensures.typed c.rtl_of_typed.result c.rtl_of_typed.ensures.rtl
