@@ -92,7 +92,7 @@ fn missing_of_expression(
             Some(_) => None,
             None => Some(Reason::Unset),
         },
-        TypedExpression::Element(array, _, index) => match value(index, locals, globals) {
+        TypedExpression::Element(_, array, index) => match value(index, locals, globals) {
             Some(at) => missing_of_element(globals, *array, at, index.integer_type()),
             None => missing_of_expression(index, locals, globals),
         },

@@ -102,7 +102,7 @@ pub(crate) fn value(
         TypedExpression::Constant(literal) => Some(constant(literal.value)),
         TypedExpression::Local(number, _) => word_at(locals, *number),
         TypedExpression::Global(number, _) => element(globals, *number, 0),
-        TypedExpression::Element(number, _, index) => {
+        TypedExpression::Element(_, number, index) => {
             let index = operand(index, locals, globals)?;
             element(globals, *number, index as usize)
         }

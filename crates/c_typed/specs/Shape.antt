@@ -14,7 +14,7 @@ abbrev pub typed_expression_of : TypedExpression → Trees.TypedExpression
 typed_expression_of (Constant c) = constant c
 typed_expression_of (Local n k) = local n k
 typed_expression_of (Global n k) = global n k
-typed_expression_of (Element' n k p e) = element n k (typed_expression_of e)
+typed_expression_of (Element' k n p e) = element n k (typed_expression_of e)
 typed_expression_of (Unary' o k p e) = unary o k (typed_expression_of e)
 typed_expression_of (Binary' o k p l r) = binary o k (typed_expression_of l) (typed_expression_of r)
 typed_expression_of (Conditional' k p c a b) = conditional k (typed_expression_of c) (typed_expression_of a) (typed_expression_of b)

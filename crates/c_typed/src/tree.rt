@@ -8,13 +8,14 @@ use c_tree::{BinaryOp, UnaryOp};
 use words::Width;
 
 /// A typed expression. A local, a global variable and an array stand as their numbers. An operator keeps the type that
-/// it computes in: for a comparison that is the operands' common type.
+/// it computes in: for a comparison that is the operands' common type. (rattle 13f keeps fields in their order: a type stands before a
+/// number, and a node has 24 bytes.)
 #[derive(Drop, PartialEq)]
 pub enum TypedExpression {
     Constant(Literal),
     Local(usize, IntegerType),
     Global(usize, IntegerType),
-    Element(usize, IntegerType, Box<TypedExpression>),
+    Element(IntegerType, usize, Box<TypedExpression>),
     Unary(UnaryOp, IntegerType, Box<TypedExpression>),
     Binary(BinaryOp, IntegerType, Box<(TypedExpression, TypedExpression)>),
     Conditional(IntegerType, Box<(TypedExpression, TypedExpression, TypedExpression)>),
@@ -75,7 +76,7 @@ impl TypedExpression {
             TypedExpression::Constant(literal) => literal.integer_type,
             TypedExpression::Local(_, integer_type) => *integer_type,
             TypedExpression::Global(_, integer_type) => *integer_type,
-            TypedExpression::Element(_, integer_type, _) => *integer_type,
+            TypedExpression::Element(integer_type, _, _) => *integer_type,
             TypedExpression::Unary(_, integer_type, _) => *integer_type,
             TypedExpression::Binary(operator, integer_type, _) => match operator {
                 BinaryOp::Less

@@ -331,7 +331,7 @@ impl<'a, 't> Walk<'a, 't> {
                 }
                 Ok(None)
             }
-            (Expression::Index(name, index), TypedExpression::Element(k, _, part)) => {
+            (Expression::Index(name, index), TypedExpression::Element(_, k, part)) => {
                 self.element(*name, *k, index, part, is_live)?;
                 Ok(None)
             }

@@ -73,7 +73,7 @@ pub fn value_into(
         TypedExpression::Constant(literal) => number_into(aim, *literal),
         TypedExpression::Local(number, _) => local_into(aim, *number),
         TypedExpression::Global(number, _) => global_into(aim, *number),
-        TypedExpression::Element(number, _, index) => element_into(aim, blocks, *number, index),
+        TypedExpression::Element(_, number, index) => element_into(aim, blocks, *number, index),
         TypedExpression::Unary(operator, _, part) => unary_into(aim, blocks, *operator, part),
         TypedExpression::Binary(operator, integer_type, operands) => {
             let (left, right) = &**operands;
