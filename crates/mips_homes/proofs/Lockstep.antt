@@ -12,6 +12,7 @@ use Rattle.rtl.specs.Operators.{op_result}
 use Rattle.rtl.specs.Names.{inst_names, optional, exit_names, insts_names, blocks_names}
 use Rattle.rtl.specs.Meaning as Meaning
 use Rattle.rtl.specs.Meaning.{Code, code_of, words_in, argument_registers, kept_in, first_values, rtl_step, rtl_steps, rtl_start}
+use Rattle.rtl.proofs.Copies.{goes_block}
 use Rattle.mips_homes.specs.Locals.{inst_reads, inst_writes, exit_reads, reads_first, block_reads_first, goes_to, some_go_to}
 use Rattle.mips_homes.specs.HomedRun.{is_callee_saved, callee_saved, Activation, Run, Running, Ended, Failed, with_value, in_home, read_home, read_homes, write_at}
 use Rattle.mips_homes.specs.HomedRun.{write_home, write_homes, is_in, registers_at_entry, registers_at_return, with_inst, at_code}
@@ -66,17 +67,6 @@ named_homes hs (k ∷ bs) zero block n e =
 named_homes hs (k ∷ bs) (suc b) block n e =
     named_homes hs bs b block
     (named_back hs (exit_names k.exit) (blocks_names bs) (named_back hs (insts_names k.insts.items) (exit_names k.exit ++ blocks_names bs) n)) e
-
-goes_block : (bs : List RBlock) (b : ℕ) (block : RBlock) → slice_get bs b ≡ Some block → (t : ℕ) → is_in (goes_to block.exit) t ≡ true
-    → some_go_to bs t ≡ true
-goes_block [] b block e t go = absurd cc
-goes_block (k ∷ bs) zero block e t go =
-    ap (λ c. if c then true else some_go_to bs t) (ap (λ (x : RBlock). is_in (goes_to x.exit) t) (same_Some k block e) ∙ go)
-goes_block (k ∷ bs) (suc b) block e t go = either (is_in (goes_to k.exit) t) (goes_block bs b block e t go)
-  where
-    either : (c : Bool) → some_go_to bs t ≡ true → (if c then true else some_go_to bs t) ≡ true
-    either true h = refl
-    either false h = h
 
 named_block : (hs : List Home) (bs : List RBlock) (b : ℕ) (block : RBlock) → HaveHomes hs (blocks_names bs) → slice_get bs b ≡ Some block
     → CodeHasHomes hs bs (code_of block)

@@ -1,6 +1,6 @@
 -- Pseudo-registers that are local to blocks.
 use Rattle.std.specs.Prelude.{ℕ, Bool, true, false, ◌&&◌, List, [], ◌∷◌, if◌then◌else◌}
-pub use Rattle.rtl.specs.Names.{inst_reads, inst_writes}
+pub use Rattle.rtl.specs.Names.{inst_reads, inst_writes, goes_to, some_go_to}
 use Rattle.rtl.specs.Names.{optional, is_in}
 use Rattle.rtl.specs.declared.instruction.RInst.{RInst}
 use Rattle.rtl.specs.declared.instruction.RInst.TheVariants.{Const, Move, Bin, Load, Store}
@@ -23,18 +23,6 @@ reads_first (i ∷ is) e x = if is_in (inst_reads i) x then true else if is_in (
 
 abbrev pub block_reads_first : RBlock → ℕ → Bool
 block_reads_first b x = reads_first b.insts.items b.exit x
-
--- where an exit goes
-abbrev pub goes_to : RExit → List ℕ
-goes_to (Goto b) = b ∷ []
-goes_to (Branch c t e) = t ∷ e ∷ []
-goes_to (Call g xs d next) = next ∷ []
-goes_to (Return o) = []
-goes_to (Out x next) = next ∷ []
-
-abbrev pub some_go_to : List RBlock → ℕ → Bool
-some_go_to [] b = false
-some_go_to (k ∷ ks) b = if is_in (goes_to k.exit) b then true else some_go_to ks b
 
 -- whether each block of these, the first of which counts only then, writes a pseudo-register before it reads it
 abbrev pub none_reads_first : (first : Bool) → List RBlock → ℕ → Bool

@@ -1,7 +1,7 @@
 -- A block is as it was, or ends with a copy of another; and what is named is there.
 use Rattle.std.proofs.Common.{◌≡◌, ℕ, zero, suc, ◌+◌, ◌<◌, ◌≤◌, ◌⊎◌, inl, inr, Bool, true, false, List, [], ◌∷◌, ◌++◌, Option, Some, None}
-use Rattle.std.proofs.Common.{length, refl, ap, subst, sym, ◌∙◌, arith}
-use Rattle.std.specs.Prelude.{All, slice_get, sum_by, if◌then◌else◌}
+use Rattle.std.proofs.Common.{length, nat_eq, refl, ap, subst, sym, ◌∙◌, arith}
+use Rattle.std.specs.Prelude.{All, ◌||◌, slice_get, sum_by, if◌then◌else◌}
 use Rattle.std.proofs.lemmas.Option.{same_Some, none-some}
 use Rattle.std.proofs.lemmas.List.Elements.{All-nil, All-cons, All-head, All-tail, All-append}
 use Rattle.std.proofs.lemmas.List.Sums.{sum_by-cons}
@@ -14,8 +14,9 @@ use Rattle.rtl.specs.declared.block.RBlock.{RBlock}
 use Rattle.rtl.specs.declared.block.RFunc.{RFunc}
 use Rattle.rtl.specs.declared.block.RGlobal.{RGlobal}
 use Rattle.rtl.specs.Meaning.{Code, code_of}
+use Rattle.rtl.specs.Names.{is_in, goes_to, some_go_to}
 use Rattle.rtl.specs.Programs.{Program, IsInst, IsCallee, IsExit, IsBlock, IsFunction, IsRegister, IsProgram, program_of, block_count}
-use Rattle.rtl.specs.Tails.{writes_first, constant_of, spare_constant, is_short, again, joined, joined_if, with_tail, tailed_by, tailed, AreTailed, HasTails, HaveTails, IsTailed}
+use Rattle.rtl.specs.Tails.{writes_first, constant_of, spare_constant, is_short, again, joined, joined_if, with_tail, tailed_by, tailed, AreTailed, is_reached, shortest, empty_code, AreKept, AreMade, HasTails, HaveTails, IsTailed}
 
 -- the code of a block that goes to another of some blocks, with a copy of that one
 pub record Tail (bs : List RBlock) (c c' : Code) : Type 0 where
@@ -136,9 +137,6 @@ stands_from before (a ∷ bs) (c ∷ cs) h (suc i) b is =
     let s = stands_from (before ++ a ∷ []) bs cs h.1 i b is in
     record { block = s.block; there = s.there; copy = subst (λ all. Copy all (code_of b) (code_of s.block)) (append_one before a bs) s.copy }
 
-pub stands : (bs new : List RBlock) → AreTailed [] bs new → (i : ℕ) (b : RBlock) → slice_get bs i ≡ Some b → Stands bs new i b
-stands bs new h i b is = stands_from [] bs new h i b is
-
 none_from : (before bs new : List RBlock) → AreTailed before bs new → (i : ℕ) → slice_get bs i ≡ None → slice_get new i ≡ None
 none_from before [] [] h i is = is
 none_from before [] (c ∷ cs) h i is = absurd h
@@ -146,17 +144,101 @@ none_from before (a ∷ bs) [] h i is = absurd h
 none_from before (a ∷ bs) (c ∷ cs) h zero is = absurd (none-some a (sym is))
 none_from before (a ∷ bs) (c ∷ cs) h (suc i) is = none_from (before ++ a ∷ []) bs cs h.1 i is
 
-pub none_stands : (bs new : List RBlock) → AreTailed [] bs new → (i : ℕ) → slice_get bs i ≡ None → slice_get new i ≡ None
-none_stands bs new h i is = none_from [] bs new h i is
-
 same_length : (before bs new : List RBlock) → AreTailed before bs new → length new ≡ length bs
 same_length before [] [] h = refl
 same_length before [] (c ∷ cs) h = absurd h
 same_length before (a ∷ bs) [] h = absurd h
 same_length before (a ∷ bs) (c ∷ cs) h = ap suc (same_length (before ++ a ∷ []) bs cs h.1)
 
-pub as_many : (bs new : List RBlock) → AreTailed [] bs new → length new ≡ length bs
-as_many bs new h = same_length [] bs new h
+-- ---- those that nothing goes to are empty
+
+kept_at : (keeps : ℕ → Bool) (n : ℕ) (cs ds : List RBlock) → AreKept keeps n cs ds → (i : ℕ) (c : RBlock) → slice_get cs i ≡ Some c → keeps (n + i) ≡ true
+    → (d : RBlock) × (slice_get ds i ≡ Some d) × (code_of d ≡ code_of c)
+kept_at keeps n [] ds h i c is keep = absurd (none-some c is)
+kept_at keeps n (a ∷ cs) [] h i c is keep = absurd h
+kept_at keeps n (a ∷ cs) (d ∷ ds) h zero c is keep =
+    let first : keeps n ≡ true = subst (λ k. keeps k ≡ true) (let z : n + 0 ≡ n = omega arith in z) keep in (
+      d,
+      refl,
+      h.0 ∙ ap (λ (b : Bool). if b then code_of a else empty_code a) first ∙ ap code_of (same_Some a c is),
+    )
+kept_at keeps n (a ∷ cs) (d ∷ ds) h (suc i) c is keep =
+    kept_at keeps (suc n) cs ds h.1 i c is (subst (λ k. keeps k ≡ true) (let s : n + suc i ≡ suc n + i = omega arith in s) keep)
+
+none_kept : (keeps : ℕ → Bool) (n : ℕ) (cs ds : List RBlock) → AreKept keeps n cs ds → (i : ℕ) → slice_get cs i ≡ None → slice_get ds i ≡ None
+none_kept keeps n [] [] h i is = is
+none_kept keeps n [] (d ∷ ds) h i is = absurd h
+none_kept keeps n (a ∷ cs) [] h i is = absurd h
+none_kept keeps n (a ∷ cs) (d ∷ ds) h zero is = absurd (none-some a (sym is))
+none_kept keeps n (a ∷ cs) (d ∷ ds) h (suc i) is = none_kept keeps (suc n) cs ds h.1 i is
+
+kept_length : (keeps : ℕ → Bool) (n : ℕ) (cs ds : List RBlock) → AreKept keeps n cs ds → length ds ≡ length cs
+kept_length keeps n [] [] h = refl
+kept_length keeps n [] (d ∷ ds) h = absurd h
+kept_length keeps n (c ∷ cs) [] h = absurd h
+kept_length keeps n (c ∷ cs) (d ∷ ds) h = ap suc (kept_length keeps (suc n) cs ds h.1)
+
+-- an exit of one of these blocks leads to what is reached
+pub goes_block : (bs : List RBlock) (b : ℕ) (block : RBlock) → slice_get bs b ≡ Some block → (t : ℕ) → is_in (goes_to block.exit) t ≡ true
+    → some_go_to bs t ≡ true
+goes_block [] b block e t go = absurd (none-some block e)
+goes_block (k ∷ bs) zero block e t go =
+    ap (λ c. if c then true else some_go_to bs t) (ap (λ (x : RBlock). is_in (goes_to x.exit) t) (same_Some k block e) ∙ go)
+goes_block (k ∷ bs) (suc b) block e t go = either (is_in (goes_to k.exit) t) (goes_block bs b block e t go)
+  where
+    either : (c : Bool) → some_go_to bs t ≡ true → (if c then true else some_go_to bs t) ≡ true
+    either true rest = refl
+    either false rest = rest
+
+reaches : (bs : List RBlock) (t : ℕ) → some_go_to bs t ≡ true → is_reached bs t ≡ true
+reaches bs t go = by (nat_eq t 0)
+  where
+    by : (b : Bool) → (b || some_go_to bs t) ≡ true
+    by true = refl
+    by false = go
+
+-- all blocks that an exit goes to are reached
+abbrev pub Leads : List RBlock → RExit → Type 0
+Leads bs x = (t : ℕ) → is_in (goes_to x) t ≡ true → is_reached bs t ≡ true
+
+pub record Found (bs new with_tails : List RBlock) (i : ℕ) (b : RBlock) : Type 0 where
+  pub block : RBlock
+  pub there : slice_get new i ≡ Some block
+  pub copy : Copy bs (code_of b) (code_of block)
+  pub leads : Leads with_tails block.exit
+
+pub found : (bs new : List RBlock) (m : AreMade bs new) (i : ℕ) (b : RBlock) → slice_get bs i ≡ Some b → is_reached m.with_tails i ≡ true
+    → Found bs new m.with_tails i b
+found bs new m i b is keep =
+    let s = stands_from [] bs m.with_tails m.tailed i b is in
+    let sum : i ≡ 0 + i = omega arith in
+    let k = kept_at (is_reached m.with_tails) 0 m.with_tails new m.kept i s.block s.there (subst (λ n. is_reached m.with_tails n ≡ true) sum keep) in
+    record {
+      block = k.0;
+      there = k.1;
+      copy = subst (Copy bs (code_of b)) (sym k.2) s.copy;
+      leads = λ t go. reaches m.with_tails t (goes_block m.with_tails i s.block s.there t
+          (sym (ap (λ (c : Code). is_in (goes_to c.exit) t) k.2) ∙ go));
+    }
+
+pub not_found : (bs new : List RBlock) → AreMade bs new → (i : ℕ) → slice_get bs i ≡ None → slice_get new i ≡ None
+not_found bs new m i is = none_kept (is_reached m.with_tails) 0 m.with_tails new m.kept i (none_from [] bs m.with_tails m.tailed i is)
+
+pub as_many : (bs new : List RBlock) → AreMade bs new → length new ≡ length bs
+as_many bs new m = kept_length (is_reached m.with_tails) 0 m.with_tails new m.kept ∙ same_length [] bs m.with_tails m.tailed
+
+-- what holds of blocks with their tails and of an empty one
+pub all_kept : (P : RBlock → Type 0) (keeps : ℕ → Bool) (n : ℕ) (cs ds : List RBlock)
+    → ((c d : RBlock) → P c → (code_of d ≡ code_of c) ⊎ (code_of d ≡ empty_code c) → P d) → AreKept keeps n cs ds → All P cs → All P ds
+all_kept P keeps n [] [] of h all = All-nil P
+all_kept P keeps n [] (d ∷ ds) of h all = absurd h
+all_kept P keeps n (c ∷ cs) [] of h all = absurd h
+all_kept P keeps n (c ∷ cs) (d ∷ ds) of h all =
+    All-cons P d ds (of c d (All-head P c cs all) (by (keeps n) h.0)) (all_kept P keeps (suc n) cs ds of h.1 (All-tail P c cs all))
+  where
+    by : (b : Bool) → code_of d ≡ (if b then code_of c else empty_code c) → (code_of d ≡ code_of c) ⊎ (code_of d ≡ empty_code c)
+    by true is = inl is
+    by false is = inr is
 
 -- ---- what is named is there
 
@@ -247,6 +329,24 @@ module _ (fs new : List RFunc) (h : HaveTails fs new) (g count : ℕ) where
       (All-append (IsBlock fs g count) before (b ∷ []) all (All-cons (IsBlock fs g count) b [] one (All-nil (IsBlock fs g count))))
       (All-tail (IsBlock fs g count) b bs rest) t.1)
 
+  shortest_fits : (x : RExit) → IsExit new count x → IsExit new count (shortest x)
+  shortest_fits (Goto b) fits = fits
+  shortest_fits (Branch c t e) fits = fits.1.0
+  shortest_fits (Call f xs d next) fits = fits.1.1.1
+  shortest_fits (Return o) fits = tt
+  shortest_fits (Out x next) fits = fits.1
+
+  -- as it was, or empty
+  kept_fits : (c d : RBlock) → IsBlock new g count c → (code_of d ≡ code_of c) ⊎ (code_of d ≡ empty_code c) → IsBlock new g count d
+  kept_fits c d fits (inl is) = record {
+    insts = subst (All (IsInst g)) (sym (ap (λ (k : Code). k.insts) is)) fits.insts;
+    exit = subst (IsExit new count) (sym (ap (λ (k : Code). k.exit) is)) fits.exit;
+  }
+  kept_fits c d fits (inr is) = record {
+    insts = subst (All (IsInst g)) (sym (ap (λ (k : Code). k.insts) is)) (All-nil (IsInst g));
+    exit = subst (IsExit new count) (sym (ap (λ (k : Code). k.exit) is)) (shortest_fits c.exit fits.exit);
+  }
+
 module _ (fs new : List RFunc) (h : HaveTails fs new) (g : ℕ) where
   function_fits : (f n : RFunc) → HasTails f n → IsFunction fs g f → IsFunction new g n
   function_fits f n t fits =
@@ -255,8 +355,10 @@ module _ (fs new : List RFunc) (h : HaveTails fs new) (g : ℕ) where
         parameters = subst (λ k. k ≤ MAX_PARAMETERS) (sym t.parameters) fits.parameters;
         entry = subst (λ k. 0 < k) (sym many) fits.entry;
         blocks = subst (λ k. All (IsBlock new g k) n.blocks.items) (sym many)
-            (blocks_fit_from fs new h g (length f.blocks.items) [] f.blocks.items n.blocks.items (All-nil (IsBlock fs g (length f.blocks.items)))
-            fits.blocks t.blocks);
+            (all_kept (IsBlock new g (length f.blocks.items)) (is_reached t.blocks.with_tails) 0 t.blocks.with_tails n.blocks.items
+            (λ c d fits same. kept_fits fs new h g (length f.blocks.items) c d fits same) t.blocks.kept
+            (blocks_fit_from fs new h g (length f.blocks.items) [] f.blocks.items t.blocks.with_tails
+            (All-nil (IsBlock fs g (length f.blocks.items))) fits.blocks t.blocks.tailed));
       }
 
   functions_fit : (xs ys : List RFunc) → HaveTails xs ys → All (IsFunction fs g) xs → All (IsFunction new g) ys

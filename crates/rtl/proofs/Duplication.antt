@@ -1,10 +1,12 @@
 -- What comes of programs whose blocks have their tails.
 use Rattle.std.proofs.Common.{◌≡◌, ℕ, zero, suc, ◌+◌, ◌<◌, ◌≤◌, List, [], ◌∷◌, ◌++◌, length, take, get_or, refl, ap, subst, sym, ◌∙◌, arith}
-use Rattle.std.specs.Prelude.{reverse}
+use Rattle.std.specs.Prelude.{Bool, true, false, ◌||◌, if◌then◌else◌}
 use Rattle.std.proofs.Math.Seq.{take-suc}
 use Rattle.rtl.specs.declared.instruction.RInst.{RInst}
 use Rattle.rtl.specs.declared.instruction.RInst.TheVariants.{Const, Move, Bin, Load, Store}
-use Rattle.rtl.specs.Tails.{weight, operations}
+use Rattle.rtl.specs.declared.block.RBlock.{RBlock}
+use Rattle.rtl.specs.Names.{is_in, goes_to, some_go_to}
+use Rattle.rtl.specs.Tails.{weight, operations, Marks}
 
 operations_push : (xs : List RInst) (x : RInst) → operations (xs ++ x ∷ []) ≡ operations xs + weight x
 operations_push [] x = omega arith
@@ -42,3 +44,34 @@ length_take (x ∷ xs) (suc i) = let rest = length_take xs i in omega (arith, re
 -- no more than have been seen
 pub operations_so_far : (xs : List RInst) (i : ℕ) → operations (take i xs) ≤ i
 operations_so_far xs i = let few = operations_few (take i xs) in let long = length_take xs i in omega (arith, few, long)
+
+-- ---- blocks that some exit goes to
+
+go_to_push : (bs : List RBlock) (b : RBlock) (x : ℕ) → some_go_to (bs ++ b ∷ []) x ≡ (some_go_to bs x || is_in (goes_to b.exit) x)
+go_to_push [] b x = by (is_in (goes_to b.exit) x)
+  where
+    by : (c : Bool) → (if c then true else false) ≡ c
+    by true = refl
+    by false = refl
+go_to_push (a ∷ bs) b x = by (is_in (goes_to a.exit) x) (go_to_push bs b x)
+  where
+    by : (c : Bool) → some_go_to (bs ++ b ∷ []) x ≡ (some_go_to bs x || is_in (goes_to b.exit) x)
+        → (if c then true else some_go_to (bs ++ b ∷ []) x) ≡ ((if c then true else some_go_to bs x) || is_in (goes_to b.exit) x)
+    by true rest = refl
+    by false rest = rest
+
+-- one block more
+pub marked_next : (bs : List RBlock) (old new : List Bool) (i : ℕ) (b d : RBlock) → i < length bs → b ≡ get_or bs i d
+    → ((length old ≡ length bs) × ((x : ℕ) → x < length bs → get_or old x false ≡ some_go_to (take i bs) x))
+    → Marks (goes_to b.exit) old new
+    → (length new ≡ length bs) × ((x : ℕ) → x < length bs → get_or new x false ≡ some_go_to (take (i + 1) bs) x)
+marked_next bs old new i b d lt is was marks =
+    let next : i + 1 ≡ suc i = omega arith in
+    let cut : take (i + 1) bs ≡ take i bs ++ b ∷ [] =
+    ap (λ n. take n bs) next ∙ take-suc bs i d lt ∙ ap (λ b. take i bs ++ b ∷ []) (sym is) in (
+      marks.same_length ∙ was.0,
+      λ x inside. (
+          let same = was.0 in
+          marks.each x (omega (arith, inside, same)) ∙ ap (λ c. c || is_in (goes_to b.exit) x) (was.1 x inside)
+          ∙ sym (go_to_push (take i bs) b x) ∙ ap (λ l. some_go_to l x) (sym cut)),
+    )

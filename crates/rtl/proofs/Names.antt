@@ -1,17 +1,18 @@
 -- The greatest register that is named, and that a program with tails names no greater one.
-use Rattle.std.proofs.Common.{◌≡◌, ℕ, suc, ◌<◌, ◌≤◌, inl, inr, Bool, true, false, List, [], ◌∷◌, ◌++◌, Option, Some, None, refl, ap, subst, sym, arith, nat_lt, ltb-true}
+use Rattle.std.proofs.Common.{◌≡◌, ℕ, suc, ◌<◌, ◌≤◌, ◌⊎◌, inl, inr, Bool, true, false, List, [], ◌∷◌, ◌++◌, Option, Some, None, refl, ap, subst, sym, arith, nat_lt, ltb-true}
 use Rattle.std.specs.Prelude.{All, if◌then◌else◌}
 use Rattle.std.proofs.lemmas.Bool.{ltb-false}
 use Rattle.std.proofs.lemmas.List.Elements.{All-nil, All-cons, All-head, All-tail, All-append}
 use Rattle.rtl.specs.declared.instruction.RInst.{RInst}
 use Rattle.rtl.specs.declared.instruction.RInst.TheVariants.{Const, Move, Bin, Load, Store}
 use Rattle.rtl.specs.declared.instruction.RExit.{RExit}
+use Rattle.rtl.specs.declared.instruction.RExit.TheVariants.{Goto, Branch, Call, Return, Out}
 use Rattle.rtl.specs.declared.block.RBlock.{RBlock}
 use Rattle.rtl.specs.declared.block.RFunc.{RFunc}
 use Rattle.rtl.specs.Meaning.{Code, code_of}
 use Rattle.rtl.specs.Names.{inst_names, exit_names, insts_names, blocks_names, bound, how_many}
-use Rattle.rtl.specs.Tails.{AreTailed, HasTails}
-use Rattle.rtl.proofs.Copies.{Copy, copy_of_code, all_at, HoldsOfConstant, constant_holds}
+use Rattle.rtl.specs.Tails.{AreTailed, is_reached, shortest, empty_code, HasTails}
+use Rattle.rtl.proofs.Copies.{Copy, copy_of_code, all_at, all_kept, HoldsOfConstant, constant_holds}
 
 pub bound_one : (n x : ℕ) → (n ≤ (if nat_lt x n then n else suc x)) × (x < (if nat_lt x n then n else suc x))
 bound_one n x = by (nat_lt x n) refl
@@ -124,10 +125,31 @@ blocks_below m before (b ∷ bs) (c ∷ cs) all rest t =
     (blocks_below m (before ++ b ∷ []) bs cs
     (All-append (BlockBelow m) before (b ∷ []) all (All-cons (BlockBelow m) b [] one (All-nil (BlockBelow m)))) (All-tail (BlockBelow m) b bs rest) t.1)
 
+-- as it was, or empty
+nothing_below : {m : ℕ} (x : RExit) → Below m (exit_names (shortest x))
+nothing_below {m} (Goto b) = All-nil (λ x. x < m)
+nothing_below {m} (Branch c t e) = All-nil (λ x. x < m)
+nothing_below {m} (Call g xs d next) = All-nil (λ x. x < m)
+nothing_below {m} (Return o) = All-nil (λ x. x < m)
+nothing_below {m} (Out x next) = All-nil (λ x. x < m)
+
+kept_below : (m : ℕ) (c d : RBlock) → BlockBelow m c → (code_of d ≡ code_of c) ⊎ (code_of d ≡ empty_code c) → BlockBelow m d
+kept_below m c d below (inl is) = record {
+  insts = subst (λ l. Below m (insts_names l)) (sym (ap (λ (k : Code). k.insts) is)) below.insts;
+  exit = subst (λ x. Below m (exit_names x)) (sym (ap (λ (k : Code). k.exit) is)) below.exit;
+}
+kept_below m c d below (inr is) = record {
+  insts = subst (λ l. Below m (insts_names l)) (sym (ap (λ (k : Code). k.insts) is)) (All-nil (λ x. x < m));
+  exit = subst (λ x. Below m (exit_names x)) (sym (ap (λ (k : Code). k.exit) is)) (nothing_below c.exit);
+}
+
 pub no_more_names : (f n : RFunc) → HasTails f n → how_many n ≤ how_many f
 no_more_names f n t =
     let m = how_many f in
     let few = bound_least f.parameters (blocks_names f.blocks.items) in
     bound_most n.parameters m (blocks_names n.blocks.items) (subst (λ k. k ≤ m) (sym t.parameters) few)
-    (all_below m n.blocks.items (blocks_below m [] f.blocks.items n.blocks.items (All-nil (BlockBelow m))
-    (each_below m f.blocks.items (bound_names f.parameters (blocks_names f.blocks.items))) t.blocks))
+    (all_below m n.blocks.items
+    (all_kept (BlockBelow m) (is_reached t.blocks.with_tails) 0 t.blocks.with_tails n.blocks.items (λ c d below same. kept_below m c d below same)
+    t.blocks.kept
+    (blocks_below m [] f.blocks.items t.blocks.with_tails (All-nil (BlockBelow m))
+    (each_below m f.blocks.items (bound_names f.parameters (blocks_names f.blocks.items))) t.blocks.tailed)))

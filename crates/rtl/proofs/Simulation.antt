@@ -19,8 +19,8 @@ use Rattle.rtl.specs.Programs.{Program}
 use Rattle.rtl.specs.Meaning.{Code, Frame, Run, code_of, words_in, argument_registers, kept_in, with_inst, state_at_block, with_result, state_after_return}
 use Rattle.rtl.specs.Meaning.{state_after_call, state_after_exit, step_at, rtl_step, rtl_steps, rtl_start, first_values}
 use Rattle.rtl.specs.Names.{is_in, inst_reads, inst_writes}
-use Rattle.rtl.specs.Tails.{writes_first, joined, AreTailed, HasTails, HaveTails, IsTailed, RunsAlike}
-use Rattle.rtl.proofs.Copies.{Tail, Copy, stands, none_stands, function_at, no_function_at}
+use Rattle.rtl.specs.Tails.{writes_first, joined, is_reached, AreMade, HasTails, HaveTails, IsTailed, RunsAlike}
+use Rattle.rtl.proofs.Copies.{Tail, Copy, Leads, found, not_found, function_at, no_function_at}
 
 -- ---- configurations
 
@@ -33,19 +33,21 @@ SameBut d r r' = (x : ℕ) → nat_eq x d ≡ false → r' x ≡ r x
 
 -- an activation that waits, or that runs and is at the start of no copy
 record Waits (f f' : Frame) : Type 0 where
-  blocks : AreTailed [] f.blocks f'.blocks
+  blocks : AreMade f.blocks f'.blocks
   to : f'.result_to ≡ f.result_to
   same : Same f.registers f'.registers
   copy : Copy f.blocks f.code f'.code
+  leads : Leads blocks.with_tails f'.code.exit
 
 -- one that is in a copy that is still to write d
 record Begins (f f' : Frame) : Type 0 where
-  blocks : AreTailed [] f.blocks f'.blocks
+  blocks : AreMade f.blocks f'.blocks
   to : f'.result_to ≡ f.result_to
   d : ℕ
   first : writes_first f.code.insts d ≡ true
   same : SameBut d f.registers f'.registers
   code : f'.code ≡ f.code
+  leads : Leads blocks.with_tails f'.code.exit
 
 abbrev Wait : List Frame → List Frame → Type 0
 Wait [] [] = Unit {0}
@@ -209,9 +211,9 @@ same_depth [] (f' ∷ fs') w = absurd w
 same_depth (f ∷ fs) [] w = absurd w
 same_depth (f ∷ fs) (f' ∷ fs') w = ap suc (same_depth fs fs' w.1)
 
-alike_block : (bs bs' : List RBlock) (b : ℕ) (r r' : Places) (to : Option ℕ) (fs fs' : List Frame) (g : Arrays) (out : List ℕ) → AreTailed [] bs bs'
-    → Same r r' → Wait fs fs' → Alike (state_at_block bs b r to fs g out) (state_at_block bs' b r' to fs' g out)
-alike_block bs bs' b r r' to fs fs' g out t same w = by (slice_get bs b) refl
+alike_block : (bs bs' : List RBlock) (b : ℕ) (r r' : Places) (to : Option ℕ) (fs fs' : List Frame) (g : Arrays) (out : List ℕ)
+    → (t : AreMade bs bs') → is_reached t.with_tails b ≡ true → Same r r' → Wait fs fs' → Alike (state_at_block bs b r to fs g out) (state_at_block bs' b r' to fs' g out)
+alike_block bs bs' b r r' to fs fs' g out t reached same w = by (slice_get bs b) refl
   where
     go : RBlock → Run
     go block = Running ((let f : Frame = record { blocks = bs; registers = r; code = code_of block; result_to = to } in f) ∷ fs) g out
@@ -220,11 +222,11 @@ alike_block bs bs' b r r' to fs fs' g out t same w = by (slice_get bs b) refl
     go' block = Running ((let f : Frame = record { blocks = bs'; registers = r'; code = code_of block; result_to = to } in f) ∷ fs') g out
 
     by : (o : Option RBlock) → slice_get bs b ≡ o → Alike (with_value o out go) (with_value (slice_get bs' b) out go')
-    by None e = subst (λ o. Alike (Failed out) (with_value o out go')) (sym (none_stands bs bs' t b e)) refl
-    by (Some block) e = (let s = stands bs bs' t b block e in subst (λ o. Alike (go block) (with_value o out go')) (sym s.there) (record {
+    by None e = subst (λ o. Alike (Failed out) (with_value o out go')) (sym (not_found bs bs' t b e)) refl
+    by (Some block) e = (let s = found bs bs' t b block e reached in subst (λ o. Alike (go block) (with_value o out go')) (sym s.there) (record {
       frames = (let f : Frame = record { blocks = bs'; registers = r'; code = code_of s.block; result_to = to } in f) ∷ fs';
       is = refl;
-      stack = (inl (record { blocks = t; to = refl; same = same; copy = s.copy }), w);
+      stack = (inl (record { blocks = t; to = refl; same = same; copy = s.copy; leads = s.leads }), w);
     }))
 
 alike_return : (v to : Option ℕ) (fs fs' : List Frame) (g : Arrays) (out : List ℕ) → Wait fs fs'
@@ -246,12 +248,24 @@ alike_return v (Some d) (f ∷ fs) (f' ∷ fs') g out w =
           to = (w.0).to;
           same = same_with f.registers f'.registers d (Some a) (w.0).same;
           copy = (w.0).copy;
+          leads = (w.0).leads;
         }),
         w.1,
       );
     })
 
 -- ---- steps
+
+-- a number is in a list that begins with it, or with one other
+here : (b : ℕ) (rest : List ℕ) → is_in (b ∷ rest) b ≡ true
+here b rest = ap (λ c. c || is_in rest b) (eq-eqb b b refl)
+
+behind : (a b : ℕ) → is_in (a ∷ b ∷ []) b ≡ true
+behind a b = by (nat_eq b a) (here b [])
+  where
+    by : (c : Bool) → is_in (b ∷ []) b ≡ true → (c || is_in (b ∷ []) b) ≡ true
+    by true e = refl
+    by false e = e
 
 module _ (p q : Program) (are : IsTailed p q) (depth : ℕ) where
   alike_call : (f : ℕ) (vs : List ℕ) (to : Option ℕ) (fs fs' : List Frame) (g : Arrays) (out : List ℕ) → Wait fs fs'
@@ -269,7 +283,7 @@ module _ (p q : Program) (are : IsTailed p q) (depth : ℕ) where
       room : (n m : RFunc) (b : Bool) → HasTails n m
           → Alike (if b then state_at_block n.blocks.items 0 (argument_registers vs) to fs g out else Failed out)
           (if b then state_at_block m.blocks.items 0 (argument_registers vs) to fs' g out else Failed out)
-      room n m true h = alike_block n.blocks.items m.blocks.items 0 (argument_registers vs) (argument_registers vs) to fs fs' g out h.blocks (λ x. refl) w
+      room n m true h = alike_block n.blocks.items m.blocks.items 0 (argument_registers vs) (argument_registers vs) to fs fs' g out h.blocks refl (λ x. refl) w
       room n m false h = refl
 
       by : (o : Option RFunc) → slice_get p.functions f ≡ o → Alike (with_value o out go) (with_value (slice_get q.functions f) out go')
@@ -282,14 +296,18 @@ module _ (p q : Program) (are : IsTailed p q) (depth : ℕ) where
           (subst (λ b. Alike (go n) (if b then state_at_block (m.0).blocks.items 0 (argument_registers vs) to fs' g out else Failed out)) (sym same)
           (room n m.0 (nat_lt (length fs) depth && (length vs == n.parameters)) m.2)))
 
-  alike_exit : (x : RExit) (bs bs' : List RBlock) (r r' : Places) (to : Option ℕ) (fs fs' : List Frame) (g : Arrays) (out : List ℕ) → AreTailed [] bs bs'
-      → Same r r' → Wait fs fs' → Alike (state_after_exit p depth x bs r to fs g out) (state_after_exit q depth x bs' r' to fs' g out)
-  alike_exit (Goto b) bs bs' r r' to fs fs' g out t same w = alike_block bs bs' b r r' to fs fs' g out t same w
-  alike_exit (Branch c likely other) bs bs' r r' to fs fs' g out t same w =
+  alike_exit : (x : RExit) (bs bs' : List RBlock) (r r' : Places) (to : Option ℕ) (fs fs' : List Frame) (g : Arrays) (out : List ℕ)
+      → (t : AreMade bs bs') → Leads t.with_tails x → Same r r' → Wait fs fs' → Alike (state_after_exit p depth x bs r to fs g out) (state_after_exit q depth x bs' r' to fs' g out)
+  alike_exit (Goto b) bs bs' r r' to fs fs' g out t leads same w = alike_block bs bs' b r r' to fs fs' g out t (leads b (here b [])) same w
+  alike_exit (Branch c likely other) bs bs' r r' to fs fs' g out t leads same w =
       alike_value (r c) (r' c) out (λ v. state_at_block bs (if v == 0 then other else likely) r to fs g out)
       (λ v. state_at_block bs' (if v == 0 then other else likely) r' to fs' g out) (same c)
-      (λ v. alike_block bs bs' (if v == 0 then other else likely) r r' to fs fs' g out t same w)
-  alike_exit (Call f args d next) bs bs' r r' to fs fs' g out t same w =
+      (λ v. alike_block bs bs' (if v == 0 then other else likely) r r' to fs fs' g out t (either (v == 0)) same w)
+    where
+      either : (b : Bool) → is_reached t.with_tails (if b then other else likely) ≡ true
+      either true = leads other (behind likely other)
+      either false = leads likely (here likely (other ∷ []))
+  alike_exit (Call f args d next) bs bs' r r' to fs fs' g out t leads same w =
       alike_value (words_in r args.items) (words_in r' args.items) out
       (λ vs. with_value (slice_get bs next) out (go vs)) (λ vs. with_value (slice_get bs' next) out (go' vs)) (same_words r r' args.items same)
       (λ vs. by vs (slice_get bs next) refl)
@@ -301,32 +319,32 @@ module _ (p q : Program) (are : IsTailed p q) (depth : ℕ) where
       go' vs block = state_after_call q depth f vs d ((let f : Frame = record { blocks = bs'; registers = r'; code = code_of block; result_to = to } in f) ∷ fs') g out
 
       by : (vs : List ℕ) (o : Option RBlock) → slice_get bs next ≡ o → Alike (with_value o out (go vs)) (with_value (slice_get bs' next) out (go' vs))
-      by vs None e = subst (λ o. Alike (Failed out) (with_value o out (go' vs))) (sym (none_stands bs bs' t next e)) refl
-      by vs (Some block) e = (let s = stands bs bs' t next block e in
+      by vs None e = subst (λ o. Alike (Failed out) (with_value o out (go' vs))) (sym (not_found bs bs' t next e)) refl
+      by vs (Some block) e = (let s = found bs bs' t next block e (leads next (here next [])) in
           subst (λ o. Alike (go vs block) (with_value o out (go' vs))) (sym s.there)
           (alike_call f vs d ((let f : Frame = record { blocks = bs; registers = r; code = code_of block; result_to = to } in f) ∷ fs)
           ((let f : Frame = record { blocks = bs'; registers = r'; code = code_of s.block; result_to = to } in f) ∷ fs') g out
-          (record { blocks = t; to = refl; same = same; copy = s.copy }, w)))
-  alike_exit (Return None) bs bs' r r' to fs fs' g out t same w = alike_return None to fs fs' g out w
-  alike_exit (Return (Some x)) bs bs' r r' to fs fs' g out t same w =
+          (record { blocks = t; to = refl; same = same; copy = s.copy; leads = s.leads }, w)))
+  alike_exit (Return None) bs bs' r r' to fs fs' g out t leads same w = alike_return None to fs fs' g out w
+  alike_exit (Return (Some x)) bs bs' r r' to fs fs' g out t leads same w =
       alike_value (r x) (r' x) out (λ v. state_after_return (Some v) to fs g out) (λ v. state_after_return (Some v) to fs' g out) (same x)
       (λ v. alike_return (Some v) to fs fs' g out w)
-  alike_exit (Out x next) bs bs' r r' to fs fs' g out t same w =
+  alike_exit (Out x next) bs bs' r r' to fs fs' g out t leads same w =
       alike_value (r x) (r' x) out (λ v. state_at_block bs next r to fs g (out ++ v ∷ [])) (λ v. state_at_block bs' next r' to fs' g (out ++ v ∷ [])) (same x)
-      (λ v. alike_block bs bs' next r r' to fs fs' g (out ++ v ∷ []) t same w)
+      (λ v. alike_block bs bs' next r r' to fs fs' g (out ++ v ∷ []) t (leads next (here next [])) same w)
 
   -- behind an instruction, where code goes on
   abbrev goes_on : List RInst → RExit → List RBlock → Option ℕ → List Frame → (out : List ℕ) → Places → Arrays → Run
   goes_on is x bs to fs out r g =
       Running ((let f : Frame = record { blocks = bs; registers = r; code = record { insts = is; exit = x }; result_to = to } in f) ∷ fs) g out
 
-  alike_on : (is is' : List RInst) (x x' : RExit) (bs bs' : List RBlock) (to : Option ℕ) (fs fs' : List Frame) (out : List ℕ) → AreTailed [] bs bs'
-      → Copy bs (let c : Code = record { insts = is; exit = x } in c) (let c : Code = record { insts = is'; exit = x' } in c) → Wait fs fs'
+  alike_on : (is is' : List RInst) (x x' : RExit) (bs bs' : List RBlock) (to : Option ℕ) (fs fs' : List Frame) (out : List ℕ)
+      → (t : AreMade bs bs') → Leads t.with_tails x' → Copy bs (let c : Code = record { insts = is; exit = x } in c) (let c : Code = record { insts = is'; exit = x' } in c) → Wait fs fs'
       → (r r' : Places) (g : Arrays) → Same r r' → Alike (goes_on is x bs to fs out r g) (goes_on is' x' bs' to fs' out r' g)
-  alike_on is is' x x' bs bs' to fs fs' out t copy w r r' g same = record {
+  alike_on is is' x x' bs bs' to fs fs' out t leads copy w r r' g same = record {
     frames = (let f : Frame = record { blocks = bs'; registers = r'; code = record { insts = is'; exit = x' }; result_to = to } in f) ∷ fs';
     is = refl;
-    stack = (inl (record { blocks = t; to = refl; same = same; copy = copy }), w);
+    stack = (inl (record { blocks = t; to = refl; same = same; copy = copy; leads = leads }), w);
   }
 
   -- an instruction, by the globals of either program
@@ -336,29 +354,29 @@ module _ (p q : Program) (are : IsTailed p q) (depth : ℕ) where
 
   -- in code that is the same
   alike_at : (is : List RInst) (x : RExit) (bs bs' : List RBlock) (r r' : Places) (to : Option ℕ) (fs fs' : List Frame) (g : Arrays) (out : List ℕ)
-      → AreTailed [] bs bs' → Same r r' → Wait fs fs' → Alike (step_at p depth is x bs r to fs g out) (step_at q depth is x bs' r' to fs' g out)
-  alike_at [] x bs bs' r r' to fs fs' g out t same w = alike_exit x bs bs' r r' to fs fs' g out t same w
-  alike_at (i ∷ is) x bs bs' r r' to fs fs' g out t same w =
+      → (t : AreMade bs bs') → Leads t.with_tails x → Same r r' → Wait fs fs' → Alike (step_at p depth is x bs r to fs g out) (step_at q depth is x bs' r' to fs' g out)
+  alike_at [] x bs bs' r r' to fs fs' g out t leads same w = alike_exit x bs bs' r r' to fs fs' g out t leads same w
+  alike_at (i ∷ is) x bs bs' r r' to fs fs' g out t leads same w =
       by_globals p.globals q.globals (with_inst p.globals i r g out (goes_on is x bs to fs out)) i r' g out (goes_on is x bs' to fs' out) are.globals
       (alike_inst p.globals g out i r r' (goes_on is x bs to fs out) (goes_on is x bs' to fs' out) same
-      (λ a a' h. alike_on is is x x bs bs' to fs fs' out t (inl refl) w a a' h))
+      (λ a a' h. alike_on is is x x bs bs' to fs fs' out t leads (inl refl) w a a' h))
 
   -- in a copy that is still to write d
   alike_begin : (is : List RInst) (x : RExit) (d : ℕ) (bs bs' : List RBlock) (r r' : Places) (to : Option ℕ) (fs fs' : List Frame) (g : Arrays)
-      (out : List ℕ) → AreTailed [] bs bs' → writes_first is d ≡ true → SameBut d r r' → Wait fs fs'
+      (out : List ℕ) → (t : AreMade bs bs') → Leads t.with_tails x → writes_first is d ≡ true → SameBut d r r' → Wait fs fs'
       → Alike (step_at p depth is x bs r to fs g out) (step_at q depth is x bs' r' to fs' g out)
-  alike_begin [] x d bs bs' r r' to fs fs' g out t first same w = absurd (true≢false (sym first))
-  alike_begin (i ∷ is) x d bs bs' r r' to fs fs' g out t first same w =
+  alike_begin [] x d bs bs' r r' to fs fs' g out t leads first same w = absurd (true≢false (sym first))
+  alike_begin (i ∷ is) x d bs bs' r r' to fs fs' g out t leads first same w =
       by_globals p.globals q.globals (with_inst p.globals i r g out (goes_on is x bs to fs out)) i r' g out (goes_on is x bs' to fs' out) are.globals
       (reads (is_in (inst_reads i) d) refl first)
     where
       behind : (b : Bool) → (if b then true else writes_first is d) ≡ true → (a a' : Places) (h : Arrays) → Now p.globals g out d b a a'
           → Alike (goes_on is x bs to fs out a h) (goes_on is x bs' to fs' out a' h)
-      behind true e a a' h now = alike_on is is x x bs bs' to fs fs' out t (inl refl) w a a' h now
+      behind true e a a' h now = alike_on is is x x bs bs' to fs fs' out t leads (inl refl) w a a' h now
       behind false e a a' h now = record {
         frames = (let f : Frame = record { blocks = bs'; registers = a'; code = record { insts = is; exit = x }; result_to = to } in f) ∷ fs';
         is = refl;
-        stack = (inr (record { blocks = t; to = refl; d = d; first = e; same = now; code = refl }), w);
+        stack = (inr (record { blocks = t; to = refl; d = d; first = e; same = now; code = refl; leads = leads }), w);
       }
 
       reads : (b : Bool) → is_in (inst_reads i) d ≡ b → (if b then false else if is_in (inst_writes i) d then true else writes_first is d) ≡ true
@@ -369,9 +387,9 @@ module _ (p q : Program) (are : IsTailed p q) (depth : ℕ) where
 
   -- in code that goes to a copy, up to the goto
   alike_tail : (is : List RInst) (x : RExit) (k : Code) (bs bs' : List RBlock) (r r' : Places) (to : Option ℕ) (fs fs' : List Frame) (g : Arrays)
-      (out : List ℕ) → AreTailed [] bs bs' → Tail bs (let c : Code = record { insts = is; exit = x } in c) k → Same r r' → Wait fs fs'
+      (out : List ℕ) → (t : AreMade bs bs') → Leads t.with_tails k.exit → Tail bs (let c : Code = record { insts = is; exit = x } in c) k → Same r r' → Wait fs fs'
       → Alike (step_at p depth is x bs r to fs g out) (step_at q depth k.insts k.exit bs' r' to fs' g out)
-  alike_tail [] x k bs bs' r r' to fs fs' g out t tail same w =
+  alike_tail [] x k bs bs' r r' to fs fs' g out t leads tail same w =
       subst (λ (k : Code). Alike (step_at p depth [] x bs r to fs g out) (step_at q depth k.insts k.exit bs' r' to fs' g out)) (sym tail.is)
       (subst (λ x. Alike (state_after_exit p depth x bs r to fs g out) next) (sym tail.goes)
       (subst (λ o. Alike (with_value o out go) next) (sym tail.there) (record {
@@ -386,6 +404,7 @@ module _ (p q : Program) (are : IsTailed p q) (depth : ℕ) where
             first = tail.first;
             same = but_set r r' tail.d (Some (wrap 0)) same;
             code = refl;
+            leads = subst (λ (k : Code). Leads t.with_tails k.exit) tail.is leads;
           }),
           w,
         );
@@ -396,14 +415,14 @@ module _ (p q : Program) (are : IsTailed p q) (depth : ℕ) where
 
       next : Run
       next = goes_on tail.block.insts.items tail.block.exit bs' to fs' out (places_with r' tail.d (Some (wrap 0))) g
-  alike_tail (i ∷ is) x k bs bs' r r' to fs fs' g out t tail same w =
+  alike_tail (i ∷ is) x k bs bs' r r' to fs fs' g out t leads tail same w =
       let rest : Code = record { insts = is; exit = x } in
       let rest' : Code = joined rest tail.d tail.block.insts.items tail.block.exit in
       subst (λ (k : Code). Alike (step_at p depth (i ∷ is) x bs r to fs g out) (step_at q depth k.insts k.exit bs' r' to fs' g out)) (sym tail.is)
       (by_globals p.globals q.globals (with_inst p.globals i r g out (goes_on is x bs to fs out)) i r' g out (goes_on rest'.insts rest'.exit bs' to fs' out)
       are.globals
       (alike_inst p.globals g out i r r' (goes_on is x bs to fs out) (goes_on rest'.insts rest'.exit bs' to fs' out) same
-      (λ a a' h. alike_on is rest'.insts x rest'.exit bs bs' to fs fs' out t (inr (record {
+      (λ a a' h. alike_on is rest'.insts x rest'.exit bs bs' to fs fs' out t (subst (λ (k : Code). Leads t.with_tails k.exit) tail.is leads) (inr (record {
         number = tail.number;
         block = tail.block;
         d = tail.d;
@@ -421,7 +440,8 @@ module _ (p q : Program) (are : IsTailed p q) (depth : ℕ) where
   alike_frame f f' fs fs' g out (inr b) w =
       subst (λ to. Alike (rtl_step p depth (Running (f ∷ fs) g out)) (step_at q depth f'.code.insts f'.code.exit f'.blocks f'.registers to fs' g out)) (sym b.to)
       (subst (λ (k : Code). Alike (rtl_step p depth (Running (f ∷ fs) g out)) (step_at q depth k.insts k.exit f'.blocks f'.registers f.result_to fs' g out)) (sym b.code)
-      (alike_begin f.code.insts f.code.exit b.d f.blocks f'.blocks f.registers f'.registers f.result_to fs fs' g out b.blocks b.first b.same w))
+      (alike_begin f.code.insts f.code.exit b.d f.blocks f'.blocks f.registers f'.registers f.result_to fs fs' g out b.blocks
+      (subst (λ (k : Code). Leads b.blocks.with_tails k.exit) b.code b.leads) b.first b.same w))
   alike_frame f f' fs fs' g out (inl h) w =
       subst (λ to. Alike (rtl_step p depth (Running (f ∷ fs) g out)) (step_at q depth f'.code.insts f'.code.exit f'.blocks f'.registers to fs' g out)) (sym h.to)
       (by h.copy)
@@ -430,9 +450,10 @@ module _ (p q : Program) (are : IsTailed p q) (depth : ℕ) where
           → Alike (rtl_step p depth (Running (f ∷ fs) g out)) (step_at q depth f'.code.insts f'.code.exit f'.blocks f'.registers f.result_to fs' g out)
       by (inl is) =
           subst (λ (k : Code). Alike (rtl_step p depth (Running (f ∷ fs) g out)) (step_at q depth k.insts k.exit f'.blocks f'.registers f.result_to fs' g out)) (sym is)
-          (alike_at f.code.insts f.code.exit f.blocks f'.blocks f.registers f'.registers f.result_to fs fs' g out h.blocks h.same w)
+          (alike_at f.code.insts f.code.exit f.blocks f'.blocks f.registers f'.registers f.result_to fs fs' g out h.blocks
+          (subst (λ (k : Code). Leads h.blocks.with_tails k.exit) is h.leads) h.same w)
       by (inr t) =
-          alike_tail f.code.insts f.code.exit f'.code f.blocks f'.blocks f.registers f'.registers f.result_to fs fs' g out h.blocks t h.same w
+          alike_tail f.code.insts f.code.exit f'.code f.blocks f'.blocks f.registers f'.registers f.result_to fs fs' g out h.blocks h.leads t h.same w
 
   alike_step : (s s' : Run) → Alike s s' → Alike (rtl_step p depth s) (rtl_step q depth s')
   alike_step (Running [] g out) s' h = subst (λ s'. Alike (Failed out) (rtl_step q depth s')) (sym h.is) (none h.frames h.stack)
@@ -467,7 +488,7 @@ module _ (p q : Program) (are : IsTailed p q) (depth : ℕ) where
       by (Some n) e = (let m = function_at p.functions q.functions are.functions p.main n e in
           subst (λ o. Alike (go n) (with_value o [] go')) (sym m.1)
           (subst (λ gs. Alike (go n) (state_at_block (m.0).blocks.items 0 unset_places None [] (map first_values gs) [])) (sym are.globals)
-          (alike_block n.blocks.items (m.0).blocks.items 0 unset_places unset_places None [] [] (map first_values p.globals) [] (m.2).blocks (λ x. refl) tt)))
+          (alike_block n.blocks.items (m.0).blocks.items 0 unset_places unset_places None [] [] (map first_values p.globals) [] (m.2).blocks refl (λ x. refl) tt)))
 
 same_outcome : (s s' : Run) → Alike s s' → outcome s' ≡ outcome s
 same_outcome (Running fs g out) s' h = ap outcome h.is

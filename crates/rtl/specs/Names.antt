@@ -1,5 +1,5 @@
 -- The pseudo-registers that a function names, and how often.
-use Rattle.std.specs.Prelude.{ℕ, suc, ◌+◌, Bool, false, ◌||◌, List, [], ◌∷◌, ◌++◌, Option, Some, None, nat_eq, nat_lt, if◌then◌else◌}
+use Rattle.std.specs.Prelude.{ℕ, suc, ◌+◌, Bool, true, false, ◌||◌, List, [], ◌∷◌, ◌++◌, Option, Some, None, nat_eq, nat_lt, if◌then◌else◌}
 use Rattle.rtl.specs.declared.instruction.RInst.{RInst}
 use Rattle.rtl.specs.declared.instruction.RInst.TheVariants.{Const, Move, Bin, Load, Store}
 use Rattle.rtl.specs.declared.instruction.RExit.{RExit}
@@ -71,3 +71,15 @@ how_many func = bound func.parameters (blocks_names func.blocks.items)
 -- how often a function mentions each
 abbrev pub uses_of : RFunc → ℕ → ℕ
 uses_of func = occurrences (blocks_names func.blocks.items)
+
+-- where an exit goes
+abbrev pub goes_to : RExit → List ℕ
+goes_to (Goto b) = b ∷ []
+goes_to (Branch c t e) = t ∷ e ∷ []
+goes_to (Call g xs d next) = next ∷ []
+goes_to (Return o) = []
+goes_to (Out x next) = next ∷ []
+
+abbrev pub some_go_to : List RBlock → ℕ → Bool
+some_go_to [] b = false
+some_go_to (k ∷ ks) b = if is_in (goes_to k.exit) b then true else some_go_to ks b

@@ -1,8 +1,8 @@
 -- Tail duplication (Muchnick, Advanced Compiler Design and Implementation, 18.4): a block that goes to a short one ends with that one's
 -- code in place of the goto. The goto was a step, and so is what stands in its place: a constant for a register that the copy sets to a
 -- constant before it reads it. So each run takes as many steps as before, and the constant costs nothing where it is deferred.
-use Rattle.std.specs.Prelude.{◌≡◌, ℕ, ◌+◌, Bool, true, false, ◌&&◌, List, [], ◌∷◌, ◌++◌, length, nat_le, Option, Some, None}
-use Rattle.std.specs.Prelude.{slice_get, if◌then◌else◌}
+use Rattle.std.specs.Prelude.{◌≡◌, ℕ, suc, ◌+◌, Bool, true, false, ◌&&◌, ◌||◌, List, [], ◌∷◌, ◌++◌, length, nat_eq, nat_le, Option, Some, None}
+use Rattle.std.specs.Prelude.{slice_get, get_or, ◌<◌, if◌then◌else◌}
 use Rattle.rtl.specs.declared.instruction.RInst.{RInst}
 use Rattle.rtl.specs.declared.instruction.RInst.TheVariants.{Const, Move, Bin, Load, Store}
 use Rattle.rtl.specs.declared.instruction.RExit.{RExit}
@@ -11,7 +11,7 @@ use Rattle.rtl.specs.declared.block.RBlock.{RBlock}
 use Rattle.rtl.specs.declared.block.RFunc.{RFunc}
 use Rattle.rtl.specs.declared.tails.TheConstants.{TAIL_INSTS, TAIL_OPERATIONS}
 use Rattle.rtl.specs.Meaning.{Code, code_of, rtl_run}
-use Rattle.rtl.specs.Names.{is_in, inst_reads, inst_writes}
+use Rattle.rtl.specs.Names.{is_in, inst_reads, inst_writes, some_go_to}
 use Rattle.rtl.specs.Programs.{Program}
 
 -- ---- which blocks are copied
@@ -90,9 +90,37 @@ AreTailed before (b ∷ bs) (c ∷ cs) = (code_of c ≡ tailed before (code_of b
 AreTailed before [] (c ∷ cs) = ⊥
 AreTailed before (b ∷ bs) [] = ⊥
 
+-- a block that no exit of these goes to is left empty, but for the entry
+abbrev pub is_reached : List RBlock → ℕ → Bool
+is_reached bs i = nat_eq i 0 || some_go_to bs i
+
+-- the shortest exit that goes nowhere else
+abbrev pub shortest : RExit → RExit
+shortest (Goto b) = Goto b
+shortest (Branch c t e) = Goto t
+shortest (Call g xs d next) = Goto next
+shortest (Return o) = Return None
+shortest (Out x next) = Goto next
+
+abbrev pub empty_code : RBlock → Code
+empty_code b = record { insts = []; exit = shortest b.exit }
+
+-- from block i on
+abbrev pub AreKept : (keeps : ℕ → Bool) → (i : ℕ) → (blocks new : List RBlock) → Type 0
+AreKept keeps i [] [] = Unit {0}
+AreKept keeps i (b ∷ bs) (c ∷ cs) = (code_of c ≡ (if keeps i then code_of b else empty_code b)) × AreKept keeps (suc i) bs cs
+AreKept keeps i [] (c ∷ cs) = ⊥
+AreKept keeps i (b ∷ bs) [] = ⊥
+
+-- blocks with their tails, without those that nothing goes to then
+pub record AreMade (blocks new : List RBlock) : Type 0 where
+  pub with_tails : List RBlock
+  pub tailed : AreTailed [] blocks with_tails
+  pub kept : AreKept (is_reached with_tails) 0 with_tails new
+
 pub record HasTails (f new : RFunc) : Type 0 where
   pub parameters : new.parameters ≡ f.parameters
-  pub blocks : AreTailed [] f.blocks.items new.blocks.items
+  pub blocks : AreMade f.blocks.items new.blocks.items
 
 abbrev pub HaveTails : List RFunc → List RFunc → Type 0
 HaveTails [] [] = Unit {0}
@@ -108,3 +136,10 @@ pub record IsTailed (p new : Program) : Type 0 where
 -- after any number of steps, with any bound on active calls, it has come to the same
 abbrev pub RunsAlike : Program → Program → Type 0
 RunsAlike p new = (depth n : ℕ) → rtl_run new depth n ≡ rtl_run p depth n
+
+-- ---- words of private functions
+
+-- the marks of these blocks are set
+pub record Marks (numbers : List ℕ) (old new : List Bool) : Type 0 where
+  pub same_length : length new ≡ length old
+  pub each : (x : ℕ) → x < length old → get_or new x false ≡ (get_or old x false || is_in numbers x)

@@ -233,7 +233,8 @@ impl Rtl {
     }
 
     /// The same program, where each block that goes to a short one before it ends with that one's code: at most eight
-    /// instructions, of which at most four aren't constants. Each run has the same steps. An Err is refused memory.
+    /// instructions, of which at most four aren't constants. A block that nothing goes to then is empty. Each run has the
+    /// same steps. An Err is refused memory.
     pub fn with_tails(self, alloc: Global) -> Result<Rtl, AllocError>
         ensures tails { IfOk result (λ p. IsTailed self p) }
         ensures runs { IfOk result (λ p. RunsAlike self p) }

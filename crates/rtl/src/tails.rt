@@ -1,14 +1,14 @@
 // Tail duplication: a block that goes to a short one ends with its code.
 
-ghost use Rattle.std.specs.Prelude.{◌≡◌, ◌≤◌, [], ◌∷◌, ◌++◌, length, IfOk};
+ghost use Rattle.std.specs.Prelude.{◌≡◌, ℕ, ◌<◌, ◌≤◌, false, [], ◌∷◌, ◌++◌, length, get_or, IfOk};
 ghost use Rattle.rtl.specs.declared.tails.TheConstants.{TAIL_INSTS};
 ghost use Rattle.rtl.specs.declared.instruction.RInst.TheVariants.{Const};
 ghost use Rattle.rtl.specs.Meaning.{code_of};
-ghost use Rattle.rtl.specs.Names.{is_in, inst_reads, inst_writes};
-ghost use Rattle.rtl.specs.Tails.{writes_first, spare_constant, operations, weight, is_short, again, tailed, AreTailed, HasTails, HaveTails};
+ghost use Rattle.rtl.specs.Names.{is_in, inst_reads, inst_writes, goes_to, some_go_to};
+ghost use Rattle.rtl.specs.Tails.{writes_first, spare_constant, operations, weight, is_short, again, tailed, AreTailed, is_reached, shortest, AreKept, Marks, HasTails, HaveTails};
 
 use crate::block::{RBlock, RFunc};
-use crate::instruction::{RExit, RInst, Register};
+use crate::instruction::{BlockNumber, RExit, RInst, Register};
 use std::alloc::{AllocError, Global};
 
 /// The most instructions of a block that is copied.
@@ -166,12 +166,85 @@ fn with_tails(alloc: Global, mut blocks: Vec<RBlock>) -> Result<Vec<RBlock>, All
     Ok(made)
 }
 
-// A function whose blocks have their tails.
+// Marks a block, if there is one.
+fn mark(marks: &mut Vec<bool>, block: BlockNumber)
+    ensures { Marks (block ∷ []) marks.old.items marks.new.items }
+{
+    if (block as usize) < marks.len() {
+        marks[block as usize] = true;
+    }
+}
+
+// Marks the blocks that an exit goes to.
+fn mark_exit(marks: &mut Vec<bool>, exit: &RExit)
+    ensures { Marks (goes_to exit.now) marks.old.items marks.new.items }
+{
+    match exit {
+        RExit::Goto(block) => mark(marks, *block),
+        RExit::Branch(_, then, other) => {
+            mark(marks, *then);
+            mark(marks, *other);
+        }
+        RExit::Call(_, _, _, next) => mark(marks, *next),
+        RExit::Return(_) => {}
+        RExit::Out(_, next) => mark(marks, *next),
+    }
+}
+
+// Which blocks some exit goes to.
+fn reached_blocks(alloc: Global, blocks: &[RBlock]) -> Result<Vec<bool>, AllocError>
+    ensures { IfOk result (λ marks. (length marks.items ≡ length blocks.now)
+        × ((x : ℕ) → x < length blocks.now → get_or marks.items x false ≡ some_go_to blocks.now x)) }
+{
+    let mut marks = vec![in alloc; false; blocks.len()]?;
+    for block in blocks {
+        mark_exit(&mut marks, &block.exit);
+    }
+    Ok(marks)
+}
+
+// The shortest exit that goes nowhere else.
+fn shortest(exit: &RExit) -> RExit
+    ensures { result ≡ shortest exit.now }
+{
+    match exit {
+        RExit::Goto(block) => RExit::Goto(*block),
+        RExit::Branch(_, then, _) => RExit::Goto(*then),
+        RExit::Call(_, _, _, next) => RExit::Goto(*next),
+        RExit::Return(_) => RExit::Return(None),
+        RExit::Out(_, next) => RExit::Goto(*next),
+    }
+}
+
+// The blocks, the entry and others that an exit goes to as they are, and the rest empty.
+fn with_reached(alloc: Global, mut blocks: Vec<RBlock>) -> Result<Vec<RBlock>, AllocError>
+    ensures { IfOk result (λ bs. AreKept (is_reached blocks.items) 0 blocks.items bs.items) }
+{
+    let marks = reached_blocks(alloc, blocks.as_slice())?;
+    let mut kept = Vec::with_capacity(alloc, blocks.len())?;
+    while let Some(block) = blocks.pop() {
+        let number = blocks.len();
+        let next = if number == 0 || marks[number] {
+            block
+        } else {
+            RBlock {
+                insts: Vec::new(alloc),
+                exit: shortest(&block.exit),
+            }
+        };
+        kept.push(next)?;
+    }
+    kept.reverse();
+    Ok(kept)
+}
+
+// A function whose blocks have their tails, without those that nothing goes to then.
 fn function_with_tails(alloc: Global, function: RFunc) -> Result<RFunc, AllocError>
     ensures { IfOk result (λ f. HasTails function f) }
 {
     let RFunc { parameters, blocks } = function;
-    let blocks = with_tails(alloc, blocks)?;
+    let tailed = with_tails(alloc, blocks)?;
+    let blocks = with_reached(alloc, tailed)?;
     Ok(RFunc { parameters, blocks })
 }
 

@@ -1,6 +1,6 @@
 -- Frames and blocks by the counts of the typed program.
-use Rattle.std.proofs.Common.{◌≡◌, ℕ, ◌+◌, ◌*◌, ◌≤◌, inl, inr, Bool, true, false, List, [], ◌∷◌, ◌++◌, Option, Some, None, length, length-append, refl, sym, ap, ◌∙◌, subst, arith, true≢false}
-use Rattle.std.specs.Prelude.{◌&&◌, nat_le}
+use Rattle.std.proofs.Common.{◌≡◌, ℕ, suc, ◌+◌, ◌*◌, ◌≤◌, inl, inr, Bool, true, false, List, [], ◌∷◌, ◌++◌, Option, Some, None, length, length-append, refl, sym, ap, ◌∙◌, subst, arith, true≢false}
+use Rattle.std.specs.Prelude.{◌&&◌, nat_le, if◌then◌else◌}
 use Rattle.std.proofs.lemmas.Bool.{leb-true}
 use Rattle.std.proofs.lemmas.Option.{none-some}
 use Rattle.rtl.specs.declared.instruction.RInst.{RInst}
@@ -18,7 +18,7 @@ use Rattle.rtl_emit.specs.Blocks as Emitted
 use Rattle.rtl_lower.specs.Laws.{AreOfSizes, KeepsRuns as Lowers}
 use Rattle.rtl.specs.Meaning.{Code, code_of}
 use Rattle.rtl.specs.Names.{how_many}
-use Rattle.rtl.specs.Tails.{AreTailed, HaveTails, IsTailed, RunsAlike, is_short, again, operations}
+use Rattle.rtl.specs.Tails.{AreTailed, is_reached, shortest, empty_code, AreKept, AreMade, HaveTails, IsTailed, RunsAlike, is_short, again, operations}
 use Rattle.rtl.proofs.Names.{no_more_names}
 use Rattle.rtl.proofs.Copies.{Copy, copy_of_code, as_many, program_fits}
 use Rattle.mips_select.specs.Limits.{largest_frame, insts_in, exit_blocks, exits_blocks, most_by_exits_for, FramesFit}
@@ -106,6 +106,50 @@ weigh before (b ∷ bs) (c ∷ cs) t =
     let rest = weigh (before ++ b ∷ []) bs cs t.1 in
     omega (arith, first, rest)
 
+-- an empty block is no heavier than any other
+kept_weighs : (keeps : ℕ → Bool) (n : ℕ) (cs ds : List RBlock) → AreKept keeps n cs ds
+    → 512 * exits_blocks ds + 8 * insts_in ds ≤ 512 * exits_blocks cs + 8 * insts_in cs
+kept_weighs keeps n [] [] t = omega arith
+kept_weighs keeps n [] (d ∷ ds) t = absurd t
+kept_weighs keeps n (c ∷ cs) [] t = absurd t
+kept_weighs keeps n (c ∷ cs) (d ∷ ds) t =
+    let first = by (keeps n) t.0 in
+    let rest = kept_weighs keeps (suc n) cs ds t.1 in
+    omega (arith, first, rest)
+  where
+    least : (x : RExit) → exit_blocks (shortest x) ≤ 1
+    least (Call g xs d next) = omega arith
+    least (Goto b) = omega arith
+    least (Branch c t e) = omega arith
+    least (Return o) = omega arith
+    least (Out x next) = omega arith
+
+    some : (x : RExit) → 1 ≤ exit_blocks x
+    some (Call g xs d next) = omega arith
+    some (Goto b) = omega arith
+    some (Branch c t e) = omega arith
+    some (Return o) = omega arith
+    some (Out x next) = omega arith
+
+    by : (b : Bool) → code_of d ≡ (if b then code_of c else empty_code c)
+        → 512 * exit_blocks d.exit + 8 * length d.insts.items ≤ 512 * exit_blocks c.exit + 8 * length c.insts.items
+    by true is = (
+        let exit = ap (λ (k : Code). exit_blocks k.exit) is in
+        let insts = ap (λ (k : Code). length k.insts) is in
+        omega (arith, exit, insts))
+    by false is = (
+        let exit = ap (λ (k : Code). exit_blocks k.exit) is in
+        let insts = ap (λ (k : Code). length k.insts) is in
+        let one_or_more = some c.exit in
+        let alone = least c.exit in
+        omega (arith, exit, insts, one_or_more, alone))
+
+made_weighs : (bs ds : List RBlock) → AreMade bs ds → 512 * exits_blocks ds + 8 * insts_in ds ≤ 1024 * length bs + 8 * insts_in bs
+made_weighs bs ds m =
+    let tails = weigh [] bs m.with_tails m.tailed in
+    let kept = kept_weighs (is_reached m.with_tails) 0 m.with_tails ds m.kept in
+    omega (arith, tails, kept)
+
 blocks_few : (fs : List TypedFunction) (ls rs : List RFunc) → AreOfSizes fs ls → HaveTails ls rs → most_by_exits_for rs ≤ functions_counted fs
 blocks_few [] [] [] m t = omega arith
 blocks_few [] [] (r ∷ rs) m t = absurd t
@@ -117,7 +161,7 @@ blocks_few (f ∷ fs) (l ∷ ls) (r ∷ rs) m t =
     let insts = m.0.insts in
     let same = same_insts l.blocks.items in
     let many = as_many l.blocks.items r.blocks.items t.0.blocks in
-    let weight = weigh [] l.blocks.items r.blocks.items t.0.blocks in
+    let weight = made_weighs l.blocks.items r.blocks.items t.0.blocks in
     let rest = blocks_few fs ls rs m.1 t.1 in
     omega (arith, blocks, insts, same, many, weight, rest)
 
