@@ -1,6 +1,6 @@
 #!/usr/bin/env python3
 """The plots of docs/FIGURES.md: words.svg from tests/builds/programs.case, which the gate compares with runs, and docs/figures/gcc.csv;
-builds.svg, runs.svg, table.svg and workers.svg from the files of docs/figures with these names."""
+builds.svg, runs.svg, steps.svg, table.svg and workers.svg from the files of docs/figures with these names."""
 import csv
 import math
 import re
@@ -96,6 +96,11 @@ def table():
     return svg(left + 450, y + 26, title, parts)
 
 
+def steps():
+    groups = [(f"mcc, {it['step']}", [float(it["to gcc -O1"])]) for it in rows("steps")] + [("gcc -O1", [1.0])]
+    return bars("Words to gcc -O1 step by step, mean of eight programs (less is better)", groups, ["words"], 230, 380)
+
+
 def workers():
     names = {"plain": "mcc --plain", "1": "1 worker"}
     groups = [(names.get(it["workers"], it["workers"] + " workers"), [float(it["CPU ms"]), float(it["clock ms"])]) for it in rows("workers")]
@@ -103,4 +108,4 @@ def workers():
 
 
 if __name__ == "__main__":
-    main({"words.svg": words(), "builds.svg": builds(), "runs.svg": runs(), "table.svg": table(), "workers.svg": workers()})
+    main({"words.svg": words(), "builds.svg": builds(), "runs.svg": runs(), "steps.svg": steps(), "table.svg": table(), "workers.svg": workers()})
