@@ -48,16 +48,16 @@ same-is (x ∷ xs) (y ∷ ys) h =
     ap (λ (z : ℕ). z ∷ xs) (equal x y a.0) ∙ ap (λ (z : List ℕ). y ∷ z) (same-is xs ys a.1)
 
 -- how the spellings of the table begin
-abbrev begins_well : List ℕ → Bool
+abbrev pub begins_well : List ℕ → Bool
 begins_well [] = false
 begins_well (b ∷ bs) = if is_space b then false else (if is_letter b then false
     else (if is_digit b then false else (if is_front (codes "/*") (b ∷ bs) then false else (if is_front (codes "//") (b ∷ bs) then false else true))))
 
-abbrev all_begin : List (List ℕ × Option Mark) → Bool
+abbrev pub all_begin : List (List ℕ × Option Mark) → Bool
 all_begin [] = true
 all_begin (e ∷ es) = if begins_well e.0 then all_begin es else false
 
-table-begins : all_begin signs ≡ true
+pub table-begins : all_begin signs ≡ true
 table-begins = refl
 
 spelled-begins : (es : List (List ℕ × Option Mark)) (o : List ℕ) (m : Option Mark) → all_begin es ≡ true → entry_in es o ≡ Some m → begins_well o ≡ true

@@ -9,3 +9,5 @@ pub mod Numbers
 pub mod Pieces
 pub mod Once
 pub mod Beginning
+pub mod Placing
+pub mod Marks

@@ -8,25 +8,25 @@ use Rattle.c_tokens.specs.Texts.{stops_take}
 use Rattle.c_tokens.specs.declared.fault.Refusal.{Refusal}
 use Rattle.c_tokens.proofs.Pieces.{next-once}
 
-step-once : (at : ℕ) (bs : List ℕ) (s t : Step) → IsStep at bs s → IsStep at bs t → s ≡ t
+pub step-once : (at : ℕ) (bs : List ℕ) (s t : Step) → IsStep at bs s → IsStep at bs t → s ≡ t
 step-once at bs s t p q = p.step ∙ ap (step_of at) (next-once bs p.lexeme q.lexeme p.next q.next) ∙ sym q.step
 
-done-skip : (n : ℕ) → Done ≡ Skip n → ⊥
+pub done-skip : (n : ℕ) → Done ≡ Skip n → ⊥
 done-skip n e = cc
 
-done-take : (t : Token) (n : ℕ) → Done ≡ Take t n → ⊥
+pub done-take : (t : Token) (n : ℕ) → Done ≡ Take t n → ⊥
 done-take t n e = cc
 
-skip-take : (t : Token) (n m : ℕ) → Skip m ≡ Take t n → ⊥
+pub skip-take : (t : Token) (n m : ℕ) → Skip m ≡ Take t n → ⊥
 skip-take t n m e = cc
 
-skip-same : (n m : ℕ) → Skip n ≡ Skip m → n ≡ m
+pub skip-same : (n m : ℕ) → Skip n ≡ Skip m → n ≡ m
 skip-same n m e = cc
 
 take-token : (t u : Token) (n m : ℕ) → Take t n ≡ Take u m → t ≡ u
 take-token t u n m e = cc
 
-take-length : (t u : Token) (n m : ℕ) → Take t n ≡ Take u m → n ≡ m
+pub take-length : (t u : Token) (n m : ℕ) → Take t n ≡ Take u m → n ≡ m
 take-length t u n m e = cc
 
 pub lexes-once : {at : ℕ} {bs : List ℕ} {before tokens : List Token} {places : List ℕ} → Lexes at bs before tokens places →

@@ -1,12 +1,32 @@
 -- Places within a scan of some bytes.
 use Rattle.std.proofs.Common.{◌≡◌, ◌<◌, ◌≤◌, ◌+◌, ℕ, suc, List, [], ◌∷◌, length, Bool, true, false, Option, Some, None, refl, sym, ap, subst, ◌∙◌, arith}
 use Rattle.std.proofs.Common.{if◌then◌else◌, nat_eq, ◌&&◌, ◌||◌, codes}
-use Rattle.c_tokens.specs.Lexing.{is_word, goes_on, is_exponent, is_front, one_more, comment_length, escape_at}
-use Rattle.c_tokens.specs.Fronts.{word_length, run_length, line_length}
+use Rattle.c_tokens.specs.Lexing.{is_space, is_word, goes_on, is_exponent, is_front, one_more, comment_length, escape_at}
+use Rattle.c_tokens.specs.Fronts.{blank_length, word_length, run_length, line_length}
 
 -- a scan after which nothing more counts has come to the length
 no-more : (whole n rest : ℕ) → whole ≡ n + rest → rest ≡ 0 → n ≡ whole
 no-more whole n rest e none = omega (arith, e, none)
+
+pub record Blanks (text rest : List ℕ) (n : ℕ) : Type 0 where
+  pub resumes : blank_length text ≡ n + blank_length rest
+  pub place : n + length rest ≡ length text
+
+pub blank-on : (text rest : List ℕ) (n b : ℕ) (bs : List ℕ) → Blanks text rest n → rest ≡ b ∷ bs → is_space b ≡ true → Blanks text bs (n + 1)
+blank-on text rest n b bs w e h =
+    let P : List ℕ → Type 0 = λ x. Blanks text x n in
+    let v : Blanks text (b ∷ bs) n = subst P e w in
+    let a : blank_length (b ∷ bs) ≡ suc (blank_length bs) = ap (λ (x : Bool). if x then suc (blank_length bs) else 0) h in
+    let c = v.resumes in
+    let d = v.place in
+    record { resumes = omega (arith, a, c); place = omega (arith, d) }
+
+pub blank-stops : (text rest : List ℕ) (n b : ℕ) (bs : List ℕ) → Blanks text rest n → rest ≡ b ∷ bs → is_space b ≡ false → n ≡ blank_length text
+blank-stops text rest n b bs w e h =
+    no-more _ n _ w.resumes (ap blank_length e ∙ ap (λ (x : Bool). if x then suc (blank_length bs) else 0) h)
+
+pub blank-ends : (text rest : List ℕ) (n : ℕ) → Blanks text rest n → rest ≡ [] → n ≡ blank_length text
+blank-ends text rest n w e = no-more _ n _ w.resumes (ap blank_length e)
 
 pub record Words (text rest : List ℕ) (n : ℕ) : Type 0 where
   pub resumes : word_length text ≡ n + word_length rest

@@ -9,7 +9,7 @@ pub data IsDigitOf (base : ℕ) : ℕ → ℕ → Type 0 where
   small_letter : {b : ℕ} → 97 ≤ b → b ≤ 102 → b - 87 < base → IsDigitOf base b (b - 87)
   capital_letter : {b : ℕ} → 65 ≤ b → b ≤ 70 → b - 55 < base → IsDigitOf base b (b - 55)
 
--- digits, behind others that spell `n`, spell a number
+-- digits, after others that spell `n`, spell a number
 pub data IsNumber (base : ℕ) : (n : ℕ) → List ℕ → ℕ → Type 0 where
   number_end : {n : ℕ} → IsNumber base n [] n
   number_more : {n b d v : ℕ} {bs : List ℕ} → IsDigitOf base b d → IsNumber base (n * base + d) bs v → IsNumber base n (b ∷ bs) v

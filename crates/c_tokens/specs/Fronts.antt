@@ -9,6 +9,10 @@ use Rattle.c_tokens.specs.Lexing.{keywords}
 use Rattle.c_tokens.specs.Lexing.{word_lexeme}
 use Rattle.c_tokens.specs.Digits.{constant_lexeme}
 
+abbrev pub blank_length : List ℕ → ℕ
+blank_length [] = 0
+blank_length (b ∷ bs) = if is_space b then suc (blank_length bs) else 0
+
 abbrev pub word_length : List ℕ → ℕ
 word_length [] = 0
 word_length (b ∷ bs) = if is_word b then suc (word_length bs) else 0

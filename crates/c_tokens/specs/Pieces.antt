@@ -43,7 +43,7 @@ entry_in (e ∷ es) o = if same_bytes e.0 o then Some e.1 else entry_in es o
 abbrev pub comment_piece : ℕ → List ℕ → Lexeme
 comment_piece n inside = elim (escape_at inside) [ None ↦ Separator n | Some k ↦ Refused (k + 2) ]
 
--- the pieces, and what each of them is; a comment that isn't closed is a piece too, and so is a byte that begins no other
+-- the pieces, and what each of them is. A comment that isn't closed is a piece too, and so is a byte that begins no other
 pub data IsPiece : List ℕ → Lexeme → Type 0 where
   a_space : {b : ℕ} → is_space b ≡ true → IsPiece (b ∷ []) (Separator 1)
   a_word : {b : ℕ} {bs : List ℕ} → is_letter b ≡ true → IsWord bs → IsPiece (b ∷ bs) (word_lexeme keywords (b ∷ bs))

@@ -100,6 +100,10 @@ pub data Lexes : ℕ → List ℕ → List Token → List Token → List ℕ →
       → is_oversize (t ∷ before) ≡ false →
       Lexes (at + n) (drop n bs) (t ∷ before) tokens places → Lexes at bs before (t ∷ tokens) (at ∷ places)
 
+-- wherever the text has tokens, they stand at these places
+abbrev pub ArePlaces : List ℕ → List ℕ → Type 0
+ArePlaces text places = (tokens : List Token) (there : List ℕ) → Lexes 0 text [] tokens there → places ≡ there
+
 -- the first refusal, and where it is
 pub data LexStops : ℕ → List ℕ → List Token → Refusal → ℕ → Type 0 where
   stops_here : {at k : ℕ} {r : Refusal} {bs : List ℕ} {before : List Token} → IsStep at bs (Stop r k) → LexStops at bs before r (at + k)

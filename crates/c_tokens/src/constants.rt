@@ -1,4 +1,4 @@
-// Constants, their value and their type (C99 6.4.4.1).
+//! Constants, their value and their type (C99 6.4.4.1).
 ghost use Rattle.std.specs.Prelude.{◌≡◌, ◌<◌, ◌≤◌, ◌^◌, length, take, false};
 ghost use Rattle.c_tokens.specs.Digits.{constant_type, constant_lexeme, digit_of, digits_of, up_to, is_suffix, plain_of, digits_in};
 ghost use Rattle.c_tokens.specs.Digits.{last_or, greatest_of};
@@ -9,7 +9,7 @@ use crate::lexer::Lexeme;
 use crate::scan::{is_digit, run_length, split};
 use crate::token::{IntegerType, Literal};
 
-/// A constant.
+/// Returns a constant.
 pub fn constant(text: &[u8]) -> Lexeme
     requires { 0 < run_length false text.now }
     ensures same { result ≡ constant_lexeme (take (run_length false text.now) text.now) }
@@ -18,7 +18,7 @@ pub fn constant(text: &[u8]) -> Lexeme
     constant_of(&text[..run_length(text)])
 }
 
-/// The constant that a run is.
+/// Returns the constant that a run is.
 fn constant_of(run: &[u8]) -> Lexeme
     requires { 0 < length run.now }
     ensures same { result ≡ constant_lexeme run.now }
@@ -83,7 +83,7 @@ fn digits(run: &[u8]) -> &[u8]
     }
 }
 
-/// The value of a constant without suffix, if it is no greater than `limit`.
+/// Returns the value of a constant without suffix, if it is no greater than `limit`.
 fn plain(limit: u64, run: &[u8]) -> Option<u32>
     requires { limit < 2 ^ 32 }
     ensures { result ≡ up_to limit (plain_of run.now) }
@@ -101,7 +101,7 @@ fn plain(limit: u64, run: &[u8]) -> Option<u32>
     Some(number(8, limit, more)? as u32)
 }
 
-/// The number that digits spell, if it is no greater than `limit`.
+/// Returns the number that digits spell, if it is no greater than `limit`.
 fn number(base: u64, limit: u64, digits: &[u8]) -> Option<u64>
     requires low { base ≤ 16 }
     requires positive { 0 < base }
@@ -128,7 +128,7 @@ fn number(base: u64, limit: u64, digits: &[u8]) -> Option<u64>
     }
 }
 
-/// The value of a digit, or 99.
+/// Returns the value of a digit, or 99.
 fn digit(byte: u8) -> u64
     ensures same { result ≡ digit_of byte }
     ensures low { result < 100 }

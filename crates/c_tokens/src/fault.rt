@@ -1,4 +1,4 @@
-// Why a text has no tokens, and how that prints.
+//! Why a text has no tokens, and how that prints.
 
 ghost use Rattle.std.specs.Prelude.{◌≡◌, Some};
 ghost use Rattle.c_tokens.specs.Messages.{fault_text, refusal_text};
@@ -15,7 +15,7 @@ pub enum Refusal {
     BadSize,
 }
 
-/// Why a text has no tokens: the first refusal and its offset, or want of memory.
+/// Why a text has no tokens: the first refusal and its offset, or lack of memory.
 #[derive(Clone, Copy, Debug)]
 pub enum LexFault {
     Refused(Refusal, usize),

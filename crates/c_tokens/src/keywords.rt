@@ -1,4 +1,4 @@
-// Words that are no identifiers: the keywords in use, and those that are refused (C99 6.4.1).
+//! Words that are no identifiers: the keywords in use, and those that are refused (C99 6.4.1).
 ghost use Rattle.std.specs.Prelude.{◌≡◌, ◌<◌, length, take, map};
 ghost use Rattle.c_tokens.specs.Lexing.{word_lexeme, keyword_lexeme, keywords};
 ghost use Rattle.c_tokens.specs.Fronts.{beginning, word_length};
@@ -20,7 +20,7 @@ pub enum Reserved {
 /// A keyword and what it is.
 pub type Keyword = (&'static [u8], Reserved);
 
-/// The keywords that begin with a byte.
+/// Returns the keywords that begin with a byte.
 #[rattlefmt::skip]
 fn beginning(first: u8) -> &'static [Keyword]
     ensures { map keyword_of result.now ≡ beginning first keywords }
@@ -77,7 +77,8 @@ fn look_up(table: &[Keyword], word: &[u8]) -> Lexeme
     found
 }
 
-/// A word: a keyword or a name.
+/// Returns a word: a keyword or a name.
+#[inline(always)]
 pub fn word(text: &[u8]) -> Lexeme
     requires { 0 < word_length text.now }
     ensures same { result ≡ word_lexeme keywords (take (word_length text.now) text.now) }

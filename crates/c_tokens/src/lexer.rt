@@ -1,22 +1,24 @@
-// A text piece by piece: its tokens with their places, or the first refusal (C99 6.4).
-ghost use Rattle.std.specs.Prelude.{◌≡◌, ◌+◌, ◌<◌, ◌≤◌, ◌^◌, [], length, IfOk, IfErr, List, ℕ};
+//! A text piece by piece: its tokens with their places, or the first refusal (C99 6.4).
+ghost use Rattle.std.specs.Prelude.{◌≡◌, ◌+◌, ◌<◌, ◌≤◌, ◌^◌, [], length, IfOk, IfErr, IfSome, List, ℕ};
 ghost use Rattle.c_tokens.specs.Lexing.{comment_length};
 ghost use Rattle.c_tokens.specs.Fronts.{lexeme_of, comment_lexeme, line_lexeme, line_length};
+ghost use Rattle.c_tokens.specs.declared.lexer.Lexeme.TheVariants.{Sign, Word};
 ghost use Rattle.c_tokens.specs.declared.token.Token.{Token};
 ghost use Rattle.c_tokens.specs.declared.sizes.TheConstants.{MAX_TEXT};
 ghost use Rattle.c_tokens.specs.declared.fault.Refusal.{Refusal};
-ghost use Rattle.c_tokens.specs.Texts.{Lexes, LexStops, IsStep, Fits, IsNarrow, StepFits, step_of, IsLexFault};
+ghost use Rattle.c_tokens.specs.Texts.{Lexes, ArePlaces, LexStops, IsStep, Fits, IsNarrow, StepFits, step_of, IsLexFault};
 
 use crate::constants::constant;
 use crate::fault::{LexFault, Refusal};
 use crate::keywords::word;
 use crate::scan::{
-    after, begins, comment_length, escape_at, is_digit, is_letter, is_space, line_length, split,
+    after, begins, blank_length, comment_length, escape_at, is_digit, is_letter, is_space,
+    line_length, split,
 };
-use crate::sign::sign;
+use crate::sign::{sign, single};
 use crate::sizes::{Sizes, count};
 use crate::token::{Identifier, JumpWord, Literal, Mark, Token};
-use std::alloc::Global;
+use std::alloc::{AllocError, Global};
 
 /// What stands at the front of a text: a word is a name, a sign a keyword, an operator or a bracket.
 #[derive(Clone, Copy)]
@@ -40,7 +42,7 @@ pub enum Step {
     Stop(Refusal, usize),
 }
 
-/// A comment, after its first two bytes.
+/// Returns a comment, after its first two bytes.
 fn comment(rest: &[u8]) -> Lexeme
     requires { length rest.now < 2 ^ 32 }
     ensures same { result ≡ comment_lexeme (comment_length rest.now) rest.now }
@@ -55,7 +57,7 @@ fn comment(rest: &[u8]) -> Lexeme
     }
 }
 
-/// A comment to the end of its line, after its first two bytes.
+/// Returns a comment to the end of its line, after its first two bytes.
 fn line(rest: &[u8]) -> Lexeme
     requires { length rest.now < 2 ^ 32 }
     ensures same { result ≡ line_lexeme (line_length rest.now) rest.now }
@@ -68,7 +70,7 @@ fn line(rest: &[u8]) -> Lexeme
     }
 }
 
-/// What stands at the front.
+/// Returns what stands at the front.
 fn next(text: &[u8]) -> Lexeme
     requires { length text.now < 2 ^ 32 }
     ensures same { result ≡ lexeme_of text.now }
@@ -114,8 +116,38 @@ fn step_at(at: u32, lexeme: Lexeme) -> Step
     }
 }
 
-/// The step at a place.
-fn next_step(at: u32, text: &[u8]) -> Step
+/// Returns the mark at the front, if one or two bytes tell which it is. Most tokens are such marks.
+fn mark_at(text: &[u8]) -> Option<Mark>
+    ensures same { IfSome result (λ mark. lexeme_of text.now ≡ Sign mark 1) }
+    ensures fits { IfSome result (λ mark. 0 < length text.now) }
+{
+    let (first, _) = split(text)?;
+    if first == b'/' {
+        return None;
+    }
+    single(text)
+}
+
+/// Returns the length of the name at the front, or 0 if none stands there.
+fn name_length(text: &[u8]) -> usize
+    ensures same { 0 < result → lexeme_of text.now ≡ Word result }
+    ensures fits { result ≤ length text.now }
+{
+    let Some((first, _)) = split(text) else {
+        return 0;
+    };
+    if !is_letter(first) {
+        return 0;
+    }
+    match word(text) {
+        Lexeme::Word(length) => length,
+        _ => 0,
+    }
+}
+
+/// Returns the step at a place where any piece may stand.
+#[inline(never)]
+fn any_step(at: u32, text: &[u8]) -> Step
     requires { length text.now < 2 ^ 32 }
     ensures found { IsStep at text.now result }
     ensures fits { StepFits result (length text.now) }
@@ -123,15 +155,31 @@ fn next_step(at: u32, text: &[u8]) -> Step
     step_at(at, next(text))
 }
 
-/// The tokens of a text, and where they stand.
-pub fn lex(alloc: Global, text: &[u8]) -> Result<(Vec<Token>, Vec<u32>), LexFault>
+/// Returns the step at a place.
+fn next_step(at: u32, text: &[u8]) -> Step
+    requires { length text.now < 2 ^ 32 }
+    ensures found { IsStep at text.now result }
+    ensures fits { StepFits result (length text.now) }
+{
+    if let Some(mark) = mark_at(text) {
+        return Step::Take(Token::The(mark), 1);
+    }
+    let n = name_length(text);
+    if n == 0 {
+        return any_step(at, text);
+    }
+    let length = n as u32;
+    Step::Take(Token::Name(Identifier { at, length }), n)
+}
+
+/// Returns the tokens of a text.
+pub fn tokens(alloc: Global, text: &[u8]) -> Result<Vec<Token>, LexFault>
     requires { length text.now ≤ MAX_TEXT }
-    ensures ok { IfOk result (λ r. Lexes 0 text.now [] r.0.items r.1.items) }
+    ensures ok { IfOk result (λ tokens. (places : List ℕ) × Lexes 0 text.now [] tokens.items places) }
     ensures err { IfErr result (IsLexFault text.now) }
 {
-    // a token has a byte at least, so the lists never grow; pages that no token reaches are never had
+    // a token has a byte at least, so the list never grows; pages that no token reaches are never had
     let mut tokens = Vec::with_capacity(alloc, text.len())?;
-    let mut places = Vec::with_capacity(alloc, text.len())?;
     let mut rest = text;
     let mut at: usize = 0;
     let mut sizes = Sizes {
@@ -140,30 +188,69 @@ pub fn lex(alloc: Global, text: &[u8]) -> Result<(Vec<Token>, Vec<u32>), LexFaul
         nested: 0,
     };
     'lexemes: loop {
-        let here = at as u32;
-        match next_step(here, rest) {
-            Step::Done => return Ok((tokens, places)),
+        let blanks = blank_length(rest);
+        let front = after(rest, blanks);
+        let place = at + blanks;
+        match next_step(place as u32, front) {
+            Step::Done => return Ok(tokens),
             Step::Skip(n) => {
-                rest = after(rest, n);
-                at += n;
+                rest = after(front, n);
+                at = place + n;
             }
             Step::Take(token, n) => match count(sizes, &token) {
-                None => return Err(LexFault::Refused(Refusal::BadSize, at)),
+                None => return Err(LexFault::Refused(Refusal::BadSize, place)),
                 Some(new) => {
-                    tokens.push(token)?;
-                    places.push(here)?;
+                    tokens.push_reserved(token);
                     sizes = new;
-                    rest = after(rest, n);
-                    at += n;
+                    rest = after(front, n);
+                    at = place + n;
                 }
             },
-            Step::Stop(why, k) => return Err(LexFault::Refused(why, at + k)),
+            Step::Stop(why, k) => return Err(LexFault::Refused(why, place + k)),
         }
     }
 }
 
-/// A text has at most one list of tokens, at one list of places. It has none where it is refused, which it is for one reason at one
-/// place. A law: it computes nothing.
+/// Returns the offsets of a text's tokens, if it has tokens. Few texts are asked for them, so `tokens` keeps no list of them.
+pub fn places(alloc: Global, text: &[u8]) -> Result<Vec<u32>, AllocError>
+    requires { length text.now ≤ MAX_TEXT }
+    ensures { IfOk result (λ places. ArePlaces text.now places.items) }
+{
+    let mut places = Vec::with_capacity(alloc, text.len())?;
+    let mut rest = text;
+    let mut at: usize = 0;
+    'lexemes: loop {
+        let here = at as u32;
+        match any_step(here, rest) {
+            Step::Done => return Ok(places),
+            // such a text has no tokens
+            Step::Stop(_, _) => return Ok(places),
+            Step::Skip(n) => {
+                rest = after(rest, n);
+                at += n;
+            }
+            Step::Take(_, n) => {
+                places.push(here)?;
+                rest = after(rest, n);
+                at += n;
+            }
+        }
+    }
+}
+
+/// Returns the tokens of a text, and where they stand.
+pub fn lex(alloc: Global, text: &[u8]) -> Result<(Vec<Token>, Vec<u32>), LexFault>
+    requires { length text.now ≤ MAX_TEXT }
+    ensures ok { IfOk result (λ r. Lexes 0 text.now [] r.0.items r.1.items) }
+    ensures err { IfErr result (IsLexFault text.now) }
+{
+    let tokens = tokens(alloc, text)?;
+    let places = places(alloc, text)?;
+    Ok((tokens, places))
+}
+
+/// States that a text has at most one list of tokens, at one list of places. It has none if it is refused, which it is for one reason at
+/// one place. A law: it computes nothing.
 pub fn one_lexing()
     ensures once { (text : List ℕ) (ts us : List Token) (ks js : List ℕ) → Lexes 0 text [] ts ks → Lexes 0 text [] us js
         → (ts ≡ us) × (ks ≡ js) }

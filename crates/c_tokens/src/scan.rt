@@ -1,30 +1,30 @@
-// Classes of bytes, and how far a run of one class goes.
+//! Classes of bytes, and how far a run of one class goes.
 ghost use Rattle.std.specs.Prelude.{◌≡◌, ◌∷◌, [], false, ◌<◌, ◌≤◌, length, drop, IfNone, IfSome};
 ghost use Rattle.c_tokens.specs.Lexing.{goes_on, is_word, is_exponent, is_space, is_letter, is_digit, comment_length, escape_at, is_front};
-ghost use Rattle.c_tokens.specs.Fronts.{word_length, run_length, line_length};
+ghost use Rattle.c_tokens.specs.Fronts.{blank_length, word_length, run_length, line_length};
 
-/// A byte that separates tokens: a space, a tab, LF or CR.
+/// Reports whether a byte separates tokens: a space, a tab, LF or CR.
 pub fn is_space(byte: u8) -> bool
     ensures { result ≡ is_space byte }
 {
     matches!(byte, b' ' | b'\t' | b'\n' | b'\r')
 }
 
-/// A letter or `_`.
+/// Reports whether a byte is a letter or `_`.
 pub fn is_letter(byte: u8) -> bool
     ensures { result ≡ is_letter byte }
 {
     (b'A' <= byte && byte <= b'Z') || (b'a' <= byte && byte <= b'z') || byte == b'_'
 }
 
-/// A decimal digit.
+/// Reports whether a byte is a decimal digit.
 pub fn is_digit(byte: u8) -> bool
     ensures { result ≡ is_digit byte }
 {
     b'0' <= byte && byte <= b'9'
 }
 
-/// A byte that a word goes on with: a letter, `_` or a digit.
+/// Reports whether a word goes on with a byte: a letter, `_` or a digit.
 pub fn is_word(byte: u8) -> bool
     ensures { result ≡ is_word byte }
 {
@@ -43,7 +43,7 @@ fn goes_on(after_exponent: bool, byte: u8) -> bool
     is_word(byte) || byte == b'.' || (after_exponent && (byte == b'+' || byte == b'-'))
 }
 
-/// The first byte and what is behind it; None for the empty text.
+/// Returns the first byte and what is after it; None for the empty text.
 pub fn split(text: &[u8]) -> Option<(u8, &[u8])>
     ensures none { IfNone result (text.now ≡ []) }
     ensures some { IfSome result (λ r. text.now ≡ r.0 ∷ r.1.now) }
@@ -54,7 +54,7 @@ pub fn split(text: &[u8]) -> Option<(u8, &[u8])>
     Some((text[0], &text[1..]))
 }
 
-/// The text behind its first `n` bytes.
+/// Returns the text after its first `n` bytes.
 pub fn after(text: &[u8], n: usize) -> &[u8]
     requires { n ≤ length text.now }
     ensures { result.now ≡ drop n text.now }
@@ -62,7 +62,28 @@ pub fn after(text: &[u8], n: usize) -> &[u8]
     &text[n..]
 }
 
-/// The length of the longest word at the front.
+/// Returns how many blanks stand at the front.
+pub fn blank_length(text: &[u8]) -> usize
+    ensures same { result ≡ blank_length text.now }
+    ensures fits { result ≤ length text.now }
+{
+    let mut n: usize = 0;
+    let mut rest = text;
+    'blanks: loop {
+        match split(rest) {
+            None => return n,
+            Some((byte, next)) => {
+                if !is_space(byte) {
+                    return n;
+                }
+                n += 1;
+                rest = next;
+            }
+        }
+    }
+}
+
+/// Returns the length of the longest word at the front.
 pub fn word_length(text: &[u8]) -> usize
     ensures same { result ≡ word_length text.now }
     ensures fits { result ≤ length text.now }
@@ -83,7 +104,7 @@ pub fn word_length(text: &[u8]) -> usize
     }
 }
 
-/// The length of the run that a number begins: letters, digits, `_`, `.`, and a sign after an exponent's letter.
+/// Returns the length of the run that a number begins: letters, digits, `_`, `.`, and a sign after an exponent's letter.
 pub fn run_length(text: &[u8]) -> usize
     ensures same { result ≡ run_length false text.now }
     ensures fits { result ≤ length text.now }
@@ -106,7 +127,7 @@ pub fn run_length(text: &[u8]) -> usize
     }
 }
 
-/// The two bytes stand at the front.
+/// Reports whether the two bytes stand at the front.
 pub fn begins(text: &[u8], first: u8, second: u8) -> bool
     ensures { result ≡ is_front (first ∷ second ∷ []) text.now }
 {
@@ -119,7 +140,7 @@ pub fn begins(text: &[u8], first: u8, second: u8) -> bool
     }
 }
 
-/// How far it is past the end of a comment.
+/// Returns how far it is past the end of a comment.
 pub fn comment_length(text: &[u8]) -> Option<usize>
     ensures same { result ≡ comment_length text.now }
     ensures fits { IfSome result (λ n. n ≤ length text.now) }
@@ -140,7 +161,7 @@ pub fn comment_length(text: &[u8]) -> Option<usize>
     }
 }
 
-/// Where the first backslash or pair of question marks stands.
+/// Returns where the first backslash or pair of question marks stands.
 pub fn escape_at(text: &[u8]) -> Option<usize>
     ensures same { result ≡ escape_at text.now }
     ensures fits { IfSome result (λ n. n < length text.now) }
@@ -164,7 +185,7 @@ pub fn escape_at(text: &[u8]) -> Option<usize>
     }
 }
 
-/// How far it is to the next line feed, or the end.
+/// Returns how far it is to the next line feed, or the end.
 pub fn line_length(text: &[u8]) -> usize
     ensures same { result ≡ line_length text.now }
     ensures fits { result ≤ length text.now }

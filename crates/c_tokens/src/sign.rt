@@ -1,4 +1,4 @@
-// Operators and punctuators: the longest one at the front of a text (C99 6.4.6).
+//! Operators and punctuators: the longest one at the front of a text (C99 6.4.6).
 ghost use Rattle.std.specs.Prelude.{◌≡◌, ◌<◌, false, length, map, IfSome};
 ghost use Rattle.c_tokens.specs.Lexing.{is_front, signs};
 ghost use Rattle.c_tokens.specs.Fronts.{beginning, longest, longer, sign_lexeme, is_second, may_continue};
@@ -21,7 +21,7 @@ pub enum Spelling {
 /// A spelling, and its mark if it is in use.
 pub type Entry = (Spelling, Option<Mark>);
 
-/// The mark, if no longer spelling goes on with these bytes.
+/// Returns the mark, if no longer spelling goes on with these bytes.
 fn alone(mark: Mark, rest: &[u8]) -> Option<Mark>
     ensures { IfSome result (λ found. (found ≡ mark) × (may_continue rest.now ≡ false)) }
 {
@@ -40,8 +40,8 @@ fn is_second(byte: u8) -> bool
     )
 }
 
-/// The mark of the byte at the front, if no longer spelling stands there.
-fn single(text: &[u8]) -> Option<Mark>
+/// Returns the mark of the byte at the front, if it is known that no longer spelling stands there.
+pub fn single(text: &[u8]) -> Option<Mark>
     ensures same { IfSome result (λ mark. sign_lexeme (longest signs text.now) ≡ Sign mark 1) }
     ensures fits { IfSome result (λ mark. 0 < length text.now) }
 {
@@ -73,7 +73,7 @@ fn single(text: &[u8]) -> Option<Mark>
     }
 }
 
-/// The spellings that begin with a byte.
+/// Returns the spellings that begin with a byte.
 #[rattlefmt::skip]
 fn beginning(first: u8) -> &'static [Entry]
     ensures { map entry_of result.now ≡ beginning first signs }
@@ -164,7 +164,7 @@ fn longer(entry: Entry, best: Option<Entry>) -> Entry
     }
 }
 
-/// The longest spelling of a table that stands at the front.
+/// Returns the longest spelling of a table that stands at the front.
 fn longest(table: &[Entry], text: &[u8]) -> Option<Entry>
     ensures { maybe_entry_of result ≡ longest (map entry_of table.now) text.now }
 {
@@ -180,7 +180,7 @@ fn longest(table: &[Entry], text: &[u8]) -> Option<Entry>
     best
 }
 
-/// The longest operator or bracket at the front.
+/// Returns the longest operator or bracket at the front.
 fn operator(text: &[u8]) -> Option<Entry>
     ensures { maybe_entry_of result ≡ longest signs text.now }
 {
@@ -188,14 +188,11 @@ fn operator(text: &[u8]) -> Option<Entry>
     longest(beginning(first), text)
 }
 
-/// The operator or bracket at the front.
+/// Returns the operator or bracket at the front.
 pub fn sign(text: &[u8]) -> Lexeme
     ensures same { result ≡ sign_lexeme (longest signs text.now) }
     ensures fits { Fits result (length text.now) }
 {
-    if let Some(mark) = single(text) {
-        return Lexeme::Sign(mark, 1);
-    }
     match operator(text) {
         None => Lexeme::Refused(0),
         Some(entry) => match entry.1 {

@@ -1,4 +1,4 @@
-// The sizes that a list of tokens keeps within.
+//! The sizes that a list of tokens keeps within.
 ghost use Rattle.c_tokens.specs.Numbers.{LimitsAreTheseNumbers};
 ghost use Rattle.std.specs.Prelude.{◌≡◌, ◌+◌, ◌-◌, ◌≤◌, suc, IfSome, IfNone, if◌then◌else◌};
 ghost use Rattle.c_tokens.specs.declared.sizes.TheConstants.{MAX_RUN, MAX_OPEN, MAX_NESTED};
@@ -26,7 +26,7 @@ pub struct Sizes {
     pub nested: usize,
 }
 
-/// How many tokens stand after the last `;`, `{` or `}` once this one stands there.
+/// Returns how many tokens stand after the last `;`, `{` or `}` once this one stands there.
 fn run_after(run: usize, token: &Token) -> usize
     requires { run ≤ MAX_RUN }
     ensures { result ≡ (if ends_run token.now then 0 else suc run) }
@@ -37,7 +37,7 @@ fn run_after(run: usize, token: &Token) -> usize
     }
 }
 
-/// How many braces are open after the token.
+/// Returns how many braces are open after the token.
 fn open_after(braces: usize, token: &Token) -> usize
     requires { braces ≤ MAX_OPEN }
     ensures { result ≡ (if opens token.now then suc braces else (if closes token.now then braces - 1 else braces)) }
@@ -49,7 +49,7 @@ fn open_after(braces: usize, token: &Token) -> usize
     }
 }
 
-/// How many `else` and `for` stand since no brace was open, with this token, after `nested` of them.
+/// Returns how many `else` and `for` stand since no brace was open, with this token, after `nested` of them.
 fn nested_after(nested: usize, token: &Token) -> usize
     requires { nested ≤ MAX_NESTED }
     ensures { result ≡ (if nests token.now then 1 else 0) + nested }
@@ -60,7 +60,7 @@ fn nested_after(nested: usize, token: &Token) -> usize
     }
 }
 
-/// The counts after one more token, or None where it goes past a size.
+/// Returns the counts after one more token, or None if it goes past a size.
 pub fn count(sizes: Sizes, token: &Token) -> Option<Sizes>
     requires { Within sizes }
     ensures none { IfNone result (Oversize sizes token.now) }
@@ -78,7 +78,7 @@ pub fn count(sizes: Sizes, token: &Token) -> Option<Sizes>
     Some(new)
 }
 
-/// Each limit is the number that specs/Numbers.antt tells, so a change of one is a change there. A law: it computes nothing.
+/// States that each limit is the number that specs/Numbers.antt tells, so a change of one is a change there. A law: it computes nothing.
 pub fn limits_are_these_numbers()
     ensures { LimitsAreTheseNumbers }
 {}

@@ -1,10 +1,9 @@
-use Rattle.std.proofs.Common.{sym, subst}
-use Rattle.c_tokens.specs.declared.lexer.Lexeme.{Lexeme}
-use Rattle.c_tokens.specs.Pieces.{IsNext}
-use Rattle.c_tokens.proofs.Pieces.{found}
+use Rattle.std.proofs.Common.{arith}
+use Rattle.c_tokens.proofs.Marks.{mark-step, name-step}
 use Rattle.c_tokens.proofs.lexer.next_step.Goals as goal
 
+pub returns-in-Some-clause-found : goal.returns-in-Some-clause-found
+returns-in-Some-clause-found c = mark-step _ _ _ c.in-Some.ensures.same
+
 pub returns-clause-found : goal.returns-clause-found
-returns-clause-found c =
-    let P : Lexeme → Type 0 = λ x. IsNext c.args.text.now x in
-    record { lexeme = c.next.result; next = subst P (sym c.next.ensures.same) (found c.args.text.now); step = c.step_at.ensures }
+returns-clause-found c = name-step _ _ _ (c.name_length-n.ensures.same (omega arith))
