@@ -27,6 +27,6 @@ IsUnended {A} parsed u s = (parsed ≡ Err s) ⊎ ((a : A) × (rest : Bor (List 
 abbrev pub IsJoined : {A B : Type 0} → B → Parsed A → ((B × A) × Bor (List Token)) → Type 0
 IsJoined before parsed r = (r.0.0 ≡ before) × (parsed ≡ Ok (r.0.1, r.1))
 
--- the part stands behind the others
+-- the part stands after the others
 abbrev pub IsPushed : {A : Type 0} → Parsed A → Bor (List Token) → List A → List A → Type 0
 IsPushed {A} parsed rest old new = (a : A) × (parsed ≡ Ok (a, rest)) × (new ≡ old ++ a ∷ [])

@@ -273,7 +273,7 @@ operator_of_rule {o = o} r = o
 abbrev pub prefix_of_rule : {o : UnaryOp} {t : Mark} → Prefix o t → UnaryOp
 prefix_of_rule {o = o} r = o
 
--- the declaration of a name behind `int` or `unsigned int`
+-- the declaration of a name after `int` or `unsigned int`
 abbrev pub typed_declaration : IntegerType → Identifier → Tail → Declaration
 typed_declaration k x (variable_tail i) = variable k x i
 typed_declaration k x (array_tail n) = array Word k x n

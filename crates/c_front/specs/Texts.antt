@@ -41,8 +41,8 @@ refusal_kind BadToken = TokenFault
 refusal_kind BadConstant = Constant
 refusal_kind BadSize = Size
 
--- why a text is refused, and where, in the order of the tests; want of memory is told at the text's length, and not before
--- length and bytes are tested
+-- why a text is refused, and where, in the order of the tests. Lack of memory is told at the text's length, and not before length and bytes
+-- are tested
 pub data IsTextFault (text : List ℕ) : FrontFaultKind → ℕ → Type 0 where
   too_long : MAX_TEXT < length text → IsTextFault text Size MAX_TEXT
   bad_byte : {k : ℕ} → length text ≤ MAX_TEXT → IsBadByte text k → IsTextFault text Byte k

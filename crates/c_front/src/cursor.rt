@@ -1,4 +1,4 @@
-// The token in front, and what a reader of a part stops at.
+//! The token in front, and what a reader of a part stops at.
 ghost use Rattle.std.specs.Prelude.{◌≡◌, ◌∷◌, [], IfOk, IfErr, IfSome, IfNone};
 ghost use Rattle.c_front.specs.Parsing.{IsMissing, StartsWith, StartsWithout, StartsWithName, IsNameMissing, StartsWithConstant};
 ghost use Rattle.c_front.specs.Parsing.{IsConstantMissing};
@@ -7,7 +7,7 @@ ghost use Rattle.c_front.specs.Parsing.{StartsBytes, StartsNoBytes};
 use c_tokens::{Identifier, Literal, Mark, Token};
 use std::alloc::{AllocError, AllocFailed};
 
-/// Why parsing stopped: the tokens from the first wrong one on, or want of memory.
+/// Why parsing stopped: the tokens from the first wrong one on, or lack of memory.
 #[derive(Clone, Copy)]
 pub enum ParseStop<'a> {
     Syntax(&'a [Token]),
@@ -27,7 +27,7 @@ impl<'a, T: Drop> From<AllocFailed<T>> for ParseStop<'a> {
     }
 }
 
-/// The first token, and the tokens after it.
+/// Returns the first token, and the tokens after it.
 pub fn split<'a>(tokens: &'a [Token]) -> Option<(Token, &'a [Token])>
     ensures none { IfNone result (tokens.now ≡ []) }
     ensures some { IfSome result (λ r. tokens.now ≡ r.0 ∷ r.1.now) }
@@ -38,7 +38,7 @@ pub fn split<'a>(tokens: &'a [Token]) -> Option<(Token, &'a [Token])>
     Some((tokens[0], &tokens[1..]))
 }
 
-/// The tokens after a mark that has to stand here.
+/// Returns the tokens after a mark that has to stand here.
 pub fn expect<'a>(tokens: &'a [Token], wanted: Mark) -> Result<&'a [Token], ParseStop<'a>>
     ensures ok { IfOk result (λ rest. StartsWith wanted tokens.now rest.now) }
     ensures err { IfErr result (IsMissing wanted tokens.now) }
@@ -55,7 +55,7 @@ pub fn expect<'a>(tokens: &'a [Token], wanted: Mark) -> Result<&'a [Token], Pars
     }
 }
 
-/// The tokens after a mark, if it stands here.
+/// Returns the tokens after a mark, if it stands here.
 pub fn starts<'a>(tokens: &'a [Token], wanted: Mark) -> Option<&'a [Token]>
     ensures none { IfNone result (StartsWithout wanted tokens.now) }
     ensures some { IfSome result (λ after. StartsWith wanted tokens.now after.now) }
@@ -63,7 +63,7 @@ pub fn starts<'a>(tokens: &'a [Token], wanted: Mark) -> Option<&'a [Token]>
     expect(tokens, wanted).ok()
 }
 
-/// The tokens after `unsigned char`, if these two stand here.
+/// Returns the tokens after `unsigned char`, if these two stand here.
 pub fn starts_bytes<'a>(tokens: &'a [Token]) -> Option<&'a [Token]>
     ensures none { IfNone result (StartsNoBytes tokens.now) }
     ensures some { IfSome result (λ after. StartsBytes tokens.now after.now) }
@@ -73,7 +73,7 @@ pub fn starts_bytes<'a>(tokens: &'a [Token]) -> Option<&'a [Token]>
     Some(after)
 }
 
-/// The name that has to stand here, and the tokens after it.
+/// Returns the name that has to stand here, and the tokens after it.
 pub fn name<'a>(tokens: &'a [Token]) -> Parsed<'a, Identifier>
     ensures ok { IfOk result (λ r. StartsWithName tokens.now r.0 r.1.now) }
     ensures err { IfErr result (IsNameMissing tokens.now) }
@@ -84,7 +84,7 @@ pub fn name<'a>(tokens: &'a [Token]) -> Parsed<'a, Identifier>
     }
 }
 
-/// The constant that has to stand here, and the tokens after it.
+/// Returns the constant that has to stand here, and the tokens after it.
 pub fn literal<'a>(tokens: &'a [Token]) -> Parsed<'a, Literal>
     ensures ok { IfOk result (λ r. StartsWithConstant tokens.now r.0 r.1.now) }
     ensures err { IfErr result (IsConstantMissing tokens.now) }

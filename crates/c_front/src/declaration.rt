@@ -1,4 +1,4 @@
-// Declarations at file scope: variables, arrays and functions (C99 6.7, 6.9).
+//! Declarations at file scope: variables, arrays and functions (C99 6.7, 6.9).
 ghost use Rattle.std.specs.Prelude.{◌≡◌, ◌<◌, length, IfOk, IfErr, List};
 ghost use Rattle.c_front.specs.Grammar.{Spells, initial, parameters, function_rest, after_global, a_declaration};
 ghost use Rattle.c_tree.specs.Shape.{items_of, declaration_of, declarations_of};
@@ -19,7 +19,7 @@ use c_tree::{Declaration, FunctionDefinition, Initial, Item, Parameter};
 use std::alloc::{AllocError, AllocFailed, Global};
 use words::Width;
 
-/// The first value of a global variable.
+/// Parses the first value of a global variable.
 fn initial<'a>(tokens: &'a [Token]) -> Parsed<'a, Initial>
     ensures ok { IfOk result (λ r. IsRead initial tokens.now r.1.now r.0) }
     ensures shorter { IfOk result (λ r. length r.1.now < length tokens.now) }
@@ -49,7 +49,7 @@ fn initial<'a>(tokens: &'a [Token]) -> Parsed<'a, Initial>
     }
 }
 
-/// A parameter: its type and its name.
+/// Parses a parameter: its type and its name.
 fn parameter<'a>(tokens: &'a [Token]) -> Parsed<'a, Parameter>
     ensures ok { IfOk result (λ r. IsParameterRead tokens.now r.1.now r.0) }
     ensures shorter { IfOk result (λ r. length r.1.now < length tokens.now) }
@@ -62,7 +62,7 @@ fn parameter<'a>(tokens: &'a [Token]) -> Parsed<'a, Parameter>
     Ok((Parameter { integer_type, name }, end))
 }
 
-/// `void`, or the parameters of a function.
+/// Parses `void`, or the parameters of a function.
 fn parameters<'a>(alloc: Global, tokens: &'a [Token]) -> Parsed<'a, Vec<Parameter>>
     ensures ok { IfOk result (λ r. IsRead parameters tokens.now r.1.now r.0.items) }
     ensures shorter { IfOk result (λ r. length r.1.now < length tokens.now) }
@@ -79,7 +79,7 @@ fn parameters<'a>(alloc: Global, tokens: &'a [Token]) -> Parsed<'a, Vec<Paramete
     Ok((all, rest))
 }
 
-/// A function behind its name: its parameters and its body.
+/// Parses a function after its name: its parameters and its body.
 fn function<'a>(
     alloc: Global,
     gives: Option<IntegerType>,
@@ -106,7 +106,7 @@ fn function<'a>(
     ))
 }
 
-/// An array behind its name and its opening bracket: its length, up to the end of its declaration.
+/// Parses an array after its name and its opening bracket: its length, up to the end of its declaration.
 fn array<'a>(
     width: Width,
     integer_type: IntegerType,
@@ -123,7 +123,7 @@ fn array<'a>(
     Ok((Declaration::Array(width, integer_type, name, length), end))
 }
 
-/// An array of bytes behind `unsigned char`.
+/// Parses an array of bytes after `unsigned char`.
 fn bytes<'a>(tokens: &'a [Token]) -> Parsed<'a, Declaration>
     ensures ok { IfOk result (λ r. IsBytesRead tokens.now r.1.now (declaration_of r.0)) }
     ensures shorter { IfOk result (λ r. length r.1.now < length tokens.now) }
@@ -133,7 +133,7 @@ fn bytes<'a>(tokens: &'a [Token]) -> Parsed<'a, Declaration>
     array(Width::Byte, IntegerType::SignedInt, name, start)
 }
 
-/// What stands after the type and the name of a declaration.
+/// Parses what stands after the type and the name of a declaration.
 fn after_global<'a>(
     alloc: Global,
     integer_type: IntegerType,
@@ -157,7 +157,7 @@ fn after_global<'a>(
     function(alloc, Some(integer_type), name, tokens)
 }
 
-/// A declaration at file scope.
+/// Parses a declaration at file scope.
 fn declaration<'a>(alloc: Global, tokens: &'a [Token]) -> Parsed<'a, Declaration>
     ensures ok { IfOk result (λ r. IsRead a_declaration tokens.now r.1.now (declaration_of r.0)) }
     ensures shorter { IfOk result (λ r. length r.1.now < length tokens.now) }
@@ -177,7 +177,7 @@ fn declaration<'a>(alloc: Global, tokens: &'a [Token]) -> Parsed<'a, Declaration
     after_global(alloc, integer_type, name, start)
 }
 
-/// The declarations up to the last token.
+/// Parses the declarations up to the last token.
 fn declarations<'a>(alloc: Global, tokens: &'a [Token]) -> Result<Vec<Declaration>, ParseStop<'a>>
     ensures ok { IfOk result (λ all. Spells tokens.now (declarations_of all.items)) }
     ensures err { IfErr result (IsProgramStuck tokens.now) }
@@ -190,14 +190,14 @@ fn declarations<'a>(alloc: Global, tokens: &'a [Token]) -> Result<Vec<Declaratio
     Ok(all)
 }
 
-/// The place of the first wrong token, or want of memory.
+/// The place of the first wrong token, or lack of memory.
 #[derive(Clone, Copy)]
 pub enum SyntaxFault {
     Wrong(usize),
     OutOfMemory,
 }
 
-/// The number of the first wrong token, where parsing stopped at the rest of the tokens.
+/// Returns the number of the first wrong token, where parsing stopped at the rest of the tokens.
 fn fault_at(tokens: &[Token], stop: ParseStop) -> SyntaxFault
     requires { IsProgramStuck tokens.now stop }
     ensures { IsFault tokens.now result }
@@ -208,8 +208,8 @@ fn fault_at(tokens: &[Token], stop: ParseStop) -> SyntaxFault
     }
 }
 
-/// The declarations that the tokens spell, or the number of the first token with which the tokens so far begin no program. Where they end
-/// too early, that is how many there are.
+/// Parses the declarations that the tokens spell, or the number of the first token with which the tokens so far begin no program. Where
+/// they end too early, that is how many there are.
 pub fn parse(alloc: Global, tokens: &[Token]) -> Result<Vec<Declaration>, SyntaxFault>
     ensures ok { IfOk result (λ all. Spells tokens.now (declarations_of all.items)) }
     ensures err { IfErr result (IsFault tokens.now) }
@@ -220,7 +220,7 @@ pub fn parse(alloc: Global, tokens: &[Token]) -> Result<Vec<Declaration>, Syntax
     }
 }
 
-/// The tokens spell at most one program.
+/// States that the tokens spell at most one program.
 pub fn one_program()
     ensures { (ts : List Token) (p q : List Tree.Declaration) → Spells ts p → Spells ts q → p ≡ q }
 {}

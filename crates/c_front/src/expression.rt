@@ -1,4 +1,4 @@
-// Expressions, level by level of precedence (C99 6.5).
+//! Expressions, level by level of precedence (C99 6.5).
 ghost use Rattle.std.specs.Prelude.{◌≡◌, ◌<◌, length, IfOk, IfErr, IfSome, IfNone, Some};
 ghost use Rattle.c_front.specs.Grammar.{an_expression, operands, unary_expressions, above, Level, Operator, Prefix, first, value};
 ghost use Rattle.c_front.specs.Grammar.{arguments};
@@ -15,7 +15,7 @@ use c_tokens::{Identifier, Mark, Token};
 use c_tree::{BinaryOp, Call, Expression, UnaryOp, Value};
 use std::alloc::{AllocError, AllocFailed, Global};
 
-/// The operator that a token is, and the level of its operands.
+/// Returns the operator that a token is, and the level of its operands.
 fn operator_of(mark: Mark) -> Option<(usize, BinaryOp)>
     ensures none { IfNone result ((l : Level) → EndsOperands l (Some (The mark))) }
     ensures some { IfSome result (λ r. Operator (level_of r.0) r.1 mark) }
@@ -43,7 +43,7 @@ fn operator_of(mark: Mark) -> Option<(usize, BinaryOp)>
     }
 }
 
-/// The binary operator at the front, with its level and the tokens after it.
+/// Parses the binary operator at the front, with its level and the tokens after it.
 fn operator<'a>(tokens: &'a [Token]) -> Option<(usize, BinaryOp, &'a [Token])>
     ensures none { IfNone result ((l : Level) → EndsOperands l (first tokens.now)) }
     ensures some { IfSome result (λ r. StartsWithOperator (level_of r.0) r.1 tokens.now r.2.now) }
@@ -57,7 +57,7 @@ fn operator<'a>(tokens: &'a [Token]) -> Option<(usize, BinaryOp, &'a [Token])>
     }
 }
 
-/// The prefix operator that a mark is.
+/// Returns the prefix operator that a mark is.
 fn prefix_of(mark: Mark) -> Option<UnaryOp>
     ensures none { IfNone result (IsNoPrefix mark) }
     ensures some { IfSome result (λ o. Prefix o mark) }
@@ -71,7 +71,7 @@ fn prefix_of(mark: Mark) -> Option<UnaryOp>
     }
 }
 
-/// An expression.
+/// Parses an expression.
 #[cycle(expressions)]
 pub fn expression<'a>(alloc: Global, tokens: &'a [Token]) -> Parsed<'a, Expression>
     ensures ok { IfOk result (λ r. IsRead an_expression tokens.now r.1.now (expression_of r.0)) }
@@ -89,7 +89,7 @@ pub fn expression<'a>(alloc: Global, tokens: &'a [Token]) -> Parsed<'a, Expressi
     }
 }
 
-/// The two expressions of a choice, after its question mark.
+/// Parses the two expressions of a choice, after its question mark.
 #[cycle(expressions)]
 fn choice<'a>(
     alloc: Global,
@@ -104,7 +104,7 @@ fn choice<'a>(
     Ok((first, second, end))
 }
 
-/// An expression, and the token that has to follow it.
+/// Parses an expression, and the token that has to follow it.
 #[cycle(expressions)]
 pub fn closed_expression<'a>(
     alloc: Global,
@@ -118,7 +118,7 @@ pub fn closed_expression<'a>(
     expect_after(expression(alloc, tokens), closing)
 }
 
-/// Operands and the binary operators between them, up to those of a level: by precedence climbing.
+/// Parses operands and the binary operators between them, up to those of a level, by precedence climbing.
 #[cycle(expressions)]
 fn operands<'a>(alloc: Global, level: usize, tokens: &'a [Token]) -> Parsed<'a, Expression>
     ensures ok { IfOk result (λ r. IsRead (operands (above (level_of level))) tokens.now r.1.now (expression_of r.0)) }
@@ -140,7 +140,7 @@ fn operands<'a>(alloc: Global, level: usize, tokens: &'a [Token]) -> Parsed<'a, 
     }
 }
 
-/// An operand of a binary operator of a level.
+/// Parses an operand of a binary operator of a level.
 #[cycle(expressions)]
 fn tighter<'a>(alloc: Global, level: usize, tokens: &'a [Token]) -> Parsed<'a, Expression>
     ensures ok { IfOk result (λ r. IsRead (operands (level_of level)) tokens.now r.1.now (expression_of r.0)) }
@@ -154,7 +154,7 @@ fn tighter<'a>(alloc: Global, level: usize, tokens: &'a [Token]) -> Parsed<'a, E
     operands(alloc, level - 1, tokens)
 }
 
-/// An operand: a constant, a name, a name with an index, a prefix with its operand, or an expression in parentheses.
+/// Parses an operand: a constant, a name, a name with an index, a prefix with its operand, or an expression in parentheses.
 #[cycle(expressions)]
 fn operand<'a>(alloc: Global, tokens: &'a [Token]) -> Parsed<'a, Expression>
     ensures ok { IfOk result (λ r. IsRead (operands unary_expressions) tokens.now r.1.now (expression_of r.0)) }
@@ -169,11 +169,9 @@ fn operand<'a>(alloc: Global, tokens: &'a [Token]) -> Parsed<'a, Expression>
         Token::Jump(_, _) => Err(ParseStop::Syntax(tokens)),
         Token::Name(name) => match starts(rest, Mark::LeftBracket) {
             Some(after) => {
-                let (index, end) = box_part(
-                    alloc,
-                    closed_expression(alloc, after, Mark::RightBracket),
-                )?;
-                Ok((Expression::Index(name, index), end))
+                let (index, end) = closed_expression(alloc, after, Mark::RightBracket)?;
+                let parts = Box::new(alloc, (name, index))?;
+                Ok((Expression::Index(parts), end))
             }
             None => Ok((Expression::Name(name), rest)),
         },
@@ -190,7 +188,7 @@ fn operand<'a>(alloc: Global, tokens: &'a [Token]) -> Parsed<'a, Expression>
     }
 }
 
-/// Arguments and their closing parenthesis.
+/// Parses arguments and their closing parenthesis.
 pub fn arguments<'a>(alloc: Global, tokens: &'a [Token]) -> Parsed<'a, Vec<Expression>>
     ensures ok { IfOk result (λ r. IsArgumentsRead tokens.now r.1.now (expressions_of r.0.items)) }
     ensures shorter { IfOk result (λ r. length r.1.now < length tokens.now) }
@@ -207,7 +205,7 @@ pub fn arguments<'a>(alloc: Global, tokens: &'a [Token]) -> Parsed<'a, Vec<Expre
     expect_after(Ok((all, rest)), Mark::RightParen)
 }
 
-/// The name of a call, and what stands after its opening parenthesis.
+/// Parses the name of a call, and what stands after its opening parenthesis.
 fn call_start<'a>(tokens: &'a [Token]) -> Option<(Identifier, &'a [Token])>
     ensures none { IfNone result (StartsNoCall tokens.now) }
     ensures some { IfSome result (λ r. StartsCall tokens.now r.0 r.1.now) }
@@ -221,7 +219,7 @@ fn call_start<'a>(tokens: &'a [Token]) -> Option<(Identifier, &'a [Token])>
     }
 }
 
-/// What a name may be given: an expression or a call.
+/// Parses what a name may be given: an expression or a call.
 pub fn value<'a>(alloc: Global, tokens: &'a [Token]) -> Parsed<'a, Value>
     ensures ok { IfOk result (λ r. IsRead value tokens.now r.1.now (value_tree r.0)) }
     ensures shorter { IfOk result (λ r. length r.1.now < length tokens.now) }

@@ -1,4 +1,4 @@
-// Why a text is refused, and how that prints.
+//! Why a text is refused, and how that prints.
 
 ghost use Rattle.std.specs.Prelude.{◌≡◌, Some};
 ghost use Rattle.c_front.specs.Messages.{fault_text, kind_name, number_of};
@@ -25,14 +25,14 @@ pub enum FrontFaultKind {
 }
 
 impl FrontFaultKind {
-    /// The number that messages show.
+    /// Returns the number that messages show.
     pub fn number(self) -> u8
         ensures { result ≡ number_of self }
     {
         self.number_and_name().0
     }
 
-    /// The number and the name that messages show.
+    /// Returns the number and the name that messages show.
     fn number_and_name(self) -> (u8, &'static str)
         ensures number { result.0 ≡ number_of self }
         ensures name { result.1.now ≡ kind_name self }

@@ -1,4 +1,4 @@
-// What any part of a program is read with: the mark after it, a box for it, the part before it, and its place in a list.
+//! What any part of a program is read with: the mark after it, a box for it, the part before it, and its place in a list.
 
 ghost use Rattle.std.specs.Prelude.{◌≡◌, IfOk, IfErr, Ok, Err};
 ghost use Rattle.c_front.specs.Ends.{IsEnded, IsJoined, IsPushed, IsUnended, StopsAs};
@@ -7,7 +7,7 @@ use crate::cursor::{ParseStop, Parsed, expect};
 use c_tokens::{Mark, Token};
 use std::alloc::{AllocError, AllocFailed, Global};
 
-/// The part, if the mark stands after it that has to.
+/// Returns the part, if the mark stands after it that has to.
 pub fn expect_after<'a, T: Drop>(parsed: Parsed<'a, T>, closing: Mark) -> Parsed<'a, T>
     ensures ok { IfOk result (IsEnded parsed.entry closing) }
     ensures err { IfErr result (IsUnended parsed.entry closing) }
@@ -17,7 +17,7 @@ pub fn expect_after<'a, T: Drop>(parsed: Parsed<'a, T>, closing: Mark) -> Parsed
     Ok((part, end))
 }
 
-/// The part in a box.
+/// Returns the part in a box.
 pub fn box_part<'a, T: Drop>(alloc: Global, parsed: Parsed<'a, T>) -> Parsed<'a, Box<T>>
     ensures ok { IfOk result (λ r. parsed.entry ≡ Ok (r.0.value, r.1)) }
     ensures err { IfErr result (StopsAs parsed.entry) }
@@ -26,7 +26,7 @@ pub fn box_part<'a, T: Drop>(alloc: Global, parsed: Parsed<'a, T>) -> Parsed<'a,
     Ok((Box::new(alloc, part)?, end))
 }
 
-/// The part, with the one before it.
+/// Returns the part, with the one before it.
 pub fn join_part<'a, S: Drop, T: Drop>(before: S, parsed: Parsed<'a, T>) -> Parsed<'a, (S, T)>
     ensures ok { IfOk result (IsJoined before parsed.entry) }
     ensures err { IfErr result (λ s. parsed.entry ≡ Err s) }
@@ -35,7 +35,7 @@ pub fn join_part<'a, S: Drop, T: Drop>(before: S, parsed: Parsed<'a, T>) -> Pars
     Ok(((before, part), end))
 }
 
-/// The part at the end of a list, and the tokens after it.
+/// Pushes the part at the end of a list, and the tokens after it.
 pub fn push_part<'a, T: Drop>(
     all: &mut Vec<T>,
     parsed: Parsed<'a, T>,

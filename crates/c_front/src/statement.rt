@@ -1,4 +1,4 @@
-// Statements (C99 6.8), and the simple statements of this subset.
+//! Statements (C99 6.8), and the simple statements of this subset.
 ghost use Rattle.std.specs.Prelude.{◌≡◌, ◌∷◌, ◌<◌, ◌≤◌, ◌↔◌, length, IfOk, IfErr, IfSome, IfNone, IsTrue};
 ghost use Rattle.c_front.specs.Grammar.{first, a_statement, an_item, items, simple, a_type, declared, maybe_simple, maybe_expression};
 ghost use Rattle.c_front.specs.Choosing.{EndsItems};
@@ -17,7 +17,7 @@ use c_tokens::{Identifier, IntegerType, JumpWord, Mark, Token};
 use c_tree::{Call, Expression, ForParts, Item, Simple, Statement, Value};
 use std::alloc::{AllocError, AllocFailed, Global};
 
-/// The value after an equals sign.
+/// Parses the value after an equals sign.
 fn assigned_value<'a>(alloc: Global, tokens: &'a [Token]) -> Parsed<'a, Value>
     ensures ok { IfOk result (λ r. IsAssignedRead tokens.now r.1.now (value_tree r.0)) }
     ensures shorter { IfOk result (λ r. length r.1.now < length tokens.now) }
@@ -27,7 +27,7 @@ fn assigned_value<'a>(alloc: Global, tokens: &'a [Token]) -> Parsed<'a, Value>
     value(alloc, start)
 }
 
-/// An assignment, an indexed assignment or a call, behind the name with which it begins.
+/// Parses an assignment, an indexed assignment or a call, after the name with which it begins.
 fn simple<'a>(alloc: Global, name: Identifier, tokens: &'a [Token]) -> Parsed<'a, Simple>
     ensures ok { IfOk result (λ r. IsRead simple (Name name ∷ tokens.now) r.1.now (simple_of r.0)) }
     ensures shorter { IfOk result (λ r. length r.1.now < length tokens.now) }
@@ -49,7 +49,7 @@ fn simple<'a>(alloc: Global, name: Identifier, tokens: &'a [Token]) -> Parsed<'a
     Ok((Simple::Assign(name, given), end))
 }
 
-/// A condition in parentheses.
+/// Parses a condition in parentheses.
 fn condition<'a>(alloc: Global, tokens: &'a [Token]) -> Parsed<'a, Expression>
     ensures ok { IfOk result (λ r. IsConditionRead tokens.now r.1.now (expression_of r.0)) }
     ensures shorter { IfOk result (λ r. length r.1.now < length tokens.now) }
@@ -59,7 +59,7 @@ fn condition<'a>(alloc: Global, tokens: &'a [Token]) -> Parsed<'a, Expression>
     closed_expression(alloc, open, Mark::RightParen)
 }
 
-/// The type at the front, if one stands here: `int`, `unsigned` or `unsigned int`.
+/// Parses the type at the front, if one stands here: `int`, `unsigned` or `unsigned int`.
 pub fn integer_type<'a>(tokens: &'a [Token]) -> Option<(IntegerType, &'a [Token])>
     ensures none { IfNone result (HasNoType tokens.now) }
     ensures some { IfSome result (λ r. IsRead a_type tokens.now r.1.now r.0) }
@@ -75,7 +75,7 @@ pub fn integer_type<'a>(tokens: &'a [Token]) -> Option<(IntegerType, &'a [Token]
     }
 }
 
-/// A simple statement, if one stands here, and the mark that has to follow.
+/// Parses a simple statement, if one stands here, and the mark that has to follow.
 fn ended_simple<'a>(alloc: Global, tokens: &'a [Token], closing: Mark) -> Parsed<'a, Option<Simple>>
     ensures ok { IfOk result (λ r. IsEndedRead maybe_simple closing tokens.now r.1.now (maybe_simple_of r.0)) }
     ensures shorter { IfOk result (λ r. length r.1.now < length tokens.now) }
@@ -90,7 +90,7 @@ fn ended_simple<'a>(alloc: Global, tokens: &'a [Token], closing: Mark) -> Parsed
     }
 }
 
-/// An expression, if one stands here, and the semicolon that has to follow.
+/// Parses an expression, if one stands here, and the semicolon that has to follow.
 fn ended_expression<'a>(alloc: Global, tokens: &'a [Token]) -> Parsed<'a, Option<Expression>>
     ensures ok { IfOk result (λ r. IsEndedRead maybe_expression Semicolon tokens.now r.1.now (maybe_expression_of r.0)) }
     ensures shorter { IfOk result (λ r. length r.1.now < length tokens.now) }
@@ -103,7 +103,7 @@ fn ended_expression<'a>(alloc: Global, tokens: &'a [Token]) -> Parsed<'a, Option
     Ok((Some(inner), end))
 }
 
-/// The parts of a `for` in their parentheses.
+/// Parses the parts of a `for` in their parentheses.
 fn for_parts<'a>(alloc: Global, tokens: &'a [Token]) -> Parsed<'a, ForParts>
     ensures ok { IfOk result (λ r. IsHeadRead tokens.now r.1.now (maybe_simple_of r.0.first) (maybe_expression_of r.0.test)
         (maybe_simple_of r.0.last)) }
@@ -118,7 +118,7 @@ fn for_parts<'a>(alloc: Global, tokens: &'a [Token]) -> Parsed<'a, ForParts>
     Ok((ForParts { first, test, last }, end))
 }
 
-/// What stands after `break`, `continue` or `return`.
+/// Parses what stands after `break`, `continue` or `return`.
 fn jump<'a>(alloc: Global, word: JumpWord, at: usize, tokens: &'a [Token]) -> Parsed<'a, Statement>
     ensures ok { IfOk result (λ r. IsRead a_statement (Jump word at ∷ tokens.now) r.1.now (statement_of r.0)) }
     ensures shorter { IfOk result (λ r. length r.1.now < length tokens.now) }
@@ -134,7 +134,7 @@ fn jump<'a>(alloc: Global, word: JumpWord, at: usize, tokens: &'a [Token]) -> Pa
     }
 }
 
-/// A statement.
+/// Parses a statement.
 #[cycle(statements)]
 fn statement<'a>(alloc: Global, tokens: &'a [Token]) -> Parsed<'a, Statement>
     ensures ok { IfOk result (λ r. IsRead a_statement tokens.now r.1.now (statement_of r.0)) }
@@ -165,7 +165,7 @@ fn statement<'a>(alloc: Global, tokens: &'a [Token]) -> Parsed<'a, Statement>
     }
 }
 
-/// What stands after `if`.
+/// Parses what stands after `if`.
 #[cycle(statements)]
 fn if_then<'a>(alloc: Global, tokens: &'a [Token]) -> Parsed<'a, Statement>
     ensures ok { IfOk result (λ r. IsBranchRead tokens.now r.1.now (statement_of r.0)) }
@@ -183,7 +183,7 @@ fn if_then<'a>(alloc: Global, tokens: &'a [Token]) -> Parsed<'a, Statement>
     }
 }
 
-/// What stands after `while`.
+/// Parses what stands after `while`.
 #[cycle(statements)]
 fn while_loop<'a>(alloc: Global, tokens: &'a [Token]) -> Parsed<'a, Statement>
     ensures ok { IfOk result (λ r. IsRead a_statement (The While ∷ tokens.now) r.1.now (statement_of r.0)) }
@@ -195,7 +195,7 @@ fn while_loop<'a>(alloc: Global, tokens: &'a [Token]) -> Parsed<'a, Statement>
     Ok((Statement::While(test, body), end))
 }
 
-/// What stands after `for`.
+/// Parses what stands after `for`.
 #[cycle(statements)]
 fn for_loop<'a>(alloc: Global, tokens: &'a [Token]) -> Parsed<'a, Statement>
     ensures ok { IfOk result (λ r. IsRead a_statement (The For ∷ tokens.now) r.1.now (statement_of r.0)) }
@@ -207,7 +207,7 @@ fn for_loop<'a>(alloc: Global, tokens: &'a [Token]) -> Parsed<'a, Statement>
     Ok((Statement::For(parts, body), end))
 }
 
-/// The first value of a local variable, if one stands here.
+/// Parses the first value of a local variable, if one stands here.
 fn first_value<'a>(alloc: Global, tokens: &'a [Token]) -> Parsed<'a, Option<Value>>
     ensures ok { IfOk result (λ r. IsRead declared tokens.now r.1.now (maybe_value_tree r.0)) }
     ensures shorter { IfOk result (λ r. length r.1.now ≤ length tokens.now) }
@@ -222,7 +222,7 @@ fn first_value<'a>(alloc: Global, tokens: &'a [Token]) -> Parsed<'a, Option<Valu
     }
 }
 
-/// A declaration of a local variable, or a statement.
+/// Parses a declaration of a local variable, or a statement.
 #[cycle(statements)]
 fn item<'a>(alloc: Global, tokens: &'a [Token]) -> Parsed<'a, Item>
     ensures ok { IfOk result (λ r. IsRead an_item tokens.now r.1.now (item_of r.0)) }
@@ -242,7 +242,7 @@ fn item<'a>(alloc: Global, tokens: &'a [Token]) -> Parsed<'a, Item>
     }
 }
 
-/// Whether no item can stand here: at a closing brace, or at the end.
+/// Reports whether no item can stand here: at a closing brace, or at the end.
 fn ends_items(tokens: &[Token]) -> bool
     ensures { IsTrue result ↔ EndsItems (first tokens.now) }
 {
@@ -258,7 +258,7 @@ fn ends_items(tokens: &[Token]) -> bool
     }
 }
 
-/// The items up to a closing brace, or to the end.
+/// Parses the items up to a closing brace, or to the end.
 #[cycle(statements)]
 pub fn items<'a>(alloc: Global, tokens: &'a [Token]) -> Parsed<'a, Vec<Item>>
     ensures ok { IfOk result (λ r. IsRead items tokens.now r.1.now (items_of r.0.items)) }

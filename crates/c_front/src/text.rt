@@ -1,16 +1,16 @@
-// A whole text: its bytes, its tokens, its program, or the fault that comes first.
-ghost use Rattle.std.specs.Prelude.{◌≡◌, ◌≢◌, ◌≤◌, ℕ, List, length, IfOk, IfErr, IfSome, IfNone};
+//! A whole text: its bytes, its tokens, its program, or the fault that comes first.
+ghost use Rattle.std.specs.Prelude.{◌≡◌, ◌≢◌, ◌≤◌, ℕ, List, true, length, IfOk, IfErr, IfSome, IfNone};
 ghost use Rattle.c_tree.specs.Shape.{declarations_of};
 ghost use Rattle.c_front.specs.Texts.{SpellsText, IsTextFault, is_text, AllText, place_or, refusal_kind};
 ghost use Rattle.c_tree.specs.Tree.{Declaration};
 ghost use Rattle.c_front.specs.declared.fault.FrontFaultKind.{FrontFaultKind};
 ghost use Rattle.c_front.specs.declared.fault.FrontFaultKind.TheVariants.{NoMemory};
 ghost use Rattle.c_tokens.specs.declared.sizes.TheConstants.{MAX_TEXT};
-ghost use Rattle.c_front.specs.Faults.{lexical_fault, syntactic_fault};
+ghost use Rattle.c_front.specs.Faults.{lexical_fault, memory_fault, IsToldAs};
 
 use crate::declaration::{SyntaxFault, parse};
 use crate::fault::{FrontFault, FrontFaultKind};
-use c_tokens::{LexFault, MAX_TEXT, Refusal, lex};
+use c_tokens::{LexFault, MAX_TEXT, Refusal, places, tokens};
 use c_tree::Program;
 use std::alloc::{AllocError, AllocFailed, Global};
 
@@ -20,7 +20,18 @@ fn is_text(byte: u8) -> bool
     (b' ' <= byte && byte <= b'~') || byte == b'\t' || byte == b'\n' || byte == b'\r'
 }
 
-/// What is wrong with the size or the bytes of a text.
+/// Reports whether a text may have each of its bytes. The loop has no early end, so many bytes are tested at once.
+fn is_all_text(text: &[u8]) -> bool
+    ensures { result ≡ true → AllText text.now }
+{
+    let mut is_all = true;
+    for byte in text {
+        is_all = is_all & is_text(*byte);
+    }
+    is_all
+}
+
+/// Returns what is wrong with the size or the bytes of a text.
 fn unreadable(text: &[u8]) -> Option<FrontFault>
     ensures short { IfNone result (length text.now ≤ MAX_TEXT) }
     ensures bytes { IfNone result (AllText text.now) }
@@ -31,6 +42,9 @@ fn unreadable(text: &[u8]) -> Option<FrontFault>
             kind: FrontFaultKind::Size,
             at: MAX_TEXT,
         });
+    }
+    if is_all_text(text) {
+        return None;
     }
     for at in 0..text.len() {
         if !is_text(text[at]) {
@@ -43,7 +57,7 @@ fn unreadable(text: &[u8]) -> Option<FrontFault>
     None
 }
 
-/// The offset of the token of a number, or the text's length.
+/// Returns the offset of the token of a number, or the text's length.
 fn place(length: usize, places: &[u32], k: usize) -> usize
     ensures { result ≡ place_or length places.now k }
 {
@@ -79,23 +93,34 @@ fn lexical(fault: LexFault, length: usize) -> FrontFault
     }
 }
 
-fn syntactic(fault: SyntaxFault, length: usize, places: &[u32]) -> FrontFault
-    ensures { result ≡ syntactic_fault length places.now fault }
+fn no_memory(text: &[u8]) -> FrontFault
+    ensures { result ≡ memory_fault (length text.now) }
 {
-    match fault {
-        SyntaxFault::Wrong(k) => FrontFault {
-            kind: FrontFaultKind::Syntax,
-            at: place(length, places, k),
-        },
-        SyntaxFault::OutOfMemory => FrontFault {
-            kind: FrontFaultKind::NoMemory,
-            at: length,
-        },
+    FrontFault {
+        kind: FrontFaultKind::NoMemory,
+        at: text.len(),
     }
 }
 
-/// The program that a text spells (C99 6.4 to 6.9, in the profile of `specs/Grammar.antt`), or why it is refused:
-/// first its length is tested, then its bytes, then its tokens with their constants and sizes, then their order.
+/// Returns the fault of tokens that spell no program. The offsets of tokens are found only now.
+fn syntactic(alloc: Global, fault: SyntaxFault, text: &[u8]) -> FrontFault
+    requires { length text.now ≤ MAX_TEXT }
+    ensures { IsToldAs text.now fault result }
+{
+    let SyntaxFault::Wrong(k) = fault else {
+        return no_memory(text);
+    };
+    match places(alloc, text) {
+        Ok(places) => FrontFault {
+            kind: FrontFaultKind::Syntax,
+            at: place(text.len(), &places, k),
+        },
+        Err(_) => no_memory(text),
+    }
+}
+
+/// Returns the program that a text spells (C99 6.4 to 6.9, in the profile of `specs/Grammar.antt`), or why it is refused: first its length
+/// is tested, then its bytes, then its tokens with their constants and sizes, then their order.
 ///
 /// It descends into the text: about 1,400 bytes of stack for each nested statement, of which the sizes allow about
 /// 163,000, and as much to drop the program. Read a hostile text on a thread with 256 MB of stack.
@@ -107,23 +132,20 @@ pub fn read(alloc: Global, text: &[u8]) -> Result<Program, FrontFault>
     if let Some(fault) = unreadable(text) {
         return Err(fault);
     }
-    match lex(alloc, text) {
+    match tokens(alloc, text) {
         Err(fault) => Err(lexical(fault, text.len())),
-        Ok((tokens, places)) => match parse(alloc, &tokens) {
+        Ok(tokens) => match parse(alloc, &tokens) {
             Ok(declarations) => match Vec::from_slice(alloc, text) {
                 Ok(text) => Ok(Program { declarations, text }),
-                Err(_) => Err(FrontFault {
-                    kind: FrontFaultKind::NoMemory,
-                    at: text.len(),
-                }),
+                Err(_) => Err(no_memory(text)),
             },
-            Err(fault) => Err(syntactic(fault, text.len(), &places)),
+            Err(fault) => Err(syntactic(alloc, fault, text)),
         },
     }
 }
 
-/// A text spells one program at most, and none where it has a fault other than want of memory; of these it has one at
-/// most, at one place. A law: it computes nothing.
+/// States that a text spells one program at most, and none if it has a fault other than lack of memory. Of these it has one at most, at one
+/// place. A law: it computes nothing.
 pub fn one_reading()
     ensures once { (text : List ℕ) (p q : List Declaration) → SpellsText text p → SpellsText text q → p ≡ q }
     ensures refused { (text : List ℕ) (k : FrontFaultKind) (at : ℕ) (p : List Declaration) → IsTextFault text k at → k ≢ NoMemory

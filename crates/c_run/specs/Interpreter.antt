@@ -37,7 +37,7 @@ waiting_of all = todo_list_of (reverse all)
 abbrev pub todos : Agenda → List Todo
 todos a = before_all (statements_of a.list.now) (waiting_of a.behind.items)
 
--- what was first, and the others behind it
+-- what was first, and the others after it
 abbrev pub with_head : Head → List Todo → List Todo
 with_head Heads.Nothing k = []
 with_head (Heads.Statement s) k = Do (statement_of s.now) ∷ k
@@ -95,6 +95,6 @@ Returns globals v before r after =
     state_after_return globals v before.frame.result_to (map frame_of (callers_of before)) (arrays before.globals.items) before.output.items
     ≡ reached_by frame_of r after
 
--- the locals, with what comes first and the others behind it
+-- the locals, with what comes first and the others after it
 abbrev pub point_at : Places → Head → List Todo → Point
 point_at l h k = record { locals = l; todo = with_head h k }

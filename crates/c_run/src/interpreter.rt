@@ -1,4 +1,4 @@
-// A program under way: active calls, variables at file scope and output.
+//! A program under way: active calls, variables at file scope and output.
 ghost use Rattle.std.specs.Prelude.{◌≡◌, ℕ, IfOk, None, Some, if◌then◌else◌, List, map};
 ghost use Rattle.runs.specs.Kept.{arrays};
 ghost use Rattle.c_typed.specs.Meaning.{kept_in, elements_with};
@@ -27,7 +27,7 @@ pub struct Frame<'a> {
 /// A typed program under way.
 pub type Interpreter<'a> = runs::Interpreter<Frame<'a>>;
 
-// What an element of a global keeps of a word; None where there is no such global.
+/// Returns what an element of a global keeps of a word; None if there is no such global.
 fn kept_by(program: &Typed, global: usize, v: u32) -> Option<u32>
     ensures { result ≡ kept_in program.now.globals global v }
 {
@@ -35,7 +35,7 @@ fn kept_by(program: &Typed, global: usize, v: u32) -> Option<u32>
     Some(global.width.kept(v))
 }
 
-// An element of a global is assigned to, and keeps what its width lets it; false outside.
+/// Assigns to an element of a global, which keeps what its width lets it; false outside.
 fn assign_element(
     program: &Typed,
     globals: &mut [Vec<u32>],
@@ -51,7 +51,7 @@ fn assign_element(
     store(globals, global, index, word)
 }
 
-// A word goes to a local, or to a global variable.
+/// Puts a word into a local, or into a global variable.
 #[inline(always)]
 fn put_at(
     program: &Typed,
@@ -76,7 +76,7 @@ fn put_at(
     }
 }
 
-// A function is called with these values.
+/// Calls a function with these values.
 fn enter<'a>(
     alloc: Global,
     program: &'a Typed,
@@ -103,7 +103,7 @@ fn enter<'a>(
     Ok(Reached::Going)
 }
 
-// A call returns, with a word or without.
+/// Leaves a call, with a word or without.
 fn leave(
     program: &Typed,
     interpreter: &mut Interpreter,
@@ -123,7 +123,7 @@ fn leave(
     put_at(program, interpreter, place, v)
 }
 
-// `place = e`
+/// Runs `place = e`.
 fn assign_to(
     program: &Typed,
     interpreter: &mut Interpreter,
@@ -139,7 +139,7 @@ fn assign_to(
     put_at(program, interpreter, place, v)
 }
 
-// `array[i] = e`
+/// Runs `array[i] = e`.
 fn store_at(
     program: &Typed,
     interpreter: &mut Interpreter,
@@ -163,7 +163,7 @@ fn store_at(
     }
 }
 
-// `f(..)` or `place = f(..)`
+/// Runs `f(..)` or `place = f(..)`.
 fn call_function<'a>(
     alloc: Global,
     program: &'a Typed,
@@ -188,7 +188,7 @@ fn call_function<'a>(
     enter(alloc, program, depth, interpreter, function, values, to)
 }
 
-// `out(e)`
+/// Runs `out(e)`.
 fn write_out(interpreter: &mut Interpreter, e: &TypedExpression) -> Result<Reached, AllocError>
     ensures { IfOk result (λ r. Does (output (typed_expression_of e.now)) interpreter.old r interpreter.new) }
 {
@@ -199,7 +199,7 @@ fn write_out(interpreter: &mut Interpreter, e: &TypedExpression) -> Result<Reach
     Ok(Reached::Going)
 }
 
-// `if (test) first else second`
+/// Runs `if (test) first else second`.
 fn branch_on<'a>(
     interpreter: &mut Interpreter<'a>,
     test: &TypedExpression,
@@ -220,7 +220,7 @@ fn branch_on<'a>(
     Ok(Reached::Going)
 }
 
-// A test of a loop: its body is next, and then its last part and the loop again.
+/// Tests a loop: its body is next, and then its last part and the loop again.
 #[inline(always)]
 fn repeat<'a>(
     interpreter: &mut Interpreter<'a>,
@@ -241,7 +241,7 @@ fn repeat<'a>(
     Ok(Reached::Going)
 }
 
-// `return` or `return e`
+/// Runs `return` or `return e`.
 fn return_word(
     program: &Typed,
     interpreter: &mut Interpreter,
@@ -259,7 +259,7 @@ fn return_word(
     leave(program, interpreter, Some(v))
 }
 
-// A statement that was first is done.
+/// Runs the statement that is first.
 pub(crate) fn act<'a>(
     alloc: Global,
     program: &'a Typed,
@@ -293,7 +293,7 @@ pub(crate) fn act<'a>(
     }
 }
 
-// One step of the program, at whatever comes first. (The test of a loop comes with each turn: it is spared the call of `act`.)
+/// Takes one step of the program, at whatever comes first. (The test of a loop comes with each turn: it is spared the call of `act`.)
 #[inline(always)]
 fn settled_step<'a>(
     alloc: Global,
@@ -315,7 +315,7 @@ fn settled_step<'a>(
     }
 }
 
-/// One step of the program. An assignment that is next in its list is done without a look at what waits behind it.
+/// Takes one step of the program. An assignment that is next in its list is done without a look at what waits after it.
 #[inline(always)]
 pub(crate) fn step<'a>(
     alloc: Global,

@@ -1,4 +1,4 @@
-// What an active call still has to do.
+//! What an active call still has to do.
 ghost use Rattle.std.specs.Prelude.{◌≡◌, ℕ, [], ◌∷◌, OnOk, IfOk, None, length, ◌+◌, ◌≤◌};
 ghost use Rattle.runs.specs.Stores.{places_with};
 ghost use Rattle.c_typed.specs.Meaning.{before, before_all, next_point, Going, Next};
@@ -11,8 +11,8 @@ ghost use Rattle.c_run.specs.Turns.{past_turn, at_turn};
 use c_typed::TypedStatement;
 use std::alloc::{AllocError, Global};
 
-/// What waits behind a list of statements: a list, a statement, or the end of a turn (its last part, and the loop). The last two have
-/// the list that comes behind them. A list is lent, so to enter a block is one push.
+/// What waits after a list of statements: a list, a statement, or the end of a turn (its last part, and the loop). The last two have
+/// the list that comes after them. A list is lent, so to enter a block is one push.
 #[derive(Clone, Copy)]
 pub enum Pending<'a> {
     Rest(&'a [TypedStatement]),
@@ -20,7 +20,7 @@ pub enum Pending<'a> {
     Turn(&'a TypedStatement, &'a TypedStatement, &'a [TypedStatement]),
 }
 
-/// What a call still has to do: what is left of the list that it is in, and what waits behind it, the first one last.
+/// What a call still has to do: what is left of the list that it is in, and what waits after it, the first one last.
 #[derive(Drop)]
 pub struct Agenda<'a> {
     pub list: &'a [TypedStatement],
@@ -35,7 +35,7 @@ pub enum Head<'a> {
     Turn(&'a TypedStatement, &'a TypedStatement),
 }
 
-// A local is unset.
+/// Unsets a local.
 fn unset(locals: &mut Vec<Option<u32>>, number: usize)
     ensures { places locals.new.items ≡ places_with (places locals.old.items) number None }
 {
@@ -45,7 +45,7 @@ fn unset(locals: &mut Vec<Option<u32>>, number: usize)
 }
 
 impl<'a> Agenda<'a> {
-    /// A list of statements to do, and nothing behind it.
+    /// Returns a list of statements to do, and nothing after it.
     pub(crate) fn of(alloc: Global, list: &'a [TypedStatement]) -> Agenda<'a>
         ensures { todos result ≡ before_all (statements_of list.now) [] }
     {
@@ -55,12 +55,12 @@ impl<'a> Agenda<'a> {
         }
     }
 
-    /// How many statements are left of the list.
+    /// Returns how many statements are left of the list.
     pub(crate) fn left(&self) -> usize {
         self.list.len()
     }
 
-    // Another list to do first; what is left of the one before waits.
+    /// Puts another list first; what is left of the one before waits.
     #[inline(always)]
     fn put_list(&mut self, list: &'a [TypedStatement]) -> Result<(), AllocError>
         ensures todo { OnOk result (todos self.new ≡ before_all (statements_of list.now) (todos self.old)) }
@@ -75,7 +75,7 @@ impl<'a> Agenda<'a> {
         Ok(())
     }
 
-    // One more statement to do first; a block is the list that it is.
+    /// Puts one more statement first; a block is the list that it is.
     #[inline(always)]
     pub(crate) fn put(&mut self, s: &'a TypedStatement) -> Result<(), AllocError>
         ensures { OnOk result (todos self.new ≡ before (statement_of s.now) (todos self.old)) }
@@ -90,7 +90,7 @@ impl<'a> Agenda<'a> {
         }
     }
 
-    // A turn of a loop to do first: its body, and then its last part and the loop again.
+    /// Puts a turn of a loop first: its body, and then its last part and the loop again.
     #[inline(always)]
     pub(crate) fn put_turn(
         &mut self,
@@ -106,7 +106,7 @@ impl<'a> Agenda<'a> {
         self.put(body)
     }
 
-    // Takes what waits behind a list that is done, which may be a list.
+    /// Takes what waits after a list that is done, which may be a list.
     fn take_behind(&mut self) -> Head<'a>
         requires { length self.old.list.now ≡ 0 }
         ensures same { todos self.old ≡ with_part result (todos self.new) }
@@ -133,7 +133,7 @@ impl<'a> Agenda<'a> {
         Head::Nothing
     }
 
-    // Takes a statement, which may be a list of them, or the end of a turn.
+    /// Takes a statement, which may be a list of them, or the end of a turn.
     #[inline(always)]
     fn take_one(&mut self) -> Head<'a>
         ensures same { todos self.old ≡ with_part result (todos self.new) }
@@ -148,7 +148,7 @@ impl<'a> Agenda<'a> {
         }
     }
 
-    // Takes what comes first.
+    /// Takes what comes first.
     #[inline(always)]
     fn take_first(&mut self) -> Result<Head<'a>, AllocError>
         ensures { IfOk result (λ h. todos self.old ≡ with_head h (todos self.new)) }
@@ -166,7 +166,7 @@ impl<'a> Agenda<'a> {
         }
     }
 
-    // Past the end of the turn: what `break` leaves.
+    /// Goes past the end of the turn, as `break` does.
     fn leave_turn(&mut self)
         ensures { todos self.new ≡ past_turn (todos self.old) }
     {
@@ -182,7 +182,7 @@ impl<'a> Agenda<'a> {
         }
     }
 
-    // To the end of the turn: where `continue` leads.
+    /// Goes to the end of the turn, as `continue` does.
     fn to_turn(&mut self)
         ensures { todos self.new ≡ at_turn (todos self.old) }
     {
@@ -198,7 +198,7 @@ impl<'a> Agenda<'a> {
         }
     }
 
-    // Takes the first part of the next turn, behind the end of one: a `while` has no last part, so that is the loop.
+    /// Takes the first part of the next turn, after the end of one: a `while` has no last part, so that is the loop.
     #[inline(always)]
     fn take_turn(
         &mut self,
@@ -218,8 +218,8 @@ impl<'a> Agenda<'a> {
         }
     }
 
-    // On to the next statement that takes a step, which is taken off the list. (The locals are seldom looked at, so that their
-    // slice isn't made here.)
+    /// Goes on to the next statement that takes a step, which is taken off the list. (The locals are seldom looked at, so that their slice
+    /// isn't made here.)
     #[inline(always)]
     pub(crate) fn settle(&mut self, locals: &mut Vec<Option<u32>>) -> Result<Head<'a>, AllocError>
         ensures { IfOk result (λ h. next_point Going (places locals.old.items) (todos self.old)

@@ -1,4 +1,4 @@
-// Where a run is wrong: the function that runs, and its statement.
+//! Where a run is wrong: the function that runs, and its statement.
 use crate::interpreter::act;
 use crate::pending::Head;
 use crate::steps::start;
@@ -32,8 +32,8 @@ fn keep_active(
     Ok(())
 }
 
-/// Finds where so many steps of a program end wrong, with at most `depth` calls active at once, if they do. `Err` only where memory is
-/// refused. No contract says that the place is right; a run doesn't keep it.
+/// Finds where so many steps of a program end wrong, with at most `depth` calls active at once, if they do. `Err` only if memory runs out.
+/// No contract says that the place is right; a run doesn't keep it.
 pub fn wrong_place_of<'a>(
     alloc: Global,
     program: &'a Typed,

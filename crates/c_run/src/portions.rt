@@ -1,4 +1,4 @@
-// A program's run in portions.
+//! A program's run in portions.
 ghost use Rattle.std.specs.Prelude.{◌≡◌, ◌<◌, IfOk};
 ghost use Rattle.c_types.specs.Shape.{program_of};
 ghost use Rattle.c_typed.specs.Meaning.{source_start};
@@ -28,7 +28,7 @@ pub struct Portion {
     pub steps: u64,
 }
 
-/// A program before its first step.
+/// Returns a program before its first step.
 pub fn begin<'a>(alloc: Global, program: &'a Typed, depth: u32) -> Result<UnderWay<'a>, AllocError>
     ensures start { IfOk result (λ m. state_of m ≡ source_start (program_of program.now)) }
     ensures program { IfOk result (λ m. m.program.now ≡ program.now) }
@@ -43,7 +43,7 @@ pub fn begin<'a>(alloc: Global, program: &'a Typed, depth: u32) -> Result<UnderW
 }
 
 impl<'a> UnderWay<'a> {
-    /// Goes on for at most so many steps, until it holds so many words of output. `Err` only where memory is refused.
+    /// Goes on for at most so many steps, until it holds so many words of output. `Err` only if memory runs out.
     pub fn go_on(
         &mut self,
         alloc: Global,
@@ -80,7 +80,7 @@ impl<'a> UnderWay<'a> {
         })
     }
 
-    /// What was written so far, the first word first.
+    /// Returns what was written so far, the first word first.
     pub fn output(&self) -> &[u32]
         ensures { result.now ≡ (outcome (state_of self.now)).output }
     {
@@ -97,7 +97,7 @@ impl<'a> UnderWay<'a> {
     }
 }
 
-/// The law that a run doesn't depend on what was written before it.
+/// States that a run doesn't depend on what was written before it.
 pub fn output_goes_before()
     ensures { OutputGoesBefore }
 {}

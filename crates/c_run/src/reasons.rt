@@ -1,4 +1,4 @@
-// Why a run is wrong: the part of the statement at which it ended that has no value.
+//! Why a run is wrong: the part of the statement at which it ended that has no value.
 ghost use Rattle.std.specs.Prelude.{◌≡◌, ◌↔◌, IfOk, IfSome, IsSome};
 ghost use Rattle.runs.specs.declared.ran.End.TheVariants.{Wrong};
 ghost use Rattle.runs.specs.declared.reached.Reached.TheVariants.{Failed};
@@ -49,7 +49,7 @@ pub enum Reason {
     NoResult,
 }
 
-/// Whether the right side isn't evaluated behind this word on the left.
+/// Reports whether the right side isn't evaluated after this word on the left.
 fn is_decided(operator: BinaryOp, left: u32) -> bool {
     match operator {
         BinaryOp::LogicalAnd => left == 0,
@@ -58,7 +58,7 @@ fn is_decided(operator: BinaryOp, left: u32) -> bool {
     }
 }
 
-/// Why there is no element at this index, if there is none.
+/// Returns why there is no element at this index, if there is none.
 fn missing_of_element(
     globals: &[Vec<u32>],
     array: usize,
@@ -78,7 +78,7 @@ fn missing_of_element(
     })
 }
 
-/// The first part of an expression, in the order in which they are evaluated, that has no value; None where it has one.
+/// Returns the first part of an expression, in the order in which they are evaluated, that has no value; None if it has one.
 fn missing_of_expression(
     e: &TypedExpression,
     locals: &[Option<u32>],
@@ -141,7 +141,7 @@ fn missing_of_expression(
     }
 }
 
-/// Why an assignment to an element can't be done.
+/// Returns why an assignment to an element can't be done.
 fn missing_of_store(
     interpreter: &Interpreter,
     array: usize,
@@ -163,7 +163,7 @@ fn missing_of_store(
     }
 }
 
-/// Why a call can't be done.
+/// Returns why a call can't be done.
 fn missing_of_call(interpreter: &Interpreter, arguments: &[TypedExpression]) -> Reason
     ensures { IsReason result }
 {
@@ -179,7 +179,7 @@ fn missing_of_call(interpreter: &Interpreter, arguments: &[TypedExpression]) -> 
     Reason::TooDeep
 }
 
-/// Why a statement can't be done.
+/// Returns why a statement can't be done.
 fn missing_of_statement(interpreter: &Interpreter, s: &TypedStatement) -> Option<Reason>
     ensures { IfSome result IsReason }
 {
@@ -199,7 +199,7 @@ fn missing_of_statement(interpreter: &Interpreter, s: &TypedStatement) -> Option
     }
 }
 
-/// One step of the program and, exactly where it fails, why. `Err` only where memory is refused.
+/// Takes one step of the program and, exactly if it fails, returns why. `Err` only if memory runs out.
 fn explained_step<'a>(
     alloc: Global,
     program: &'a Typed,
@@ -226,8 +226,8 @@ fn explained_step<'a>(
     }
 }
 
-/// Finds why so many steps of a program end wrong, with at most `depth` calls active at once; None exactly where they don't.
-/// The steps are done anew, so that a run needn't keep what only a wrong one is asked for. `Err` only where memory is refused.
+/// Finds why so many steps of a program end wrong, with at most `depth` calls active at once; None exactly if they don't. The steps are
+/// done again, so that a run needn't keep what only a wrong one is asked for. `Err` only if memory runs out.
 pub fn reason_of(
     alloc: Global,
     program: &Typed,

@@ -1,4 +1,4 @@
-// The run of a typed program, so many steps.
+//! The run of a typed program, so many steps.
 ghost use Rattle.std.specs.Prelude.{◌≡◌, IfOk, map};
 ghost use Rattle.runs.specs.Runs.{outcome_of};
 ghost use Rattle.c_types.specs.Shape.{program_of};
@@ -13,7 +13,7 @@ use c_types::Typed;
 use runs::{Ran, run_steps};
 use std::alloc::{AllocError, Global};
 
-// The globals before the first step.
+/// Returns the globals before the first step.
 fn first_globals(alloc: Global, program: &Typed) -> Result<Vec<Vec<u32>>, AllocError>
     ensures { IfOk result (λ g. arrays g.items ≡ map first_words program.now.globals) }
 {
@@ -26,7 +26,7 @@ fn first_globals(alloc: Global, program: &Typed) -> Result<Vec<Vec<u32>>, AllocE
     Ok(globals)
 }
 
-// The run before its first step.
+/// Returns the run before its first step.
 pub(crate) fn start<'a>(alloc: Global, program: &'a Typed) -> Result<Interpreter<'a>, AllocError>
     ensures { IfOk result (λ r. source_start (program_of program.now) ≡ state_by frame_of r) }
 {
@@ -40,8 +40,8 @@ pub(crate) fn start<'a>(alloc: Global, program: &'a Typed) -> Result<Interpreter
     Ok(Interpreter::new(alloc, frame, globals))
 }
 
-/// What so many steps of a program come to, with at most `depth` calls active at once, `main` among them. `Err` only
-/// where memory is refused.
+/// Returns what so many steps of a program come to, with at most `depth` calls active at once, `main` among them. `Err` only if memory runs
+/// out.
 pub fn run(alloc: Global, program: &Typed, depth: u32, steps: u64) -> Result<Ran, AllocError>
     ensures { IfOk result (λ r. outcome_of r ≡ source_run (program_of program.now) depth steps) }
 {

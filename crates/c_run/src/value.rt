@@ -1,4 +1,4 @@
-// Values of typed expressions (C99 6.5).
+//! Values of typed expressions (C99 6.5).
 ghost use Rattle.std.specs.Prelude.{◌≡◌, ℕ, Option, Some, IfOk, map};
 ghost use Rattle.std.specs.Option.{option_map};
 ghost use Rattle.c_typed.specs.Shape.{typed_expression_of, typed_expressions_of};
@@ -13,7 +13,7 @@ use runs::{element, word_at};
 use std::alloc::{AllocError, Global};
 use words::Sign;
 
-/// How the words of a type are read.
+/// Returns how the words of a type are read.
 #[inline]
 fn sign(integer_type: IntegerType) -> Sign
     ensures { result ≡ sign_of integer_type }
@@ -24,7 +24,7 @@ fn sign(integer_type: IntegerType) -> Sign
     }
 }
 
-/// The word that a constant means.
+/// Returns the word that a constant means.
 #[inline(always)]
 fn constant(value: u32) -> u32
     ensures { result ≡ wrap value }
@@ -32,7 +32,7 @@ fn constant(value: u32) -> u32
     value
 }
 
-/// A prefix operator on a word.
+/// Returns a prefix operator on a word.
 #[inline]
 pub(crate) fn unary_value(operator: UnaryOp, integer_type: IntegerType, x: u32) -> Option<u32>
     ensures { result ≡ unary_of operator (sign_of integer_type) x }
@@ -45,7 +45,7 @@ pub(crate) fn unary_value(operator: UnaryOp, integer_type: IntegerType, x: u32) 
     }
 }
 
-/// An operator on two words, both of which are evaluated.
+/// Returns an operator on two words, both of which are evaluated.
 #[inline(always)]
 pub(crate) fn binary_value(
     operator: BinaryOp,
@@ -76,7 +76,7 @@ pub(crate) fn binary_value(
     }
 }
 
-/// The same as `value`, without a call for a constant and a local.
+/// Returns the same as `value`, without a call for a constant and a local.
 #[cycle(value)]
 #[inline(always)]
 fn operand(e: &TypedExpression, locals: &[Option<u32>], globals: &[Vec<u32>]) -> Option<u32>
@@ -89,7 +89,7 @@ fn operand(e: &TypedExpression, locals: &[Option<u32>], globals: &[Vec<u32>]) ->
     }
 }
 
-/// The value of an expression at these locals and globals; None where C leaves it undefined, or a local isn't set.
+/// Returns the value of an expression at these locals and globals; None if C leaves it undefined, or a local isn't set.
 #[cycle(value)]
 pub(crate) fn value(
     e: &TypedExpression,
@@ -132,7 +132,7 @@ pub(crate) fn value(
     }
 }
 
-/// The values of the arguments of a call, each a local that is set; None where one has none.
+/// Returns the values of the arguments of a call, each a local that is set; None if one has none.
 pub(crate) fn arguments(
     alloc: Global,
     expressions: &[TypedExpression],

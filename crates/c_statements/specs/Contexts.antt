@@ -15,7 +15,7 @@ use Rattle.c_statements.specs.Types.{TypesStatement}
 abbrev pub text_of : Context → List ℕ
 text_of at = at.program.now.text.items
 
--- what a function that types a statement comes to: its answer, and behind it the scopes behind the statement, unless memory was refused
+-- what a function that types a statement comes to: its answer, and after it the scopes after the statement, unless memory was refused
 pub record Typing (at : Context) (before after : Scopes) (s : Statement) (r : Result TypedStatement TypeStop) : Type 0 where
   pub typed : Answers (λ t. TypesStatement (text_of at) before s (statement_of t))
       (FaultyStatement (text_of at) at.gives at.in_loop before s) r

@@ -60,7 +60,7 @@ pub record Answers {A : Type 0} (IsRight : A → Type 0) (faults : Faults) (r : 
 abbrev pub is_later : TypeFault → TypeFault → Bool
 is_later a b = nat_lt b.at a.at || (nat_eq a.at b.at && nat_lt (number_of b.kind) (number_of a.kind))
 
--- the stop that comes first; want of memory comes before all faults
+-- the stop that comes first; lack of memory comes before all faults
 abbrev pub first_of : TypeStop → TypeStop → TypeStop
 first_of (Fault a) (Fault b) = if is_later a b then Fault b else Fault a
 first_of _ _ = NoMemory
@@ -79,10 +79,10 @@ StopsBoth (Ok x) (Err b) s = s ≡ b
 StopsBoth (Err a) (Ok y) s = s ≡ a
 StopsBoth (Err a) (Err b) s = s ≡ first_of a b
 
--- the fault that is told of a text: the first of the set, or want of memory at the text's length
+-- the fault that is told of a text: the first of the set, or lack of memory at the text's length
 abbrev pub IsTypeFault : List ℕ → Faults → TypeFault → Type 0
 IsTypeFault text faults f = ((f.kind ≡ WantOfMemory) × (f.at ≡ length text)) ⊎ IsFirstFault faults f.kind f.at
 
--- why nothing is made of two answers: want of memory, or the first of their faults
+-- why nothing is made of two answers: lack of memory, or the first of their faults
 abbrev pub StopsTwo : {A B : Type 0} → Result A TypeStop → Result B TypeStop → TypeStop → Type 0
 StopsTwo a b s = (s ≡ NoMemory) ⊎ StopsBoth a b s

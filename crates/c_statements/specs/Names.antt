@@ -54,7 +54,7 @@ abbrev pub without_first : List Bindings → Scopes → Scopes
 without_first [] s = s
 without_first (m ∷ rest) s = record { inner = m; around = rest; locals = s.locals }
 
--- behind the end of a block
+-- after the end of a block
 abbrev pub outside : Scopes → Scopes
 outside s = without_first s.around s
 
@@ -65,14 +65,14 @@ no_scopes = record { inner = nothing; around = []; locals = 0 }
 abbrev pub without_locals : Scopes → Scopes
 without_locals s = record { inner = s.inner; around = s.around; locals = 0 }
 
--- behind a declarator
+-- after a declarator
 abbrev pub with_spelling : Scopes → List ℕ → Named → Scopes
 with_spelling s x m = record { inner = with_name s.inner x m; around = s.around; locals = s.locals }
 
 abbrev pub with_declared : List ℕ → Scopes → Identifier → Named → Scopes
 with_declared text s x m = with_spelling s (spelling_in text x) m
 
--- behind the declarator of a local, which has the next number
+-- after the declarator of a local, which has the next number
 abbrev pub with_local : List ℕ → Scopes → IntegerType → Identifier → Scopes
 with_local text s k x = record {
   inner = with_name s.inner (spelling_in text x)
@@ -103,7 +103,7 @@ abbrev mutual
   declared_in_all no_items = 0
   declared_in_all (more_items i rest) = declared_by i + declared_in_all rest
 
--- behind a statement its names are out of sight, but its locals count
+-- after a statement its names are out of sight, but its locals count
 abbrev pub behind : Scopes → Statement → Scopes
 behind sc s = record { inner = sc.inner; around = sc.around; locals = sc.locals + declared_in s }
 

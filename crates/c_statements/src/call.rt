@@ -1,4 +1,4 @@
-// What a called name stands for.
+//! What a called name stands for.
 ghost use Rattle.std.specs.Prelude.{◌≡◌, IfOk, IfErr, IfSome, IfNone, Some};
 ghost use Rattle.c_statements.specs.Calls.{Signs, IsNoFunction, IsTarget};
 ghost use Rattle.c_statements.specs.Faults.{Answers};
@@ -19,7 +19,7 @@ pub enum Target {
     Out,
 }
 
-/// What a call of the name goes to, the number of its parameters and whether it gives a result, if it is a function.
+/// Returns what a call of the name goes to, the number of its parameters and whether it gives a result, if it is a function.
 fn signature(named: Named) -> Option<(Target, usize, bool)>
     ensures some { IfSome result (λ s. Signs named s.0 s.1 s.2) }
     ensures none { IfNone result (IsNoFunction named) }
@@ -33,8 +33,8 @@ fn signature(named: Named) -> Option<(Target, usize, bool)>
     }
 }
 
-/// What a call with so many arguments goes to; `wanted` says that its result is used. A call of what isn't a function and a void result
-/// that is used come before another number of arguments than parameters. All are at the name.
+/// Returns what a call with so many arguments goes to; `wanted` says that its result is used. A call of what isn't a function and a void
+/// result that is used come before another number of arguments than parameters. All are at the name.
 pub fn callee(
     program: &Program,
     scopes: &Scopes,

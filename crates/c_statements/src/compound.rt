@@ -1,4 +1,4 @@
-// Typed statements from what the typing of their parts answered.
+//! Typed statements from what the typing of their parts answered.
 
 ghost use Rattle.std.specs.Prelude.{◌≡◌, ◌⊎◌, IfOk, IfErr, Ok, Err, box_value};
 ghost use Rattle.c_statements.specs.declared.fault.TypeStop.TheVariants.{NoMemory};
@@ -13,7 +13,7 @@ use c_tokens::IntegerType;
 use c_typed::{TypedExpression, TypedStatement};
 use std::alloc::{AllocError, AllocFailed, Global};
 
-/// The second of two parts, if neither has a fault.
+/// Returns the second of two parts, if neither has a fault.
 pub fn second<A: Drop, B: Drop>(
     a: Result<A, TypeStop>,
     b: Result<B, TypeStop>,
@@ -25,7 +25,7 @@ pub fn second<A: Drop, B: Drop>(
     Ok(part)
 }
 
-/// A value that is stored in an element.
+/// Returns a value that is stored in an element.
 pub fn store(
     array: Result<(usize, IntegerType), TypeStop>,
     index: Result<TypedExpression, TypeStop>,
@@ -39,7 +39,7 @@ pub fn store(
     Ok(TypedStatement::Store(number, index, value))
 }
 
-/// Two parts in boxes.
+/// Returns two parts in boxes.
 pub fn boxes<T: Drop>(
     alloc: Global,
     first: Result<T, TypeStop>,
@@ -52,7 +52,7 @@ pub fn boxes<T: Drop>(
     Ok((Box::new(alloc, first)?, Box::new(alloc, second)?))
 }
 
-/// An `if` with both its statements.
+/// Returns an `if` with both its statements.
 pub fn if_else(
     alloc: Global,
     condition: Result<TypedExpression, TypeStop>,
@@ -66,7 +66,7 @@ pub fn if_else(
     Ok(TypedStatement::If(condition, first, second))
 }
 
-/// A loop: its test, what comes last in each turn, and its body.
+/// Returns a loop: its test, what comes last in each turn, and its body.
 pub fn loop_of(
     alloc: Global,
     condition: Result<TypedExpression, TypeStop>,
@@ -80,7 +80,7 @@ pub fn loop_of(
     Ok(TypedStatement::Loop(condition, last, body))
 }
 
-/// A block of two statements.
+/// Returns a block of two statements.
 pub fn sequence(
     alloc: Global,
     first: Result<TypedStatement, TypeStop>,

@@ -1,4 +1,4 @@
-// Types of expressions (C99 6.5).
+//! Types of expressions (C99 6.5).
 ghost use Rattle.std.specs.Prelude.{◌≡◌, IfOk, IfErr, None, Some};
 ghost use Rattle.c_statements.specs.declared.names.Named.TheVariants.{Array};
 ghost use Rattle.c_statements.specs.declared.fault.TypeFaultKind.TheVariants.{Undeclared};
@@ -22,7 +22,7 @@ use c_tree::{Expression, Program};
 use c_typed::TypedExpression;
 use std::alloc::Global;
 
-/// A use of a name that is a fault.
+/// Returns a use of a name that is a fault.
 pub fn misuse(kind: TypeFaultKind, name: Identifier) -> TypeStop
     ensures { result ≡ Fault (record { kind = kind; at = name.at }) }
 {
@@ -32,7 +32,7 @@ pub fn misuse(kind: TypeFaultKind, name: Identifier) -> TypeStop
     })
 }
 
-/// What a name stands for, if anything declares it.
+/// Returns what a name stands for, if anything declares it.
 pub fn declared_name(
     program: &Program,
     scopes: &Scopes,
@@ -48,7 +48,7 @@ pub fn declared_name(
     }
 }
 
-/// The variable that a name stands for as a value.
+/// Returns the variable that a name stands for as a value.
 fn variable(
     program: &Program,
     scopes: &Scopes,
@@ -65,7 +65,7 @@ fn variable(
     }
 }
 
-/// The number and the type of the array that a name with an index stands for.
+/// Returns the number and the type of the array that a name with an index stands for.
 pub fn array(
     program: &Program,
     scopes: &Scopes,
@@ -81,7 +81,7 @@ pub fn array(
     }
 }
 
-/// The typed tree of an expression under the names in sight, or its first fault.
+/// Returns the typed tree of an expression under the names in sight, or its first fault.
 pub fn expression(
     alloc: Global,
     program: &Program,
@@ -94,7 +94,8 @@ pub fn expression(
     match e {
         Expression::Constant(literal) => Ok(TypedExpression::Constant(*literal)),
         Expression::Name(name) => variable(program, scopes, *name),
-        Expression::Index(name, inner) => {
+        Expression::Index(parts) => {
+            let (name, inner) = &**parts;
             let index = expression(alloc, program, scopes, inner);
             element(alloc, array(program, scopes, *name), index)
         }
@@ -117,7 +118,7 @@ pub fn expression(
     }
 }
 
-/// An expression has at most one typed tree under the names in sight.
+/// States that an expression has at most one typed tree under the names in sight.
 pub fn one_typing()
     ensures { (scope : Environment) (e : Tree.Expression) (t u : Trees.TypedExpression) → Types scope e t → Types scope e u → t ≡ u }
 {}

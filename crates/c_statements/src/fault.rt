@@ -1,4 +1,4 @@
-// The faults that types find, with their places.
+//! The faults that types find, with their places.
 ghost use Rattle.std.specs.Prelude.{◌≡◌, ◌≢◌, IfOk, IfErr, Ok, Err, Some};
 ghost use Rattle.c_statements.specs.Faults.{number_of, kind_name, fault_text, is_later, first_of, both_of, StopsBoth};
 ghost use Rattle.c_statements.specs.declared.fault.TypeStop.TheVariants.{NoMemory};
@@ -30,14 +30,14 @@ pub enum TypeFaultKind {
 }
 
 impl TypeFaultKind {
-    /// The number that messages show.
+    /// Returns the number that messages show.
     pub fn number(self) -> u8
         ensures { result ≡ number_of self }
     {
         self.number_and_name().0
     }
 
-    /// The number and the name that messages show.
+    /// Returns the number and the name that messages show.
     fn number_and_name(self) -> (u8, &'static str)
         ensures number { result.0 ≡ number_of self }
         ensures name { result.1.now ≡ kind_name self }
@@ -74,7 +74,7 @@ impl fmt::Display for TypeFault {
 
 impl Error for TypeFault {}
 
-/// Why a part of a program gets no type: its first fault, or want of memory.
+/// Why a part of a program gets no type: its first fault, or lack of memory.
 #[derive(Clone, Copy)]
 pub enum TypeStop {
     Fault(TypeFault),
@@ -97,14 +97,14 @@ impl From<AllocError> for TypeStop {
     }
 }
 
-/// Whether a fault comes after another: at a greater offset, or at the same with a greater number.
+/// Reports whether a fault comes after another: at a greater offset, or at the same with a greater number.
 fn is_later(a: TypeFault, b: TypeFault) -> bool
     ensures { result ≡ is_later a b }
 {
     b.at < a.at || (a.at == b.at && b.kind.number() < a.kind.number())
 }
 
-/// The one of two stops that comes first; want of memory comes before all faults.
+/// Returns the one of two stops that comes first; lack of memory comes before all faults.
 pub fn first(a: TypeStop, b: TypeStop) -> TypeStop
     ensures { result ≡ first_of a b }
 {
@@ -116,7 +116,8 @@ pub fn first(a: TypeStop, b: TypeStop) -> TypeStop
     }
 }
 
-/// Two parts of a program together: both answers, or the stop that comes first.
+/// Returns two parts of a program together: both answers, or the stop that comes first.
+#[inline(always)]
 pub fn both<A: Drop, B: Drop>(
     a: Result<A, TypeStop>,
     b: Result<B, TypeStop>,
@@ -133,7 +134,7 @@ pub fn both<A: Drop, B: Drop>(
     }
 }
 
-/// The faults of two parts that have no answer.
+/// Returns the faults of two parts that have no answer.
 pub fn either(a: Result<(), TypeStop>, b: Result<(), TypeStop>) -> Result<(), TypeStop>
     ensures ok { IfOk result (λ r. (a ≡ Ok tt) × (b ≡ Ok tt)) }
     ensures err { IfErr result (StopsBoth a b) }
@@ -142,7 +143,7 @@ pub fn either(a: Result<(), TypeStop>, b: Result<(), TypeStop>) -> Result<(), Ty
     Ok(())
 }
 
-/// An answer that isn't want of memory; want of memory is an error at once, since the scopes behind it aren't known.
+/// Returns an answer that isn't lack of memory; lack of memory is an error at once, since the scopes after it aren't known.
 pub fn lasting<T: Drop>(answer: Result<T, TypeStop>) -> Result<Result<T, TypeStop>, TypeStop>
     ensures ok { IfOk result (λ r. (r ≡ answer) × (answer ≢ Err NoMemory)) }
     ensures err { IfErr result (λ s. s ≡ NoMemory) }

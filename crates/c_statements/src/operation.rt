@@ -1,4 +1,4 @@
-// Typed expressions from what the typing of their operands answered.
+//! Typed expressions from what the typing of their operands answered.
 
 ghost use Rattle.std.specs.Prelude.{◌≡◌, ◌⊎◌, IfOk, IfErr, Err};
 ghost use Rattle.c_statements.specs.declared.fault.TypeStop.TheVariants.{NoMemory};
@@ -12,7 +12,7 @@ use c_tree::{BinaryOp, UnaryOp};
 use c_typed::TypedExpression;
 use std::alloc::{AllocError, AllocFailed, Global};
 
-/// The type that two operands are converted to (C99 6.3.1.8): `unsigned int` if one of them is.
+/// Returns the type that two operands are converted to (C99 6.3.1.8): `unsigned int` if one of them is.
 fn common(left: IntegerType, right: IntegerType) -> IntegerType
     ensures { result ≡ common_type left right }
 {
@@ -22,7 +22,7 @@ fn common(left: IntegerType, right: IntegerType) -> IntegerType
     }
 }
 
-/// The type of a prefix operator's value: `int` for `!`, else its operand's.
+/// Returns the type of a prefix operator's value: `int` for `!`, else its operand's.
 fn prefix(operator: UnaryOp, operand: IntegerType) -> IntegerType
     ensures { result ≡ prefix_type operator operand }
 {
@@ -32,8 +32,8 @@ fn prefix(operator: UnaryOp, operand: IntegerType) -> IntegerType
     }
 }
 
-/// The type that a binary operator computes in: the left operand's for a shift, `int` for `&&` and `||`, else the
-/// operands' common type.
+/// Returns the type that a binary operator computes in: the left operand's for a shift, `int` for `&&` and `||`, else the operands' common
+/// type.
 fn operation(operator: BinaryOp, left: IntegerType, right: IntegerType) -> IntegerType
     ensures { result ≡ operation_type operator left right }
 {
@@ -44,7 +44,7 @@ fn operation(operator: BinaryOp, left: IntegerType, right: IntegerType) -> Integ
     }
 }
 
-/// An element of an array, which is given by its number and the type of its elements.
+/// Returns an element of an array, which is given by its number and the type of its elements.
 pub fn element(
     alloc: Global,
     array: Result<(usize, IntegerType), TypeStop>,
@@ -57,7 +57,7 @@ pub fn element(
     Ok(TypedExpression::Element(integer_type, number, Box::new(alloc, index)?))
 }
 
-/// A prefix operator with its operand.
+/// Returns a prefix operator with its operand.
 pub fn unary(
     alloc: Global,
     operator: UnaryOp,
@@ -71,7 +71,7 @@ pub fn unary(
     Ok(TypedExpression::Unary(operator, integer_type, Box::new(alloc, operand)?))
 }
 
-/// A binary operator with its operands, in the type that it computes in.
+/// Returns a binary operator with its operands, in the type that it computes in.
 pub fn binary(
     alloc: Global,
     operator: BinaryOp,
@@ -86,7 +86,7 @@ pub fn binary(
     Ok(TypedExpression::Binary(operator, integer_type, Box::new(alloc, (left, right))?))
 }
 
-/// A choice between two values by a test, in the common type of the values.
+/// Returns a choice between two values by a test, in the common type of the values.
 pub fn conditional(
     alloc: Global,
     test: Result<TypedExpression, TypeStop>,

@@ -1,4 +1,4 @@
-// Types of simple statements: assignments and calls.
+//! Types of simple statements: assignments and calls.
 ghost use Rattle.std.specs.Prelude.{◌≡◌, ◌++◌, ◌∷◌, [], ◌⊎◌, IfOk, IfErr, Ok, is_some};
 ghost use Rattle.c_tree.specs.Shape.{expressions_of, maybe_expression_of, call_of, value_tree, maybe_value_tree, simple_of};
 ghost use Rattle.c_tree.specs.Shape.{maybe_simple_of};
@@ -21,7 +21,8 @@ use c_tree::{Call, Expression, Program, Simple, Value};
 use c_typed::{Destination, TypedExpression, TypedStatement};
 use std::alloc::{AllocError, AllocFailed, Global};
 
-/// A list of typed parts with one more at its end.
+/// Returns a list of typed parts with one more at its end.
+#[inline(always)]
 pub fn with_one<T: Drop>(
     all: Result<Vec<T>, TypeStop>,
     one: Result<T, TypeStop>,
@@ -34,7 +35,7 @@ pub fn with_one<T: Drop>(
     Ok(all)
 }
 
-/// The typed arguments of a call, or their first fault.
+/// Returns the typed arguments of a call, or their first fault.
 pub fn arguments(
     alloc: Global,
     program: &Program,
@@ -51,7 +52,7 @@ pub fn arguments(
     typed
 }
 
-/// A call whose result goes to a place, if it is used; `out` has no result.
+/// Returns a call whose result goes to a place, if it is used; `out` has no result.
 pub fn call_to(
     alloc: Global,
     program: &Program,
@@ -80,7 +81,7 @@ pub fn call_to(
     }
 }
 
-/// Where the value of the variable of a name is kept.
+/// Returns where the value of the variable of a name is kept.
 pub fn place(program: &Program, scopes: &Scopes, name: Identifier) -> Result<Destination, TypeStop>
     ensures { Answers (TypesPlace (environment_of program.now scopes.now) name)
         (Misused (environment_of program.now scopes.now) name as_value) result }
@@ -93,7 +94,7 @@ pub fn place(program: &Program, scopes: &Scopes, name: Identifier) -> Result<Des
     }
 }
 
-/// A place is given a value.
+/// Types the value that a place is given.
 pub fn value(
     alloc: Global,
     program: &Program,
@@ -113,7 +114,7 @@ pub fn value(
     }
 }
 
-/// A simple statement.
+/// Returns a simple statement.
 pub fn simple(
     alloc: Global,
     program: &Program,
@@ -139,7 +140,7 @@ pub fn simple(
     }
 }
 
-/// The first or last part of a `for`; one that is missing does nothing.
+/// Returns the first or last part of a `for`; one that is missing does nothing.
 pub fn part(
     alloc: Global,
     program: &Program,
@@ -155,7 +156,7 @@ pub fn part(
     }
 }
 
-/// The test of a `for`; one that is missing is the constant 1 (C99 6.8.5.3).
+/// Returns the test of a `for`; one that is missing is the constant 1 (C99 6.8.5.3).
 pub fn test(
     alloc: Global,
     program: &Program,
@@ -174,7 +175,7 @@ pub fn test(
     }
 }
 
-/// The first value of the local of a number; without one the local is unset.
+/// Returns the first value of the local of a number; without one the local is unset.
 pub fn first_value(
     alloc: Global,
     program: &Program,

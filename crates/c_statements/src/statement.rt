@@ -1,4 +1,4 @@
-// Types of statements and of declarations of locals (C99 6.8).
+//! Types of statements and of declarations of locals (C99 6.8).
 ghost use Rattle.std.specs.Prelude.{◌≡◌, ℕ, List, IfOk, IfErr, Err, false};
 ghost use Rattle.c_tree.specs.Shape.{expression_of, maybe_expression_of, maybe_simple_of, maybe_value_tree, statement_of, item_of};
 ghost use Rattle.c_tree.specs.Shape.{items_of};
@@ -36,7 +36,7 @@ pub struct Context<'a> {
     pub in_loop: bool,
 }
 
-/// A jump, if it stands in a loop; if not it is a fault, at its keyword.
+/// Returns a jump, if it stands in a loop; if not it is a fault, at its keyword.
 fn jump<T: Drop>(in_loop: bool, at: usize, typed: T) -> Result<T, TypeStop>
     ensures ok { IfOk result (λ t. t ≡ typed) }
     ensures none { IfOk result (λ _. HasNone (FaultyJump in_loop at)) }
@@ -49,7 +49,7 @@ fn jump<T: Drop>(in_loop: bool, at: usize, typed: T) -> Result<T, TypeStop>
     Err(TypeStop::Fault(TypeFault { kind, at }))
 }
 
-/// Whether a `return` has a value exactly where its function gives one; if not it is a fault, at its keyword.
+/// Reports whether a `return` has a value exactly if its function gives one; if not it is a fault, at its keyword.
 fn fits(gives: bool, given: &Option<Expression>, at: usize) -> Result<(), TypeStop>
     ensures none { IfOk result (λ _. HasNone (FaultyReturn gives (maybe_expression_of given.now) at)) }
     ensures err { IfErr result (StopsAtFirst (FaultyReturn gives (maybe_expression_of given.now) at)) }
@@ -61,7 +61,7 @@ fn fits(gives: bool, given: &Option<Expression>, at: usize) -> Result<(), TypeSt
     Err(TypeStop::Fault(TypeFault { kind, at }))
 }
 
-/// The value of a `return`, if it has one.
+/// Returns the value of a `return`, if it has one.
 fn returned_value(
     alloc: Global,
     program: &Program,
@@ -81,8 +81,7 @@ fn returned_value(
     }
 }
 
-/// Whether a name may be declared as a local; a second declaration in one scope and a local too many are faults, at the
-/// name.
+/// Reports whether a name may be declared as a local. A second declaration in one scope and a local too many are faults, at the name.
 pub fn declarator(program: &Program, scopes: &Scopes, name: Identifier) -> Result<(), TypeStop>
     ensures none { IfOk result (λ _. HasNone (FaultyDeclarator program.now.text.items (scopes_of scopes.now) name)) }
     ensures err { IfErr result (StopsAtFirst (FaultyDeclarator program.now.text.items (scopes_of scopes.now) name)) }
@@ -96,7 +95,7 @@ pub fn declarator(program: &Program, scopes: &Scopes, name: Identifier) -> Resul
     Ok(())
 }
 
-/// A `return`, and whether it fits its function.
+/// Returns a `return`, and whether it fits its function.
 fn return_from(
     context: &Context,
     scopes: &Scopes,
@@ -113,7 +112,7 @@ fn return_from(
     Ok(TypedStatement::Return(value))
 }
 
-/// A declaration of a local, which is in sight from its name on, in its own first value too.
+/// Returns a declaration of a local, which is in sight from its name on, in its own first value too.
 fn declare<'a>(
     context: &Context<'a>,
     scopes: &mut Scopes<'a>,
@@ -137,7 +136,7 @@ fn declare<'a>(
     )
 }
 
-/// A block: what it declares is out of sight behind it.
+/// Returns a block: what it declares is out of sight after it.
 #[cycle(statements)]
 fn block<'a>(
     context: &Context<'a>,
@@ -152,7 +151,7 @@ fn block<'a>(
     Ok(TypedStatement::Block(typed?))
 }
 
-/// An `if` without `else`.
+/// Returns an `if` without `else`.
 #[cycle(statements)]
 fn if_then<'a>(
     context: &Context<'a>,
@@ -168,7 +167,7 @@ fn if_then<'a>(
     if_else(context.alloc, condition, first, Ok(TypedStatement::Empty))
 }
 
-/// An `if` with `else`.
+/// Returns an `if` with `else`.
 #[cycle(statements)]
 fn if_then_else<'a>(
     context: &Context<'a>,
@@ -186,7 +185,7 @@ fn if_then_else<'a>(
     if_else(context.alloc, condition, first, second)
 }
 
-/// A `while`.
+/// Returns a `while`.
 #[cycle(statements)]
 fn while_loop<'a>(
     context: &Context<'a>,
@@ -206,7 +205,7 @@ fn while_loop<'a>(
     loop_of(context.alloc, condition, Ok(TypedStatement::Empty), body)
 }
 
-/// A `for`: the block of its first part and the loop.
+/// Returns a `for`: the block of its first part and the loop.
 #[cycle(statements)]
 fn for_loop<'a>(
     context: &Context<'a>,
@@ -233,7 +232,7 @@ fn for_loop<'a>(
     )
 }
 
-/// The typed tree of a statement in a function that gives a result or not, in a loop or not, or its first fault.
+/// Returns the typed tree of a statement in a function that gives a result or not, in a loop or not, or its first fault.
 #[cycle(statements)]
 pub fn statement<'a>(
     context: &Context<'a>,
@@ -258,7 +257,7 @@ pub fn statement<'a>(
     }
 }
 
-/// A declaration of a local, which is in sight from its name on, or a statement.
+/// Returns a declaration of a local, which is in sight from its name on, or a statement.
 #[cycle(statements)]
 fn item<'a>(
     context: &Context<'a>,
@@ -280,7 +279,7 @@ fn item<'a>(
     }
 }
 
-/// The typed trees of the items of a block or of a function's body, in order, or their first fault.
+/// Returns the typed trees of the items of a block or of a function's body, in order, or their first fault.
 #[cycle(statements)]
 pub fn items<'a>(
     context: &Context<'a>,
@@ -300,7 +299,7 @@ pub fn items<'a>(
     typed
 }
 
-/// A statement, and the items of a block, have at most one typed tree under the scopes before them.
+/// States that a statement, and the items of a block, have at most one typed tree under the scopes before them.
 pub fn one_typing_of_statements()
     ensures statement { (text : List ℕ) (scopes : Names.Scopes) (s : Tree.Statement) (t u : Trees.TypedStatement)
         → TypesStatement text scopes s t → TypesStatement text scopes s u → t ≡ u }

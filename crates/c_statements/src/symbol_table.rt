@@ -1,4 +1,4 @@
-// The names in sight, scope by scope (C99 6.2.1).
+//! The names in sight, scope by scope (C99 6.2.1).
 ghost use Rattle.std.specs.Prelude.{◌≡◌, OnOk, OnErr, is_some};
 ghost use Rattle.c_statements.specs.Shape.{bindings_of, scopes_of};
 ghost use Rattle.c_statements.specs.Names.{Scopes, named_in, environment_in, with_spelling, no_scopes, within};
@@ -22,7 +22,7 @@ pub struct Scopes<'a> {
     locals: Vec<IntegerType>,
 }
 
-/// What a spelling stands for in a scope, if it is declared there. In a scope without names nothing is looked up.
+/// Returns what a spelling stands for in a scope, if it is declared there. In a scope without names nothing is looked up.
 fn named_at(scope: &Scope<'_>, spelling: &[u8]) -> Option<Named>
     ensures { result ≡ bindings_of scope.now spelling.now }
 {
@@ -36,7 +36,7 @@ fn named_at(scope: &Scope<'_>, spelling: &[u8]) -> Option<Named>
 }
 
 impl<'a> Scopes<'a> {
-    /// No name in sight, and no local.
+    /// Returns scopes with no name in sight, and no local.
     pub fn new(alloc: Global) -> Scopes<'a>
         ensures { scopes_of result ≡ no_scopes }
     {
@@ -47,7 +47,7 @@ impl<'a> Scopes<'a> {
         }
     }
 
-    /// What a name of this spelling stands for in the innermost scope, if it is declared there.
+    /// Returns what a name of this spelling stands for in the innermost scope, if it is declared there.
     pub fn innermost(&self, spelling: &[u8]) -> Option<Named>
         ensures { result ≡ (scopes_of self.now).inner spelling.now }
     {
@@ -57,7 +57,7 @@ impl<'a> Scopes<'a> {
         }
     }
 
-    /// What a name of this spelling stands for: its declaration in the innermost scope that has one.
+    /// Returns what a name of this spelling stands for: its declaration in the innermost scope that has one.
     pub fn find_spelling(&self, spelling: &[u8]) -> Option<Named>
         ensures { result ≡ named_in (scopes_of self.now) spelling.now }
     {
@@ -72,28 +72,28 @@ impl<'a> Scopes<'a> {
         None
     }
 
-    /// What a name stands for.
+    /// Returns what a name stands for.
     pub fn find(&self, program: &Program, name: Identifier) -> Option<Named>
         ensures { result ≡ environment_in program.now.text.items (scopes_of self.now) name }
     {
         self.find_spelling(program.spelling(name))
     }
 
-    /// Whether the innermost scope declares the name.
+    /// Reports whether the innermost scope declares the name.
     pub fn declares(&self, program: &Program, name: Identifier) -> bool
         ensures { result ≡ is_some ((scopes_of self.now).inner (spelling_in program.now.text.items name)) }
     {
         self.inner.contains_key(program.spelling(name))
     }
 
-    /// How many locals the function has declared so far.
+    /// Returns how many locals the function has declared so far.
     pub fn locals(&self) -> usize
         ensures { result ≡ (scopes_of self.now).locals }
     {
         self.locals.len()
     }
 
-    /// Puts a spelling into the innermost scope. `Err` only where memory is refused, and then all is as before.
+    /// Puts a spelling into the innermost scope. `Err` only if memory runs out, and then all is as before.
     pub fn declare_spelling(&mut self, spelling: &'a [u8], named: Named) -> Result<(), AllocError>
         ensures scopes { OnOk result (scopes_of self.new ≡ with_spelling (scopes_of self.old) spelling.now named) }
         ensures left { OnErr result (scopes_of self.new ≡ scopes_of self.old) }
@@ -134,7 +134,7 @@ impl<'a> Scopes<'a> {
         declared
     }
 
-    /// Opens a scope. `Err` only where memory is refused, and then all is as before.
+    /// Opens a scope. `Err` only if memory runs out, and then all is as before.
     pub fn enter(&mut self, alloc: Global) -> Result<(), AllocError>
         ensures scopes { OnOk result (scopes_of self.new ≡ within (scopes_of self.old)) }
         ensures left { OnErr result (scopes_of self.new ≡ scopes_of self.old) }

@@ -22,7 +22,7 @@ use Rattle.c_tree.specs.Tree.{variable, array, function}
 abbrev pub expression_of : Expression → Tree.Expression
 expression_of (Constant k) = constant k
 expression_of (Name x) = name x
-expression_of (Index' x p e) = index x (expression_of e)
+expression_of (Index' p x e) = index x (expression_of e)
 expression_of (Unary' o p e) = unary o (expression_of e)
 expression_of (Binary' o p l r) = binary o (expression_of l) (expression_of r)
 expression_of (Conditional' p c a b) = conditional (expression_of c) (expression_of a) (expression_of b)

@@ -51,8 +51,8 @@ mutual
     no_items : Items
     more_items : Item → Items → Items
 
--- a declaration at file scope; an array has the width of its elements, and the type that one of them is read as, which
--- for bytes is `int` (C99 6.3.1.1); a function without a type has no result
+-- a declaration at file scope. An array has the width of its elements, and the type that one of them is read as, which for bytes is `int`
+-- (C99 6.3.1.1). A function without a type has no result
 pub data Declaration : Type 0 where
   variable : IntegerType → Identifier → Option Initial → Declaration
   array : Width → IntegerType → Identifier → Literal → Declaration

@@ -1,4 +1,4 @@
-// The syntax tree of a program, as C99 6.5 to 6.9 name its parts.
+//! The syntax tree of a program, as C99 6.5 to 6.9 name its parts.
 
 ghost use Rattle.std.specs.Prelude.{◌≡◌};
 ghost use Rattle.c_tree.specs.Texts.{spelling_of};
@@ -43,7 +43,7 @@ pub enum BinaryOp {
 pub enum Expression {
     Constant(Literal),
     Name(Identifier),
-    Index(Identifier, Box<Expression>),
+    Index(Box<(Identifier, Expression)>),
     Unary(UnaryOp, Box<Expression>),
     Binary(BinaryOp, Box<(Expression, Expression)>),
     Conditional(Box<(Expression, Expression, Expression)>),
@@ -143,7 +143,7 @@ pub struct Program {
 }
 
 impl Program {
-    /// The bytes of a name in the program's text.
+    /// Returns the bytes of a name in the program's text.
     pub fn spelling(&self, name: Identifier) -> &[u8]
         ensures { result.now ≡ spelling_of self.now.text.items name.at name.length }
     {
@@ -161,3 +161,5 @@ impl Program {
         }
     }
 }
+
+const _: () = prove!(size_of::<Expression>() == 16);

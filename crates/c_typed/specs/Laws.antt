@@ -37,8 +37,8 @@ RunFits globals (Running frames g out) = ElementsFit globals g
 RunFits globals (Ended w out) = Unit {0}
 RunFits globals (Failed out) = Unit {0}
 
--- a run begins with elements that fit their widths, and each step keeps to them; so an element of an array of bytes is read
--- as a number from 0 to 255 (C99 6.2.5, 6.3.1.1)
+-- a run begins with elements that fit their widths, and each step keeps to them. So an element of an array of bytes is read as a number
+-- from 0 to 255 (C99 6.2.5, 6.3.1.1)
 pub record ElementsFitTheirWidths : Type 0 where
   pub run : (p : TypedProgram) (depth : ℕ) → IsKept (RunFits p.globals) (source_step p depth) (source_start p)
   pub read : (globals : List Global) (l : Places) (g : Arrays) (a : ℕ) (x : Global) (k : IntegerType) (i : TypedExpression) (v : ℕ)

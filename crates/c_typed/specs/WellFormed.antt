@@ -49,7 +49,7 @@ pub record FitsCall (p : TypedProgram) (to : Option Destination) (f arguments : 
   pub count : arguments ≡ callee.parameters
   pub gives : is_some to ≡ true → is_some callee.result ≡ true
 
--- a statement of a function that gives a result or not, in a loop or not; the last part of a loop's turn has no jump
+-- a statement of a function that gives a result or not, in a loop or not. The last part of a loop's turn has no jump
 abbrev mutual
   pub FitsStatement : TypedProgram → (locals : ℕ) → (gives inside : Bool) → TypedStatement → Type 0
   FitsStatement p n gives inside empty = Unit {0}

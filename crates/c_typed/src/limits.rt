@@ -1,4 +1,4 @@
-// The limits of programs, which each typed program keeps.
+//! The limits of programs, which each typed program keeps.
 
 /// The most parameters that a function may have.
 pub const MAX_PARAMETERS: usize = 4;

@@ -1,4 +1,4 @@
-// Typed trees, whose names are numbers.
+//! Typed trees, whose names are numbers.
 ghost use Rattle.std.specs.Prelude.{◌≡◌};
 ghost use Rattle.c_typed.specs.Shape.{typed_expression_of};
 ghost use Rattle.c_typed.specs.Trees.{type_of};
@@ -48,8 +48,8 @@ pub enum TypedStatement {
 }
 
 /// A function: the type of its result, if it has one, and the numbers of its parameters and of all its locals, parameters first; and its
-/// body. The last statement is the return at the end brace of a function without result, or the `return 0` at that of `main`; control
-/// never leaves the body otherwise.
+/// body. The last statement is the return at the end brace of a function without result, or the `return 0` at that of `main`. Control never
+/// leaves the body otherwise.
 #[derive(Drop)]
 pub struct Function {
     pub result: Option<IntegerType>,
@@ -68,7 +68,7 @@ pub struct Global {
 }
 
 impl TypedExpression {
-    /// The type of the expression's value (C99 6.5): `int` for comparisons, `!`, `&&` and `||`.
+    /// Returns the type of the expression's value (C99 6.5): `int` for comparisons, `!`, `&&` and `||`.
     pub fn integer_type(&self) -> IntegerType
         ensures { result ≡ type_of (typed_expression_of self.now) }
     {

@@ -78,8 +78,8 @@ IsNotMain (variable k x i) = Unit {0}
 IsNotMain (array w k x n) = Unit {0}
 IsNotMain (function r x ps body) = (r ≢ Some SignedInt) ⊎ (ps ≢ [])
 
--- what is wrong with the name that is declared at file scope, at that name; too many words are told at the global with
--- which the globals exceed 262,144
+-- what is wrong with the name that is declared at file scope, at that name. Too many words are told at the global with which the globals
+-- exceed 262,144
 pub data FaultyName (text : List ℕ) (f : File) : Declaration → TypeFaultKind → ℕ → Type 0 where
   declared_again : {d : Declaration} → f.names (spelling_in text (name_of d)) ≢ None → FaultyName text f d Redeclared (name_of d).at
   other_main : {d : Declaration} → bytes_eq (spelling_in text (name_of d)) main_name ≡ true → IsNotMain d

@@ -1,4 +1,4 @@
-// What declarations at file scope count, and which of them are faults.
+//! What declarations at file scope count, and which of them are faults.
 ghost use Rattle.std.specs.Prelude.{◌≡◌, ◌<◌, ◌≤◌, ◌+◌, ◌^◌, IfOk, IfErr, true, false, bytes_eq};
 ghost use Rattle.c_tree.specs.Shape.{declaration_of};
 ghost use Rattle.c_statements.specs.Faults.{HasNone, StopsAtFirst};
@@ -23,14 +23,14 @@ pub struct Tally {
     pub words: u128,
 }
 
-/// Whether a name is `main`.
+/// Reports whether a name is `main`.
 pub fn is_main(program: &Program, name: Identifier) -> bool
     ensures { result ≡ bytes_eq (spelling_in program.now.text.items name) main_name }
 {
     program.spelling(name) == b"main".as_slice()
 }
 
-/// The name that is declared.
+/// Returns the name that is declared.
 pub fn declared_name(declaration: &Declaration) -> Identifier
     ensures { result ≡ name_of (declaration_of declaration.now) }
 {
@@ -41,7 +41,7 @@ pub fn declared_name(declaration: &Declaration) -> Identifier
     }
 }
 
-/// The words that a declaration takes of those for globals: four bytes of an array are one, and so are those that are left.
+/// Returns the words that a declaration takes of those for globals: four bytes of an array are one, and so are those that are left.
 fn words(declaration: &Declaration) -> u32
     ensures { result ≡ words_of (declaration_of declaration.now) }
 {
@@ -52,7 +52,7 @@ fn words(declaration: &Declaration) -> u32
     }
 }
 
-/// Whether a declaration is of a function without parameters whose result is `int`.
+/// Reports whether a declaration is of a function without parameters whose result is `int`.
 fn is_int_function(declaration: &Declaration) -> bool
     ensures other { result ≡ false → IsNotMain (declaration_of declaration.now) }
     ensures fits { result ≡ true → IsNotMain (declaration_of declaration.now) → ⊥ }
@@ -65,7 +65,7 @@ fn is_int_function(declaration: &Declaration) -> bool
     }
 }
 
-/// Whether a declaration is of an array of length 0.
+/// Reports whether a declaration is of an array of length 0.
 fn is_empty_array(declaration: &Declaration) -> bool
     ensures { result ≡ is_array_of_nothing (declaration_of declaration.now) }
 {
@@ -75,7 +75,7 @@ fn is_empty_array(declaration: &Declaration) -> bool
     }
 }
 
-/// The word of a first value; 0 without one.
+/// Returns the word of a first value; 0 without one.
 pub fn initial_word(initial: &Option<Initial>) -> u32
     ensures { result ≡ first_word initial.now }
 {
@@ -92,7 +92,7 @@ pub fn initial_word(initial: &Option<Initial>) -> u32
 }
 
 impl Tally {
-    /// What the name of the next declaration stands for.
+    /// Returns what the name of the next declaration stands for.
     pub fn next_named(&self, declaration: &Declaration) -> Named
         ensures { result ≡ named_by (counts_of self.now) (declaration_of declaration.now) }
     {
@@ -107,7 +107,7 @@ impl Tally {
         }
     }
 
-    /// Whether a declaration is the 257th function, or the global with which the words are exceeded.
+    /// Reports whether a declaration is the 257th function, or the global with which the words are exceeded.
     fn exceeded_by(&self, declaration: &Declaration) -> bool
         ensures yes { result ≡ true → Exceeds (counts_of self.now) (declaration_of declaration.now) }
         ensures no { result ≡ false → Exceeds (counts_of self.now) (declaration_of declaration.now) → ⊥ }
@@ -119,7 +119,7 @@ impl Tally {
         self.words <= most && most < self.words + u128::from(words(declaration))
     }
 
-    /// The tally behind a declaration.
+    /// Returns the tally after a declaration.
     pub fn after(&self, declaration: &Declaration) -> Tally
         requires globals { self.now.globals + 1 < 2 ^ 64 }
         requires functions { self.now.functions + 1 < 2 ^ 64 }
@@ -142,7 +142,7 @@ impl Tally {
     }
 }
 
-/// Whether a declaration is of a `main` that isn't `int main(void)`, or of an array of length 0.
+/// Reports whether a declaration is of a `main` that isn't `int main(void)`, or of an array of length 0.
 fn is_other_kind(program: &Program, declaration: &Declaration) -> bool
     ensures yes { result ≡ true → IsOtherKind program.now.text.items (declaration_of declaration.now) }
     ensures no { result ≡ false → IsOtherKind program.now.text.items (declaration_of declaration.now) → ⊥ }
@@ -153,7 +153,7 @@ fn is_other_kind(program: &Program, declaration: &Declaration) -> bool
     is_main(program, declared_name(declaration)) && !is_int_function(declaration)
 }
 
-/// What is wrong with the name of a declaration at file scope.
+/// Returns what is wrong with the name of a declaration at file scope.
 pub fn name_fault(
     program: &Program,
     scopes: &Scopes,
@@ -178,7 +178,7 @@ pub fn name_fault(
     Ok(())
 }
 
-/// Whether a parameter is one too many, a fault at its name.
+/// Reports whether a parameter is one too many, a fault at its name.
 fn fifth_parameter(scopes: &Scopes, name: Identifier) -> Result<(), TypeStop>
     ensures none { IfOk result (λ _. HasNone (IsFifth (scopes_of scopes.now) name)) }
     ensures err { IfErr result (StopsAtFirst (IsFifth (scopes_of scopes.now) name)) }
@@ -189,7 +189,7 @@ fn fifth_parameter(scopes: &Scopes, name: Identifier) -> Result<(), TypeStop>
     Ok(())
 }
 
-/// What is wrong with the name of a parameter.
+/// Returns what is wrong with the name of a parameter.
 fn parameter_fault(program: &Program, scopes: &Scopes, name: Identifier) -> Result<(), TypeStop>
     ensures none { IfOk result (λ _. HasNone (FaultyParameter program.now.text.items (scopes_of scopes.now) name)) }
     ensures err { IfErr result (StopsAtFirst (FaultyParameter program.now.text.items (scopes_of scopes.now) name)) }

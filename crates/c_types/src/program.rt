@@ -1,4 +1,4 @@
-// Types of a whole program (C99 6.9).
+//! Types of a whole program (C99 6.9).
 ghost use Rattle.std.specs.Prelude.{◌≡◌, ◌⊎◌, ℕ, List, Some, true, IfOk, IfErr, OnOk, Err};
 ghost use Rattle.c_tree.specs.Shape.{declaration_of, declarations_of, items_of};
 ghost use Rattle.c_tree.specs.Tree.{function, Declaration as DeclarationTree};
@@ -40,7 +40,7 @@ struct Parts {
     globals: Vec<Variable>,
 }
 
-/// Puts what the end brace does behind a body: `main` returns 0, and a function without result returns.
+/// Puts what the end brace does after a body: `main` returns 0, and a function without result returns.
 fn close(
     body: &mut Vec<TypedStatement>,
     main: bool,
@@ -65,7 +65,7 @@ fn close(
     }
 }
 
-/// The parameters and the body of a function, in a scope of its own.
+/// Returns the parameters and the body of a function, in a scope of its own.
 fn function<'a>(
     alloc: Global,
     program: &'a Program,
@@ -101,7 +101,7 @@ fn function<'a>(
     })
 }
 
-/// What a declaration comes to, behind its name.
+/// Returns what a declaration comes to, after its name.
 fn body<'a>(
     alloc: Global,
     program: &'a Program,
@@ -132,7 +132,7 @@ fn body<'a>(
     }
 }
 
-/// What a declaration comes to; its name is in sight behind it.
+/// Returns what a declaration comes to; its name is in sight after it.
 fn declaration<'a>(
     alloc: Global,
     program: &'a Program,
@@ -154,7 +154,7 @@ fn declaration<'a>(
     Ok(typed)
 }
 
-/// One declaration more.
+/// Returns one declaration more.
 fn with_declared(
     parts: Result<Parts, TypeStop>,
     next: Result<Declared, TypeStop>,
@@ -170,7 +170,7 @@ fn with_declared(
     Ok(parts)
 }
 
-/// What the declarations come to; their names are in sight behind them.
+/// Returns what the declarations come to; their names are in sight after them.
 fn declarations<'a>(
     alloc: Global,
     program: &'a Program,
@@ -200,7 +200,7 @@ fn declarations<'a>(
     parts
 }
 
-/// Whether a name `main` is declared; if not it is a fault, at the text's length.
+/// Reports whether a name `main` is declared; if not it is a fault, at the text's length.
 fn has_main(program: &Program, scopes: &Scopes) -> Result<(), TypeStop>
     ensures none { IfOk result (λ _. HasNone (LacksMain program.now.text.items (scopes_of scopes.now).inner)) }
     ensures err { IfErr result (StopsAtFirst (LacksMain program.now.text.items (scopes_of scopes.now).inner)) }
@@ -215,7 +215,7 @@ fn has_main(program: &Program, scopes: &Scopes) -> Result<(), TypeStop>
     }
 }
 
-/// The number of `main`, which a program without faults has.
+/// Returns the number of `main`, which a program without faults has.
 fn number_of(found: Option<Named>) -> usize
     requires { (n : ℕ) × (found ≡ Some (NamedFunction n 0 true)) }
     ensures { found ≡ Some (NamedFunction result 0 true) }
@@ -229,7 +229,7 @@ fn number_of(found: Option<Named>) -> usize
     }
 }
 
-/// The typed program, or its first fault.
+/// Returns the typed program, or its first fault.
 fn type_program(alloc: Global, program: &Program) -> Result<Typed, TypeStop>
     ensures { Answers (λ t. TypesProgram program.now.text.items (declarations_of program.now.declarations.items) (program_of t))
         (FaultyProgram program.now.text.items (declarations_of program.now.declarations.items)) result }
@@ -243,8 +243,8 @@ fn type_program(alloc: Global, program: &Program) -> Result<Typed, TypeStop>
     Ok(Typed::new(parts.functions, parts.globals, main))
 }
 
-/// The typed program of a program that was read, exactly where it has no fault; else the fault with the least offset,
-/// and of these the least number. Where memory is refused that is told in place of any of these, at the text's length.
+/// Returns the typed program of a program that was read, exactly if it has no fault; else the fault with the least offset, and of these the
+/// least number. If memory runs out that is told in place of any of these, at the text's length.
 pub fn check(alloc: Global, program: &Program) -> Result<Typed, TypeFault>
     ensures ok { IfOk result (λ t. TypesProgram program.now.text.items (declarations_of program.now.declarations.items) (program_of t)) }
     ensures none { IfOk result (λ t. HasNone (FaultyProgram program.now.text.items (declarations_of program.now.declarations.items))) }
@@ -261,18 +261,18 @@ pub fn check(alloc: Global, program: &Program) -> Result<Typed, TypeFault>
     }
 }
 
-/// A program has at most one typed program.
+/// States that a program has at most one typed program.
 pub fn one_typing_of_programs()
     ensures { (text : List ℕ) (all : List DeclarationTree) (p q : TypedProgram) → TypesProgram text all p → TypesProgram text all q
         → p ≡ q }
 {}
 
-/// A text has at most one typed program. A law: it computes nothing.
+/// States that a text has at most one typed program. A law: it computes nothing.
 pub fn one_typed_program()
     ensures { (text : List ℕ) (p q : TypedProgram) → SpellsTyped text p → SpellsTyped text q → p ≡ q }
 {}
 
-/// Each typed program is well formed. A law: it computes nothing.
+/// States that each typed program is well formed. A law: it computes nothing.
 pub fn each_typed_program_is_well_formed()
     ensures { EachTypedProgramIsWellFormed }
 {}

@@ -1,4 +1,4 @@
-// Programs that were typed, and so have no fault.
+//! Programs that were typed, and so have no fault.
 ghost use Rattle.std.specs.Prelude.{◌≡◌};
 
 use c_typed::{Function, Global};
@@ -35,7 +35,7 @@ impl Typed {
     ghost use Rattle.c_types.specs.Typed.{IsTyped};
     ghost use Rattle.c_typed.specs.WellFormed.{IsWellFormed};
 
-    /// The typed program of these parts.
+    /// Returns the typed program of these parts.
     pub(crate) fn new(functions: Vec<Function>, globals: Vec<Global>, main: usize) -> Typed
         requires { IsTyped (program_of (record { functions = functions.items; globals = globals.items; main = main })) }
         ensures { result ≡ record { functions = functions.items; globals = globals.items; main = main } }
@@ -47,7 +47,7 @@ impl Typed {
         }
     }
 
-    /// The functions, in the order of their numbers.
+    /// Returns the functions, in the order of their numbers.
     pub fn functions(&self) -> &[Function]
         ensures value { result.now ≡ self.now.functions }
         ensures fits { IsWellFormed (program_of self.now) }
@@ -55,14 +55,14 @@ impl Typed {
         self.functions.as_slice()
     }
 
-    /// The global variables and arrays, in the order of their numbers.
+    /// Returns the global variables and arrays, in the order of their numbers.
     pub fn globals(&self) -> &[Global]
         ensures { result.now ≡ self.now.globals }
     {
         self.globals.as_slice()
     }
 
-    /// The number of `main`.
+    /// Returns the number of `main`.
     pub fn main(&self) -> usize
         ensures value { result ≡ self.now.main }
         ensures there { result < length self.now.functions }

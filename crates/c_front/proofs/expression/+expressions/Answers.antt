@@ -36,7 +36,7 @@ pub operand-returns-in_err-index-in-Some-starts-clause-err : goal.operand-return
 operand-returns-in_err-index-in-Some-starts-clause-err t c =
     let h : IsStuck (operands unary_expressions) c.args.tokens.now c.in_err-index-in-Some-starts.field-0.0 =
     index-stuck _ _ _ _ _ (c.in-Some.ensures.some ∙ ap (λ (x : Token). x ∷ c.in-Some.rest.now) c.in-Name.is) c.in-Some-starts.ensures.some
-    (stops _ _ _ c.in_err-index-in-Some-starts.ensures.err c.closed_expression.ensures.err tt) in search rules
+    c.in_err-index-in-Some-starts.ensures.err in search rules
 
 pub operand-returns-in-None-clause-ok : goal.operand-returns-in-None-clause-ok
 operand-returns-in-None-clause-ok t c = name-read _ _ _ (c.in-Some.ensures.some ∙ ap (λ (x : Token). x ∷ c.in-Some.rest.now) c.in-Name.is)
@@ -116,10 +116,11 @@ pub tighter-returns-clause-err : goal.tighter-returns-clause-err
 tighter-returns-clause-err t c =
     one-less (λ l. IfErr c.operands.result (IsStuck (operands l) c.args.tokens.now)) c.args.level c.if-level-eq0.false c.operands.ensures.err
 
-pub operand-returns-in_ok-index-in-Some-starts-clause-ok : goal.operand-returns-in_ok-index-in-Some-starts-clause-ok
-operand-returns-in_ok-index-in-Some-starts-clause-ok t c =
-    index-read _ _ _ _ _ _ (c.in-Some.ensures.some ∙ ap (λ (x : Token). x ∷ c.in-Some.rest.now) c.in-Name.is)
-    c.in-Some-starts.ensures.some (IfOk-at_ok _ c.in_ok-index-in-Some-starts.ensures.ok c.closed_expression.ensures.ok)
+pub operand-returns-in_ok-parts-in-Some-starts-clause-ok : goal.operand-returns-in_ok-parts-in-Some-starts-clause-ok
+operand-returns-in_ok-parts-in-Some-starts-clause-ok t c =
+    rw c.in_ok-parts-in-Some-starts.ensures.ok
+    (index-read _ _ _ _ _ _ (c.in-Some.ensures.some ∙ ap (λ (x : Token). x ∷ c.in-Some.rest.now) c.in-Name.is)
+    c.in-Some-starts.ensures.some c.in_ok-index-in-Some-starts.ensures.ok)
 
 pub operand-returns-in_err-inner-in-The-clause-err : goal.operand-returns-in_err-inner-in-The-clause-err
 operand-returns-in_err-inner-in-The-clause-err t c =

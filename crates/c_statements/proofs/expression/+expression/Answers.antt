@@ -19,8 +19,8 @@ returns-in-Name t c = rw c.in-Name.is c.variable.ensures
 pub returns-in-Index : goal.returns-in-Index
 returns-in-Index t c =
     let scope = environment_in c.args.program.now.text.items (scopes_of c.args.scopes.now) in
-    let inner = expression_of c.deref.result.now in
-    let name = c.in-Index.name in
+    let name = c.deref.result.now.0 in
+    let inner = expression_of c.deref.result.now.1 in
     rw (c.in-Index.is, sym c.deref.ensures) (answers
     (element-ok scope name inner c.array.result c.expression-index.result c.element.result c.array.ensures.ok c.expression-index.ensures.ok
     c.element.ensures.ok)
