@@ -7,7 +7,7 @@ use Rattle.std.proofs.lemmas.List.{get_or-map, length-map, map-append, take_all,
 use Rattle.std.proofs.lemmas.List.Concat.{flat_map-append}
 use Rattle.std.proofs.lemmas.List.Elements.{All-append, All-cons, All-nil, All-tail}
 use Rattle.std.proofs.lemmas.List.Sums.{fold-append}
-use Rattle.commands.specs.Requests.{Asks, Host, Relations, Request, TellsLine, WasRefused}
+use Rattle.commands.specs.Requests.{Asks, HostState, Relations, Request, TellsLine, WasRefused}
 use Rattle.commands.specs.Texts.{IsShown, host_fault_text, shown_name}
 use Rattle.commands.specs.declared.fault.HostFault.TheVariants.{CannotWrite}
 use Rattle.commands.proofs.Told.{folds_on, line_on, lines_on}
@@ -106,7 +106,7 @@ module _ {F E : Type 0} (answers : F → Request → F → Type 0) (tells : E �
     counted = all.counted;
   }
 
-module _ {F W E : Type 0} (by : Relations F W E) (explain : Bool) (old new : Host F W E) where
+module _ {F W E : Type 0} (by : Relations F W E) (explain : Bool) (old new : HostState F W E) where
   -- all of them, and then the totals
   pub all_checked : (p : Option (List ℕ)) (d : E) (ns : List (List ℕ)) (t : Totals) (n : ℕ) → length ns ≡ n → n < 2 ^ 64
       → AreChecked by.answers old.files new.files (by.contents old.out) p by.tells old.err d explain ns t → Keeps p (by.contents new.out)

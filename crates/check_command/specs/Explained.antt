@@ -8,7 +8,7 @@ use Rattle.check_command.specs.Checks.{IsAnswerTo}
 use Rattle.check_command.specs.Texts.{answer_text, exit_status}
 use Rattle.check_command.specs.declared.verdicts.CheckAnswer.{CheckAnswer}
 
--- what stands behind an answer's line: with `--explain` lines of printable ASCII, else nothing
+-- what stands after an answer's line: with `--explain` lines of printable ASCII, else nothing
 abbrev pub IsMore : (explain : Bool) → List ℕ → Type 0
 IsMore true more = All IsShown more
 IsMore false more = more ≡ []
@@ -17,7 +17,7 @@ IsMore false more = more ≡ []
 abbrev pub PrintsExplained : CheckAnswer → List ℕ → Type 0
 PrintsExplained answer printed = (more : List ℕ) × (printed ≡ (answer_text answer ++ 10 ∷ []) ++ more) × All IsShown more
 
--- standard output took the answer's line, and lines of printable ASCII behind it
+-- standard output took the answer's line, and lines of printable ASCII after it
 pub record TookExplained (old new : Option (List ℕ)) (answer : CheckAnswer) : Type 0 where
   pub more : List ℕ
   pub took : Appends old new ((answer_text answer ++ 10 ∷ []) ++ more)

@@ -16,7 +16,7 @@ use Rattle.check_command.specs.declared.said.FileLine.{FileLine}
 use Rattle.check_command.specs.declared.verdicts.CheckAnswer.{CheckAnswer}
 use Rattle.check_command.specs.declared.verdicts.CheckAnswer.TheVariants as answers
 
--- what the line of a file says behind its name, and the status of that
+-- what the line of a file says after its name, and the status of that
 abbrev pub said_text : Said → List ℕ
 said_text (says.Answer answer) = answer_text answer
 said_text (says.Text fault) = check_fault_text fault
@@ -74,7 +74,7 @@ pub record IsChecked {E : Type 0} (request : Request) (tells : E → List ℕ �
   pub more : line.more.items ≡ more_of file
   pub counted : (t : Totals) → totals_said t line.said ≡ kept_after t file
 
--- what the line of an answer says: the answer, with the lines behind it, or that memory was refused to these
+-- what the line of an answer says: the answer, with the lines after it, or that memory was refused to these
 abbrev pub IsAnswerLine : {E : Type 0} → (E → List ℕ → E → Type 0) → E → E → (explain : Bool) → CheckAnswer → FileLine → Type 0
 IsAnswerLine tells err_old err_new explain answer line =
     ((line.said ≡ says.Answer answer) × IsMore explain line.more.items × (err_new ≡ err_old))

@@ -3,7 +3,7 @@ use Rattle.std.specs.Prelude.{◌≡◌, ◌==◌, ◌||◌, if◌then◌else◌
 use Rattle.std.specs.Prelude.{◌+◌, map, fold, length, max, codes, decimal}
 use Rattle.std.specs.List.{FoldsTo, flat_map}
 use Rattle.std.specs.Io.KnownBytes.{Appends}
-use Rattle.commands.specs.Requests.{Host, Relations, Request, TellsLine, reading_fault}
+use Rattle.commands.specs.Requests.{HostState, Relations, Request, TellsLine, reading_fault}
 use Rattle.commands.specs.Requests.Request.{Read, NotRead}
 use Rattle.commands.specs.Texts.{host_fault_text, shown_name}
 use Rattle.commands.specs.declared.files.FileFault.{FileFault}
@@ -16,7 +16,7 @@ use Rattle.check_command.specs.declared.verdicts.CheckAnswer.TheVariants as answ
 use Rattle.check_command.specs.declared.verdicts.CheckFault.{CheckFault}
 use Rattle.check_command.specs.declared.totals.Totals.{Totals}
 
--- what became of one of the files: its text has an answer, with the lines behind that, or an answer for whose lines memory was
+-- what became of one of the files: its text has an answer, with the lines after that, or an answer for whose lines memory was
 -- refused, or a fault; or it couldn't be read
 pub data CheckedFile : Type 0 where
   Answered : (name text : List ℕ) (answer : CheckAnswer) (more : List ℕ) → CheckedFile
@@ -109,9 +109,9 @@ totals_text n t =
     decimal n ++ (codes " files: " ++ (decimal t.same ++ (codes " same, " ++ (decimal t.unclean ++ (codes " unclean, "
     ++ (decimal t.differs ++ (codes " differs, " ++ (decimal t.full ++ (codes " full, " ++ (decimal t.faulty ++ codes " faulty"))))))))))
 
--- each of the files was read, in order; standard output took the lines of each, and standard error was told its fault, if it has
--- one, and last the totals; the status is the worst
-pub record ChecksAll {F W E : Type 0} (by : Relations F W E) (old new : Host F W E) (explain : Bool) (names : List (List ℕ))
+-- each of the files was read, in order. Standard output took the lines of each, and standard error was told its fault, if it has one, and
+-- last the totals. The status is the worst
+pub record ChecksAll {F W E : Type 0} (by : Relations F W E) (old new : HostState F W E) (explain : Bool) (names : List (List ℕ))
     (status : ℕ) : Type 0 where
   pub files : List CheckedFile
   pub right : All (IsRight explain) files
@@ -137,8 +137,8 @@ abbrev pub first_told : List (List ℕ) → List ℕ
 first_told [] = host_fault_text CannotWrite
 first_told (line ∷ lines) = line
 
--- standard output refused the lines of one of the files, or to send them on: the files up to it were read, and none after it; the
--- first line that was told is that of the first fault of these files, or of that refusal
+-- standard output refused the lines of one of the files, or to send them on: the files up to it were read, and none after it. The first
+-- line that was told is that of the first fault of these files, or of that refusal
 pub data BreaksOff (explain : Bool) (names : List (List ℕ)) (silent refused : Type 0) : List Request → List ℕ → Type 0 where
   breaks : (files : List CheckedFile) (rest : List (List ℕ)) → All (IsRight explain) files → map name_of files ++ rest ≡ names → refused
       → BreaksOff explain names silent refused (map request_of files) (first_told (flat_map faults_of files))

@@ -1,4 +1,4 @@
-// The command over a file and streams.
+//! The command over a file and streams.
 
 ghost use Rattle.std.specs.Prelude.{◌≡◌, ℕ, List, [], ◌∷◌, ◌++◌, IfOk, IfErr, OnErr, OnOk};
 ghost use Rattle.std.specs.Io.KnownBytes.{Appends};
@@ -7,14 +7,15 @@ ghost use Rattle.check_command.specs.Command.{Checks, IsUnprinted, PrintsAnswer,
 ghost use Rattle.check_command.specs.Texts.{IsCheckStatus, answer_text, check_fault_text, exit_status};
 ghost use Rattle.check_command.specs.declared.verdicts.CheckAnswer.{CheckAnswer};
 ghost use Rattle.commands.specs.OneFile.{AnswersFile, TookPrint};
-ghost use Rattle.commands.specs.Requests.{IsNothing, IsSent, LeavesOutput, Ran, TellsLine, WasRefused, host_of, relations};
+ghost use Rattle.commands.specs.Hosts.{RanOn};
+ghost use Rattle.commands.specs.Requests.{IsNothing, IsSent, LeavesOutput, TellsLine, WasRefused, relations};
 ghost use Rattle.commands.specs.declared.fault.HostFault.TheVariants.{CannotWrite};
 
 use crate::lines::explain_line;
 use crate::verdicts::{CheckAnswer, CheckFault, check};
 use commands::{
-    BadFile, Complaints, Explanation, FileCommand, Files, HostFault, Output, Place, answer_file,
-    line_offset, tell_placed,
+    BadFile, Complaints, Explanation, FileCommand, Files, Host, HostFault, Output, Place,
+    answer_file, line_offset, tell_placed,
 };
 use std::alloc::Global;
 use std::io;
@@ -28,7 +29,7 @@ fn print<W: Output>(out: &mut W, line: &CheckAnswer) -> io::Result<()>
     out.send()
 }
 
-/// The status of an answer, with which the program ends: 0 for `same`, else 3.
+/// Returns the status of an answer, with which the program ends: 0 for `same`, else 3.
 pub fn status_of(answer: &CheckAnswer) -> u8
     ensures status { result ≡ exit_status answer.now }
     ensures possible { IsCheckStatus result }
@@ -54,7 +55,7 @@ pub fn print_answer<W: Output>(out: &mut W, answer: &CheckAnswer) -> Result<u8, 
     }
 }
 
-/// Where a fault of a check text lies: at a line, if anywhere.
+/// Returns where a fault of a check text lies: at a line, if anywhere.
 fn offset_of(text: &[u8], fault: CheckFault) -> Option<usize> {
     match fault {
         CheckFault::Line(line) => Some(line_offset(text, line)),
@@ -62,7 +63,7 @@ fn offset_of(text: &[u8], fault: CheckFault) -> Option<usize> {
     }
 }
 
-/// What is said of a fault of a check text: of a line, if anything.
+/// Returns what is said of a fault of a check text: of a line, if anything.
 fn explanation_of(alloc: Global, text: &[u8], fault: CheckFault) -> Option<Explanation> {
     match fault {
         CheckFault::Line(line) => explain_line(alloc, text, line).ok(),
@@ -94,7 +95,7 @@ pub fn tell_check<E: Complaints>(
 pub trait AnswerPrinter {
     ghost prints: { CheckAnswer → List ℕ → Type 0 };
 
-    /// The answer to this text, printed; its status.
+    /// Prints the answer to this text, and returns its status.
     fn print<W: Output>(
         &self,
         alloc: Global,
@@ -168,18 +169,15 @@ impl<'a, P: AnswerPrinter> FileCommand for CheckCommand<'a, P> {
 
 /// Prints the verdict on the text of a file by this printer; the answer is the exit status.
 pub fn answer_check<P: AnswerPrinter, F: Files, W: Output, E: Complaints>(
-    alloc: Global,
+    host: &mut Host<F, W, E>,
     printer: &P,
     file: &str,
-    files: &mut F,
-    out: &mut W,
-    err: &mut E,
 ) -> u8
     ensures possible { IsCheckStatus result }
-    ensures ran { Ran (relations F.answers W.contents W.sends W.refuses E.tells) (host_of files.old out.old err.old) (host_of files.new out.new err.new)
+    ensures ran { RanOn (relations F.answers W.contents W.sends W.refuses E.tells) host.old host.new
         (check_meaning (AnswersFile IsAnswerTo P.prints exit_status file.now) file.now) result }
 {
-    answer_file(alloc, &CheckCommand { printer }, file, files, out, err)
+    answer_file(host, &CheckCommand { printer }, file)
 }
 
 /// Prints the line of the answer alone.
@@ -201,16 +199,10 @@ impl AnswerPrinter for AnswerLine {
 }
 
 /// Prints the verdict on the text of a file; the answer is the exit status.
-pub fn check_file<F: Files, W: Output, E: Complaints>(
-    alloc: Global,
-    file: &str,
-    files: &mut F,
-    out: &mut W,
-    err: &mut E,
-) -> u8
+pub fn check_file<F: Files, W: Output, E: Complaints>(host: &mut Host<F, W, E>, file: &str) -> u8
     ensures possible { IsCheckStatus result }
-    ensures ran { Ran (relations F.answers W.contents W.sends W.refuses E.tells) (host_of files.old out.old err.old) (host_of files.new out.new err.new)
+    ensures ran { RanOn (relations F.answers W.contents W.sends W.refuses E.tells) host.old host.new
         (check_meaning (Checks file.now) file.now) result }
 {
-    answer_check(alloc, &AnswerLine, file, files, out, err)
+    answer_check(host, &AnswerLine, file)
 }

@@ -1,4 +1,4 @@
-// What is said of a verdict: the terms that differ, or the rule that is broken and the words that break it.
+//! What is said of a verdict: the terms that differ, or the rule that is broken and the words that break it.
 
 ghost use Rattle.std.specs.Prelude.{All, IfOk};
 ghost use Rattle.block_text.specs.Shown.{IsShown};
@@ -20,7 +20,7 @@ const DEPTHS: [u32; 5] = [4, 6, 8, 12, 16];
 /// How deep they are shown where none of these does.
 const DEEPEST: u32 = 24;
 
-/// A delay rule in words.
+/// Returns a delay rule in words.
 fn rule_words(rule: Unclean) -> &'static str {
     match rule {
         Unclean::LoadUse => {
@@ -36,7 +36,7 @@ fn rule_words(rule: Unclean) -> &'static str {
     }
 }
 
-/// The register that an instruction loads.
+/// Returns the register that an instruction loads.
 fn loaded_register(inst: &Plain) -> Option<Reg> {
     match inst.action() {
         Action::Loads { d, .. } => Some(d.reg()),
@@ -44,7 +44,7 @@ fn loaded_register(inst: &Plain) -> Option<Reg> {
     }
 }
 
-/// The first instruction that touches what the one before it loads; its number.
+/// Returns the first instruction that touches what the one before it loads; its number.
 fn load_use(insts: &[Plain]) -> Option<usize> {
     for (k, inst) in insts.iter().enumerate() {
         if let Some(register) = loaded_register(inst)
@@ -57,7 +57,7 @@ fn load_use(insts: &[Plain]) -> Option<usize> {
     None
 }
 
-/// An instruction of an order by the place of its word: the exit's first word and the slot are behind the others.
+/// Returns an instruction of an order by the place of its word: the exit's first word and the slot are after the others.
 fn word_at(order: &Order, place: usize) -> Option<Plain> {
     let count = order.insts().len();
     if place < count {
@@ -77,7 +77,7 @@ fn is_product_at(order: &Order, place: usize) -> bool {
     }
 }
 
-/// The first product that comes too soon behind a move: the places of the two.
+/// Returns the first product that comes too soon after a move: the places of the two.
 fn early_product(order: &Order) -> Option<(usize, usize)> {
     for (k, inst) in order.insts().iter().enumerate() {
         if !inst.action().is_move() {
@@ -105,7 +105,7 @@ fn put_left(out: &mut Writer, exit: Exit) {
     out.text("\n");
 }
 
-/// The words that break a rule.
+/// Writes the words that break a rule.
 fn put_breaking(out: &mut Writer, rule: Unclean, order: &Order) {
     let count = order.insts().len();
     match rule {
@@ -138,7 +138,7 @@ fn put_unclean(out: &mut Writer, rule: Unclean, order: &Order) {
     put_breaking(out, rule, order);
 }
 
-/// A text, or what stands for it where there is none.
+/// Returns a text, or what stands for it where there is none.
 fn read_text(alloc: Global, text: Result<String, ReadFault>) -> Result<String, AllocError> {
     match text {
         Ok(text) => Ok(text),
@@ -147,7 +147,7 @@ fn read_text(alloc: Global, text: Result<String, ReadFault>) -> Result<String, A
     }
 }
 
-/// What block and order leave in a place, at a depth.
+/// Returns what block and order leave in a place, at a depth.
 fn texts_at(
     alloc: Global,
     block: &Block,
@@ -168,7 +168,7 @@ fn put_pair(out: &mut Writer, block: &str, order: &str) {
     out.text("\n");
 }
 
-/// What block and order leave in a place, at the first depth that tells them apart.
+/// Writes what block and order leave in a place, at the first depth that tells them apart.
 fn put_differing(
     alloc: Global,
     out: &mut Writer,
@@ -187,7 +187,7 @@ fn put_differing(
     Ok(())
 }
 
-/// Block and order of a text that has a verdict.
+/// Returns block and order of a text that has a verdict.
 fn spelled_pair(alloc: Global, text: &[u8]) -> Result<Option<Text>, AllocError> {
     if text.len() > LONGEST {
         return Ok(None);
@@ -199,7 +199,7 @@ fn spelled_pair(alloc: Global, text: &[u8]) -> Result<Option<Text>, AllocError> 
     }
 }
 
-/// What is said of a verdict on the text's block and order: printable lines, and none of `same`.
+/// Returns what is said of a verdict on the text's block and order: printable lines, and none of `same`.
 pub(crate) fn explanation_lines(
     alloc: Global,
     text: &[u8],

@@ -1,4 +1,4 @@
-// How an answer is printed with `--explain`.
+//! How an answer is printed with `--explain`.
 
 ghost use Rattle.std.specs.Prelude.{◌≡◌, ◌≢◌, [], ◌∷◌, ◌++◌, IfOk, IfErr, OnErr, OnOk};
 ghost use Rattle.std.specs.Io.KnownBytes.{Appends};
@@ -14,7 +14,7 @@ use commands::{HostFault, Output};
 use std::alloc::Global;
 use std::io;
 
-/// The answer, and lines behind it.
+/// Prints the answer, and lines after it.
 fn print_more<W: Output>(out: &mut W, answer: &CheckAnswer, more: &[u8]) -> io::Result<()>
     ensures sent { OnOk result (IsSent W.sends out.new) }
     ensures refused { OnErr result (WasRefused W.refuses out.new) }
@@ -48,7 +48,7 @@ pub fn print_explained<W: Output>(
     }
 }
 
-/// Prints the answer, and behind it why it isn't `same`.
+/// Prints the answer, and after it why it isn't `same`.
 #[derive(Clone, Copy)]
 pub struct ExplainedAnswer;
 

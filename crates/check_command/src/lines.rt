@@ -1,4 +1,4 @@
-// What is said of the first line of a check text that can't stand in its place.
+//! What is said of the first line of a check text that can't stand in its place.
 
 ghost use Rattle.std.specs.Prelude.{IfOk};
 ghost use Rattle.commands.specs.Texts.{IsPrintableExplanation};
@@ -97,17 +97,17 @@ const OTHERS: [(&[u8], &str); 14] = [
 #[derive(Clone, Copy)]
 enum Stage {
     Block,
-    /// Behind so many instructions of the block.
+    /// After so many instructions of the block.
     InBlock(usize),
     Order,
     InOrder(usize),
     Slot,
-    /// Behind an order that ends in `out` or `halt`.
+    /// After an order that ends in `out` or `halt`.
     NoSlot,
     Nothing,
 }
 
-/// What stands before the first space of a line.
+/// Returns what stands before the first space of a line.
 fn mnemonic<'t>(line: &'t [u8]) -> &'t [u8] {
     for (length, byte) in line.iter().enumerate() {
         if *byte == b' ' {
@@ -142,7 +142,7 @@ fn is_exit(line: &[u8]) -> bool {
     exit(mnemonic(line)).is_some()
 }
 
-/// What to write in place of a mnemonic that assemblers have and check texts haven't.
+/// Returns what to write in place of a mnemonic that assemblers have and check texts haven't.
 fn other(word: &[u8]) -> Option<&'static str> {
     for (other, hint) in &OTHERS {
         if *other == word {
@@ -152,7 +152,7 @@ fn other(word: &[u8]) -> Option<&'static str> {
     None
 }
 
-/// What has to stand behind a line that stands in its place.
+/// Returns what has to stand after a line that stands in its place.
 fn stage_behind(stage: Stage, line: &[u8]) -> Stage {
     match stage {
         Stage::Block => Stage::InBlock(0),
@@ -168,7 +168,7 @@ fn stage_behind(stage: Stage, line: &[u8]) -> Stage {
     }
 }
 
-/// What has to stand at a line, counted from 1, and the line; None where the text has no such line.
+/// Returns what has to stand at a line, counted from 1, and the line; None if the text has no such line.
 fn stage_at<'t>(text: &'t [u8], line: u32) -> (Stage, Option<&'t [u8]>) {
     let (mut stage, mut number, mut start) = (Stage::Block, 1u32, 0usize);
     for (k, byte) in text.iter().enumerate() {
@@ -189,7 +189,7 @@ fn stage_at<'t>(text: &'t [u8], line: u32) -> (Stage, Option<&'t [u8]>) {
     }
 }
 
-/// What is said of a line that should be an instruction or an exit.
+/// Returns what is said of a line that should be an instruction or an exit.
 fn explain_instruction(alloc: Global, line: &[u8]) -> Result<Explanation, AllocError>
     ensures { IfOk result IsPrintableExplanation }
 {
@@ -218,7 +218,7 @@ fn explain_instruction(alloc: Global, line: &[u8]) -> Result<Explanation, AllocE
     }
 }
 
-/// What is said of a line by how it begins or ends; None where that is right.
+/// Returns what is said of a line by how it begins or ends; None if that is right.
 fn fault_of_ends(line: &[u8]) -> Option<(&'static str, &'static str)> {
     match line {
         [.., b'\r'] => Some((
@@ -244,7 +244,7 @@ fn explain_unknown(alloc: Global, word: &[u8]) -> Result<Explanation, AllocError
     Explanation::new(alloc, message.as_str(), other(word))
 }
 
-/// What is said of a line between the head of a block or an order and its exit.
+/// Returns what is said of a line between the head of a block or an order and its exit.
 fn explain_inside(
     alloc: Global,
     line: &[u8],
@@ -262,7 +262,7 @@ fn explain_inside(
     Explanation::new(alloc, message.as_str(), None)
 }
 
-/// What has to stand at a stage.
+/// Returns what has to stand at a stage.
 fn expected_line(stage: Stage) -> &'static str {
     match stage {
         Stage::Block => "expected the line 'block'",
@@ -273,7 +273,7 @@ fn expected_line(stage: Stage) -> &'static str {
     }
 }
 
-/// What is said of the first line, counted from 1, that can't stand in its place.
+/// Returns what is said of the first line, counted from 1, that can't stand in its place.
 pub(crate) fn explain_line(alloc: Global, text: &[u8], line: u32) -> Result<Explanation, AllocError>
     ensures { IfOk result IsPrintableExplanation }
 {

@@ -1,4 +1,4 @@
-// Hints about the operands of a line: what assemblers take and check texts don't.
+//! Hints about the operands of a line: what assemblers take and check texts don't.
 
 use std::alloc::{AllocError, Global};
 use std::str;
@@ -53,7 +53,7 @@ const WITH_NUMBER: &[(&[u8], &str, i32, i32)] = &[
     (b"srav", "sra", 0, 31),
 ];
 
-/// The number of a register that assemblers name so.
+/// Returns the number of a register that assemblers name so.
 fn register_number(operand: &[u8]) -> Option<u8> {
     for (name, number) in REGISTERS {
         if *name == operand {
@@ -63,7 +63,7 @@ fn register_number(operand: &[u8]) -> Option<u8> {
     None
 }
 
-/// The value of a number that is written in hexadecimal, and whether a minus stands before it.
+/// Returns the value of a number that is written in hexadecimal, and whether a minus stands before it.
 fn hexadecimal(operand: &[u8]) -> Option<(bool, u32)> {
     let (is_negative, number) = match operand {
         [b'-', number @ ..] => (true, number),
@@ -78,7 +78,7 @@ fn hexadecimal(operand: &[u8]) -> Option<(bool, u32)> {
     }
 }
 
-/// What is said of an operand that an assembler takes.
+/// Says what is wrong with an operand that an assembler takes.
 fn hint_of_operand(alloc: Global, operand: &[u8]) -> Result<Option<String>, AllocError> {
     if let Some(number) = register_number(operand) {
         let name = str::from_utf8(operand).unwrap_or("?");
@@ -91,7 +91,7 @@ fn hint_of_operand(alloc: Global, operand: &[u8]) -> Result<Option<String>, Allo
     Ok(None)
 }
 
-/// The operands of a line, as commas and parentheses part them.
+/// Returns the operands of a line, as commas and parentheses part them.
 fn operands_of<'t>(alloc: Global, line: &'t [u8]) -> Result<Vec<&'t [u8]>, AllocError> {
     let mut operands = Vec::new(alloc);
     let mut start = line.len();
@@ -107,7 +107,7 @@ fn operands_of<'t>(alloc: Global, line: &'t [u8]) -> Result<Vec<&'t [u8]>, Alloc
     Ok(operands)
 }
 
-/// The instruction that takes the number that stands in place of a third register.
+/// Returns the instruction that takes the number that stands in place of a third register.
 fn with_number(word: &[u8], operands: &[&[u8]]) -> Option<&'static str> {
     let [_, _, last] = operands else { return None };
     let number: i32 = str::from_utf8(*last).ok()?.parse().ok()?;
@@ -119,7 +119,7 @@ fn with_number(word: &[u8], operands: &[&[u8]]) -> Option<&'static str> {
     None
 }
 
-/// What to write in place of a line with this mnemonic, where one of its operands is an assembler's.
+/// Returns what to write in place of a line with this mnemonic, where one of its operands is an assembler's.
 pub(crate) fn hint_of_operands(
     alloc: Global,
     word: &[u8],

@@ -1,4 +1,4 @@
-// The line of one of several files: what it says, and the lines behind that.
+//! The line of one of several files: what it says, and the lines after that.
 
 ghost use Rattle.std.specs.Prelude.{◌≡◌, [], true, Some, IfErr, IfOk, OnErr, OnOk};
 ghost use Rattle.std.specs.Io.KnownBytes.{Appends};
@@ -15,7 +15,7 @@ use commands::{Complaints, Files, HostFault, Output, print_name, read_file, tell
 use std::alloc::{AllocError, Global};
 use std::{fmt, io};
 
-/// What the line of a file says behind its name.
+/// What the line of a file says after its name.
 #[derive(Clone, Copy)]
 pub enum Said {
     Answer(CheckAnswer),
@@ -35,7 +35,7 @@ impl fmt::Display for Said {
     }
 }
 
-/// What is printed of a file: its line, and the lines behind that.
+/// What is printed of a file: its line, and the lines after that.
 #[derive(Drop)]
 pub struct FileLine {
     pub said: Said,
@@ -43,7 +43,7 @@ pub struct FileLine {
 }
 
 impl Said {
-    /// 1 for a fault, else the answer's.
+    /// Returns 1 for a fault, else the answer's status.
     pub(crate) fn status(self) -> u8
         ensures status { result ≡ said_status self }
         ensures possible { IsCheckStatus result }
@@ -55,7 +55,7 @@ impl Said {
     }
 }
 
-/// The lines behind an answer; Err where memory is refused to an explanation.
+/// Returns the lines after an answer; Err if memory runs out to an explanation.
 fn more_of(
     alloc: Global,
     explain: bool,
@@ -72,7 +72,7 @@ fn more_of(
     }
 }
 
-/// A line behind which there are no others.
+/// Returns a line after which there are no others.
 fn bare(alloc: Global, said: Said) -> FileLine
     ensures { (result.said ≡ said) × (result.more.items ≡ []) }
 {
@@ -82,7 +82,7 @@ fn bare(alloc: Global, said: Said) -> FileLine
     }
 }
 
-/// What is printed of an answer; where memory is refused to its explanation, that is told, and printed instead.
+/// Returns what is printed of an answer; if memory runs out to its explanation, that is told, and printed instead.
 fn answer_line<E: Complaints>(
     alloc: Global,
     explain: bool,
@@ -104,7 +104,7 @@ fn answer_line<E: Complaints>(
     }
 }
 
-/// What is printed of a text; its fault, if it has one, is told.
+/// Returns what is printed of a text; its fault, if it has one, is told.
 fn check_text<E: Complaints>(
     alloc: Global,
     name: &str,

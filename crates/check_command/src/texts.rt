@@ -1,4 +1,4 @@
-// How answers and faults print.
+//! How answers and faults print.
 
 ghost use Rattle.std.specs.Prelude.{Some};
 ghost use Rattle.std.specs.Fmt.{DisplaysOnOk};

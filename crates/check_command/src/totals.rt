@@ -1,4 +1,4 @@
-// How many of several files have which answer, and the worst status.
+//! How many of several files have which answer, and the worst status.
 
 ghost use Rattle.std.specs.Prelude.{◌≡◌, Some};
 ghost use Rattle.check_command.specs.Texts.{IsCheckStatus};
@@ -22,7 +22,7 @@ pub struct Totals {
     pub faulty: u64,
 }
 
-/// The worse of two statuses: a fault's 1 before any other, else the greater.
+/// Returns the worse of two statuses: a fault's 1 before any other, else the greater.
 fn worse(a: u8, b: u8) -> u8
     requires { IsCheckStatus a × IsCheckStatus b }
     ensures worse { result ≡ worse a b }
@@ -32,7 +32,7 @@ fn worse(a: u8, b: u8) -> u8
 }
 
 impl Totals {
-    /// Of no file.
+    /// Returns the totals of no file.
     pub(crate) fn none() -> Totals
         ensures { result ≡ no_totals }
     {
@@ -46,7 +46,7 @@ impl Totals {
         }
     }
 
-    /// With one more answer.
+    /// Counts one more answer.
     fn with_answer(self, answer: CheckAnswer) -> Totals
         requires { IsCheckStatus self.status }
         ensures totals { result ≡ totals_said self (says.Answer answer) }
@@ -74,7 +74,7 @@ impl Totals {
         totals
     }
 
-    /// With one more fault.
+    /// Counts one more fault.
     fn with_fault(self) -> Totals
         requires { IsCheckStatus self.status }
         ensures totals { result ≡ record (keep_fault self) { status = worse self.status 1 } }
@@ -86,7 +86,7 @@ impl Totals {
         totals
     }
 
-    /// With one more file, of which this is said.
+    /// Counts one more file, of which this is said.
     pub(crate) fn with(self, said: Said) -> Totals
         requires { IsCheckStatus self.status }
         ensures totals { result ≡ totals_said self said }

@@ -1,4 +1,4 @@
-// The verdict of a check text, or its fault.
+//! The verdict of a check text, or its fault.
 ghost use Rattle.std.specs.Prelude.{◌≡◌, ℕ, ◌≤◌, ◌^◌, length, IfOk, IfErr, IfSome, MatchResult, All};
 ghost use Rattle.mblock.specs.Parts.{BlockParts, OrderParts};
 ghost use Rattle.block_text.specs.Lines.{lines_of};
@@ -40,7 +40,7 @@ pub enum CheckFault {
 /// The most bytes of a text that has a verdict.
 pub const LONGEST: usize = 1_048_576;
 
-/// A table for one pass, of 16,384 nodes and 256 heads.
+/// Returns a table for one pass, of 16,384 nodes and 256 heads.
 fn table(alloc: Global) -> Option<(TermTable, Vec<Pass>)>
     ensures each { IfSome result (λ t. All (IsOf t.0) t.1.items) }
     ensures one { IfSome result (λ t. length t.1.items ≡ 1) }
@@ -52,7 +52,7 @@ fn table(alloc: Global) -> Option<(TermTable, Vec<Pass>)>
     }
 }
 
-/// The table and its pass; None only where memory was refused.
+/// Returns the table and its pass; None only if memory ran out.
 fn open_table(alloc: Global) -> Option<(TermTable, Pass)>
     ensures { IfSome result (λ t. IsOf t.0 t.1) }
 {
@@ -63,7 +63,7 @@ fn open_table(alloc: Global) -> Option<(TermTable, Pass)>
     Some((table, pass))
 }
 
-/// The verdict on a block and an order; no other fault than refused memory.
+/// Returns the verdict on a block and an order; no other fault than refused memory.
 fn judge(alloc: Global, block: &Block, order: Order) -> Result<CheckAnswer, CheckFault>
     ensures { MatchResult result (IsAnswer block.now order) (λ e. e ≡ CheckFault.NoMemory) }
 {
@@ -79,7 +79,7 @@ fn judge(alloc: Global, block: &Block, order: Order) -> Result<CheckAnswer, Chec
     }
 }
 
-/// The verdict on the block and the order that the text spells.
+/// Returns the verdict on the block and the order that the text spells.
 pub fn check(alloc: Global, text: &[u8]) -> Result<CheckAnswer, CheckFault>
     ensures spelled { IfOk result (λ _. (length text.now ≤ 2 ^ 20) × (b : BlockParts) × (o : OrderParts)
         × SpellsPair (lines_of text.now) b o) }

@@ -1,4 +1,4 @@
-// A start that refutes an order, as lines.
+//! A start that refutes an order, as lines.
 
 use block_text::Writer;
 use counterexample::{
@@ -8,7 +8,7 @@ use mblock::{Block, Exit, Order};
 use mips_isa::{NonzeroReg, Plain, WordDigits};
 use std::alloc::{AllocError, Global};
 
-/// Whether an instruction reads what the register holds at the start.
+/// Reports whether an instruction reads what the register holds at the start.
 fn insts_read(insts: &[Plain], register: NonzeroReg) -> bool {
     for inst in insts {
         if inst.reads(register.reg()) {
@@ -21,7 +21,7 @@ fn insts_read(insts: &[Plain], register: NonzeroReg) -> bool {
     false
 }
 
-/// Whether the exit reads the register.
+/// Reports whether the exit reads the register.
 fn exit_reads(exit: &Exit, register: NonzeroReg) -> bool {
     let q = register.index();
     match *exit {
@@ -33,7 +33,7 @@ fn exit_reads(exit: &Exit, register: NonzeroReg) -> bool {
     }
 }
 
-/// Whether block or order read it.
+/// Reports whether block or order read it.
 fn is_read(block: &Block, order: &Order, register: NonzeroReg) -> bool {
     insts_read(block.insts(), register)
         || insts_read(order.insts(), register)
@@ -45,7 +45,7 @@ fn put_word(out: &mut Writer, word: u32) {
     out.put(&WordDigits(word));
 }
 
-/// Whether it is the register in which the two differ, which one of them may leave as it was.
+/// Reports whether it is the register in which the two differ, which one of them may leave as it was.
 fn is_left(difference: &Difference, register: NonzeroReg) -> bool {
     match *difference {
         Difference::Register(r) => r == register.reg(),
@@ -53,7 +53,7 @@ fn is_left(difference: &Difference, register: NonzeroReg) -> bool {
     }
 }
 
-/// The registers that are read or left, with their words at the start.
+/// Writes the registers that are read or left, with their words at the start.
 fn put_start(
     out: &mut Writer,
     block: &Block,
@@ -74,7 +74,7 @@ fn put_start(
     }
 }
 
-/// Whether one of them moves HI or LO, before a product or a division writes both.
+/// Reports whether one of them moves HI or LO, before a product or a division writes both.
 fn moves_before_product(insts: &[Plain]) -> bool {
     for inst in insts {
         if inst.action().is_product() {
@@ -87,7 +87,7 @@ fn moves_before_product(insts: &[Plain]) -> bool {
     false
 }
 
-/// HI and LO, if they are read, and the words of memory that are loaded.
+/// Writes HI and LO, if they are read, and the words of memory that are loaded.
 fn put_rest(
     alloc: Global,
     out: &mut Writer,
@@ -112,7 +112,7 @@ fn put_rest(
     Ok(())
 }
 
-/// Where a side goes on.
+/// Writes where a side goes on.
 fn put_departs(out: &mut Writer, departs: &Departs) {
     match *departs {
         Departs::To(t) => {
@@ -138,7 +138,7 @@ fn put_departs(out: &mut Writer, departs: &Departs) {
     }
 }
 
-/// What one side leaves where the two differ.
+/// Writes what one side leaves where the two differ.
 fn put_side(out: &mut Writer, side: &str, left: &Left, difference: &Difference) {
     out.text("  ");
     out.text(side);
@@ -191,7 +191,7 @@ fn put_witness(
     Ok(())
 }
 
-/// A start from which the order does otherwise than the block, or that none was found.
+/// Writes a start from which the order does otherwise than the block, or that none was found.
 pub fn put_found(
     alloc: Global,
     out: &mut Writer,

@@ -4,7 +4,7 @@ use Rattle.clap.specs.Words.{HasKind, IsAmong, Kinds, Text, fault_of, kind_of, t
 use Rattle.clap.specs.declared.error.Error.{Error}
 use Rattle.clap.specs.declared.error.kind.ErrorKind.{ErrorKind}
 use Rattle.clap.specs.declared.error.kind.ErrorKind.TheVariants.{OutOfMemory}
-use Rattle.commands.specs.Requests.{Asks, Does, Host, LeavesOutput, Relations, Request, TellsLine, WasRefused}
+use Rattle.commands.specs.Requests.{Asks, Does, HostState, LeavesOutput, Relations, Request, TellsLine, WasRefused}
 use Rattle.commands.specs.Texts.{host_fault_text}
 use Rattle.commands.specs.declared.fault.HostFault.{HostFault}
 use Rattle.commands.specs.WrongWords.{IsFaultOfWords, IsHelp, IsMistake}
@@ -12,7 +12,7 @@ use Rattle.command_line.specs.Commands.{IsCommand, mcc_app}
 use Rattle.command_line.specs.Programs.{EndsUntaken, HasHelp, HasMistake, IsAnswered, IsFaultBefore, IsStopped}
 use Rattle.command_line.specs.declared.command.Command.{Command}
 
-module _ {F W E : Type 0} (by : Relations F W E) (old new : Host F W E) (words : List Text) where
+module _ {F W E : Type 0} (by : Relations F W E) (old new : HostState F W E) (words : List Text) where
   -- it has its answer
   pub answered_by : (Answers : Command → ℕ → List Request → List ℕ → Type 0) (status : ℕ) (command : Command) → IsCommand words command
       → Does by old new (Answers command status) → Does by old new (IsAnswered Answers words status)
@@ -64,7 +64,7 @@ fault_before words e fault taken has (inr help) =
     (λ is. absurd (not_memory (kind_of e) help.0 (taken is)), inr (help.1, help_of (fault_of mcc_app words) e help.0 has))
 
 -- there was no command: the fault of a host is told
-pub stopped_before : {F W E : Type 0} (by : Relations F W E) (old new : Host F W E) (words : List Text)
+pub stopped_before : {F W E : Type 0} (by : Relations F W E) (old new : HostState F W E) (words : List Text)
     (Stops : Command → (silent refused : Type 0) → List Request → List ℕ → Type 0) (e : Error) (fault : HostFault) → old.files ≡ new.files
     → TellsLine by.tells old.err (host_fault_text fault) new.err → LeavesOutput fault (new.out ≡ old.out) (WasRefused by.refuses new.out)
     → IsFaultOfWords (kind_of e) fault → (takes mcc_app words ≡ true → kind_of e ≡ OutOfMemory) → HasKind (fault_of mcc_app words) e

@@ -32,8 +32,7 @@ HasMistake kinds = (kind : ErrorKind) × IsAmong kind kinds × IsMistake kind
 abbrev pub EndsUntaken : Kinds → (status : ℕ) → Type 0
 EndsUntaken kinds status = ((status ≡ 0) × HasHelp kinds) ⊎ (status ≡ 1) ⊎ ((status ≡ 2) × HasMistake kinds)
 
--- why it ended before it had a command: memory was refused, or standard output refused the help; of words that clap takes there is
--- no help
+-- why it ended before it had a command: memory was refused, or standard output refused the help. Of words that clap takes there is no help
 abbrev pub IsFaultBefore : List Text → HostFault → Type 0
 IsFaultBefore words fault =
     (takes mcc_app words ≡ true → fault ≡ NoMemory) × ((fault ≡ NoMemory) ⊎ ((fault ≡ CannotWrite) × HasHelp (fault_of mcc_app words)))

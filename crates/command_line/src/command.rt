@@ -1,4 +1,4 @@
-// The commands of the program.
+//! The commands of the program.
 
 ghost use Rattle.std.specs.Prelude.{◌≤◌};
 ghost use Rattle.term_table.specs.Passes.{InRange};

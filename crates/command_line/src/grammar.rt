@@ -1,4 +1,4 @@
-// The grammar of the command line, with its help.
+//! The grammar of the command line, with its help.
 
 ghost use Rattle.std.specs.Prelude.{◌≡◌, IfOk};
 ghost use Rattle.clap.specs.Words.{app_of};
@@ -70,80 +70,31 @@ const FORM: Part<'static> = Part {
     about: FORM_HELP,
 };
 
+#[rattlefmt::skip]
 const CHECK: &[Part<'static>] = &[
-    Part {
-        id: "FILE",
-        form: Form::Several,
-        about: "The check text, or several",
-    },
-    Part {
-        id: "explain",
-        form: Form::Flag,
-        about: EXPLAIN_HELP,
-    },
+    Part { id: "FILE", form: Form::Several, about: "The check text, or several" },
+    Part { id: "explain", form: Form::Flag, about: EXPLAIN_HELP },
 ];
 
+#[rattlefmt::skip]
 const INTERP: &[Part<'static>] = &[
     SOURCE,
     DEPTH,
-    Part {
-        id: "steps",
-        form: Form::Number {
-            low: 0,
-            high: 4294967295,
-        },
-        about: STEPS_HELP,
-    },
-    Part {
-        id: "at",
-        form: Form::Text,
-        about: LEVEL_HELP,
-    },
+    Part { id: "steps", form: Form::Number { low: 0, high: 4294967295 }, about: STEPS_HELP },
+    Part { id: "at", form: Form::Text, about: LEVEL_HELP },
     FORM,
-    Part {
-        id: "count",
-        form: Form::Flag,
-        about: STEP_COUNT_HELP,
-    },
+    Part { id: "count", form: Form::Flag, about: STEP_COUNT_HELP },
 ];
 
+#[rattlefmt::skip]
 const BUILD: &[Part<'static>] = &[
     SOURCE,
-    Part {
-        id: "IMAGE",
-        form: Form::Required,
-        about: "The image, which is written",
-    },
-    Part {
-        id: "plain",
-        form: Form::Flag,
-        about: PLAIN_HELP,
-    },
+    Part { id: "IMAGE", form: Form::Required, about: "The image, which is written" },
+    Part { id: "plain", form: Form::Flag, about: PLAIN_HELP },
     DEPTH,
-    Part {
-        id: "workers",
-        form: Form::Number {
-            low: 1,
-            high: MAX_PASSES,
-        },
-        about: WORKERS_HELP,
-    },
-    Part {
-        id: "nodes",
-        form: Form::Number {
-            low: 1,
-            high: MAX_NODES,
-        },
-        about: NODES_HELP,
-    },
-    Part {
-        id: "heads",
-        form: Form::Number {
-            low: 1,
-            high: MAX_HEADS,
-        },
-        about: HEADS_HELP,
-    },
+    Part { id: "workers", form: Form::Number { low: 1, high: MAX_PASSES }, about: WORKERS_HELP },
+    Part { id: "nodes", form: Form::Number { low: 1, high: MAX_NODES }, about: NODES_HELP },
+    Part { id: "heads", form: Form::Number { low: 1, high: MAX_HEADS }, about: HEADS_HELP },
 ];
 
 const IMAGE: Part<'static> = Part {
@@ -152,105 +103,46 @@ const IMAGE: Part<'static> = Part {
     about: "The image",
 };
 
+#[rattlefmt::skip]
 const RUN: &[Part<'static>] = &[
     IMAGE,
-    Part {
-        id: "steps",
-        form: Form::Number {
-            low: 0,
-            high: 4294967295,
-        },
-        about: WORDS_HELP,
-    },
+    Part { id: "steps", form: Form::Number { low: 0, high: 4294967295 }, about: WORDS_HELP },
     FORM,
-    Part {
-        id: "count",
-        form: Form::Flag,
-        about: WORD_COUNT_HELP,
-    },
+    Part { id: "count", form: Form::Flag, about: WORD_COUNT_HELP },
 ];
 
+#[rattlefmt::skip]
 const LIST: &[Part<'static>] = &[
     IMAGE,
-    Part {
-        id: "asm",
-        form: Form::Flag,
-        about: ASM_HELP,
-    },
+    Part { id: "asm", form: Form::Flag, about: ASM_HELP },
 ];
 
+#[rattlefmt::skip]
 const SHOW: &[Part<'static>] = &[
     SOURCE,
-    Part {
-        id: "stage",
-        form: Form::Text,
-        about: STAGE_HELP,
-    },
-    Part {
-        id: "function",
-        form: Form::Text,
-        about: FUNCTION_HELP,
-    },
-    Part {
-        id: "block",
-        form: Form::Number {
-            low: 0,
-            high: 1048575,
-        },
-        about: BLOCK_HELP,
-    },
-    Part {
-        id: "dot",
-        form: Form::Flag,
-        about: DOT_HELP,
-    },
+    Part { id: "stage", form: Form::Text, about: STAGE_HELP },
+    Part { id: "function", form: Form::Text, about: FUNCTION_HELP },
+    Part { id: "block", form: Form::Number { low: 0, high: 1048575 }, about: BLOCK_HELP },
+    Part { id: "dot", form: Form::Flag, about: DOT_HELP },
 ];
 
 /// The commands of a text: of a block and an order, or of a C program.
+#[rattlefmt::skip]
 const TEXTS: &[CommandParts<'static>] = &[
-    CommandParts {
-        name: "check",
-        about: "Says whether an order may stand for a block",
-        page: Page::Check,
-        parts: CHECK,
-    },
-    CommandParts {
-        name: "interp",
-        about: "Runs a C program by its meaning",
-        page: Page::Interp,
-        parts: INTERP,
-    },
-    CommandParts {
-        name: "build",
-        about: "Compiles a C program to an image for MIPS I",
-        page: Page::Build,
-        parts: BUILD,
-    },
+    CommandParts { name: "check", about: "Says whether an order may stand for a block", page: Page::Check, parts: CHECK },
+    CommandParts { name: "interp", about: "Runs a C program by its meaning", page: Page::Interp, parts: INTERP },
+    CommandParts { name: "build", about: "Compiles a C program to an image for MIPS I", page: Page::Build, parts: BUILD },
 ];
 
 /// Those of what comes of a build.
+#[rattlefmt::skip]
 const BUILDS: &[CommandParts<'static>] = &[
-    CommandParts {
-        name: "run",
-        about: "Runs an image on the machine",
-        page: Page::Run,
-        parts: RUN,
-    },
-    CommandParts {
-        name: "list",
-        about: "Prints the listing of an image",
-        page: Page::List,
-        parts: LIST,
-    },
-    CommandParts {
-        name: "show",
-        about: "Shows what becomes of a C program, stage by stage",
-        page: Page::Show,
-        parts: SHOW,
-    },
+    CommandParts { name: "run", about: "Runs an image on the machine", page: Page::Run, parts: RUN },
+    CommandParts { name: "list", about: "Prints the listing of an image", page: Page::List, parts: LIST },
+    CommandParts { name: "show", about: "Shows what becomes of a C program, stage by stage", page: Page::Show, parts: SHOW },
 ];
 
-/// `mcc` with the commands of a text.
+/// Returns `mcc` with the commands of a text.
 fn text_command<'a, C: CommandBuilder<'a>>(alloc: Global) -> Result<C, AllocError>
     ensures { IfOk result (λ c. C.app c ≡ building_app) }
 {
@@ -267,14 +159,14 @@ fn text_command<'a, C: CommandBuilder<'a>>(alloc: Global) -> Result<C, AllocErro
     )
 }
 
-/// `mcc` with all its commands.
+/// Returns `mcc` with all its commands.
 fn whole_command<'a, C: CommandBuilder<'a>>(alloc: Global) -> Result<C, AllocError>
     ensures { IfOk result (λ c. C.app c ≡ mcc_app) }
 {
     with_commands(alloc, text_command(alloc)?, BUILDS)
 }
 
-/// The command line of `mcc`.
+/// Returns the command line of `mcc`.
 pub fn grammar<'a>(alloc: Global) -> Result<CommandLine<'a>, AllocError>
     ensures { IfOk result (λ c. app_of c ≡ mcc_app) }
 {

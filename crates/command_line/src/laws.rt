@@ -1,4 +1,4 @@
-// Laws of the grammar: which words it takes, and by which kind of fault it fails.
+//! Laws of the grammar: which words it takes, and by which kind of fault it fails.
 
 ghost use Rattle.std.specs.Prelude.{◌≡◌, [], ◌∷◌, true, codes};
 ghost use Rattle.clap.specs.Words.{fault_of, is_simple_and_free, takes};

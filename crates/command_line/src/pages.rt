@@ -1,4 +1,4 @@
-// The help of `mcc` and of its commands.
+//! The help of `mcc` and of its commands.
 
 const STATUS_HELP: &str = "\
 Exit status: 0 for `same`, `done`, a build, a listing, stages and help, 1 for a fault (`fault N NAME` on standard error), 2 for

@@ -1,4 +1,4 @@
-// The parts of a command line, as the grammar puts them together.
+//! The parts of a command line, as the grammar puts them together.
 
 ghost use Rattle.std.specs.Prelude.{◌≡◌, Bool, false, IfOk};
 ghost use Rattle.clap.specs.Words.{App, app_of, new_app, rule_of, with_rule, with_subcommand};
@@ -51,25 +51,25 @@ pub(crate) trait CommandBuilder<'a>: Sized + Drop {
 
     ghost has_globals: { Self → Bool };
 
-    /// A command with no argument yet.
+    /// Returns a command with no argument yet.
     fn new_command(alloc: Global, name: &'a str, about: &'a str, page: Page) -> Self
         ensures app { app result ≡ new_app name.entry.now }
         ensures local { has_globals result ≡ false };
 
-    /// With an argument.
+    /// Adds an argument.
     fn with(self, alloc: Global, part: &Part<'a>) -> Result<Self, AllocError>
         ensures app { IfOk result (λ c. app c ≡ with_rule (app self) (rule_for part.now)) }
         ensures local { has_globals self ≡ false → IfOk result (λ c. has_globals c ≡ false) };
 
-    /// The command, which is nothing without a subcommand.
+    /// Makes a subcommand mandatory.
     fn require_subcommand(self) -> Self
         ensures { app result ≡ with_required_subcommand (app self) };
 
-    /// With the option `--version`, which prints this.
+    /// Adds the option `--version`, which prints this.
     fn set_version(self, version: &'a str) -> Self
         ensures { app result ≡ with_version (app self) };
 
-    /// With a subcommand.
+    /// Adds a subcommand.
     fn over(self, command: Self) -> Result<Self, AllocError>
         requires { has_globals command ≡ false }
         ensures { IfOk result (λ c. app c ≡ with_subcommand (app self) (app command).top) };
@@ -103,7 +103,7 @@ impl<'a> CommandBuilder<'a> for CommandLine<'a> {
     }
 }
 
-/// A command with its arguments.
+/// Returns a command with its arguments.
 fn command_of<'a, C: CommandBuilder<'a>>(
     alloc: Global,
     parts: &CommandParts<'a>,
@@ -118,7 +118,7 @@ fn command_of<'a, C: CommandBuilder<'a>>(
     Ok(command)
 }
 
-/// A command with subcommands.
+/// Returns a command with subcommands.
 pub(crate) fn with_commands<'a, C: CommandBuilder<'a>>(
     alloc: Global,
     command: C,
@@ -133,7 +133,7 @@ pub(crate) fn with_commands<'a, C: CommandBuilder<'a>>(
     Ok(whole)
 }
 
-/// An argument, as clap has it.
+/// Returns an argument, as clap has it.
 fn argument<'a>(alloc: Global, part: &Part<'a>) -> Arg<'a>
     ensures rule { rule_of result ≡ rule_for part.now }
     ensures local { result.global ≡ false }
@@ -148,7 +148,7 @@ fn argument<'a>(alloc: Global, part: &Part<'a>) -> Arg<'a>
     }
 }
 
-/// An argument by its place, which must be there.
+/// Returns an argument by its place, which must be there.
 fn placed_argument<'a>(alloc: Global, id: &'a str, action: ArgAction, about: &'a str) -> Arg<'a>
     ensures rule { rule_of result ≡ placed_rule id.entry.now action }
     ensures local { result.global ≡ false }
@@ -159,7 +159,7 @@ fn placed_argument<'a>(alloc: Global, id: &'a str, action: ArgAction, about: &'a
         .help(about)
 }
 
-/// The option `--id`.
+/// Returns the option `--id`.
 fn option<'a>(alloc: Global, id: &'a str, action: ArgAction, about: &'a str) -> Arg<'a>
     ensures rule { rule_of result ≡ option_rule id.entry.now action }
     ensures local { result.global ≡ false }
@@ -167,7 +167,7 @@ fn option<'a>(alloc: Global, id: &'a str, action: ArgAction, about: &'a str) -> 
     Arg::new(alloc, id).long(id).action(action).help(about)
 }
 
-/// The option `--id N` with N from low to high.
+/// Returns the option `--id N` with N from low to high.
 fn number<'a>(alloc: Global, id: &'a str, low: u64, high: u64, about: &'a str) -> Arg<'a>
     ensures rule { rule_of result ≡ number_rule id.entry.now low high }
     ensures local { result.global ≡ false }

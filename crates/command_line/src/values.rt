@@ -1,4 +1,4 @@
-// The values of a command, out of the matches of its words.
+//! The values of a command, out of the matches of its words.
 
 ghost use Rattle.std.specs.Prelude.{◌≡◌, ℕ, ◌≤◌, true, Some, IfOk, IfErr, IfNone, IfSome, map, codes};
 ghost use Rattle.clap.specs.declared.error.ErrorKind.TheVariants.{OutOfMemory};
@@ -21,7 +21,7 @@ fn flag(values: &ArgMatches<'_>, id: &str) -> bool
     values.get_flag(id)
 }
 
-/// A check of one file or of several; None also where memory is refused to their list.
+/// Returns a check of one file or of several; None also if memory runs out to their list.
 fn entered_check<'a>(alloc: Global, values: &ArgMatches<'a>) -> Option<Command<'a>>
     ensures { IfSome result (HasValues (codes "check") (rows_of (found_of values.now))) }
 {
@@ -42,7 +42,7 @@ fn entered_check<'a>(alloc: Global, values: &ArgMatches<'a>) -> Option<Command<'
     }
 }
 
-/// The value of an option, or the number that stands for it; None where its text is no number.
+/// Returns the value of an option, or the number that stands for it; None if its text is no number.
 fn number_or(values: &ArgMatches<'_>, id: &str, default: u32) -> Option<u32>
     ensures { IfSome result (IsNumber (one_of id.now (rows_of (found_of values.now))) default) }
 {
@@ -53,7 +53,7 @@ fn number_or(values: &ArgMatches<'_>, id: &str, default: u32) -> Option<u32>
     }
 }
 
-/// The value of an option from low to high, or its default.
+/// Returns the value of an option from low to high, or its default.
 fn bounded_number(
     values: &ArgMatches<'_>,
     id: &str,
@@ -94,7 +94,7 @@ fn level_named(name: &str) -> Option<Level>
     }
 }
 
-/// The form that the option names, or its value where that names none.
+/// Returns the form that the option names, or its value where that names none.
 fn entered_form<'a>(values: &ArgMatches<'a>) -> Result<WordForm, &'a str>
     ensures form { IfOk result (IsNamed form_name Unsigned (first_of (codes "as") (rows_of (found_of values.now)))) }
     ensures none { IfErr result (λ name. IsNoChoice Form (rows_of (found_of values.now)) name.now) }
@@ -108,7 +108,7 @@ fn entered_form<'a>(values: &ArgMatches<'a>) -> Result<WordForm, &'a str>
     }
 }
 
-/// The level that the option names, or its value where that names none.
+/// Returns the level that the option names, or its value where that names none.
 fn entered_level<'a>(values: &ArgMatches<'a>) -> Result<Level, &'a str>
     ensures level { IfOk result (IsNamed level_name C (first_of (codes "at") (rows_of (found_of values.now)))) }
     ensures none { IfErr result (λ name. IsNoChoice LevelOf (rows_of (found_of values.now)) name.now) }
@@ -122,7 +122,7 @@ fn entered_level<'a>(values: &ArgMatches<'a>) -> Result<Level, &'a str>
     }
 }
 
-/// The value of an option, if it is given; the outer None where its text is no number.
+/// Returns the value of an option, if it is given; the outer None if its text is no number.
 fn maybe_number(values: &ArgMatches<'_>, id: &str) -> Option<Option<u32>>
     ensures { IfSome result (IsMaybeNumber (one_of id.now (rows_of (found_of values.now)))) }
 {
@@ -229,7 +229,7 @@ fn entered_show<'a>(values: &ArgMatches<'a>) -> Option<Command<'a>>
     })
 }
 
-/// The command of this name, with its values.
+/// Returns the command of this name, with its values.
 fn command_named<'a>(alloc: Global, name: &str, values: &ArgMatches<'a>) -> Option<Command<'a>>
     ensures { IfSome result (HasValues name.now (rows_of (found_of values.now))) }
 {
@@ -257,7 +257,7 @@ fn entered_command<'a>(alloc: Global, matches: &ArgMatches<'a>) -> Option<Comman
     command_named(alloc, name, values)
 }
 
-/// clap's matches of the words.
+/// Returns clap's matches of the words.
 fn matches_of<'a>(alloc: Global, words: &'a [&'a str]) -> Result<ArgMatches<'a>, Error>
     ensures kinds { FailsBy (fault_of mcc_app (map (λ s. s.now) words.entry.now)) result }
     ensures matches { IfOk result (HasMatchesOf mcc_app (map (λ s. s.now) words.entry.now)) }

@@ -1,8 +1,10 @@
 -- What was asked, along equations of the bytes, and what a command did that ended by a fault.
 use Rattle.std.proofs.Common.{◌≡◌, ◌≢◌, ◌⊎◌, ℕ, List, [], ◌∷◌, refl, sym, subst}
 use Rattle.std.specs.List.{FoldsTo}
-use Rattle.commands.specs.Requests.{Asks, Does, Host, IsSent, Meaning, Ran, Relations, Request, StopsMidway, TellsBeside, TellsLine, WasRefused}
+use Rattle.commands.specs.Requests.{Asks, Does, HostState, IsSent, Meaning, Ran, Relations, Request, StopsMidway, TellsBeside, TellsLine, WasRefused}
 use Rattle.commands.specs.Requests.Request.{Read, Written, NotWritten}
+use Rattle.commands.specs.Hosts.{RanOn, state_of}
+use Rattle.commands.specs.declared.host.Host.{Host}
 use Rattle.commands.specs.declared.files.FileFault.{FileFault}
 
 module _ {F : Type 0} (answers : F → Request → F → Type 0) where
@@ -22,7 +24,7 @@ module _ {F : Type 0} (answers : F → Request → F → Type 0) where
       → answers old (NotWritten name items fault) new
   not_written_as old new name bytes items fault e h = subst (λ (t : List ℕ). answers old (NotWritten name t fault) new) e h
 
-module _ {F W E : Type 0} (by : Relations F W E) (old new : Host F W E) where
+module _ {F W E : Type 0} (by : Relations F W E) (old new : HostState F W E) where
   -- it asked once, and told a line
   pub asks_once : (r : Request) (text : List ℕ) (Means : (silent refused : Type 0) → List Request → List ℕ → Type 0)
       → by.answers old.files r new.files → TellsLine by.tells old.err text new.err
@@ -54,3 +56,9 @@ module _ {F W E : Type 0} (by : Relations F W E) (old new : Host F W E) where
     beside = λ other. absurd (other one);
     stopped = λ _. stopped;
   }
+
+-- it did so over a host whose references stayed
+pub on_host : {F W E : Type 0} {by : Relations F W E} {old new : Host F W E} {m : Meaning} {status : ℕ}
+    → new.files.ghost_name ≡ old.files.ghost_name → new.out.ghost_name ≡ old.out.ghost_name → new.err.ghost_name ≡ old.err.ghost_name
+    → Ran by (state_of old) (state_of new) m status → RanOn by old new m status
+on_host files out err ran = record { ran = ran; same = record { files = files; out = out; err = err } }

@@ -33,8 +33,8 @@ pub record Relations (F W E : Type 0) : Type 1 where
   pub refuses : W → W → Type 0
   pub tells : E → List ℕ → E → Type 0
 
--- its parts before a command, or behind it
-pub record Host (F W E : Type 0) : Type 0 where
+-- its files and its streams before a command, or after it
+pub record HostState (F W E : Type 0) : Type 0 where
   pub files : F
   pub out : W
   pub err : E
@@ -44,12 +44,12 @@ abbrev pub relations : {F W E : Type 0} → (F → Request → F → Type 0) →
 relations answers contents sends refuses tells =
     record { answers = answers; contents = contents; sends = sends; refuses = refuses; tells = tells }
 
-abbrev pub host_of : {F W E : Type 0} → F → W → E → Host F W E
+abbrev pub host_of : {F W E : Type 0} → F → W → E → HostState F W E
 host_of files out err = record { files = files; out = out; err = err }
 
 -- what a command did: all that it asked of its files, in order, and the bytes that its standard output took, which are as Means
 -- says
-pub record Does {F W E : Type 0} (by : Relations F W E) (old new : Host F W E) (Means : List Request → List ℕ → Type 0) : Type 0 where
+pub record Does {F W E : Type 0} (by : Relations F W E) (old new : HostState F W E) (Means : List Request → List ℕ → Type 0) : Type 0 where
   pub requests : List Request
   pub printed : List ℕ
   pub asked : FoldsTo by.answers old.files requests new.files
@@ -84,7 +84,7 @@ IsNothing told = told ≡ []
 
 -- what a command did that ended by a fault: all that it asked of its files, and the line that it told, which are as Means says. That
 -- also says whether standard output is as it was, or refused what it was asked last
-pub record Asks {F W E : Type 0} (by : Relations F W E) (old new : Host F W E)
+pub record Asks {F W E : Type 0} (by : Relations F W E) (old new : HostState F W E)
     (Means : (silent refused : Type 0) → List Request → List ℕ → Type 0) : Type 0 where
   pub requests : List Request
   pub text : List ℕ
@@ -94,7 +94,7 @@ pub record Asks {F W E : Type 0} (by : Relations F W E) (old new : Host F W E)
 
 -- what a command did that memory was refused to once it had begun to print: all that it asked of its files, and the bytes that its
 -- standard output took until then, which are as Begins says; and it told fault 30
-pub record StopsMidway {F W E : Type 0} (by : Relations F W E) (old new : Host F W E) (Begins : List Request → List ℕ → Type 0) : Type 0 where
+pub record StopsMidway {F W E : Type 0} (by : Relations F W E) (old new : HostState F W E) (Begins : List Request → List ℕ → Type 0) : Type 0 where
   pub requests : List Request
   pub printed : List ℕ
   pub asked : FoldsTo by.answers old.files requests new.files
@@ -111,7 +111,7 @@ pub record Meaning : Type 1 where
   pub Remarks : (status : ℕ) → List (List ℕ) → Type 0
 
 -- a command did as it means, by its status: 1 is that of a fault, and 2 that of wrong words, where nothing need be sent on
-pub record Ran {F W E : Type 0} (by : Relations F W E) (old new : Host F W E) (m : Meaning) (status : ℕ) : Type 0 where
+pub record Ran {F W E : Type 0} (by : Relations F W E) (old new : HostState F W E) (m : Meaning) (status : ℕ) : Type 0 where
   pub answered : status ≢ 1 → Does by old new (m.Answers status)
   pub sent : status ≢ 1 → status ≢ 2 → IsSent by.sends new.out
   pub beside : status ≢ 1 → TellsBeside by.tells old.err (m.Remarks status) new.err

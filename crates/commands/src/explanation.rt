@@ -1,4 +1,4 @@
-// What is said of a fault below its line: what is wrong, and what to write in its place.
+//! What is said of a fault below its line: what is wrong, and what to write in its place.
 
 ghost use Rattle.std.specs.Prelude.{◌≡◌, ◌≤◌, All, IfOk, IfSome};
 ghost use Rattle.commands.specs.Texts.{IsPrintable, IsPrintableExplanation, shown_byte};
@@ -16,7 +16,7 @@ pub struct Explanation {
     pub more: Option<Vec<u8>>,
 }
 
-/// The byte itself if it is printable, else `?`.
+/// Returns the byte itself if it is printable, else `?`.
 pub fn printable_byte(byte: u8) -> u8
     ensures exact { result ≡ shown_byte byte }
     ensures printable { IsPrintable result }
@@ -27,7 +27,7 @@ pub fn printable_byte(byte: u8) -> u8
     }
 }
 
-/// The text with `?` for what isn't printable ASCII.
+/// Returns the text with `?` for what isn't printable ASCII.
 fn printable_bytes(alloc: Global, text: &str) -> Result<Vec<u8>, AllocError>
     ensures { IfOk result (λ bytes. All IsPrintable bytes.items) }
 {
@@ -38,7 +38,7 @@ fn printable_bytes(alloc: Global, text: &str) -> Result<Vec<u8>, AllocError>
     Ok(bytes)
 }
 
-/// The same of a text that may be missing.
+/// Returns the same of a text that may be missing.
 fn printable_if_some(alloc: Global, text: Option<&str>) -> Result<Option<Vec<u8>>, AllocError>
     ensures { IfOk result (λ o. IfSome o (λ bytes. All IsPrintable bytes.items)) }
 {
@@ -49,14 +49,14 @@ fn printable_if_some(alloc: Global, text: Option<&str>) -> Result<Option<Vec<u8>
 }
 
 impl Explanation {
-    /// The message and the hint, with `?` for each byte that isn't printable ASCII.
+    /// Returns the message and the hint, with `?` for each byte that isn't printable ASCII.
     pub fn new(alloc: Global, message: &str, hint: Option<&str>) -> Result<Explanation, AllocError>
         ensures { IfOk result IsPrintableExplanation }
     {
         Explanation::with_more(alloc, message, hint, None)
     }
 
-    /// The same with what else is wrong.
+    /// Returns the same with what else is wrong.
     pub fn with_more(
         alloc: Global,
         message: &str,

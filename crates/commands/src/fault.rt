@@ -1,4 +1,4 @@
-// What keeps a command from its answer, and where it is told.
+//! What keeps a command from its answer, and where it is told.
 ghost use Rattle.std.specs.Prelude.{◌≡◌, ℕ, List, [], ◌∷◌, ◌++◌, Some, IfSome, ⊤};
 ghost use Rattle.commands.specs.Requests.{TellsLine};
 ghost use Rattle.commands.specs.Texts.{host_fault_text};
@@ -29,16 +29,16 @@ impl fmt::Display for HostFault {
 
 impl Error for HostFault {}
 
-/// Where faults are told. It may lose what it is told; `tells` is its own, so that a contract over any such place says all that it
-/// was told, in order.
+/// Where faults are told. It may lose what it is told. `tells` is its own, so that a contract over any such place says all that it was
+/// told, in order.
 pub trait Complaints {
     ghost tells: { Self → List ℕ → Self → Type 0 };
 
-    /// The text, and a line feed.
+    /// Tells the text and a line feed.
     fn line<F: fmt::Display>(&mut self, text: &F)
         ensures { IfSome (F.output text.now) (λ bytes. tells self.old (bytes ++ 10 ∷ []) self.new) };
 
-    /// The text alone.
+    /// Tells the text alone.
     fn text<F: fmt::Display>(&mut self, text: &F)
         ensures { IfSome (F.output text.now) (λ bytes. tells self.old bytes self.new) };
 

@@ -1,4 +1,4 @@
-// The files that the program may reach.
+//! The files that the program may reach.
 ghost use Rattle.std.specs.Prelude.{◌≡◌, ◌≢◌, IfErr, MatchResult};
 ghost use Rattle.commands.specs.Requests.{Request, reading_fault, writing_fault};
 ghost use Rattle.commands.specs.declared.files.FileFault.{FileFault};
@@ -22,7 +22,7 @@ pub enum FileFault {
 pub trait Files {
     ghost answers: { Self → Request → Self → Type 0 };
 
-    /// The bytes of the file of this name.
+    /// Returns the bytes of the file of this name.
     fn read(&mut self, alloc: Global, name: &str) -> Result<Vec<u8>, FileFault>
         ensures { MatchResult result (λ bytes. answers self.old (Read name.now bytes.items) self.new)
             (λ fault. answers self.old (NotRead name.now fault) self.new) };
@@ -33,7 +33,7 @@ pub trait Files {
             (λ fault. answers self.old (NotWritten name.now bytes.now fault) self.new) };
 }
 
-/// The bytes of a file; an Err tells why they could not be had (`reading_fault`).
+/// Returns the bytes of a file; an Err tells why they could not be had (`reading_fault`).
 pub fn read_file<F: Files>(alloc: Global, name: &str, files: &mut F) -> Result<Vec<u8>, HostFault>
     ensures asked { MatchResult result (λ bytes. F.answers files.old (Read name.now bytes.items) files.new)
         (λ e. (fault : FileFault) × (e ≡ reading_fault fault) × F.answers files.old (NotRead name.now fault) files.new) }

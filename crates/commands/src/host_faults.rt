@@ -1,4 +1,4 @@
-// What is told of the faults of files and of standard output: their lines, and below them which file and why.
+//! What is told of the faults of files and of standard output: their lines, and below them which file and why.
 
 ghost use Rattle.std.specs.Prelude.{◌≡◌, All, IfSome};
 ghost use Rattle.commands.specs.Requests.{TellsBeside, TellsLine};

@@ -1,6 +1,6 @@
 //! What the commands of the program share: files, errors, and where an error lies.
 //!
-//! Definitions: `specs/Texts.antt`, `specs/Requests.antt`, `specs/Streams.antt`.
+//! Definitions: `specs/Texts.antt`, `specs/Requests.antt`, `specs/Hosts.antt`, `specs/Streams.antt`.
 //! Contract: `answer_file`, `answer_stream`, `read_file`, `write_file`, `tell`, `tell_file`, `tell_placed`, `print_name`, `Explanation::new`
 //! - A command over one file asks, prints and ends as its own definition says.
 //! - What is printed below an error steers no terminal.
@@ -10,6 +10,7 @@
 mod explanation;
 mod fault;
 mod files;
+mod host;
 mod host_faults;
 mod names;
 mod numbers;
@@ -22,6 +23,7 @@ mod wrong_words;
 pub use explanation::{Explanation, printable_byte};
 pub use fault::{Complaints, HostFault, tell};
 pub use files::{FileFault, Files, read_file, write_file};
+pub use host::Host;
 pub use host_faults::{FileError, tell_file, tell_unprinted, tell_unread, tell_unwritten};
 pub use names::print_name;
 pub use numbers::{FormedWord, WordForm};

@@ -1,4 +1,4 @@
-// Names of files, as they stand before what is printed of them.
+//! Names of files, as they stand before what is printed of them.
 
 ghost use Rattle.std.specs.Prelude.{OnErr, OnOk};
 ghost use Rattle.std.specs.Io.KnownBytes.{Appends};

@@ -1,4 +1,4 @@
-// Words as a run prints them.
+//! Words as a run prints them.
 
 ghost use Rattle.std.specs.Prelude.{Some};
 ghost use Rattle.commands.specs.Numbers.{word_text};

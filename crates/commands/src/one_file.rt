@@ -1,12 +1,14 @@
-// A command over one file: it reads it, works out an answer or a fault, and prints the one or tells the other.
+//! A command over one file: it reads it, works out an answer or a fault, and prints the one or tells the other.
 
 ghost use Rattle.std.specs.Prelude.{◌≡◌, ◌≢◌, ◌≤◌, ℕ, List, max, IfErr, IfOk, OnOk};
 ghost use Rattle.commands.specs.declared.fault.HostFault.{HostFault};
 ghost use Rattle.commands.specs.OneFile.{AnswersFile, StopsFile, TookPrint};
-ghost use Rattle.commands.specs.Requests.{IsSent, LeavesOutput, Ran, TellsBeside, TellsLine, WasRefused, host_of, relations};
+ghost use Rattle.commands.specs.Hosts.{RanOn};
+ghost use Rattle.commands.specs.Requests.{IsSent, LeavesOutput, TellsBeside, TellsLine, WasRefused, relations};
 
 use crate::fault::{Complaints, HostFault};
 use crate::files::{Files, read_file};
+use crate::host::Host;
 use crate::host_faults::{tell_unprinted, tell_unread};
 use crate::output::Output;
 use std::alloc::Global;
@@ -47,12 +49,12 @@ pub trait FileCommand {
     // what may be told beside an answer of this status
     ghost remarks: { Self → ℕ → List (List ℕ) → Type 0 };
 
-    /// The answer to these bytes, or their fault.
+    /// Returns the answer to these bytes, or their fault.
     fn work(&self, alloc: Global, bytes: &[u8]) -> Result<Self::Answer, Self::Fault>
         ensures answer { IfOk result (answers self.now bytes.now) }
         ensures fault { IfErr result (faults self.now bytes.now) };
 
-    /// The answer, printed; its status.
+    /// Prints the answer, and returns its status.
     fn print<W: Output>(
         &self,
         alloc: Global,
@@ -68,29 +70,25 @@ pub trait FileCommand {
         ensures fault { IfErr result unprinted }
         ensures left { IfErr result (λ e. LeavesOutput e (out.new ≡ out.old) (WasRefused W.refuses out.new)) };
 
-    /// What is told beside an answer that was printed.
+    /// Tells what is said beside an answer that was printed.
     fn remark<E: Complaints>(&self, alloc: Global, bytes: &[u8], answer: &Self::Answer, err: &mut E)
         ensures { TellsBeside E.tells err.old (remarks self.now (status answer.now)) err.new };
 
-    /// The line of a fault, and below it what is known of it.
+    /// Tells the line of a fault, and below it what is known of it.
     fn tell<E: Complaints>(&self, alloc: Global, of: &BadFile<'_, Self::Fault>, err: &mut E) -> u8
         ensures status { result ≡ 1 }
         ensures told { TellsLine E.tells err.old (line of.now.fault) err.new };
 }
 
-/// A command over its file and the streams. The answer is the exit status: 1 where it ended by a fault.
+/// Runs a command over its file and the streams. The answer is the exit status: 1 if it ended by a fault.
 pub fn answer_file<C: FileCommand, F: Files, W: Output, E: Complaints>(
-    alloc: Global,
+    host: &mut Host<F, W, E>,
     command: &C,
     file: &str,
-    files: &mut F,
-    out: &mut W,
-    err: &mut E,
 ) -> u8
     ensures most { result ≤ max 1 C.most }
     ensures not_wrong_words { result ≢ 2 }
-    ensures ran { Ran (relations F.answers W.contents W.sends W.refuses E.tells) (host_of files.old out.old err.old)
-        (host_of files.new out.new err.new)
+    ensures ran { RanOn (relations F.answers W.contents W.sends W.refuses E.tells) host.old host.new
         (record {
           Answers = AnswersFile (C.answers command.now) (C.prints command.now) C.status file.now;
           Stops = StopsFile (C.answers command.now) (C.faults command.now) C.line C.unprinted file.now;
@@ -98,20 +96,21 @@ pub fn answer_file<C: FileCommand, F: Files, W: Output, E: Complaints>(
           Remarks = C.remarks command.now;
         }) result }
 {
-    let text = match read_file(alloc, file, files) {
+    let alloc = host.alloc;
+    let text = match read_file(alloc, file, host.files) {
         Ok(text) => text,
-        Err(fault) => return tell_unread(alloc, err, file, fault),
+        Err(fault) => return tell_unread(alloc, host.err, file, fault),
     };
     let bytes = text.as_slice();
     let answer = match command.work(alloc, bytes) {
         Ok(answer) => answer,
-        Err(fault) => return command.tell(alloc, &BadFile { file, bytes, fault }, err),
+        Err(fault) => return command.tell(alloc, &BadFile { file, bytes, fault }, host.err),
     };
-    match command.print(alloc, bytes, &answer, out) {
+    match command.print(alloc, bytes, &answer, host.out) {
         Ok(status) => {
-            command.remark(alloc, bytes, &answer, err);
+            command.remark(alloc, bytes, &answer, host.err);
             status
         }
-        Err(fault) => tell_unprinted(err, fault),
+        Err(fault) => tell_unprinted(host.err, fault),
     }
 }

@@ -1,4 +1,4 @@
-// Where answers go.
+//! Where answers go.
 ghost use Rattle.std.specs.Prelude.{[], ◌∷◌, ◌++◌, IfSome, OnErr, OnOk, ⊤};
 ghost use Rattle.std.specs.Io.KnownBytes.{Appends, Keeps};
 

@@ -1,5 +1,5 @@
-// Where a fault lies in its file, as editors and readers want it: the line `FILE:LINE:COLUMN: error: MESSAGE`, below it the
-// line of the text around the place with a caret, and a line with a hint.
+//! Where a fault lies in its file, as editors and readers want it: the line `FILE:LINE:COLUMN: error: MESSAGE`, below it the
+//! line of the text around the place with a caret, and a line with a hint.
 
 ghost use Rattle.std.specs.Prelude.{◌≡◌, ◌<◌, ◌^◌, ◌≤◌, length, ◌++◌, All, IfOk, IfSome, OnOk, Some, codes, decimal};
 ghost use Rattle.commands.specs.Requests.{TellsBeside, TellsLine};
@@ -30,7 +30,7 @@ pub struct Spot {
     pub column: usize,
 }
 
-/// Where the line of the offset begins.
+/// Returns where the line of the offset begins.
 fn line_start(text: &[u8], at: usize) -> usize {
     let mut start = 0;
     for (k, byte) in text.iter().take(at).enumerate() {
@@ -41,7 +41,7 @@ fn line_start(text: &[u8], at: usize) -> usize {
     start
 }
 
-/// Where the line of the offset ends: at its LF or at the text's end.
+/// Returns where the line of the offset ends: at its LF or at the text's end.
 fn line_end(text: &[u8], at: usize) -> usize {
     for (k, byte) in text.iter().enumerate().skip(at) {
         if *byte == b'\n' {
@@ -51,7 +51,7 @@ fn line_end(text: &[u8], at: usize) -> usize {
     text.len()
 }
 
-/// The line and the column of an offset of the text, or of its end.
+/// Returns the line and the column of an offset of the text, or of its end.
 pub fn spot_of(text: &[u8], at: usize) -> Spot {
     let before = text.iter().take(at).filter(|byte| **byte == b'\n').count();
     let column = at.saturating_sub(line_start(text, at));
@@ -61,7 +61,7 @@ pub fn spot_of(text: &[u8], at: usize) -> Spot {
     }
 }
 
-/// Where a line of the text begins, counted from 1; the text's length where it has no such line.
+/// Returns where a line of the text begins, counted from 1; the text's length where it has no such line.
 pub fn line_offset(text: &[u8], line: u32) -> usize
     ensures { result ≤ length text.now }
 {
@@ -88,7 +88,7 @@ enum Way {
     Blanks,
 }
 
-/// The byte that stands for a byte.
+/// Returns the byte that stands for a byte.
 fn shown_byte(byte: u8, way: Way) -> u8
     ensures { IsShown result }
 {
@@ -99,7 +99,7 @@ fn shown_byte(byte: u8, way: Way) -> u8
     }
 }
 
-/// The part of a line that is shown: from and to these offsets.
+/// Returns the part of a line that is shown: from and to these offsets.
 fn window(start: usize, end: usize, at: usize) -> (usize, usize) {
     if end.saturating_sub(start) <= WIDTH {
         return (start, end);
@@ -150,7 +150,7 @@ impl Lines {
         self.push(b'\n');
     }
 
-    /// What was written, unless memory was refused.
+    /// Returns what was written, unless memory was refused.
     fn end(self) -> Result<Vec<u8>, AllocError>
         ensures { All IsShown self.bytes.items → IfOk result (λ lines. All IsShown lines.items) }
     {
@@ -161,12 +161,12 @@ impl Lines {
     }
 }
 
-/// What stands for a part of a line that is left out.
+/// Returns what stands for a part of a line that is left out.
 fn dots(is_cut: bool) -> &'static [u8] {
     if is_cut { DOTS } else { b"" }
 }
 
-/// Adds at most 160 bytes of the line in which the offset lies, and below it a line with a caret under the offset; nothing at the text's
+/// Adds at most 160 bytes of the line in which the offset lies, and below it a line with a caret under the offset. Nothing at the text's
 /// end.
 fn add_place(lines: &mut Lines, text: &[u8], at: usize)
     ensures { All IsShown lines.old.bytes.items → All IsShown lines.new.bytes.items }
@@ -245,7 +245,7 @@ fn add_hint_text(lines: &mut Lines, hint: Option<&str>)
     }
 }
 
-/// The line with the file and what is wrong with it, and the hint.
+/// Returns the line with the file and what is wrong with it, and the hint.
 pub(crate) fn file_lines(alloc: Global, about: &FileError<'_>) -> Result<Vec<u8>, AllocError>
     ensures { IfOk result (λ lines. All IsShown lines.items) }
 {
@@ -258,7 +258,7 @@ pub(crate) fn file_lines(alloc: Global, about: &FileError<'_>) -> Result<Vec<u8>
     lines.end()
 }
 
-/// The line with the place and the message, the line of the text with its caret, the hint, and what else is wrong.
+/// Returns the line with the place and the message, the line of the text with its caret, the hint, and what else is wrong.
 fn lines_below(alloc: Global, place: &Place<'_>, at: usize) -> Result<Vec<u8>, AllocError>
     ensures { IfOk result (λ lines. All IsShown lines.items) }
 {
@@ -291,7 +291,7 @@ pub fn tell_placed<E: Complaints, F: fmt::Display>(
     1
 }
 
-/// Below a fault's line: where it lies and what is said of it; where memory is refused only where it lies.
+/// Tells, below a fault's line, where it lies and what is said of it; if memory runs out, only where it lies.
 fn show_place<E: Complaints>(alloc: Global, err: &mut E, place: &Place<'_>, at: usize)
     ensures { TellsBeside E.tells err.old (All (All IsShown)) err.new }
 {
@@ -301,7 +301,7 @@ fn show_place<E: Complaints>(alloc: Global, err: &mut E, place: &Place<'_>, at: 
     }
 }
 
-/// Where a fault lies alone, which takes no memory.
+/// Tells where a fault lies alone, which takes no memory.
 fn tell_site<E: Complaints>(err: &mut E, place: &Place<'_>, at: usize)
     ensures { TellsBeside E.tells err.old (All (All IsShown)) err.new }
 {
@@ -311,7 +311,7 @@ fn tell_site<E: Complaints>(err: &mut E, place: &Place<'_>, at: usize)
     err.line(&behind_name(place.text, at));
 }
 
-/// A place as editors read it behind the name of its file.
+/// A place as editors read it after the name of its file.
 #[derive(Clone, Copy)]
 struct BehindName {
     line: usize,

@@ -1,12 +1,14 @@
-// A command over one file that prints while it works: what it printed stays, wherever it breaks off.
+//! A command over one file that prints while it works: what it printed stays, wherever it breaks off.
 
 ghost use Rattle.std.specs.Prelude.{◌≡◌, ◌≢◌, ◌≤◌, ℕ, List, max, IfErr, IfOk, OnOk};
 ghost use Rattle.commands.specs.OneFile.{AnswersFile, IsRefused, StopsFile};
-ghost use Rattle.commands.specs.Requests.{IsSent, Ran, TellsBeside, TellsLine, WasRefused, host_of, relations};
+ghost use Rattle.commands.specs.Hosts.{RanOn};
+ghost use Rattle.commands.specs.Requests.{IsSent, TellsBeside, TellsLine, WasRefused, relations};
 ghost use Rattle.commands.specs.Streams.{BeginsFile, BreaksBy, TookAnswer};
 
 use crate::fault::{Complaints, HostFault, tell};
 use crate::files::{Files, read_file};
+use crate::host::Host;
 use crate::host_faults::{tell_unprinted, tell_unread};
 use crate::one_file::BadFile;
 use crate::output::Output;
@@ -69,36 +71,32 @@ pub trait StreamCommand {
         ensures broken { IfErr result (BreaksBy (answers self.now bytes.now) (prints self.now) (faults self.now bytes.now) (W.contents out.old)
             (W.contents out.new) (out.new ≡ out.old) (WasRefused W.refuses out.new)) };
 
-    /// The status of an end.
+    /// Returns the status of an end.
     fn status_of(&self, end: &Self::End) -> u8
         ensures status { result ≡ end_status end.now }
         ensures most { result ≤ most }
         ensures neither { (result ≢ 1) × (result ≢ 2) };
 
-    /// What is told beside an answer that was printed.
+    /// Tells what is said beside an answer that was printed.
     fn remark<E: Complaints>(&self, alloc: Global, bytes: &[u8], end: &Self::End, err: &mut E)
         requires { knows self.now end.now }
         ensures { TellsBeside E.tells err.old (remarks self.now (end_status end.now)) err.new };
 
-    /// The line of a fault, and below it what is known of it.
+    /// Tells the line of a fault, and below it what is known of it.
     fn tell<E: Complaints>(&self, alloc: Global, of: &BadFile<'_, Self::Fault>, err: &mut E) -> u8
         ensures status { result ≡ 1 }
         ensures told { TellsLine E.tells err.old (line of.now.fault) err.new };
 }
 
-/// A command over its file and the streams that prints while it works. The answer is the exit status: 1 where it ended by a fault.
+/// Runs a command over its file and the streams that prints while it works. The answer is the exit status: 1 if it ended by a fault.
 pub fn answer_stream<C: StreamCommand, F: Files, W: Output, E: Complaints>(
-    alloc: Global,
+    host: &mut Host<F, W, E>,
     command: &C,
     file: &str,
-    files: &mut F,
-    out: &mut W,
-    err: &mut E,
 ) -> u8
     ensures most { result ≤ max 1 C.most }
     ensures not_wrong_words { result ≢ 2 }
-    ensures ran { Ran (relations F.answers W.contents W.sends W.refuses E.tells) (host_of files.old out.old err.old)
-        (host_of files.new out.new err.new)
+    ensures ran { RanOn (relations F.answers W.contents W.sends W.refuses E.tells) host.old host.new
         (record {
           Answers = AnswersFile (C.answers command.now) (C.prints command.now) C.status file.now;
           Stops = StopsFile (C.answers command.now) (C.faults command.now) C.line IsRefused file.now;
@@ -106,18 +104,23 @@ pub fn answer_stream<C: StreamCommand, F: Files, W: Output, E: Complaints>(
           Remarks = C.remarks command.now;
         }) result }
 {
-    let text = match read_file(alloc, file, files) {
+    let alloc = host.alloc;
+    let text = match read_file(alloc, file, host.files) {
         Ok(text) => text,
-        Err(fault) => return tell_unread(alloc, err, file, fault),
+        Err(fault) => return tell_unread(alloc, host.err, file, fault),
     };
     let bytes = text.as_slice();
-    match command.stream(alloc, bytes, out) {
+    match command.stream(alloc, bytes, host.out) {
         Ok(end) => {
-            command.remark(alloc, bytes, &end, err);
+            command.remark(alloc, bytes, &end, host.err);
             command.status_of(&end)
         }
-        Err(Broken::Faulty(fault)) => command.tell(alloc, &BadFile { file, bytes, fault }, err),
-        Err(Broken::Unprinted) => tell_unprinted(err, HostFault::CannotWrite),
-        Err(Broken::Midway) => tell(err, &HostFault::NoMemory),
+        Err(Broken::Faulty(fault)) => command.tell(
+            alloc,
+            &BadFile { file, bytes, fault },
+            host.err,
+        ),
+        Err(Broken::Unprinted) => tell_unprinted(host.err, HostFault::CannotWrite),
+        Err(Broken::Midway) => tell(host.err, &HostFault::NoMemory),
     }
 }

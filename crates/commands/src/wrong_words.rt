@@ -1,4 +1,4 @@
-// What is told of wrong words, and the help.
+//! What is told of wrong words, and the help.
 ghost use Rattle.std.specs.Prelude.{◌≡◌, ◌≤◌, OnErr, OnOk};
 ghost use Rattle.clap.specs.declared.error.ErrorKind.TheVariants.{OutOfMemory};
 ghost use Rattle.clap.specs.Words.{kind_of};
@@ -22,7 +22,7 @@ const IMAGE_WORDS: &[&str] = &["-o", "--output"];
 /// What is said of them in place of clap's tip.
 const IMAGE_TIP: &str = "  tip: the image is the second name: mcc build SOURCE IMAGE\n";
 
-/// How clap's text on a build's words goes on behind its tip.
+/// How clap's text on a build's words goes on after its tip.
 const BUILD_USAGE: &str = "\nUsage: mcc build";
 
 /// Prints clap's text.
@@ -34,7 +34,7 @@ fn print_help<W: Output>(out: &mut W, error: &Error) -> io::Result<()>
     out.send()
 }
 
-/// The help or the version, printed.
+/// Prints the help or the version.
 fn show_help<W: Output, E: Complaints>(error: &Error, out: &mut W, err: &mut E) -> u8
     ensures most { result ≤ 1 }
     ensures sent { result ≡ 0 → IsSent W.sends out.new }
@@ -46,7 +46,7 @@ fn show_help<W: Output, E: Complaints>(error: &Error, out: &mut W, err: &mut E) 
     }
 }
 
-/// Clap's text with a tip of ours where its own misleads.
+/// Returns clap's text, with a tip of ours if its own misleads.
 fn text_with_tip(alloc: Global, error: &Error) -> Result<String, AllocError> {
     let mut text = format!(in alloc; "{error}")?;
     for word in IMAGE_WORDS {
@@ -59,7 +59,7 @@ fn text_with_tip(alloc: Global, error: &Error) -> Result<String, AllocError> {
     Ok(text)
 }
 
-/// Tells wrong words; clap's own text where memory is refused to ours.
+/// Tells wrong words; clap's own text if memory runs out to ours.
 fn tell_mistake<E: Complaints>(alloc: Global, error: &Error, err: &mut E) {
     match text_with_tip(alloc, error) {
         Ok(text) => err.text(&text),

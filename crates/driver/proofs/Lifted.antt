@@ -7,7 +7,7 @@ use Rattle.std.specs.List.{FoldsTo, flat_map}
 use Rattle.clap.specs.Words.{HasKind, fault_of, kind_of, takes}
 use Rattle.clap.specs.declared.error.Error.{Error}
 use Rattle.clap.specs.declared.error.kind.ErrorKind.TheVariants.{OutOfMemory}
-use Rattle.commands.specs.Requests.{Asks, Does, Host, IsSent, LeavesOutput, Ran, Relations, StopsMidway, TellsBeside, TellsLine, WasRefused}
+use Rattle.commands.specs.Requests.{Asks, Does, HostState, IsSent, LeavesOutput, Ran, Relations, StopsMidway, TellsBeside, TellsLine, WasRefused}
 use Rattle.commands.specs.Texts.{IsShown, host_fault_text}
 use Rattle.commands.specs.WrongWords.{IsFaultOfWords, IsHelp, IsMistake}
 use Rattle.commands.specs.declared.fault.HostFault.{HostFault}
@@ -61,7 +61,7 @@ zero_of (suc (suc zero)) most one two = absurd (two refl)
 zero_of (suc (suc (suc n))) most one two = let no : ⊥ = omega (arith, most) in absurd no
 
 -- what the program did by what its words' command did
-module _ {F W E : Type 0} (by : Relations F W E) (old new : Host F W E) (words : List (List ℕ)) (status : ℕ) where
+module _ {F W E : Type 0} (by : Relations F W E) (old new : HostState F W E) (words : List (List ℕ)) (status : ℕ) where
   midway : (command : Command) → IsCommand words command → StopsMidway by old new (Begins command) → StopsMidway by old new (IsBegun words)
   midway command entered m = record {
     requests = m.requests;
@@ -127,7 +127,7 @@ module _ {F W E : Type 0} (by : Relations F W E) (old new : Host F W E) (words :
   }
 
 -- several files, which all have their lines, or which broke off
-module _ {F W E : Type 0} (by : Relations F W E) (old new : Host F W E) (explain : Bool) (status : ℕ) where
+module _ {F W E : Type 0} (by : Relations F W E) (old new : HostState F W E) (explain : Bool) (status : ℕ) where
   abbrev Each : List (List ℕ) → Type 0
   Each names = (ChecksAll by old new explain names status × IsSent by.sends new.out) ⊎ ((status ≡ 1) × Asks by old new (BreaksOff explain names))
 

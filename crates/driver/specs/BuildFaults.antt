@@ -65,7 +65,7 @@ Exceeds text depth limits.Lowering = IsTooLongForRtl text
 Exceeds text depth limits.Selection = IsTooLongForSelection text depth
 Exceeds text depth limits.Assembly = IsTooLongForAssembly text
 
--- the text's own fault, or one of the program that it spells; a limit and want of memory come only where that has none
+-- the text's own fault, or one of the program that it spells; a limit and lack of memory come only where that has none
 abbrev pub IsBuildFault : List ℕ → (depth : ℕ) → BuildFault → Type 0
 IsBuildFault text depth (faults.Source fault) = IsSourceFault text fault
 IsBuildFault text depth (faults.Limit limit) = Exceeds text depth limit

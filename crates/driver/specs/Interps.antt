@@ -19,7 +19,7 @@ pub record IsRun (text : List ℕ) (depth steps : ℕ) (o : Outcome) : Type 0 wh
   pub spelled : SpellsTyped text program
   pub run : o ≡ source_run program depth steps
 
--- the text's own fault, or one of the program that it spells; want of memory comes only where that has none
+-- the text's own fault, or one of the program that it spells; lack of memory comes only where that has none
 abbrev pub IsInterpFault : List ℕ → InterpFault → Type 0
 IsInterpFault text (faults.Source fault) = IsSourceFault text fault
 IsInterpFault text faults.NoMemory = IsFaultless text

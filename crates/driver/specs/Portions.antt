@@ -10,13 +10,13 @@ pub record RunOutcome (E : Type 0) : Type 0 where
 abbrev pub after_output : {E : Type 0} → List ℕ → RunOutcome E → RunOutcome E
 after_output out o = record { end = o.end; output = out ++ o.output }
 
--- what n more come to behind some: as many of the state, or nothing more where the run has ended
+-- what n more come to after some: as many of the state, or nothing more where the run has ended
 abbrev pub behind : {S E : Type 0} → (comes_to : S → ℕ → RunOutcome E) → (written : S → List ℕ) → Option E → S → ℕ → RunOutcome E
 behind comes_to written None s n = comes_to s n
 behind comes_to written (Some end) s n = record { end = end; output = written s }
 
 -- so many ran, at most as many as were asked for, and one at least if any was: with fewer of them the run would go on, and a run of these
--- and n more is a run of n behind these
+-- and n more is a run of n after these
 pub record WentOn {S E : Type 0} (comes_to : S → ℕ → RunOutcome E) (written : S → List ℕ) (more : E) (asked : ℕ) (old new : S)
     (end : Option E) (ran : ℕ) : Type 0 where
   pub within : ran ≤ asked

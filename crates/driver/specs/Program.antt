@@ -8,7 +8,7 @@ use Rattle.runs.specs.Runs.{Outcome, outcome_of}
 use Rattle.image.specs.Texts.{image_fault_text}
 use Rattle.image.specs.Images.{IsImageFault}
 use Rattle.clap.specs.Words.{fault_of, takes}
-use Rattle.commands.specs.Requests.{Asks, Does, Host, IsNothing, IsSent, Meaning, Relations, Request, StopsMidway, TellsBeside}
+use Rattle.commands.specs.Requests.{Asks, Does, HostState, IsNothing, IsSent, Meaning, Relations, Request, StopsMidway, TellsBeside}
 use Rattle.commands.specs.OneFile.{AnswersFile, StopsFile}
 use Rattle.block_text.specs.Shown.{IsShown}
 use Rattle.check_command.specs.Command.{Checks, check_meaning}
@@ -175,7 +175,7 @@ abbrev pub NamesOneFile : List (List ℕ) → Type 0
 NamesOneFile words = (b : AskedBuild) × IsCommand words (Build b) × (b.source.now ≡ b.image.now)
 
 -- the program: its words ask for a check of several files, of which one had a fault, and all have their lines, which were sent on
-pub record HasFaultyFile {F W E : Type 0} (by : Relations F W E) (old new : Host F W E) (words : List (List ℕ)) : Type 0 where
+pub record HasFaultyFile {F W E : Type 0} (by : Relations F W E) (old new : HostState F W E) (words : List (List ℕ)) : Type 0 where
   pub files : Vec (Bor (List ℕ)) Global
   pub explain : Bool
   pub entered : IsCommand words (CheckEach files explain)
@@ -183,7 +183,7 @@ pub record HasFaultyFile {F W E : Type 0} (by : Relations F W E) (old new : Host
   pub sent : IsSent by.sends new.out
 
 -- what the program did with its words, by its status
-pub record RanWords {F W E : Type 0} (by : Relations F W E) (old new : Host F W E) (words : List (List ℕ)) (status : ℕ) : Type 0 where
+pub record RanWords {F W E : Type 0} (by : Relations F W E) (old new : HostState F W E) (words : List (List ℕ)) (status : ℕ) : Type 0 where
   pub most : status ≤ 4
   -- what their command asks and prints, if clap takes them and there was no fault; only a build onto its source ends by 2 then
   pub taken : takes mcc_app words ≡ true → status ≡ 2 → NamesOneFile words

@@ -66,7 +66,7 @@ unit_text Steps = codes "steps"
 abbrev pub count_text : Counted → ℕ → List ℕ
 count_text unit count = unit_text unit ++ (codes " " ++ decimal count)
 
--- behind the end `more`: which option goes on
+-- after the end `more`: which option goes on
 abbrev pub more_hint : (most : ℕ) → List ℕ
 more_hint most = if nat_lt most 4294967295 then codes ": --steps 4294967295 goes on" else []
 

@@ -30,8 +30,8 @@ pub record IsRtlOf (text : List ℕ) (r : Program) : Type 0 where
   pub spelled : SpellsTyped text program
   pub lowered : IsLowered program r
 
--- the fault of a build of the text, one of whose calls is active; a listing is too long, or the words ask for what isn't there, only
--- where the text has none
+-- the fault of a build of the text, one of whose calls is active. A listing is too long, or the words ask for what isn't there, only where
+-- the text has none
 abbrev pub IsStagesFault : List ℕ → StagesFault → Type 0
 IsStagesFault text (faults.Build fault) = IsBuildFault text 1 fault ⊎ ((fault ≡ builds.Limit limits.Assembly) × IsFaultless text)
 IsStagesFault text faults.NoStage = IsFaultless text

@@ -1,4 +1,4 @@
-// What is told of an option that has none of its names.
+//! What is told of an option that has none of its names.
 
 ghost use Rattle.std.specs.Prelude.{◌≡◌, Some};
 ghost use Rattle.commands.specs.Requests.{TellsLine};
@@ -21,7 +21,7 @@ impl fmt::Display for NoChoice {
     }
 }
 
-/// The option, and its names as a hint has them.
+/// Returns the option, and its names as a hint has them.
 fn option_and_names(choice: Choice) -> (&'static str, &'static str) {
     match choice {
         Choice::Form => ("--as", "write --as signed, --as hex or --as unsigned"),

@@ -1,4 +1,4 @@
-// The command that shows an image.
+//! The command that shows an image.
 
 ghost use Rattle.std.specs.Prelude.{All, IfErr, IfOk};
 ghost use Rattle.block_text.specs.Shown.{IsShown};
@@ -13,7 +13,7 @@ use image::{ImageFault, read_image};
 use show::assembler_source;
 use std::alloc::Global;
 
-/// The listing of an image's bytes, if they are those of one.
+/// Returns the listing of an image's bytes, if they are those of one.
 fn listing_of(alloc: Global, bytes: &[u8]) -> Result<Vec<u8>, ImageFault>
     ensures listed { IfOk result (λ page. IsListing bytes.now page.items) }
     ensures fault { IfErr result (IsImageFault bytes.now) }
@@ -22,7 +22,7 @@ fn listing_of(alloc: Global, bytes: &[u8]) -> Result<Vec<u8>, ImageFault>
     Ok(listing.into_bytes())
 }
 
-/// The assembler source of an image's bytes, if they are those of one.
+/// Returns the assembler source of an image's bytes, if they are those of one.
 fn source_of(alloc: Global, bytes: &[u8]) -> Result<Vec<u8>, ImageFault>
     ensures image { IfOk result (λ _. IsOfImage bytes.now) }
     ensures shown { IfOk result (λ page. All IsShown page.items) }

@@ -1,7 +1,8 @@
-// The command that runs a C program.
+//! The command that runs a C program.
 
 ghost use Rattle.std.specs.Prelude.{◌≡◌, ◌≢◌, ◌≤◌, IfErr, IfOk, OnOk};
-ghost use Rattle.commands.specs.Requests.{IsSent, Ran, TellsLine, WasRefused, host_of, relations};
+ghost use Rattle.commands.specs.Hosts.{RanOn};
+ghost use Rattle.commands.specs.Requests.{IsSent, TellsLine, WasRefused, relations};
 ghost use Rattle.commands.specs.Streams.{BreaksBy, TookAnswer};
 ghost use Rattle.driver.specs.RunCommand.{IsRunRemark};
 ghost use Rattle.driver.specs.declared.run_command.remarks.Counted.TheVariants.{Steps};
@@ -18,12 +19,13 @@ use crate::source_runs::InterpFault;
 use c_run::begin;
 use command_line::AskedInterp;
 use commands::{
-    BadFile, Broken, Complaints, Files, Output, StreamCommand, WordForm, answer_stream, tell_placed,
+    BadFile, Broken, Complaints, Files, Host, Output, StreamCommand, WordForm, answer_stream,
+    tell_placed,
 };
 use runs::End;
 use std::alloc::Global;
 
-/// The status of a program's run.
+/// Returns the status of a program's run.
 pub fn end_status(end: End) -> u8
     ensures status { result ≡ end_status end }
     ensures most { result ≤ 4 }
@@ -156,23 +158,13 @@ impl StreamCommand for InterpCommand<'_> {
 
 /// Runs the C program of a file, prints what it writes, while it runs, and how it ended; the answer is the exit status.
 pub(crate) fn interp_file<F: Files, W: Output, E: Complaints>(
-    alloc: Global,
+    host: &mut Host<F, W, E>,
     asked: AskedInterp<'_>,
-    files: &mut F,
-    out: &mut W,
-    err: &mut E,
 ) -> u8
     ensures most { result ≤ 4 }
     ensures not_wrong_words { result ≢ 2 }
-    ensures ran { Ran (relations F.answers W.contents W.sends W.refuses E.tells) (host_of files.old out.old err.old) (host_of files.new out.new err.new)
+    ensures ran { RanOn (relations F.answers W.contents W.sends W.refuses E.tells) host.old host.new
         (interp_meaning C asked.entry.source.now asked.entry.depth asked.entry.steps asked.entry.form asked.entry.count) result }
 {
-    answer_stream(
-        alloc,
-        &InterpCommand { asked },
-        asked.source,
-        files,
-        out,
-        err,
-    )
+    answer_stream(host, &InterpCommand { asked }, asked.source)
 }

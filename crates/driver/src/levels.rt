@@ -1,7 +1,8 @@
-// The command that runs a C program, at the level that is asked for.
+//! The command that runs a C program, at the level that is asked for.
 
 ghost use Rattle.std.specs.Prelude.{◌≢◌, ◌≤◌, false};
-ghost use Rattle.commands.specs.Requests.{Ran as CommandRan, host_of, relations};
+ghost use Rattle.commands.specs.Hosts.{RanOn};
+ghost use Rattle.commands.specs.Requests.{relations};
 ghost use Rattle.driver.specs.RunCommand.{IsRunRemark};
 ghost use Rattle.driver.specs.declared.run_command.remarks.Counted.TheVariants.{Steps};
 ghost use Rattle.driver.specs.Program.{below_meaning, interp_meaning};
@@ -12,7 +13,7 @@ use crate::level_runs::{interp_blocks, interp_rtl};
 use crate::run_command::{Counted, Spent, print_run, tell_run};
 use crate::texts::EndLine;
 use command_line::{AskedInterp, Level};
-use commands::{BadFile, Complaints, FileCommand, Files, HostFault, Output, answer_file};
+use commands::{BadFile, Complaints, FileCommand, Files, Host, HostFault, Output, answer_file};
 use runs::Ran;
 use std::alloc::Global;
 
@@ -100,40 +101,33 @@ impl FileCommand for BelowCommand<'_> {
     }
 }
 
-/// Runs the C program of a file at a level below C, and prints its output and how it ended; the answer is the exit status.
+/// Runs the C program of a file at a level below C, and prints its output and how it ended. The answer is the exit status.
 fn interp_below<F: Files, W: Output, E: Complaints>(
-    alloc: Global,
+    host: &mut Host<F, W, E>,
     asked: AskedInterp<'_>,
     below: Below,
-    files: &mut F,
-    out: &mut W,
-    err: &mut E,
 ) -> u8
     ensures most { result ≤ 4 }
     ensures not_wrong_words { result ≢ 2 }
-    ensures ran { CommandRan (relations F.answers W.contents W.sends W.refuses E.tells) (host_of files.old out.old err.old) (host_of files.new out.new err.new)
+    ensures ran { RanOn (relations F.answers W.contents W.sends W.refuses E.tells) host.old host.new
         (below_meaning below asked.entry.source.now asked.entry.depth asked.entry.steps asked.entry.form) result }
 {
-    let command = BelowCommand { asked, below };
-    answer_file(alloc, &command, asked.source, files, out, err)
+    answer_file(host, &BelowCommand { asked, below }, asked.source)
 }
 
 /// Runs the C program of a file at the level that is asked for; the answer is the exit status.
 pub(crate) fn interp_at<F: Files, W: Output, E: Complaints>(
-    alloc: Global,
+    host: &mut Host<F, W, E>,
     asked: AskedInterp<'_>,
-    files: &mut F,
-    out: &mut W,
-    err: &mut E,
 ) -> u8
     ensures most { result ≤ 4 }
     ensures not_wrong_words { result ≢ 2 }
-    ensures ran { CommandRan (relations F.answers W.contents W.sends W.refuses E.tells) (host_of files.old out.old err.old) (host_of files.new out.new err.new)
+    ensures ran { RanOn (relations F.answers W.contents W.sends W.refuses E.tells) host.old host.new
         (interp_meaning asked.entry.level asked.entry.source.now asked.entry.depth asked.entry.steps asked.entry.form asked.entry.count) result }
 {
     match asked.level {
-        Level::C => interp_file(alloc, asked, files, out, err),
-        Level::Rtl => interp_below(alloc, asked, Below::Rtl, files, out, err),
-        Level::Blocks => interp_below(alloc, asked, Below::Blocks, files, out, err),
+        Level::C => interp_file(host, asked),
+        Level::Rtl => interp_below(host, asked, Below::Rtl),
+        Level::Blocks => interp_below(host, asked, Below::Blocks),
     }
 }

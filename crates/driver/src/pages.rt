@@ -1,4 +1,4 @@
-// The commands whose answer is a page: text that is printed as it is, with nothing beside it.
+//! The commands whose answer is a page: text that is printed as it is, with nothing beside it.
 
 ghost use Rattle.std.specs.Prelude.{◌≡◌, ℕ, List, IfErr, IfOk, OnErr, OnOk};
 ghost use Rattle.std.specs.Io.KnownBytes.{Appends};
@@ -24,18 +24,18 @@ pub(crate) trait PageCommand {
     // the line of a fault
     ghost fault_line: { Self.Fault → List ℕ };
 
-    /// The page of these bytes, or their fault.
+    /// Returns the page of these bytes, or their fault.
     fn page(&self, alloc: Global, bytes: &[u8]) -> Result<Vec<u8>, Self::Fault>
         ensures page { IfOk result (pages self.now bytes.now) }
         ensures fault { IfErr result (page_faults bytes.now) };
 
-    /// The line of a fault, and below it what is known of it.
+    /// Tells the line of a fault, and below it what is known of it.
     fn tell<E: Complaints>(&self, alloc: Global, of: &BadFile<'_, Self::Fault>, err: &mut E) -> u8
         ensures status { result ≡ 1 }
         ensures told { TellsLine E.tells err.old (fault_line of.now.fault) err.new };
 }
 
-/// Text that may be printed.
+/// Prints text that may be printed.
 fn print_page<W: Output>(out: &mut W, page: &[u8]) -> io::Result<()>
     ensures sent { OnOk result (IsSent W.sends out.new) }
     ensures refused { OnErr result (WasRefused W.refuses out.new) }

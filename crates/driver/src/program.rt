@@ -1,6 +1,7 @@
-// The whole program: its words, its files and its streams.
+//! The whole program: its words, its files and its streams.
 ghost use Rattle.std.specs.Prelude.{◌≤◌, map};
-ghost use Rattle.commands.specs.Requests.{Ran, host_of, relations};
+ghost use Rattle.commands.specs.Hosts.{IsSameHost, RanOn, state_of};
+ghost use Rattle.commands.specs.Requests.{host_of, relations};
 ghost use Rattle.check_command.specs.Texts.{IsCheckStatus};
 ghost use Rattle.command_line.specs.declared.command.Command.TheVariants.{Check};
 ghost use Rattle.driver.specs.Program.{RanWords, Shows, StopsShow, meaning_of, quiet_meaning};
@@ -14,47 +15,79 @@ use crate::run_command::run_file;
 use crate::show_commands::ShowCommand;
 use check_command::{ExplainedAnswer, answer_check, check_file, check_files};
 use command_line::{Command, words};
-use commands::{Complaints, Files, Output, answer_file, tell_words};
+use commands::{Complaints, Files, Host, Output, answer_file, tell_words};
 use show::Asked;
 use std::alloc::Global;
 use std::sync::Wait;
 use std::thread::Threads;
 
-/// `mcc check FILE`, with `--explain` or without.
+/// Runs `mcc check FILE`, with `--explain` or without.
 fn check_one<F: Files, W: Output, E: Complaints>(
-    alloc: Global,
+    host: &mut Host<F, W, E>,
     file: &str,
     explain: bool,
-    files: &mut F,
-    out: &mut W,
-    err: &mut E,
 ) -> u8
     ensures possible { IsCheckStatus result }
-    ensures ran { Ran (relations F.answers W.contents W.sends W.refuses E.tells) (host_of files.old out.old err.old) (host_of files.new out.new err.new)
-        (meaning_of (Check file.entry explain)) result }
+    ensures ran { RanOn (relations F.answers W.contents W.sends W.refuses E.tells) host.old host.new (meaning_of (Check file.entry explain)) result }
 {
     if explain {
-        answer_check(alloc, &ExplainedAnswer, file, files, out, err)
+        answer_check(host, &ExplainedAnswer, file)
     } else {
-        check_file(alloc, file, files, out, err)
+        check_file(host, file)
     }
 }
 
-/// `mcc show SOURCE`, with what is asked for.
+/// Runs `mcc show SOURCE`, with what is asked for.
 fn show_source<F: Files, W: Output, E: Complaints>(
-    alloc: Global,
+    host: &mut Host<F, W, E>,
     asked: Asked<'_>,
     source: &str,
-    files: &mut F,
-    out: &mut W,
-    err: &mut E,
 ) -> u8
     ensures most { result ≤ 1 }
-    ensures ran { Ran (relations F.answers W.contents W.sends W.refuses E.tells) (host_of files.old out.old err.old) (host_of files.new out.new err.new)
+    ensures ran { RanOn (relations F.answers W.contents W.sends W.refuses E.tells) host.old host.new
         (quiet_meaning (Shows source.now) (StopsShow source.now)) result }
 {
-    let command = Paged(ShowCommand { asked });
-    answer_file(alloc, &command, source, files, out, err)
+    answer_file(host, &Paged(ShowCommand { asked }), source)
+}
+
+/// Does what the words ask for, over a host that is lent.
+fn answer_words<T: Threads + Wait + Sync, F: Files, W: Output, E: Complaints>(
+    rt: &T,
+    host: &mut Host<F, W, E>,
+    args: &[&str],
+) -> u8
+    ensures ran { RanWords (relations F.answers W.contents W.sends W.refuses E.tells) (state_of host.old) (state_of host.new)
+        (map (λ s. s.now) args.entry.now) result }
+    ensures same { IsSameHost host.old host.new }
+{
+    let alloc = host.alloc;
+    match words(alloc, args) {
+        Ok(Command::Check { file, explain }) => check_one(host, file, explain),
+        Ok(Command::CheckEach { files, explain }) => check_files(host, files.as_slice(), explain),
+        Ok(Command::Interp(asked)) => interp_at(host, asked),
+        Ok(Command::Build(asked)) => build_file(rt, host, &asked),
+        Ok(Command::Run(asked)) => run_file(host, asked),
+        Ok(Command::List { image, asm }) => answer_file(host, &Paged(ImageCommand { asm }), image),
+        Ok(
+            Command::Show {
+                source,
+                stage,
+                function,
+                block,
+                dot,
+            },
+        ) => {
+            let asked = Asked {
+                stage,
+                function,
+                block,
+                dot,
+            };
+            show_source(host, asked, source)
+        }
+        Ok(Command::NoChoice { choice, value }) => tell_choice(alloc, host.err, choice, value),
+        Err(error) => tell_words(alloc, &error, host.out, host.err),
+    }
 }
 
 /// Does what the words ask for (the first is the program's name), over its files and two writers; a build starts threads. The answer is
@@ -71,47 +104,11 @@ pub fn mcc<T: Threads + Wait + Sync, F: Files, W: Output, E: Complaints>(
     ensures { RanWords (relations F.answers W.contents W.sends W.refuses E.tells) (host_of files.old out.old err.old)
         (host_of files.new out.new err.new) (map (λ s. s.now) args.entry.now) result }
 {
-    match words(alloc, args) {
-        Ok(Command::Check { file, explain }) => check_one(alloc, file, explain, files, out, err),
-        Ok(
-            Command::CheckEach {
-                files: names,
-                explain,
-            },
-        ) => check_files(alloc, names.as_slice(), explain, files, out, err),
-        Ok(Command::Interp(asked)) => interp_at(alloc, asked, files, out, err),
-        Ok(Command::Build(asked)) => build_file(rt, alloc, &asked, files, out, err),
-        Ok(Command::Run(asked)) => run_file(
-            alloc,
-            asked.image,
-            asked.steps,
-            asked.form,
-            asked.count,
-            files,
-            out,
-            err,
-        ),
-        Ok(Command::List { image, asm }) => {
-            answer_file(alloc, &Paged(ImageCommand { asm }), image, files, out, err)
-        }
-        Ok(
-            Command::Show {
-                source,
-                stage,
-                function,
-                block,
-                dot,
-            },
-        ) => {
-            let asked = Asked {
-                stage,
-                function,
-                block,
-                dot,
-            };
-            show_source(alloc, asked, source, files, out, err)
-        }
-        Ok(Command::NoChoice { choice, value }) => tell_choice(alloc, err, choice, value),
-        Err(error) => tell_words(alloc, &error, out, err),
-    }
+    let mut host = Host {
+        alloc,
+        files,
+        out,
+        err,
+    };
+    answer_words(rt, &mut host, args)
 }

@@ -1,4 +1,4 @@
-// Why a program's run is wrong, in lines for people.
+//! Why a program's run is wrong, in lines for people.
 
 ghost use Rattle.std.specs.Prelude.{All, IfSome};
 ghost use Rattle.block_text.specs.Shown.{IsShown};
@@ -12,7 +12,7 @@ use c_tree::{BinaryOp, UnaryOp};
 use c_types::Typed;
 use std::alloc::{AllocError, Global};
 
-/// Lines as they may be told; None where memory was refused to them.
+/// Returns lines as they may be told; None if memory was refused to them.
 pub(crate) fn page(alloc: Global, lines: Result<String, AllocError>) -> Option<Vec<u8>>
     ensures { IfSome result (λ page. All IsShown page.items) }
 {
@@ -22,7 +22,7 @@ pub(crate) fn page(alloc: Global, lines: Result<String, AllocError>) -> Option<V
     }
 }
 
-/// A word as its type reads it.
+/// Returns a word as its type reads it.
 fn read_as(integer_type: IntegerType, word: u32) -> i64 {
     match integer_type {
         IntegerType::SignedInt if word >= 0x8000_0000 => i64::from(word) - 0x1_0000_0000,
@@ -46,7 +46,7 @@ fn sign_of(operator: BinaryOp) -> &'static str {
 const OVERFLOW: &str =
     "overflows: an int goes from -2147483648 to 2147483647\nhint: operands of type unsigned wrap";
 
-/// Why an operator has no value at these words.
+/// Returns why an operator has no value at these words.
 fn operation_words(operator: BinaryOp, right: u32) -> &'static str {
     match operator {
         BinaryOp::Divide | BinaryOp::Remainder if right == 0 => "divides by 0",
@@ -103,7 +103,7 @@ fn wrong_lines(alloc: Global, why: Reason, depth: u32) -> Result<String, AllocEr
     }
 }
 
-/// Where a program's run is wrong: nothing, where that isn't known.
+/// Returns where a program's run is wrong: nothing, where that isn't known.
 fn place_line(
     alloc: Global,
     source: &str,
@@ -128,8 +128,8 @@ fn place_line(
     }
 }
 
-/// Where and why the program that the text spells ends wrong within so many steps, in lines for people; None where it doesn't,
-/// or memory was refused. `source` is the text's name.
+/// Returns where and why the program that the text spells ends wrong within so many steps, in lines for people; None if it doesn't, or
+/// memory was refused. `source` is the text's name.
 pub fn wrong_page(
     alloc: Global,
     source: &str,

@@ -1,4 +1,4 @@
-// A C program under way, as what runs in portions.
+//! A C program under way, as what runs in portions.
 
 ghost use Rattle.std.specs.Prelude.{◌≡◌, ◌∷◌, ◌++◌, [], IfOk, OnErr, OnOk};
 ghost use Rattle.runs.specs.Runs.{outcome};

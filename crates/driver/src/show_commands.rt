@@ -1,4 +1,4 @@
-// The command that shows what becomes of a program, stage by stage.
+//! The command that shows what becomes of a program, stage by stage.
 
 ghost use Rattle.std.specs.Prelude.{◌≡◌, ◌⊎◌, All, IfErr, IfOk, Some};
 ghost use Rattle.commands.specs.Requests.{TellsLine};
@@ -51,7 +51,7 @@ impl fmt::Display for StagesFault {
 
 impl Error for StagesFault {}
 
-/// RTL of the program that the text spells.
+/// Returns the RTL of the program that the text spells.
 pub(crate) fn rtl_of(alloc: Global, text: &[u8]) -> Result<Rtl, BuildFault>
     ensures spelled { IfOk result (IsRtlOf text.now) }
     ensures fault { IfErr result (IsBuildFault text.now 1) }
@@ -60,7 +60,7 @@ pub(crate) fn rtl_of(alloc: Global, text: &[u8]) -> Result<Rtl, BuildFault>
     rtl_of_typed(alloc, &typed)
 }
 
-/// The numbered blocks of a program, of which one call is active at most: nothing is run.
+/// Returns the numbered blocks of a program, of which one call is active at most: nothing is run.
 fn blocks_of(alloc: Global, rtl: &Rtl) -> Result<Numbered, BuildFault>
     ensures { IfErr result (λ e. ((e ≡ BuildFault.Limit Limit.Selection) × (FramesFit rtl.now 1 → IsBeyond rtl.now)) ⊎ (e ≡ BuildFault.NoMemory)) }
 {
@@ -71,7 +71,7 @@ fn blocks_of(alloc: Global, rtl: &Rtl) -> Result<Numbered, BuildFault>
     }
 }
 
-/// What is asked for of a program at its stages.
+/// Returns what is asked for of a program at its stages.
 fn shown_of(
     alloc: Global,
     text: &[u8],
@@ -101,7 +101,7 @@ fn shown_of(
     }
 }
 
-/// What is asked for of the program that the text spells.
+/// Returns what is asked for of the program that the text spells.
 pub fn stages(alloc: Global, text: &[u8], asked: &Asked<'_>) -> Result<Vec<u8>, StagesFault>
     ensures spelled { IfOk result (λ _. IsFaultless text.now) }
     ensures shown { IfOk result (λ page. All IsShown page.items) }
@@ -117,7 +117,7 @@ pub fn stages(alloc: Global, text: &[u8], asked: &Asked<'_>) -> Result<Vec<u8>, 
     }
 }
 
-/// What is said of a stage that isn't there.
+/// Returns what is said of a stage that isn't there.
 fn stage_lines(alloc: Global, stage: Option<&str>) -> Result<String, AllocError> {
     let hint = "hint: stages are rtl, homes, blocks, orders, check, terms, listing and asm\n";
     match stage {
@@ -126,7 +126,7 @@ fn stage_lines(alloc: Global, stage: Option<&str>) -> Result<String, AllocError>
     }
 }
 
-/// The functions of the program that the text spells, as `f, g, main`.
+/// Writes the functions of the program that the text spells, as `f, g, main`.
 fn put_functions(out: &mut String, program: &Program) -> Result<(), AllocError> {
     let mut before = "";
     for declaration in &program.declarations {
@@ -139,7 +139,7 @@ fn put_functions(out: &mut String, program: &Program) -> Result<(), AllocError> 
     Ok(())
 }
 
-/// What is said of a function that isn't there.
+/// Returns what is said of a function that isn't there.
 fn function_lines(
     alloc: Global,
     text: &[u8],
@@ -157,7 +157,7 @@ fn function_lines(
     Ok(lines)
 }
 
-/// What is said of a block that isn't there.
+/// Returns what is said of a block that isn't there.
 fn block_lines(
     alloc: Global,
     asked: &Asked<'_>,
@@ -179,7 +179,7 @@ fn block_lines(
     }
 }
 
-/// The line of a fault, and lines below it, if there are some.
+/// Tells the line of a fault, and lines below it, if there are some.
 fn tell_with<E: Complaints>(
     alloc: Global,
     err: &mut E,
@@ -194,7 +194,7 @@ fn tell_with<E: Complaints>(
     status
 }
 
-/// The fault's line, and below it what is said of it, with the names that were asked for, if they are known.
+/// Tells the fault's line, and below it what is said of it, with the names that were asked for, if they are known.
 fn tell_asked<E: Complaints>(
     alloc: Global,
     err: &mut E,

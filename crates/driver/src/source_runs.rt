@@ -1,4 +1,4 @@
-// The run of a C text.
+//! The run of a C text.
 ghost use Rattle.std.specs.Prelude.{◌≡◌, IfOk, IfErr};
 ghost use Rattle.runs.specs.Runs.{outcome_of};
 ghost use Rattle.driver.specs.Interps.{IsInterpFault, IsRun};
@@ -28,8 +28,8 @@ impl From<SourceFault> for InterpFault {
     }
 }
 
-/// What the program that the text spells does within so many steps, with so many calls active at most.
-/// It descends into the text: run it on a thread with a large stack where the text may be hostile.
+/// Returns what the program that the text spells does within so many steps, with so many calls active at most. It descends into the text:
+/// run it on a thread with a large stack where the text may be hostile.
 pub fn interp(alloc: Global, text: &[u8], depth: u32, steps: u64) -> Result<Ran, InterpFault>
     ensures ran { IfOk result (λ r. IsRun text.now depth steps (outcome_of r)) }
     ensures fault { IfErr result (IsInterpFault text.now) }

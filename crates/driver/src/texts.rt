@@ -1,4 +1,4 @@
-// How the faults and the ends of a C text's runs print.
+//! How the faults and the ends of a C text's runs print.
 
 ghost use Rattle.std.specs.Prelude.{Some};
 ghost use Rattle.driver.specs.Texts.{end_text, interp_fault_text};

@@ -1,5 +1,5 @@
-// Where a statement of a run stands in its text: at the one of its function that is typed like it, and that as many others follow in
-// their block.
+//! Where a statement of a run stands in its text: at the one of its function that is typed like it, and that as many others follow in
+//! their block.
 
 use c_front::read;
 use c_run::WrongPlace;
@@ -33,7 +33,7 @@ pub(crate) struct NamedPlace<'t> {
     pub(crate) spot: Option<Spot>,
 }
 
-/// Finds where the statement of a function that is like this one stands; None where there are more.
+/// Finds where the statement of a function that is like this one stands; None if there are more.
 fn place_of(
     alloc: Global,
     function: &FunctionDefinition,

@@ -1,4 +1,4 @@
-// The words of the command line.
+//! The words of the command line.
 
 ghost use Rattle.std.specs.Prelude.{◌≤◌};
 
@@ -8,13 +8,13 @@ use std::env::Env;
 use std::io::Write;
 use std::{env, io};
 
-/// The words of the command line, the program's name first.
+/// Returns the words of the command line, the program's name first.
 pub(crate) fn owned_words<R: Env + AllocGlobal>(rt: &R) -> io::Result<Vec<String>> {
     let words = env::args(rt)?.collect::<Vec<String>>(rt.alloc())?;
     Ok(words)
 }
 
-/// The words of the command line behind `mcc`, as which help and errors name every program that has some of its commands.
+/// Returns the words of the command line after `mcc`, as which help and errors name every program that has some of its commands.
 pub(crate) fn named_words<'a>(
     alloc: Global,
     owned: &'a [String],
@@ -29,7 +29,7 @@ pub(crate) fn named_words<'a>(
     Ok(args)
 }
 
-/// Why the words could not be had: memory was refused, or one isn't UTF-8. The answer is the exit status.
+/// Tells why the words could not be had: memory was refused, or one isn't UTF-8. The answer is the exit status.
 pub(crate) fn tell_no_words<E: Write>(err: &mut E, e: &io::Error) -> u8
     ensures { result ≤ 2 }
 {

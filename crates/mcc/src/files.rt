@@ -1,4 +1,4 @@
-// The files of the host.
+//! The files of the host.
 
 ghost use Rattle.std.specs.Prelude.{⊤};
 
@@ -110,7 +110,7 @@ fn fill_and_rename<R: HostFiles>(
     done
 }
 
-/// What is told of an answer of the host: of a fault whether memory was refused.
+/// Returns what is told of an answer of the host: of a fault whether memory was refused.
 fn told<T: Drop>(answer: io::Result<T>) -> Result<T, FileFault> {
     match answer {
         Ok(value) => Ok(value),

@@ -1,4 +1,4 @@
-// What the program has of its host: its words, the host's files, and the standard streams.
+//! What the program has of its host: its words, the host's files, and the standard streams.
 
 use crate::answer;
 use crate::arguments::{named_words, owned_words, tell_no_words};

@@ -1,4 +1,4 @@
-// The stack of the thread that does a command's work.
+//! The stack of the thread that does a command's work.
 
 use std::rt::Files as HostFiles;
 

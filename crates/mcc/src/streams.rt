@@ -1,4 +1,4 @@
-// Standard output.
+//! Standard output.
 
 use std::io;
 use std::io::{ErrorKind, Write};

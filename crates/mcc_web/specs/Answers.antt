@@ -29,7 +29,7 @@ abbrev pub Gives : (text : List ℕ) → (said : ℕ) → (old new : List ℕ) �
 Gives text said old new = (said ≡ length text) × (length new ≡ length old) × (said ≤ length old → take said new ≡ text)
     × (length old < said → new ≡ old)
 
--- a line of a fault, and maybe more behind it
+-- a line of a fault, and maybe more after it
 abbrev pub GivesLine : (line : List ℕ) → (said : ℕ) → (old new : List ℕ) → Type 0
 GivesLine line said old new = (more : List ℕ) × Gives (line ++ 10 ∷ more) said old new
 
@@ -49,7 +49,7 @@ pub record SaysVerdict (text : List ℕ) (status said : ℕ) (old new : List ℕ
 abbrev pub SaysCheckFault : (text : List ℕ) → (said : ℕ) → (old new : List ℕ) → Type 0
 SaysCheckFault text = SaysFault (IsCheckFault text) check_fault_text
 
--- `check --explain`: the same, and behind it lines of printable ASCII
+-- `check --explain`: the same, and after it lines of printable ASCII
 pub record SaysExplained (text : List ℕ) (status said : ℕ) (old new : List ℕ) : Type 0 where
   pub answer : CheckAnswer
   pub answered : IsAnswerTo text answer
@@ -73,7 +73,7 @@ abbrev pub IsScheduledAs : Bool → Built → Type 0
 IsScheduledAs true b = IsScheduledBuild IsPlain b
 IsScheduledAs false b = IsScheduledBuild (IsWholePhase AnyOrder) b
 
--- `build`: its line, and behind it the bytes of an image that follows the program
+-- `build`: its line, and after it the bytes of an image that follows the program
 pub record SaysImage (text : List ℕ) (depth : ℕ) (plain : Bool) (status said : ℕ) (old new : List ℕ) : Type 0 where
   pub built : Built
   pub follows : FollowsText text depth (factor_of plain) built.image.items

@@ -1,4 +1,4 @@
--- The machine behind so many words, and what a view shows of it.
+-- The machine after so many words, and what a view shows of it.
 use Rattle.std.specs.Prelude.{◌≡◌, ◌≢◌, ◌<◌, ◌≤◌, ◌⊎◌, ◌+◌, ◌-◌, ◌*◌, ◌%◌, ◌^◌, min, ℕ, zero, suc, List, Bool, true, false, Option, Some, None, slice_index}
 use Rattle.mips_isa.specs.Flows.{Pending, Nothing, Loaded}
 use Rattle.mips_code.specs.Machines.{Code, Machine, Stepped, Goes, Halts, Sticks, step_of, words_code}
@@ -18,7 +18,7 @@ abbrev pub one_more : Code → Option Machine → Option Machine
 one_more code None = None
 one_more code (Some m) = going (step_of (code m.pc) m)
 
--- the machine behind so many words; none where one of them ends the run
+-- the machine after so many words; none where one of them ends the run
 abbrev pub behind : Code → ℕ → Machine → Option Machine
 behind code zero m = Some m
 behind code (suc k) m = one_more code (behind code k m)

@@ -1,4 +1,4 @@
-// The exports that print what a command prints.
+//! The exports that print what a command prints.
 
 ghost use Rattle.std.specs.Prelude.{◌≡◌, ◌≢◌};
 ghost use Rattle.check_command.specs.Checks.{IsCheckFault};
@@ -20,7 +20,7 @@ use show::Asked;
 use std::alloc::Global;
 use std::str;
 
-/// Memory was refused to the text of an answer.
+/// Refuses memory to the text of an answer.
 fn refuse(status: &mut u8) -> usize
     ensures { status.new ≡ REFUSED }
 {
@@ -28,7 +28,7 @@ fn refuse(status: &mut u8) -> usize
     0
 }
 
-/// The fault of a check text, told to the host; a status of 1, unless memory was refused.
+/// Gives the host the fault of a check text; the status is 1, unless memory was refused.
 fn give_check_fault(
     alloc: Global,
     text: &[u8],
@@ -45,7 +45,7 @@ fn give_check_fault(
     told.give(out, status)
 }
 
-/// The fault of an image, told to the host; a status of 1, unless memory was refused.
+/// Gives the host the fault of an image; the status is 1, unless memory was refused.
 fn give_image_fault(
     alloc: Global,
     image: &[u8],
@@ -226,7 +226,7 @@ pub extern "C" fn mcc_web_list(
     }
 }
 
-/// A name, if there is one. What isn't UTF-8 is no name of anything.
+/// Returns a name, if there is one. What isn't UTF-8 is no name of anything.
 fn name_of(bytes: &[u8]) -> Option<&str> {
     if bytes.is_empty() {
         None

@@ -1,4 +1,4 @@
-// The export that builds.
+//! The export that builds.
 
 ghost use Rattle.std.specs.Prelude.{◌≡◌, ◌≢◌, ◌≤◌, ◌++◌, IfErr, IfOk};
 ghost use Rattle.driver.specs.BuildCommand.{built_text, factor_of};
@@ -18,7 +18,7 @@ use term_table::{MAX_HEADS, MAX_NODES};
 /// Texts up to so many bytes have the table that the program has by default, longer ones the largest.
 const SHORT: usize = 65536;
 
-/// One worker, whose table has room for the terms of a text of this length.
+/// Returns one worker, whose table has room for the terms of a text of this length.
 pub(crate) fn phase_for(length: usize) -> PhaseOpts {
     let (nodes, heads) = if length <= SHORT {
         (65536, 1024)
@@ -50,7 +50,7 @@ fn build_image(alloc: Global, text: &[u8], plain: bool, depth: u32) -> Result<Bu
     }
 }
 
-/// The line of a build, and the bytes of its image.
+/// Gives the host the line of a build, and the bytes of its image.
 fn print_image(alloc: Global, plain: bool, built: &Built) -> io::Result<Vec<u8>>
     ensures { IfOk result (λ v. v.items ≡ built_text plain built.now ++ built.now.image.items) }
 {
@@ -60,7 +60,7 @@ fn print_image(alloc: Global, plain: bool, built: &Built) -> io::Result<Vec<u8>>
     Ok(printed)
 }
 
-/// The fault of a build, told to the host; a status of 1, unless memory was refused.
+/// Gives the host the fault of a build; the status is 1, unless memory was refused.
 pub(crate) fn give_build_fault(
     alloc: Global,
     text: &[u8],
@@ -80,7 +80,7 @@ pub(crate) fn give_build_fault(
 }
 
 /// The image of the C program that the text spells: the line that `mcc build program.c IMAGE` prints, or `mcc build --plain`,
-/// and behind it the bytes of IMAGE, or what it tells; and its status.
+/// and after it the bytes of IMAGE, or what it tells; and its status.
 #[unsafe(no_mangle)]
 pub extern "C" fn mcc_web_build(
     alloc: Global,

@@ -1,4 +1,4 @@
-// The export that shows the machine between two words.
+//! The export that shows the machine between two words.
 
 ghost use Rattle.std.specs.Prelude.{◌≡◌, ◌≢◌, ◌≤◌, ◌+◌, IfOk, Some, false, true};
 ghost use Rattle.mips_code.specs.Machines.{words_code};
@@ -20,7 +20,7 @@ pub struct View {
     pub words: u64,
     /// The address of the next word.
     pub pc: u32,
-    /// Where it goes on behind that word, while this is in a slot.
+    /// Where it goes on after that word, while this is in a slot.
     pub target: u32,
     pub in_slot: bool,
     /// The register of the load under way, 0 where there is none, and what was loaded.
@@ -45,7 +45,7 @@ struct Stretch {
     stop: u32,
 }
 
-/// Whether the machine is at the address at which it stops, after so many words.
+/// Reports whether the machine is at the address at which it stops, after so many words.
 fn is_stopped(machine: &Machine<'_>, k: u64, stretch: Stretch) -> bool
     ensures stopped { result ≡ true → (stretch.from ≤ k) × ((machine_of machine.now).pc ≡ stretch.stop) }
     ensures passed { result ≡ false → stretch.from ≤ k → (machine_of machine.now).pc ≢ stretch.stop }
@@ -74,7 +74,7 @@ fn advance(machine: &mut Machine<'_>, stretch: Stretch) -> Result<u64, AllocErro
     Ok(end)
 }
 
-/// The words of memory from an address on, up to the first that isn't mapped, and how many there are.
+/// Returns the words of memory from an address on, up to the first that isn't mapped, and how many there are.
 fn words_from(machine: &Machine<'_>, address: u32) -> (u8, [u32; 32])
     ensures { ShowsMemory (machine_of machine.now) address result.0 result.1 }
 {
@@ -88,7 +88,7 @@ fn words_from(machine: &Machine<'_>, address: u32) -> (u8, [u32; 32])
     (SHOWN as u8, words)
 }
 
-/// What a machine holds, behind so many words, and its memory from an address on.
+/// Returns what a machine holds, after so many words, and its memory from an address on.
 fn view_of(machine: &Machine<'_>, words: u64, address: u32) -> View
     ensures words { result.words ≡ words }
     ensures shows { ShowsMachine (machine_of machine.now) result }

@@ -1,4 +1,4 @@
-// The export that lists the blocks of a build and the orders that they have.
+//! The export that lists the blocks of a build and the orders that they have.
 
 ghost use Rattle.std.specs.Prelude.{◌≡◌, ◌≢◌, OnOk, length};
 ghost use Rattle.std.specs.Io.KnownBytes.{Appends};

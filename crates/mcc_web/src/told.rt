@@ -1,4 +1,4 @@
-// Where faults are told, and how a text is given to the host.
+//! Where faults are told, and how a text is given to the host.
 
 ghost use Rattle.std.specs.Prelude.{◌≡◌, ◌≢◌, [], false, true};
 ghost use Rattle.mcc_web.specs.Answers.{Gives};

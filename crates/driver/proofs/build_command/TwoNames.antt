@@ -1,11 +1,11 @@
 -- A build whose image has a name of its own is a build of any two names.
 use Rattle.std.proofs.Common.{◌≢◌, ◌⊎◌, ℕ, inl, inr}
 use Rattle.command_line.specs.declared.command.AskedBuild.{AskedBuild}
-use Rattle.commands.specs.Requests.{Asks, Host, Ran, Relations, StopsMidway}
+use Rattle.commands.specs.Requests.{Asks, HostState, Ran, Relations, StopsMidway}
 use Rattle.driver.specs.BuildCommand.{apart_meaning, build_meaning}
 use Rattle.driver.specs.BuildCommand.AnswersBuild.{apart}
 
-module _ {F W E : Type 0} (by : Relations F W E) (old new : Host F W E) (b : AskedBuild) (status : ℕ) (differ : b.source.now ≢ b.image.now) where
+module _ {F W E : Type 0} (by : Relations F W E) (old new : HostState F W E) (b : AskedBuild) (status : ℕ) (differ : b.source.now ≢ b.image.now) where
   stopped : Asks by old new (apart_meaning b).Stops ⊎ StopsMidway by old new (apart_meaning b).Begins
       → Asks by old new (build_meaning b).Stops ⊎ StopsMidway by old new (build_meaning b).Begins
   stopped (inl asks) = inl (record {

@@ -1,8 +1,9 @@
-// The command that makes an image.
+//! The command that makes an image.
 
 ghost use Rattle.std.specs.Prelude.{◌≡◌, ◌≤◌, ℕ, List, All, IfErr, IfOk, OnErr, OnOk};
 ghost use Rattle.std.specs.Io.KnownBytes.{Appends};
-ghost use Rattle.commands.specs.Requests.{IsSent, Ran, TellsBeside, TellsLine, WasRefused, host_of, relations};
+ghost use Rattle.commands.specs.Hosts.{RanOn};
+ghost use Rattle.commands.specs.Requests.{IsSent, TellsBeside, TellsLine, WasRefused, relations};
 ghost use Rattle.c_types.specs.Shape.{program_of};
 ghost use Rattle.c_types.specs.Typed.{SpellsTyped};
 ghost use Rattle.commands.specs.Texts.{IsShown};
@@ -19,8 +20,8 @@ use crate::build_command::warnings::{tell_warnings, warning_lines};
 use c_types::Typed;
 use command_line::AskedBuild;
 use commands::{
-    Complaints, Files, HostFault, Output, read_file, tell_placed, tell_unprinted, tell_unread,
-    tell_unwritten, write_file,
+    Complaints, Files, Host, HostFault, Output, read_file, tell_placed, tell_unprinted,
+    tell_unread, tell_unwritten, write_file,
 };
 use list_scheduler::{FilledOrder, ListOrder};
 use messages::SourceFault;
@@ -31,7 +32,7 @@ use std::sync::Wait;
 use std::thread::Threads;
 use steal_pool::Open;
 
-/// What a limit is about, for the line below its fault.
+/// Returns what a limit is about, for the line below its fault.
 fn limit_text(limit: Limit) -> &'static str
     ensures { All IsShown result.now }
 {
@@ -49,7 +50,7 @@ fn limit_text(limit: Limit) -> &'static str
     }
 }
 
-/// The fault of the text, if it is one.
+/// Returns the fault of the text, if it is one.
 fn source_fault(fault: BuildFault) -> Option<SourceFault> {
     match fault {
         BuildFault::Source(found) => Some(found),
@@ -126,7 +127,7 @@ fn built_as_asked<T: Threads + Wait + Sync>(
     }
 }
 
-/// The build of a text, and the lines of its warnings.
+/// Returns the build of a text, and the lines of its warnings.
 fn built_with_warnings<T: Threads + Wait + Sync>(
     rt: &T,
     alloc: Global,
@@ -158,33 +159,30 @@ For more information, try '--help'.
 /// Builds the C program of a file, which isn't the image's.
 fn build_apart<T: Threads + Wait + Sync, F: Files, W: Output, E: Complaints>(
     rt: &T,
-    alloc: Global,
+    host: &mut Host<F, W, E>,
     asked: &AskedBuild<'_>,
-    files: &mut F,
-    out: &mut W,
-    err: &mut E,
 ) -> u8
     ensures most { result ≤ 1 }
-    ensures ran { Ran (relations F.answers W.contents W.sends W.refuses E.tells) (host_of files.old out.old err.old) (host_of files.new out.new err.new)
-        (apart_meaning asked.now) result }
+    ensures ran { RanOn (relations F.answers W.contents W.sends W.refuses E.tells) host.old host.new (apart_meaning asked.now) result }
 {
-    let text = match read_file(alloc, asked.source, files) {
+    let alloc = host.alloc;
+    let text = match read_file(alloc, asked.source, host.files) {
         Ok(text) => text,
-        Err(fault) => return tell_unread(alloc, err, asked.source, fault),
+        Err(fault) => return tell_unread(alloc, host.err, asked.source, fault),
     };
     let (built, warnings) = match built_with_warnings(rt, alloc, text.as_slice(), asked) {
         Ok(both) => both,
-        Err(fault) => return tell_build(alloc, err, asked.source, text.as_slice(), fault),
+        Err(fault) => return tell_build(alloc, host.err, asked.source, text.as_slice(), fault),
     };
-    if let Err(fault) = write_file(asked.image, built.image.as_slice(), files) {
-        return tell_unwritten(alloc, err, asked.image, fault);
+    if let Err(fault) = write_file(asked.image, built.image.as_slice(), host.files) {
+        return tell_unwritten(alloc, host.err, asked.image, fault);
     }
-    match print_built(out, asked.plain, &built) {
+    match print_built(host.out, asked.plain, &built) {
         Ok(()) => {
-            tell_warnings(err, warnings.as_slice());
+            tell_warnings(host.err, warnings.as_slice());
             0
         }
-        Err(_) => tell_unprinted(err, HostFault::CannotWrite),
+        Err(_) => tell_unprinted(host.err, HostFault::CannotWrite),
     }
 }
 
@@ -192,21 +190,18 @@ fn build_apart<T: Threads + Wait + Sync, F: Files, W: Output, E: Complaints>(
 /// build fails. The answer is the exit status: 2 exactly if both names are the same, and then nothing is done.
 pub fn build_file<T: Threads + Wait + Sync, F: Files, W: Output, E: Complaints>(
     rt: &T,
-    alloc: Global,
+    host: &mut Host<F, W, E>,
     asked: &AskedBuild<'_>,
-    files: &mut F,
-    out: &mut W,
-    err: &mut E,
 ) -> u8
     ensures most { result ≤ 2 }
     ensures one_name { asked.now.source.now ≡ asked.now.image.now → result ≡ 2 }
-    ensures refused { result ≡ 2 → (asked.now.source.now ≡ asked.now.image.now) × (files.new ≡ files.old) × (out.new ≡ out.old) }
-    ensures ran { Ran (relations F.answers W.contents W.sends W.refuses E.tells) (host_of files.old out.old err.old) (host_of files.new out.new err.new)
-        (build_meaning asked.now) result }
+    ensures refused { result ≡ 2 → (asked.now.source.now ≡ asked.now.image.now) × (host.new.files.now ≡ host.old.files.now)
+        × (host.new.out.now ≡ host.old.out.now) }
+    ensures ran { RanOn (relations F.answers W.contents W.sends W.refuses E.tells) host.old host.new (build_meaning asked.now) result }
 {
     if asked.source == asked.image {
-        err.text(&ONE_NAME);
+        host.err.text(&ONE_NAME);
         return 2;
     }
-    build_apart(rt, alloc, asked, files, out, err)
+    build_apart(rt, host, asked)
 }

@@ -1,4 +1,4 @@
-// Builds without a schedule, and what all builds share.
+//! Builds without a schedule, and what all builds share.
 ghost use Rattle.std.specs.Prelude.{◌≡◌, ◌≤◌, ℕ, List, IfOk, IfErr};
 ghost use Rattle.c_types.specs.Shape.{program_of};
 ghost use Rattle.c_types.specs.Typed.{SpellsTyped};
@@ -63,7 +63,7 @@ pub struct Built {
     pub blocks: usize,
 }
 
-/// The program that the text spells, and its typed form.
+/// Returns the program that the text spells, and its typed form.
 pub(crate) fn front_of(alloc: Global, text: &[u8]) -> Result<(Program, Typed), SourceFault>
     ensures typed { IfOk result (λ both. SpellsTyped text.now (program_of both.1)) }
     ensures fault { IfErr result (IsSourceFault text.now) }
@@ -78,7 +78,7 @@ pub(crate) fn front_of(alloc: Global, text: &[u8]) -> Result<(Program, Typed), S
     }
 }
 
-/// The typed program that the text spells.
+/// Returns the typed program that the text spells.
 pub fn typed_of(alloc: Global, text: &[u8]) -> Result<Typed, SourceFault>
     ensures typed { IfOk result (λ t. SpellsTyped text.now (program_of t)) }
     ensures fault { IfErr result (IsSourceFault text.now) }
@@ -87,7 +87,7 @@ pub fn typed_of(alloc: Global, text: &[u8]) -> Result<Typed, SourceFault>
     Ok(typed)
 }
 
-/// RTL of a program, whatever text spells it: that of its lowering, with a copy of each short block that a block goes to.
+/// Returns the RTL of a program, whatever text spells it: that of its lowering, with a copy of each short block that a block goes to.
 pub(crate) fn rtl_of_typed(alloc: Global, typed: &Typed) -> Result<Rtl, BuildFault>
     ensures rtl { IfOk result (IsLowered (program_of typed.now)) }
     ensures fault { IfErr result (λ f. (text : List ℕ) (depth : ℕ) → SpellsTyped text (program_of typed.now) → IsBuildFault text depth f) }
@@ -103,7 +103,7 @@ pub(crate) fn rtl_of_typed(alloc: Global, typed: &Typed) -> Result<Rtl, BuildFau
     Ok(rtl)
 }
 
-/// The unit of a program, whatever text spells it.
+/// Returns the unit of a program, whatever text spells it.
 pub(crate) fn unit_of_typed(alloc: Global, typed: &Typed, depth: u32) -> Result<Unit, BuildFault>
     requires { 1 ≤ depth }
     ensures unit { IfOk result (λ u. (text : List ℕ) → SpellsTyped text (program_of typed.now) → IsUnitOf text depth u) }
@@ -120,7 +120,7 @@ pub(crate) fn unit_of_typed(alloc: Global, typed: &Typed, depth: u32) -> Result<
     }
 }
 
-/// The unit of the program that the text spells: its blocks, before they are put in order.
+/// Returns the unit of the program that the text spells: its blocks, before they are put in order.
 pub fn unit_of(alloc: Global, text: &[u8], depth: u32) -> Result<Unit, BuildFault>
     requires { 1 ≤ depth }
     ensures unit { IfOk result (IsUnitOf text.now depth) }
@@ -130,7 +130,7 @@ pub fn unit_of(alloc: Global, text: &[u8], depth: u32) -> Result<Unit, BuildFaul
     unit_of_typed(alloc, &typed, depth)
 }
 
-/// The bytes of a scheduled unit's image, with its counts, where memory wasn't refused to the schedule.
+/// Writes the bytes of a scheduled unit's image, with its counts, unless memory was refused to the schedule.
 pub(crate) fn write(
     alloc: Global,
     scheduled: Result<Scheduled<'_>, AllocError>,
@@ -157,7 +157,7 @@ pub(crate) fn write(
     })
 }
 
-/// The image of a unit, every block in its plain order.
+/// Returns the image of a unit, every block in its plain order.
 pub(crate) fn plain_of(alloc: Global, unit: &Unit) -> Result<Built, BuildFault>
     ensures follows { IfOk result (λ b. (text : List ℕ) (depth : ℕ) → IsUnitOf text depth unit.now → FollowsText text depth 1 b.image.items) }
     ensures scheduled { IfOk result (IsScheduledBuild IsPlain) }
@@ -167,8 +167,8 @@ pub(crate) fn plain_of(alloc: Global, unit: &Unit) -> Result<Built, BuildFault>
     write(alloc, scheduled)
 }
 
-/// The image of the program that the text spells, every block in its plain order. It descends into the text: run it on a
-/// thread with a large stack where the text may be hostile.
+/// Returns the image of the program that the text spells, every block in its plain order. It descends into the text: run it on a thread
+/// with a large stack where the text may be hostile.
 pub fn build_plain(alloc: Global, text: &[u8], depth: u32) -> Result<Built, BuildFault>
     requires { 1 ≤ depth }
     ensures follows { IfOk result (λ b. FollowsText text.now depth 1 b.image.items) }

@@ -1,4 +1,4 @@
-// Which function has too much code, for a line below the fault of a limit.
+//! Which function has too much code, for a line below the fault of a limit.
 
 ghost use Rattle.std.specs.Prelude.{All, IfSome};
 ghost use Rattle.commands.specs.Texts.{IsShown};
@@ -12,7 +12,7 @@ use sched_phase::schedule_plain;
 use std::alloc::{AllocError, Global};
 use std::str;
 
-/// How many words an order has.
+/// Returns how many words an order has.
 fn words_of(order: &Order) -> usize {
     let exit = match order.exit() {
         Exit::Goto(_) | Exit::Return | Exit::Halt => 2,
@@ -21,7 +21,7 @@ fn words_of(order: &Order) -> usize {
     order.insts().len().saturating_add(exit)
 }
 
-/// The number of the function that has most words, and how many; 0 is the code that calls main.
+/// Returns the number of the function that has most words, and how many; 0 is the code that calls main.
 fn most_words(owner: &[BlockNumber], orders: &[Order]) -> (usize, usize) {
     let (mut number, mut words) = (0usize, 0usize);
     let mut most = (0, 0);
@@ -41,7 +41,7 @@ fn most_words(owner: &[BlockNumber], orders: &[Order]) -> (usize, usize) {
     most
 }
 
-/// The name of a function by its number, from 1.
+/// Returns the name of a function by its number, from 1.
 fn name_of(alloc: Global, text: &[u8], number: usize) -> Result<Option<String>, AllocError> {
     let Ok(program) = read(alloc, text) else {
         return Ok(None);
@@ -59,7 +59,7 @@ fn name_of(alloc: Global, text: &[u8], number: usize) -> Result<Option<String>, 
     Ok(None)
 }
 
-/// The line that names the function of a text with most words of code; None where memory is refused to it.
+/// Returns the line that names the function of a text with most words of code; None if memory runs out to it.
 pub(crate) fn largest_line(alloc: Global, text: &[u8]) -> Option<Vec<u8>>
     ensures { IfSome result (λ line. All IsShown line.items) }
 {

@@ -1,10 +1,10 @@
-// Where a fault of a C text lies, and what is said of it.
+//! Where a fault of a C text lies, and what is said of it.
 
 use commands::Place;
 use messages::{SourceFault, explain};
 use std::alloc::Global;
 
-/// Where the fault of a text lies, and what is said of it.
+/// Returns where the fault of a text lies, and what is said of it.
 pub fn source_place<'a>(
     alloc: Global,
     source: &'a str,

@@ -1,4 +1,4 @@
-// Builds whose blocks are put in order by a scheduler that nobody trusts.
+//! Builds whose blocks are put in order by a scheduler that nobody trusts.
 ghost use Rattle.std.specs.Prelude.{◌≡◌, ◌+◌, ◌≤◌, ℕ, List, IfOk, IfErr};
 ghost use Rattle.mblock.specs.declared.limits.TheConstants.{BLOCK_INSTS};
 ghost use Rattle.sched_phase.specs.Phases.{IsPhase, IsWholePhase};
@@ -24,7 +24,7 @@ pub struct BuildOpts {
     pub phase: PhaseOpts,
 }
 
-/// The phase of a command line.
+/// Returns the phase of a command line.
 pub(crate) fn phase_of(workers: u32, nodes: u32, heads: u32) -> PhaseOpts
     requires { InRange workers nodes heads }
     ensures workers { result.workers ≡ workers }
@@ -40,7 +40,7 @@ pub(crate) fn phase_of(workers: u32, nodes: u32, heads: u32) -> PhaseOpts
 /// A thread takes as long to start as so many blocks take to be checked.
 const BLOCKS_FOR_A_THREAD: usize = 64;
 
-/// How many of these workers are worth starting for so many blocks.
+/// Returns how many of these workers are worth starting for so many blocks.
 pub(crate) fn workers_for(blocks: usize, workers: u32) -> u32
     ensures most { result ≤ workers }
     ensures some { 1 ≤ workers → 1 ≤ result }
@@ -52,7 +52,7 @@ pub(crate) fn workers_for(blocks: usize, workers: u32) -> u32
     }
 }
 
-/// The image of a unit, each block in the order that the scheduler proposes, where it means the block, else its own.
+/// Returns the image of a unit, each block in the order that the scheduler proposes, where it means the block, else its own.
 pub(crate) fn scheduled_of<T: Threads + Wait + Sync, R: Reorder + Sync, G: Gate + Sync>(
     rt: &T,
     alloc: Global,
@@ -70,9 +70,9 @@ pub(crate) fn scheduled_of<T: Threads + Wait + Sync, R: Reorder + Sync, G: Gate 
     write(alloc, scheduled)
 }
 
-/// The image of the program that the text spells: each block has the order that the scheduler proposes, where it means the
-/// block, else its own. The phase's workers do the blocks at once, over one table, in whatever schedule of threads; the gate
-/// is told of each block before its work. Descends into the text as `build_plain` does.
+/// Returns the image of the program that the text spells: each block has the order that the scheduler proposes, where it means the block,
+/// else its own. The phase's workers do the blocks at once, over one table, in whatever schedule of threads. The gate is told of each block
+/// before its work. Descends into the text as `build_plain` does.
 pub fn build<T: Threads + Wait + Sync, R: Reorder + Sync, G: Gate + Sync>(
     rt: &T,
     alloc: Global,
@@ -90,7 +90,7 @@ pub fn build<T: Threads + Wait + Sync, R: Reorder + Sync, G: Gate + Sync>(
     scheduled_of(rt, alloc, &unit, options.phase, reorder, gate)
 }
 
-/// The same by one worker without threads; no block is missed.
+/// Returns the same by one worker without threads; no block is missed.
 pub fn build_one<R: Reorder>(
     alloc: Global,
     text: &[u8],

@@ -1,4 +1,4 @@
-// Lines that steer no terminal.
+//! Lines that steer no terminal.
 
 ghost use Rattle.std.specs.Prelude.{All, IfOk};
 ghost use Rattle.commands.specs.Texts.{IsShown};
@@ -6,7 +6,7 @@ ghost use Rattle.commands.specs.Texts.{IsShown};
 use commands::printable_byte;
 use std::alloc::AllocError;
 
-/// The page with one more line, which has `?` for each byte that isn't printable ASCII.
+/// Returns the page with one more line, which has `?` for each byte that isn't printable ASCII.
 pub(crate) fn with_line(mut page: Vec<u8>, line: &str) -> Result<Vec<u8>, AllocError>
     requires { All IsShown page.items }
     ensures { IfOk result (λ page. All IsShown page.items) }

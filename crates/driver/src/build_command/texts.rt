@@ -1,4 +1,4 @@
-// How the faults of a build print.
+//! How the faults of a build print.
 
 ghost use Rattle.std.specs.Prelude.{Some};
 ghost use Rattle.driver.specs.BuildCommand.{built_text};

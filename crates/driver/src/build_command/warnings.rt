@@ -1,4 +1,4 @@
-// What is told of a text that was built: warnings of what has no meaning in C.
+//! What is told of a text that was built: warnings of what has no meaning in C.
 
 ghost use Rattle.std.specs.Prelude.{All, IfOk};
 ghost use Rattle.commands.specs.Requests.{TellsBeside};
@@ -14,7 +14,7 @@ use std::alloc::{AllocError, Global};
 /// So many warnings are told at most.
 const MOST: usize = 20;
 
-/// The line of a warning, without its end.
+/// Returns the line of a warning, without its end.
 fn line_of(
     alloc: Global,
     source: &str,
@@ -26,7 +26,7 @@ fn line_of(
     format!(in alloc; "{source}:{line}:{column}: warning: {message}")
 }
 
-/// A line for each of these warnings.
+/// Returns a line for each of these warnings.
 fn lines_of(
     alloc: Global,
     source: &str,
@@ -43,7 +43,7 @@ fn lines_of(
     Ok(page)
 }
 
-/// The first lines of a text's warnings, and how many more there are.
+/// Returns the first lines of a text's warnings, and how many more there are.
 fn first_lines(
     alloc: Global,
     source: &str,
@@ -64,7 +64,7 @@ fn first_lines(
     with_line(page, line.as_str())
 }
 
-/// The lines of a text's warnings, in the order of their places.
+/// Returns the lines of a text's warnings, in the order of their places.
 fn page_of(
     alloc: Global,
     source: &str,
@@ -79,7 +79,7 @@ fn page_of(
     first_lines(alloc, source, text, warnings.as_slice())
 }
 
-/// The lines of the warnings of a text that spells this program, with this typed form; none where memory is refused to them.
+/// Returns the lines of the warnings of a text that spells this program, with this typed form; none if memory runs out to them.
 pub(crate) fn warning_lines(
     alloc: Global,
     source: &str,

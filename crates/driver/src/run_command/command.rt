@@ -1,11 +1,12 @@
-// The command that runs an image.
+//! The command that runs an image.
 
 ghost use Rattle.std.specs.Prelude.{◌≡◌, ◌≢◌, ◌≤◌, IfErr, IfOk, OnOk};
 ghost use Rattle.driver.specs.RunCommand.{IsRunRemark, PrintsMachine, run_meaning};
 ghost use Rattle.driver.specs.ImageRuns.{IsImageRun};
 ghost use Rattle.driver.specs.RunTexts.{ending_status};
 ghost use Rattle.driver.specs.declared.run_command.remarks.Counted.TheVariants.{Words};
-ghost use Rattle.commands.specs.Requests.{IsSent, Ran, WasRefused, host_of, relations};
+ghost use Rattle.commands.specs.Hosts.{RanOn};
+ghost use Rattle.commands.specs.Requests.{IsSent, WasRefused, relations};
 ghost use Rattle.commands.specs.Streams.{BreaksBy, TookAnswer};
 ghost use Rattle.image.specs.Images.{IsImageFault};
 ghost use Rattle.image.specs.Texts.{image_fault_text};
@@ -14,15 +15,16 @@ use crate::run_command::image_faults::tell_image;
 use crate::run_command::portions::{Cut, stream};
 use crate::run_command::reasons::stuck_page;
 use crate::run_command::remarks::{Counted, Spent, tell_run};
+use command_line::AskedRun;
 use commands::{
-    BadFile, Broken, Complaints, Files, Output, StreamCommand, WordForm, answer_stream,
+    BadFile, Broken, Complaints, Files, Host, Output, StreamCommand, WordForm, answer_stream,
 };
 use image::{ImageFault, read_image};
 use mips_code::Ending;
 use mips_machine::load;
 use std::alloc::Global;
 
-/// The status of an image's run.
+/// Returns the status of an image's run.
 pub fn ending_status(end: Ending) -> u8
     ensures status { result ≡ ending_status end }
     ensures most { result ≤ 4 }
@@ -36,7 +38,7 @@ pub fn ending_status(end: Ending) -> u8
     }
 }
 
-/// How an image's run ended: behind so many words, and at which address.
+/// How an image's run ended: after so many words, and at which address.
 #[derive(Clone, Copy)]
 pub struct RunEnd {
     pub end: Ending,
@@ -144,23 +146,21 @@ impl StreamCommand for RunCommand {
     }
 }
 
-/// Runs the image of a file for so many words, prints what it printed in a form, while it runs, and how it ended; the answer is the
-/// exit status.
+/// Runs the image of a file for so many words, prints what it printed in a form, while it runs, and how it ended. The answer is the exit
+/// status.
 pub fn run_file<F: Files, W: Output, E: Complaints>(
-    alloc: Global,
-    image: &str,
-    steps: u64,
-    form: WordForm,
-    count: bool,
-    files: &mut F,
-    out: &mut W,
-    err: &mut E,
+    host: &mut Host<F, W, E>,
+    asked: AskedRun<'_>,
 ) -> u8
     ensures most { result ≤ 4 }
     ensures not_wrong_words { result ≢ 2 }
-    ensures ran { Ran (relations F.answers W.contents W.sends W.refuses E.tells) (host_of files.old out.old err.old) (host_of files.new out.new err.new)
-        (run_meaning image.now steps form count) result }
+    ensures ran { RanOn (relations F.answers W.contents W.sends W.refuses E.tells) host.old host.new
+        (run_meaning asked.entry.image.now asked.entry.steps asked.entry.form asked.entry.count) result }
 {
-    let command = RunCommand { steps, form, count };
-    answer_stream(alloc, &command, image, files, out, err)
+    let command = RunCommand {
+        steps: asked.steps,
+        form: asked.form,
+        count: asked.count,
+    };
+    answer_stream(host, &command, asked.image)
 }

@@ -1,4 +1,4 @@
-// What is told of a file that is no image.
+//! What is told of a file that is no image.
 
 ghost use Rattle.std.specs.Prelude.{◌≡◌};
 ghost use Rattle.commands.specs.Requests.{TellsLine};
@@ -14,7 +14,7 @@ const HEAD: usize = 20;
 /// The bytes by which a text is told from other files.
 const BEGINNING: usize = 16;
 
-/// What is wrong with a file that has this fault as an image.
+/// Returns what is wrong with a file that has this fault as an image.
 fn image_message(fault: ImageFault, bytes: &[u8]) -> Option<&'static str> {
     match fault {
         ImageFault::Magic => Some("this is no image of mcc"),
@@ -33,7 +33,7 @@ fn image_message(fault: ImageFault, bytes: &[u8]) -> Option<&'static str> {
     }
 }
 
-/// Whether the file begins as text does.
+/// Reports whether the file begins as text does.
 fn begins_as_text(bytes: &[u8]) -> bool {
     for byte in bytes.iter().take(BEGINNING) {
         match byte {
@@ -44,7 +44,7 @@ fn begins_as_text(bytes: &[u8]) -> bool {
     !bytes.is_empty()
 }
 
-/// Whether the file may be a source instead of its image.
+/// Reports whether the file may be a source instead of its image.
 fn may_be_source(file: &str, bytes: &[u8], fault: ImageFault) -> bool {
     let has_head = match fault {
         ImageFault::Magic => false,
@@ -54,7 +54,7 @@ fn may_be_source(file: &str, bytes: &[u8], fault: ImageFault) -> bool {
     !has_head && (file.ends_with(".c") || begins_as_text(bytes))
 }
 
-/// How an image is made of the source.
+/// Returns how an image is made of the source.
 fn build_words(alloc: Global, file: &str) -> Result<String, AllocError> {
     let name = file.strip_suffix(".c").unwrap_or(file);
     format!(in alloc; "build it first: mcc build {file} {name}.image")

@@ -1,4 +1,4 @@
-// A run in portions: what a portion wrote is printed and sent on before the next one begins.
+//! A run in portions: what a portion wrote is printed and sent on before the next one begins.
 
 ghost use Rattle.std.specs.Prelude.{◌≡◌, ◌<◌, ◌≤◌, ℕ, List, [], ◌∷◌, ◌++◌, IfErr, IfOk, OnErr, OnOk};
 ghost use Rattle.std.specs.Io.KnownBytes.{Appends};
@@ -55,7 +55,7 @@ pub trait Resumable {
 
     ghost end_text: { Self.End → List ℕ };
 
-    /// Goes on for at most so many words or steps, until so many words are written. `Err` only where memory is refused.
+    /// Goes on for at most so many words or steps, until so many words are written. `Err` only if memory runs out.
     fn go_on(
         &mut self,
         alloc: Global,
@@ -64,7 +64,7 @@ pub trait Resumable {
     ) -> Result<Advance<Self::End>, AllocError>
         ensures { IfOk result (λ a. WentOn comes_to written more most self.old self.new a.end a.ran) };
 
-    /// What was written so far, the first word first.
+    /// Returns what was written so far, the first word first.
     fn output(&self) -> &[u32]
         ensures { result.now ≡ written self.now };
 
@@ -72,7 +72,7 @@ pub trait Resumable {
     fn clear_output(&mut self)
         ensures { (n : ℕ) → comes_to self.old n ≡ after_output (written self.old) (comes_to self.new n) };
 
-    /// The end of a run that would go on.
+    /// Returns the end of a run that would go on.
     fn more(&self) -> Self::End
         ensures end { result ≡ more }
         ensures now { comes_to self.now 0 ≡ record { end = more; output = written self.now } };
@@ -120,7 +120,7 @@ fn put_last<R: Resumable, W: Output>(
     out.send()
 }
 
-/// The words or steps of the next portion, if so many are left.
+/// Returns the words or steps of the next portion, if so many are left.
 fn portion_of(left: u64) -> u64
     ensures within { result ≤ left }
     ensures some { 0 < left → 0 < result }

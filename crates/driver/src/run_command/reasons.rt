@@ -1,4 +1,4 @@
-// Why an image's run is stuck, in lines for people.
+//! Why an image's run is stuck, in lines for people.
 
 ghost use Rattle.std.specs.Prelude.{All, IfOk, IfSome};
 ghost use Rattle.driver.specs.RunCommand.{IsShown};
@@ -10,7 +10,7 @@ use mips_asm::list;
 use mips_isa::{CODE_BASE, Rule};
 use std::alloc::{AllocError, Global};
 
-/// The byte itself if it is printable or a line's end, else `?`.
+/// Returns the byte itself if it is printable or a line's end, else `?`.
 fn shown_byte(byte: u8) -> u8
     ensures { IsShown result }
 {
@@ -30,7 +30,7 @@ fn shown_bytes(alloc: Global, text: &[u8]) -> Result<Vec<u8>, AllocError>
     Ok(bytes)
 }
 
-/// Lines as they may be told; None where memory was refused to them.
+/// Returns lines as they may be told; None if memory was refused to them.
 fn page(alloc: Global, lines: Result<String, AllocError>) -> Option<Vec<u8>>
     ensures { IfSome result (λ page. All IsShown page.items) }
 {
@@ -50,7 +50,7 @@ pub fn tell_page<E: Complaints>(err: &mut E, page: Option<Vec<u8>>)
     }
 }
 
-/// A rule of the machine in words.
+/// Returns a rule of the machine in words.
 fn rule_words(rule: Rule) -> &'static str {
     match rule {
         Rule::M1 => "it reads or writes the register that the word before it loads",
@@ -66,7 +66,7 @@ fn rule_words(rule: Rule) -> &'static str {
     }
 }
 
-/// The line of the listing that has the code word at this address, if there is one.
+/// Writes the line of the listing that has the code word at this address, if there is one.
 fn put_listed(alloc: Global, out: &mut String, image: &Image, at: u32) -> Result<(), AllocError> {
     let number = at.saturating_sub(CODE_BASE) as usize / 4;
     if at < CODE_BASE || at % 4 != 0 || number >= image.code().len() {
@@ -87,7 +87,7 @@ fn stuck_lines(alloc: Global, image: &Image, at: u32, rule: Rule) -> Result<Stri
     Ok(lines)
 }
 
-/// Why the image of these bytes is stuck at an address, by a rule.
+/// Returns why the image of these bytes is stuck at an address, by a rule.
 pub(crate) fn stuck_page(alloc: Global, bytes: &[u8], at: u32, rule: Rule) -> Option<Vec<u8>>
     ensures { IfSome result (λ page. All IsShown page.items) }
 {

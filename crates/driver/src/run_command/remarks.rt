@@ -1,4 +1,4 @@
-// What is told beside a run: how much ran, which option goes on, and why it is stuck or wrong.
+//! What is told beside a run: how much ran, which option goes on, and why it is stuck or wrong.
 
 ghost use Rattle.std.specs.Prelude.{◌≡◌, ◌≤◌, [], ◌∷◌, ◌++◌, ◌==◌, All, IfSome, Some, if◌then◌else◌};
 ghost use Rattle.driver.specs.RunCommand.{IsRunRemark, IsShown, count_text, more_hint, more_text, unit_text};
@@ -49,7 +49,7 @@ impl fmt::Display for CountLine {
     }
 }
 
-/// How to go on, where an option can ask for more.
+/// Returns how to go on, where an option can ask for more.
 fn more_hint(most: u64) -> &'static str
     ensures { result.now ≡ more_hint most }
 {
@@ -60,7 +60,7 @@ fn more_hint(most: u64) -> &'static str
     }
 }
 
-/// The line behind the end `more`.
+/// The line after the end `more`.
 #[derive(Clone, Copy)]
 struct MoreLine(Spent);
 
@@ -84,7 +84,7 @@ fn tell_count<E: Complaints>(err: &mut E, spent: Spent)
     }
 }
 
-/// Tells which option goes on, behind the end `more`.
+/// Tells which option goes on, after the end `more`.
 fn tell_more<E: Complaints>(err: &mut E, spent: Spent, status: u8)
     ensures { TellsBeside E.tells err.old
         (λ told. told ≡ (if status == 4 then (more_text spent.unit spent.most ++ 10 ∷ []) ∷ [] else [])) err.new }

@@ -1,4 +1,4 @@
-// The machine, as what runs in portions.
+//! The machine, as what runs in portions.
 
 ghost use Rattle.std.specs.Prelude.{◌≡◌, ◌∷◌, ◌++◌, [], IfOk, OnErr, OnOk};
 ghost use Rattle.driver.specs.ImageRuns.{comes_to};

@@ -1,4 +1,4 @@
-// How a run's answers print.
+//! How a run's answers print.
 
 ghost use Rattle.std.specs.Prelude.{Some, [], ◌∷◌, ◌++◌, IfSome, OnErr, OnOk};
 ghost use Rattle.std.specs.Io.KnownBytes.{Appends};
