@@ -21,7 +21,7 @@ use Rattle.rtl.specs.declared.instruction.RInst.TheVariants.{Const, Move, Bin, L
 use Rattle.rtl.specs.declared.block.RGlobal.{RGlobal}
 use Rattle.rtl.specs.Operators.{truth_word, op_result}
 use Rattle.rtl.proofs.Results.{result-word}
-use Rattle.mips_homes.specs.HomedRun.{is_callee_saved, in_home, Run, Failed, with_value, write_at, read_home, with_inst}
+use Rattle.mips_homes.specs.HomedRun.{cells, is_callee_saved, in_home, Run, Failed, with_value, write_at, read_home, with_inst}
 use Rattle.mips_homes.specs.declared.homed.Home.{Home}
 use Rattle.mips_homes.specs.declared.homed.Home.TheVariants.{Reg, Slot}
 use Rattle.mips_emit.specs.declared.location.Source.{Source}
@@ -34,7 +34,8 @@ use Rattle.mips_emit.specs.Frames.{AreFrameHomes}
 use Rattle.mips_homes.specs.declared.homed.SlotCopy.{SlotCopy}
 use Rattle.mips_homes.specs.Copies.{copy_of}
 use Rattle.mips_emit.specs.Locations.{Locations, in_frame, Facts, known_in, locations_of, location_at, operand}
-use Rattle.mips_emit.specs.Code.{nop, fetch, operand_register, op_code}
+use Rattle.mips_emit.specs.declared.operation.Operand.{Operand}
+use Rattle.mips_emit.specs.Code.{known_operand, operand_with, nop, fetch, operand_register, op_code}
 use Rattle.mips_emit.specs.Comparisons.{is_known_zero, is_immediate, opposite_if, form_of, truth_of, known_truth, form_with, opposite_op, code_by_form, comparison_code, is_asked, is_caller_saved}
 use Rattle.mips_emit.specs.Comparisons.{form_for, operator_comparison, comparison_of, last_with, is_result, returned}
 use Rattle.mips_emit.proofs.Runs.{RunsTo, runs_then}
@@ -84,32 +85,31 @@ not_true false e = refl
 
 -- what is one with an exit is what the exit asks for, in the form that it has there
 asked_for : (at : Locations) (facts : Facts) (asked : Asked) (i : RInst) (m : Comparison) → comparison_of at facts asked i ≡ Some m
-    → (is_asked asked m.result ≡ true) × (form_for asked m.op m.left m.right ≡ Some m.form)
+    → (is_asked asked m.result ≡ true) × (form_for asked m.op m.left.known m.right.known ≡ Some m.form)
 asked_for at facts asked (Const d w) m e = absurd (none-some m e)
 asked_for at facts asked (Move d a) m e = absurd (none-some m e)
 asked_for at facts asked (Load d a i) m e = absurd (none-some m e)
 asked_for at facts asked (Store a i b) m e = absurd (none-some m e)
 asked_for at facts asked (Bin op d a b) m e = go (is_asked asked d && is_caller_saved (at d)) refl e
   where
-    l : Option ℕ
-    l = known_in facts a
+    l : Operand
+    l = operand_with at facts a
 
-    r : Option ℕ
-    r = known_in facts b
+    r : Operand
+    r = operand_with at facts b
 
-    by : is_asked asked d ≡ true → (o : Option Form) → form_for asked op l r ≡ o
-        → operator_comparison d op l r (operand at facts a) (operand at facts b) o ≡ Some m
-        → (is_asked asked m.result ≡ true) × (form_for asked m.op m.left m.right ≡ Some m.form)
+    by : is_asked asked d ≡ true → (o : Option Form) → form_for asked op l.known r.known ≡ o → operator_comparison d op l r o ≡ Some m
+        → (is_asked asked m.result ≡ true) × (form_for asked m.op m.left.known m.right.known ≡ Some m.form)
     by t None is e = absurd (none-some m e)
     by t (Some form) is e =
-        let x : Comparison = record { result = d; op = op; form = form; left = l; right = r; x = operand at facts a; y = operand at facts b } in
-        subst (λ (m : Comparison). (is_asked asked m.result ≡ true) × (form_for asked m.op m.left m.right ≡ Some m.form)) (same_Some x m e) (t, is)
+        let x : Comparison = record { result = d; op = op; form = form; left = l; right = r } in
+        subst (λ (m : Comparison). (is_asked asked m.result ≡ true) × (form_for asked m.op m.left.known m.right.known ≡ Some m.form)) (same_Some x m e) (t, is)
 
     go : (t : Bool) → (is_asked asked d && is_caller_saved (at d)) ≡ t
-        → (if t then operator_comparison d op l r (operand at facts a) (operand at facts b) (form_for asked op l r) else None) ≡ Some m
-        → (is_asked asked m.result ≡ true) × (form_for asked m.op m.left m.right ≡ Some m.form)
+        → (if t then operator_comparison d op l r (form_for asked op l.known r.known) else None) ≡ Some m
+        → (is_asked asked m.result ≡ true) × (form_for asked m.op m.left.known m.right.known ≡ Some m.form)
     go false t e = absurd (none-some m e)
-    go true t e = by (and_first (is_asked asked d) (is_caller_saved (at d)) t) (form_for asked op l r) refl e
+    go true t e = by (and_first (is_asked asked d) (is_caller_saved (at d)) t) (form_for asked op l.known r.known) refl e
 
 -- nothing is one with a branch that doesn't stand behind it
 pub none_asked : (at : Locations) (facts : Facts) (i : RInst) (m : Comparison) → comparison_of at facts Nothing i ≡ Some m → ⊥
@@ -153,7 +153,7 @@ module _ (most total : ℕ) (gs : List RGlobal) (starts : ℕ → ℕ) where
     module _ (v w u : ℕ) (k l : Option ℕ) (x y : Source) (x_away : IsAway x) (y_away : IsAway y) (x_means : Means x v) (y_means : Means y w)
         (kv : (c : ℕ) → k ≡ Some c → c ≡ v) (lw : (c : ℕ) → l ≡ Some c → c ≡ w) (vb : v < 2 ^ 32) (wb : w < 2 ^ 32) where
       abbrev Given : Op → Form → Type 0
-      Given op form = Decided (code_by_form form op k l x y) form x y u
+      Given op form = Decided (code_by_form form op (known_operand k x) (known_operand l y)) form x y u
 
       on_pair : (test : PairTest) → pair_passes test v w ≡ not (nat_eq u 0) → Decided (fetch 1 x ++ (fetch 3 y ++ nop ∷ [])) (OnPair test) x y u
       on_pair test e =
@@ -209,19 +209,19 @@ module _ (most total : ℕ) (gs : List RGlobal) (starts : ℕ → ℕ) where
 
       by_result : (op : Op) → op_result op v w ≡ Some u → Given op ByResult
       by_result op e =
-          from_result (op_code op 1 3 k l x y) ByResult 3 u (omega arith)
+          from_result (op_code op 1 3 (known_operand k x) (known_operand l y)) ByResult 3 u (omega arith)
           (computes most total gs starts registers g top fs s h op 1 3 v w u k l x y first_inner t3 x_away y_away x_means y_means kv lw vb wb e)
           (λ m here. ap (λ c. not (c == 0)) (read_register m.regs 3 (omega arith) ∙ here)) (λ m here e. absurd (true≢false (sym e)))
 
       by_opposite : (op : Op) (t : ℕ) → op_result (opposite_op op) w v ≡ Some t → nat_eq t 0 ≡ not (nat_eq u 0) → Given op ByOpposite
       by_opposite op t e turned =
-          from_result (op_code (opposite_op op) 1 3 l k y x) ByOpposite 3 t (omega arith)
+          from_result (op_code (opposite_op op) 1 3 (known_operand l y) (known_operand k x)) ByOpposite 3 t (omega arith)
           (computes most total gs starts registers g top fs s h (opposite_op op) 1 3 w v t l k y x first_inner t3 y_away x_away y_means x_means lw kv wb vb e)
           (λ m here. ap (λ c. c == 0) (read_register m.regs 3 (omega arith) ∙ here) ∙ turned) (λ m here e. absurd (true≢false (sym e)))
 
       in_result : (op : Op) → op_result op v w ≡ Some u → Given op InResult
       in_result op e =
-          from_result (op_code op 1 2 k l x y) InResult 2 u (omega arith)
+          from_result (op_code op 1 2 (known_operand k x) (known_operand l y)) InResult 2 u (omega arith)
           (computes most total gs starts registers g top fs s h op 1 2 v w u k l x y first_inner t2 x_away y_away x_means y_means kv lw vb wb e)
           (λ m here. ap (λ c. not (c == 0)) (read_register m.regs 2 (omega arith) ∙ here)) (λ m here _. here)
 
@@ -312,10 +312,8 @@ module _ (most total : ℕ) (gs : List RGlobal) (starts : ℕ → ℕ) where
       result = d;
       op = op;
       form = form;
-      left = known_in facts a;
-      right = known_in facts b;
-      x = operand (locations_of copies hs) facts a;
-      y = operand (locations_of copies hs) facts b;
+      left = operand_with (locations_of copies hs) facts a;
+      right = operand_with (locations_of copies hs) facts b;
     }
 
     -- what a comparison leaves that is one with the branch behind it
@@ -331,7 +329,7 @@ module _ (most total : ℕ) (gs : List RGlobal) (starts : ℕ → ℕ) where
         → AreFrameHomes hs top.copies top.count → IsKnown (known_in facts) hs registers top.slots → AreDeferred facts.deferred registers
         → Stands most total gs starts (hide facts.deferred registers) g (top ∷ fs) s
         → Leaves facts registers top s go (comparison_at top.copies facts op d a b form)
-        → P (with_inst gs (Bin op d a b) hs registers top.slots g out go)
+        → P (with_inst gs (Bin op d a b) (cells hs registers top.slots) g out go)
     compares_bin asked op d a b facts form registers top s go is caller_saved ok k lz h f =
         value_or_failed P (read_home hs registers top.slots a) out _ failed (λ v ev.
         value_or_failed P (read_home hs registers top.slots b) out _ failed (λ w ew.
@@ -351,8 +349,8 @@ module _ (most total : ℕ) (gs : List RGlobal) (starts : ℕ → ℕ) where
         m = comparison_at top.copies facts op d a b form
 
         write : (u : ℕ) → u < 2 ^ 32
-            → Decided (hide facts.deferred registers) g top fs s h (code_by_form form op (known_in facts a) (known_in facts b)
-            (operand (locations_of top.copies hs) facts a) (operand (locations_of top.copies hs) facts b)) form (operand (locations_of top.copies hs) facts a) (operand (locations_of top.copies hs) facts b) u
+            → Decided (hide facts.deferred registers) g top fs s h (code_by_form form op (operand_with (locations_of top.copies hs) facts a)
+            (operand_with (locations_of top.copies hs) facts b)) form (operand (locations_of top.copies hs) facts a) (operand (locations_of top.copies hs) facts b) u
             → (o : Option Home) → slice_get hs d ≡ o → is_caller_saved (location_at top.copies o) ≡ true
             → P (with_value o out (λ h. write_at h registers top.slots u (λ r s. go r s g)))
         write u below z None at passes_by = absurd (true≢false (sym passes_by))
@@ -371,7 +369,7 @@ module _ (most total : ℕ) (gs : List RGlobal) (starts : ℕ → ℕ) where
             (record {
               fresh = none_fresh top.copies hs (places_with registers q (Some u)) top.slots z.to;
               comparison = λ n c same holds.
-                  subst (λ (n : Comparison). read_home hs (places_with registers q (Some u)) top.slots n.result ≡ Some c → passes n.form n.x n.y z.to ≡ not (nat_eq c 0))
+                  subst (λ (n : Comparison). read_home hs (places_with registers q (Some u)) top.slots n.result ≡ Some c → passes n.form n.left.source n.right.source z.to ≡ not (nat_eq c 0))
                   (same_Some m n same) (λ here. z.tells ∙ ap (λ u. not (nat_eq u 0)) (same_Some u c (sym there ∙ here))) holds;
               result = λ n c same is_it holds.
                   subst (λ (n : Comparison). is_result n.form ≡ true → read_home hs (places_with registers q (Some u)) top.slots n.result ≡ Some c → (z.to).regs 2 ≡ c)
@@ -382,7 +380,7 @@ module _ (most total : ℕ) (gs : List RGlobal) (starts : ℕ → ℕ) where
         (go : Places → Places → Arrays → Run) → comparison_of (locations_of top.copies hs) facts asked i ≡ Some m
         → AreFrameHomes hs top.copies top.count → IsKnown (known_in facts) hs registers top.slots → AreDeferred facts.deferred registers
         → Stands most total gs starts (hide facts.deferred registers) g (top ∷ fs) s → Leaves facts registers top s go m
-        → P (with_inst gs i hs registers top.slots g out go)
+        → P (with_inst gs i (cells hs registers top.slots) g out go)
     compares (Const d w) facts asked m registers top s go e ok k lz h f = absurd (none-some m e)
     compares (Move d a) facts asked m registers top s go e ok k lz h f = absurd (none-some m e)
     compares (Load d a i) facts asked m registers top s go e ok k lz h f = absurd (none-some m e)
@@ -391,16 +389,16 @@ module _ (most total : ℕ) (gs : List RGlobal) (starts : ℕ → ℕ) where
         go1 (is_asked asked d && is_caller_saved (locations_of top.copies hs d)) refl e
       where
         Goal : Type 0
-        Goal = P (with_inst gs (Bin op d a b) hs registers top.slots g out go)
+        Goal = P (with_inst gs (Bin op d a b) (cells hs registers top.slots) g out go)
 
         go2 : is_caller_saved (locations_of top.copies hs d) ≡ true → (o : Option Form) → form_for asked op (known_in facts a) (known_in facts b) ≡ o
-            → operator_comparison d op (known_in facts a) (known_in facts b) (operand (locations_of top.copies hs) facts a) (operand (locations_of top.copies hs) facts b) o ≡ Some m → Goal
+            → operator_comparison d op (operand_with (locations_of top.copies hs) facts a) (operand_with (locations_of top.copies hs) facts b) o ≡ Some m → Goal
         go2 caller_saved None is e = absurd (none-some m e)
         go2 caller_saved (Some form) is e =
             compares_bin asked op d a b facts form registers top s go is caller_saved ok k lz h (subst (Leaves facts registers top s go) (sym (same_Some _ m e)) f)
 
         go1 : (t : Bool) → (is_asked asked d && is_caller_saved (locations_of top.copies hs d)) ≡ t
-            → (if t then operator_comparison d op (known_in facts a) (known_in facts b) (operand (locations_of top.copies hs) facts a) (operand (locations_of top.copies hs) facts b)
+            → (if t then operator_comparison d op (operand_with (locations_of top.copies hs) facts a) (operand_with (locations_of top.copies hs) facts b)
             (form_for asked op (known_in facts a) (known_in facts b)) else None) ≡ Some m → Goal
         go1 false t e = absurd (none-some m e)
         go1 true t e = go2 (and_second (is_asked asked d) (is_caller_saved (locations_of top.copies hs d)) t) (form_for asked op (known_in facts a) (known_in facts b)) refl e

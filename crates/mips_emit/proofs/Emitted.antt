@@ -5,23 +5,22 @@ use Rattle.std.specs.Prelude.{if◌then◌else◌}
 use Rattle.std.proofs.lemmas.List.{append_assoc, at_drop_more}
 use Rattle.mips_isa.specs.declared.inst.Plain.{Plain}
 use Rattle.rtl.specs.declared.instruction.RInst.{RInst}
-use Rattle.rtl.specs.declared.block.RGlobal.{RGlobal}
 use Rattle.mips_emit.specs.declared.facts.Last.{Last}
 use Rattle.mips_emit.specs.declared.comparison.Comparison.{Comparison}
 use Rattle.mips_emit.specs.declared.comparison.Asked.{Asked}
 use Rattle.mips_emit.specs.declared.comparison.Asked.TheVariants.{Nothing}
 use Rattle.mips_emit.specs.Locations.{Locations, Facts, learned, known_after, fresh_of, operand}
-use Rattle.mips_emit.specs.Code.{carry, arguments_code}
+use Rattle.mips_emit.specs.Code.{Context, carry, arguments_code}
 use Rattle.mips_emit.specs.Comparisons.{comparison_of, asked_last, next_code, last_with, last_after, insts_code}
 
 -- the code of some instructions stands before what comes behind them
-pub insts_behind : (gs : List RGlobal) (starts : ℕ → ℕ) (at : Locations) (asked : Asked) (facts : Facts) (is : List RInst) (behind : List Plain)
-    → insts_code gs starts at asked facts is [] ++ behind ≡ insts_code gs starts at asked facts is behind
-insts_behind gs starts at asked facts [] behind = refl
-insts_behind gs starts at asked facts (i ∷ is) behind =
-    append_assoc (next_code gs starts at facts (comparison_of at facts (asked_last asked is) i) i) (insts_code gs starts at asked (learned at i facts) is [])
+pub insts_behind : (c : Context) (asked : Asked) (facts : Facts) (is : List RInst) (behind : List Plain)
+    → insts_code c asked facts is [] ++ behind ≡ insts_code c asked facts is behind
+insts_behind c asked facts [] behind = refl
+insts_behind c asked facts (i ∷ is) behind =
+    append_assoc (next_code c facts (comparison_of c.at facts (asked_last asked is) i) i) (insts_code c asked (learned c.at i facts) is [])
     behind
-    ∙ ap (λ l. next_code gs starts at facts (comparison_of at facts (asked_last asked is) i) i ++ l) (insts_behind gs starts at asked (learned at i facts) is behind)
+    ∙ ap (λ l. next_code c facts (comparison_of c.at facts (asked_last asked is) i) i ++ l) (insts_behind c asked (learned c.at i facts) is behind)
 
 -- what stands at a place doesn't depend on what is given for no place
 get_same : {A : Type 0} (xs : List A) (i : ℕ) (d e : A) → i < length xs → get_or xs i d ≡ get_or xs i e
@@ -43,37 +42,37 @@ asks_last asked (x ∷ xs) (suc i) left lt e =
     ∙ (let next : suc (i + 1) ≡ suc i + 1 = omega arith in ap (λ n. asked_last asked (drop n (x ∷ xs))) next)
 
 -- one more instruction
-pub insts_step : (gs : List RGlobal) (starts : ℕ → ℕ) (at : Locations) (asked asks : Asked) (i left : ℕ) (insts : List RInst) (d : RInst)
+pub insts_step : (c : Context) (asked asks : Asked) (i left : ℕ) (insts : List RInst) (d : RInst)
     (m : Option Comparison) (fresh : Option ℕ) (facts facts' all_facts : Facts) (last last' all_last : Last) (code code' all : List Plain)
-    → i < length insts → asks ≡ (if nat_eq (left - 1) 0 then asked else Nothing) → m ≡ comparison_of at facts asks (get_or insts i d)
-    → fresh ≡ fresh_of at (get_or insts i d)
-    → code' ≡ code ++ next_code gs starts at facts m (get_or insts i d)
-    → facts' ≡ learned at (get_or insts i d) facts → last' ≡ last_with m fresh
-    → (left + i ≡ length insts) × (code ++ insts_code gs starts at asked facts (drop i insts) [] ≡ all) × (known_after at (drop i insts) facts ≡ all_facts)
-    × (last_after at asked facts (drop i insts) last ≡ all_last)
-    → (left - 1 + (i + 1) ≡ length insts) × (code' ++ insts_code gs starts at asked facts' (drop (i + 1) insts) [] ≡ all)
-    × (known_after at (drop (i + 1) insts) facts' ≡ all_facts)
-    × (last_after at asked facts' (drop (i + 1) insts) last' ≡ all_last)
-insts_step gs starts at asked asks i left insts d m fresh facts facts' all_facts last last' all_last code code' all within asks_is m_is fresh_is e k l before =
+    → i < length insts → asks ≡ (if nat_eq (left - 1) 0 then asked else Nothing) → m ≡ comparison_of c.at facts asks (get_or insts i d)
+    → fresh ≡ fresh_of c.at (get_or insts i d)
+    → code' ≡ code ++ next_code c facts m (get_or insts i d)
+    → facts' ≡ learned c.at (get_or insts i d) facts → last' ≡ last_with m fresh
+    → (left + i ≡ length insts) × (code ++ insts_code c asked facts (drop i insts) [] ≡ all) × (known_after c.at (drop i insts) facts ≡ all_facts)
+    × (last_after c.at asked facts (drop i insts) last ≡ all_last)
+    → (left - 1 + (i + 1) ≡ length insts) × (code' ++ insts_code c asked facts' (drop (i + 1) insts) [] ≡ all)
+    × (known_after c.at (drop (i + 1) insts) facts' ≡ all_facts)
+    × (last_after c.at asked facts' (drop (i + 1) insts) last' ≡ all_last)
+insts_step c asked asks i left insts d m fresh facts facts' all_facts last last' all_last code code' all within asks_is m_is fresh_is e k l before =
     let inst = get_or insts i d in
     let is : get_or insts i d ≡ get_or insts i (get_or insts i d) = get_same insts i d (get_or insts i d) within in
     let rest = drop (i + 1) insts in
     let count = before.0 in
-    let m' : m ≡ comparison_of at facts (asked_last asked (drop (i + 1) insts)) (get_or insts i d) =
-    m_is ∙ ap (λ a. comparison_of at facts a (get_or insts i d)) (asks_is ∙ asks_last asked insts i left within before.0) in (
+    let m' : m ≡ comparison_of c.at facts (asked_last asked (drop (i + 1) insts)) (get_or insts i d) =
+    m_is ∙ ap (λ a. comparison_of c.at facts a (get_or insts i d)) (asks_is ∙ asks_last asked insts i left within before.0) in (
       omega (arith, count, within),
-      ap (λ l. l ++ insts_code gs starts at asked facts' rest []) e
-          ∙ append_assoc code (next_code gs starts at facts m inst) (insts_code gs starts at asked facts' rest [])
-          ∙ ap (λ facts'. code ++ (next_code gs starts at facts m inst ++ insts_code gs starts at asked facts' rest [])) k
-          ∙ ap (λ m. code ++ (next_code gs starts at facts m inst ++ insts_code gs starts at asked (learned at inst facts) rest [])) m'
-          ∙ ap (λ (inst : RInst). code ++ insts_code gs starts at asked facts (inst ∷ rest) []) is
-          ∙ sym (at_drop_more (λ is. code ++ insts_code gs starts at asked facts is []) insts i inst within)
+      ap (λ l. l ++ insts_code c asked facts' rest []) e
+          ∙ append_assoc code (next_code c facts m inst) (insts_code c asked facts' rest [])
+          ∙ ap (λ facts'. code ++ (next_code c facts m inst ++ insts_code c asked facts' rest [])) k
+          ∙ ap (λ m. code ++ (next_code c facts m inst ++ insts_code c asked (learned c.at inst facts) rest [])) m'
+          ∙ ap (λ (inst : RInst). code ++ insts_code c asked facts (inst ∷ rest) []) is
+          ∙ sym (at_drop_more (λ is. code ++ insts_code c asked facts is []) insts i inst within)
           ∙ before.1,
-      ap (known_after at rest) k ∙ ap (λ (inst : RInst). known_after at (inst ∷ rest) facts) is
-          ∙ sym (at_drop_more (λ is. known_after at is facts) insts i inst within) ∙ before.2,
-      ap₂ (λ facts' (l : Last). last_after at asked facts' rest l) k (l ∙ ap₂ last_with m' fresh_is)
-          ∙ ap (λ (inst : RInst). last_after at asked facts (inst ∷ rest) last) is
-          ∙ sym (at_drop_more (λ is. last_after at asked facts is last) insts i inst within) ∙ before.3,
+      ap (known_after c.at rest) k ∙ ap (λ (inst : RInst). known_after c.at (inst ∷ rest) facts) is
+          ∙ sym (at_drop_more (λ is. known_after c.at is facts) insts i inst within) ∙ before.2,
+      ap₂ (λ facts' (l : Last). last_after c.at asked facts' rest l) k (l ∙ ap₂ last_with m' fresh_is)
+          ∙ ap (λ (inst : RInst). last_after c.at asked facts (inst ∷ rest) last) is
+          ∙ sym (at_drop_more (λ is. last_after c.at asked facts is last) insts i inst within) ∙ before.3,
     )
 
 -- one more argument

@@ -12,7 +12,7 @@ use Rattle.mips_isa.specs.Starting.{stack_base}
 use Rattle.mips_isa.specs.Actions.{action_of}
 use Rattle.mblock.proofs.StateWords.{run_words}
 use Rattle.rtl.specs.declared.block.RGlobal.{RGlobal}
-use Rattle.mips_homes.specs.HomedRun.{is_callee_saved, Run, Failed, with_value, in_home, read_home, write_at, write_home}
+use Rattle.mips_homes.specs.HomedRun.{cells, is_callee_saved, Run, Failed, with_value, in_home, read_home, write_at, write_home}
 use Rattle.mips_homes.specs.declared.homed.Home.{Home}
 use Rattle.mips_homes.specs.declared.homed.Home.TheVariants.{Reg, Slot}
 use Rattle.mips_homes.specs.Copies.{copy_of}
@@ -505,7 +505,7 @@ module _ (most total : ℕ) (gs : List RGlobal) (starts : ℕ → ℕ) where
         (is : List Plain) (s0 : State) → Ends is s0 s (into (location_at top.copies (slice_get hs x))) v → 1 ≤ length is → ((w : ℕ) → o ≡ Some w → w ≡ v)
         → AreFrameHomes hs top.copies top.count → IsKnown known hs registers top.slots → P (Failed out)
         → GoOn P go (is ++ finish (location_at top.copies (slice_get hs x))) s0 known x o hs (location_at top.copies (slice_get hs x)) v (in_slot (location_at top.copies (slice_get hs x)) x)
-        → P (write_home hs registers top.slots x v out go)
+        → P (write_home (cells hs registers top.slots) x v out go)
     finishes P go hs x v o out known is s0 e some said ok k failed f = by (slice_get hs x) refl e f
       where
         slot_read : (j : ℕ) → slice_get hs x ≡ Some (Slot j) → read_home hs registers (places_with top.slots j (Some v)) x ≡ Some v
@@ -609,7 +609,7 @@ module _ (most total : ℕ) (gs : List RGlobal) (starts : ℕ → ℕ) where
         → Denotes top.count s y v → v < 2 ^ 32 → ((w : ℕ) → o ≡ Some w → w ≡ v) → AreFrameHomes hs top.copies top.count → IsKnown known hs registers top.slots
         → P (Failed out)
         → Go P go (put_at (location_at top.copies (slice_get hs x)) y) s known x o hs (location_at top.copies (slice_get hs x))
-        → P (write_home hs registers top.slots x v out go)
+        → P (write_home (cells hs registers top.slots) x v out go)
     puts P go hs x v o out known y d below said ok k failed f = by (slice_get hs x) refl f
       where
         by : (p : Option Home) → slice_get hs x ≡ p → Go P go (put_at (location_at top.copies p) y) s known x o hs (location_at top.copies p)
@@ -624,7 +624,7 @@ module _ (most total : ℕ) (gs : List RGlobal) (starts : ℕ → ℕ) where
         → ((registers' slots' : Places) (s' : State) → RunsTo (arrive (location_at top.copies (slice_get hs x)) t) s s'
         → Stands most total gs starts (hide (deferred_none (location_at top.copies (slice_get hs x)) deferred) registers') g (with_slots top slots' ∷ fs) s'
         → ((q : ℕ) → q < 28 → IsElsewhere (location_at top.copies (slice_get hs x)) q → s'.regs q ≡ s.regs q) → P (go registers' slots'))
-        → P (write_home hs registers top.slots x v out go)
+        → P (write_home (cells hs registers top.slots) x v out go)
     arrives P go hs x v t out low is below ok failed f = by (slice_get hs x) refl f
       where
         shows : read 0 s.regs t ≡ v
@@ -675,7 +675,7 @@ module _ (most total : ℕ) (gs : List RGlobal) (starts : ℕ → ℕ) where
         → Stands most total gs starts (hide (deferred_const (location_at top.copies (slice_get hs x)) v deferred) registers') g (with_slots top slots' ∷ fs) s'
         → AreDeferred (deferred_const (location_at top.copies (slice_get hs x)) v deferred) registers' → IsKnown (places_with known x (Some v)) hs registers' slots'
         → Keeps (location_at top.copies (slice_get hs x)) s.regs s'.regs → P (go registers' slots'))
-        → P (write_home hs registers top.slots x v out go)
+        → P (write_home (cells hs registers top.slots) x v out go)
     tells P go hs x v out known below ok k failed f = by (slice_get hs x) refl f
       where
         Put : Option Location → Type 0

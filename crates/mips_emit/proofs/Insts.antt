@@ -24,7 +24,7 @@ use Rattle.rtl.specs.declared.block.RGlobal.{RGlobal}
 use Rattle.rtl.specs.Operators.{op_result}
 use Rattle.rtl.specs.Meaning.{kept_in}
 use Rattle.rtl.proofs.Results.{result-word}
-use Rattle.mips_homes.specs.HomedRun.{Run, Failed, with_value, read_home, with_inst}
+use Rattle.mips_homes.specs.HomedRun.{cells, Run, Failed, with_value, read_home, with_inst}
 use Rattle.mips_homes.specs.declared.homed.Home.{Home}
 use Rattle.mips_homes.specs.declared.homed.Home.TheVariants.{Reg, Slot}
 use Rattle.mips_emit.specs.declared.limits.TheConstants.{KEPT_FACTS}
@@ -49,7 +49,7 @@ use Rattle.std.proofs.lemmas.Bool.{eqb-false}
 use Rattle.mips_emit.specs.Elements.{width_of, width_bytes, element_place, place_in, address_of_place, data_middle, near, base_code}
 use Rattle.mips_emit.specs.Elements.{base_offset, base_word, shares_base, base_index, shifted_offset, reach_by, element_base, element_offset}
 use Rattle.mips_emit.specs.Code.{fetch, operand_register, into, operation, immediate_of, is_symmetric, turned_immediate_of, turned_less_of, code_by_less, code_by_left}
-use Rattle.mips_emit.specs.Code.{multiple_of, multiple_code, code_by_multiple, code_by_word}
+use Rattle.mips_emit.specs.Code.{known_operand, operand_with, multiple_of, multiple_code, code_by_multiple, code_by_word}
 use Rattle.mips_emit.specs.Code.{code_by_right, op_code, holds_base, reach_with, reach_of, element_code, element_load, element_store, inst_code}
 use Rattle.mips_emit.proofs.Runs.{RunsTo, runs_none, runs_then}
 use Rattle.mips_emit.proofs.View.{shown_at, word_of_offset, shown_below, set, set_at, set_sets, read_register, put_here, put_other, IsTarget, IsInner, inner_is, inner_target, loads_at, stores_at, near_word, read_other, Based, based, from_base, from_shifted}
@@ -364,7 +364,7 @@ module _ (most total : ℕ) (gs : List RGlobal) (starts : ℕ → ℕ) where
 
     pub computes : (op : Op) (t d v w u : ℕ) (k l : Option ℕ) (x y : Source) → IsInner t → IsTarget d → IsAway x → IsAway y → Means x v → Means y w
         → ((c : ℕ) → k ≡ Some c → c ≡ v) → ((c : ℕ) → l ≡ Some c → c ≡ w) → v < 2 ^ 32 → w < 2 ^ 32 → op_result op v w ≡ Some u
-        → Computed (op_code op t d k l x y) d u
+        → Computed (op_code op t d (known_operand k x) (known_operand l y)) d u
     computes op t d v w u k l x y is_inner ok away y_away mx my kv lw vb wb e = by_multiple (multiple_of op l) (multiple_of op k) refl refl
       where
         below : u < 2 ^ 32
@@ -391,7 +391,7 @@ module _ (most total : ℕ) (gs : List RGlobal) (starts : ℕ → ℕ) where
         by_less (Some i) is = one_operand 2 d w u y (i ∷ Logic Xori d d 1 ∷ []) (omega arith) (omega arith) my below
             (λ s at. less_gives op s d (operand_register 2 y) v w u i k ok at vb wb kv is e)
 
-        by_left : (o : Option Plain) → turned_immediate_of op d (operand_register 2 y) k ≡ o → Computed (code_by_left op t d o (turned_less_of op d (operand_register 2 y) k) x y) d u
+        by_left : (o : Option Plain) → turned_immediate_of op d (operand_register 2 y) k ≡ o → Computed (code_by_left op t d o (known_operand k x) (known_operand l y)) d u
         by_left None is = by_less (turned_less_of op d (operand_register 2 y) k) refl
         by_left (Some i) is = go (is_symmetric op) refl is
           where
@@ -400,7 +400,7 @@ module _ (most total : ℕ) (gs : List RGlobal) (starts : ℕ → ℕ) where
             go false t is = absurd (none-some i is)
 
         by_right : (o : Option ℕ) → ((c : ℕ) → o ≡ Some c → c ≡ w) → (p : Option Plain) → immediate_of op d (operand_register t x) o ≡ p
-            → Computed (code_by_right op t d p (turned_immediate_of op d (operand_register 2 y) k) (turned_less_of op d (operand_register 2 y) k) x y) d u
+            → Computed (code_by_right op t d p (known_operand k x) (known_operand l y)) d u
         by_right o said None is = by_left (turned_immediate_of op d (operand_register 2 y) k) refl
         by_right None said (Some i) is = absurd (none-some i is)
         by_right (Some c) said (Some i) is =
@@ -409,7 +409,7 @@ module _ (most total : ℕ) (gs : List RGlobal) (starts : ℕ → ℕ) where
             (λ s at. immediate_gives s d (operand_register t x) c v u i ok at vb (omega (arith, same, wb)) op is (ap (op_result op v) same ∙ e))
 
         by_multiple : (a b : Option ShiftedSum) → multiple_of op l ≡ a → multiple_of op k ≡ b
-            → Computed (code_by_multiple t d a b x y (code_by_word op t d k l x y)) d u
+            → Computed (code_by_multiple t d a x (code_by_multiple t d b y (code_by_word op t d (known_operand k x) (known_operand l y)))) d u
         by_multiple (Some m) b is _ = times t d v u x m is_inner ok away mx below (multiplied op l m v w u lw vb wb is e)
         by_multiple None (Some m) _ is = times t d w u y m is_inner ok y_away my below (turned_multiplied op k m v w u kv vb wb is e)
         by_multiple None None _ _ = by_right l lw (immediate_of op d (operand_register t x) l) refl
@@ -552,7 +552,7 @@ module _ (most total : ℕ) (gs : List RGlobal) (starts : ℕ → ℕ) where
         → RunsTo (inst_code gs starts (locations_of top.copies hs) facts i) s s' → Stands most total gs starts (hide (learned (locations_of top.copies hs) i facts).deferred registers') g' (with_slots top slots' ∷ fs) s'
         → AreDeferred (learned (locations_of top.copies hs) i facts).deferred registers' → AreBases gs starts (learned (locations_of top.copies hs) i facts) s'.regs → IsKnown (known_in (learned (locations_of top.copies hs) i facts)) hs registers' slots' → IsLast (last_of (locations_of top.copies hs) facts i) top.copies hs registers' slots' s'
         → P (go registers' slots' g'))
-        → P (with_inst gs i hs registers top.slots g out go)
+        → P (with_inst gs i (cells hs registers top.slots) g out go)
     performs (Const d w) facts registers top s go ok k lz kp h f =
         tells most total gs starts facts.deferred registers g top fs s h lz P (λ r s. go r s g) hs d (wrap w) out (known_in facts) (omega arith) ok k failed
         (λ r' s' to some e st lz' kn keeps. f r' s' g to some e st lz' (bases_written gs starts (locations_of top.copies hs d) facts.kept facts.offset s.regs to.regs keeps kp)
@@ -583,8 +583,8 @@ module _ (most total : ℕ) (gs : List RGlobal) (starts : ℕ → ℕ) where
         (operand_below most total gs starts facts.deferred registers g top fs s h lz hs a v ok ev)
         (operand_below most total gs starts facts.deferred registers g top fs s h lz hs b w ok ew) eu in
         finishes most total gs starts facts.deferred registers g top fs z.to z.stands lz P (λ r s. go r s g) hs d u (Some u) out (places_with known b (Some w))
-        (op_code op (inner_of (locations_of top.copies hs d)) (into (locations_of top.copies hs d)) (known_in facts a) (known_in facts b)
-        (operand (locations_of top.copies hs) facts a) (operand (locations_of top.copies hs) facts b)) s z.ends z.some
+        (op_code op (inner_of (locations_of top.copies hs d)) (into (locations_of top.copies hs d)) (operand_with (locations_of top.copies hs) facts a)
+        (operand_with (locations_of top.copies hs) facts b)) s z.ends z.some
         (λ c is. sym (same_Some u c is)) ok (known_with known hs registers top.slots b w ew k) failed
         (λ r' s' to some e st lz' kn keeps held new. f r' s' g to some e st lz' (
           kept_written gs starts (locations_of top.copies hs d) facts.kept (z.to).regs to.regs keeps (kept_same gs starts facts.kept s.regs (z.to).regs z.others kp.0),

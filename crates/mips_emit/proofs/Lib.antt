@@ -10,5 +10,6 @@ pub mod Insts
 pub mod Comparing
 pub mod Tables
 pub mod Newest
+pub mod Sums
 pub mod Emitted
 pub mod Prefixes

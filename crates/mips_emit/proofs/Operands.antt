@@ -195,7 +195,7 @@ passes InResult x y s = pair_passes NotEqual (read 0 s.regs 2) (read 0 s.regs 0)
 pub record IsLast (last : Last) (copies : List SlotCopy) (hs : List Home) (registers slots : Places) (s : State) : Type 0 where
   pub fresh : IsFresh last.fresh copies hs registers slots s
   pub comparison : (m : Comparison) (v : ℕ) → last.comparison ≡ Some m → read_home hs registers slots m.result ≡ Some v
-      → passes m.form m.x m.y s ≡ not (nat_eq v 0)
+      → passes m.form m.left.source m.right.source s ≡ not (nat_eq v 0)
   pub result : (m : Comparison) (v : ℕ) → last.comparison ≡ Some m → is_result m.form ≡ true → read_home hs registers slots m.result ≡ Some v → s.regs 2 ≡ v
 
 pub none_last : (copies : List SlotCopy) (hs : List Home) (registers slots : Places) (s : State) → IsLast no_last copies hs registers slots s

@@ -33,8 +33,8 @@ use Rattle.rtl.specs.Operators.{truth_word, op_result}
 use Rattle.rtl.proofs.Computing.{complement-is}
 use Rattle.std.proofs.Common.{◌++◌, take, drop}
 use Rattle.std.proofs.lemmas.List.{take-append-drop}
-use Rattle.mips_emit.specs.declared.location.Source.{Source}
-use Rattle.mips_emit.specs.Code.{fetch, operand_register, one_or_two, as_list, code_by_right}
+use Rattle.mips_emit.specs.declared.operation.Operand.{Operand}
+use Rattle.mips_emit.specs.Code.{fetch, operand_register, one_or_two, as_list, code_by_less, code_by_left, code_by_right, code_by_word, immediate_of, turned_immediate_of}
 use Rattle.mips_emit.specs.Code.{is_small, half, operation, opposite, next_word, exponent, is_power, immediate, is_symmetric, turned_less_of}
 use Rattle.mips_emit.proofs.Runs.{RunsTo, runs_then}
 use Rattle.mips_emit.proofs.View.{set, IsTarget, put_here, put_other, read_register, alu_runs, imm_runs}
@@ -531,9 +531,12 @@ one_or_two_are i None l first rest = ap₂ (λ a b. a ++ b) (sym first) (sym res
 one_or_two_are i (Some j) l first rest = ap₂ (λ a b. a ++ b) (sym first) (sym rest) ∙ take-append-drop 1 l
 
 -- an operator on two registers, as it is selected
-pub both_fetched : (op : Op) (t d : ℕ) (right left less : Option Plain) (x y : Source) (i : Plain) (s : Option Plain) → right ≡ None → left ≡ None
-    → less ≡ None → take 1 (operation op d (operand_register t x) (operand_register 2 y)) ≡ i ∷ [] → drop 1 (operation op d (operand_register t x) (operand_register 2 y)) ≡ as_list s
-    → fetch t x ++ (fetch 2 y ++ one_or_two i s) ≡ code_by_right op t d right left less x y
-both_fetched op t d right left less x y i s no_right no_left no_less first rest =
-    ap (λ l. fetch t x ++ (fetch 2 y ++ l)) (one_or_two_are i s _ first rest)
-    ∙ sym (ap₂ (λ r l. code_by_right op t d r l less x y) no_right no_left ∙ ap (λ l. code_by_right op t d None None l x y) no_less)
+pub both_fetched : (op : Op) (t d : ℕ) (x y : Operand) (i : Plain) (s : Option Plain) → immediate_of op d (operand_register t x.source) y.known ≡ None
+    → turned_immediate_of op d (operand_register 2 y.source) x.known ≡ None → turned_less_of op d (operand_register 2 y.source) x.known ≡ None
+    → take 1 (operation op d (operand_register t x.source) (operand_register 2 y.source)) ≡ i ∷ []
+    → drop 1 (operation op d (operand_register t x.source) (operand_register 2 y.source)) ≡ as_list s
+    → fetch t x.source ++ (fetch 2 y.source ++ one_or_two i s) ≡ code_by_word op t d x y
+both_fetched op t d x y i s no_right no_left no_less first rest =
+    ap (λ l. fetch t x.source ++ (fetch 2 y.source ++ l)) (one_or_two_are i s _ first rest)
+    ∙ sym (ap (λ o. code_by_right op t d o x y) no_right ∙ ap (λ o. code_by_left op t d o x y) no_left
+    ∙ ap (λ o. code_by_less op t d o x.source y.source) no_less)

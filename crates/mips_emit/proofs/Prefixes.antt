@@ -8,14 +8,13 @@ use Rattle.std.proofs.lemmas.Grind.{common_steps}
 use Rattle.std.proofs.lemmas.List.{at_drop_more}
 use Rattle.mips_isa.specs.declared.inst.Plain.{Plain}
 use Rattle.rtl.specs.declared.instruction.RInst.{RInst}
-use Rattle.rtl.specs.declared.block.RGlobal.{RGlobal}
 use Rattle.mips_emit.specs.declared.comparison.Comparison.{Comparison}
 use Rattle.mips_emit.specs.declared.comparison.Asked.{Asked}
 use Rattle.mips_emit.specs.declared.comparison.Asked.TheVariants.{Nothing}
 use Rattle.mips_emit.specs.Locations.{Locations, Facts, learned, operand}
-use Rattle.mips_emit.specs.Code.{carry, arguments_code}
+use Rattle.mips_emit.specs.Code.{Context, carry, arguments_code}
 use Rattle.mips_emit.specs.Comparisons.{comparison_of, next_code, one_code}
-use Rattle.mips_emit.specs.Prefixes.{EmitsPrefix, Emits, StopsAmong}
+use Rattle.mips_emit.specs.Prefixes.{EmitsPrefix, Emits, StopsAmong, emission}
 use Rattle.mips_emit.proofs.Emitted.{asks_last}
 
 -- behind other code that was to be emitted
@@ -65,25 +64,25 @@ arguments_more at facts t t' i d args was now lt same f =
     subst (λ l. EmitsPrefix was l now) (parts ∙ sym (at_drop_more (arguments_code at facts t) args i d lt)) f
 
 -- one more instruction is to be emitted
-module _ (gs : List RGlobal) (starts : ℕ → ℕ) (at : Locations) (asked asks : Asked) (insts : List RInst) (i left : ℕ) (d : RInst) (m : Option Comparison)
+module _ (c : Context) (asked asks : Asked) (insts : List RInst) (i left : ℕ) (d : RInst) (m : Option Comparison)
     (facts final : Facts) (was now : List Plain) (lt : i < length insts) (count : left + i ≡ length insts)
-    (asks_is : asks ≡ (if nat_eq (left - 1) 0 then asked else Nothing)) (m_is : m ≡ comparison_of at facts asks (get_or insts i d)) where
-  code_is : next_code gs starts at facts m (get_or insts i d) ≡ one_code gs starts at asked (drop (i + 1) insts) facts (get_or insts i d)
+    (asks_is : asks ≡ (if nat_eq (left - 1) 0 then asked else Nothing)) (m_is : m ≡ comparison_of c.at facts asks (get_or insts i d)) where
+  code_is : next_code c facts m (get_or insts i d) ≡ one_code c asked (drop (i + 1) insts) facts (get_or insts i d)
   code_is =
-      ap (λ m. next_code gs starts at facts m (get_or insts i d))
-      (m_is ∙ ap (λ a. comparison_of at facts a (get_or insts i d)) (asks_is ∙ asks_last asked insts i left lt count))
+      ap (λ m. next_code c facts m (get_or insts i d))
+      (m_is ∙ ap (λ a. comparison_of c.at facts a (get_or insts i d)) (asks_is ∙ asks_last asked insts i left lt count))
 
-  stops : StopsAmong gs starts at asked (get_or insts i d ∷ drop (i + 1) insts) facts final was now
-      → StopsAmong gs starts at asked (drop i insts) facts final was now
-  stops s = subst (λ is. StopsAmong gs starts at asked is facts final was now) (sym (at_drop_more (λ is. is) insts i d lt)) s
+  stops : StopsAmong c asked (get_or insts i d ∷ drop (i + 1) insts) (emission facts was) (emission final now)
+      → StopsAmong c asked (drop i insts) (emission facts was) (emission final now)
+  stops s = subst (λ is. StopsAmong c asked is (emission facts was) (emission final now)) (sym (at_drop_more (λ is. is) insts i d lt)) s
 
-  pub stops_here : final ≡ facts → EmitsPrefix was (next_code gs starts at facts m (get_or insts i d)) now
-      → StopsAmong gs starts at asked (drop i insts) facts final was now
+  pub stops_here : final ≡ facts → EmitsPrefix was (next_code c facts m (get_or insts i d)) now
+      → StopsAmong c asked (drop i insts) (emission facts was) (emission final now)
   stops_here same some = stops (inl (same, subst (λ l. EmitsPrefix was l now) code_is some))
 
-  pub stops_later : (facts' : Facts) (was' : List Plain) → facts' ≡ learned at (get_or insts i d) facts
-      → was' ≡ was ++ next_code gs starts at facts m (get_or insts i d)
-      → StopsAmong gs starts at asked (drop (i + 1) insts) facts' final was' now → StopsAmong gs starts at asked (drop i insts) facts final was now
+  pub stops_later : (facts' : Facts) (was' : List Plain) → facts' ≡ learned c.at (get_or insts i d) facts
+      → was' ≡ was ++ next_code c facts m (get_or insts i d)
+      → StopsAmong c asked (drop (i + 1) insts) (emission facts' was') (emission final now) → StopsAmong c asked (drop i insts) (emission facts was) (emission final now)
   stops_later facts' was' k e s =
-      let more = λ (f : Facts) (l : List Plain). StopsAmong gs starts at asked (drop (i + 1) insts) f final l now in
-      stops (inr (subst (λ l. more (learned at (get_or insts i d) facts) l) (e ∙ ap (λ l. was ++ l) code_is) (subst (λ f. more f was') k s)))
+      let more = λ (f : Facts) (l : List Plain). StopsAmong c asked (drop (i + 1) insts) (emission f l) (emission final now) in
+      stops (inr (subst (λ l. more (learned c.at (get_or insts i d) facts) l) (e ∙ ap (λ l. was ++ l) code_is) (subst (λ f. more f was') k s)))

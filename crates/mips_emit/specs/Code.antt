@@ -1,6 +1,6 @@
 -- The machine code of each instruction, and of arguments. The scratch registers are free between instructions.
 use Rattle.std.specs.Prelude.{ℕ, ℤ, pos, negsuc, suc, ◌-◌, ◌*◌, ◌/◌, ◌%◌, ◌^◌, Bool, true, false, ◌||◌, ◌&&◌, nat_eq, nat_lt}
-use Rattle.std.specs.Prelude.{◌+◌, if◌then◌else◌, List, [], ◌∷◌, ◌++◌, Option, Some, None}
+use Rattle.std.specs.Prelude.{◌+◌, if◌then◌else◌, List, [], ◌∷◌, ◌++◌, Option, Some, None, slice_index}
 use Rattle.std.specs.Int.{w32, trailing_zeros}
 use Rattle.words.specs.declared.sign.Sign.TheVariants.{Signed, Unsigned}
 use Rattle.words.specs.declared.width.Width.{Width}
@@ -27,14 +27,23 @@ use Rattle.mips_emit.specs.declared.location.Location.{Location}
 use Rattle.mips_emit.specs.declared.location.Location.TheVariants.{Held, InSlot, Copied}
 use Rattle.mips_emit.specs.declared.location.Source.{Source}
 use Rattle.mips_emit.specs.declared.product.ShiftedSum.{ShiftedSum}
+use Rattle.mips_emit.specs.declared.operation.Operand.{Operand}
 use Rattle.mips_emit.specs.declared.operation.Selection.{Selection}
 use Rattle.mips_emit.specs.declared.location.Source.TheVariants.{Zero, Word, From}
 use Rattle.mips_emit.specs.declared.element.Reach.{Reach}
 use Rattle.mips_emit.specs.declared.element.Reach.TheVariants.{ByPointer, ByScratch, ByKept, ByNew}
 use Rattle.mips_emit.specs.declared.offset.Offset.{Offset}
 use Rattle.mips_emit.specs.declared.facts.Kept.{Kept}
-use Rattle.mips_emit.specs.Locations.{Locations, inner_of, Facts, known_in, operand, index_of, word_source}
+use Rattle.mips_emit.specs.declared.setting.Setting.{Setting}
+use Rattle.mips_emit.specs.Locations.{Locations, locations, inner_of, Facts, known_in, operand, index_of, word_source}
 use Rattle.mips_emit.specs.Elements.{width_of, direct, base_code, shares_base, base_index, reach_by, element_base, element_offset}
+
+-- an operand with what is known of it
+abbrev pub known_operand : (known : Option ℕ) → Source → Operand
+known_operand known x = record { known = known; source = x }
+
+abbrev pub operand_with : Locations → Facts → ℕ → Operand
+operand_with at facts x = known_operand (known_in facts x) (operand at facts x)
 
 -- ---- words and frames
 
@@ -104,7 +113,7 @@ stays t (From (Copied r k)) = nat_eq r t
 abbrev pub carry : ℕ → Source → List Plain
 carry t x = if stays t x then [] else bring t x
 
--- a result: the register into which it is computed, and what stands behind
+-- a result: the register into which it is computed, and what stands after
 abbrev pub into : Option Location → ℕ
 into None = inner_of None
 into (Some (Held r)) = r
@@ -133,7 +142,7 @@ arrive (Some (Copied r k)) t = carry r (From (Held t)) ++ store_word_at r (4 * k
 
 -- ---- operators
 
--- an instruction, and a second one behind it, if there is one
+-- an instruction, and a second one after it, if there is one
 abbrev pub one_or_two : Plain → Option Plain → List Plain
 one_or_two i None = i ∷ []
 one_or_two i (Some j) = i ∷ j ∷ []
@@ -232,20 +241,18 @@ abbrev pub code_by_less : Op → (t d : ℕ) → (less : Option Plain) → Sourc
 code_by_less op t d None x y = fetch t x ++ (fetch SCRATCH_2 y ++ operation op d (operand_register t x) (operand_register SCRATCH_2 y))
 code_by_less op t d (Some i) x y = fetch SCRATCH_2 y ++ i ∷ Logic Xori d d 1 ∷ []
 
-abbrev pub code_by_left : Op → (t d : ℕ) → (left less : Option Plain) → Source → Source → List Plain
-code_by_left op t d None less x y = code_by_less op t d less x y
-code_by_left op t d (Some i) less x y = fetch SCRATCH_2 y ++ i ∷ []
+abbrev pub code_by_left : Op → (t d : ℕ) → (left : Option Plain) → (x y : Operand) → List Plain
+code_by_left op t d None x y = code_by_less op t d (turned_less_of op d (operand_register SCRATCH_2 y.source) x.known) x.source y.source
+code_by_left op t d (Some i) x y = fetch SCRATCH_2 y.source ++ i ∷ []
 
-abbrev pub code_by_right : Op → (t d : ℕ) → (right left less : Option Plain) → Source → Source → List Plain
-code_by_right op t d None left less x y = code_by_left op t d left less x y
-code_by_right op t d (Some i) left less x y = fetch t x ++ i ∷ []
+abbrev pub code_by_right : Op → (t d : ℕ) → (right : Option Plain) → (x y : Operand) → List Plain
+code_by_right op t d None x y = code_by_left op t d (turned_immediate_of op d (operand_register SCRATCH_2 y.source) x.known) x y
+code_by_right op t d (Some i) x y = fetch t x.source ++ i ∷ []
 
-abbrev pub code_by_word : Op → (t d : ℕ) → (left right : Option ℕ) → Source → Source → List Plain
-code_by_word op t d left right x y =
-    code_by_right op t d (immediate_of op d (operand_register t x) right) (turned_immediate_of op d (operand_register SCRATCH_2 y) left)
-    (turned_less_of op d (operand_register SCRATCH_2 y) left) x y
+abbrev pub code_by_word : Op → (t d : ℕ) → (x y : Operand) → List Plain
+code_by_word op t d x y = code_by_right op t d (immediate_of op d (operand_register t x.source) y.known) x y
 
--- the instructions of an operator that are selected: whether each operand is fetched, and one or two behind
+-- the instructions of an operator that are selected: whether each operand is fetched, and one or two after
 abbrev pub fetch_if : Bool → ℕ → Source → List Plain
 fetch_if fetches t x = if fetches then fetch t x else []
 
@@ -269,17 +276,28 @@ multiple_of _ known = None
 abbrev pub multiple_code : (t d : ℕ) → ShiftedSum → Source → List Plain
 multiple_code t d m x = fetch t x ++ Shift Sll SCRATCH_2 (operand_register t x) m.amount ∷ Alu m.op d SCRATCH_2 (operand_register t x) ∷ []
 
-abbrev pub code_by_multiple : (t d : ℕ) → (right left : Option ShiftedSum) → Source → Source → (other : List Plain) → List Plain
-code_by_multiple t d (Some m) left x y other = multiple_code t d m x
-code_by_multiple t d None (Some m) x y other = multiple_code t d m y
-code_by_multiple t d None None x y other = other
+-- the product where it is one, else other code
+abbrev pub code_by_multiple : (t d : ℕ) → Option ShiftedSum → Source → (other : List Plain) → List Plain
+code_by_multiple t d None x other = other
+code_by_multiple t d (Some m) x other = multiple_code t d m x
 
--- an operator into register d, from operands and what is known of them
-abbrev pub op_code : Op → (t d : ℕ) → (left right : Option ℕ) → Source → Source → List Plain
-op_code op t d left right x y =
-    code_by_multiple t d (multiple_of op right) (multiple_of op left) x y (code_by_word op t d left right x y)
+-- an operator into register d: a product by the right operand, one by the left operand, or any other
+abbrev pub op_code : Op → (t d : ℕ) → (x y : Operand) → List Plain
+op_code op t d x y =
+    code_by_multiple t d (multiple_of op y.known) x.source
+    (code_by_multiple t d (multiple_of op x.known) y.source (code_by_word op t d x y))
 
 -- ---- instructions
+
+-- what code depends on besides its instructions: the globals, where in the data each begins, and where pseudo-registers are
+pub record Context : Type 0 where
+  pub globals : List RGlobal
+  pub starts : ℕ → ℕ
+  pub at : Locations
+
+-- the same as the code has it
+abbrev pub context_of : Setting → Context
+context_of s = record { globals = s.globals.now; starts = slice_index s.starts.now; at = locations s.frame.now }
 
 -- whether the base that is kept is one of a global's elements at an index
 abbrev pub holds_base : List RGlobal → (starts : ℕ → ℕ) → Option Kept → (a : ℕ) → (index : Option Offset) → Bool
@@ -306,8 +324,7 @@ element_code w start (ByNew q c) x = base_code w KEPT_BASE start q
 
 abbrev pub bin_code : Locations → Facts → Op → (d a b : ℕ) → List Plain
 bin_code at facts op d a b =
-    op_code op (inner_of (at d)) (into (at d)) (known_in facts a) (known_in facts b) (operand at facts a) (operand at facts b)
-    ++ finish (at d)
+    op_code op (inner_of (at d)) (into (at d)) (operand_with at facts a) (operand_with at facts b) ++ finish (at d)
 
 -- an element into a register, and back
 abbrev pub element_load : Width → ℕ → (start : ℕ) → Reach → Plain

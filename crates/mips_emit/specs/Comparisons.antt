@@ -1,6 +1,6 @@
--- Operators that are one with the exit behind them: comparisons with a branch on their result, any with a return of it. And the code of
+-- Operators that are one with the exit after them: comparisons with a branch on their result, any with a return of it. And the code of
 -- several instructions.
-use Rattle.std.specs.Prelude.{ℕ, Bool, true, false, not, ◌&&◌, nat_eq, if◌then◌else◌, List, [], ◌∷◌, ◌++◌, Option, Some, None, slice_index}
+use Rattle.std.specs.Prelude.{ℕ, Bool, true, false, not, ◌&&◌, nat_eq, if◌then◌else◌, List, [], ◌∷◌, ◌++◌, Option, Some, None}
 use Rattle.mips_isa.specs.declared.inst.PairTest.TheVariants.{Equal, NotEqual}
 use Rattle.mips_isa.specs.declared.inst.ZeroTest.TheVariants.{AtMostZero, AboveZero, BelowZero, AtLeastZero}
 use Rattle.mips_isa.specs.declared.inst.Plain.{Plain}
@@ -11,10 +11,8 @@ use Rattle.rtl.specs.declared.operator.Op.TheVariants.{Eq, Ne, LtS, LtU, LeS, Le
 use Rattle.rtl.specs.Operators.{op_result}
 use Rattle.rtl.specs.declared.instruction.RInst.{RInst}
 use Rattle.rtl.specs.declared.instruction.RInst.TheVariants.{Const, Move, Bin, Load, Store}
-use Rattle.rtl.specs.declared.block.RGlobal.{RGlobal}
 use Rattle.mips_homes.specs.declared.convention.TheConstants.{SCRATCH_1, SCRATCH_3, RESULT}
 use Rattle.mips_homes.specs.Convention.{is_callee_saved}
-use Rattle.mips_homes.specs.declared.homed.Frame.{Frame}
 use Rattle.mips_emit.specs.declared.location.Location.{Location}
 use Rattle.mips_emit.specs.declared.location.Location.TheVariants.{Held, InSlot, Copied}
 use Rattle.mips_emit.specs.declared.location.Source.{Source}
@@ -23,9 +21,10 @@ use Rattle.mips_emit.specs.declared.comparison.Form.TheVariants.{Known, OnPair, 
 use Rattle.mips_emit.specs.declared.comparison.Asked.{Asked}
 use Rattle.mips_emit.specs.declared.comparison.Asked.TheVariants.{Nothing, Branched, Returned}
 use Rattle.mips_emit.specs.declared.comparison.Comparison.{Comparison}
+use Rattle.mips_emit.specs.declared.operation.Operand.{Operand}
 use Rattle.mips_emit.specs.declared.facts.Last.{Last}
-use Rattle.mips_emit.specs.Locations.{Locations, Facts, FitsSource, locations, known_in, learned, operand, fresh_of}
-use Rattle.mips_emit.specs.Code.{fetch, operand_register, carry, immediate_of, op_code, inst_code, nop}
+use Rattle.mips_emit.specs.Locations.{Locations, Facts, FitsSource, known_in, learned, fresh_of}
+use Rattle.mips_emit.specs.Code.{Context, operand_with, fetch, operand_register, carry, immediate_of, op_code, inst_code, nop}
 
 -- ---- forms
 
@@ -85,18 +84,18 @@ opposite_op op = op
 -- ---- code and exits
 
 -- what stands before the branch; a nop where that would be nothing. It is in the third scratch register and not in the first, so that what stands before may
--- be done behind it
-abbrev pub code_by_form : Form → Op → (left right : Option ℕ) → Source → Source → List Plain
-code_by_form (Known b) op l r x y = nop ∷ []
-code_by_form (OnPair test) op l r x y = fetch SCRATCH_1 x ++ (fetch SCRATCH_3 y ++ nop ∷ [])
-code_by_form (OnLeft test) op l r x y = fetch SCRATCH_3 x ++ nop ∷ []
-code_by_form (OnRight test) op l r x y = fetch SCRATCH_3 y ++ nop ∷ []
-code_by_form ByResult op l r x y = op_code op SCRATCH_1 SCRATCH_3 l r x y
-code_by_form ByOpposite op l r x y = op_code (opposite_op op) SCRATCH_1 SCRATCH_3 r l y x
-code_by_form InResult op l r x y = op_code op SCRATCH_1 RESULT l r x y
+-- be done after it
+abbrev pub code_by_form : Form → Op → (x y : Operand) → List Plain
+code_by_form (Known b) op x y = nop ∷ []
+code_by_form (OnPair test) op x y = fetch SCRATCH_1 x.source ++ (fetch SCRATCH_3 y.source ++ nop ∷ [])
+code_by_form (OnLeft test) op x y = fetch SCRATCH_3 x.source ++ nop ∷ []
+code_by_form (OnRight test) op x y = fetch SCRATCH_3 y.source ++ nop ∷ []
+code_by_form ByResult op x y = op_code op SCRATCH_1 SCRATCH_3 x y
+code_by_form ByOpposite op x y = op_code (opposite_op op) SCRATCH_1 SCRATCH_3 y x
+code_by_form InResult op x y = op_code op SCRATCH_1 RESULT x y
 
 abbrev pub comparison_code : Comparison → List Plain
-comparison_code m = code_by_form m.form m.op m.left m.right m.x m.y
+comparison_code m = code_by_form m.form m.op m.left m.right
 
 abbrev pub exit_by_form : Form → Source → Source → (t e : ℕ) → Exit
 exit_by_form (Known b) x y t e = Goto (if b then t else e)
@@ -108,11 +107,11 @@ exit_by_form ByOpposite x y t e = BranchPair Equal SCRATCH_3 0 t e
 exit_by_form InResult x y t e = BranchPair NotEqual RESULT 0 t e
 
 abbrev pub comparison_exit : Comparison → (t e : ℕ) → Exit
-comparison_exit m t e = exit_by_form m.form m.x m.y t e
+comparison_exit m t e = exit_by_form m.form m.left.source m.right.source t e
 
 -- ---- which comparisons
 
--- whether the exit behind goes by a pseudo-register
+-- whether the exit after goes by a pseudo-register
 abbrev pub is_asked : Asked → ℕ → Bool
 is_asked Nothing d = false
 is_asked (Branched c) d = nat_eq c d
@@ -131,41 +130,39 @@ is_caller_saved (Some (Held r)) = not (is_callee_saved r)
 is_caller_saved (Some (InSlot k)) = false
 is_caller_saved (Some (Copied r k)) = false
 
-abbrev pub operator_comparison : ℕ → Op → (left right : Option ℕ) → Source → Source → Option Form → Option Comparison
-operator_comparison d op l r x y None = None
-operator_comparison d op l r x y (Some form) =
-    Some (record { result = d; op = op; form = form; left = l; right = r; x = x; y = y })
+abbrev pub operator_comparison : ℕ → Op → (left right : Operand) → Option Form → Option Comparison
+operator_comparison d op l r None = None
+operator_comparison d op l r (Some form) = Some (record { result = d; op = op; form = form; left = l; right = r })
 
--- an instruction that is one with the branch behind it, which goes by the pseudo-register asked for
+-- an instruction that is one with the branch after it, which goes by the pseudo-register asked for
 abbrev pub comparison_of : Locations → Facts → Asked → RInst → Option Comparison
 comparison_of at facts asked (Const d w) = None
 comparison_of at facts asked (Move d a) = None
 comparison_of at facts asked (Bin op d a b) =
     if is_asked asked d && is_caller_saved (at d)
-    then operator_comparison d op (known_in facts a) (known_in facts b) (operand at facts a) (operand at facts b)
-    (form_for asked op (known_in facts a) (known_in facts b))
+    then operator_comparison d op (operand_with at facts a) (operand_with at facts b) (form_for asked op (known_in facts a) (known_in facts b))
     else None
 comparison_of at facts asked (Load d a i) = None
 comparison_of at facts asked (Store a i b) = None
 
 abbrev pub FitsComparison : Option Comparison → Type 0
 FitsComparison None = Unit {0}
-FitsComparison (Some m) = FitsSource m.x × FitsSource m.y
+FitsComparison (Some m) = FitsSource m.left.source × FitsSource m.right.source
 
 -- ---- several instructions
 
--- only behind the last of them stands the branch
+-- only after the last of them stands the branch
 abbrev pub asked_last : Asked → (behind : List RInst) → Asked
 asked_last asked [] = asked
 asked_last asked (i ∷ is) = Nothing
 
-abbrev pub next_code : List RGlobal → (starts : ℕ → ℕ) → Locations → Facts → Option Comparison → RInst → List Plain
-next_code globals starts at facts None i = inst_code globals starts at facts i
-next_code globals starts at facts (Some m) i = comparison_code m
+abbrev pub next_code : Context → Facts → Option Comparison → RInst → List Plain
+next_code c facts None i = inst_code c.globals c.starts c.at facts i
+next_code c facts (Some m) i = comparison_code m
 
 -- the code of an instruction before others
-abbrev pub one_code : List RGlobal → (starts : ℕ → ℕ) → Locations → Asked → (behind : List RInst) → Facts → RInst → List Plain
-one_code globals starts at asked behind facts i = next_code globals starts at facts (comparison_of at facts (asked_last asked behind) i) i
+abbrev pub one_code : Context → Asked → (behind : List RInst) → Facts → RInst → List Plain
+one_code c asked behind facts i = next_code c facts (comparison_of c.at facts (asked_last asked behind) i) i
 
 -- what an exit can use then
 abbrev pub last_with : Option Comparison → (fresh : Option ℕ) → Last
@@ -181,15 +178,13 @@ last_after at asked facts (i ∷ is) last =
     last_after at asked (learned at i facts) is (last_with (comparison_of at facts (asked_last asked is) i) (fresh_of at i))
 
 -- the code of several, before other code
-abbrev pub insts_code : List RGlobal → (starts : ℕ → ℕ) → Locations → Asked → Facts → List RInst → List Plain → List Plain
-insts_code globals starts at asked facts [] behind = behind
-insts_code globals starts at asked facts (i ∷ is) behind =
-    one_code globals starts at asked is facts i
-    ++ insts_code globals starts at asked (learned at i facts) is behind
+abbrev pub insts_code : Context → Asked → Facts → List RInst → (behind : List Plain) → List Plain
+insts_code c asked facts [] behind = behind
+insts_code c asked facts (i ∷ is) behind = one_code c asked is facts i ++ insts_code c asked (learned c.at i facts) is behind
 
 -- and before none
-abbrev pub code_of_insts : List RGlobal → (starts : List ℕ) → Frame → Asked → Facts → List RInst → List Plain
-code_of_insts globals starts frame asked facts is = insts_code globals (slice_index starts) (locations frame) asked facts is []
+abbrev pub code_of_insts : Context → Asked → Facts → List RInst → List Plain
+code_of_insts c asked facts is = insts_code c asked facts is []
 
 -- ---- branches
 

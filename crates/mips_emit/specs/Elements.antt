@@ -44,7 +44,7 @@ place_in globals starts a i = element_place (width_of globals a) (starts a) i
 abbrev pub AreStarts : List ℕ → Type 0
 AreStarts starts = (a start : ℕ) → slice_get starts a ≡ Some start → start ≤ UNIT_BYTES
 
--- and behind the element
+-- and after the element
 abbrev pub place_behind : List RGlobal → (starts : ℕ → ℕ) → (a i : ℕ) → ℕ
 place_behind globals starts a i = place_in globals starts a i + width_bytes (width_of globals a)
 

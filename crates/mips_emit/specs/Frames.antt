@@ -1,5 +1,6 @@
 -- Frames that machine code can reach: the homes of a function's pseudo-registers, the registers that it saves, and its slots.
 use Rattle.std.specs.Prelude.{◌≡◌, ℕ, ◌+◌, ◌*◌, ◌<◌, ◌≤◌, Bool, true, false, List, Some, length, slice_get}
+use Rattle.std.specs.Coded.{×_prop, le_prop}
 use Rattle.mips_homes.specs.declared.homed.Home.{Home}
 use Rattle.mips_homes.specs.declared.homed.Home.TheVariants.{Reg, Slot}
 use Rattle.mips_homes.specs.declared.homed.Frame.{Frame}
@@ -13,6 +14,11 @@ use Rattle.mips_emit.specs.declared.limits.TheConstants.{FRAME_BYTES}
 abbrev pub IsHome : (slots : ℕ) → Home → Type 0
 IsHome slots (Reg r) = IsAllocatable r
 IsHome slots (Slot k) = k < slots
+
+-- so a type can keep that a frame is within reach
+pub IsHome-prop : (slots : ℕ) (h : Home) → IsProp (IsHome slots h)
+IsHome-prop slots (Reg r) = ×_prop le_prop le_prop
+IsHome-prop slots (Slot k) = le_prop
 
 -- copies of slots are in temporaries, each slot's in its own, and none is a home
 pub record AreCopies (copies : List SlotCopy) (homes : List Home) : Type 0 where

@@ -1,4 +1,4 @@
-// Operators that are one with the exit behind them: comparisons with a branch on their result, any with a return of it.
+//! Operators that are one with the exit after them: comparisons with a branch on their result, any with a return of it.
 
 #![tactic(auto, using(crate::proofs::Prefixes::prefix_behind, crate::proofs::Prefixes::prefix_among, crate::proofs::Prefixes::emits_behind))]
 
@@ -54,20 +54,18 @@ pub enum Asked {
     Returned(Register),
 }
 
-/// An operator whose result nothing but the branch or return behind it takes, so that it is in no home: the words of its operands
+/// An operator whose result nothing but the branch or return after it takes, so that it is in no home: the words of its operands
 /// that are known, and the operands.
 #[derive(Clone, Copy)]
 pub struct Comparison {
     pub result: Register,
     pub op: Op,
     pub form: Form,
-    pub left: Option<u32>,
-    pub right: Option<u32>,
-    pub x: Source,
-    pub y: Source,
+    pub left: Operand,
+    pub right: Operand,
 }
 
-// Whether a word is known to be 0.
+/// Says whether a word is known to be 0.
 fn is_known_zero(known: Option<u32>) -> bool
     ensures { result ≡ is_known_zero known }
 {
@@ -77,7 +75,7 @@ fn is_known_zero(known: Option<u32>) -> bool
     }
 }
 
-// Whether an operator has this word in its instruction.
+/// Says whether an operator has this word in its instruction.
 fn is_immediate(op: Op, known: Option<u32>) -> bool
     ensures { result ≡ is_immediate op known }
 {
@@ -87,7 +85,7 @@ fn is_immediate(op: Op, known: Option<u32>) -> bool
     }
 }
 
-// By the opposite comparison, or by the comparison itself.
+/// Returns the form by the opposite comparison, or by the comparison itself.
 fn opposite_if(opposite: bool) -> Form
     ensures { result ≡ opposite_if opposite }
 {
@@ -98,7 +96,7 @@ fn opposite_if(opposite: bool) -> Form
     }
 }
 
-// How a branch tells whether one word is less than another as a signed number.
+/// Returns how a branch tells whether one word is less than another as a signed number.
 fn signed_less(left: Option<u32>, right: Option<u32>) -> Form
     ensures { Some result ≡ form_of LtS left right }
 {
@@ -111,7 +109,7 @@ fn signed_less(left: Option<u32>, right: Option<u32>) -> Form
     }
 }
 
-// The same of at most.
+/// Returns how a branch tells whether one word is at most another as a signed number.
 fn signed_at_most(left: Option<u32>, right: Option<u32>) -> Form
     ensures { Some result ≡ form_of LeS left right }
 {
@@ -124,7 +122,7 @@ fn signed_at_most(left: Option<u32>, right: Option<u32>) -> Form
     }
 }
 
-// How a branch tells the result of a comparison, from what is known of its operands; None of another operator.
+/// Returns how a branch tells the result of a comparison, from what is known of its operands; None of another operator.
 fn form_of(op: Op, left: Option<u32>, right: Option<u32>) -> Option<Form>
     ensures { result ≡ form_of op left right }
 {
@@ -139,7 +137,7 @@ fn form_of(op: Op, left: Option<u32>, right: Option<u32>) -> Option<Form>
     }
 }
 
-// Whether the result of an operator on known words isn't 0.
+/// Says whether the result of an operator on known words isn't 0.
 fn known_truth(op: Op, left: Option<u32>, right: Option<u32>) -> Option<bool>
     ensures { result ≡ known_truth op left right }
 {
@@ -147,7 +145,7 @@ fn known_truth(op: Op, left: Option<u32>, right: Option<u32>) -> Option<bool>
     Some(word != 0)
 }
 
-// A comparison of known words isn't made.
+/// Returns the form of a comparison; one of known words isn't made.
 fn form_with(truth: Option<bool>, form: Option<Form>) -> Option<Form>
     ensures { result ≡ form_with truth form }
 {
@@ -158,7 +156,7 @@ fn form_with(truth: Option<bool>, form: Option<Form>) -> Option<Form>
     }
 }
 
-// The comparison that holds of turned operands exactly where this one doesn't.
+/// Returns the comparison that holds of turned operands exactly if this one doesn't.
 fn opposite_op(op: Op) -> Op
     ensures { result ≡ opposite_op op }
 {
@@ -171,25 +169,7 @@ fn opposite_op(op: Op) -> Op
     }
 }
 
-fn left_of(m: &Comparison) -> Operand
-    ensures { (result.known ≡ m.now.left) × (result.source ≡ m.now.x) }
-{
-    Operand {
-        known: m.left,
-        source: m.x,
-    }
-}
-
-fn right_of(m: &Comparison) -> Operand
-    ensures { (result.known ≡ m.now.right) × (result.source ≡ m.now.y) }
-{
-    Operand {
-        known: m.right,
-        source: m.y,
-    }
-}
-
-// An operand into the third scratch register, or where it is, before a branch tests it.
+/// Emits an operand into the third scratch register, or where it is, before a branch tests it.
 fn emit_tested(code: &mut Vec<Plain>, x: &Source) -> Result<(), AllocError>
     requires { FitsSource x.now }
     ensures { Emits result code.old.items (fetch 3 x.now ++ nop ∷ []) code.new.items }
@@ -198,10 +178,10 @@ fn emit_tested(code: &mut Vec<Plain>, x: &Source) -> Result<(), AllocError>
     emit_one(code, Plain::nop())
 }
 
-/// What stands before the branch; an Err is refused memory.
+/// Emits what stands before the branch; an Err means out of memory.
 pub(crate) fn emit_comparison(code: &mut Vec<Plain>, m: &Comparison) -> Result<(), AllocError>
-    requires left { FitsSource m.now.x }
-    requires right { FitsSource m.now.y }
+    requires left { FitsSource m.now.left.source }
+    requires right { FitsSource m.now.right.source }
     ensures { Emits result code.old.items (comparison_code m.now) code.new.items }
 {
     let inner = register(SCRATCH_1);
@@ -209,27 +189,18 @@ pub(crate) fn emit_comparison(code: &mut Vec<Plain>, m: &Comparison) -> Result<(
     match m.form {
         Form::Known(_) => emit_one(code, Plain::nop()),
         Form::OnPair(_) => {
-            emit_fetch(code, inner, &m.x)?;
-            emit_tested(code, &m.y)
+            emit_fetch(code, inner, &m.left.source)?;
+            emit_tested(code, &m.right.source)
         }
-        Form::OnLeft(_) => emit_tested(code, &m.x),
-        Form::OnRight(_) => emit_tested(code, &m.y),
-        Form::ByResult => emit_op(code, m.op, inner, rd, &left_of(m), &right_of(m)),
-        Form::ByOpposite => {
-            emit_op(
-                code,
-                opposite_op(m.op),
-                inner,
-                rd,
-                &right_of(m),
-                &left_of(m),
-            )
-        }
-        Form::InResult => emit_op(code, m.op, inner, Reg::RESULT, &left_of(m), &right_of(m)),
+        Form::OnLeft(_) => emit_tested(code, &m.left.source),
+        Form::OnRight(_) => emit_tested(code, &m.right.source),
+        Form::ByResult => emit_op(code, m.op, inner, rd, &m.left, &m.right),
+        Form::ByOpposite => emit_op(code, opposite_op(m.op), inner, rd, &m.right, &m.left),
+        Form::InResult => emit_op(code, m.op, inner, Reg::RESULT, &m.left, &m.right),
     }
 }
 
-// A branch on a register beside 0.
+/// Makes a branch on a register and 0.
 fn on_truth(test: PairTest, rs: Reg, then: BlockNumber, other: BlockNumber) -> Exit
     ensures { result ≡ BranchPair test rs 0 then other }
 {
@@ -242,7 +213,7 @@ fn on_truth(test: PairTest, rs: Reg, then: BlockNumber, other: BlockNumber) -> E
     }
 }
 
-// A branch on the sign of a register.
+/// Makes a branch on the sign of a register.
 fn on_sign(test: ZeroTest, rs: Reg, then: BlockNumber, other: BlockNumber) -> Exit
     ensures { result ≡ BranchZero test rs then other }
 {
@@ -254,18 +225,18 @@ fn on_sign(test: ZeroTest, rs: Reg, then: BlockNumber, other: BlockNumber) -> Ex
     }
 }
 
-/// The branch to `then` where the comparison holds, else to `other`.
+/// Makes the branch to `then` where the comparison holds, else to `other`.
 pub fn comparison_exit(m: &Comparison, then: BlockNumber, other: BlockNumber) -> Exit
     ensures { result ≡ comparison_exit m.now then other }
 {
-    let left = operand_register(register(SCRATCH_3), &m.x);
-    let right = operand_register(register(SCRATCH_3), &m.y);
+    let left = operand_register(register(SCRATCH_3), &m.left.source);
+    let right = operand_register(register(SCRATCH_3), &m.right.source);
     let truth = register(SCRATCH_3).reg();
     match m.form {
         Form::Known(holds) => Exit::Goto(if holds { then } else { other }),
         Form::OnPair(test) => Exit::BranchPair {
             test,
-            rs: operand_register(register(SCRATCH_1), &m.x),
+            rs: operand_register(register(SCRATCH_1), &m.left.source),
             rt: right,
             then,
             other,
@@ -278,7 +249,7 @@ pub fn comparison_exit(m: &Comparison, then: BlockNumber, other: BlockNumber) ->
     }
 }
 
-// Whether the branch behind goes by this result.
+/// Says whether the exit after it goes by this result.
 fn is_asked(asked: Asked, d: Register) -> bool
     ensures { result ≡ is_asked asked d }
 {
@@ -289,7 +260,7 @@ fn is_asked(asked: Asked, d: Register) -> bool
     }
 }
 
-// How an exit takes the result of an operator, if it does.
+/// Returns how an exit takes the result of an operator, if it does.
 fn form_for(asked: Asked, op: Op, left: Option<u32>, right: Option<u32>) -> Option<Form>
     ensures { result ≡ form_for asked op left right }
 {
@@ -300,7 +271,7 @@ fn form_for(asked: Asked, op: Op, left: Option<u32>, right: Option<u32>) -> Opti
     }
 }
 
-// Whether no other block reads a location.
+/// Says whether no other block reads a location.
 fn is_caller_saved(place: Option<Location>) -> bool
     ensures { result ≡ is_caller_saved place }
 {
@@ -315,7 +286,7 @@ fn is_caller_saved(place: Option<Location>) -> bool
     }
 }
 
-// An operator as a comparison, if it is one.
+/// Makes an operator a comparison, if it is one.
 fn operator_comparison(
     asked: Asked,
     op: Op,
@@ -325,8 +296,7 @@ fn operator_comparison(
 ) -> Option<Comparison>
     requires left { FitsSource x.now.source }
     requires right { FitsSource y.now.source }
-    ensures value { result ≡ operator_comparison d op x.now.known y.now.known x.now.source y.now.source
-        (form_for asked op x.now.known y.now.known) }
+    ensures value { result ≡ operator_comparison d op x.now y.now (form_for asked op x.now.known y.now.known) }
     ensures fits { FitsComparison result }
 {
     match form_for(asked, op, x.known, y.known) {
@@ -335,15 +305,13 @@ fn operator_comparison(
             result: d,
             op,
             form,
-            left: x.known,
-            right: y.known,
-            x: x.source,
-            y: y.source,
+            left: *x,
+            right: *y,
         }),
     }
 }
 
-/// An instruction that is one with the exit behind it, which goes by the pseudo-register asked for.
+/// Returns the comparison that an instruction is, if it is one with the exit after it, which goes by the pseudo-register asked for.
 pub(crate) fn comparison_of(
     facts: &Knowledge,
     frame: &Frame,
@@ -371,7 +339,7 @@ pub(crate) fn comparison_of(
     }
 }
 
-/// The comparison whose result a pseudo-register is.
+/// Returns the comparison whose result a pseudo-register is.
 pub fn tested(comparison: &Option<Comparison>, c: Register) -> Option<Comparison>
     ensures { result ≡ tested comparison.now c }
 {
@@ -381,7 +349,7 @@ pub fn tested(comparison: &Option<Comparison>, c: Register) -> Option<Comparison
     }
 }
 
-// Whether it is a returned result.
+/// Says whether it is a returned result.
 fn is_result(form: Form) -> bool
     ensures { result ≡ is_result form }
 {
@@ -391,7 +359,7 @@ fn is_result(form: Form) -> bool
     }
 }
 
-/// Whether a pseudo-register is in the result's register already.
+/// Says whether a pseudo-register is in the result's register already.
 pub fn returned(comparison: &Option<Comparison>, x: Register) -> bool
     ensures { result ≡ returned comparison.now x }
 {

@@ -1,4 +1,4 @@
-// Words and words of the frame, into registers.
+//! Words and words of the frame, into registers.
 
 #![tactic(auto, using(crate::proofs::Prefixes::prefix_behind, crate::proofs::Prefixes::prefix_among, crate::proofs::Prefixes::emits_behind))]
 
@@ -12,7 +12,7 @@ use mips_isa::{AluOp, ImmOp, LogicOp, NonzeroReg, Plain, Reg};
 use std::alloc::AllocError;
 use words::Width;
 
-/// One instruction; an Err is refused memory.
+/// Emits one instruction; an Err means out of memory.
 pub(crate) fn emit_one(code: &mut Vec<Plain>, inst: Plain) -> Result<(), AllocError>
     ensures { Emits result code.old.items (inst ∷ []) code.new.items }
 {
@@ -20,7 +20,7 @@ pub(crate) fn emit_one(code: &mut Vec<Plain>, inst: Plain) -> Result<(), AllocEr
     Ok(())
 }
 
-/// One or two instructions; an Err is refused memory.
+/// Emits one or two instructions; an Err means out of memory.
 pub(crate) fn emit_one_or_two(
     code: &mut Vec<Plain>,
     first: Plain,
@@ -35,7 +35,7 @@ pub(crate) fn emit_one_or_two(
     }
 }
 
-/// A word of the frame into a register; an Err is refused memory.
+/// Emits a word of the frame into a register; an Err means out of memory.
 pub fn emit_load_word(code: &mut Vec<Plain>, rt: NonzeroReg, offset: u32) -> Result<(), AllocError>
     requires { offset ≤ FRAME_BYTES }
     ensures { Emits result code.old.items (load_word_at rt offset ∷ []) code.new.items }
@@ -49,7 +49,7 @@ pub fn emit_load_word(code: &mut Vec<Plain>, rt: NonzeroReg, offset: u32) -> Res
     emit_one(code, inst)
 }
 
-/// A register into a word of the frame; an Err is refused memory.
+/// Emits a register into a word of the frame; an Err means out of memory.
 pub fn emit_store_word(code: &mut Vec<Plain>, rt: Reg, offset: u32) -> Result<(), AllocError>
     requires { offset ≤ FRAME_BYTES }
     ensures { Emits result code.old.items (store_word_at rt offset ∷ []) code.new.items }
@@ -63,7 +63,7 @@ pub fn emit_store_word(code: &mut Vec<Plain>, rt: Reg, offset: u32) -> Result<()
     emit_one(code, inst)
 }
 
-// One register into another.
+/// Emits one register into another.
 pub(crate) fn emit_move(code: &mut Vec<Plain>, rd: Reg, rs: Reg) -> Result<(), AllocError>
     ensures { Emits result code.old.items (move_code rd rs ∷ []) code.new.items }
 {
@@ -76,14 +76,14 @@ pub(crate) fn emit_move(code: &mut Vec<Plain>, rd: Reg, rs: Reg) -> Result<(), A
     emit_one(code, inst)
 }
 
-// Whether a word fits the 16 bits of an instruction, signed.
+/// Reports whether a word fits the 16 bits of an instruction, signed.
 pub(crate) fn is_small(word: u32) -> bool
     ensures { result ≡ is_small word }
 {
     word < 32_768 || 4_294_934_527 < word
 }
 
-// Such a word as a signed number.
+/// Returns such a word as a signed number.
 pub(crate) fn half(word: u32) -> i16
     requires { is_small word ≡ true }
     ensures { result ≡ half word }
@@ -95,7 +95,7 @@ pub(crate) fn half(word: u32) -> i16
     }
 }
 
-/// A word into a register, in two instructions; an Err is refused memory.
+/// Emits a word into a register, in two instructions; an Err means out of memory.
 pub fn emit_constant(code: &mut Vec<Plain>, rt: Reg, word: u32) -> Result<(), AllocError>
     ensures { Emits result code.old.items (constant rt word) code.new.items }
 {
@@ -112,7 +112,7 @@ pub fn emit_constant(code: &mut Vec<Plain>, rt: Reg, word: u32) -> Result<(), Al
     emit_one_or_two(code, upper, Some(lower))
 }
 
-// A word into a register, as short as it can be.
+/// Emits a word into a register, as short as it can be.
 pub(crate) fn emit_li(code: &mut Vec<Plain>, rt: Reg, word: u32) -> Result<(), AllocError>
     ensures { Emits result code.old.items (li rt word) code.new.items }
 {

@@ -1,4 +1,4 @@
-// Elements of globals: how they are reached.
+//! Elements of globals: how they are reached.
 
 #![tactic(auto, using(crate::proofs::Prefixes::prefix_behind, crate::proofs::Prefixes::prefix_among, crate::proofs::Prefixes::emits_behind))]
 
@@ -38,7 +38,7 @@ pub enum Reach {
     ByNew(NonzeroReg, u32),
 }
 
-// How many bytes an element has.
+/// Returns how many bytes an element has.
 fn bytes_of(width: Width) -> u32
     ensures value { result ≡ width_bytes width }
     ensures few { result ≤ 4 }
@@ -49,7 +49,7 @@ fn bytes_of(width: Width) -> u32
     }
 }
 
-/// The place of an element whose index is known, where the global pointer reaches it.
+/// Returns the place of an element whose index is known, where the global pointer reaches it.
 pub(crate) fn direct(width: Width, start: u32, known: Option<u32>) -> Option<u32>
     requires { start ≤ UNIT_BYTES }
     ensures value { result ≡ direct width start known }
@@ -68,7 +68,7 @@ pub(crate) fn direct(width: Width, start: u32, known: Option<u32>) -> Option<u32
     }
 }
 
-// From the global pointer to a place.
+/// Returns the way from the global pointer to a place.
 fn near(place: u32) -> i16
     requires { place < 65536 }
     ensures { result ≡ near place }
@@ -80,7 +80,7 @@ fn near(place: u32) -> i16
     }
 }
 
-// The lower part of an address.
+/// Returns the lower part of an address.
 fn low(address: u32) -> i16
     ensures { result ≡ low address }
 {
@@ -92,7 +92,7 @@ fn low(address: u32) -> i16
     }
 }
 
-// The upper part of the address at which a global begins.
+/// Returns the upper part of the address at which a global begins.
 fn page_of(start: u32) -> u16
     requires { start ≤ UNIT_BYTES }
     ensures { result ≡ page (address_of_place start) }
@@ -100,7 +100,7 @@ fn page_of(start: u32) -> u16
     ((DATA_BASE + start + 32_768) / 65_536) as u16
 }
 
-// What a base is more than the index times the width.
+/// Returns what a base is more than the index times the width.
 fn base_word(start: u32) -> u32
     requires { start ≤ UNIT_BYTES }
     ensures { result ≡ base_word start }
@@ -112,7 +112,7 @@ fn base_word(start: u32) -> u32
     }
 }
 
-/// Whether the elements of one global have the same bases as those of another.
+/// Reports whether the elements of one global have the same bases as those of another.
 pub(crate) fn same_base(w: Width, start: u32, v: Width, other: u32) -> bool
     requires first { start ≤ UNIT_BYTES }
     requires second { other ≤ UNIT_BYTES }
@@ -121,21 +121,21 @@ pub(crate) fn same_base(w: Width, start: u32, v: Width, other: u32) -> bool
     bytes_of(w) == bytes_of(v) && base_word(start) == base_word(other)
 }
 
-// The place of an element, some more of them after another one's.
+/// Returns the place of an element, some more of them after another one's.
 fn shifted_place(width: Width, start: u32, word: u32) -> u32
     ensures { result ≡ shifted_place width start word }
 {
     start.wrapping_add(bytes_of(width).wrapping_mul(word))
 }
 
-// Whether the global pointer's offset to it is one of an instruction.
+/// Reports whether the global pointer's offset to it is one of an instruction.
 fn fits_offset(width: Width, start: u32, word: u32) -> bool
     ensures { result ≡ fits_offset width start word }
 {
     start < 65_536 && shifted_place(width, start, word) < 65_536
 }
 
-/// The register from which a base is made for an index.
+/// Returns the register from which a base is made for an index.
 pub(crate) fn base_index(width: Width, start: u32, index: &Offset) -> NonzeroReg
     ensures { result ≡ base_index width start index.now }
 {
@@ -146,7 +146,7 @@ pub(crate) fn base_index(width: Width, start: u32, index: &Offset) -> NonzeroReg
     }
 }
 
-// The offset from that base.
+/// Returns the offset from that base.
 fn shifted_offset(width: Width, start: u32, word: u32) -> i16
     requires { start ≤ UNIT_BYTES }
     ensures { result ≡ shifted_offset width start word }
@@ -159,7 +159,7 @@ fn shifted_offset(width: Width, start: u32, word: u32) -> i16
     }
 }
 
-/// How an element is reached.
+/// Returns how an element is reached.
 pub(crate) fn reach_by(
     width: Width,
     start: u32,
@@ -186,7 +186,7 @@ pub(crate) fn reach_by(
     }
 }
 
-// An index in a register, times the width, through another.
+/// Emits an index in a register, times the width, through another.
 fn emit_scaled(
     code: &mut Vec<Plain>,
     width: Width,
@@ -209,7 +209,7 @@ fn emit_scaled(
     }
 }
 
-// The register that shows it then.
+/// Returns the register that shows it then.
 fn scaled_register(width: Width, t: NonzeroReg, index: Reg) -> Reg
     ensures { result ≡ scaled_register width t index }
 {
@@ -219,7 +219,7 @@ fn scaled_register(width: Width, t: NonzeroReg, index: Reg) -> Reg
     }
 }
 
-// From a scaled index to a base for the element, in a register.
+/// Emits the way from a scaled index to a base for the element, in a register.
 fn emit_sum(code: &mut Vec<Plain>, t: NonzeroReg, start: u32, index: Reg) -> Result<(), AllocError>
     requires { start ≤ UNIT_BYTES }
     ensures { Emits result code.old.items (base_sum t start index) code.new.items }
@@ -245,7 +245,7 @@ fn emit_sum(code: &mut Vec<Plain>, t: NonzeroReg, start: u32, index: Reg) -> Res
     emit_one_or_two(code, upper, Some(sum))
 }
 
-// The offset from that base.
+/// Returns the offset from that base.
 fn base_offset(start: u32) -> i16
     requires { start ≤ UNIT_BYTES }
     ensures { result ≡ base_offset start }
@@ -257,7 +257,7 @@ fn base_offset(start: u32) -> i16
     }
 }
 
-// A base for an element, in a register.
+/// Emits a base for an element, in a register.
 fn emit_base(
     code: &mut Vec<Plain>,
     width: Width,
@@ -272,7 +272,7 @@ fn emit_base(
     emit_sum(code, t, start, scaled_register(width, t, index))
 }
 
-// A base for an element, in a scratch register.
+/// Emits a base for an element, in a scratch register.
 fn emit_scratch(
     code: &mut Vec<Plain>,
     width: Width,
@@ -288,7 +288,7 @@ fn emit_scratch(
     emit_base(code, width, register(SCRATCH_1), start, index)
 }
 
-/// What stands before an element is used; an Err is refused memory.
+/// Emits what stands before an element is used; an Err means out of memory.
 pub(crate) fn emit_element(
     code: &mut Vec<Plain>,
     width: Width,
@@ -308,7 +308,7 @@ pub(crate) fn emit_element(
     }
 }
 
-// The register from which an element is reached.
+/// Returns the register from which an element is reached.
 fn element_base(by: &Reach) -> Reg
     ensures { result ≡ element_base by.now }
 {
@@ -320,7 +320,7 @@ fn element_base(by: &Reach) -> Reg
     }
 }
 
-// The offset of an element from that register.
+/// Returns the offset of an element from that register.
 fn element_offset(width: Width, start: u32, by: &Reach) -> i16
     requires few { start ≤ UNIT_BYTES }
     requires near { IsInReach by.now }
@@ -334,7 +334,7 @@ fn element_offset(width: Width, start: u32, by: &Reach) -> i16
     }
 }
 
-/// A load of an element.
+/// Returns a load of an element.
 pub(crate) fn element_load(width: Width, rt: NonzeroReg, start: u32, by: &Reach) -> Plain
     requires few { start ≤ UNIT_BYTES }
     requires near { IsInReach by.now }
@@ -348,7 +348,7 @@ pub(crate) fn element_load(width: Width, rt: NonzeroReg, start: u32, by: &Reach)
     }
 }
 
-/// A store to an element.
+/// Returns a store to an element.
 pub(crate) fn element_store(width: Width, rt: Reg, start: u32, by: &Reach) -> Plain
     requires few { start ≤ UNIT_BYTES }
     requires near { IsInReach by.now }

@@ -1,4 +1,4 @@
-// What stands before an exit.
+//! What stands before an exit.
 
 #![tactic(auto, using(crate::proofs::Prefixes::prefix_behind, crate::proofs::Prefixes::prefix_among, crate::proofs::Prefixes::emits_behind))]
 
@@ -17,7 +17,7 @@ use mips_isa::{NonzeroReg, Plain};
 use rtl::Register;
 use std::alloc::AllocError;
 
-/// A register into a pseudo-register, as a parameter or a result is; an Err is refused memory.
+/// Emits a register into a pseudo-register, as a parameter or a result is; an Err means out of memory.
 pub fn emit_arrival(
     code: &mut Vec<Plain>,
     frame: &Frame,
@@ -30,7 +30,7 @@ pub fn emit_arrival(
     emit_arrive(code, locate(frame, x), t)
 }
 
-/// A pseudo-register into a register of its own, behind the last instruction; an Err is refused memory.
+/// Emits a pseudo-register into a register of its own, after the last instruction; an Err means out of memory.
 pub fn emit_departure(
     code: &mut Vec<Plain>,
     facts: &Knowledge,
@@ -47,7 +47,7 @@ pub fn emit_departure(
     emit_carry(code, t, &last_operand(facts, fresh, frame, x))
 }
 
-/// Arguments into the registers of arguments; an Err is refused memory.
+/// Emits arguments into the registers of arguments; an Err means out of memory.
 pub fn emit_arguments(
     code: &mut Vec<Plain>,
     facts: &Knowledge,

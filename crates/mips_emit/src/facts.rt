@@ -1,4 +1,4 @@
-// Words that pseudo-registers are known to hold, and what the last instruction leaves for an exit.
+//! Words that pseudo-registers are known to hold, and what the last instruction leaves for an exit.
 
 ghost use Rattle.std.specs.Prelude.{◌≡◌, OnOk, OnErr, IfOk, Some};
 ghost use Rattle.mips_emit.specs.Frames.{IsReachable};
@@ -13,7 +13,7 @@ ghost use Rattle.mips_emit.specs.Locations.{locations, operand, last_operand, Fi
 use crate::comparison::Comparison;
 use crate::limits::KEPT_FACTS;
 use crate::location::{Location, Source, inner_of, locate, source_of, word_source};
-use crate::offset::{Offset, index_with, offset_past, sum_offset, touches};
+use crate::offset::{Offset, addend, index_with, offset_past, sum_offset, touches};
 use mips_homes::{Frame, is_callee_saved};
 use mips_isa::NonzeroReg;
 use rtl::{GlobalNumber, Op, RInst, Register};
@@ -52,7 +52,7 @@ pub struct Knowledge {
 }
 
 impl Knowledge {
-    /// Nothing is known.
+    /// Returns what is known at first: nothing.
     pub fn none(alloc: Global) -> Result<Knowledge, AllocError>
         ensures { IfOk result (λ k. facts_of k ≡ no_facts) }
     {
@@ -64,7 +64,7 @@ impl Knowledge {
         })
     }
 
-    /// Nothing is known any more, as at the head of another block.
+    /// Forgets everything, as at the head of another block.
     pub fn clear(&mut self)
         ensures { facts_of self.new ≡ no_facts }
     {
@@ -83,7 +83,7 @@ impl Last {
     };
 }
 
-// The word that a pseudo-register is known to hold, by the last of these facts.
+/// Returns the word that a pseudo-register is known to hold, by the last of these facts.
 fn known_of(facts: &[Fact], x: Register) -> Option<u32>
     ensures { result ≡ known_of (newest facts.now) x }
 {
@@ -96,14 +96,14 @@ fn known_of(facts: &[Fact], x: Register) -> Option<u32>
     None
 }
 
-/// The word that a pseudo-register is known to hold.
+/// Returns the word that a pseudo-register is known to hold.
 pub fn known_word(facts: &Knowledge, x: Register) -> Option<u32>
     ensures { result ≡ known_in (facts_of facts.now) x }
 {
     known_of(facts.known.as_slice(), x)
 }
 
-// The word that a register should hold but doesn't yet.
+/// Returns the word that a register should hold but doesn't yet.
 fn deferred_in(table: &[Option<u32>], r: NonzeroReg) -> Option<u32>
     ensures { result ≡ word_in table.now r }
 {
@@ -113,7 +113,7 @@ fn deferred_in(table: &[Option<u32>], r: NonzeroReg) -> Option<u32>
     }
 }
 
-// The same of a location.
+/// Returns the word that a location should hold but doesn't yet.
 fn deferred_at(table: &[Option<u32>], place: Option<Location>) -> Option<u32>
     ensures { result ≡ deferred_at (word_in table.now) place }
 {
@@ -128,16 +128,16 @@ fn deferred_at(table: &[Option<u32>], place: Option<Location>) -> Option<u32>
     }
 }
 
-// What a register should hold but doesn't yet.
+/// Sets what a register should hold but doesn't yet.
 fn put_deferred(table: &mut [Option<u32>; 32], r: NonzeroReg, word: Option<u32>)
     ensures { word_in table.new ≡ places_with (word_in table.old) r word }
 {
     table[r.index() as usize] = word;
 }
 
-// Defers a constant whose home is a caller-saved register.
-fn defer(table: &mut [Option<u32>; 32], place: Option<Location>, word: u32)
-    ensures { word_in table.new ≡ deferred_const place word (word_in table.old) }
+/// Defers a constant whose home is a caller-saved register.
+fn defer(table: &mut [Option<u32>; 32], place: &Option<Location>, word: u32)
+    ensures { word_in table.new ≡ deferred_const place.now word (word_in table.old) }
 {
     match place {
         None => {}
@@ -149,7 +149,7 @@ fn defer(table: &mut [Option<u32>; 32], place: Option<Location>, word: u32)
                 } else {
                     Some(word)
                 };
-                put_deferred(table, r, word);
+                put_deferred(table, *r, word);
             }
             Location::InSlot(_) => {}
             Location::Copied(_, _) => {}
@@ -157,22 +157,22 @@ fn defer(table: &mut [Option<u32>; 32], place: Option<Location>, word: u32)
     }
 }
 
-// Any other write cancels a deferred constant.
-fn clear_deferred(table: &mut [Option<u32>; 32], place: Option<Location>)
-    ensures { word_in table.new ≡ deferred_none place (word_in table.old) }
+/// Cancels a deferred constant, as any other write does.
+fn clear_deferred(table: &mut [Option<u32>; 32], place: &Option<Location>)
+    ensures { word_in table.new ≡ deferred_none place.now (word_in table.old) }
 {
     match place {
         None => {}
         // (rattle 13f: a nested pattern through another crate's type ends in "a bug in rattle": CONTRIBUTING.md)
         Some(location) => match location {
-            Location::Held(r) => put_deferred(table, r, None),
+            Location::Held(r) => put_deferred(table, *r, None),
             Location::InSlot(_) => {}
             Location::Copied(_, _) => {}
         },
     }
 }
 
-// One more fact, the newest.
+/// Adds one more fact, the newest.
 fn put_fact(facts: &mut Vec<Fact>, register: Register, word: Option<u32>) -> Result<(), AllocError>
     ensures is { OnOk result (newest facts.new.items ≡ with_fact register word (newest facts.old.items)) }
     ensures kept { OnErr result (facts.new.items ≡ facts.old.items) }
@@ -181,7 +181,7 @@ fn put_fact(facts: &mut Vec<Fact>, register: Register, word: Option<u32>) -> Res
     Ok(())
 }
 
-// The base that is kept while a register isn't written.
+/// Returns the base that is kept past a write of a register.
 fn kept_without(r: NonzeroReg, kept: Option<Kept>) -> Option<Kept>
     ensures { result ≡ kept_without r kept }
 {
@@ -191,22 +191,22 @@ fn kept_without(r: NonzeroReg, kept: Option<Kept>) -> Option<Kept>
     }
 }
 
-// The base that is kept past a write.
-fn kept_past(place: Option<Location>, kept: Option<Kept>) -> Option<Kept>
-    ensures { result ≡ kept_past place kept }
+/// Returns the base that is kept past a write.
+fn kept_past(place: &Option<Location>, kept: Option<Kept>) -> Option<Kept>
+    ensures { result ≡ kept_past place.now kept }
 {
     match place {
         None => kept,
         // (rattle 13f: a nested pattern through another crate's type ends in "a bug in rattle": CONTRIBUTING.md)
         Some(location) => match location {
-            Location::Held(r) => kept_without(r, kept),
+            Location::Held(r) => kept_without(*r, kept),
             Location::InSlot(_) => kept,
-            Location::Copied(r, _) => kept_without(r, kept),
+            Location::Copied(r, _) => kept_without(*r, kept),
         },
     }
 }
 
-// The base that is kept once an element is used.
+/// Returns the base that is kept once an element is used.
 fn kept_with(global: GlobalNumber, index: Option<Offset>, kept: Option<Kept>) -> Option<Kept>
     ensures { result ≡ kept_with global index kept }
 {
@@ -216,7 +216,7 @@ fn kept_with(global: GlobalNumber, index: Option<Offset>, kept: Option<Kept>) ->
     }
 }
 
-/// The register of an index that is no known word.
+/// Returns the register of an index that is no known word.
 pub(crate) fn index_register(known: Option<u32>, x: &Source) -> Option<NonzeroReg>
     ensures { result ≡ index_register known x.now }
 {
@@ -234,7 +234,7 @@ pub(crate) fn index_register(known: Option<u32>, x: &Source) -> Option<NonzeroRe
     }
 }
 
-// The base that is kept once an element is used whose index is a pseudo-register.
+/// Returns the base that is kept once an element is used whose index is a pseudo-register.
 fn kept_at(facts: &Knowledge, frame: &Frame, a: GlobalNumber, i: Register) -> Option<Kept>
     requires { IsReachable frame.now }
     ensures { result ≡ kept_with a (index_of (locations frame.now) (facts_of facts.now) i) (facts_of facts.now).kept }
@@ -248,24 +248,29 @@ fn kept_at(facts: &Knowledge, frame: &Frame, a: GlobalNumber, i: Register) -> Op
     )
 }
 
-// What an operator leaves in a register.
+/// Returns what an operator leaves in a location. For an operator that leaves no sum it looks up no fact.
+#[tactic(auto, using(crate::proofs::Sums::no_sum, crate::proofs::Sums::no_sum_of_unknown))]
 fn sum_at(
     facts: &Knowledge,
     frame: &Frame,
     op: Op,
-    d: Register,
+    place: &Option<Location>,
     a: Register,
     b: Register,
 ) -> Option<Offset>
     requires { IsReachable frame.now }
-    ensures { result ≡ sum_offset (locations frame.now d) op (known_in (facts_of facts.now) b) (operand (locations frame.now) (facts_of facts.now) a) }
+    ensures { result ≡ sum_offset place.now op (known_in (facts_of facts.now) b) (operand (locations frame.now) (facts_of facts.now) a) }
 {
-    let known = known_word(facts, b);
-    let x = operand(facts, frame, a);
-    sum_offset(locate(frame, d), op, known, &x)
+    if addend(op, 0).is_none() {
+        return None;
+    }
+    match known_word(facts, b) {
+        None => None,
+        Some(word) => sum_offset(place, op, Some(word), &operand(facts, frame, a)),
+    }
 }
 
-// The newer of two offsets.
+/// Returns the newer of two offsets.
 fn or_offset(new: Option<Offset>, old: Option<Offset>) -> Option<Offset>
     ensures { result ≡ or_offset new old }
 {
@@ -275,7 +280,8 @@ fn or_offset(new: Option<Offset>, old: Option<Offset>) -> Option<Offset>
     }
 }
 
-/// What is known after an instruction; an Err is refused memory, and leaves what was known.
+/// Learns what is known after an instruction; an Err means out of memory, and leaves what was known. An Err means out of memory, and leaves
+/// what was known.
 pub(crate) fn learn(facts: &mut Knowledge, frame: &Frame, inst: &RInst) -> Result<(), AllocError>
     requires frame { IsReachable frame.now }
     ensures kept { OnErr result (facts_of facts.new ≡ facts_of facts.old) }
@@ -283,38 +289,42 @@ pub(crate) fn learn(facts: &mut Knowledge, frame: &Frame, inst: &RInst) -> Resul
 {
     match inst {
         RInst::Const(d, word) => {
+            let place = locate(frame, *d);
             put_fact(&mut facts.known, *d, Some(*word))?;
-            defer(&mut facts.deferred, locate(frame, *d), *word);
-            facts.kept = kept_past(locate(frame, *d), facts.kept);
-            facts.offset = offset_past(locate(frame, *d), &facts.offset);
+            defer(&mut facts.deferred, &place, *word);
+            facts.kept = kept_past(&place, facts.kept);
+            facts.offset = offset_past(&place, &facts.offset);
         }
         RInst::Move(d, a) => {
+            let place = locate(frame, *d);
             let word = known_word(facts, *a);
             put_fact(&mut facts.known, *d, word)?;
-            clear_deferred(&mut facts.deferred, locate(frame, *d));
-            facts.kept = kept_past(locate(frame, *d), facts.kept);
-            facts.offset = offset_past(locate(frame, *d), &facts.offset);
+            clear_deferred(&mut facts.deferred, &place);
+            facts.kept = kept_past(&place, facts.kept);
+            facts.offset = offset_past(&place, &facts.offset);
         }
         RInst::Bin(op, d, a, b) => {
-            let sum = sum_at(facts, frame, *op, *d, *a, *b);
+            let place = locate(frame, *d);
+            let sum = sum_at(facts, frame, *op, &place, *a, *b);
             put_fact(&mut facts.known, *d, None)?;
-            clear_deferred(&mut facts.deferred, locate(frame, *d));
-            facts.kept = kept_past(locate(frame, *d), facts.kept);
-            facts.offset = or_offset(sum, offset_past(locate(frame, *d), &facts.offset));
+            clear_deferred(&mut facts.deferred, &place);
+            facts.kept = kept_past(&place, facts.kept);
+            facts.offset = or_offset(sum, offset_past(&place, &facts.offset));
         }
         RInst::Load(d, a, i) => {
+            let place = locate(frame, *d);
             let kept = kept_at(facts, frame, *a, *i);
             put_fact(&mut facts.known, *d, None)?;
-            clear_deferred(&mut facts.deferred, locate(frame, *d));
-            facts.kept = kept_past(locate(frame, *d), kept);
-            facts.offset = offset_past(locate(frame, *d), &facts.offset);
+            clear_deferred(&mut facts.deferred, &place);
+            facts.kept = kept_past(&place, kept);
+            facts.offset = offset_past(&place, &facts.offset);
         }
         RInst::Store(a, i, _) => facts.kept = kept_at(facts, frame, *a, *i),
     }
     Ok(())
 }
 
-/// A pseudo-register as an operand, from the word that it is known to hold.
+/// Returns a pseudo-register as an operand, from the word that it is known to hold.
 pub(crate) fn operand_by(
     facts: &Knowledge,
     frame: &Frame,
@@ -332,7 +342,7 @@ pub(crate) fn operand_by(
     }
 }
 
-/// A pseudo-register as an operand.
+/// Returns a pseudo-register as an operand.
 pub(crate) fn operand(facts: &Knowledge, frame: &Frame, x: Register) -> Source
     requires { IsReachable frame.now }
     ensures value { result ≡ operand (locations frame.now) (facts_of facts.now) x }
@@ -341,7 +351,7 @@ pub(crate) fn operand(facts: &Knowledge, frame: &Frame, x: Register) -> Source
     operand_by(facts, frame, x, known_word(facts, x))
 }
 
-// A pseudo-register, if it is in a slot.
+/// Returns a pseudo-register, if it is in a slot.
 fn in_slot(place: Option<Location>, x: Register) -> Option<Register>
     ensures { result ≡ in_slot place x }
 {
@@ -351,7 +361,7 @@ fn in_slot(place: Option<Location>, x: Register) -> Option<Register>
     }
 }
 
-/// The pseudo-register whose word an instruction leaves in its inner temporary.
+/// Returns the pseudo-register whose word an instruction leaves in its inner temporary.
 pub(crate) fn fresh_of(frame: &Frame, inst: &RInst) -> Option<Register>
     requires { IsReachable frame.now }
     ensures { result ≡ fresh_of (locations frame.now) inst.now }
@@ -362,7 +372,7 @@ pub(crate) fn fresh_of(frame: &Frame, inst: &RInst) -> Option<Register>
     }
 }
 
-/// What an exit can use of an instruction: the comparison that is one with it, or the word that is still in an inner temporary.
+/// Returns what an exit can use of an instruction: the comparison that is one with it, or the word that is still in an inner temporary.
 pub(crate) fn last_with(comparison: &Option<Comparison>, fresh: Option<Register>) -> Last
     ensures { result ≡ last_with comparison.now fresh }
 {
@@ -378,7 +388,7 @@ pub(crate) fn last_with(comparison: &Option<Comparison>, fresh: Option<Register>
     }
 }
 
-/// A pseudo-register as an operand of an exit.
+/// Returns a pseudo-register as an operand of an exit.
 pub fn last_operand(
     facts: &Knowledge,
     fresh: Option<Register>,

@@ -1,4 +1,4 @@
-// The code of instructions.
+//! The code of instructions.
 
 #![tactic(auto, using(crate::proofs::Prefixes::prefix_behind, crate::proofs::Prefixes::prefix_among, crate::proofs::Prefixes::emits_behind))]
 
@@ -12,10 +12,10 @@ ghost use Rattle.mips_emit.specs.declared.comparison.Asked.TheVariants.{Nothing}
 ghost use Rattle.mips_emit.specs.Locations.{facts_of, inner_of, locations, word_source, operand, known_after, FitsSource};
 ghost use Rattle.mips_emit.specs.Comparisons.{FitsComparison, next_code, last_after, no_last, code_of_insts};
 ghost use Rattle.mips_emit.specs.Elements.{AreStarts, IsInReach, width_of};
-ghost use Rattle.mips_emit.specs.Code.{const_code, put_at, into, finish, op_code, holds_base, reach_with, load_code, store_code, inst_code};
+ghost use Rattle.mips_emit.specs.Code.{context_of, const_code, put_at, into, finish, op_code, holds_base, reach_with, load_code, store_code, inst_code};
 ghost use Rattle.mips_emit.specs.Locations.{index_register};
 ghost use Rattle.mips_emit.specs.Offsets.{index_with};
-ghost use Rattle.mips_emit.specs.Prefixes.{Emits, StopsAmong};
+ghost use Rattle.mips_emit.specs.Prefixes.{Emits, StopsAmong, emission};
 
 use crate::comparison::{Asked, Comparison, comparison_of, emit_comparison};
 use crate::constant::emit_one;
@@ -29,6 +29,7 @@ use crate::facts::{
 use crate::location::{Location, Source, inner_of, locate, register, word_source};
 use crate::offset::{Offset, index_with};
 use crate::operation::{Operand, emit_op, operand_with};
+use crate::setting::Setting;
 use crate::transfer::{emit_bring, emit_fetch, emit_finish, emit_put, into_of, operand_register};
 use mips_homes::{Frame, SCRATCH_2, is_callee_saved};
 use mips_isa::{NonzeroReg, Plain};
@@ -36,15 +37,7 @@ use rtl::{GlobalNumber, Op, RGlobal, RInst, Register};
 use std::alloc::AllocError;
 use words::Width;
 
-/// What code depends on besides its instructions: the globals, where in the data each begins, and the frame.
-#[derive(Clone, Copy)]
-pub struct Setting<'a> {
-    pub globals: &'a [RGlobal],
-    pub starts: &'a [u32],
-    pub frame: &'a Frame,
-}
-
-// An element: its width, where its global begins, and how it is reached.
+/// Says of an element: its width, where its global begins, and how it is reached.
 #[derive(Clone, Copy)]
 struct Element {
     width: Width,
@@ -52,7 +45,7 @@ struct Element {
     by: Reach,
 }
 
-// A word into a register, or nothing yet.
+/// Emits a word into a register, or nothing yet.
 fn emit_held(code: &mut Vec<Plain>, r: NonzeroReg, word: u32) -> Result<(), AllocError>
     ensures { Emits result code.old.items (const_code (Some (Held r)) word) code.new.items }
 {
@@ -63,7 +56,7 @@ fn emit_held(code: &mut Vec<Plain>, r: NonzeroReg, word: u32) -> Result<(), Allo
     }
 }
 
-// A word into a pseudo-register.
+/// Emits a word into a pseudo-register.
 fn emit_const(
     code: &mut Vec<Plain>,
     frame: &Frame,
@@ -84,7 +77,7 @@ fn emit_const(
     }
 }
 
-// A pseudo-register into another.
+/// Emits a pseudo-register into another.
 fn emit_move(
     code: &mut Vec<Plain>,
     facts: &Knowledge,
@@ -100,7 +93,7 @@ fn emit_move(
     emit_put(code, locate(frame, d), &operand(facts, frame, a))
 }
 
-// An operator on two operands, into a pseudo-register.
+/// Emits an operator on two operands, into a pseudo-register.
 fn emit_op_into(
     code: &mut Vec<Plain>,
     frame: &Frame,
@@ -113,7 +106,7 @@ fn emit_op_into(
     requires left { FitsSource x.now.source }
     requires right { FitsSource y.now.source }
     ensures { Emits result code.old.items (op_code op (inner_of (locations frame.now d)) (into (locations frame.now d))
-        x.now.known y.now.known x.now.source y.now.source ++ finish (locations frame.now d)) code.new.items }
+        x.now y.now ++ finish (locations frame.now d)) code.new.items }
 {
     let inner = inner_of(locate(frame, d));
     let rd = into_of(locate(frame, d)).reg();
@@ -121,7 +114,7 @@ fn emit_op_into(
     emit_finish(code, locate(frame, d))
 }
 
-// An element into a pseudo-register.
+/// Emits an element into a pseudo-register.
 fn emit_load(
     code: &mut Vec<Plain>,
     frame: &Frame,
@@ -146,7 +139,7 @@ fn emit_load(
     emit_finish(code, locate(frame, d))
 }
 
-// An operand into an element.
+/// Emits an operand into an element.
 fn emit_store(
     code: &mut Vec<Plain>,
     element: &Element,
@@ -170,7 +163,7 @@ fn emit_store(
     )
 }
 
-// The width of a global's elements.
+/// Returns the width of a global's elements.
 fn width_of(globals: &[RGlobal], a: GlobalNumber) -> Width
     ensures { result ≡ width_of globals.now a }
 {
@@ -180,7 +173,7 @@ fn width_of(globals: &[RGlobal], a: GlobalNumber) -> Width
     }
 }
 
-// Where a global begins.
+/// Returns where a global begins.
 fn start_of(starts: &[u32], a: GlobalNumber) -> u32
     requires { AreStarts starts.now }
     ensures start { result ≡ slice_index starts.now a }
@@ -192,14 +185,13 @@ fn start_of(starts: &[u32], a: GlobalNumber) -> u32
     }
 }
 
-// Whether the base that is kept is one of a global's elements at an index.
+/// Says whether the base that is kept is one of a global's elements at an index.
 fn holds_base(
     setting: &Setting<'_>,
     kept: &Option<Kept>,
     a: GlobalNumber,
     index: &Option<Offset>,
 ) -> bool
-    requires { AreStarts setting.now.starts.now }
     ensures { result ≡ holds_base setting.now.globals.now (slice_index setting.now.starts.now) kept.now a index.now }
 {
     match kept {
@@ -218,7 +210,7 @@ fn holds_base(
     }
 }
 
-// An element of a global, whose index is a pseudo-register.
+/// Finds how an element of a global is reached, whose index is a pseudo-register.
 fn element_at(
     setting: &Setting<'_>,
     facts: &Knowledge,
@@ -226,7 +218,6 @@ fn element_at(
     known: Option<u32>,
     x: &Source,
 ) -> Element
-    requires few { AreStarts setting.now.starts.now }
     ensures width { result.width ≡ width_of setting.now.globals.now a }
     ensures start { result.start ≡ slice_index setting.now.starts.now a }
     ensures few { result.start ≤ UNIT_BYTES }
@@ -244,15 +235,13 @@ fn element_at(
     }
 }
 
-// One instruction.
+/// Emits one instruction.
 fn emit_inst(
     code: &mut Vec<Plain>,
     setting: &Setting<'_>,
     facts: &Knowledge,
     inst: &RInst,
 ) -> Result<(), AllocError>
-    requires frame { IsReachable setting.now.frame.now }
-    requires few { AreStarts setting.now.starts.now }
     requires named { IsInst (length setting.now.starts.now) inst.now }
     ensures { Emits result code.old.items
         (inst_code setting.now.globals.now (slice_index setting.now.starts.now) (locations setting.now.frame.now) (facts_of facts.now) inst.now)
@@ -283,7 +272,7 @@ fn emit_inst(
     }
 }
 
-// One instruction, or the comparison that it is.
+/// Emits one instruction, or the comparison that it is.
 fn emit_next(
     code: &mut Vec<Plain>,
     setting: &Setting<'_>,
@@ -291,12 +280,10 @@ fn emit_next(
     comparison: &Option<Comparison>,
     inst: &RInst,
 ) -> Result<(), AllocError>
-    requires frame { IsReachable setting.now.frame.now }
-    requires few { AreStarts setting.now.starts.now }
     requires named { IsInst (length setting.now.starts.now) inst.now }
     requires fits { FitsComparison comparison.now }
     ensures { Emits result code.old.items
-        (next_code setting.now.globals.now (slice_index setting.now.starts.now) (locations setting.now.frame.now) (facts_of facts.now) comparison.now inst.now)
+        (next_code (context_of setting.now) (facts_of facts.now) comparison.now inst.now)
         code.new.items }
 {
     match comparison {
@@ -305,15 +292,16 @@ fn emit_next(
     }
 }
 
-// What the exit asks for, if it stands right behind.
+/// Returns what the exit asks for, if the exit comes next.
 fn asked_if(is_last: bool, asked: Asked) -> Asked
     ensures { result ≡ (if is_last then asked else Nothing) }
 {
     if is_last { asked } else { Asked::Nothing }
 }
 
-/// Several instructions, and what is known after them and left for an exit, where that goes by the pseudo-register
-/// asked for; an Err is refused memory: then what is known is what is known behind the instructions that are there whole.
+/// Emits several instructions, learns what is known after them, and returns what is left for an exit that goes by the pseudo-register asked
+/// for. What is known after them and left for an exit is learned, where that goes by the pseudo-register asked for. At an Err, which is
+/// refused memory, what is known is what the whole instructions leave.
 pub fn emit_insts(
     code: &mut Vec<Plain>,
     facts: &mut Knowledge,
@@ -321,15 +309,13 @@ pub fn emit_insts(
     asked: Asked,
     insts: &[RInst],
 ) -> Result<Last, AllocError>
-    requires frame { IsReachable setting.now.frame.now }
-    requires few { AreStarts setting.now.starts.now }
     requires named { All (IsInst (length setting.now.starts.now)) insts.now }
     ensures code { OnOk result (code.new.items ≡ code.old.items
-        ++ code_of_insts setting.now.globals.now setting.now.starts.now setting.now.frame.now asked (facts_of facts.old) insts.now) }
+        ++ code_of_insts (context_of setting.now) asked (facts_of facts.old) insts.now) }
     ensures last { IfOk result (λ l. l ≡ last_after (locations setting.now.frame.now) asked (facts_of facts.old) insts.now no_last) }
     ensures known { OnOk result (facts_of facts.new ≡ known_after (locations setting.now.frame.now) insts.now (facts_of facts.old)) }
-    ensures left { OnErr result (StopsAmong setting.now.globals.now (slice_index setting.now.starts.now) (locations setting.now.frame.now) asked insts.now (facts_of facts.old)
-        (facts_of facts.new) code.old.items code.new.items) }
+    ensures left { OnErr result (StopsAmong (context_of setting.now) asked insts.now
+        (emission (facts_of facts.old) code.old.items) (emission (facts_of facts.new) code.new.items)) }
 {
     let mut last = Last::NONE;
     let mut left = insts.len();

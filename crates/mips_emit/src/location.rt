@@ -1,4 +1,4 @@
-// Where pseudo-registers are, and what operands are.
+//! Where pseudo-registers are, and what operands are.
 
 ghost use Rattle.std.specs.Prelude.{◌≡◌, ℕ, ◌*◌, ◌≤◌, ◌<◌, Some, None};
 ghost use Rattle.mips_homes.specs.declared.convention.TheConstants.{FIRST_TEMPORARY, GLOBAL_POINTER};
@@ -34,7 +34,7 @@ pub enum Source {
     From(Location),
 }
 
-/// The register with this number, 1 to 31.
+/// Returns the register with this number, 1 to 31.
 pub fn register(number: u8) -> NonzeroReg
     requires nonzero { 0 < number }
     requires range { number < 32 }
@@ -46,7 +46,7 @@ pub fn register(number: u8) -> NonzeroReg
     }
 }
 
-// The register that holds a copy of a slot.
+/// Returns the register that holds a copy of a slot.
 fn copy_of(copies: &[SlotCopy], k: u32) -> Option<u8>
     ensures { result ≡ copy_of copies.now k }
 {
@@ -58,7 +58,7 @@ fn copy_of(copies: &[SlotCopy], k: u32) -> Option<u8>
     None
 }
 
-// A slot, with its copy if it has one.
+/// Returns a slot, with its copy if it has one.
 fn in_frame(copies: &[SlotCopy], k: u32) -> Location
     requires slot { 4 * k ≤ FRAME_BYTES }
     requires range { (r : ℕ) → copy_of copies.now k ≡ Some r → (FIRST_TEMPORARY ≤ r) × (r < GLOBAL_POINTER) }
@@ -71,7 +71,7 @@ fn in_frame(copies: &[SlotCopy], k: u32) -> Location
     }
 }
 
-// A home as a location.
+/// Returns a home as a location.
 fn location_of(home: Home, copies: &[SlotCopy], slots: u32) -> Location
     requires few { 4 * slots ≤ FRAME_BYTES }
     requires home { IsHome slots home }
@@ -85,7 +85,7 @@ fn location_of(home: Home, copies: &[SlotCopy], slots: u32) -> Location
     }
 }
 
-/// Where a pseudo-register is, if it has a home.
+/// Returns where a pseudo-register is, if it has a home.
 pub(crate) fn locate(frame: &Frame, x: Register) -> Option<Location>
     requires { IsReachable frame.now }
     ensures value { result ≡ locations frame.now x }
@@ -97,7 +97,7 @@ pub(crate) fn locate(frame: &Frame, x: Register) -> Option<Location>
     }
 }
 
-/// The inner temporary of a location: the first or the third scratch register, in turn.
+/// Returns the inner temporary of a location: the first or the third scratch register, in turn.
 pub(crate) fn inner_of(place: Option<Location>) -> NonzeroReg
     ensures { result ≡ inner_of place }
 {
@@ -112,7 +112,7 @@ pub(crate) fn inner_of(place: Option<Location>) -> NonzeroReg
     }
 }
 
-// A word that is known, or the register that holds it besides.
+/// Returns a word that is known, or the register that holds it besides.
 fn known_source(word: u32, place: Option<Location>) -> Source
     requires { FitsPlace place }
     ensures value { result ≡ known_source word place }
@@ -129,7 +129,7 @@ fn known_source(word: u32, place: Option<Location>) -> Source
     }
 }
 
-// What an operand is of which no word is known.
+/// Returns what an operand is of which no word is known.
 fn unknown_source(place: Option<Location>) -> Source
     requires { FitsPlace place }
     ensures value { result ≡ source None place }
@@ -146,7 +146,7 @@ fn unknown_source(place: Option<Location>) -> Source
     }
 }
 
-/// What an operand is, from the word that it is known to hold and where it is.
+/// Returns what an operand is, from the word that it is known to hold and where it is.
 pub(crate) fn source_of(known: Option<u32>, place: Option<Location>) -> Source
     requires { FitsPlace place }
     ensures value { result ≡ source known place }
@@ -159,7 +159,7 @@ pub(crate) fn source_of(known: Option<u32>, place: Option<Location>) -> Source
     }
 }
 
-/// A word as an operand.
+/// Returns a word as an operand.
 pub(crate) fn word_source(word: u32) -> Source
     ensures value { result ≡ word_source word }
     ensures fits { FitsSource result }

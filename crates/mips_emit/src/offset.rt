@@ -1,4 +1,4 @@
-// Indices that are the sum of a register and a known word.
+//! Indices that are the sum of a register and a known word.
 
 ghost use Rattle.std.specs.Prelude.{◌≡◌};
 ghost use Rattle.mips_emit.specs.Offsets.{no_offset, addend, offset_from, offset_of, sum_offset, touches, offset_without, offset_past};
@@ -16,7 +16,7 @@ pub struct Offset {
     pub word: u32,
 }
 
-// A register alone.
+/// Makes the offset of a register alone.
 fn no_offset(t: NonzeroReg) -> Offset
     ensures { result ≡ no_offset t }
 {
@@ -27,8 +27,8 @@ fn no_offset(t: NonzeroReg) -> Offset
     }
 }
 
-// The word that an operator with a known word on the right adds.
-fn addend(op: Op, word: u32) -> Option<u32>
+/// Returns the word that an operator with a known word on the right adds.
+pub(crate) fn addend(op: Op, word: u32) -> Option<u32>
     ensures { result ≡ addend op word }
 {
     match op {
@@ -38,7 +38,7 @@ fn addend(op: Op, word: u32) -> Option<u32>
     }
 }
 
-// A register that is another one and a word.
+/// Makes the offset of a register that is another one and a word.
 fn offset_from(t: NonzeroReg, r: NonzeroReg, added: Option<u32>) -> Option<Offset>
     ensures { result ≡ offset_from t r added }
 {
@@ -58,7 +58,7 @@ fn offset_from(t: NonzeroReg, r: NonzeroReg, added: Option<u32>) -> Option<Offse
     }
 }
 
-// What an operator leaves in a register.
+/// Returns what an operator leaves in a register.
 fn offset_of(t: NonzeroReg, op: Op, right: Option<u32>, x: &Source) -> Option<Offset>
     ensures { result ≡ offset_of t op right x.now }
 {
@@ -76,34 +76,34 @@ fn offset_of(t: NonzeroReg, op: Op, right: Option<u32>, x: &Source) -> Option<Of
     }
 }
 
-/// What an operator on an operand and what is known of the right one leaves in a location.
+/// Returns what an operator on an operand and what is known of the right one leaves in a location.
 pub(crate) fn sum_offset(
-    place: Option<Location>,
+    place: &Option<Location>,
     op: Op,
     right: Option<u32>,
     x: &Source,
 ) -> Option<Offset>
-    ensures { result ≡ sum_offset place op right x.now }
+    ensures { result ≡ sum_offset place.now op right x.now }
 {
     match place {
         None => None,
         // (rattle 13f: a nested pattern through another crate's type ends in "a bug in rattle": CONTRIBUTING.md)
         Some(location) => match location {
-            Location::Held(t) => offset_of(t, op, right, x),
+            Location::Held(t) => offset_of(*t, op, right, x),
             Location::InSlot(_) => None,
             Location::Copied(_, _) => None,
         },
     }
 }
 
-/// Whether an offset has to do with a register.
+/// Says whether an offset has to do with a register.
 pub(crate) fn touches(offset: &Offset, r: NonzeroReg) -> bool
     ensures { result ≡ touches offset.now r }
 {
     offset.register == r || offset.base == r
 }
 
-// What is left of it when a register is written.
+/// Returns what is left of an offset when a register is written.
 fn offset_without(r: NonzeroReg, offset: &Option<Offset>) -> Option<Offset>
     ensures { result ≡ offset_without r offset.now }
 {
@@ -113,22 +113,22 @@ fn offset_without(r: NonzeroReg, offset: &Option<Offset>) -> Option<Offset>
     }
 }
 
-/// What is left of it past a write.
-pub(crate) fn offset_past(place: Option<Location>, offset: &Option<Offset>) -> Option<Offset>
-    ensures { result ≡ offset_past place offset.now }
+/// Returns what is left of an offset past a write.
+pub(crate) fn offset_past(place: &Option<Location>, offset: &Option<Offset>) -> Option<Offset>
+    ensures { result ≡ offset_past place.now offset.now }
 {
     match place {
         None => *offset,
         // (rattle 13f: a nested pattern through another crate's type ends in "a bug in rattle": CONTRIBUTING.md)
         Some(location) => match location {
-            Location::Held(r) => offset_without(r, offset),
+            Location::Held(r) => offset_without(*r, offset),
             Location::InSlot(_) => *offset,
-            Location::Copied(r, _) => offset_without(r, offset),
+            Location::Copied(r, _) => offset_without(*r, offset),
         },
     }
 }
 
-// What is known of a register.
+/// Returns what is known of a register.
 fn offset_in(offset: &Option<Offset>, t: NonzeroReg) -> Offset
     ensures { result ≡ offset_in offset.now t }
 {
@@ -138,7 +138,7 @@ fn offset_in(offset: &Option<Offset>, t: NonzeroReg) -> Offset
     }
 }
 
-/// An index, from its register.
+/// Returns an index, from its register.
 pub(crate) fn index_with(offset: &Option<Offset>, register: Option<NonzeroReg>) -> Option<Offset>
     ensures { result ≡ index_with offset.now register }
 {

@@ -1,4 +1,4 @@
-// Operators: on two registers, and on a register and a word.
+//! Operators: on two registers, and on a register and a word.
 
 #![tactic(auto, using(crate::proofs::Prefixes::prefix_behind, crate::proofs::Prefixes::prefix_among, crate::proofs::Prefixes::emits_behind))]
 
@@ -7,10 +7,10 @@ ghost use Rattle.mips_isa.specs.declared.inst.LogicOp.TheVariants.{Xori};
 ghost use Rattle.rtl.specs.declared.operator.Op.TheVariants.{Xor};
 ghost use Rattle.mips_isa.specs.declared.inst.Plain.TheVariants.{Shift, ShiftBy, Alu, Imm, Logic, Divide};
 ghost use Rattle.mips_emit.specs.Frames.{IsReachable};
-ghost use Rattle.mips_emit.specs.Locations.{FitsSource, facts_of, known_in, locations, operand};
+ghost use Rattle.mips_emit.specs.Locations.{FitsSource, facts_of, locations};
 ghost use Rattle.mips_emit.specs.Code.{is_small, half, fetch, as_list, operation, is_power, immediate, immediate_of, is_symmetric};
 ghost use Rattle.mips_emit.specs.Code.{one_or_two, turned_immediate_of, fetch_if, selection_code};
-ghost use Rattle.mips_emit.specs.Code.{turned_less_of, code_by_word, op_code};
+ghost use Rattle.mips_emit.specs.Code.{operand_with, turned_less_of, code_by_word, op_code};
 ghost use Rattle.mips_emit.specs.Prefixes.{Emits};
 
 use crate::constant::{emit_one_or_two, half, is_small};
@@ -24,21 +24,21 @@ use rtl::{Op, Register};
 use std::alloc::AllocError;
 use words::Sign;
 
-// An instruction on two registers.
+/// Returns an instruction on two registers.
 fn alu(op: AluOp, rd: Reg, rs: Reg, rt: Reg) -> Plain
     ensures { result ≡ Alu op rd rs rt }
 {
     Plain::Alu { op, rd, rs, rt }
 }
 
-// A shift by a register.
+/// Returns a shift by a register.
 fn shift_by(op: ShiftOp, rd: Reg, rt: Reg, rs: Reg) -> Plain
     ensures { result ≡ ShiftBy op rd rt rs }
 {
     Plain::ShiftBy { op, rd, rt, rs }
 }
 
-// A shift by a known amount.
+/// Returns a shift by a known amount.
 fn shift(op: ShiftOp, rd: Reg, rt: Reg, word: u32) -> Plain
     ensures { result ≡ Shift op rd rt (word % 32) }
 {
@@ -50,7 +50,7 @@ fn shift(op: ShiftOp, rd: Reg, rt: Reg, word: u32) -> Plain
     }
 }
 
-// An instruction with a word that fits its 16 bits, signed.
+/// Returns an instruction with a word that fits its 16 bits, signed.
 fn imm(op: ImmOp, rt: Reg, rs: Reg, word: u32) -> Plain
     requires { is_small word ≡ true }
     ensures { result ≡ Imm op rt rs (half word) }
@@ -63,7 +63,7 @@ fn imm(op: ImmOp, rt: Reg, rs: Reg, word: u32) -> Plain
     }
 }
 
-// The same for a word that is small, else none.
+/// Returns the same for a word that is small, else none.
 fn if_small(op: ImmOp, rt: Reg, rs: Reg, word: u32) -> Option<Plain>
     ensures { result ≡ (if is_small word then Some (Imm op rt rs (half word)) else None) }
 {
@@ -74,7 +74,7 @@ fn if_small(op: ImmOp, rt: Reg, rs: Reg, word: u32) -> Option<Plain>
     }
 }
 
-// An instruction with a word below 2^16, else none.
+/// Returns an instruction with a word below 2^16, else none.
 fn if_half(op: LogicOp, rt: Reg, rs: Reg, word: u32) -> Option<Plain>
     ensures { result ≡ (if nat_lt word 65536 then Some (Logic op rt rs word) else None) }
 {
@@ -90,14 +90,14 @@ fn if_half(op: LogicOp, rt: Reg, rs: Reg, word: u32) -> Option<Plain>
     }
 }
 
-// A division.
+/// Returns a division.
 fn division(sign: Sign, rs: Reg, rt: Reg) -> Plain
     ensures { result ≡ Divide sign rs rt }
 {
     Plain::Divide { sign, rs, rt }
 }
 
-// The opposite of a truth value: 1 where it was 0.
+/// Returns the opposite of a truth value: 1 where it was 0.
 fn opposite_truth(rd: Reg) -> Plain
     ensures { result ≡ Logic Xori rd rd 1 }
 {
@@ -109,7 +109,7 @@ fn opposite_truth(rd: Reg) -> Plain
     }
 }
 
-// The first instruction of an operator on two registers.
+/// Returns the first instruction of an operator on two registers.
 fn first_of(op: Op, rd: Reg, rs: Reg, rt: Reg) -> Plain
     ensures { take 1 (operation op rd rs rt) ≡ result ∷ [] }
 {
@@ -136,8 +136,8 @@ fn first_of(op: Op, rd: Reg, rs: Reg, rt: Reg) -> Plain
     }
 }
 
-// The second one, where it takes two: the result of a product or division, a test that the second operand isn't less than the first, and
-// a test of equality, by the difference.
+/// Returns the second one, where it takes two: the result of a product or division, a test that the second operand isn't less than the
+/// first, and a test of equality, by the difference.
 fn second_of(op: Op, rd: Reg) -> Option<Plain>
     ensures { (a b : ℕ) → drop 1 (operation op rd a b) ≡ as_list result }
 {
@@ -157,7 +157,7 @@ fn second_of(op: Op, rd: Reg) -> Option<Plain>
     }
 }
 
-// An exclusive or with a word, which is a complement where all bits are set.
+/// Returns an exclusive or with a word, which is a complement where all bits are set.
 fn xor_with(rd: Reg, rs: Reg, word: u32) -> Option<Plain>
     ensures { result ≡ immediate Xor rd rs word }
 {
@@ -168,14 +168,14 @@ fn xor_with(rd: Reg, rs: Reg, word: u32) -> Option<Plain>
     }
 }
 
-/// Whether a word is a power of 2.
+/// Reports whether a word is a power of 2.
 pub(crate) fn is_power(word: u32) -> bool
     ensures { result ≡ is_power word }
 {
     1 << (word.trailing_zeros() % 32) == word
 }
 
-// An operator on a register and a word in one instruction, where there is one.
+/// Returns an operator on a register and a word in one instruction, if there is one.
 fn immediate(op: Op, rd: Reg, rs: Reg, word: u32) -> Option<Plain>
     ensures { result ≡ immediate op rd rs word }
 {
@@ -201,7 +201,7 @@ fn immediate(op: Op, rd: Reg, rs: Reg, word: u32) -> Option<Plain>
     }
 }
 
-// Whether an operator gives the same on turned operands.
+/// Reports whether an operator gives the same on turned operands.
 fn is_symmetric(op: Op) -> bool
     ensures { result ≡ is_symmetric op }
 {
@@ -211,7 +211,7 @@ fn is_symmetric(op: Op) -> bool
     )
 }
 
-/// An operator on a register and what is known of the other operand.
+/// Returns an operator on a register and what is known of the other operand.
 pub(crate) fn immediate_of(op: Op, rd: Reg, rs: Reg, known: Option<u32>) -> Option<Plain>
     ensures { result ≡ immediate_of op rd rs known }
 {
@@ -221,7 +221,7 @@ pub(crate) fn immediate_of(op: Op, rd: Reg, rs: Reg, known: Option<u32>) -> Opti
     }
 }
 
-// The same with the known operand on the left.
+/// Returns the same with the known operand on the left.
 fn turned_immediate_of(op: Op, rd: Reg, rt: Reg, known: Option<u32>) -> Option<Plain>
     ensures { result ≡ turned_immediate_of op rd rt known }
 {
@@ -232,7 +232,7 @@ fn turned_immediate_of(op: Op, rd: Reg, rt: Reg, known: Option<u32>) -> Option<P
     }
 }
 
-// A word on the left of a test that is then turned.
+/// Returns a word on the left of a test that is then turned.
 fn turned_less_of(op: Op, rd: Reg, rt: Reg, known: Option<u32>) -> Option<Plain>
     ensures { result ≡ turned_less_of op rd rt known }
 {
@@ -245,16 +245,15 @@ fn turned_less_of(op: Op, rd: Reg, rt: Reg, known: Option<u32>) -> Option<Plain>
 
 /// An operand with what is known of it.
 #[derive(Clone, Copy)]
-pub(crate) struct Operand {
-    pub(crate) known: Option<u32>,
-    pub(crate) source: Source,
+pub struct Operand {
+    pub known: Option<u32>,
+    pub source: Source,
 }
 
-/// A pseudo-register as an operand, with what is known of it.
+/// Returns a pseudo-register as an operand, with what is known of it.
 pub(crate) fn operand_with(facts: &Knowledge, frame: &Frame, x: Register) -> Operand
     requires { IsReachable frame.now }
-    ensures known { result.known ≡ known_in (facts_of facts.now) x }
-    ensures source { result.source ≡ operand (locations frame.now) (facts_of facts.now) x }
+    ensures value { result ≡ operand_with (locations frame.now) (facts_of facts.now) x }
     ensures fits { FitsSource result.source }
 {
     let known = known_word(facts, x);
@@ -264,7 +263,7 @@ pub(crate) fn operand_with(facts: &Knowledge, frame: &Frame, x: Register) -> Ope
     }
 }
 
-// The instructions of an operator: whether each operand is fetched, and one or two behind.
+/// Says how an operator is done: whether each operand is fetched, and the one or two instructions after that.
 #[derive(Clone, Copy)]
 struct Selection {
     fetches_left: bool,
@@ -273,7 +272,7 @@ struct Selection {
     second: Option<Plain>,
 }
 
-// Instructions for one operand, the left one or the right one, behind which a second may stand.
+/// Returns instructions for one operand, the left one or the right one, after which a second may stand.
 fn by_word(left: bool, first: Plain, second: Option<Plain>) -> Selection
     ensures { (t : ℕ) (x y : Source) → selection_code t result x y ≡ (if left then fetch t x else fetch 2 y) ++ one_or_two first second }
 {
@@ -285,11 +284,11 @@ fn by_word(left: bool, first: Plain, second: Option<Plain>) -> Selection
     }
 }
 
-// An operator by a word in its instruction if it can be: one on the right, one on the left, or one on the left of a test that is then
-// turned.
+/// Returns an operator by a word in its instruction if it can be: one on the right, one on the left, or one on the left of a test that is
+/// then turned.
 fn select(op: Op, inner: NonzeroReg, rd: Reg, x: &Operand, y: &Operand) -> Selection
     ensures { selection_code inner result x.now.source y.now.source
-        ≡ code_by_word op inner rd x.now.known y.now.known x.now.source y.now.source }
+        ≡ code_by_word op inner rd x.now y.now }
 {
     let rs = operand_register(inner, &x.source);
     let rt = operand_register(register(SCRATCH_2), &y.source);
@@ -310,7 +309,7 @@ fn select(op: Op, inner: NonzeroReg, rd: Reg, x: &Operand, y: &Operand) -> Selec
     }
 }
 
-// An operand where it is fetched.
+/// Emits an operand where it is fetched.
 fn emit_fetch_if(
     code: &mut Vec<Plain>,
     fetches: bool,
@@ -327,7 +326,7 @@ fn emit_fetch_if(
     }
 }
 
-// The instructions of an operator, behind the operands that they fetch.
+/// Emits the instructions of an operator, after the operands that they fetch.
 fn emit_selection(
     code: &mut Vec<Plain>,
     inner: NonzeroReg,
@@ -344,7 +343,7 @@ fn emit_selection(
     emit_one_or_two(code, selection.first, selection.second)
 }
 
-/// An operator into a register, the left operand by way of the inner temporary; an Err is refused memory.
+/// Emits an operator into a register, the left operand by way of the inner temporary; an Err means out of memory.
 pub(crate) fn emit_op(
     code: &mut Vec<Plain>,
     op: Op,
@@ -355,7 +354,7 @@ pub(crate) fn emit_op(
 ) -> Result<(), AllocError>
     requires left { FitsSource x.now.source }
     requires right { FitsSource y.now.source }
-    ensures { Emits result code.old.items (op_code op inner rd x.now.known y.now.known x.now.source y.now.source) code.new.items }
+    ensures { Emits result code.old.items (op_code op inner rd x.now y.now) code.new.items }
 {
     if let Some(m) = multiple_of(op, y.known) {
         return emit_multiple(code, inner, rd, m, &x.source);

@@ -1,4 +1,4 @@
-// Products by a word that is one more or one less than a power of 2: a shift, and a sum or a difference.
+//! Products by a word that is one more or one less than a power of 2: a shift, and a sum or a difference.
 
 #![tactic(auto, using(crate::proofs::Prefixes::prefix_behind, crate::proofs::Prefixes::prefix_among, crate::proofs::Prefixes::emits_behind))]
 
@@ -23,14 +23,14 @@ pub(crate) struct ShiftedSum {
     pub(crate) amount: Amount,
 }
 
-// The exponent of a power of 2.
+/// Returns the exponent of a power of 2.
 fn exponent(word: u32) -> Amount
     ensures { result ≡ exponent word % 32 }
 {
     Amount::masked((word.trailing_zeros() % 32) as u8)
 }
 
-// A product by this word, where one more or one less is a power of 2 and the word itself isn't.
+/// Returns a product by this word, where one more or one less is a power of 2 and the word itself isn't.
 fn multiple(word: u32) -> Option<ShiftedSum>
     ensures { result ≡ multiple word }
 {
@@ -53,7 +53,7 @@ fn multiple(word: u32) -> Option<ShiftedSum>
     }
 }
 
-/// How a product by what is known of one operand is made, where it takes a shift and a sum.
+/// Returns how a product by what is known of one operand is made, where it takes a shift and a sum.
 pub(crate) fn multiple_of(op: Op, known: Option<u32>) -> Option<ShiftedSum>
     ensures { result ≡ multiple_of op known }
 {
@@ -66,7 +66,7 @@ pub(crate) fn multiple_of(op: Op, known: Option<u32>) -> Option<ShiftedSum>
     }
 }
 
-/// Such a product of an operand into a register, by way of another; an Err is refused memory.
+/// Emits such a product of an operand into a register, by way of another; an Err means out of memory.
 pub(crate) fn emit_multiple(
     code: &mut Vec<Plain>,
     inner: NonzeroReg,

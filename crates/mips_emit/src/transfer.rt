@@ -1,4 +1,4 @@
-// Operands into registers, and results into locations.
+//! Operands into registers, and results into locations.
 
 #![tactic(auto, using(crate::proofs::Prefixes::prefix_behind, crate::proofs::Prefixes::prefix_among, crate::proofs::Prefixes::emits_behind))]
 
@@ -12,7 +12,7 @@ use crate::location::{Location, Source, inner_of};
 use mips_isa::{NonzeroReg, Plain, Reg};
 use std::alloc::AllocError;
 
-/// What stands before an operand is used; an Err is refused memory.
+/// Emits what stands before an operand is used; an Err means out of memory.
 pub fn emit_fetch(code: &mut Vec<Plain>, t: NonzeroReg, x: &Source) -> Result<(), AllocError>
     requires { FitsSource x.now }
     ensures { Emits result code.old.items (fetch t x.now) code.new.items }
@@ -28,7 +28,7 @@ pub fn emit_fetch(code: &mut Vec<Plain>, t: NonzeroReg, x: &Source) -> Result<()
     }
 }
 
-/// The register that shows an operand then.
+/// Returns the register that shows an operand then.
 pub fn operand_register(t: NonzeroReg, x: &Source) -> Reg
     ensures { result ≡ operand_register t x.now }
 {
@@ -43,7 +43,7 @@ pub fn operand_register(t: NonzeroReg, x: &Source) -> Reg
     }
 }
 
-/// An operand into a register of its own; an Err is refused memory.
+/// Emits an operand into a register of its own; an Err means out of memory.
 pub(crate) fn emit_bring(code: &mut Vec<Plain>, t: NonzeroReg, x: &Source) -> Result<(), AllocError>
     requires { FitsSource x.now }
     ensures { Emits result code.old.items (bring t x.now) code.new.items }
@@ -59,7 +59,7 @@ pub(crate) fn emit_bring(code: &mut Vec<Plain>, t: NonzeroReg, x: &Source) -> Re
     }
 }
 
-/// An operand into a register of its own, but where it is there already; an Err is refused memory.
+/// Emits an operand into a register of its own, but where it is there already; an Err means out of memory.
 pub(crate) fn emit_carry(code: &mut Vec<Plain>, t: NonzeroReg, x: &Source) -> Result<(), AllocError>
     requires { FitsSource x.now }
     ensures { Emits result code.old.items (carry t x.now) code.new.items }
@@ -70,7 +70,7 @@ pub(crate) fn emit_carry(code: &mut Vec<Plain>, t: NonzeroReg, x: &Source) -> Re
     emit_bring(code, t, x)
 }
 
-// Whether an operand is in a register already.
+/// Reports whether an operand is in a register already.
 fn stays(t: NonzeroReg, x: &Source) -> bool
     ensures { result ≡ stays t x.now }
 {
@@ -85,7 +85,7 @@ fn stays(t: NonzeroReg, x: &Source) -> bool
     }
 }
 
-// The register into which a result is computed.
+/// Returns the register into which a result is computed.
 pub(crate) fn into_of(place: Option<Location>) -> NonzeroReg
     ensures { result ≡ into place }
 {
@@ -100,7 +100,7 @@ pub(crate) fn into_of(place: Option<Location>) -> NonzeroReg
     }
 }
 
-// What stands behind a result.
+/// Emits what stands after a result.
 pub(crate) fn emit_finish(code: &mut Vec<Plain>, place: Option<Location>) -> Result<(), AllocError>
     requires { FitsPlace place }
     ensures { Emits result code.old.items (finish place) code.new.items }
@@ -116,7 +116,7 @@ pub(crate) fn emit_finish(code: &mut Vec<Plain>, place: Option<Location>) -> Res
     }
 }
 
-/// An operand into a location; an Err is refused memory.
+/// Emits an operand into a location; an Err means out of memory.
 pub(crate) fn emit_put(
     code: &mut Vec<Plain>,
     place: Option<Location>,
@@ -144,7 +144,7 @@ pub(crate) fn emit_put(
     }
 }
 
-/// A register into a location, but where it is that register; an Err is refused memory.
+/// Emits a register into a location, but where it is that register; an Err means out of memory.
 pub(crate) fn emit_arrive(
     code: &mut Vec<Plain>,
     place: Option<Location>,

@@ -4,7 +4,7 @@ use Rattle.std.proofs.Common.{◌&&◌, Some, refl, sym, ap, ap₂, ◌∙◌, s
 use Rattle.std.proofs.Common.{ltb-true, get_or}
 use mathlib.Core.Path.{fun_ext}
 use Rattle.std.specs.Prelude.{if◌then◌else◌, slice_get}
-use Rattle.std.proofs.lemmas.Bool.{cases_lt, ltb-false}
+use Rattle.std.proofs.lemmas.Bool.{cases_lt}
 use Rattle.std.proofs.lemmas.Option.{slice_get_within, same_Some}
 use Rattle.rtl.proofs.Names.{bound_one, bound_least}
 use Rattle.rtl.specs.Names.{bound, blocks_names, how_many, uses_of}

@@ -8,7 +8,7 @@ use Rattle.words.specs.Words.{wrap}
 use Rattle.rtl.specs.declared.block.RGlobal.{RGlobal}
 use Rattle.rtl.specs.Operators.{op_result}
 use Rattle.rtl.specs.Meaning.{code_of, kept_in, first_values}
-use Rattle.mips_homes.specs.HomedRun.{is_callee_saved, callee_saved, Activation, new_activation, Run, Running, Ended, Failed, with_value, read_home, read_homes}
+use Rattle.mips_homes.specs.HomedRun.{cells, around, rules, is_callee_saved, callee_saved, Activation, new_activation, Run, Running, Ended, Failed, with_value, read_home, read_homes}
 use Rattle.mips_homes.specs.HomedRun.{write_at, write_home, write_homes, is_in, registers_at_entry, registers_at_return, with_inst, at_code}
 use Rattle.mips_homes.specs.HomedRun.{state_at_block, with_result, state_after_return, state_after_call, state_after_exit, step_at}
 use Rattle.mips_homes.specs.HomedRun.{exit_keeping, code_keeping, step_keeping, steps_keeping, remembering_run, homed_step, homed_steps, homed_start}
@@ -81,7 +81,7 @@ return_lasts saved aside r a e = fun_ext (λ k. by k (is_in saved k))
 -- ---- writes
 
 write_keeps : (hs : List Home) (r s : Places) (x v : ℕ) (out : List ℕ) (go : Places → Places → Run) → AreCalleeSaved hs → OnlyCalleeSaved r
-    → ((r' s' : Places) → OnlyCalleeSaved r' → RunKeeps (go r' s')) → RunKeeps (write_home hs r s x v out go)
+    → ((r' s' : Places) → OnlyCalleeSaved r' → RunKeeps (go r' s')) → RunKeeps (write_home (cells hs r s) x v out go)
 write_keeps hs r s x v out go homes e f = value_keeps (slice_get hs x) out (λ h. write_at h r s v go) at
   where
     at : (h : Home) → slice_get hs x ≡ Some h → RunKeeps (write_at h r s v go)
@@ -89,13 +89,13 @@ write_keeps hs r s x v out go homes e f = value_keeps (slice_get hs x) out (λ h
     at (Slot k) there = f r (places_with s k (Some v)) e
 
 writes_keep : (hs : List Home) (r s : Places) (x : ℕ) (vs : List ℕ) (out : List ℕ) (go : Places → Places → Run) → AreCalleeSaved hs → OnlyCalleeSaved r
-    → ((r' s' : Places) → OnlyCalleeSaved r' → RunKeeps (go r' s')) → RunKeeps (write_homes hs r s x vs out go)
+    → ((r' s' : Places) → OnlyCalleeSaved r' → RunKeeps (go r' s')) → RunKeeps (write_homes (cells hs r s) x vs out go)
 writes_keep hs r s x [] out go homes e f = f r s e
 writes_keep hs r s x (v ∷ vs) out go homes e f =
-    write_keeps hs r s x v out (λ r s. write_homes hs r s (suc x) vs out go) homes e (λ r' s' e'. writes_keep hs r' s' (suc x) vs out go homes e' f)
+    write_keeps hs r s x v out (λ r s. write_homes (cells hs r s) (suc x) vs out go) homes e (λ r' s' e'. writes_keep hs r' s' (suc x) vs out go homes e' f)
 
 inst_keeps : (globals : List RGlobal) (i : RInst) (hs : List Home) (r s : Places) (g : Arrays) (out : List ℕ) (go : Places → Places → Arrays → Run)
-    → AreCalleeSaved hs → OnlyCalleeSaved r → ((r' s' : Places) (g' : Arrays) → OnlyCalleeSaved r' → RunKeeps (go r' s' g')) → RunKeeps (with_inst globals i hs r s g out go)
+    → AreCalleeSaved hs → OnlyCalleeSaved r → ((r' s' : Places) (g' : Arrays) → OnlyCalleeSaved r' → RunKeeps (go r' s' g')) → RunKeeps (with_inst globals i (cells hs r s) g out go)
 inst_keeps globals (Const d w) hs r s g out go homes e f = write_keeps hs r s d (wrap w) out (λ r s. go r s g) homes e (λ r' s' e'. f r' s' g e')
 inst_keeps globals (Move d a) hs r s g out go homes e f =
     value_keeps (read_home hs r s a) out _ (λ v _. write_keeps hs r s d v out (λ r s. go r s g) homes e (λ r' s' e'. f r' s' g e'))
@@ -115,7 +115,7 @@ inst_keeps globals (Store a i b) hs r s g out go homes e f =
 -- ---- exits
 
 goes_on : (a : Activation) (s : Places) → Keeps a → (b : ℕ) (r : Places) (ws : List Activation) (g : Arrays) (out : List ℕ)
-    → OnlyCalleeSaved r → AllKeep ws → RunKeeps (state_at_block b a r s ws g out)
+    → OnlyCalleeSaved r → AllKeep ws → RunKeeps (state_at_block b a s (around r ws g out))
 goes_on a s k b r ws g out e all = value_keeps (slice_get a.blocks b) out _ (λ block _. (e, (record { homes = k.homes; aside = k.aside }, all)))
 
 returns_keep : (o : Option ℕ) (a : Activation) (r : Places) (ws : List Activation) (g : Arrays) (out : List ℕ) → Keeps a → OnlyCalleeSaved r → AllKeep ws
@@ -127,7 +127,7 @@ returns_keep o a r (w ∷ ws) g out k e all = result a.result_to
     back = return_lasts a.frame.saved.items a.aside r k.aside e
 
     result : (d : Option ℕ) → RunKeeps
-        (with_result d o w.frame.homes.items (registers_at_return a.frame.saved.items a.aside r) w.slots out (λ r' s'.
+        (with_result d o (cells w.frame.homes.items (registers_at_return a.frame.saved.items a.aside r) w.slots) out (λ r' s'.
         Running r' (at_code w s' w.code ∷ ws) g out))
     result None = (back, (record { homes = (all.0).homes; aside = (all.0).aside }, all.1))
     result (Some d) = value_keeps o out _ (λ v _.
@@ -140,7 +140,7 @@ module _ (h : Homed) (is : AreChoices h) where
   frame_lasts i func frame got there x r at = (let range = (is.by i func frame got there).registers x r at in home_callee_saved r range.0.0 range.0.1)
 
   calls_keep : (depth f : ℕ) (vs : List ℕ) (dest : Option ℕ) (r : Places) (ws : List Activation) (g : Arrays) (out : List ℕ) → OnlyCalleeSaved r → AllKeep ws
-      → RunKeeps (state_after_call h depth f vs dest r ws g out)
+      → RunKeeps (state_after_call h depth f vs dest (around r ws g out))
   calls_keep depth f vs dest r ws g out e all =
       value_keeps (slice_get (h.rtl.now).functions f) out _ (λ func got.
       value_keeps (slice_get h.frames.items f) out _ (λ frame there. enters func frame (frame_lasts f func frame got there)
@@ -148,8 +148,8 @@ module _ (h : Homed) (is : AreChoices h) where
     where
       enters : (func : RFunc) (frame : Frame) → AreCalleeSaved frame.homes.items → (c : Bool) → RunKeeps
           (if c
-          then write_homes frame.homes.items (registers_at_entry frame.saved.items r) unset_places 0 vs out (λ r' s'.
-          state_at_block 0 (new_activation func.blocks.items frame s' r dest) r' s' ws g out)
+          then write_homes (cells frame.homes.items (registers_at_entry frame.saved.items r) unset_places) 0 vs out (λ r' s'.
+          state_at_block 0 (new_activation func.blocks.items frame s' r dest) s' (around r' ws g out))
           else Failed out)
       enters func frame homes true =
           writes_keep frame.homes.items (registers_at_entry frame.saved.items r) unset_places 0 vs out _ homes (entry_lasts frame.saved.items r e)
@@ -157,7 +157,7 @@ module _ (h : Homed) (is : AreChoices h) where
       enters func frame homes false = tt
 
   exit_keeps : (depth : ℕ) (x : RExit) (a : Activation) (r : Places) (ws : List Activation) (g : Arrays) (out : List ℕ) → Keeps a → AllKeep ws
-      → RunKeeps (state_after_exit h depth x a r ws g out)
+      → RunKeeps (state_after_exit h depth x a (around r ws g out))
   exit_keeps depth (Goto b) a r ws g out k all = goes_on a a.slots k b (callee_saved r) ws g out (callee_saved_twice r) all
   exit_keeps depth (Branch c t e) a r ws g out k all =
       value_keeps (read_home a.frame.homes.items r a.slots c) out _ (λ v _.
@@ -177,7 +177,7 @@ module _ (h : Homed) (is : AreChoices h) where
   -- ---- steps
 
   code_keeps : (depth : ℕ) (insts : List RInst) (x : RExit) (a : Activation) (r : Places) (ws : List Activation) (g : Arrays) (out : List ℕ)
-      → Keeps a → OnlyCalleeSaved r → AllKeep ws → RunKeeps (step_at h depth insts x a r ws g out)
+      → Keeps a → OnlyCalleeSaved r → AllKeep ws → RunKeeps (step_at h depth insts x a (around r ws g out))
   code_keeps depth [] x a r ws g out k e all = exit_keeps depth x a r ws g out k all
   code_keeps depth (i ∷ insts) x a r ws g out k e all =
       inst_keeps (h.rtl.now).globals i a.frame.homes.items r a.slots g out _ k.homes e (λ r' s' g' e'.
@@ -220,28 +220,28 @@ never_forgets h is depth n = forgets_nothing (homed_steps h depth n (homed_start
 
 -- of what an exit keeps only the registers count that it leaves here
 same_exit : (keep keep' : Places → Places) (h : Homed) (depth : ℕ) (x : RExit) (a : Activation) (r : Places) (ws : List Activation) (g : Arrays)
-    (out : List ℕ) → keep r ≡ keep' r → exit_keeping keep h depth x a r ws g out ≡ exit_keeping keep' h depth x a r ws g out
-same_exit keep keep' h depth (Goto b) a r ws g out e = ap (λ (p : Places). state_at_block b a p a.slots ws g out) e
+    (out : List ℕ) → keep r ≡ keep' r → exit_keeping (rules keep h depth) x a (around r ws g out) ≡ exit_keeping (rules keep' h depth) x a (around r ws g out)
+same_exit keep keep' h depth (Goto b) a r ws g out e = ap (λ (p : Places). state_at_block b a a.slots (around p ws g out)) e
 same_exit keep keep' h depth (Branch c t f) a r ws g out e = ap
     (λ (p : Places).
-    with_value (read_home a.frame.homes.items r a.slots c) out (λ v. state_at_block (if v == 0 then f else t) a p a.slots ws g out)) e
+    with_value (read_home a.frame.homes.items r a.slots c) out (λ v. state_at_block (if v == 0 then f else t) a a.slots (around p ws g out))) e
 same_exit keep keep' h depth (Call f xs dest next) a r ws g out e = ap
     (λ (p : Places).
     with_value (read_homes a.frame.homes.items r a.slots xs.items) out (λ vs. with_value (slice_get a.blocks next) out (λ block.
-    state_after_call h depth f vs dest p (at_code a a.slots (code_of block) ∷ ws) g out))) e
+    state_after_call h depth f vs dest (around p (at_code a a.slots (code_of block) ∷ ws) g out)))) e
 same_exit keep keep' h depth (Return None) a r ws g out e = ap (λ (p : Places). state_after_return None a p ws g out) e
 same_exit keep keep' h depth (Return (Some x)) a r ws g out e =
     ap (λ (p : Places). with_value (read_home a.frame.homes.items r a.slots x) out (λ v. state_after_return (Some v) a p ws g out)) e
 same_exit keep keep' h depth (Out x next) a r ws g out e = ap
     (λ (p : Places).
-    with_value (read_home a.frame.homes.items r a.slots x) out (λ v. state_at_block next a p a.slots ws g (out ++ v ∷ []))) e
+    with_value (read_home a.frame.homes.items r a.slots x) out (λ v. state_at_block next a a.slots (around p ws g (out ++ v ∷ [])))) e
 
 same_step : (h : Homed) (depth : ℕ) (run : Run) → RunKeeps run → step_keeping (λ r. r) h depth run ≡ homed_step h depth run
 same_step h depth (Running r [] g out) k = refl
 same_step h depth (Running r (a ∷ ws) g out) k = code a.code.insts
   where
     code : (insts : List RInst)
-        → code_keeping (λ r. r) h depth insts a.code.exit a r ws g out ≡ code_keeping callee_saved h depth insts a.code.exit a r ws g out
+        → code_keeping (rules (λ r. r) h depth) insts a.code.exit a (around r ws g out) ≡ code_keeping (rules callee_saved h depth) insts a.code.exit a (around r ws g out)
     code [] = same_exit (λ r. r) callee_saved h depth a.code.exit a r ws g out (sym k.0)
     code (i ∷ insts) = refl
 same_step h depth (Ended v out) k = refl

@@ -2,7 +2,6 @@
 use Rattle.std.proofs.Common.{◌≡◌, ◌≢◌, ℕ, zero, suc, ◌+◌, ◌<◌, Bool, true, false, ◌&&◌, List, [], ◌∷◌, ◌++◌, Option, Some, None, refl, sym}
 use Rattle.std.proofs.Common.{◌∙◌, ap, ap₂, subst, arith, length, nat_eq, nat_lt, eqb-true, eq-eqb, ne_eqb, true≢false}
 use mathlib.Core.Path.{fun_ext}
-use Rattle.std.proofs.lemmas.Option.{same_Some}
 use Rattle.std.specs.Prelude.{◌||◌, slice_get, if◌then◌else◌, ◌==◌, map}
 use Rattle.words.specs.Words.{wrap}
 use Rattle.runs.specs.Stores.{Places, unset_places, places_with, Arrays, chain, element_at, arrays_with}
@@ -14,7 +13,7 @@ use Rattle.rtl.specs.Meaning as Meaning
 use Rattle.rtl.specs.Meaning.{Code, code_of, words_in, argument_registers, kept_in, first_values, rtl_step, rtl_steps, rtl_start}
 use Rattle.rtl.proofs.Copies.{goes_block}
 use Rattle.mips_homes.specs.Locals.{inst_reads, inst_writes, exit_reads, reads_first, block_reads_first, goes_to, some_go_to}
-use Rattle.mips_homes.specs.HomedRun.{is_callee_saved, callee_saved, Activation, Run, Running, Ended, Failed, with_value, in_home, read_home, read_homes, write_at}
+use Rattle.mips_homes.specs.HomedRun.{cells, around, is_callee_saved, callee_saved, Activation, Run, Running, Ended, Failed, with_value, in_home, read_home, read_homes, write_at}
 use Rattle.mips_homes.specs.HomedRun.{write_home, write_homes, is_in, registers_at_entry, registers_at_return, with_inst, at_code}
 use Rattle.mips_homes.specs.HomedRun.{state_at_block, with_result, state_after_return, state_after_call, state_after_exit, step_at}
 use Rattle.mips_homes.specs.HomedRun.{homed_step, homed_steps, homed_start, homed_run, outcome}
@@ -190,7 +189,7 @@ writes : (hs : List Home) (saved : List ℕ) (blocks : List RBlock) (aside regis
     → ((y : ℕ) → nat_eq y d ≡ false → wanted' y ≡ true → wanted y ≡ true)
     → ((registers' slots' : Places) → Agrees hs registers' slots' (places_with regs d (Some v)) wanted'
     → below saved aside registers' ≡ below saved aside registers → Alike (go registers' slots') t)
-    → Alike (write_home hs registers slots d v out go) t
+    → Alike (write_home (cells hs registers slots) d v out go) t
 writes hs saved blocks aside registers slots regs d v out go t wanted wanted' ok ag has lift f =
     subst (λ o. Alike (with_value o out (λ h. write_at h registers slots v go)) t) (sym has.is) (at has.home has.is)
   where
@@ -263,7 +262,7 @@ writes_all : (hs : List Home) (saved : List ℕ) (blocks : List RBlock) (aside r
     → AreHomes hs saved blocks → Agrees hs registers slots regs wanted → ((y : ℕ) → y < x + length vs → HasHome hs y)
     → ((registers' slots' : Places) → Agrees hs registers' slots' (written_all regs x vs) wanted
     → below saved aside registers' ≡ below saved aside registers → Alike (go registers' slots') t)
-    → Alike (write_homes hs registers slots x vs out go) t
+    → Alike (write_homes (cells hs registers slots) x vs out go) t
 writes_all hs saved blocks aside registers slots regs x [] out go t wanted ok ag has f = f registers slots ag refl
 writes_all hs saved blocks aside registers slots regs x (v ∷ vs) out go t wanted ok ag has f =
     writes hs saved blocks aside registers slots regs x v out _ t wanted wanted ok ag (has x (omega arith)) (λ y _ m. m) (λ r1 s1 ag1 e1.
@@ -308,7 +307,7 @@ performs : (globals : List RGlobal) (i : RInst) (is : List RInst) (e : RExit) (h
     → AreHomes hs saved blocks → Agrees hs registers slots regs (reads_first (i ∷ is) e) → HaveHomes hs (inst_names i)
     → ((registers' slots' regs' : Places) (g' : Arrays) → Agrees hs registers' slots' regs' (reads_first is e)
     → below saved aside registers' ≡ below saved aside registers → Alike (go registers' slots' g') (go' regs' g'))
-    → Alike (with_inst globals i hs registers slots g out go) (Meaning.with_inst globals i regs g out go')
+    → Alike (with_inst globals i (cells hs registers slots) g out go) (Meaning.with_inst globals i regs g out go')
 performs globals i is e hs saved blocks aside r s regs g out go go' ok ag n f = at i ag n
   where
     After : RInst → Type 0
@@ -318,12 +317,12 @@ performs globals i is e hs saved blocks aside r s regs g out go go' ok ag n f = 
     reads i x ag t = ag.by x (matters_if hs (reads_first (i ∷ is) e) x (read_by i is e x t))
 
     puts : (i : RInst) (d v : ℕ) → Agrees hs r s regs (reads_first (i ∷ is) e) → HasHome hs d → ((y : ℕ) → is_in (inst_writes i) y ≡ is_in (d ∷ []) y)
-        → Alike (write_home hs r s d v out (λ r' s'. go r' s' g)) (go' (places_with regs d (Some v)) g)
+        → Alike (write_home (cells hs r s) d v out (λ r' s'. go r' s' g)) (go' (places_with regs d (Some v)) g)
     puts i d v ag has same = writes hs saved blocks aside r s regs d v out _ _ (reads_first (i ∷ is) e) (reads_first is e) ok ag has
         (λ y ne t. kept_by i is e y (same y ∙ written_alone d y ne) t) (λ r' s' ag' e'. f r' s' _ g ag' e')
 
     at : (i : RInst) → Agrees hs r s regs (reads_first (i ∷ is) e) → HaveHomes hs (inst_names i)
-        → Alike (with_inst globals i hs r s g out go) (Meaning.with_inst globals i regs g out go')
+        → Alike (with_inst globals i (cells hs r s) g out go) (Meaning.with_inst globals i regs g out go')
     at (Const d w) ag n = puts (Const d w) d (wrap w) ag n.0 (λ y. refl)
     at (Move d a) ag n = both_value _ _ out _ _ (reads (Move d a) a ag (is_in_first a [])) (λ v. puts (Move d a) d v ag n.0 (λ y. refl))
     at (Bin op d a b) ag n =
@@ -382,7 +381,7 @@ jumps : (b : ℕ) (a : Activation) (registers slots regs : Places) (ws : List Ac
     → AreHomes a.frame.homes.items a.frame.saved.items a.blocks
     → ((block : RBlock) → slice_get a.blocks b ≡ Some block → Agrees a.frame.homes.items registers slots regs (block_reads_first block))
     → ResultHasHome a.result_to ws → Stack (below a.frame.saved.items a.aside registers) ws rs
-    → Alike (state_at_block b a registers slots ws g out) (Meaning.state_at_block a.blocks b regs a.result_to (plain ws rs) g out)
+    → Alike (state_at_block b a slots (around registers ws g out)) (Meaning.state_at_block a.blocks b regs a.result_to (plain ws rs) g out)
 jumps b a registers slots regs ws rs g out ok ag dest st =
     both_value_is (slice_get a.blocks b) out _ _ (λ block e.
     alike_top (at_code a slots (code_of block)) registers regs ws rs g out ok (ag block e) (named_block a.frame.homes.items a.blocks b block ok.named e) dest st)
@@ -404,7 +403,7 @@ returns o a registers (w ∷ ws) (r ∷ rs) g out dest st = to a.result_to dest
     under = below a.frame.saved.items a.aside registers
 
     to : (d : Option ℕ) → HaveHomes w.frame.homes.items (optional d)
-        → Alike (with_result d o w.frame.homes.items under w.slots out (λ r' s'. Running r' (at_code w s' w.code ∷ ws) g out))
+        → Alike (with_result d o (cells w.frame.homes.items under w.slots) out (λ r' s'. Running r' (at_code w s' w.code ∷ ws) g out))
         (Meaning.with_result d o r out
         (λ r'. Runs.Running (record { blocks = w.blocks; registers = r'; code = w.code; result_to = w.result_to } ∷ plain ws rs) g out))
     to None n = alike_top (at_code w w.slots w.code) under r ws rs g out (st.0).homes (st.0).agrees (st.0).code st.1 st.2
@@ -451,7 +450,7 @@ enough hs registers slots regs wanted ag = record { by = λ x m. ag.by x (matter
 calls : (h : Homed) → AreAllHomes h
     → (depth f : ℕ) (vs : List ℕ) (dest : Option ℕ) (registers : Places) (ws : List Activation) (rs : List Places) (g : Arrays)
     (out : List ℕ) → ResultHasHome dest ws → Stack (callee_saved registers) ws rs
-    → Alike (state_after_call h depth f vs dest (callee_saved registers) ws g out) (Meaning.state_after_call (h.rtl.now) depth f vs dest (plain ws rs) g out)
+    → Alike (state_after_call h depth f vs dest (around (callee_saved registers) ws g out)) (Meaning.state_after_call (h.rtl.now) depth f vs dest (plain ws rs) g out)
 calls h all depth f vs dest registers ws rs g out dn st =
     both_value_is (slice_get (h.rtl.now).functions f) out _ _ (λ func is.
     let has = all.by f func is in
@@ -467,8 +466,8 @@ calls h all depth f vs dest registers ws rs g out dn st =
         record { blocks = func.blocks.items; frame = frame; slots = s; aside = callee_saved registers; code = record { insts = []; exit = Goto 0 }; result_to = dest }
 
     enter : RFunc → Bool → Frame → Run
-    enter func b frame = if b then write_homes frame.homes.items (registers_at_entry frame.saved.items (callee_saved registers)) unset_places 0 vs out
-        (λ r' s'. state_at_block 0 (start func frame s') r' s' ws g out) else Failed out
+    enter func b frame = if b then write_homes (cells frame.homes.items (registers_at_entry frame.saved.items (callee_saved registers)) unset_places) 0 vs out
+        (λ r' s'. state_at_block 0 (start func frame s') s' (around r' ws g out)) else Failed out
 
     enters : RFunc → Bool → Meaning.Run
     enters func b = if b then Meaning.state_at_block func.blocks.items 0 (argument_registers vs) dest (plain ws rs) g out else Runs.Failed out
@@ -492,7 +491,7 @@ exits : (h : Homed) → AreAllHomes h
     → AreHomes a.frame.homes.items a.frame.saved.items a.blocks → Agrees a.frame.homes.items registers a.slots regs (reads_first [] exit)
     → HaveHomes a.frame.homes.items (exit_names exit) → ((t : ℕ) → is_in (goes_to exit) t ≡ true → some_go_to a.blocks t ≡ true)
     → ResultHasHome a.result_to ws → Stack (below a.frame.saved.items a.aside registers) ws rs
-    → Alike (state_after_exit h depth exit a registers ws g out) (Meaning.state_after_exit (h.rtl.now) depth exit a.blocks regs a.result_to (plain ws rs) g out)
+    → Alike (state_after_exit h depth exit a (around registers ws g out)) (Meaning.state_after_exit (h.rtl.now) depth exit a.blocks regs a.result_to (plain ws rs) g out)
 exits h all depth exit a registers regs ws rs g out ok ag n goes dest st = at exit ag n goes
   where
     hs : List Home
@@ -503,7 +502,7 @@ exits h all depth exit a registers regs ws rs g out ok ag n goes dest st = at ex
 
     goes_on : (exit : RExit) → Agrees hs registers a.slots regs (reads_first [] exit)
         → (b : ℕ) → some_go_to a.blocks b ≡ true → (out : List ℕ)
-        → Alike (state_at_block b a (callee_saved registers) a.slots ws g out) (Meaning.state_at_block a.blocks b regs a.result_to (plain ws rs) g out)
+        → Alike (state_at_block b a a.slots (around (callee_saved registers) ws g out)) (Meaning.state_at_block a.blocks b regs a.result_to (plain ws rs) g out)
     goes_on exit ag b there out = jumps b a (callee_saved registers) a.slots regs ws rs g out ok
         (settles hs a.frame.saved.items a.blocks registers a.slots regs (reads_first [] exit) ok ag b there) dest under
 
@@ -517,7 +516,7 @@ exits h all depth exit a registers regs ws rs g out ok ag n goes dest st = at ex
 
     at : (exit : RExit) → Agrees hs registers a.slots regs (reads_first [] exit) → HaveHomes hs (exit_names exit)
         → ((t : ℕ) → is_in (goes_to exit) t ≡ true → some_go_to a.blocks t ≡ true)
-        → Alike (state_after_exit h depth exit a registers ws g out)
+        → Alike (state_after_exit h depth exit a (around registers ws g out))
         (Meaning.state_after_exit (h.rtl.now) depth exit a.blocks regs a.result_to (plain ws rs) g out)
     at (Goto b) ag n goes = goes_on (Goto b) ag b (goes b (is_in_first b [])) out
     at (Branch c x y) ag n goes =
@@ -549,7 +548,7 @@ code_alike : (h : Homed) → AreAllHomes h
     → AreHomes a.frame.homes.items a.frame.saved.items a.blocks → Agrees a.frame.homes.items registers a.slots regs (reads_first is exit)
     → CodeHasHomes a.frame.homes.items a.blocks (record { insts = is; exit = exit }) → ResultHasHome a.result_to ws
     → Stack (below a.frame.saved.items a.aside registers) ws rs
-    → Alike (step_at h depth is exit a registers ws g out) (Meaning.step_at (h.rtl.now) depth is exit a.blocks regs a.result_to (plain ws rs) g out)
+    → Alike (step_at h depth is exit a (around registers ws g out)) (Meaning.step_at (h.rtl.now) depth is exit a.blocks regs a.result_to (plain ws rs) g out)
 code_alike h all depth [] exit a registers regs ws rs g out ok ag code dest st =
     exits h all depth exit a registers regs ws rs g out ok ag code.exit code.goes dest st
 code_alike h all depth (i ∷ is) exit a registers regs ws rs g out ok ag code dest st =
@@ -592,7 +591,7 @@ starts_alike h all =
     let has = all.by (h.rtl.now).main func is in
     subst (λ o. Alike
     (with_value o []
-    (λ frame. state_at_block 0 (start func frame) unset_places unset_places [] (map first_values (h.rtl.now).globals) []))
+    (λ frame. state_at_block 0 (start func frame) unset_places (around unset_places [] (map first_values (h.rtl.now).globals) [])))
     (Meaning.state_at_block func.blocks.items 0 unset_places None [] (map first_values (h.rtl.now).globals) [])) (sym has.1)
     (jumps 0 (start func has.0) unset_places unset_places unset_places [] [] (map first_values (h.rtl.now).globals) [] has.2.homes
     (λ block there. record { by = λ x m. unset has.0.homes.items x }) tt tt))

@@ -1,5 +1,5 @@
 -- What a program does where its pseudo-registers live in homes.
-use Rattle.std.specs.Prelude.{ℕ, suc, Bool, false, ◌&&◌, ◌||◌, ◌==◌, List, [], ◌∷◌, ◌++◌, Option, Some, None, length, nat_eq, nat_lt}
+use Rattle.std.specs.Prelude.{ℕ, suc, ◌&&◌, ◌==◌, List, [], ◌∷◌, ◌++◌, Option, Some, None, length, nat_lt}
 use Rattle.std.specs.Prelude.{if◌then◌else◌, slice_get, map}
 use Rattle.words.specs.Words.{wrap}
 use Rattle.runs.specs.declared.ran.End.TheVariants.{Done, Wrong, More}
@@ -34,6 +34,34 @@ abbrev pub new_activation : List RBlock → Frame → (slots aside : Places) →
 new_activation blocks frame slots aside to =
     record { blocks = blocks; frame = frame; slots = slots; aside = aside; code = record { insts = []; exit = Goto 0 }; result_to = to }
 
+-- what an activation's homes are in: the registers, which all activations share, and its slots
+pub record Cells : Type 0 where
+  pub homes : List Home
+  pub registers : Places
+  pub slots : Places
+
+abbrev pub cells : List Home → (registers slots : Places) → Cells
+cells homes registers slots = record { homes = homes; registers = registers; slots = slots }
+
+-- what is around an activation: the registers, the activations that wait below it, the globals and the output
+pub record Surroundings : Type 0 where
+  pub registers : Places
+  pub below : List Activation
+  pub arrays : Arrays
+  pub output : List ℕ
+
+abbrev pub around : Places → List Activation → Arrays → List ℕ → Surroundings
+around registers below arrays output = record { registers = registers; below = below; arrays = arrays; output = output }
+
+-- what a run goes by: what an exit keeps of the registers, the program over its homes, and at most how many activations wait
+pub record Rules : Type 0 where
+  pub keep : Places → Places
+  pub homed : Homed
+  pub depth : ℕ
+
+abbrev pub rules : (keep : Places → Places) → Homed → (depth : ℕ) → Rules
+rules keep h depth = record { keep = keep; homed = h; depth = depth }
+
 -- how far a run has come: the registers, which all activations share, the activations, the globals and the output
 pub data Run : Type 0 where
   Running : (registers : Places) → List Activation → Arrays → List ℕ → Run
@@ -65,14 +93,13 @@ write_at (Reg r) registers slots v go = go (places_with registers r (Some v)) sl
 write_at (Slot k) registers slots v go = go registers (places_with slots k (Some v))
 
 -- a word into the home of a pseudo-register
-abbrev pub write_home : List Home → Places → Places → ℕ → ℕ → List ℕ → (Places → Places → Run) → Run
-write_home homes registers slots x v out go = with_value (slice_get homes x) out (λ h. write_at h registers slots v go)
+abbrev pub write_home : Cells → (x v : ℕ) → List ℕ → (Places → Places → Run) → Run
+write_home c x v out go = with_value (slice_get c.homes x) out (λ h. write_at h c.registers c.slots v go)
 
 -- words into the homes of the pseudo-registers from x on
-abbrev pub write_homes : List Home → Places → Places → ℕ → List ℕ → List ℕ → (Places → Places → Run) → Run
-write_homes homes registers slots x [] out go = go registers slots
-write_homes homes registers slots x (v ∷ vs) out go =
-    write_home homes registers slots x v out (λ r s. write_homes homes r s (suc x) vs out go)
+abbrev pub write_homes : Cells → (x : ℕ) → List ℕ → List ℕ → (Places → Places → Run) → Run
+write_homes c x [] out go = go c.registers c.slots
+write_homes c x (v ∷ vs) out go = write_home c x v out (λ r s. write_homes (cells c.homes r s) (suc x) vs out go)
 
 -- the registers that a function saves are unset at its entry, and come back at its return
 abbrev pub registers_at_entry : List ℕ → Places → Places
@@ -86,74 +113,82 @@ abbrev pub callee_saved : Places → Places
 callee_saved registers = λ r. if is_callee_saved r then registers r else None
 
 -- an instruction, with what it leaves in the registers, slots and globals
-abbrev pub with_inst : List RGlobal → RInst → List Home → Places → Places → Arrays → List ℕ → (Places → Places → Arrays → Run) → Run
-with_inst globals (Const d w) hs r s g out go = write_home hs r s d (wrap w) out (λ r s. go r s g)
-with_inst globals (Move d a) hs r s g out go = with_value (read_home hs r s a) out (λ v. write_home hs r s d v out (λ r s. go r s g))
-with_inst globals (Bin op d a b) hs r s g out go =
-    with_value (read_home hs r s a) out
-    (λ x. with_value (read_home hs r s b) out (λ y. with_value (op_result op x y) out (λ v. write_home hs r s d v out (λ r s. go r s g))))
-with_inst globals (Load d a i) hs r s g out go =
-    with_value (read_home hs r s i) out (λ x. with_value (element_at g a x) out (λ v. write_home hs r s d v out (λ r s. go r s g)))
-with_inst globals (Store a i b) hs r s g out go =
-    with_value (read_home hs r s i) out
-    (λ x. with_value (read_home hs r s b) out (λ v. with_value (kept_in globals a v) out
-    (λ w. with_value (arrays_with g a x w) out (λ g'. go r s g'))))
+abbrev pub with_inst : List RGlobal → RInst → Cells → Arrays → List ℕ → (Places → Places → Arrays → Run) → Run
+with_inst globals (Const d w) c g out go = write_home c d (wrap w) out (λ r s. go r s g)
+with_inst globals (Move d a) c g out go =
+    with_value (read_home c.homes c.registers c.slots a) out (λ v. write_home c d v out (λ r s. go r s g))
+with_inst globals (Bin op d a b) c g out go =
+    with_value (read_home c.homes c.registers c.slots a) out
+    (λ x. with_value (read_home c.homes c.registers c.slots b) out
+    (λ y. with_value (op_result op x y) out (λ v. write_home c d v out (λ r s. go r s g))))
+with_inst globals (Load d a i) c g out go =
+    with_value (read_home c.homes c.registers c.slots i) out
+    (λ x. with_value (element_at g a x) out (λ v. write_home c d v out (λ r s. go r s g)))
+with_inst globals (Store a i b) c g out go =
+    with_value (read_home c.homes c.registers c.slots i) out
+    (λ x. with_value (read_home c.homes c.registers c.slots b) out
+    (λ v. with_value (kept_in globals a v) out
+    (λ w. with_value (arrays_with g a x w) out (λ g'. go c.registers c.slots g'))))
 
 -- an activation with other slots, at other code
 abbrev pub at_code : Activation → Places → Code → Activation
 at_code a s code = record { blocks = a.blocks; frame = a.frame; slots = s; aside = a.aside; code = code; result_to = a.result_to }
 
 -- at the start of a block of the same function
-abbrev pub state_at_block : ℕ → Activation → Places → Places → List Activation → Arrays → List ℕ → Run
-state_at_block b a r s ws g out =
-    with_value (slice_get a.blocks b) out (λ block. Running r (at_code a s (code_of block) ∷ ws) g out)
+abbrev pub state_at_block : ℕ → Activation → (slots : Places) → Surroundings → Run
+state_at_block b a s u =
+    with_value (slice_get a.blocks b) u.output (λ block. Running u.registers (at_code a s (code_of block) ∷ u.below) u.arrays u.output)
 
 -- a result where one is wanted
-abbrev pub with_result : Option ℕ → Option ℕ → List Home → Places → Places → List ℕ → (Places → Places → Run) → Run
-with_result None o homes r s out go = go r s
-with_result (Some d) o homes r s out go = with_value o out (λ v. write_home homes r s d v out go)
+abbrev pub with_result : Option ℕ → Option ℕ → Cells → List ℕ → (Places → Places → Run) → Run
+with_result None o c out go = go c.registers c.slots
+with_result (Some d) o c out go = with_value o out (λ v. write_home c d v out go)
 
 -- a return: what was put aside comes back first, then the result is arrays_with in its home below
 abbrev pub state_after_return : Option ℕ → Activation → Places → List Activation → Arrays → List ℕ → Run
 state_after_return o a r [] g out = with_value o out (λ v. Ended v out)
 state_after_return o a r (w ∷ ws) g out =
-    with_result a.result_to o w.frame.homes.items (registers_at_return a.frame.saved.items a.aside r) w.slots out (λ r' s'.
+    with_result a.result_to o (cells w.frame.homes.items (registers_at_return a.frame.saved.items a.aside r) w.slots) out (λ r' s'.
     Running r' (at_code w s' w.code ∷ ws) g out)
 
 -- a call: the arguments were read; the registers that the function saves are put aside and unset, and the parameters are set
-abbrev pub state_after_call : Homed → (depth f : ℕ) → List ℕ → Option ℕ → Places → List Activation → Arrays → List ℕ → Run
-state_after_call h depth f vs dest r ws g out =
-    with_value (slice_get (h.rtl.now).functions f) out (λ func. with_value (slice_get h.frames.items f) out (λ frame.
-    if nat_lt (length ws) depth && (length vs == func.parameters)
-    then write_homes frame.homes.items (registers_at_entry frame.saved.items r) unset_places 0 vs out (λ r' s'.
-    state_at_block 0 (new_activation func.blocks.items frame s' r dest) r' s' ws g out)
-    else Failed out))
+abbrev pub state_after_call : Homed → (depth f : ℕ) → List ℕ → Option ℕ → Surroundings → Run
+state_after_call h depth f vs dest u =
+    with_value (slice_get (h.rtl.now).functions f) u.output (λ func. with_value (slice_get h.frames.items f) u.output (λ frame.
+    if nat_lt (length u.below) depth && (length vs == func.parameters)
+    then write_homes (cells frame.homes.items (registers_at_entry frame.saved.items u.registers) unset_places) 0 vs u.output (λ r s.
+    state_at_block 0 (new_activation func.blocks.items frame s u.registers dest) s (around r u.below u.arrays u.output))
+    else Failed u.output))
 
 -- how a block is left: what it reads it reads first, and then the registers hold what an exit keeps of them
-abbrev pub exit_keeping : (keep : Places → Places) → Homed → (depth : ℕ) → RExit → Activation → Places → List Activation → Arrays → List ℕ → Run
-exit_keeping keep h depth (Goto b) a r ws g out = state_at_block b a (keep r) a.slots ws g out
-exit_keeping keep h depth (Branch c t e) a r ws g out =
-    with_value (read_home a.frame.homes.items r a.slots c) out
-    (λ v. state_at_block (if v == 0 then e else t) a (keep r) a.slots ws g out)
-exit_keeping keep h depth (Call f xs dest next) a r ws g out =
-    with_value (read_homes a.frame.homes.items r a.slots xs.items) out (λ vs. with_value (slice_get a.blocks next) out (λ block.
-    state_after_call h depth f vs dest (keep r) (at_code a a.slots (code_of block) ∷ ws) g out))
-exit_keeping keep h depth (Return None) a r ws g out = state_after_return None a (keep r) ws g out
-exit_keeping keep h depth (Return (Some x)) a r ws g out =
-    with_value (read_home a.frame.homes.items r a.slots x) out (λ v. state_after_return (Some v) a (keep r) ws g out)
-exit_keeping keep h depth (Out x next) a r ws g out =
-    with_value (read_home a.frame.homes.items r a.slots x) out (λ v. state_at_block next a (keep r) a.slots ws g (out ++ v ∷ []))
+abbrev pub exit_keeping : Rules → RExit → Activation → Surroundings → Run
+exit_keeping by (Goto b) a u = state_at_block b a a.slots (around (by.keep u.registers) u.below u.arrays u.output)
+exit_keeping by (Branch c t e) a u =
+    with_value (read_home a.frame.homes.items u.registers a.slots c) u.output
+    (λ v. state_at_block (if v == 0 then e else t) a a.slots (around (by.keep u.registers) u.below u.arrays u.output))
+exit_keeping by (Call f xs dest next) a u =
+    with_value (read_homes a.frame.homes.items u.registers a.slots xs.items) u.output
+    (λ vs. with_value (slice_get a.blocks next) u.output (λ block.
+    state_after_call by.homed by.depth f vs dest
+    (around (by.keep u.registers) (at_code a a.slots (code_of block) ∷ u.below) u.arrays u.output)))
+exit_keeping by (Return None) a u = state_after_return None a (by.keep u.registers) u.below u.arrays u.output
+exit_keeping by (Return (Some x)) a u =
+    with_value (read_home a.frame.homes.items u.registers a.slots x) u.output
+    (λ v. state_after_return (Some v) a (by.keep u.registers) u.below u.arrays u.output)
+exit_keeping by (Out x next) a u =
+    with_value (read_home a.frame.homes.items u.registers a.slots x) u.output
+    (λ v. state_at_block next a a.slots (around (by.keep u.registers) u.below u.arrays (u.output ++ v ∷ [])))
 
 -- one instruction, or the exit where none is left
-abbrev pub code_keeping : (keep : Places → Places) → Homed → (depth : ℕ) → List RInst → RExit → Activation → Places → List Activation → Arrays → List ℕ → Run
-code_keeping keep h depth [] exit a r ws g out = exit_keeping keep h depth exit a r ws g out
-code_keeping keep h depth (i ∷ is) exit a r ws g out =
-    with_inst (h.rtl.now).globals i a.frame.homes.items r a.slots g out (λ r' s' g'.
-    Running r' (at_code a s' (record { insts = is; exit = exit }) ∷ ws) g' out)
+abbrev pub code_keeping : Rules → List RInst → RExit → Activation → Surroundings → Run
+code_keeping by [] exit a u = exit_keeping by exit a u
+code_keeping by (i ∷ is) exit a u =
+    with_inst (by.homed.rtl.now).globals i (cells a.frame.homes.items u.registers a.slots) u.arrays u.output (λ r s g.
+    Running r (at_code a s (record { insts = is; exit = exit }) ∷ u.below) g u.output)
 
 abbrev pub step_keeping : (keep : Places → Places) → Homed → ℕ → Run → Run
 step_keeping keep h depth (Running r [] g out) = Failed out
-step_keeping keep h depth (Running r (a ∷ ws) g out) = code_keeping keep h depth a.code.insts a.code.exit a r ws g out
+step_keeping keep h depth (Running r (a ∷ ws) g out) = code_keeping (rules keep h depth) a.code.insts a.code.exit a (around r ws g out)
 step_keeping keep h depth (Ended v out) = Ended v out
 step_keeping keep h depth (Failed out) = Failed out
 
@@ -171,8 +206,8 @@ abbrev pub homed_start : Homed → Run
 homed_start h =
     with_value (slice_get (h.rtl.now).functions (h.rtl.now).main) []
     (λ func. with_value (slice_get h.frames.items (h.rtl.now).main) [] (λ frame.
-    state_at_block 0 (new_activation func.blocks.items frame unset_places unset_places None) unset_places unset_places []
-    (map first_values (h.rtl.now).globals) []))
+    state_at_block 0 (new_activation func.blocks.items frame unset_places unset_places None) unset_places
+    (around unset_places [] (map first_values (h.rtl.now).globals) [])))
 
 -- n steps of a program over its homes, with at most so many activations
 abbrev pub run_keeping : (keep : Places → Places) → Homed → (depth n : ℕ) → Outcome
@@ -183,11 +218,11 @@ abbrev pub remembering_run : Homed → (depth n : ℕ) → Outcome
 remembering_run h depth n = run_keeping (λ r. r) h depth n
 
 -- the run that forgets at each exit what isn't in a callee-saved register or in a slot, and its parts
-abbrev pub state_after_exit : Homed → (depth : ℕ) → RExit → Activation → Places → List Activation → Arrays → List ℕ → Run
-state_after_exit h depth exit a r ws g out = exit_keeping callee_saved h depth exit a r ws g out
+abbrev pub state_after_exit : Homed → (depth : ℕ) → RExit → Activation → Surroundings → Run
+state_after_exit h depth exit a u = exit_keeping (rules callee_saved h depth) exit a u
 
-abbrev pub step_at : Homed → (depth : ℕ) → List RInst → RExit → Activation → Places → List Activation → Arrays → List ℕ → Run
-step_at h depth is exit a r ws g out = code_keeping callee_saved h depth is exit a r ws g out
+abbrev pub step_at : Homed → (depth : ℕ) → List RInst → RExit → Activation → Surroundings → Run
+step_at h depth is exit a u = code_keeping (rules callee_saved h depth) is exit a u
 
 abbrev pub homed_step : Homed → ℕ → Run → Run
 homed_step h depth run = step_keeping callee_saved h depth run

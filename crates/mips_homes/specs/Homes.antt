@@ -20,8 +20,8 @@ abbrev pub HaveHomes : List Home → List ℕ → Type 0
 HaveHomes homes [] = Unit {0}
 HaveHomes homes (x ∷ xs) = HasHome homes x × HaveHomes homes xs
 
--- no two pseudo-registers share a home; each callee-saved register that is a home is saved; in another register lives only what
--- each block to which an exit goes writes before it reads it; and each name has a home
+-- no two pseudo-registers share a home; each callee-saved register that is a home is saved. In another register lives only what each block
+-- to which an exit goes writes before it reads it; and each name has a home
 pub record AreHomes (homes : List Home) (saved : List ℕ) (blocks : List RBlock) : Type 0 where
   pub apart : (x y : ℕ) (h : Home) → slice_get homes x ≡ Some h → slice_get homes y ≡ Some h → x ≡ y
   pub kept : (x r : ℕ) → slice_get homes x ≡ Some (Reg r) → is_callee_saved r ≡ true → is_in saved r ≡ true

@@ -28,7 +28,7 @@ abbrev pub register_of : (arguments : ℕ) → Option ℕ
 register_of q = if nat_lt 0 q && nat_lt q 5 then Some (FIRST_ARGUMENT - 1 + q) else None
 
 -- the register in which a pseudo-register of a function with n parameters is best: a parameter where it comes, but not if it is
--- an argument behind; others where the last argument is passed that they are
+-- an argument after; others where the last argument is passed that they are
 abbrev pub preference : (n : ℕ) → List RBlock → ℕ → Option ℕ
 preference n bs x =
     if nat_lt x n

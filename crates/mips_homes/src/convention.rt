@@ -1,4 +1,4 @@
-// The calling convention: what each register is for. Register 0 is always 0, and register 30 keeps bases of elements within a block.
+//! The calling convention: what each register is for. Register 0 is always 0, and register 30 keeps bases of elements within a block.
 
 ghost use Rattle.std.specs.Prelude.{◌≡◌};
 ghost use Rattle.mips_homes.specs.Convention.{is_callee_saved};
@@ -36,7 +36,7 @@ pub const STACK_POINTER: u8 = 29;
 /// The return address of a call.
 pub const LINK: u8 = 31;
 
-/// Whether a call leaves a register as it was.
+/// Reports whether a call leaves a register as it was.
 pub fn is_callee_saved(register: u8) -> bool
     ensures { result ≡ is_callee_saved register }
 {

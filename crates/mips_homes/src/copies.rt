@@ -1,4 +1,4 @@
-// Copies of slots, in registers that a function without calls has to spare.
+//! Copies of slots, in registers that a function without calls has to spare.
 
 ghost use Rattle.std.specs.Prelude.{◌≡◌, ◌++◌, [], slice_get, IfOk, OnOk};
 ghost use Rattle.mips_homes.specs.Copies.{calls_none, is_leaf, unused, copy_for, as_copies, copies_onto, copies_for};
@@ -9,7 +9,7 @@ use crate::places::lives_in;
 use rtl::{RBlock, RExit};
 use std::alloc::{AllocError, Global};
 
-// Whether an exit is no call.
+/// Reports whether an exit is no call.
 fn calls_none(exit: &RExit) -> bool
     ensures { result ≡ calls_none exit.now }
 {
@@ -22,7 +22,7 @@ fn calls_none(exit: &RExit) -> bool
     }
 }
 
-/// Whether a function calls none.
+/// Reports whether a function calls none.
 pub fn is_leaf(blocks: &[RBlock]) -> bool
     ensures { result ≡ is_leaf blocks.now }
 {
@@ -34,7 +34,7 @@ pub fn is_leaf(blocks: &[RBlock]) -> bool
     true
 }
 
-// Those of some registers in which no pseudo-register lives.
+/// Returns those of some registers in which no pseudo-register lives.
 fn unused(alloc: Global, homes: &[Home], registers: &[u8]) -> Result<Vec<u8>, AllocError>
     ensures { IfOk result (λ rs. rs.items ≡ unused homes.now registers.now) }
 {
@@ -47,7 +47,7 @@ fn unused(alloc: Global, homes: &[Home], registers: &[u8]) -> Result<Vec<u8>, Al
     Ok(free)
 }
 
-// A register of a list.
+/// Returns a register of a list.
 fn register_at(registers: &[u8], n: usize) -> Option<u8>
     ensures { result ≡ slice_get registers.now n }
 {
@@ -57,7 +57,7 @@ fn register_at(registers: &[u8], n: usize) -> Option<u8>
     }
 }
 
-// A slot's copy in a register.
+/// Returns a slot's copy in a register.
 fn copy_for(home: Home, register: Option<u8>) -> Option<SlotCopy>
     ensures { result ≡ copy_for home register }
 {
@@ -70,7 +70,7 @@ fn copy_for(home: Home, register: Option<u8>) -> Option<SlotCopy>
     }
 }
 
-// One more copy, if there is one.
+/// Adds one more copy, if there is one.
 fn put_copy(copies: &mut Vec<SlotCopy>, copy: Option<SlotCopy>) -> Result<(), AllocError>
     ensures { OnOk result (copies.new.items ≡ copies.old.items ++ as_copies copy) }
 {
@@ -80,7 +80,7 @@ fn put_copy(copies: &mut Vec<SlotCopy>, copy: Option<SlotCopy>) -> Result<(), Al
     Ok(())
 }
 
-// Copies of the slots of these homes, in these registers as far as they go.
+/// Returns copies of the slots of these homes, in these registers as far as they go.
 fn copies_in(alloc: Global, homes: &[Home], free: &[u8]) -> Result<Vec<SlotCopy>, AllocError>
     ensures { IfOk result (λ cs. cs.items ≡ copies_onto free.now [] homes.now) }
 {
@@ -92,7 +92,7 @@ fn copies_in(alloc: Global, homes: &[Home], free: &[u8]) -> Result<Vec<SlotCopy>
     Ok(copies)
 }
 
-/// The copies of a function's slots: none if it calls another.
+/// Returns the copies of a function's slots: none if it calls another.
 pub(crate) fn copies_for(
     alloc: Global,
     blocks: &[RBlock],

@@ -1,4 +1,4 @@
-// A home for each pseudo-register.
+//! A home for each pseudo-register.
 
 ghost use Rattle.std.specs.Prelude.{◌≡◌, ℕ, ◌≤◌, ◌^◌, length, IfOk, Some};
 ghost use Rattle.mips_homes.specs.Choice.{IsChoice, AreChoices};
@@ -13,7 +13,7 @@ use crate::homed::{Frame, Home, Homed};
 use rtl::{RFunc, Rtl};
 use std::alloc::{AllocError, Global};
 
-// Where x stands among the best.
+/// Returns where x stands among the best.
 fn rank_of(best: &[usize], x: usize) -> Option<usize>
     ensures { IsPlace best.now x result }
 {
@@ -25,7 +25,7 @@ fn rank_of(best: &[usize], x: usize) -> Option<usize>
     None
 }
 
-// The homes of the first n pseudo-registers, and how many slots they have.
+/// Returns the homes of the first n pseudo-registers, and how many slots they have.
 fn homes_of(alloc: Global, best: &[usize], n: usize) -> Result<(Vec<Home>, usize), AllocError>
     requires few { length best.now ≤ 8 }
     requires small { n ≤ 2 ^ 32 }
@@ -45,7 +45,7 @@ fn homes_of(alloc: Global, best: &[usize], n: usize) -> Result<(Vec<Home>, usize
     Ok((homes, slots))
 }
 
-// The first callee-saved registers.
+/// Returns the first callee-saved registers.
 fn first_registers(alloc: Global, count: usize) -> Result<Vec<u8>, AllocError>
     requires { count ≤ 8 }
     ensures { IfOk result (λ saved. AreFirst count saved.items) }
@@ -57,7 +57,7 @@ fn first_registers(alloc: Global, count: usize) -> Result<Vec<u8>, AllocError>
     Ok(saved)
 }
 
-/// The frame of a function: the eight pseudo-registers with most occurrences live in registers.
+/// Returns the frame of a function: the eight pseudo-registers with most occurrences live in registers.
 pub fn frame_of(alloc: Global, func: &RFunc) -> Result<Frame, AllocError>
     ensures choice { IfOk result (λ frame. IsChoice func.now frame) }
     ensures few { IfOk result (λ frame. length frame.homes.items ≤ 2 ^ 32) }
@@ -74,7 +74,7 @@ pub fn frame_of(alloc: Global, func: &RFunc) -> Result<Frame, AllocError>
     })
 }
 
-/// A home for each pseudo-register of a program.
+/// Returns a home for each pseudo-register of a program.
 pub fn homes<'a>(alloc: Global, rtl: &'a Rtl) -> Result<Homed<'a>, AllocError>
     ensures lent { IfOk result (λ h. h.rtl.now ≡ rtl.now) }
     ensures choices { IfOk result (λ h. AreChoices h) }

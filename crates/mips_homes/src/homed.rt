@@ -1,4 +1,4 @@
-// Homes of pseudo-registers, frames, and a program with a frame for each function.
+//! Homes of pseudo-registers, frames, and a program with a frame for each function.
 use rtl::Rtl;
 
 /// Where a pseudo-register lives.

@@ -1,4 +1,4 @@
-// Which pseudo-registers are local to blocks.
+//! Which pseudo-registers are local to blocks.
 
 ghost use Rattle.std.specs.Prelude.{◌≡◌, ◌<◌, ◌≤◌, ◌||◌, ◌∷◌, [], ℕ, not, length, if◌then◌else◌, IfOk, OnOk};
 ghost use Rattle.mips_homes.specs.HomedRun.{is_in};
@@ -22,7 +22,7 @@ const NOTHING: Sight = Sight {
     written_in: 0,
 };
 
-// Whether an exit goes to a block.
+/// Reports whether an exit goes to a block.
 fn exit_goes_to(exit: &RExit, b: u32) -> bool
     ensures { result ≡ is_in (goes_to exit.now) b }
 {
@@ -35,7 +35,7 @@ fn exit_goes_to(exit: &RExit, b: u32) -> bool
     }
 }
 
-/// Whether an exit of these blocks goes to block b.
+/// Reports whether an exit of these blocks goes to block b.
 fn some_go_to(blocks: &[RBlock], b: u32) -> bool
     ensures { result ≡ some_go_to blocks.now b }
 {
@@ -47,7 +47,7 @@ fn some_go_to(blocks: &[RBlock], b: u32) -> bool
     false
 }
 
-// Room for what is seen of x.
+/// Makes room for what is seen of x.
 fn make_room(sights: &mut Vec<Sight>, x: Register) -> Result<(), AllocError>
     ensures same { OnOk result ((y : ℕ) → sight_at sights.new.items y ≡ sight_at sights.old.items y) }
     ensures room { OnOk result (x < length sights.new.items) }
@@ -58,7 +58,7 @@ fn make_room(sights: &mut Vec<Sight>, x: Register) -> Result<(), AllocError>
     Ok(())
 }
 
-// Block k reads x.
+/// Records that block k reads x.
 fn see_read(sights: &mut Vec<Sight>, k: usize, x: Register) -> Result<(), AllocError>
     ensures { OnOk result (Sees k sights.old.items sights.new.items (x ∷ []) []) }
 {
@@ -73,7 +73,7 @@ fn see_read(sights: &mut Vec<Sight>, k: usize, x: Register) -> Result<(), AllocE
     Ok(())
 }
 
-// Block k writes x.
+/// Records that block k writes x.
 fn see_write(sights: &mut Vec<Sight>, k: usize, x: Register) -> Result<(), AllocError>
     ensures { OnOk result (Sees k sights.old.items sights.new.items [] (x ∷ [])) }
 {
@@ -86,7 +86,7 @@ fn see_write(sights: &mut Vec<Sight>, k: usize, x: Register) -> Result<(), Alloc
     Ok(())
 }
 
-// It reads two.
+/// Records that block k reads two.
 fn see_reads(sights: &mut Vec<Sight>, k: usize, x: Register, y: Register) -> Result<(), AllocError>
     ensures { OnOk result (Sees k sights.old.items sights.new.items (x ∷ y ∷ []) []) }
 {
@@ -94,7 +94,7 @@ fn see_reads(sights: &mut Vec<Sight>, k: usize, x: Register, y: Register) -> Res
     see_read(sights, k, y)
 }
 
-// It reads all of these.
+/// Records that block k reads all of these.
 fn see_all(sights: &mut Vec<Sight>, k: usize, xs: &[Register]) -> Result<(), AllocError>
     ensures { OnOk result (Sees k sights.old.items sights.new.items xs.now []) }
 {
@@ -104,7 +104,7 @@ fn see_all(sights: &mut Vec<Sight>, k: usize, xs: &[Register]) -> Result<(), All
     Ok(())
 }
 
-// It reads one and then writes one.
+/// Records that block k reads one and then writes one.
 fn see_move(sights: &mut Vec<Sight>, k: usize, d: Register, x: Register) -> Result<(), AllocError>
     ensures { OnOk result (Sees k sights.old.items sights.new.items (x ∷ []) (d ∷ [])) }
 {
@@ -112,7 +112,7 @@ fn see_move(sights: &mut Vec<Sight>, k: usize, d: Register, x: Register) -> Resu
     see_write(sights, k, d)
 }
 
-// It reads two and then writes one.
+/// Records that block k reads two and then writes one.
 fn see_operation(
     sights: &mut Vec<Sight>,
     k: usize,
@@ -126,7 +126,7 @@ fn see_operation(
     see_write(sights, k, d)
 }
 
-// Block k has an instruction.
+/// Records what an instruction of block k reads and writes.
 fn see_inst(sights: &mut Vec<Sight>, k: usize, inst: &RInst) -> Result<(), AllocError>
     ensures { OnOk result (Sees k sights.old.items sights.new.items (inst_reads inst.now) (inst_writes inst.now)) }
 {
@@ -139,7 +139,7 @@ fn see_inst(sights: &mut Vec<Sight>, k: usize, inst: &RInst) -> Result<(), Alloc
     }
 }
 
-// It has an exit.
+/// Records what the exit of block k reads and writes.
 fn see_exit(sights: &mut Vec<Sight>, k: usize, exit: &RExit) -> Result<(), AllocError>
     ensures { OnOk result (Sees k sights.old.items sights.new.items (exit_reads exit.now) []) }
 {
@@ -153,7 +153,7 @@ fn see_exit(sights: &mut Vec<Sight>, k: usize, exit: &RExit) -> Result<(), Alloc
     }
 }
 
-// What is seen of block k, which none before has reached.
+/// Records what is seen of block k, which none before has reached.
 fn see_block(sights: &mut Vec<Sight>, k: usize, block: &RBlock) -> Result<(), AllocError>
     requires { (x : ℕ) → (sight_at sights.now.items x).written_in < k }
     ensures first { OnOk result ((x : ℕ)
@@ -166,14 +166,14 @@ fn see_block(sights: &mut Vec<Sight>, k: usize, block: &RBlock) -> Result<(), Al
     see_exit(sights, k, &block.exit)
 }
 
-// The first block that counts: block 0 only if an exit goes there.
+/// Returns the first block that counts: block 0 only if an exit goes there.
 fn first_block(blocks: &[RBlock]) -> usize
     ensures { result ≡ (if some_go_to blocks.now 0 then 0 else 1) }
 {
     if some_go_to(blocks, 0) { 0 } else { 1 }
 }
 
-/// What a walk over blocks sees: those that are read first nowhere are local. An Err is refused memory.
+/// Returns what a walk over blocks sees: those that are read first nowhere are local. An Err means out of memory.
 pub(crate) fn sights(alloc: Global, blocks: &[RBlock]) -> Result<Vec<Sight>, AllocError>
     ensures { IfOk result (λ sights. (x : ℕ) → not (is_read_first sights.items x) ≡ is_local blocks.now x) }
 {
@@ -184,7 +184,7 @@ pub(crate) fn sights(alloc: Global, blocks: &[RBlock]) -> Result<Vec<Sight>, All
     Ok(sights)
 }
 
-/// Whether a pseudo-register is local, by what was seen.
+/// Reports whether a pseudo-register is local, by what was seen.
 pub(crate) fn is_local(sights: &[Sight], x: usize) -> bool
     ensures { result ≡ not (is_read_first sights.now x) }
 {

@@ -1,4 +1,4 @@
-// Where pseudo-registers are put.
+//! Where pseudo-registers are put.
 
 ghost use Rattle.std.specs.Prelude.{◌≡◌, ◌≤◌, ◌^◌, List, None, [], length, if◌then◌else◌, IfOk, OnOk};
 ghost use Rattle.rtl.specs.declared.block.RBlock.{RBlock};
@@ -19,7 +19,7 @@ use crate::preferences::{preference, reach_of, reaches};
 use rtl::{RBlock, RFunc, Rtl};
 use std::alloc::{AllocError, Global};
 
-// Whether a register is among these.
+/// Reports whether a register is among these.
 fn is_taken(taken: &[u8], r: u8) -> bool
     ensures { result ≡ is_in taken.now r }
 {
@@ -31,7 +31,7 @@ fn is_taken(taken: &[u8], r: u8) -> bool
     false
 }
 
-// The first of these registers that isn't taken.
+/// Returns the first of these registers that isn't taken.
 fn first_free(taken: &[u8], registers: &[u8]) -> Option<u8>
     ensures { result ≡ first_free taken.now registers.now }
 {
@@ -43,7 +43,7 @@ fn first_free(taken: &[u8], registers: &[u8]) -> Option<u8>
     None
 }
 
-// The register of a preference if that isn't taken, else the first free temporary.
+/// Returns the register of a preference if that isn't taken, else the first free temporary.
 fn free_register(taken: &[u8], preference: Option<u8>) -> Option<u8>
     ensures { result ≡ free_register taken.now preference }
 {
@@ -55,7 +55,7 @@ fn free_register(taken: &[u8], preference: Option<u8>) -> Option<u8>
     first_free(taken, &TEMPORARIES)
 }
 
-// The register of a pseudo-register, if it gets one.
+/// Returns the register of a pseudo-register, if it gets one.
 fn register_for(local: bool, taken: &[u8], preference: Option<u8>) -> Option<u8>
     ensures { result ≡ (if local then free_register taken.now preference else None) }
 {
@@ -66,7 +66,7 @@ fn register_for(local: bool, taken: &[u8], preference: Option<u8>) -> Option<u8>
     }
 }
 
-// A home, or a register in its stead.
+/// Returns a home, or a register in its stead.
 fn home_or(register: Option<u8>, home: Home) -> Home
     ensures { result ≡ home_or register home }
 {
@@ -76,7 +76,7 @@ fn home_or(register: Option<u8>, home: Home) -> Home
     }
 }
 
-// One more is taken.
+/// Adds one more register to those taken.
 fn take(taken: &mut Vec<u8>, register: Option<u8>) -> Result<(), AllocError>
     ensures { OnOk result (taken.new.items ≡ also taken.old.items register) }
 {
@@ -86,7 +86,7 @@ fn take(taken: &mut Vec<u8>, register: Option<u8>) -> Result<(), AllocError>
     Ok(())
 }
 
-// The homes, with those that are local by what was seen in temporaries.
+/// Returns the homes, with those that are local by what was seen in temporaries.
 fn places_by(
     alloc: Global,
     parameters: u32,
@@ -109,7 +109,7 @@ fn places_by(
     Ok(out)
 }
 
-// The homes, with local pseudo-registers in temporaries.
+/// Returns the homes, with local pseudo-registers in temporaries.
 fn places(
     alloc: Global,
     parameters: u32,
@@ -130,7 +130,7 @@ fn places(
     )
 }
 
-// Whether a home is a register.
+/// Reports whether a home is a register.
 fn is_register(home: Home, r: u8) -> bool
     ensures { result ≡ is_register home r }
 {
@@ -140,7 +140,7 @@ fn is_register(home: Home, r: u8) -> bool
     }
 }
 
-/// Whether one lives in a register.
+/// Reports whether one lives in a register.
 pub(crate) fn lives_in(homes: &[Home], r: u8) -> bool
     ensures { result ≡ lives_in homes.now r }
 {
@@ -152,7 +152,7 @@ pub(crate) fn lives_in(homes: &[Home], r: u8) -> bool
     false
 }
 
-// The registers that are still homes.
+/// Returns the registers that are still homes.
 fn still_saved(alloc: Global, homes: &[Home], saved: &[u8]) -> Result<Vec<u8>, AllocError>
     ensures { IfOk result (λ rs. rs.items ≡ still_saved homes.now saved.now) }
 {
@@ -165,7 +165,7 @@ fn still_saved(alloc: Global, homes: &[Home], saved: &[u8]) -> Result<Vec<u8>, A
     Ok(kept)
 }
 
-// Whether a home is a slot.
+/// Reports whether a home is a slot.
 fn is_slot(home: Home) -> bool
     ensures { result ≡ is_slot home }
 {
@@ -175,7 +175,7 @@ fn is_slot(home: Home) -> bool
     }
 }
 
-// Whether one lives in a slot.
+/// Reports whether one lives in a slot.
 fn some_slot(homes: &[Home]) -> bool
     ensures { result ≡ some_slot homes.now }
 {
@@ -187,7 +187,7 @@ fn some_slot(homes: &[Home]) -> bool
     false
 }
 
-// The frame of a choice, with local pseudo-registers in temporaries.
+/// Returns the frame of a choice, with local pseudo-registers in temporaries.
 fn frame_with_places(
     alloc: Global,
     parameters: u32,
@@ -213,7 +213,7 @@ fn frame_with_places(
     })
 }
 
-// The frame of a function.
+/// Returns the frame of a function.
 fn placed_frame(alloc: Global, func: &RFunc) -> Result<Frame, AllocError>
     ensures { IfOk result (λ f. IsPlacedFor func.now f) }
 {
@@ -221,7 +221,7 @@ fn placed_frame(alloc: Global, func: &RFunc) -> Result<Frame, AllocError>
     frame_with_places(alloc, func.parameters, func.blocks.as_slice(), &choice)
 }
 
-/// A place for each pseudo-register of a program: its home, or, if it is local to blocks, a temporary.
+/// Returns a place for each pseudo-register of a program: its home, or, if it is local to blocks, a temporary.
 pub fn place<'a>(alloc: Global, rtl: &'a Rtl) -> Result<Homed<'a>, AllocError>
     ensures lent { IfOk result (λ h. h.rtl.now ≡ rtl.now) }
     ensures places { IfOk result (λ h. ArePlaced h) }

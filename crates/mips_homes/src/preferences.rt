@@ -1,4 +1,4 @@
-// In which registers pseudo-registers are best, since arguments and parameters are passed there.
+//! In which registers pseudo-registers are best, since arguments and parameters are passed there.
 
 ghost use Rattle.std.specs.Prelude.{◌≡◌, ℕ, List, max, nat_eq, nat_lt, if◌then◌else◌, length, slice_index, IfOk, OnOk};
 ghost use Rattle.rtl.specs.declared.block.RBlock.{RBlock};
@@ -9,7 +9,7 @@ use crate::counts::make_room;
 use rtl::{RBlock, RExit, Register};
 use std::alloc::{AllocError, Global};
 
-// x is the last of so many arguments.
+/// Records that x is the last of so many arguments.
 fn raise(reaches: &mut Vec<u64>, x: Register, arguments: u64) -> Result<(), AllocError>
     ensures { OnOk result ((y : ℕ)
         → slice_index reaches.new.items y ≡ max (slice_index reaches.old.items y) (if nat_eq y x then arguments else 0)) }
@@ -21,7 +21,7 @@ fn raise(reaches: &mut Vec<u64>, x: Register, arguments: u64) -> Result<(), Allo
     Ok(())
 }
 
-// These are arguments.
+/// Records that these are arguments.
 fn raise_all(reaches: &mut Vec<u64>, xs: &[Register]) -> Result<(), AllocError>
     ensures { OnOk result ((y : ℕ) → slice_index reaches.new.items y ≡ max (slice_index reaches.old.items y) (reach_from 0 xs.now y)) }
 {
@@ -31,7 +31,7 @@ fn raise_all(reaches: &mut Vec<u64>, xs: &[Register]) -> Result<(), AllocError>
     Ok(())
 }
 
-// What an exit passes on.
+/// Records what an exit passes on.
 fn raise_at(reaches: &mut Vec<u64>, exit: &RExit) -> Result<(), AllocError>
     ensures { OnOk result ((y : ℕ) → slice_index reaches.new.items y ≡ max (slice_index reaches.old.items y) (exit_reach exit.now y)) }
 {
@@ -44,7 +44,7 @@ fn raise_at(reaches: &mut Vec<u64>, exit: &RExit) -> Result<(), AllocError>
     }
 }
 
-/// Of each pseudo-register, how many arguments there are up to the last that it is; an Err is refused memory.
+/// Returns, for each pseudo-register, the last argument position (from 1) at which it is passed, or 0; an Err means out of memory.
 pub(crate) fn reaches(alloc: Global, blocks: &[RBlock]) -> Result<Vec<u64>, AllocError>
     ensures { IfOk result (λ v. (x : ℕ) → slice_index v.items x ≡ blocks_reach blocks.now x) }
 {
@@ -55,7 +55,7 @@ pub(crate) fn reaches(alloc: Global, blocks: &[RBlock]) -> Result<Vec<u64>, Allo
     Ok(reaches)
 }
 
-// The register of the last of so many arguments.
+/// Returns the register of the last of so many arguments.
 fn register_of(arguments: u64) -> Option<u8>
     ensures { result ≡ register_of arguments }
 {
@@ -66,7 +66,7 @@ fn register_of(arguments: u64) -> Option<u8>
     }
 }
 
-/// How many arguments there are up to the last that is x.
+/// Returns how many arguments there are up to the last that is x.
 pub(crate) fn reach_of(reaches: &[u64], x: usize) -> u64
     ensures { result ≡ slice_index reaches.now x }
 {
@@ -76,7 +76,7 @@ pub(crate) fn reach_of(reaches: &[u64], x: usize) -> u64
     }
 }
 
-/// The preference of a pseudo-register in a function with so many parameters.
+/// Returns the preference of a pseudo-register in a function with so many parameters.
 pub(crate) fn preference(parameters: u32, reach: u64, x: u32) -> Option<u8>
     ensures { (bs : List RBlock) → reach ≡ blocks_reach bs x → result ≡ preference parameters bs x }
 {

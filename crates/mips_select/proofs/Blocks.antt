@@ -7,15 +7,14 @@ use Rattle.std.specs.declared.alloc.Global.{Global}
 use Rattle.std.specs.declared.vec.Vec.{Vec}
 use Rattle.mblock.specs.Parts.{BlockParts}
 use Rattle.rtl.specs.declared.block.RFunc.{RFunc}
-use Rattle.rtl.specs.declared.block.RGlobal.{RGlobal}
 use Rattle.mips_homes.specs.declared.homed.Frame.{Frame}
 use Rattle.rtl.specs.declared.block.RBlock.{RBlock}
 use Rattle.mips_select.specs.declared.heads.Naming.{Naming}
 use Rattle.mips_select.specs.declared.heads.Naming.TheVariants.{Unnamed}
 use Rattle.mips_select.specs.declared.heads.Head.{Head}
 use Rattle.mips_select.specs.Heads.{is_leaf, unnamed, namings_of, AreNamed, heads_in, heads_of, count, lead_in}
-use Rattle.mips_select.specs.Code.{head_code, own_block}
-use Rattle.mips_select.specs.Whole.{size_of_blocks, numbers, next_of, behind, blocks_from, place_in, lead_blocks, function_blocks, function_size}
+use Rattle.mips_select.specs.Plans.{Linking, Planning, placing_of}
+use Rattle.mips_select.specs.Whole.{size_of_blocks, numbers, blocks_for, blocks_from, place_in, lead_blocks, planning_in, function_blocks, function_size}
 use Rattle.mips_select.specs.Whole.{functions_size, numbers_in, numbers_from, entries_from, owners_from, functions_blocks}
 use Rattle.mips_select.proofs.Linked.{function_length}
 use Rattle.mips_select.proofs.Lists.{made_more}
@@ -44,24 +43,21 @@ block_room heads k i bound blocks b within b_is le =
     let one = ap (λ (b : RBlock). count heads b.exit) b_is in
     omega (arith, e, one, le)
 
-pub blocks_step : (globals : List RGlobal) (starts entry place : ℕ → ℕ) (leaf : Bool) (heads : ℕ
-    → Head) (f : Frame) (n k c i bound : ℕ) (blocks : List RBlock) (b : RBlock) (out out' all : List BlockParts) → c ≡ count heads b.exit
-    → i < length blocks → b ≡ get_or blocks i b
-    → out' ≡ out ++ own_block globals starts entry place leaf f (head_code leaf f n (heads i)) (next_of heads place k b.exit) b ∷ behind heads place f b.exit
-    → (k + size_of_blocks heads (drop i blocks) ≤ bound) × (out ++ blocks_from globals starts entry place leaf heads f n k i (drop i blocks) ≡ all)
-    → (k + c + size_of_blocks heads (drop (i + 1) blocks) ≤ bound) × (out' ++ blocks_from globals starts entry place leaf heads f n (k + c) (i + 1)
-    (drop (i + 1) blocks) ≡ all)
-blocks_step globals starts entry place leaf heads f n k c i bound blocks b out out' all c_is within b_is e before =
+pub blocks_step : (l : Linking) (p : Planning) (k c i bound : ℕ) (blocks : List RBlock) (b : RBlock) (out out' all : List BlockParts)
+    → c ≡ count p.heads b.exit → i < length blocks → b ≡ get_or blocks i b → out' ≡ out ++ blocks_for l p k i b
+    → (k + size_of_blocks p.heads (drop i blocks) ≤ bound) × (out ++ blocks_from l p k i (drop i blocks) ≡ all)
+    → (k + c + size_of_blocks p.heads (drop (i + 1) blocks) ≤ bound) × (out' ++ blocks_from l p (k + c) (i + 1) (drop (i + 1) blocks) ≡ all)
+blocks_step l p k c i bound blocks b out out' all c_is within b_is e before =
     let rest = drop (i + 1) blocks in
     let next_i : i + 1 ≡ suc i = omega arith in
-    let size = at_drop_more (size_of_blocks heads) blocks i b within in
-    let one = ap (λ (b : RBlock). count heads b.exit) b_is in
+    let size = at_drop_more (size_of_blocks p.heads) blocks i b within in
+    let one = ap (λ (b : RBlock). count p.heads b.exit) b_is in
     let room = before.0 in
-    let own = own_block globals starts entry place leaf f (head_code leaf f n (heads i)) (next_of heads place k b.exit) b ∷ behind heads place f b.exit in (
+    let own = blocks_for l p k i b in (
       omega (arith, room, size, one, c_is),
-      made_more (blocks_from globals starts entry place leaf heads f n k i) blocks i b out out' own
-          (blocks_from globals starts entry place leaf heads f n (k + c) (i + 1) rest) all within b_is
-          (ap₂ (λ c j. own ++ blocks_from globals starts entry place leaf heads f n (k + c) j rest) (sym c_is) (sym next_i)) e before.1,
+      made_more (blocks_from l p k i) blocks i b out out' own
+          (blocks_from l p (k + c) (i + 1) rest) all within b_is
+          (ap₂ (λ c j. own ++ blocks_from l p (k + c) j rest) (sym c_is) (sym next_i)) e before.1,
     )
 
 -- the table of a function
@@ -84,40 +80,32 @@ named_here tables funcs i func table named lt func_is table_is =
     named_at tables funcs i func table named (read_at funcs i func lt func_is) (read_at tables i table (omega (arith, long, lt)) table_is)
 
 -- a function, from the parts of what was made
-pub function_made : (globals : List RGlobal) (starts entry : ℕ → ℕ) (k : ℕ) (func : RFunc) (f : Frame) (leaf : Bool) (blocks : List RBlock)
-    (table' : List Naming) (places numbers' : List ℕ) (m first : ℕ) (head : Head) (out out1 out2 : List BlockParts)
+pub function_made : (l : Linking) (k : ℕ) (func : RFunc) (f : Frame) (leaf : Bool) (blocks : List RBlock)
+    (table' : List Naming) (places numbers' : List ℕ) (first : ℕ) (head : Head) (out out1 out2 : List BlockParts)
     → blocks ≡ func.blocks.items → leaf ≡ is_leaf blocks → table' ≡ namings_of func → first ≡ lead_in (heads_in table')
     → numbers' ≡ numbers (heads_in table') (k + first) blocks → places ≡ numbers'
-    → head ≡ heads_in table' 0 → m ≡ slice_index places 0 → out1 ≡ out ++ lead_blocks leaf head f func.parameters m
-    → out2 ≡ out1 ++ blocks_from globals starts entry (λ b. slice_index places b) leaf (heads_in table') f func.parameters (k + first) 0 blocks
-    → out2 ≡ out ++ function_blocks globals starts entry k func f
-function_made globals starts entry k func f leaf blocks table' places numbers' m first head out out1 out2 is leaf_is t_is first_is n_is p_is head_is
-    m_is e1 e2 =
+    → head ≡ heads_in table' 0
+    → out1 ≡ out ++ lead_blocks (record { placing = placing_of leaf f (slice_index places); parameters = func.parameters; heads = heads_in table' }) head
+    → out2 ≡ out1 ++ blocks_from l (record { placing = placing_of leaf f (slice_index places); parameters = func.parameters; heads = heads_in table' })
+    (k + first) 0 blocks
+    → out2 ≡ out ++ function_blocks l k func f
+function_made l k func f leaf blocks table' places numbers' first head out out1 out2 is leaf_is t_is first_is n_is p_is head_is e1 e2 =
     let bs = func.blocks.items in
-    let heads : heads_in table' ≡ heads_of func.blocks.items = ap heads_in t_is in
-    let start : k + first ≡ k + lead_in (heads_of func.blocks.items) = ap (λ n. k + n) (first_is ∙ ap lead_in heads) in
-    let place : (λ b. slice_index places b) ≡ place_in k func.blocks.items = ap (λ (l : List ℕ). λ b. slice_index l b) (p_is ∙ n_is
-    ∙ ap (λ h. numbers h (k + first) blocks) heads ∙ ap (λ n. numbers (heads_of func.blocks.items) n blocks) start
-    ∙ ap (numbers (heads_of func.blocks.items) (k + lead_in (heads_of func.blocks.items))) is) in
-    let n = func.parameters in
-    let L : leaf ≡ is_leaf func.blocks.items = leaf_is ∙ ap is_leaf is in
-    let lead : lead_blocks leaf head f n m ≡ lead_blocks (is_leaf func.blocks.items) (heads_of func.blocks.items 0) f n (place_in k func.blocks.items 0) =
-    ap (λ leaf. lead_blocks leaf head f n m) L ∙ ap₂ (λ x m. lead_blocks (is_leaf func.blocks.items) x f n m) (head_is ∙ ap (λ h. h 0) heads) (m_is
-    ∙ ap (λ (p : ℕ → ℕ). p 0) place) in
-    let body : blocks_from globals starts entry (λ b. slice_index places b) leaf (heads_in table') f n (k + first) 0 blocks
-    ≡ blocks_from globals starts entry (place_in k func.blocks.items) (is_leaf func.blocks.items) (heads_of func.blocks.items) f n
-    (k + lead_in (heads_of func.blocks.items)) 0 func.blocks.items =
-    ap (λ leaf. blocks_from globals starts entry (λ b. slice_index places b) leaf (heads_in table') f n (k + first) 0 blocks) L
-    ∙ ap₂ (λ p h. blocks_from globals starts entry p (is_leaf func.blocks.items) h f n (k + first) 0 blocks) place heads
-    ∙ ap₂ (λ m bs. blocks_from globals starts entry (place_in k' func.blocks.items) (is_leaf func.blocks.items) (heads_of func.blocks.items) f n m 0 bs)
-    start is in
+    let heads : heads_in table' ≡ heads_of bs = ap heads_in t_is in
+    let start : k + first ≡ k + lead_in (heads_of bs) = ap (λ n. k + n) (first_is ∙ ap lead_in heads) in
+    let place : slice_index places ≡ place_in k bs = ap slice_index (p_is ∙ n_is
+    ∙ ap (λ h. numbers h (k + first) blocks) heads ∙ ap (λ n. numbers (heads_of bs) n blocks) start
+    ∙ ap (numbers (heads_of bs) (k + lead_in (heads_of bs))) is) in
+    let same : planned leaf (slice_index places) (heads_in table') ≡ planning_in func.parameters k bs f =
+    ap (λ leaf. planned leaf (slice_index places) (heads_in table')) (leaf_is ∙ ap is_leaf is) ∙ ap₂ (planned (is_leaf bs)) place heads in
+    let lead = ap₂ lead_blocks same (head_is ∙ ap (λ h. h 0) heads) in
+    let body = ap (λ p. blocks_from l p (k + first) 0 blocks) same ∙ ap₂ (λ m bs. blocks_from l (planning_in func.parameters k func.blocks.items f) m 0 bs) start is in
     e2 ∙ ap₂ (λ a b. a ++ b) (e1 ∙ ap (λ l. out ++ l) lead) body
-    ∙ append_assoc out (lead_blocks (is_leaf func.blocks.items) (heads_of func.blocks.items 0) f n (place_in k func.blocks.items 0))
-    (blocks_from globals starts entry (place_in k func.blocks.items) (is_leaf func.blocks.items) (heads_of func.blocks.items) f n
-    (k + lead_in (heads_of func.blocks.items)) 0 func.blocks.items)
+    ∙ append_assoc out (lead_blocks (planning_in func.parameters k bs f) (heads_of bs 0))
+    (blocks_from l (planning_in func.parameters k bs f) (k + lead_in (heads_of bs)) 0 bs)
   where
-    k' : ℕ
-    k' = k
+    planned : Bool → (ℕ → ℕ) → (ℕ → Head) → Planning
+    planned leaf place heads = record { placing = placing_of leaf f place; parameters = func.parameters; heads = heads }
 
 -- room for the blocks of a function, and behind what stands before them
 pub function_room : (k first bound : ℕ) (func : RFunc) (blocks : List RBlock) (table : List Naming) → blocks ≡ func.blocks.items
@@ -151,30 +139,30 @@ numbers_step k size i total funcs func out out' all within func_is size_is made 
           (ap (λ n. numbers_in k func.blocks.items ++ numbers_from (k + n) rest) (sym size_is)) made before.1,
     )
 
-pub functions_step : (globals : List RGlobal) (starts entry : ℕ → ℕ) (i total : ℕ) (funcs : List RFunc) (fs : List Frame) (func : RFunc) (f : Frame)
+pub functions_step : (l : Linking) (i total : ℕ) (funcs : List RFunc) (fs : List Frame) (func : RFunc) (f : Frame)
     (out out' all : List BlockParts) (k : ℕ) → i < length funcs → length fs ≡ length funcs → func ≡ get_or funcs i func → f ≡ get_or fs i f → k ≡ length out
-    → out' ≡ out ++ function_blocks globals starts entry k func f
-    → (length out + functions_size (drop i funcs) ≡ total) × (out ++ functions_blocks globals starts entry (length out) (drop i funcs) (drop i fs) ≡ all)
-    → (length out' + functions_size (drop (i + 1) funcs) ≡ total) × (out' ++ functions_blocks globals starts entry (length out') (drop (i + 1) funcs)
+    → out' ≡ out ++ function_blocks l k func f
+    → (length out + functions_size (drop i funcs) ≡ total) × (out ++ functions_blocks l (length out) (drop i funcs) (drop i fs) ≡ all)
+    → (length out' + functions_size (drop (i + 1) funcs) ≡ total) × (out' ++ functions_blocks l (length out') (drop (i + 1) funcs)
     (drop (i + 1) fs) ≡ all)
-functions_step globals starts entry i total funcs fs func f out out' all k within same func_is f_is k_is e before =
+functions_step l i total funcs fs func f out out' all k within same func_is f_is k_is e before =
     let funcs' = drop (i + 1) funcs in
     let fs' = drop (i + 1) fs in
     let size = at_drop_more functions_size funcs i func within in
     let one = ap (λ (f : RFunc). function_size f) func_is in
-    let made : out' ≡ out ++ function_blocks globals starts entry (length out) func f = e
-    ∙ ap (λ k. out ++ function_blocks globals starts entry k func f) k_is in
-    let long : length out' ≡ length out + function_size func = ap length made ∙ length-append out (function_blocks globals starts entry (length out) func f)
-    ∙ ap (λ n. length out + n) (function_length globals starts entry (length out) func f) in
+    let made : out' ≡ out ++ function_blocks l (length out) func f = e
+    ∙ ap (λ k. out ++ function_blocks l k func f) k_is in
+    let long : length out' ≡ length out + function_size func = ap length made ∙ length-append out (function_blocks l (length out) func f)
+    ∙ ap (λ n. length out + n) (function_length l (length out) func f) in
     let count = before.0 in (
       omega (arith, long, size, one, count),
-      ap₂ (λ l k. l ++ functions_blocks globals starts entry k funcs' fs') made long
-          ∙ append_assoc out (function_blocks globals starts entry (length out) func f)
-          (functions_blocks globals starts entry (length out + function_size func) funcs' fs')
-          ∙ ap (λ (func : RFunc). out ++ functions_blocks globals starts entry (length out) (func ∷ funcs') (f ∷ fs')) func_is
-          ∙ ap (λ (f : Frame). out ++ functions_blocks globals starts entry (length out) (get_or funcs i func ∷ funcs') (f ∷ fs')) f_is
-          ∙ sym (at_drop_more (λ l. out ++ functions_blocks globals starts entry (length out) l (get_or fs i f ∷ fs')) funcs i func within)
-          ∙ sym (at_drop_more (λ l. out ++ functions_blocks globals starts entry (length out) (drop i funcs) l) fs i f (omega (arith, within, same)))
+      ap₂ (λ out k. out ++ functions_blocks l k funcs' fs') made long
+          ∙ append_assoc out (function_blocks l (length out) func f)
+          (functions_blocks l (length out + function_size func) funcs' fs')
+          ∙ ap (λ (func : RFunc). out ++ functions_blocks l (length out) (func ∷ funcs') (f ∷ fs')) func_is
+          ∙ ap (λ (f : Frame). out ++ functions_blocks l (length out) (get_or funcs i func ∷ funcs') (f ∷ fs')) f_is
+          ∙ sym (at_drop_more (λ funcs. out ++ functions_blocks l (length out) funcs (get_or fs i f ∷ fs')) funcs i func within)
+          ∙ sym (at_drop_more (λ fs. out ++ functions_blocks l (length out) (drop i funcs) fs) fs i f (omega (arith, within, same)))
           ∙ before.1,
     )
 

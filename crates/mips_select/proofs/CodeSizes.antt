@@ -34,7 +34,8 @@ use Rattle.mips_emit.specs.declared.element.Reach.{Reach}
 use Rattle.mips_emit.specs.declared.element.Reach.TheVariants.{ByPointer, ByScratch, ByKept, ByNew}
 use Rattle.mips_emit.specs.Elements.{scaled, base_sum, scaled_register, width_of, page, address_of_place}
 use Rattle.mips_emit.specs.Code.{constant, is_small, half, li, fetch, operand_register, bring, stays, carry, into, finish, put_at, arrive, operation, code_by_less}
-use Rattle.mips_emit.specs.Code.{code_by_left, code_by_right, code_by_word, multiple_of, multiple_code, code_by_multiple, op_code, reach_of, element_code}
+use Rattle.mips_emit.specs.declared.operation.Operand.{Operand}
+use Rattle.mips_emit.specs.Code.{Context, operand_with, code_by_left, code_by_right, code_by_word, multiple_of, multiple_code, code_by_multiple, op_code, reach_of, element_code}
 use Rattle.mips_emit.specs.Code.{immediate_of, turned_immediate_of, turned_less_of, element_load, const_code, nop, inst_code, arguments_code}
 use Rattle.mips_emit.specs.Comparisons.{code_by_form, opposite_op, comparison_of, asked_last, next_code, insts_code, branch_code}
 use Rattle.mips_emit.specs.Comparisons.{tested, returned, return_code}
@@ -144,27 +145,27 @@ less_few op t d None x y =
     joined _ 2 4 6 (fetch t x) (fetch_few t x) (joined _ 2 2 4 (fetch 2 y) (fetch_few 2 y) (operation_few op d (operand_register t x) (operand_register 2 y)) (omega arith)) (omega arith)
 less_few op t d (Some i) x y = two_behind _ _ 2 6 (fetch 2 y) (fetch_few 2 y) (omega arith)
 
-left_few : (op : Op) (t d : ℕ) (left less : Option Plain) (x y : Source) → length (code_by_left op t d left less x y) ≤ 6
-left_few op t d None less x y = less_few op t d less x y
-left_few op t d (Some i) less x y = one_behind _ 2 6 (fetch 2 y) (fetch_few 2 y) (omega arith)
+left_few : (op : Op) (t d : ℕ) (left : Option Plain) (x y : Operand) → length (code_by_left op t d left x y) ≤ 6
+left_few op t d None x y = less_few op t d (turned_less_of op d (operand_register 2 y.source) x.known) x.source y.source
+left_few op t d (Some i) x y = one_behind _ 2 6 (fetch 2 y.source) (fetch_few 2 y.source) (omega arith)
 
-right_few : (op : Op) (t d : ℕ) (right left less : Option Plain) (x y : Source) → length (code_by_right op t d right left less x y) ≤ 6
-right_few op t d None left less x y = left_few op t d left less x y
-right_few op t d (Some i) left less x y = one_behind _ 2 6 (fetch t x) (fetch_few t x) (omega arith)
+right_few : (op : Op) (t d : ℕ) (right : Option Plain) (x y : Operand) → length (code_by_right op t d right x y) ≤ 6
+right_few op t d None x y = left_few op t d (turned_immediate_of op d (operand_register 2 y.source) x.known) x y
+right_few op t d (Some i) x y = one_behind _ 2 6 (fetch t x.source) (fetch_few t x.source) (omega arith)
 
 product_few : (t d : ℕ) (m : _) (x : Source) → length (multiple_code t d m x) ≤ 6
 product_few t d m x = two_behind _ _ 2 6 (fetch t x) (fetch_few t x) (omega arith)
 
-multiple_few : (t d : ℕ) (right left : Option _) (x y : Source) (other : List Plain) → length other ≤ 6
-    → length (code_by_multiple t d right left x y other) ≤ 6
-multiple_few t d (Some m) left x y other le = product_few t d m x
-multiple_few t d None (Some m) x y other le = product_few t d m y
-multiple_few t d None None x y other le = le
+multiple_few : (t d : ℕ) (multiple : Option _) (x : Source) (other : List Plain) → length other ≤ 6
+    → length (code_by_multiple t d multiple x other) ≤ 6
+multiple_few t d None x other le = le
+multiple_few t d (Some m) x other le = product_few t d m x
 
-op_few : (op : Op) (t d : ℕ) (left right : Option ℕ) (x y : Source) → length (op_code op t d left right x y) ≤ 6
-op_few op t d left right x y =
-    multiple_few t d (multiple_of op right) (multiple_of op left) x y (code_by_word op t d left right x y)
-    (right_few op t d (immediate_of op d (operand_register t x) right) (turned_immediate_of op d (operand_register 2 y) left) (turned_less_of op d (operand_register 2 y) left) x y)
+op_few : (op : Op) (t d : ℕ) (x y : Operand) → length (op_code op t d x y) ≤ 6
+op_few op t d x y =
+    multiple_few t d (multiple_of op y.known) x.source (code_by_multiple t d (multiple_of op x.known) y.source (code_by_word op t d x y))
+    (multiple_few t d (multiple_of op x.known) y.source (code_by_word op t d x y)
+    (right_few op t d (immediate_of op d (operand_register t x.source) y.known) x y))
 
 -- ---- instructions
 
@@ -200,8 +201,8 @@ inst_few : (globals : List RGlobal) (starts : ℕ → ℕ) (at : Locations) (fac
 inst_few globals starts at facts (Const d w) = const_few (at d) (wrap w)
 inst_few globals starts at facts (Move d a) = put_few (at d) (operand at facts a)
 inst_few globals starts at facts (Bin op d a b) =
-    joined _ 6 1 8 (op_code op (inner_of (at d)) (into (at d)) (known_in facts a) (known_in facts b) (operand at facts a) (operand at facts b))
-    (op_few op (inner_of (at d)) (into (at d)) (known_in facts a) (known_in facts b) (operand at facts a) (operand at facts b)) (finish_few (at d))
+    joined _ 6 1 8 (op_code op (inner_of (at d)) (into (at d)) (operand_with at facts a) (operand_with at facts b))
+    (op_few op (inner_of (at d)) (into (at d)) (operand_with at facts a) (operand_with at facts b)) (finish_few (at d))
     (omega arith)
 inst_few globals starts at facts (Load d a i) =
     let w = width_of globals a in
@@ -215,29 +216,28 @@ inst_few globals starts at facts (Store a i b) =
     joined _ 5 3 8 (element_code w (starts a) by (operand at facts i)) (element_few w (starts a) by (operand at facts i))
     (one_behind _ 2 3 (fetch 2 (operand at facts b)) (fetch_few 2 (operand at facts b)) (omega arith)) (omega arith)
 
-form_few : (f : Form) (op : Op) (l r : Option ℕ) (x y : Source) → length (code_by_form f op l r x y) ≤ 8
-form_few (Known b) op l r x y = omega arith
-form_few (OnPair test) op l r x y =
-    joined _ 2 3 8 (fetch 1 x) (fetch_few 1 x) (one_behind _ 2 3 (fetch 3 y) (fetch_few 3 y) (omega arith)) (omega arith)
-form_few (OnLeft test) op l r x y = one_behind _ 2 8 (fetch 3 x) (fetch_few 3 x) (omega arith)
-form_few (OnRight test) op l r x y = one_behind _ 2 8 (fetch 3 y) (fetch_few 3 y) (omega arith)
-form_few ByResult op l r x y = let n = op_few op 1 3 l r x y in omega (arith, n)
-form_few ByOpposite op l r x y = let n = op_few (opposite_op op) 1 3 r l y x in omega (arith, n)
-form_few InResult op l r x y = let n = op_few op 1 2 l r x y in omega (arith, n)
+form_few : (f : Form) (op : Op) (x y : Operand) → length (code_by_form f op x y) ≤ 8
+form_few (Known b) op x y = omega arith
+form_few (OnPair test) op x y =
+    joined _ 2 3 8 (fetch 1 x.source) (fetch_few 1 x.source) (one_behind _ 2 3 (fetch 3 y.source) (fetch_few 3 y.source) (omega arith)) (omega arith)
+form_few (OnLeft test) op x y = one_behind _ 2 8 (fetch 3 x.source) (fetch_few 3 x.source) (omega arith)
+form_few (OnRight test) op x y = one_behind _ 2 8 (fetch 3 y.source) (fetch_few 3 y.source) (omega arith)
+form_few ByResult op x y = let n = op_few op 1 3 x y in omega (arith, n)
+form_few ByOpposite op x y = let n = op_few (opposite_op op) 1 3 y x in omega (arith, n)
+form_few InResult op x y = let n = op_few op 1 2 x y in omega (arith, n)
 
-next_few : (globals : List RGlobal) (starts : ℕ → ℕ) (at : Locations) (facts : Facts) (o : Option Comparison) (i : RInst)
-    → length (next_code globals starts at facts o i) ≤ 8
-next_few globals starts at facts None i = inst_few globals starts at facts i
-next_few globals starts at facts (Some m) i = form_few m.form m.op m.left m.right m.x m.y
+next_few : (c : Context) (facts : Facts) (o : Option Comparison) (i : RInst) → length (next_code c facts o i) ≤ 8
+next_few c facts None i = inst_few c.globals c.starts c.at facts i
+next_few c facts (Some m) i = form_few m.form m.op m.left m.right
 
-pub insts_few : (globals : List RGlobal) (starts : ℕ → ℕ) (at : Locations) (asked : Asked) (facts : Facts) (is : List RInst) (behind : List Plain)
-    → length (insts_code globals starts at asked facts is behind) ≤ 8 * length is + length behind
-insts_few globals starts at asked facts [] behind = omega arith
-insts_few globals starts at asked facts (i ∷ is) behind =
-    let m = comparison_of at facts (asked_last asked is) i in
-    let one = next_few globals starts at facts m i in
-    let rest = insts_few globals starts at asked (learned at i facts) is behind in
-    let sum = length-append (next_code globals starts at facts m i) (insts_code globals starts at asked (learned at i facts) is behind) in
+pub insts_few : (c : Context) (asked : Asked) (facts : Facts) (is : List RInst) (behind : List Plain)
+    → length (insts_code c asked facts is behind) ≤ 8 * length is + length behind
+insts_few c asked facts [] behind = omega arith
+insts_few c asked facts (i ∷ is) behind =
+    let m = comparison_of c.at facts (asked_last asked is) i in
+    let one = next_few c facts m i in
+    let rest = insts_few c asked (learned c.at i facts) is behind in
+    let sum = length-append (next_code c facts m i) (insts_code c asked (learned c.at i facts) is behind) in
     omega (arith, one, rest, sum)
 
 -- ---- frames and exits

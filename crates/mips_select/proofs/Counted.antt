@@ -7,7 +7,6 @@ use Rattle.rtl.specs.declared.instruction.RExit.{RExit}
 use Rattle.rtl.specs.declared.instruction.RExit.TheVariants.{Goto, Branch, Call, Return, Out}
 use Rattle.rtl.specs.declared.block.RBlock.{RBlock}
 use Rattle.rtl.specs.declared.block.RFunc.{RFunc}
-use Rattle.rtl.specs.declared.block.RGlobal.{RGlobal}
 use Rattle.mips_homes.specs.declared.homed.Frame.{Frame}
 use Rattle.mips_emit.specs.Locations.{locations, no_facts, known_after}
 use Rattle.mips_emit.specs.Comparisons.{insts_code, last_after, no_last}
@@ -15,15 +14,14 @@ use Rattle.mips_select.specs.Split.{first_piece_of, total}
 use Rattle.mips_select.proofs.Counts.{length-split_from}
 use Rattle.mips_select.specs.declared.heads.Naming.{Naming}
 use Rattle.mips_select.specs.declared.heads.Naming.TheVariants.{Unnamed, Called, Jumped}
-use Rattle.mips_select.specs.declared.heads.Head.{Head}
 use Rattle.mips_select.specs.declared.heads.Head.TheVariants.{Bare, Enters, Takes}
-use Rattle.mips_select.specs.Code.{asked_of, exit_code, own_block, head_code, after_block}
-use Rattle.mips_select.specs.Data.{start_of}
+use Rattle.mips_select.specs.Code.{context_in, asked_of, exit_code, own_block, head_code, after_block}
+use Rattle.mips_select.specs.Plans.{Linking, Planning}
 use Rattle.mips_select.specs.Emittable.{HasFewArguments}
 use Rattle.mips_select.specs.Heads.{head_at, heads_of, is_leaf, namings, unnamed, resumes, count, lead_in}
 use Rattle.mips_select.specs.Laws.{EachUnitIsCounted, EachUnitIsCountedByExits}
 use Rattle.mips_select.specs.Limits.{insts_in, exit_blocks, exits_blocks, most_blocks_for, most_by_exits_for}
-use Rattle.mips_select.specs.Whole.{behind, next_of, blocks_from, blocks_in, lead_blocks, place_in, function_blocks, function_size, functions_blocks, program_blocks, entry_of}
+use Rattle.mips_select.specs.Whole.{behind, next_of, blocks_from, blocks_in, lead_blocks, planning_in, function_blocks, function_size, functions_blocks, linking_for, program_blocks}
 use Rattle.mips_select.proofs.CodeSizes.{insts_few, prologue_most, prologue_few, exit_most, exit_few, behind_most, result_few}
 use Rattle.mips_select.proofs.FrameSizes.{placed_eight, are_alone}
 use Rattle.mips_select.proofs.Lists.{all_at}
@@ -61,29 +59,30 @@ both xs ys a b c d x y =
 
 -- ---- one function
 
-module _ (globals : List RGlobal) (starts entry place : ℕ → ℕ) (leaf : Bool) (heads : ℕ → Head) (f : Frame) (n : ℕ)
-    (eight : length f.saved.items ≤ 8) (four : n ≤ 4) (alone : leaf ≡ false → f.copies.items ≡ []) where
-  behind_few : (x : RExit) → Few (behind heads place f x) (exit_blocks x - 1) (behind_most x)
-  behind_few (Call g xs d next) = by (resumes d (heads next))
+module _ (l : Linking) (p : Planning) (eight : length p.frame.saved.items ≤ 8) (four : p.parameters ≤ 4)
+    (alone : p.leaf ≡ false → p.frame.copies.items ≡ []) where
+  behind_few : (x : RExit) → Few (behind p x) (exit_blocks x - 1) (behind_most x)
+  behind_few (Call g xs d next) = by (resumes d (p.heads next))
     where
-      by : (b : Bool) → Few (if b then [] else after_block f d (place next) ∷ []) 1 2
+      by : (b : Bool) → Few (if b then [] else after_block p.frame d (p.place next) ∷ []) 1 2
       by true = record { blocks_few = omega arith; words_few = omega arith }
-      by false = let m = result_few (locations f) d in record { blocks_few = omega arith; words_few = omega (arith, m) }
+      by false = let m = result_few (locations p.frame) d in record { blocks_few = omega arith; words_few = omega (arith, m) }
   behind_few (Goto b) = record { blocks_few = omega arith; words_few = omega arith }
   behind_few (Branch c t e) = record { blocks_few = omega arith; words_few = omega arith }
   behind_few (Return o) = record { blocks_few = omega arith; words_few = omega arith }
   behind_few (Out x next) = record { blocks_few = omega arith; words_few = omega arith }
 
   own_few : (j m : ℕ) (b : RBlock) → HasFewArguments b.exit
-      → length (own_block globals starts entry place leaf f (head_code leaf f n (heads j)) m b).insts + behind_most b.exit
-      ≤ length (head_code leaf f n (heads j)) + (exit_most leaf + 8 * length b.insts.items)
+      → length (own_block l p.placing (head_code p (p.heads j)) m b).insts + behind_most b.exit
+      ≤ length (head_code p (p.heads j)) + (exit_most p.leaf + 8 * length b.insts.items)
   own_few j m b few =
-      let facts = known_after (locations f) b.insts.items no_facts in
-      let last = last_after (locations f) (asked_of b.exit) no_facts b.insts.items no_last in
-      let exit = exit_few leaf f facts last b.exit eight few in
-      let code = insts_few globals starts (locations f) (asked_of b.exit) no_facts b.insts.items (exit_code leaf f facts last b.exit) in
-      let sum = length-append (head_code leaf f n (heads j)) (insts_code globals starts (locations f) (asked_of b.exit) no_facts b.insts.items
-      (exit_code leaf f facts last b.exit)) in
+      let at = locations p.frame in
+      let facts = known_after at b.insts.items no_facts in
+      let last = last_after at (asked_of b.exit) no_facts b.insts.items no_last in
+      let exit = exit_few p.leaf p.frame facts last b.exit eight few in
+      let code = insts_few (context_in l p.placing) (asked_of b.exit) no_facts b.insts.items (exit_code p.leaf p.frame facts last b.exit) in
+      let sum = length-append (head_code p (p.heads j)) (insts_code (context_in l p.placing) (asked_of b.exit) no_facts b.insts.items
+      (exit_code p.leaf p.frame facts last b.exit)) in
       omega (arith, exit, code, sum)
 
   one_or_more : (x : RExit) → 1 ≤ exit_blocks x
@@ -95,12 +94,12 @@ module _ (globals : List RGlobal) (starts entry place : ℕ → ℕ) (leaf : Boo
 
   -- a block, and what is behind it
   one_few : (k j : ℕ) (b : RBlock) (bs : List RBlock) (blocks words : ℕ) → HasFewArguments b.exit
-      → Few (blocks_from globals starts entry place leaf heads f n (k + count heads b.exit) (suc j) bs) blocks words
-      → Few (blocks_from globals starts entry place leaf heads f n k j (b ∷ bs)) (exit_blocks b.exit + blocks)
-      (length (head_code leaf f n (heads j)) + (exit_most leaf + 8 * length b.insts.items) + words)
+      → Few (blocks_from l p (k + count p.heads b.exit) (suc j) bs) blocks words
+      → Few (blocks_from l p k j (b ∷ bs)) (exit_blocks b.exit + blocks)
+      (length (head_code p (p.heads j)) + (exit_most p.leaf + 8 * length b.insts.items) + words)
   one_few k j b bs blocks words few rest =
-      let own = own_few j (next_of heads place k b.exit) b few in
-      let more = both (behind heads place f b.exit) (blocks_from globals starts entry place leaf heads f n (k + count heads b.exit) (suc j) bs) (exit_blocks b.exit - 1)
+      let own = own_few j (next_of p k b.exit) b few in
+      let more = both (behind p b.exit) (blocks_from l p (k + count p.heads b.exit) (suc j) bs) (exit_blocks b.exit - 1)
       (behind_most b.exit) blocks words (behind_few b.exit) rest in
       let some = one_or_more b.exit in
       record { blocks_few = omega (arith, some, more.blocks_few); words_few = omega (arith, own, more.words_few) }
@@ -111,63 +110,60 @@ module _ (globals : List RGlobal) (starts entry place : ℕ → ℕ) (leaf : Boo
   most false = (omega arith, omega arith)
 
   -- those behind the first begin with two instructions at most
-  rest_few : ((j : ℕ) → length (head_code leaf f n (heads (suc j))) ≤ 2) → (k j : ℕ) (bs : List RBlock)
+  rest_few : ((j : ℕ) → length (head_code p (p.heads (suc j))) ≤ 2) → (k j : ℕ) (bs : List RBlock)
       → ((i : ℕ) (b : RBlock) → slice_get bs i ≡ Some b → HasFewArguments b.exit)
-      → Few (blocks_from globals starts entry place leaf heads f n k (suc j) bs) (exits_blocks bs) (14 * length bs + 8 * insts_in bs)
+      → Few (blocks_from l p k (suc j) bs) (exits_blocks bs) (14 * length bs + 8 * insts_in bs)
   rest_few small k j [] few = record { blocks_few = omega arith; words_few = omega arith }
   rest_few small k j (b ∷ bs) few =
       let head = small j in
-      let exit = (most leaf).0 in
-      let rest = rest_few small (k + count heads b.exit) (suc j) bs (λ i c e. few (suc i) c e) in
+      let exit = (most p.leaf).0 in
+      let rest = rest_few small (k + count p.heads b.exit) (suc j) bs (λ i c e. few (suc i) c e) in
       let all = one_few k (suc j) b bs (exits_blocks bs) (14 * length bs + 8 * insts_in bs) (few 0 b refl) rest in
       record { blocks_few = omega (arith, all.blocks_few); words_few = omega (arith, head, exit, all.words_few) }
 
   -- the prologue is in a block of its own, or at the head of the first
-  lead_few : (o : Option Naming) (first : ℕ) → (length (lead_blocks leaf (head_at 0 o) f n first) ≤ 1)
-      × (words_in (lead_blocks leaf (head_at 0 o) f n first) + length (head_code leaf f n (head_at 0 o)) ≤ prologue_most leaf)
-  lead_few None first = let m = prologue_few leaf f n eight four alone in (omega arith, omega (arith, m))
-  lead_few (Some Unnamed) first = let m = prologue_few leaf f n eight four alone in (omega arith, omega (arith, m))
-  lead_few (Some (Called None)) first = let m = prologue_few leaf f n eight four alone in (omega arith, omega (arith, m))
-  lead_few (Some (Called (Some d))) first = let m = prologue_few leaf f n eight four alone in (omega arith, omega (arith, m))
-  lead_few (Some Jumped) first = let m = prologue_few leaf f n eight four alone in (omega arith, omega (arith, m))
+  lead_few : (o : Option Naming) → (length (lead_blocks p (head_at 0 o)) ≤ 1)
+      × (words_in (lead_blocks p (head_at 0 o)) + length (head_code p (head_at 0 o)) ≤ prologue_most p.leaf)
+  lead_few None = let m = prologue_few p.leaf p.frame p.parameters eight four alone in (omega arith, omega (arith, m))
+  lead_few (Some Unnamed) = let m = prologue_few p.leaf p.frame p.parameters eight four alone in (omega arith, omega (arith, m))
+  lead_few (Some (Called None)) = let m = prologue_few p.leaf p.frame p.parameters eight four alone in (omega arith, omega (arith, m))
+  lead_few (Some (Called (Some d))) = let m = prologue_few p.leaf p.frame p.parameters eight four alone in (omega arith, omega (arith, m))
+  lead_few (Some Jumped) = let m = prologue_few p.leaf p.frame p.parameters eight four alone in (omega arith, omega (arith, m))
 
-later_head : (leaf : Bool) (f : Frame) (n : ℕ) (l : List Naming) (j : ℕ) → length (head_code leaf f n (head_at (suc j) (slice_get l (suc j)))) ≤ 2
-later_head leaf f n l j = by (slice_get l (suc j))
+later_head : (p : Planning) (names : List Naming) (j : ℕ) → length (head_code p (head_at (suc j) (slice_get names (suc j)))) ≤ 2
+later_head p names j = by (slice_get names (suc j))
   where
-    by : (o : Option Naming) → length (head_code leaf f n (head_at (suc j) o)) ≤ 2
+    by : (o : Option Naming) → length (head_code p (head_at (suc j) o)) ≤ 2
     by None = omega arith
     by (Some Unnamed) = at (nat_eq (suc j) 0) refl
       where
-        at : (b : Bool) → nat_eq (suc j) 0 ≡ b → length (head_code leaf f n (if b then Enters else Bare)) ≤ 2
+        at : (b : Bool) → nat_eq (suc j) 0 ≡ b → length (head_code p (if b then Enters else Bare)) ≤ 2
         at true e = let is = eqb-true (suc j) 0 e in absurd (omega (arith, is))
         at false e = omega arith
     by (Some (Called None)) = omega arith
     by (Some (Called (Some d))) = at (nat_eq (suc j) 0)
       where
-        at : (b : Bool) → length (head_code leaf f n (if b then Bare else Takes d)) ≤ 2
+        at : (b : Bool) → length (head_code p (if b then Bare else Takes d)) ≤ 2
         at true = omega arith
-        at false = result_few (locations f) (Some d)
+        at false = result_few (locations p.frame) (Some d)
     by (Some Jumped) = omega arith
 
-function_few : (globals : List RGlobal) (starts entry : ℕ → ℕ) (n k : ℕ) (bs : List RBlock) (f : Frame) → length f.saved.items ≤ 8 → n ≤ 4
+function_few : (l : Linking) (n k : ℕ) (bs : List RBlock) (f : Frame) → length f.saved.items ≤ 8 → n ≤ 4
     → (is_leaf bs ≡ false → f.copies.items ≡ []) → 0 < length bs → ((i : ℕ) (b : RBlock) → slice_get bs i ≡ Some b → HasFewArguments b.exit)
-    → Few (blocks_in globals starts entry n k bs f) (1 + exits_blocks bs) (14 + 14 * length bs + 8 * insts_in bs)
-function_few globals starts entry n k [] f eight four alone some few = absurd (omega (arith, some))
-function_few globals starts entry n k (b ∷ bs) f eight four alone some few =
+    → Few (blocks_in l n k bs f) (1 + exits_blocks bs) (14 + 14 * length bs + 8 * insts_in bs)
+function_few l n k [] f eight four alone some few = absurd (omega (arith, some))
+function_few l n k (b ∷ bs) f eight four alone some few =
     let all = b ∷ bs in
     let heads = heads_of all in
-    let leaf = is_leaf all in
-    let place = place_in k all in
+    let p = planning_in n k all f in
     let naming = slice_get (namings all (unnamed all)) 0 in
-    let small = later_head leaf f n (namings all (unnamed all)) in
-    let lead = lead_few globals starts entry place leaf heads f n eight four alone naming (place 0) in
-    let fits = (most globals starts entry place leaf heads f n eight four alone leaf).1 in
-    let rest = rest_few globals starts entry place leaf heads f n eight four alone (λ j. small j) (k + lead_in heads + count heads b.exit) 0 bs
-    (λ i c e. few (suc i) c e) in
-    let first = one_few globals starts entry place leaf heads f n eight four alone (k + lead_in heads) 0 b bs (exits_blocks bs)
-    (14 * length bs + 8 * insts_in bs) (few 0 b refl) rest in
-    let m = length-append (lead_blocks leaf (heads 0) f n (place 0)) (blocks_from globals starts entry place leaf heads f n (k + lead_in heads) 0 all) in
-    let w = words_append (lead_blocks leaf (heads 0) f n (place 0)) (blocks_from globals starts entry place leaf heads f n (k + lead_in heads) 0 all) in
+    let small = later_head p (namings all (unnamed all)) in
+    let lead = lead_few l p eight four alone naming in
+    let fits = (most l p eight four alone (is_leaf all)).1 in
+    let rest = rest_few l p eight four alone (λ j. small j) (k + lead_in heads + count heads b.exit) 0 bs (λ i c e. few (suc i) c e) in
+    let first = one_few l p eight four alone (k + lead_in heads) 0 b bs (exits_blocks bs) (14 * length bs + 8 * insts_in bs) (few 0 b refl) rest in
+    let m = length-append (lead_blocks p (heads 0)) (blocks_from l p (k + lead_in heads) 0 all) in
+    let w = words_append (lead_blocks p (heads 0)) (blocks_from l p (k + lead_in heads) 0 all) in
     record { blocks_few = omega (arith, lead.0, first.blocks_few, m); words_few = omega (arith, lead.1, fits, first.words_few, w) }
 
 -- ---- the program
@@ -179,26 +175,24 @@ record IsFew (func : RFunc) (f : Frame) : Type 0 where
   some : 0 < length func.blocks.items
   few : (i : ℕ) (b : RBlock) → slice_get func.blocks.items i ≡ Some b → HasFewArguments b.exit
 
-functions_few : (globals : List RGlobal) (starts entry : ℕ → ℕ) (k : ℕ) (funcs : List RFunc) (fs : List Frame)
+functions_few : (l : Linking) (k : ℕ) (funcs : List RFunc) (fs : List Frame)
     → ((i : ℕ) (func : RFunc) (f : Frame) → slice_get funcs i ≡ Some func → slice_get fs i ≡ Some f → IsFew func f)
-    → total 512 (functions_blocks globals starts entry k funcs fs) ≤ most_by_exits_for funcs
-functions_few globals starts entry k [] fs each = omega arith
-functions_few globals starts entry k (func ∷ funcs) [] each = omega arith
-functions_few globals starts entry k (func ∷ funcs) (f ∷ fs) each =
+    → total 512 (functions_blocks l k funcs fs) ≤ most_by_exits_for funcs
+functions_few l k [] fs each = omega arith
+functions_few l k (func ∷ funcs) [] each = omega arith
+functions_few l k (func ∷ funcs) (f ∷ fs) each =
     let is = each 0 func f refl refl in
-    let one = function_few globals starts entry func.parameters k func.blocks.items f is.eight is.four is.alone is.some is.few in
-    let cut = total_few (function_blocks globals starts entry k func f) in
-    let rest = functions_few globals starts entry (k + function_size func) funcs fs (λ i g h eg eh. each (suc i) g h eg eh) in
-    let sum = total_append (function_blocks globals starts entry k func f) (functions_blocks globals starts entry (k + function_size func) funcs fs) in
+    let one = function_few l func.parameters k func.blocks.items f is.eight is.four is.alone is.some is.few in
+    let cut = total_few (function_blocks l k func f) in
+    let rest = functions_few l (k + function_size func) funcs fs (λ i g h eg eh. each (suc i) g h eg eh) in
+    let sum = total_append (function_blocks l k func f) (functions_blocks l (k + function_size func) funcs fs) in
     omega (arith, one.blocks_few, one.words_few, cut, rest, sum)
 
 pub each_counted_by_exits : EachUnitIsCountedByExits
 each_counted_by_exits h ok places =
     let p = h.rtl.now in
-    let starts = start_of p.globals in
-    let entry = entry_of p.functions in
     let emittable = functions_emittable p p.functions (length p.globals) ok refl refl in
-    let few = functions_few p.globals starts entry 2 p.functions h.frames.items (λ i func f there at. record {
+    let few = functions_few (linking_for p) 2 p.functions h.frames.items (λ i func f there at. record {
       eight = placed_eight func f (places.by i func f there at);
       four = (emittable.by i func there).parameters;
       alone = are_alone h places i func f there at;

@@ -24,6 +24,7 @@ use Rattle.mips_emit.specs.Locations.{Locations, Facts, known_in, locations, las
 use Rattle.mips_emit.specs.Comparisons.{exit_by_form, comparison_of, last_with, tested, branch_code, branch_exit, return_code}
 use Rattle.mips_emit.proofs.Operands.{passes}
 use Rattle.mips_emit.proofs.Comparing.{none_asked, asked_result, returned_result}
+use Rattle.mips_select.specs.Plans.{Linking, Placing}
 use Rattle.mips_select.specs.Code.{epilogue, asked_of, exit_code, exit_of}
 
 -- as many words as are read
@@ -88,18 +89,18 @@ asked_test : (at : Locations) (facts : Facts) (c : ℕ) (i : RInst) (m : Compari
     → tested (Some m) c ≡ Some m
 asked_test at facts c i m e = ap (λ b. if b then Some m else None) (asked_result at facts c i m e)
 
-pub same_exit : (entry place : ℕ → ℕ) (f : Frame) (facts known known' : Facts) (i : RInst) (m : Comparison) (n : ℕ) (x : RExit)
-    → comparison_of (locations f) facts (asked_of x) i ≡ Some m
-    → exit_of entry place f known (last_with (Some m) None) n x ≡ exit_of entry place f known' (last_with (Some m) None) n x
-same_exit entry place f facts known known' i m n (Branch c t e) is =
-    let test = asked_test (locations f) facts c i m is in
-    ap (λ o. branch_exit o (known_in known c) (last_operand (locations f) known None c) (place t) (place e)) test
-    ∙ sym (ap (λ o. branch_exit o (known_in known' c) (last_operand (locations f) known' None c) (place t) (place e)) test)
-same_exit entry place f facts known known' i m n (Goto b) is = absurd (none_asked (locations f) facts i m is)
-same_exit entry place f facts known known' i m n (Call g xs d next) is = absurd (none_asked (locations f) facts i m is)
-same_exit entry place f facts known known' i m n (Return None) is = absurd (none_asked (locations f) facts i m is)
-same_exit entry place f facts known known' i m n (Return (Some x)) is = refl
-same_exit entry place f facts known known' i m n (Out b next) is = absurd (none_asked (locations f) facts i m is)
+pub same_exit : (l : Linking) (p : Placing) (facts known known' : Facts) (i : RInst) (m : Comparison) (n : ℕ) (x : RExit)
+    → comparison_of (locations p.frame) facts (asked_of x) i ≡ Some m
+    → exit_of l p known (last_with (Some m) None) n x ≡ exit_of l p known' (last_with (Some m) None) n x
+same_exit l p facts known known' i m n (Branch c t e) is =
+    let test = asked_test (locations p.frame) facts c i m is in
+    ap (λ o. branch_exit o (known_in known c) (last_operand (locations p.frame) known None c) (p.place t) (p.place e)) test
+    ∙ sym (ap (λ o. branch_exit o (known_in known' c) (last_operand (locations p.frame) known' None c) (p.place t) (p.place e)) test)
+same_exit l p facts known known' i m n (Goto b) is = absurd (none_asked (locations p.frame) facts i m is)
+same_exit l p facts known known' i m n (Call g xs d next) is = absurd (none_asked (locations p.frame) facts i m is)
+same_exit l p facts known known' i m n (Return None) is = absurd (none_asked (locations p.frame) facts i m is)
+same_exit l p facts known known' i m n (Return (Some x)) is = refl
+same_exit l p facts known known' i m n (Out b next) is = absurd (none_asked (locations p.frame) facts i m is)
 
 pub same_code : (leaf : Bool) (f : Frame) (facts known known' : Facts) (i : RInst) (m : Comparison) (x : RExit)
     → comparison_of (locations f) facts (asked_of x) i ≡ Some m

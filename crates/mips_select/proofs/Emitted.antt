@@ -8,7 +8,6 @@ use Rattle.mblock.specs.declared.exit.Exit.{Exit}
 use Rattle.mblock.specs.Parts.{BlockParts}
 use Rattle.rtl.specs.declared.instruction.RInst.{RInst}
 use Rattle.rtl.specs.declared.block.RBlock.{RBlock}
-use Rattle.rtl.specs.declared.block.RGlobal.{RGlobal}
 use Rattle.mips_homes.specs.declared.homed.Frame.{Frame}
 use Rattle.mips_emit.specs.declared.facts.Last.{Last}
 use Rattle.mips_emit.specs.declared.comparison.Asked.{Asked}
@@ -18,7 +17,8 @@ use Rattle.mips_emit.specs.Comparisons.{insts_code, last_after, no_last}
 use Rattle.mips_emit.proofs.Emitted.{insts_behind}
 use Rattle.mips_select.specs.declared.prologue.Direction.{Direction}
 use Rattle.mips_select.specs.Code.{frame_bytes, frame_word, frame_words, frame_link, saves, restores, link_save, link_load, lowers, raises, parameters_code, prologue, epilogue, asked_of, exit_code}
-use Rattle.mips_select.specs.Code.{exit_of, own_block}
+use Rattle.mips_select.specs.Code.{context_in, exit_of, own_block}
+use Rattle.mips_select.specs.Plans.{Linking, Placing}
 
 -- what a frame keeps: the registers that the function saves, and the link
 abbrev pub kept : Bool → Frame → List ℕ
@@ -100,29 +100,29 @@ saved_number rs i range lt =
     (omega (arith, low), omega (arith, high))
 
 -- a block, from the parts of what was made
-pub block_made : (globals : List RGlobal) (starts entry place : ℕ → ℕ) (leaf : Bool) (f : Frame) (head : List Plain) (n : ℕ) (b : RBlock)
+pub block_made : (l : Linking) (p : Placing) (head : List Plain) (n : ℕ) (b : RBlock)
     (insts : List RInst) (asked : Asked) (last : Last) (facts0 facts1 facts2 : Facts) (code0 codeh code1 code2 : List Plain) (x : Exit) (made : BlockParts)
     → code0 ≡ [] → codeh ≡ code0 ++ head → facts0 ≡ no_facts → insts ≡ b.insts.items → facts2 ≡ facts1 → asked ≡ asked_of b.exit
-    → last ≡ last_after (locations f) asked facts0 insts no_last
-    → code1 ≡ codeh ++ insts_code globals starts (locations f) asked facts0 insts [] → facts1 ≡ known_after (locations f) insts facts0
-    → code2 ≡ code1 ++ exit_code leaf f facts2 last b.exit → x ≡ exit_of entry place f facts2 last n b.exit
-    → made ≡ (let m : BlockParts = record { insts = code2; exit = x } in m) → made ≡ own_block globals starts entry place leaf f head n b
-block_made globals starts entry place leaf f head n b insts asked last facts0 facts1 facts2 code0 codeh code1 code2 x made e0 eh f0 is f2 a_is new e1 ek e2 ex em =
-    let known : facts2 ≡ known_after (locations f) b.insts.items no_facts = f2 ∙ ek ∙ ap (known_after (locations f) insts) f0 ∙ ap (λ is. known_after (locations f) is no_facts) is in
-    let last_one = last_after (locations f) (asked_of b.exit) no_facts b.insts.items no_last in
-    let new' : last ≡ last_after (locations f) (asked_of b.exit) no_facts b.insts.items no_last = new
-    ∙ ap₂ (λ (a : Asked) (l : Facts). last_after (locations f) a l insts no_last) a_is f0
-    ∙ ap (λ is. last_after (locations f) (asked_of b.exit) no_facts is no_last) is in
-    let exit : x ≡ exit_of entry place f (known_after (locations f) b.insts.items no_facts) last_one n b.exit = ex
-    ∙ ap₂ (λ (known : Facts) (last : Last). exit_of entry place f known last n b.exit) known new' in
-    let tail = exit_code leaf f (known_after (locations f) b.insts.items no_facts) last_one b.exit in
-    let all : code2 ≡ head ++ insts_code globals starts (locations f) (asked_of b.exit) no_facts b.insts.items tail =
-    e2 ∙ ap₂ (λ (known : Facts) (last : Last). code1 ++ exit_code leaf f known last b.exit) known new'
-    ∙ ap (λ l. l ++ tail) (e1 ∙ ap (λ l. l ++ insts_code globals starts (locations f) asked facts0 insts []) (eh ∙ ap (λ l. l ++ head) e0)
-    ∙ ap₂ (λ (a : Asked) (l : Facts). head ++ insts_code globals starts (locations f) a l insts []) a_is f0)
-    ∙ append_assoc head (insts_code globals starts (locations f) (asked_of b.exit) no_facts insts []) tail
-    ∙ ap (λ l. head ++ l) (insts_behind globals starts (locations f) (asked_of b.exit) no_facts insts tail
-    ∙ ap (λ is. insts_code globals starts (locations f) (asked_of b.exit) no_facts is tail) is) in
+    → last ≡ last_after (locations p.frame) asked facts0 insts no_last
+    → code1 ≡ codeh ++ insts_code (context_in l p) asked facts0 insts [] → facts1 ≡ known_after (locations p.frame) insts facts0
+    → code2 ≡ code1 ++ exit_code p.leaf p.frame facts2 last b.exit → x ≡ exit_of l p facts2 last n b.exit
+    → made ≡ (let m : BlockParts = record { insts = code2; exit = x } in m) → made ≡ own_block l p head n b
+block_made l p head n b insts asked last facts0 facts1 facts2 code0 codeh code1 code2 x made e0 eh f0 is f2 a_is new e1 ek e2 ex em =
+    let known : facts2 ≡ known_after (locations p.frame) b.insts.items no_facts = f2 ∙ ek ∙ ap (known_after (locations p.frame) insts) f0 ∙ ap (λ is. known_after (locations p.frame) is no_facts) is in
+    let last_one = last_after (locations p.frame) (asked_of b.exit) no_facts b.insts.items no_last in
+    let new' : last ≡ last_after (locations p.frame) (asked_of b.exit) no_facts b.insts.items no_last = new
+    ∙ ap₂ (λ (a : Asked) (facts : Facts). last_after (locations p.frame) a facts insts no_last) a_is f0
+    ∙ ap (λ is. last_after (locations p.frame) (asked_of b.exit) no_facts is no_last) is in
+    let exit : x ≡ exit_of l p (known_after (locations p.frame) b.insts.items no_facts) last_one n b.exit = ex
+    ∙ ap₂ (λ (known : Facts) (last : Last). exit_of l p known last n b.exit) known new' in
+    let tail = exit_code p.leaf p.frame (known_after (locations p.frame) b.insts.items no_facts) last_one b.exit in
+    let all : code2 ≡ head ++ insts_code (context_in l p) (asked_of b.exit) no_facts b.insts.items tail =
+    e2 ∙ ap₂ (λ (known : Facts) (last : Last). code1 ++ exit_code p.leaf p.frame known last b.exit) known new'
+    ∙ ap (λ l. l ++ tail) (e1 ∙ ap (λ is. is ++ insts_code (context_in l p) asked facts0 insts []) (eh ∙ ap (λ l. l ++ head) e0)
+    ∙ ap₂ (λ (a : Asked) (facts : Facts). head ++ insts_code (context_in l p) a facts insts []) a_is f0)
+    ∙ append_assoc head (insts_code (context_in l p) (asked_of b.exit) no_facts insts []) tail
+    ∙ ap (λ l. head ++ l) (insts_behind (context_in l p) (asked_of b.exit) no_facts insts tail
+    ∙ ap (λ is. insts_code (context_in l p) (asked_of b.exit) no_facts is tail) is) in
     em ∙ ap₂ (λ (l : List Plain) (x : Exit). let m : BlockParts = record { insts = l; exit = x } in m) all exit
 
 -- a block, from what stands before its own code, and that

@@ -10,7 +10,7 @@ use Rattle.runs.specs.Stores.{Places, Arrays, chain}
 use Rattle.mips_isa.specs.States.{State, IsWords, AreApart, is_open}
 use Rattle.mips_isa.specs.Starting.{stack_base, stack_end, is_mapped}
 use Rattle.rtl.specs.declared.block.RGlobal.{RGlobal}
-use Rattle.mips_homes.specs.HomedRun.{Run, Failed, read_home, read_homes, write_homes, is_in}
+use Rattle.mips_homes.specs.HomedRun.{cells, Run, Failed, read_home, read_homes, write_homes, is_in}
 use Rattle.mips_homes.specs.declared.homed.Home.{Home}
 use Rattle.mips_homes.specs.declared.homed.SlotCopy.{SlotCopy}
 use Rattle.mips_emit.specs.declared.location.Location.TheVariants.{Held, InSlot, Copied}
@@ -305,12 +305,12 @@ module _ (most total : ℕ) (gs : List RGlobal) (starts : ℕ → ℕ) where
         → Stands most total gs starts registers g (top ∷ fs) s
         → ((registers' slots' : Places) (s' : State) → RunsTo (parameters_code (locations_of top.copies hs) t x (length vs)) s s'
         → Stands most total gs starts registers' g (with_slots top slots' ∷ fs) s' → P (go registers' slots'))
-        → P (write_homes hs registers top.slots x vs out go)
+        → P (write_homes (cells hs registers top.slots) x vs out go)
     parameters [] t x registers top s go ok low high clear here h f = f registers top.slots s (runs_none s) h
     parameters (v ∷ vs) t x registers top s go ok low high clear here h f =
         let place : t + 0 ≡ t = omega arith in
         let is : s.regs t ≡ v = ap s.regs (sym place) ∙ here 0 v refl in
-        arrives most total gs starts (λ q. None) registers g top fs s h (none_deferred registers) P (λ r s. write_homes hs r s (suc x) vs out go) hs x v t out
+        arrives most total gs starts (λ q. None) registers g top fs s h (none_deferred registers) P (λ r s. write_homes (cells hs r s) (suc x) vs out go) hs x v t out
         low is (subst (λ v. v < 2 ^ 32) is ((h.words).regs t)) ok failed
         (λ r1 slots1 s1 e1 h1 same.
         parameters vs (suc t) (suc x) r1 (with_slots top slots1) s1 go ok (omega (arith, low)) (omega (arith, high)) clear.1

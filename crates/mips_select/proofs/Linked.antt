@@ -24,23 +24,23 @@ use Rattle.mips_select.specs.Functions.{blocks_of, owners_of, IsFrom, GoesWithin
 use Rattle.mips_select.proofs.Owned.{functions_owned}
 use Rattle.mips_select.specs.declared.heads.Head.{Head}
 use Rattle.mips_select.specs.declared.heads.Head.TheVariants.{Bare, Enters, Takes}
-use Rattle.mips_select.specs.Heads.{heads_of, is_leaf, resumes, count, lead_of, lead_in}
-use Rattle.mips_select.specs.Data.{start_of}
+use Rattle.mips_select.specs.Heads.{heads_of, resumes, count, lead_of, lead_in}
+use Rattle.mips_select.specs.Plans.{Linking, Planning}
 use Rattle.mips_select.specs.Code.{asked_of, exit_of, own_block, head_code, after_block, prologue_block, start_block, end_block}
 use Rattle.mips_select.proofs.Lists.{all_at}
-use Rattle.mips_select.specs.Whole.{size_of_blocks, numbers, next_of, behind, blocks_from, place_in, lead_blocks, function_blocks, size_in}
-use Rattle.mips_select.specs.Whole.{function_size, functions_size, entries_from, entry_of, owners_from, owners_for, functions_blocks, program_blocks}
+use Rattle.mips_select.specs.Whole.{size_of_blocks, numbers, next_of, behind, blocks_from, place_in, lead_blocks, planning_in, function_blocks, size_in}
+use Rattle.mips_select.specs.Whole.{function_size, functions_size, entries_from, entry_of, owners_from, owners_for, functions_blocks, linking_for, program_blocks}
 
-pub behind_length : (heads : ℕ → Head) (place : ℕ → ℕ) (f : Frame) (x : RExit) → suc (length (behind heads place f x)) ≡ count heads x
-behind_length heads place f (Call g xs d next) = go (resumes d (heads next))
+pub behind_length : (p : Planning) (x : RExit) → suc (length (behind p x)) ≡ count p.heads x
+behind_length p (Call g xs d next) = go (resumes d (p.heads next))
   where
-    go : (b : Bool) → suc (length (if b then [] else after_block f d (place next) ∷ [])) ≡ (if b then 1 else 2)
+    go : (b : Bool) → suc (length (if b then [] else after_block p.frame d (p.place next) ∷ [])) ≡ (if b then 1 else 2)
     go true = refl
     go false = refl
-behind_length heads place f (Goto b) = refl
-behind_length heads place f (Branch c t e) = refl
-behind_length heads place f (Return o) = refl
-behind_length heads place f (Out x next) = refl
+behind_length p (Goto b) = refl
+behind_length p (Branch c t e) = refl
+behind_length p (Return o) = refl
+behind_length p (Out x next) = refl
 
 -- each block takes a number
 pub one_at_least : (heads : ℕ → Head) (x : RExit) → 1 ≤ count heads x
@@ -54,29 +54,28 @@ one_at_least heads (Branch c t e) = omega arith
 one_at_least heads (Return o) = omega arith
 one_at_least heads (Out x next) = omega arith
 
-pub blocks_length : (globals : List RGlobal) (starts entry place : ℕ → ℕ) (leaf : Bool) (heads : ℕ → Head) (f : Frame) (n k j : ℕ) (bs : List RBlock)
-    → length (blocks_from globals starts entry place leaf heads f n k j bs) ≡ size_of_blocks heads bs
-blocks_length globals starts entry place leaf heads f n k j [] = refl
-blocks_length globals starts entry place leaf heads f n k j (b ∷ bs) =
-    let rest = blocks_length globals starts entry place leaf heads f n (k + count heads b.exit) (suc j) bs in
-    let one = behind_length heads place f b.exit in
-    let sum = length-append (behind heads place f b.exit) (blocks_from globals starts entry place leaf heads f n (k + count heads b.exit) (suc j) bs) in
+pub blocks_length : (l : Linking) (p : Planning) (k j : ℕ) (bs : List RBlock) → length (blocks_from l p k j bs) ≡ size_of_blocks p.heads bs
+blocks_length l p k j [] = refl
+blocks_length l p k j (b ∷ bs) =
+    let rest = blocks_length l p (k + count p.heads b.exit) (suc j) bs in
+    let one = behind_length p b.exit in
+    let sum = length-append (behind p b.exit) (blocks_from l p (k + count p.heads b.exit) (suc j) bs) in
     omega (arith, rest, one, sum)
 
-pub lead_length : (leaf : Bool) (head : Head) (f : Frame) (n first : ℕ) → length (lead_blocks leaf head f n first) ≡ lead_of head
-lead_length leaf Bare f n first = refl
-lead_length leaf Enters f n first = refl
-lead_length leaf (Takes d) f n first = refl
+pub lead_length : (p : Planning) (head : Head) → length (lead_blocks p head) ≡ lead_of head
+lead_length p Bare = refl
+lead_length p Enters = refl
+lead_length p (Takes d) = refl
 
-pub function_length : (globals : List RGlobal) (starts entry : ℕ → ℕ) (k : ℕ) (func : RFunc) (f : Frame)
-    → length (function_blocks globals starts entry k func f) ≡ function_size func
-function_length globals starts entry k func f =
+pub function_length : (l : Linking) (k : ℕ) (func : RFunc) (f : Frame)
+    → length (function_blocks l k func f) ≡ function_size func
+function_length l k func f =
     let bs = func.blocks.items in
     let heads = heads_of bs in
-    let front = lead_length (is_leaf bs) (heads 0) f func.parameters (place_in k bs 0) in
-    let long = blocks_length globals starts entry (place_in k bs) (is_leaf bs) heads f func.parameters (k + lead_in heads) 0 bs in
-    let sum = length-append (lead_blocks (is_leaf bs) (heads 0) f func.parameters (place_in k bs 0))
-    (blocks_from globals starts entry (place_in k bs) (is_leaf bs) heads f func.parameters (k + lead_in heads) 0 bs) in
+    let p = planning_in func.parameters k bs f in
+    let front = lead_length p (heads 0) in
+    let long = blocks_length l p (k + lead_in heads) 0 bs in
+    let sum = length-append (lead_blocks p (heads 0)) (blocks_from l p (k + lead_in heads) 0 bs) in
     omega (arith, front, long, sum)
 
 -- numbers of blocks are from the first on, and below the end
@@ -98,11 +97,10 @@ entries_below k [] g lt = absurd (omega (arith, lt))
 entries_below k (func ∷ funcs) zero lt = (let some = function_some func.blocks.items in omega (arith, some))
 entries_below k (func ∷ funcs) (suc g) lt = (let rest = entries_below (k + function_size func) funcs g (omega (arith, lt)) in omega (arith, rest))
 
-module _ (globals : List RGlobal) (starts entry : ℕ → ℕ) (functions : List RFunc) (bound : ℕ) (entry_below : (g : ℕ) → g < length functions
-    → entry g < bound) where
-  module _ (start size blocks : ℕ) (fits : start + size ≤ bound) (heads : ℕ → Head) (place : ℕ → ℕ) (leaf : Bool) (f : Frame) (n : ℕ) (place_from : (t : ℕ)
-      → t < blocks → IsFrom start size (place t)) where
-    place_below : (t : ℕ) → t < blocks → place t < bound
+module _ (l : Linking) (functions : List RFunc) (bound : ℕ) (entry_below : (g : ℕ) → g < length functions → l.entry g < bound) where
+  module _ (start size blocks : ℕ) (fits : start + size ≤ bound) (p : Planning) (place_from : (t : ℕ)
+      → t < blocks → IsFrom start size (p.place t)) where
+    place_below : (t : ℕ) → t < blocks → p.place t < bound
     place_below t lt = (let high = (place_from t lt).1 in omega (arith, fits, high))
 
     from_below : (t : ℕ) → IsFrom start size t → t < bound
@@ -126,70 +124,70 @@ module _ (globals : List RGlobal) (starts entry : ℕ → ℕ) (functions : List
         → GoesWithin bound start size (branch_exit test known x t e)
     branch_goes None None x t e at_t at_e = (at_t, at_e)
     branch_goes None (Some w) x t e at_t at_e = known_goes (nat_eq w 0) t e at_t at_e
-    branch_goes (Some m) known x t e at_t at_e = compared_goes m.form m.x m.y t e at_t at_e
+    branch_goes (Some m) known x t e at_t at_e = compared_goes m.form m.left.source m.right.source t e at_t at_e
 
     next_below : (k : ℕ) (g : ℕ) (d : Option ℕ) (next : ℕ) → next < blocks → (b : Bool) → k + (if b then 1 else 2) ≤ bound
-        → (if b then place next else suc k) < bound
+        → (if b then p.place next else suc k) < bound
     next_below k g d next lt true le = place_below next lt
     next_below k g d next lt false le = omega (arith, le)
 
     -- the exits of the blocks that stand for a block
-    exit_goes : (k : ℕ) (facts : Facts) (last : Last) (x : RExit) → IsExit functions blocks x → k + count heads x ≤ bound
-        → GoesWithin bound start size (exit_of entry place f facts last (next_of heads place k x) x)
+    exit_goes : (k : ℕ) (facts : Facts) (last : Last) (x : RExit) → IsExit functions blocks x → k + count p.heads x ≤ bound
+        → GoesWithin bound start size (exit_of l p.placing facts last (next_of p k x) x)
     exit_goes k facts last (Goto b) ok le = place_below b ok
-    exit_goes k facts last (Branch c t e) ok le = branch_goes (tested last.comparison c) (known_in facts c) (last_operand (locations f) facts last.fresh c) (place t) (place e)
+    exit_goes k facts last (Branch c t e) ok le = branch_goes (tested last.comparison c) (known_in facts c) (last_operand (locations p.frame) facts last.fresh c) (p.place t) (p.place e)
         (place_from t (ok.1).0) (place_from e (ok.1).1)
     exit_goes k facts last (Call g xs d next) ok le = (
       entry_below g (slice_get_within functions g (ok.0).callee (ok.0).there),
       next_below k g d next
-          ((ok.1).1).1 (resumes d (heads next)) le,
+          ((ok.1).1).1 (resumes d (p.heads next)) le,
     )
     exit_goes k facts last (Return o) ok le = tt
     exit_goes k facts last (Out x next) ok le = place_below next ok.1
 
     behind_goes : (x : RExit) → IsExit functions blocks x → (rest : List BlockParts) → ((i : ℕ) (b : BlockParts) → slice_get rest i ≡ Some b
-        → GoesWithin bound start size b.exit) → (i : ℕ) (b : BlockParts) → slice_get (behind heads place f x ++ rest) i ≡ Some b
+        → GoesWithin bound start size b.exit) → (i : ℕ) (b : BlockParts) → slice_get (behind p x ++ rest) i ≡ Some b
         → GoesWithin bound start size b.exit
     behind_goes (Goto t) ok rest goes i b there = goes i b there
     behind_goes (Branch c t e) ok rest goes i b there = goes i b there
     behind_goes (Return o) ok rest goes i b there = goes i b there
     behind_goes (Out x next) ok rest goes i b there = goes i b there
-    behind_goes (Call g xs d next) ok rest goes i b there = go (resumes d (heads next)) i there
+    behind_goes (Call g xs d next) ok rest goes i b there = go (resumes d (p.heads next)) i there
       where
-        go : (r : Bool) (i : ℕ) → slice_get ((if r then [] else after_block f d (place next) ∷ []) ++ rest) i ≡ Some b → GoesWithin bound start size b.exit
+        go : (r : Bool) (i : ℕ) → slice_get ((if r then [] else after_block p.frame d (p.place next) ∷ []) ++ rest) i ≡ Some b → GoesWithin bound start size b.exit
         go true i there = goes i b there
-        go false zero there = subst (λ (b : BlockParts). GoesWithin bound start size b.exit) (same_Some (after_block f d (place next)) b there)
+        go false zero there = subst (λ (b : BlockParts). GoesWithin bound start size b.exit) (same_Some (after_block p.frame d (p.place next)) b there)
             (place_below next ((ok.1).1).1)
         go false (suc i) there = goes i b there
 
-    blocks_go : (k j : ℕ) (bs : List RBlock) → k + size_of_blocks heads bs ≤ bound → ((i : ℕ) (b : RBlock) → slice_get bs i ≡ Some b
-        → IsExit functions blocks b.exit) → (i : ℕ) (b : BlockParts) → slice_get (blocks_from globals starts entry place leaf heads f n k j bs) i ≡ Some b
+    blocks_go : (k j : ℕ) (bs : List RBlock) → k + size_of_blocks p.heads bs ≤ bound → ((i : ℕ) (b : RBlock) → slice_get bs i ≡ Some b
+        → IsExit functions blocks b.exit) → (i : ℕ) (b : BlockParts) → slice_get (blocks_from l p k j bs) i ≡ Some b
         → GoesWithin bound start size b.exit
     blocks_go k j [] le ok i b there = absurd (none-some b there)
     blocks_go k j (x ∷ bs) le ok zero b there =
         subst (λ (b : BlockParts). GoesWithin bound start size b.exit) (same_Some
-        (own_block globals starts entry place leaf f (head_code leaf f n (heads j)) (next_of heads place k x.exit) x) b there)
-        (exit_goes k (known_after (locations f) x.insts.items no_facts) (last_after (locations f) (asked_of x.exit) no_facts x.insts.items no_last) x.exit
+        (own_block l p.placing (head_code p (p.heads j)) (next_of p k x.exit) x) b there)
+        (exit_goes k (known_after (locations p.frame) x.insts.items no_facts) (last_after (locations p.frame) (asked_of x.exit) no_facts x.insts.items no_last) x.exit
         (ok 0 x refl) (omega (arith, le)))
     blocks_go k j (x ∷ bs) le ok (suc i) b there =
-        behind_goes x.exit (ok 0 x refl) (blocks_from globals starts entry place leaf heads f n (k + count heads x.exit) (suc j) bs)
-        (λ i b there. blocks_go (k + count heads x.exit) (suc j) bs (omega (arith, le)) (λ i b there. ok (suc i) b there) i b there) i b there
+        behind_goes x.exit (ok 0 x refl) (blocks_from l p (k + count p.heads x.exit) (suc j) bs)
+        (λ i b there. blocks_go (k + count p.heads x.exit) (suc j) bs (omega (arith, le)) (λ i b there. ok (suc i) b there) i b there) i b there
 
     lead_goes : (head : Head) → 0 < blocks → (rest : List BlockParts) → ((i : ℕ) (b : BlockParts) → slice_get rest i ≡ Some b
-        → GoesWithin bound start size b.exit) → (i : ℕ) (b : BlockParts) → slice_get (lead_blocks leaf head f n (place 0) ++ rest) i ≡ Some b
+        → GoesWithin bound start size b.exit) → (i : ℕ) (b : BlockParts) → slice_get (lead_blocks p head ++ rest) i ≡ Some b
         → GoesWithin bound start size b.exit
     lead_goes Enters some rest goes i b there = goes i b there
     lead_goes Bare some rest goes zero b there = subst (λ (b : BlockParts). GoesWithin bound start size b.exit)
-        (same_Some (prologue_block leaf f n (place 0)) b there) (place_below 0 some)
+        (same_Some (prologue_block p.leaf p.frame p.parameters (p.place 0)) b there) (place_below 0 some)
     lead_goes Bare some rest goes (suc i) b there = goes i b there
     lead_goes (Takes d) some rest goes zero b there = subst (λ (b : BlockParts). GoesWithin bound start size b.exit)
-        (same_Some (prologue_block leaf f n (place 0)) b there) (place_below 0 some)
+        (same_Some (prologue_block p.leaf p.frame p.parameters (p.place 0)) b there) (place_below 0 some)
     lead_goes (Takes d) some rest goes (suc i) b there = goes i b there
 
-  function_goes : (k : ℕ) (func : RFunc) (f : Frame) → IsFunction functions (length globals) func → k + function_size func ≤ bound
-      → IsFunctionAt bound k (function_blocks globals starts entry k func f)
+  function_goes : (k : ℕ) (func : RFunc) (f : Frame) → IsFunction functions (length l.globals) func → k + function_size func ≤ bound
+      → IsFunctionAt bound k (function_blocks l k func f)
   function_goes k func f ok le = record {
-    by = λ i b there. subst (λ n. GoesWithin bound k n b.exit) (sym (function_length globals starts entry k func f))
+    by = λ i b there. subst (λ n. GoesWithin bound k n b.exit) (sym (function_length l k func f))
         (go i b there);
   }
     where
@@ -206,53 +204,51 @@ module _ (globals : List RGlobal) (starts entry : ℕ → ℕ) (functions : List
           let high = at.1 in
           (omega (arith, low), omega (arith, high))
 
-      go : (i : ℕ) (b : BlockParts) → slice_get (function_blocks globals starts entry k func f) i ≡ Some b → GoesWithin bound k (function_size func) b.exit
+      go : (i : ℕ) (b : BlockParts) → slice_get (function_blocks l k func f) i ≡ Some b → GoesWithin bound k (function_size func) b.exit
       go i b there =
-          lead_goes k (function_size func) (length func.blocks.items) le heads (place_in k func.blocks.items) (is_leaf func.blocks.items) f func.parameters
-          from_next (heads 0) ok.entry
-          (blocks_from globals starts entry (place_in k func.blocks.items) (is_leaf func.blocks.items) heads f func.parameters (k + lead_in heads) 0
-          func.blocks.items)
-          (λ i b there. blocks_go k (function_size func) (length func.blocks.items) le heads (place_in k func.blocks.items) (is_leaf func.blocks.items) f
-          func.parameters from_next (k + lead_in heads) 0 func.blocks.items (omega (arith, le))
-          (λ i b there. (all_at (IsBlock functions (length globals) (length func.blocks.items)) func.blocks.items i b ok.blocks there).exit) i b there) i b
+          let p = planning_in func.parameters k func.blocks.items f in
+          lead_goes k (function_size func) (length func.blocks.items) le p from_next (heads 0) ok.entry
+          (blocks_from l p (k + lead_in heads) 0 func.blocks.items)
+          (λ i b there. blocks_go k (function_size func) (length func.blocks.items) le p from_next (k + lead_in heads) 0 func.blocks.items (omega (arith, le))
+          (λ i b there. (all_at (IsBlock functions (length l.globals) (length func.blocks.items)) func.blocks.items i b ok.blocks there).exit) i b there) i b
           there
 
   -- those of each function
   abbrev pub each_function : ℕ → List RFunc → List Frame → List (List BlockParts)
   each_function k [] fs = []
   each_function k (func ∷ funcs) [] = []
-  each_function k (func ∷ funcs) (f ∷ fs) = function_blocks globals starts entry k func f ∷ each_function (k + function_size func) funcs fs
+  each_function k (func ∷ funcs) (f ∷ fs) = function_blocks l k func f ∷ each_function (k + function_size func) funcs fs
 
   functions_go : (k : ℕ) (funcs : List RFunc) (fs : List Frame) → ((g : ℕ) (func : RFunc) → slice_get funcs g ≡ Some func
-      → IsFunction functions (length globals) func) → k + functions_size funcs ≤ bound → AreFunctions bound k (each_function k funcs fs)
+      → IsFunction functions (length l.globals) func) → k + functions_size funcs ≤ bound → AreFunctions bound k (each_function k funcs fs)
   functions_go k [] fs has le = tt
   functions_go k (func ∷ funcs) [] has le = tt
   functions_go k (func ∷ funcs) (f ∷ fs) has le = (
     function_goes k func f (has 0 func refl) (omega (arith, le)),
-    subst (λ n. AreFunctions bound (k + n) (each_function (k + function_size func) funcs fs)) (sym (function_length globals starts entry k func f))
+    subst (λ n. AreFunctions bound (k + n) (each_function (k + function_size func) funcs fs)) (sym (function_length l k func f))
         (functions_go (k + function_size func) funcs fs (λ g func there. has (suc g) func there) (omega (arith, le))),
   )
 
-  functions_joined : (k : ℕ) (funcs : List RFunc) (fs : List Frame) → blocks_of (each_function k funcs fs) ≡ functions_blocks globals starts entry k funcs fs
+  functions_joined : (k : ℕ) (funcs : List RFunc) (fs : List Frame) → blocks_of (each_function k funcs fs) ≡ functions_blocks l k funcs fs
   functions_joined k [] fs = refl
   functions_joined k (func ∷ funcs) [] = refl
-  functions_joined k (func ∷ funcs) (f ∷ fs) = ap (λ l. function_blocks globals starts entry k func f ++ l) (functions_joined (k + function_size func) funcs fs)
+  functions_joined k (func ∷ funcs) (f ∷ fs) = ap (λ rest. function_blocks l k func f ++ rest) (functions_joined (k + function_size func) funcs fs)
 
   functions_length : (k : ℕ) (funcs : List RFunc) (fs : List Frame) → length fs ≡ length funcs
       → length (blocks_of (each_function k funcs fs)) ≡ functions_size funcs
   functions_length k [] fs same = refl
   functions_length k (func ∷ funcs) [] same = absurd (omega (arith, same))
   functions_length k (func ∷ funcs) (f ∷ fs) same =
-      let here = function_length globals starts entry k func f in
+      let here = function_length l k func f in
       let rest = functions_length (k + function_size func) funcs fs (omega (arith, same)) in
-      let sum = length-append (function_blocks globals starts entry k func f) (blocks_of (each_function (k + function_size func) funcs fs)) in
+      let sum = length-append (function_blocks l k func f) (blocks_of (each_function (k + function_size func) funcs fs)) in
       omega (arith, here, rest, sum)
 
   functions_owners : (k : ℕ) (funcs : List RFunc) (fs : List Frame) → length fs ≡ length funcs → owners_of k (each_function k funcs fs) ≡ owners_from k funcs
   functions_owners k [] fs same = refl
   functions_owners k (func ∷ funcs) [] same = absurd (omega (arith, same))
   functions_owners k (func ∷ funcs) (f ∷ fs) same =
-      let long = function_length globals starts entry k func f in
+      let long = function_length l k func f in
       ap (λ n. replicate n k ++ owners_of (k + n) (each_function (k + function_size func) funcs fs)) long
       ∙ ap (λ l. replicate (function_size func) k ++ l) (functions_owners (k + function_size func) funcs fs (omega (arith, same)))
 
@@ -261,10 +257,8 @@ pub program_length : (h : Homed) → length h.frames.items ≡ length (h.rtl.now
 program_length h same =
     let p = h.rtl.now in
     let bound = 2 + functions_size p.functions in
-    let joined = functions_joined p.globals (start_of p.globals) (entry_of p.functions) p.functions bound (λ g lt. entries_below 2 p.functions g lt) 2
-    p.functions h.frames.items in
-    let long = functions_length p.globals (start_of p.globals) (entry_of p.functions) p.functions bound (λ g lt. entries_below 2 p.functions g lt) 2
-    p.functions h.frames.items same in
+    let joined = functions_joined (linking_for p) p.functions bound (λ g lt. entries_below 2 p.functions g lt) 2 p.functions h.frames.items in
+    let long = functions_length (linking_for p) p.functions bound (λ g lt. entries_below 2 p.functions g lt) 2 p.functions h.frames.items same in
     let e = ap length joined in
     omega (arith, e, long)
 
@@ -288,7 +282,7 @@ program_well h ok same =
     below g lt = entries_below 2 (h.rtl.now).functions g lt
 
     rest : List (List BlockParts)
-    rest = each_function globals (start_of globals) (entry_of funcs) funcs bound below 2 funcs h.frames.items
+    rest = each_function (linking_for h.rtl.now) funcs bound below 2 funcs h.frames.items
 
     first : List BlockParts
     first = start_block (entry_of funcs (h.rtl.now).main) ∷ end_block ∷ []
@@ -297,13 +291,13 @@ program_well h ok same =
     all = first ∷ rest
 
     joined : blocks_of all ≡ program_blocks h
-    joined = ap (λ l. first ++ l) (functions_joined globals (start_of globals) (entry_of funcs) funcs bound below 2 funcs h.frames.items)
+    joined = ap (λ l. first ++ l) (functions_joined (linking_for h.rtl.now) funcs bound below 2 funcs h.frames.items)
 
     owners : owners_of 0 all ≡ owners_for (h.rtl.now).functions
-    owners = ap (λ l. 0 ∷ 0 ∷ l) (functions_owners globals (start_of globals) (entry_of funcs) funcs bound below 2 funcs h.frames.items same)
+    owners = ap (λ l. 0 ∷ 0 ∷ l) (functions_owners (linking_for h.rtl.now) funcs bound below 2 funcs h.frames.items same)
 
     size : length (blocks_of all) ≡ bound
-    size = (let long = functions_length globals (start_of globals) (entry_of funcs) funcs bound below 2 funcs h.frames.items same in omega (arith, long))
+    size = (let long = functions_length (linking_for h.rtl.now) funcs bound below 2 funcs h.frames.items same in omega (arith, long))
 
     starts_go : (i : ℕ) (b : BlockParts) → slice_get first i ≡ Some b → GoesWithin bound 0 2 b.exit
     starts_go zero b there = subst (λ (b : BlockParts). GoesWithin bound 0 2 b.exit) (same_Some (start_block (entry_of funcs (h.rtl.now).main)) b there)
@@ -314,6 +308,6 @@ program_well h ok same =
     functions : AreFunctions (length (blocks_of all)) 0 all
     functions = subst (λ n. AreFunctions n 0 all) (sym size) (
       record { by = starts_go },
-      functions_go globals (start_of globals) (entry_of funcs) funcs bound below 2 funcs h.frames.items
+      functions_go (linking_for h.rtl.now) funcs bound below 2 funcs h.frames.items
           (λ g func there. all_at (IsFunction funcs (length globals)) funcs g func ok.functions there) (omega arith),
     )

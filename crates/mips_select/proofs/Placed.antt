@@ -3,12 +3,12 @@ use Rattle.std.proofs.Common.{◌≡◌, ℕ, zero, suc, ◌+◌, ◌*◌, ◌<�
 use Rattle.std.proofs.Common.{Option, Some, None, refl, sym, ap, ◌∙◌, subst, arith}
 use Rattle.std.specs.Prelude.{All, if◌then◌else◌, slice_get, slice_index}
 use Rattle.std.proofs.lemmas.Option.{same_Some, none-some, slice_get_within}
+use Rattle.mips_isa.specs.declared.inst.Plain.{Plain}
 use Rattle.mblock.specs.Parts.{BlockParts}
 use Rattle.rtl.specs.declared.instruction.RExit.{RExit}
 use Rattle.rtl.specs.declared.instruction.RExit.TheVariants.{Goto, Branch, Call, Return, Out}
 use Rattle.rtl.specs.declared.block.RBlock.{RBlock}
 use Rattle.rtl.specs.declared.block.RFunc.{RFunc}
-use Rattle.rtl.specs.declared.block.RGlobal.{RGlobal}
 use Rattle.rtl.specs.Programs as programs
 use Rattle.rtl.specs.Programs.{IsProgram}
 use Rattle.mips_homes.specs.Preferences.{reach_from, exit_reach, blocks_reach}
@@ -28,19 +28,19 @@ use Rattle.mips_select.specs.declared.heads.Head.{Head}
 use Rattle.mips_select.specs.declared.heads.Head.TheVariants.{Bare, Enters, Takes}
 use Rattle.mips_select.specs.declared.limits.TheConstants.{STACK_BYTES}
 use Rattle.mips_select.specs.Heads.{calls_none, is_leaf, namings, unnamed, head_at, heads_of, resumes, count, lead_of, lead_in}
-use Rattle.mips_select.specs.Data.{start_of}
+use Rattle.mips_select.specs.Plans.{Linking, Planning}
 use Rattle.mips_select.specs.Code.{prologue, result_code, head_code, own_block, after_block, prologue_block}
-use Rattle.mips_select.specs.Whole.{numbers, next_of, behind, blocks_from, place_in, lead_blocks, function_blocks, function_size, entries_from}
-use Rattle.mips_select.specs.Whole.{entry_of, functions_blocks, program_blocks}
+use Rattle.mips_select.specs.Whole.{numbers, next_of, behind, blocks_from, place_in, lead_blocks, planning_in, function_blocks, function_size, entries_from}
+use Rattle.mips_select.specs.Whole.{entry_of, functions_blocks, linking_for, program_blocks}
 use Rattle.mips_select.specs.Selected.{IsBehind, AreInOrder, IsClear, AreClear, GoesOn, StandsAt, IsSelected}
 use Rattle.mips_select.proofs.Lists.{all_at}
 use Rattle.mips_select.proofs.Linked.{behind_length, lead_length, function_length}
 use Rattle.mips_select.proofs.Named.{NamedJump, NamedCall, Named, named}
 
-no_head_code : (leaf : Bool) (f : Frame) (n : ℕ) (x : Head) → NamedJump x → head_code leaf f n x ≡ []
-no_head_code leaf f n Bare ok = refl
-no_head_code leaf f n Enters ok = absurd ok
-no_head_code leaf f n (Takes d) ok = absurd ok
+no_head_code : (p : Planning) (x : Head) → NamedJump x → head_code p x ≡ []
+no_head_code p Bare ok = refl
+no_head_code p Enters ok = absurd ok
+no_head_code p (Takes d) ok = absurd ok
 
 -- a home below 8 is in a register in which no argument is passed behind it, and where a parameter comes
 abbrev pub AreSeated : RFunc → Frame → Type 0
@@ -136,86 +136,86 @@ leaf_fine (x ∷ bs) (suc b) block there = more (calls_none x.exit) block.exit (
     more false (Return o) ok = tt
     more false (Out y next) ok = tt
 
-module _ (whole : List BlockParts) (globals : List RGlobal) (starts entry : ℕ → ℕ) where
-  goes_on : (leaf : Bool) (heads : ℕ → Head) (place : ℕ → ℕ) (f : Frame) (n k : ℕ) (x : RExit) (rest : List BlockParts) → Named heads x → IsFine leaf x → IsOrdered f x
-      → HasAt whole (suc k) (behind heads place f x ++ rest) → GoesOn whole globals starts entry leaf f place (λ b. head_code leaf f n (heads b))
-      (next_of heads place k x) x
-  goes_on leaf heads place f n k (Call g xs d next) rest ok calls order has = go d (heads next) refl ok has
+-- what stands before the own code of each block
+abbrev heads_code : Planning → ℕ → List Plain
+heads_code p b = head_code p (p.heads b)
+
+module _ (whole : List BlockParts) (l : Linking) where
+  goes_on : (p : Planning) (k : ℕ) (x : RExit) (rest : List BlockParts) → Named p.heads x → IsFine p.leaf x → IsOrdered p.frame x
+      → HasAt whole (suc k) (behind p x ++ rest) → GoesOn whole l p.placing (heads_code p) (next_of p k x) x
+  goes_on p k (Call g xs d next) rest ok calls order has = go d (p.heads next) refl ok has
     where
-      go : (d : Option ℕ) (x : Head) → heads next ≡ x → NamedCall d x → HasAt whole (suc k)
-          ((if resumes d x then [] else after_block f d (place next) ∷ []) ++ rest)
-          → GoesOn whole globals starts entry leaf f place (λ b. head_code leaf f n (heads b)) (if resumes d x then place next else suc k) (Call g xs d next)
-      go None Bare e ok has = ((calls, order), inr (refl, ap (head_code leaf f n) e))
-      go (Some d) Bare e ok has = ((calls, order), inl (has_head whole (suc k) (after_block f (Some d) (place next)) rest has, ap (head_code leaf f n) e))
+      go : (d : Option ℕ) (x : Head) → p.heads next ≡ x → NamedCall d x → HasAt whole (suc k)
+          ((if resumes d x then [] else after_block p.frame d (p.place next) ∷ []) ++ rest)
+          → GoesOn whole l p.placing (heads_code p) (if resumes d x then p.place next else suc k) (Call g xs d next)
+      go None Bare e ok has = ((calls, order), inr (refl, ap (head_code p) e))
+      go (Some d) Bare e ok has = ((calls, order), inl (has_head whole (suc k) (after_block p.frame (Some d) (p.place next)) rest has, ap (head_code p) e))
       go d Enters e ok has = absurd ok
       go None (Takes c) e ok has = absurd (none-some c ok)
-      go (Some d) (Takes c) e ok has = ((calls, order), inr (refl, ap (head_code leaf f n) e ∙ ap (result_code (locations f)) (sym ok)))
-  goes_on leaf heads place f n k (Goto b) rest ok calls order has = no_head_code leaf f n (heads b) ok
-  goes_on leaf heads place f n k (Branch c t e) rest ok calls order has = (no_head_code leaf f n (heads t) ok.0, no_head_code leaf f n (heads e) ok.1)
-  goes_on leaf heads place f n k (Return o) rest ok calls order has = tt
-  goes_on leaf heads place f n k (Out x next) rest ok calls order has = no_head_code leaf f n (heads next) ok
+      go (Some d) (Takes c) e ok has = ((calls, order), inr (refl, ap (head_code p) e ∙ ap (result_code (locations p.frame)) (sym ok)))
+  goes_on p k (Goto b) rest ok calls order has = no_head_code p (p.heads b) ok
+  goes_on p k (Branch c t e) rest ok calls order has = (no_head_code p (p.heads t) ok.0, no_head_code p (p.heads e) ok.1)
+  goes_on p k (Return o) rest ok calls order has = tt
+  goes_on p k (Out x next) rest ok calls order has = no_head_code p (p.heads next) ok
 
-  placed : (leaf : Bool) (heads : ℕ → Head) (place : ℕ → ℕ) (f : Frame) (n k j : ℕ) (bs : List RBlock)
-      → HasAt whole k (blocks_from globals starts entry place leaf heads f n k j bs) → ((b : ℕ) (block : RBlock) → slice_get bs b ≡ Some block
-      → Named heads block.exit) → ((b : ℕ) (block : RBlock) → slice_get bs b ≡ Some block → IsFine leaf block.exit)
-      → ((b : ℕ) (block : RBlock) → slice_get bs b ≡ Some block → IsOrdered f block.exit)
-      → (b : ℕ) (block : RBlock) → slice_get bs b ≡ Some block → StandsAt whole globals starts entry leaf f place (λ b. head_code leaf f n (heads b))
-      (slice_index (numbers heads k bs) b) (head_code leaf f n (heads (j + b))) block
-  placed leaf heads place f n k j [] has ok fine order b block there = absurd (none-some block there)
-  placed leaf heads place f n k j (x ∷ bs) has ok fine order zero block there =
-      let rest = behind heads place f x.exit ++ blocks_from globals starts entry place leaf heads f n (k + count heads x.exit) (suc j) bs in
-      let zero_j : j ≡ j + 0 = omega arith in
-      let first = own_block globals starts entry place leaf f (head_code leaf f n (heads j)) (next_of heads place k x.exit) x in
-      subst (λ i. StandsAt whole globals starts entry leaf f place (λ b. head_code leaf f n (heads b)) k (head_code leaf f n (heads i)) block) zero_j
-      (subst (λ (block : RBlock). StandsAt whole globals starts entry leaf f place (λ b. head_code leaf f n (heads b)) k (head_code leaf f n (heads j))
-      block) (same_Some x block there) (record {
-        next = next_of heads place k x.exit;
-        there = has_head whole k first rest has;
-        leads_on = goes_on leaf heads place f n k x.exit (blocks_from globals starts entry place leaf heads f n (k + count heads x.exit) (suc j) bs)
-            (ok 0 x refl) (fine 0 x refl) (order 0 x refl) (has_tail whole k first rest has);
-      }))
-  placed leaf heads place f n k j (x ∷ bs) has ok fine order (suc b) block there =
-      let more = blocks_from globals starts entry place leaf heads f n (k + count heads x.exit) (suc j) bs in
-      let rest = behind heads place f x.exit ++ more in
-      let one = behind_length heads place f x.exit in
-      let first = own_block globals starts entry place leaf f (head_code leaf f n (heads j)) (next_of heads place k x.exit) x in
-      let next : suc k + length (behind heads place f x.exit) ≡ k + count heads x.exit = omega (arith, one) in
-      let has' : HasAt whole (k + count heads x.exit) more = subst (λ n. HasAt whole n more) next
-      (has_back whole (suc k) (behind heads place f x.exit) more (has_tail whole k first rest has)) in
-      let next_j : suc j + b ≡ j + suc b = omega arith in
-      subst (λ i. StandsAt whole globals starts entry leaf f place (λ b. head_code leaf f n (heads b))
-      (slice_index (numbers heads (k + count heads x.exit) bs) b) (head_code leaf f n (heads i)) block) next_j
-      (placed leaf heads place f n (k + count heads x.exit) (suc j) bs has' (λ b block there. ok (suc b) block there)
-      (λ b block there. fine (suc b) block there) (λ b block there. order (suc b) block there) b block there)
+  -- block i of a function is block b of those from j on
+  placed : (p : Planning) (k j : ℕ) (bs : List RBlock) → HasAt whole k (blocks_from l p k j bs)
+      → ((b : ℕ) (block : RBlock) → slice_get bs b ≡ Some block → Named p.heads block.exit)
+      → ((b : ℕ) (block : RBlock) → slice_get bs b ≡ Some block → IsFine p.leaf block.exit)
+      → ((b : ℕ) (block : RBlock) → slice_get bs b ≡ Some block → IsOrdered p.frame block.exit)
+      → (i b : ℕ) (block : RBlock) → slice_get bs b ≡ Some block → p.place i ≡ slice_index (numbers p.heads k bs) b → i ≡ j + b
+      → StandsAt whole l p.placing (heads_code p) i block
+  placed p k j [] has ok fine order i b block there at is = absurd (none-some block there)
+  placed p k j (x ∷ bs) has ok fine order i zero block there at is =
+      let rest = behind p x.exit ++ blocks_from l p (k + count p.heads x.exit) (suc j) bs in
+      let j_is : j ≡ i = omega (arith, is) in
+      let first = own_block l p.placing (head_code p (p.heads j)) (next_of p k x.exit) x in
+      subst (λ (block : RBlock). StandsAt whole l p.placing (heads_code p) i block) (same_Some x block there) (record {
+        next = next_of p k x.exit;
+        there = ap (slice_get whole) at ∙ has_head whole k first rest has
+            ∙ ap (λ i. Some (own_block l p.placing (head_code p (p.heads i)) (next_of p k x.exit) x)) j_is;
+        leads_on = goes_on p k x.exit (blocks_from l p (k + count p.heads x.exit) (suc j) bs) (ok 0 x refl) (fine 0 x refl) (order 0 x refl)
+            (has_tail whole k first rest has);
+      })
+  placed p k j (x ∷ bs) has ok fine order i (suc b) block there at is =
+      let more = blocks_from l p (k + count p.heads x.exit) (suc j) bs in
+      let rest = behind p x.exit ++ more in
+      let one = behind_length p x.exit in
+      let first = own_block l p.placing (head_code p (p.heads j)) (next_of p k x.exit) x in
+      let next : suc k + length (behind p x.exit) ≡ k + count p.heads x.exit = omega (arith, one) in
+      let has' : HasAt whole (k + count p.heads x.exit) more = subst (λ n. HasAt whole n more) next
+      (has_back whole (suc k) (behind p x.exit) more (has_tail whole k first rest has)) in
+      placed p (k + count p.heads x.exit) (suc j) bs has' (λ b block there. ok (suc b) block there) (λ b block there. fine (suc b) block there)
+      (λ b block there. order (suc b) block there) i b block there at (omega (arith, is))
 
   -- the prologue stands in a block of its own, or at the head of block 0
-  begins : (leaf : Bool) (heads : ℕ → Head) (place : ℕ → ℕ) (f : Frame) (n k : ℕ) (rest : List BlockParts)
-      → HasAt whole k (lead_blocks leaf (heads 0) f n (place 0) ++ rest) → (heads 0 ≡ Enters → place 0 ≡ k) → ((d : ℕ) → heads 0 ≡ Takes d → ⊥)
-      → ((slice_get whole k ≡ Some (prologue_block leaf f n (place 0))) × (head_code leaf f n (heads 0) ≡ [])) ⊎
-      ((k ≡ place 0) × (head_code leaf f n (heads 0) ≡ prologue leaf f n))
-  begins leaf heads place f n k rest has same none = go (heads 0) refl has
+  begins : (p : Planning) (k : ℕ) (rest : List BlockParts) → HasAt whole k (lead_blocks p (p.heads 0) ++ rest)
+      → (p.heads 0 ≡ Enters → p.place 0 ≡ k) → ((d : ℕ) → p.heads 0 ≡ Takes d → ⊥)
+      → ((slice_get whole k ≡ Some (prologue_block p.leaf p.frame p.parameters (p.place 0))) × (heads_code p 0 ≡ []))
+      ⊎ ((k ≡ p.place 0) × (heads_code p 0 ≡ prologue p.leaf p.frame p.parameters))
+  begins p k rest has same none = go (p.heads 0) refl has
     where
-      go : (x : Head) → heads 0 ≡ x → HasAt whole k (lead_blocks leaf x f n (place 0) ++ rest)
-          → ((slice_get whole k ≡ Some (prologue_block leaf f n (place 0))) × (head_code leaf f n (heads 0) ≡ [])) ⊎
-          ((k ≡ place 0) × (head_code leaf f n (heads 0) ≡ prologue leaf f n))
-      go Bare e has = inl (has_head whole k (prologue_block leaf f n (place 0)) rest has, ap (head_code leaf f n) e)
-      go Enters e has = inr (sym (same e), ap (head_code leaf f n) e)
+      go : (x : Head) → p.heads 0 ≡ x → HasAt whole k (lead_blocks p x ++ rest)
+          → ((slice_get whole k ≡ Some (prologue_block p.leaf p.frame p.parameters (p.place 0))) × (heads_code p 0 ≡ []))
+          ⊎ ((k ≡ p.place 0) × (heads_code p 0 ≡ prologue p.leaf p.frame p.parameters))
+      go Bare e has = inl (has_head whole k (prologue_block p.leaf p.frame p.parameters (p.place 0)) rest has, ap (head_code p) e)
+      go Enters e has = inr (sym (same e), ap (head_code p) e)
       go (Takes d) e has = absurd (none d e)
 
-  found : (k : ℕ) (funcs : List RFunc) (fs : List Frame) → HasAt whole k (functions_blocks globals starts entry k funcs fs)
+  found : (k : ℕ) (funcs : List RFunc) (fs : List Frame) → HasAt whole k (functions_blocks l k funcs fs)
       → (g : ℕ) (func : RFunc) (f : Frame) → slice_get funcs g ≡ Some func → slice_get fs g ≡ Some f
-      → HasAt whole (slice_index (entries_from k funcs) g) (function_blocks globals starts entry (slice_index (entries_from k funcs) g) func f)
+      → HasAt whole (slice_index (entries_from k funcs) g) (function_blocks l (slice_index (entries_from k funcs) g) func f)
   found k [] fs has g func f there f_there = absurd (none-some func there)
   found k (x ∷ funcs) [] has g func f there f_there = absurd (none-some f f_there)
   found k (x ∷ funcs) (y ∷ fs) has zero func f there f_there =
-      subst (λ (func : RFunc). HasAt whole k (function_blocks globals starts entry k func f)) (same_Some x func there)
-      (subst (λ (f : Frame). HasAt whole k (function_blocks globals starts entry k x f)) (same_Some y f f_there)
-      (has_front whole k (function_blocks globals starts entry k x y) (functions_blocks globals starts entry (k + function_size x) funcs fs) has))
+      subst (λ (func : RFunc). HasAt whole k (function_blocks l k func f)) (same_Some x func there)
+      (subst (λ (f : Frame). HasAt whole k (function_blocks l k x f)) (same_Some y f f_there)
+      (has_front whole k (function_blocks l k x y) (functions_blocks l (k + function_size x) funcs fs) has))
   found k (x ∷ funcs) (y ∷ fs) has (suc g) func f there f_there =
-      let long = function_length globals starts entry k x y in
-      let next : k + length (function_blocks globals starts entry k x y) ≡ k + function_size x = omega (arith, long) in
-      found (k + function_size x) funcs fs (subst (λ n. HasAt whole n (functions_blocks globals starts entry (k + function_size x) funcs fs)) next
-      (has_back whole k (function_blocks globals starts entry k x y) (functions_blocks globals starts entry (k + function_size x) funcs fs) has)) g func
+      let long = function_length l k x y in
+      let next : k + length (function_blocks l k x y) ≡ k + function_size x = omega (arith, long) in
+      found (k + function_size x) funcs fs (subst (λ n. HasAt whole n (functions_blocks l (k + function_size x) funcs fs)) next
+      (has_back whole k (function_blocks l k x y) (functions_blocks l (k + function_size x) funcs fs) has)) g func
       f there f_there
 
 first_place : (k : ℕ) (bs : List RBlock) → heads_of bs 0 ≡ Enters → slice_index (numbers (heads_of bs) (k + lead_in (heads_of bs)) bs) 0 ≡ k
@@ -257,36 +257,33 @@ program_selected h depth most ok frames seated alone small room = record {
   start = refl;
   end = refl;
   functions = λ g func f there_f f_there.
-      let p = h.rtl.now in
+      let program = h.rtl.now in
       let whole = program_blocks h in
-      let starts = start_of p.globals in
-      let entry = entry_of p.functions in
-      let k = entry_of p.functions g in
+      let l = linking_for program in
+      let k = entry_of program.functions g in
       let bs = func.blocks.items in
-      let has = found whole p.globals starts entry 2 p.functions h.frames.items rest g func f there_f f_there in
-      let heads = heads_of bs in
-      let leaf = is_leaf bs in
       let n = func.parameters in
-      let lead = lead_blocks leaf (heads 0) f n (place_in k bs 0) in
-      let more = blocks_from p.globals starts entry (place_in k bs) leaf heads f n (k + lead_in heads) 0 bs in
-      let front = lead_length leaf (heads 0) f n (place_in k bs 0) in
-      let is = all_at (programs.IsFunction p.functions (length p.globals)) p.functions g func ok.functions there_f in
+      let p = planning_in n k bs f in
+      let has = found whole l 2 program.functions h.frames.items rest g func f there_f f_there in
+      let heads = heads_of bs in
+      let lead = lead_blocks p (heads 0) in
+      let more = blocks_from l p (k + lead_in heads) 0 bs in
+      let front = lead_length p (heads 0) in
+      let is = all_at (programs.IsFunction program.functions (length program.globals)) program.functions g func ok.functions there_f in
       let exit_ordered : (b : ℕ) (block : RBlock) → slice_get bs b ≡ Some block → IsOrdered f block.exit = λ b block at.
-      ordered p.functions (length p.globals) (length bs) func f block.exit (((frames g f f_there).homes).copied).range (seated g func f there_f f_there) (λ y. blocks_cover bs b block y at) ok.functions
-      (all_at (programs.IsBlock p.functions (length p.globals) (length bs)) bs b block is.blocks at).exit in
+      ordered program.functions (length program.globals) (length bs) func f block.exit (((frames g f f_there).homes).copied).range (seated g func f there_f f_there)
+      (λ y. blocks_cover bs b block y at) ok.functions
+      (all_at (programs.IsBlock program.functions (length program.globals) (length bs)) bs b block is.blocks at).exit in
       let behind_lead : k + length lead ≡ k + lead_in heads = omega (arith, front) in
       let has' : HasAt whole (k + lead_in heads) more = subst (λ m. HasAt whole m more) behind_lead (has_back whole k lead more has) in
       record {
-        leaf = leaf;
+        leaf = is_leaf bs;
         place = place_in k bs;
-        head = λ b. head_code leaf f n (heads b);
-        first = begins whole p.globals starts entry leaf heads (place_in k bs) f n k more has (first_place k bs) (no_take bs);
+        head = heads_code p;
+        first = begins whole l p k more has (first_place k bs) (no_take bs);
         placed = record {
-          by = λ b block there. (let zero_b : 0 + b ≡ b = omega arith in
-              subst (λ i. StandsAt whole p.globals starts entry leaf f (place_in k bs) (λ b. head_code leaf f n (heads b)) (place_in k bs b)
-              (head_code leaf f n (heads i)) block) zero_b
-              (placed whole p.globals starts entry leaf heads (place_in k bs) f n (k + lead_in heads) 0 bs has'
-              (λ b block at. named bs (unnamed bs) b block at) (leaf_fine bs) (λ b block at. exit_ordered b block at) b block there));
+          by = λ b block there. placed whole l p (k + lead_in heads) 0 bs has' (λ b block at. named bs (unnamed bs) b block at) (leaf_fine bs)
+              (λ b block at. exit_ordered b block at) b b block there refl (omega arith);
         };
         frame = frames g f f_there;
         parameters = is.parameters;
@@ -297,6 +294,5 @@ program_selected h depth most ok frames seated alone small room = record {
   room = room;
 }
   where
-    rest : HasAt (program_blocks h) 2 (functions_blocks (h.rtl.now).globals (start_of (h.rtl.now).globals) (entry_of (h.rtl.now).functions) 2
-        (h.rtl.now).functions h.frames.items)
+    rest : HasAt (program_blocks h) 2 (functions_blocks (linking_for h.rtl.now) 2 (h.rtl.now).functions h.frames.items)
     rest = record { by = λ i x e. (let two : 2 + i ≡ suc (suc i) = omega arith in ap (slice_get (program_blocks h)) two) ∙ e }

@@ -22,11 +22,12 @@ use Rattle.mips_select.specs.declared.fault.SelectFault.{SelectFault}
 use Rattle.mips_select.specs.declared.fault.SelectFault.TheVariants.{Limit}
 use Rattle.mips_select.specs.Split.{split_blocks, split_owners, first_piece_of, firsts, total}
 use Rattle.mips_select.proofs.Counts.{total_above, length-split_from}
-use Rattle.mips_select.specs.Data.{zeros, data_bytes, starts_from, start_of}
+use Rattle.mips_select.specs.Data.{zeros, data_bytes, starts_from}
+use Rattle.mips_select.specs.Plans.{Linking}
 use Rattle.mips_select.specs.Code.{start_block, end_block}
 use Rattle.mips_select.specs.Emittable.{HasFewArguments, IsEmittable, AreFunctionsEmittable}
 use Rattle.mips_select.specs.Limits.{FramesFit, HaveRoom}
-use Rattle.mips_select.specs.Whole.{functions_size, entries_from, entry_of, numbers_from, owners_for, functions_blocks, program_blocks, unit_for}
+use Rattle.mips_select.specs.Whole.{functions_size, entries_from, entry_of, numbers_from, owners_for, functions_blocks, linking_for, program_blocks, unit_for}
 use Rattle.mips_select.specs.Laws.{KeepsRuns, IsSelected, IsNumbered, IsBeyond}
 use Rattle.mips_select.proofs.Lists.{all_at}
 use Rattle.mips_select.proofs.DataPlaces.{have_values, data_fits}
@@ -95,19 +96,23 @@ pub program_made : (h : Homed) (starts es : List ℕ) (funcs : List RFunc) (glob
     → es ≡ entries_from 2 (h.rtl.now).functions → starts ≡ starts_from 0 globals → globals ≡ (h.rtl.now).globals → funcs ≡ (h.rtl.now).functions
     → frames ≡ h.frames.items → main ≡ (h.rtl.now).main → n ≡ slice_index es main
     → out0 ≡ [] → out1 ≡ out0 ++ start_block n ∷ [] → out2 ≡ out1 ++ end_block ∷ []
-    → out3 ≡ out2 ++ functions_blocks globals (λ a. slice_index starts a) (λ g. slice_index es g) 2 funcs frames → out3 ≡ program_blocks h
+    → out3 ≡ out2 ++ functions_blocks (record { globals = globals; starts = slice_index starts; entry = slice_index es }) 2 funcs frames
+    → out3 ≡ program_blocks h
 program_made h starts es funcs globals frames main n out0 out1 out2 out3 es_is s_is g_is f_is fr_is main_is n_is o0 o1 o2 o3 =
     let head : n ≡ entry_of (h.rtl.now).functions (h.rtl.now).main = n_is ∙ ap₂ (λ (l : List ℕ) m. slice_index l m) es_is main_is in
     let one : out1 ≡ start_block (entry_of (h.rtl.now).functions (h.rtl.now).main) ∷ [] = o1 ∙ ap (λ l. l ++ start_block n ∷ []) o0
     ∙ ap (λ m. start_block m ∷ []) head in
     let two : out2 ≡ start_block (entry_of (h.rtl.now).functions (h.rtl.now).main) ∷ end_block ∷ [] = o2
     ∙ ap (λ l. l ++ end_block ∷ []) one in
-    let rest : functions_blocks globals (λ a. slice_index starts a) (λ g. slice_index es g) 2 funcs frames ≡ functions_blocks (h.rtl.now).globals
-    (start_of (h.rtl.now).globals) (entry_of (h.rtl.now).functions) 2 (h.rtl.now).functions h.frames.items =
-    ap₂ (λ (l m : List ℕ). functions_blocks globals (λ a. slice_index l a) (λ g. slice_index m g) 2 funcs frames) (s_is ∙ ap (starts_from 0) g_is) es_is
-    ∙ ap (λ gs. functions_blocks gs (start_of (h.rtl.now).globals) (entry_of (h.rtl.now).functions) 2 funcs frames) g_is
-    ∙ ap₂ (functions_blocks (h.rtl.now).globals (start_of (h.rtl.now).globals) (entry_of (h.rtl.now).functions) 2) f_is fr_is in
+    let rest : functions_blocks (linked globals starts es) 2 funcs frames
+    ≡ functions_blocks (linking_for h.rtl.now) 2 (h.rtl.now).functions h.frames.items =
+    ap₂ (λ (l m : List ℕ). functions_blocks (linked globals l m) 2 funcs frames) (s_is ∙ ap (starts_from 0) g_is) es_is
+    ∙ ap (λ gs. functions_blocks (linked gs (starts_from 0 (h.rtl.now).globals) (entries_from 2 (h.rtl.now).functions)) 2 funcs frames) g_is
+    ∙ ap₂ (functions_blocks (linking_for h.rtl.now) 2) f_is fr_is in
     o3 ∙ ap₂ (λ l m. l ++ m) two rest
+  where
+    linked : List RGlobal → (starts es : List ℕ) → Linking
+    linked globals starts es = record { globals = globals; starts = slice_index starts; entry = slice_index es }
 
 -- ---- the unit
 

@@ -24,7 +24,7 @@ use Rattle.rtl.specs.declared.block.RBlock.{RBlock}
 use Rattle.rtl.specs.declared.block.RFunc.{RFunc}
 use Rattle.rtl.specs.declared.block.RGlobal.{RGlobal}
 use Rattle.rtl.specs.Meaning.{Code, code_of}
-use Rattle.mips_homes.specs.HomedRun.{Activation, new_activation, at_code, Run, Running, Ended, Failed, read_home, read_homes, write_home}
+use Rattle.mips_homes.specs.HomedRun.{cells, around, Activation, new_activation, at_code, Run, Running, Ended, Failed, read_home, read_homes, write_home}
 use Rattle.mips_homes.specs.HomedRun.{is_callee_saved, callee_saved, write_homes, registers_at_entry, registers_at_return, state_at_block, with_result, state_after_return}
 use Rattle.mips_homes.specs.HomedRun.{state_after_exit, step_at, homed_step, homed_steps}
 use Rattle.mips_homes.specs.declared.homed.Frame.{Frame}
@@ -47,8 +47,9 @@ use Rattle.mips_emit.proofs.Insts.{value_or_failed, performs}
 use Rattle.mips_emit.proofs.Comparing.{none_asked, waiting, compares}
 use Rattle.mips_select.specs.declared.limits.TheConstants.{STACK_BYTES}
 use Rattle.mips_select.specs.Data.{padded_bytes, start_of}
+use Rattle.mips_select.specs.Plans.{Linking, placing_of}
 use Rattle.mips_select.specs.Code.{saves, frame_bytes, link_save, lowers, parameters_code, prologue, epilogue, asked_of, exit_code, exit_of, code_insts}
-use Rattle.mips_select.specs.Code.{own_block, result_code, after_block, prologue_block, end_block}
+use Rattle.mips_select.specs.Code.{context_in, own_block, result_code, after_block, prologue_block, end_block}
 use Rattle.mips_select.specs.Selected.{AreClear, GoesOn, StandsAt, IsPlaced, IsFunction, IsSelected}
 use Rattle.mips_select.proofs.Departures.{read_length, first_true, second_true, branch_words, either, either_place, above_arguments, goes_by, same_exit, same_code}
 use Rattle.mips_select.proofs.Frames.{all_shown, all_denote, arguments, parameters}
@@ -71,11 +72,14 @@ module _ (h : Homed) (depth : ℕ) (blocks : List BlockParts) (ok : IsSelected h
   abbrev pub Stand : Places → Arrays → List Stored → State → Type 0
   Stand r g fs s = Stands ok.most total gs starts r g fs s
 
-  abbrev pub Placed : Bool → Frame → (ℕ → ℕ) → (ℕ → List Plain) → List RBlock → Type 0
-  Placed leaf f place head bs = IsPlaced blocks gs starts ok.entry leaf f place head bs
+  abbrev pub linking : Linking
+  linking = record { globals = gs; starts = starts; entry = ok.entry }
 
-  abbrev pub Stood : Bool → Frame → (ℕ → ℕ) → (ℕ → List Plain) → ℕ → List Plain → RBlock → Type 0
-  Stood leaf f place head k first b = StandsAt blocks gs starts ok.entry leaf f place head k first b
+  abbrev pub Placed : Bool → Frame → (ℕ → ℕ) → (ℕ → List Plain) → List RBlock → Type 0
+  Placed leaf f place head bs = IsPlaced blocks linking (placing_of leaf f place) head bs
+
+  abbrev pub Stood : Bool → Frame → (ℕ → ℕ) → (ℕ → List Plain) → ℕ → RBlock → Type 0
+  Stood leaf f place head b block = StandsAt blocks linking (placing_of leaf f place) head b block
 
   abbrev pub Lead : ℕ → Point → Point → Type 0
   Lead d p q = Leads blocks links d p q
@@ -85,13 +89,13 @@ module _ (h : Homed) (depth : ℕ) (blocks : List BlockParts) (ok : IsSelected h
     pub form : BlockParts
     pub next : ℕ
     pub there : slice_get blocks k ≡ Some form
-    pub exit : form.exit ≡ exit_of ok.entry place f facts last next x
-    pub leads_on : GoesOn blocks gs starts ok.entry leaf f place head next x
+    pub exit : form.exit ≡ exit_of linking (placing_of leaf f place) facts last next x
+    pub leads_on : GoesOn blocks linking (placing_of leaf f place) head next x
 
-  code_at : (leaf : Bool) (f : Frame) (place : ℕ → ℕ) (head : ℕ → List Plain) (k : ℕ) (first : List Plain) (b : RBlock) → Stood leaf f place head k first b
-      → CodeAt leaf f place head (known_after (locations f) b.insts.items no_facts) (last_after (locations f) (asked_of b.exit) no_facts b.insts.items no_last) k b.exit
-  code_at leaf f place head k first b at = record {
-    form = own_block gs starts ok.entry place leaf f first at.next b;
+  code_at : (leaf : Bool) (f : Frame) (place : ℕ → ℕ) (head : ℕ → List Plain) (j : ℕ) (b : RBlock) → Stood leaf f place head j b
+      → CodeAt leaf f place head (known_after (locations f) b.insts.items no_facts) (last_after (locations f) (asked_of b.exit) no_facts b.insts.items no_last) (place j) b.exit
+  code_at leaf f place head j b at = record {
+    form = own_block linking (placing_of leaf f place) (head j) at.next b;
     next = at.next;
     there = at.there;
     exit
@@ -108,11 +112,11 @@ module _ (h : Homed) (depth : ℕ) (blocks : List BlockParts) (ok : IsSelected h
     pub number : ℕ
     pub found : return_block_of links link 0 blocks ≡ Some number
     pub next : ℕ
-    pub first : List Plain
-    pub after : ((slice_get blocks number ≡ Some (after_block w.frame d next)) × (first ≡ [])) ⊎ ((number ≡ next) × (first ≡ result_code (locations w.frame) d))
+    pub after : ((slice_get blocks number ≡ Some (after_block w.frame d (place next))) × (head next ≡ []))
+        ⊎ ((number ≡ place next) × (head next ≡ result_code (locations w.frame) d))
     pub block : RBlock
     pub code : w.code ≡ code_of block
-    pub at : Stood false w.frame place head next first block
+    pub at : Stood false w.frame place head next block
 
   abbrev pub Waits : ℕ → Option ℕ → List Activation → List ℕ → Type 0
   Waits link d [] ls = return_block_of links link 0 blocks ≡ Some 1
@@ -141,7 +145,7 @@ module _ (h : Homed) (depth : ℕ) (blocks : List BlockParts) (ok : IsSelected h
     pub open spot use {number, link, below, leaf, place, head}
     pub facts : Facts
     pub last : Last
-    pub point : p ≡ At number (code_insts gs starts leaf a.frame facts last a.code) state out
+    pub point : p ≡ At number (code_insts linking (placing_of leaf a.frame place) facts last a.code) state out
     pub code : CodeAt leaf a.frame place head (known_after (locations a.frame) a.code.insts facts) (last_after (locations a.frame) (asked_of a.code.exit) facts a.code.insts last) number a.code.exit
     pub is_known : IsKnown (known_in facts) a.frame.homes.items r a.slots
     pub are_deferred : AreDeferred facts.deferred r
@@ -210,14 +214,14 @@ module _ (h : Homed) (depth : ℕ) (blocks : List BlockParts) (ok : IsSelected h
       → Placed leaf a.frame place head a.blocks → IsFrame ok.most a.frame → Waits link a.result_to ws below
       → (b : ℕ) (r slots : Places) (g : Arrays) (out : List ℕ) (s : State) → Stand r g (stored_frame leaf a.frame slots a.aside link ∷ frames_of ws below) s
       → 1 ≤ d
-      → ((block : RBlock) → Stood leaf a.frame place head (place b) (head b) block → Lead d p
-      (At (place b) (code_insts gs starts leaf a.frame no_facts no_last (code_of block)) s out))
-      → Reach 1 p (state_at_block b a r slots ws g out)
+      → ((block : RBlock) → Stood leaf a.frame place head b block → Lead d p
+      (At (place b) (code_insts linking (placing_of leaf a.frame place) no_facts no_last (code_of block)) s out))
+      → Reach 1 p (state_at_block b a slots (around r ws g out))
   jumps leaf p d a link below place head ws placed frame waits b r slots g out s st some f =
       value_or_failed (λ run. Reach 1 p run) (slice_get a.blocks b) out (λ block. Running r (at_code a slots (code_of block) ∷ ws) g out) tt (λ block there.
       let at = placed.by b block there in
       record {
-        to = At (place b) (code_insts gs starts leaf a.frame no_facts no_last (code_of block)) s out;
+        to = At (place b) (code_insts linking (placing_of leaf a.frame place) no_facts no_last (code_of block)) s out;
         count = d;
         enough = some;
         leads = f block at;
@@ -228,7 +232,7 @@ module _ (h : Homed) (depth : ℕ) (blocks : List BlockParts) (ok : IsSelected h
           last = no_last;
           point
               = refl;
-          code = code_at leaf a.frame place head (place b) (head b) block at;
+          code = code_at leaf a.frame place head b block at;
           is_known = nothing_known a.frame.homes.items r slots;
           are_deferred = none_deferred r;
           are_bases = no_bases gs starts s.regs;
@@ -245,13 +249,13 @@ module _ (h : Homed) (depth : ℕ) (blocks : List BlockParts) (ok : IsSelected h
   regrouped a b c s t e = subst (λ is. RunsTo is s t) (append_assoc a b c) e
 
   -- a function is entered, from a point that leads to its first block
-  pub entered : (p : Point) (f : ℕ) (func : RFunc) (frame : Frame) → IsFunction blocks gs starts ok.entry ok.most f func frame
+  pub entered : (p : Point) (f : ℕ) (func : RFunc) (frame : Frame) → IsFunction blocks linking ok.most f func frame
       → (r : Places) (arrays : Arrays) (ws : List Activation) (link : ℕ) (result_to : Option ℕ) (below : List ℕ) (vs : List ℕ) (s : State) (out : List ℕ)
       → ((form : BlockParts) → slice_get blocks (ok.entry f) ≡ Some form → Lead 1 p (At (ok.entry f) form.insts s out))
       → Stand r arrays (frames_of ws below) s → ((q : ℕ) → is_callee_saved q ≡ false → r q ≡ None) → s.regs 31 ≡ link → ((j v : ℕ) → slice_get vs j ≡ Some v → s.regs (4 + j) ≡ v) → length vs ≡ func.parameters
       → suc (length ws) * ok.most ≤ STACK_BYTES → Waits link result_to ws below
-      → Reach 1 p (write_homes frame.homes.items (registers_at_entry frame.saved.items r) unset_places 0 vs out (λ r' s'.
-      state_at_block 0 (new_activation func.blocks.items frame s' r result_to) r' s' ws arrays out))
+      → Reach 1 p (write_homes (cells frame.homes.items (registers_at_entry frame.saved.items r) unset_places) 0 vs out (λ r' s'.
+      state_at_block 0 (new_activation func.blocks.items frame s' r result_to) s' (around r' ws arrays out)))
   entered p f func frame is r arrays ws link result_to below vs s out enter st passing is_link here count deep waits =
       let few = is.parameters in
       let room : stack_base + ok.most ≤ s.regs 29 = enough_room (s.regs 29) (length ws)
@@ -259,7 +263,7 @@ module _ (h : Homed) (depth : ℕ) (blocks : List BlockParts) (ok : IsSelected h
       let e = enters ok.most total gs starts ok.small r arrays (frames_of ws below) s is.leaf frame link is.frame is_link is.alone passing room st in
       parameters ok.most total gs starts arrays (frames_of ws below) frame.homes.items (λ run. Reach 1 p run) out tt vs 4 0
       (registers_at_entry frame.saved.items r) (stored_frame is.leaf frame unset_places r link) e.to
-      (λ r' s'. state_at_block 0 (new_activation func.blocks.items frame s' r result_to) r' s' ws arrays out)
+      (λ r' s'. state_at_block 0 (new_activation func.blocks.items frame s' r result_to) s' (around r' ws arrays out))
       (frame_homes ok.most frame is.frame) (omega arith) (omega (arith, count, few))
       (subst (λ n. AreClear (locations frame) 4 0 n) (sym count) is.clear)
       (λ j v at. (let low = slice_get_within vs j v at in e.same (4 + j) (omega (arith, low, count, few))) ∙ here j v at) e.stands
@@ -277,24 +281,24 @@ module _ (h : Homed) (depth : ℕ) (blocks : List BlockParts) (ok : IsSelected h
           → Stand r' arrays (stored_frame is.leaf frame slots' r link ∷ frames_of ws below) s2
           → ((slice_get blocks (ok.entry f) ≡ Some (prologue_block is.leaf frame func.parameters (is.place 0))) × (is.head 0 ≡ [])) ⊎
           ((ok.entry f ≡ is.place 0) × (is.head 0 ≡ prologue is.leaf frame func.parameters))
-          → Reach 1 p (state_at_block 0 (callee slots') r' slots' ws arrays out)
+          → Reach 1 p (state_at_block 0 (callee slots') slots' (around r' ws arrays out))
       begins r' slots' s2 body st2 (inl at) =
           jumps is.leaf p (1 + (length code + 1)) (callee slots') link below is.place is.head ws is.placed is.frame waits 0 r' slots' arrays out s2 st2
           (omega arith)
           (λ block stood.
-          let target = own_block gs starts ok.entry is.place is.leaf frame (is.head 0) stood.next block in
+          let target = own_block linking (placing_of is.leaf frame is.place) (is.head 0) stood.next block in
           let l1 = enter (prologue_block is.leaf frame func.parameters (is.place 0)) at.0 in
           let l2 = code_leads (ok.entry f) code s s2 out body in
-          let l3 = no_head 1 (At (ok.entry f) [] s2 out) (is.place 0) (is.head 0) (code_insts gs starts is.leaf frame no_facts no_last (code_of block)) s2 out at.1
+          let l3 = no_head 1 (At (ok.entry f) [] s2 out) (is.place 0) (is.head 0) (code_insts linking (placing_of is.leaf frame is.place) no_facts no_last (code_of block)) s2 out at.1
           (jump (ok.entry f) (prologue_block is.leaf frame func.parameters (is.place 0)) (is.place 0) target s2 out at.0 refl stood.there) in
-          let to = At (is.place 0) (code_insts gs starts is.leaf frame no_facts no_last (code_of block)) s2 out in
+          let to = At (is.place 0) (code_insts linking (placing_of is.leaf frame is.place) no_facts no_last (code_of block)) s2 out in
           leads_then blocks links 1 (length code + 1) p (At (ok.entry f) code s out) to l1
           (leads_then blocks links (length code) 1 (At (ok.entry f) code s out) (At (ok.entry f) [] s2 out) to l2 l3))
       begins r' slots' s2 body st2 (inr at) =
           jumps is.leaf p (1 + length code) (callee slots') link below is.place is.head ws is.placed is.frame waits 0 r' slots' arrays out s2 st2 (omega arith)
           (λ block stood.
-          let rest = code_insts gs starts is.leaf frame no_facts no_last (code_of block) in
-          let target = own_block gs starts ok.entry is.place is.leaf frame (is.head 0) stood.next block in
+          let rest = code_insts linking (placing_of is.leaf frame is.place) no_facts no_last (code_of block) in
+          let target = own_block linking (placing_of is.leaf frame is.place) (is.head 0) stood.next block in
           let l1 : Lead 1 p (At (ok.entry f) (is.head 0 ++ rest) s out) = enter target (ap (slice_get blocks) at.0 ∙ stood.there) in
           let l2 : Lead 1 p (At (ok.entry f) (code ++ rest) s out) = subst (λ first. Lead 1 p (At (ok.entry f) (first ++ rest) s out)) at.1 l1 in
           let l3 = leads_run blocks links (ok.entry f) code rest s s2 out body in
@@ -355,20 +359,20 @@ module _ (h : Homed) (depth : ℕ) (blocks : List BlockParts) (ok : IsSelected h
       again r' s' = Running r' (at_code w s' w.code ∷ ws) g out
 
       reached : (r' slots' : Places) (s' : State) (e : ℕ) → Stand r' g (stored_frame false w.frame slots' w.aside l ∷ frames_of ws ls) s'
-          → Lead (d + suc e) p (At m.next (code_insts gs starts false w.frame no_facts no_last (code_of m.block)) s' out) → Reach 1 p (again r' slots')
+          → Lead (d + suc e) p (At (m.place m.next) (code_insts linking (placing_of false w.frame m.place) no_facts no_last (code_of m.block)) s' out) → Reach 1 p (again r' slots')
       reached r' slots' s' e st' lead' = record {
-        to = At m.next (code_insts gs starts false w.frame no_facts no_last (code_of m.block)) s' out;
+        to = At (m.place m.next) (code_insts linking (placing_of false w.frame m.place) no_facts no_last (code_of m.block)) s' out;
         count = d + suc e;
         enough = omega arith;
         leads = lead';
         match = record {
           state = s';
-          spot = record { number = m.next; link = l; below = ls; leaf = false; place = m.place; head = m.head };
+          spot = record { number = m.place m.next; link = l; below = ls; leaf = false; place = m.place; head = m.head };
           facts = no_facts;
           last = no_last;
-          point = ap (λ c. At m.next (code_insts gs starts false w.frame no_facts no_last c) s' out) (sym m.code);
-          code = subst (λ (c : Code). CodeAt false w.frame m.place m.head (known_after (locations w.frame) c.insts no_facts) (last_after (locations w.frame) (asked_of c.exit) no_facts c.insts no_last) m.next
-              c.exit) (sym m.code) (code_at false w.frame m.place m.head m.next m.first m.block m.at);
+          point = ap (λ c. At (m.place m.next) (code_insts linking (placing_of false w.frame m.place) no_facts no_last c) s' out) (sym m.code);
+          code = subst (λ (c : Code). CodeAt false w.frame m.place m.head (known_after (locations w.frame) c.insts no_facts) (last_after (locations w.frame) (asked_of c.exit) no_facts c.insts no_last) (m.place m.next)
+              c.exit) (sym m.code) (code_at false w.frame m.place m.head m.next m.block m.at);
           is_known = nothing_known w.frame.homes.items r' slots';
           are_deferred = none_deferred r';
           are_bases = no_bases gs starts s'.regs;
@@ -386,27 +390,27 @@ module _ (h : Homed) (depth : ℕ) (blocks : List BlockParts) (ok : IsSelected h
       -- the result is arrays_with at the head of the block, or in a block of its own
       resumed : (r' slots' : Places) (s' : State) → RunsTo (result_code (locations w.frame) a.result_to) s s'
           → Stand r' g (stored_frame false w.frame slots' w.aside l ∷ frames_of ws ls) s'
-          → ((slice_get blocks m.number ≡ Some (after_block w.frame a.result_to m.next)) × (m.first ≡ [])) ⊎
-          ((m.number ≡ m.next) × (m.first ≡ result_code (locations w.frame) a.result_to)) → Reach 1 p (again r' slots')
+          → ((slice_get blocks m.number ≡ Some (after_block w.frame a.result_to (m.place m.next))) × (m.head m.next ≡ [])) ⊎
+          ((m.number ≡ m.place m.next) × (m.head m.next ≡ result_code (locations w.frame) a.result_to)) → Reach 1 p (again r' slots')
       resumed r' slots' s' e st' (inl after) =
           let code = result_code (locations w.frame) a.result_to in
-          let rest = code_insts gs starts false w.frame no_facts no_last (code_of m.block) in
-          let to = At m.next rest s' out in
-          let target = own_block gs starts ok.entry m.place false w.frame m.first (m.at).next m.block in
-          let l1 = back k form s out link m.number (after_block w.frame a.result_to m.next) there is at m.found after.0 in
+          let rest = code_insts linking (placing_of false w.frame m.place) no_facts no_last (code_of m.block) in
+          let to = At (m.place m.next) rest s' out in
+          let target = own_block linking (placing_of false w.frame m.place) (m.head m.next) (m.at).next m.block in
+          let l1 = back k form s out link m.number (after_block w.frame a.result_to (m.place m.next)) there is at m.found after.0 in
           let l2 = code_leads m.number code s s' out e in
-          let l3 = no_head 1 (At m.number [] s' out) m.next m.first rest s' out after.1
-          (jump m.number (after_block w.frame a.result_to m.next) m.next target s' out after.0 refl (m.at).there) in
+          let l3 = no_head 1 (At m.number [] s' out) (m.place m.next) (m.head m.next) rest s' out after.1
+          (jump m.number (after_block w.frame a.result_to (m.place m.next)) (m.place m.next) target s' out after.0 refl (m.at).there) in
           let all : Lead (1 + (length code + 1)) (At k [] s out) to = leads_then blocks links 1 (length code + 1) (At k [] s out) (At m.number code s out) to
           l1 (leads_then blocks links (length code) 1 (At m.number code s out) (At m.number [] s' out) to l2 l3) in
           reached r' slots' s' (length code + 1) st' (leads_then blocks links d (suc (length code + 1)) p (At k [] s out) to lead
           (subst (λ n. Lead n (At k [] s out) to) (one_more (length code + 1)) all))
       resumed r' slots' s' e st' (inr after) =
           let code = result_code (locations w.frame) a.result_to in
-          let rest = code_insts gs starts false w.frame no_facts no_last (code_of m.block) in
-          let to = At m.next rest s' out in
-          let target = own_block gs starts ok.entry m.place false w.frame m.first (m.at).next m.block in
-          let l1 : Lead 1 (At k [] s out) (At m.number (m.first ++ rest) s out) = back k form s out link m.number target there is at m.found
+          let rest = code_insts linking (placing_of false w.frame m.place) no_facts no_last (code_of m.block) in
+          let to = At (m.place m.next) rest s' out in
+          let target = own_block linking (placing_of false w.frame m.place) (m.head m.next) (m.at).next m.block in
+          let l1 : Lead 1 (At k [] s out) (At m.number (m.head m.next ++ rest) s out) = back k form s out link m.number target there is at m.found
           (ap (slice_get blocks) after.0 ∙ (m.at).there) in
           let l2 : Lead 1 (At k [] s out) (At m.number (code ++ rest) s out) = subst (λ first. Lead 1 (At k [] s out) (At m.number (first ++ rest) s out))
           after.1 l1 in
@@ -418,11 +422,10 @@ module _ (h : Homed) (depth : ℕ) (blocks : List BlockParts) (ok : IsSelected h
 
       put : (result_to : Option ℕ) → ((r' slots' : Places) (s' : State) → RunsTo (result_code (locations w.frame) result_to) s s'
           → Stand r' g (stored_frame false w.frame slots' w.aside l ∷ frames_of ws ls) s' → Reach 1 p (again r' slots'))
-          → Reach 1 p (with_result result_to o w.frame.homes.items (registers_at_return a.frame.saved.items a.aside r) w.slots out again)
+          → Reach 1 p (with_result result_to o (cells w.frame.homes.items (registers_at_return a.frame.saved.items a.aside r) w.slots) out again)
       put None f = f (registers_at_return a.frame.saved.items a.aside r) w.slots s (runs_none s) st
       put (Some x) f =
-          value_or_failed (λ run. Reach 1 p run) o out (λ v. write_home w.frame.homes.items (registers_at_return a.frame.saved.items a.aside r) w.slots x v
-          out again) tt (λ v o_v.
+          value_or_failed (λ run. Reach 1 p run) o out (λ v. write_home (cells w.frame.homes.items (registers_at_return a.frame.saved.items a.aside r) w.slots) x v out again) tt (λ v o_v.
           let two = result v o_v in
           arrives ok.most total gs starts (λ q. None) (registers_at_return a.frame.saved.items a.aside r) g (stored_frame false w.frame w.slots w.aside l)
           (frames_of ws ls) s st (none_deferred (registers_at_return a.frame.saved.items a.aside r)) (λ run. Reach 1 p run) again w.frame.homes.items x v 2 out
@@ -445,35 +448,35 @@ module _ (h : Homed) (depth : ℕ) (blocks : List BlockParts) (ok : IsSelected h
       → CodeAt leaf a.frame place head facts last k x → IsKnown (known_in facts) a.frame.homes.items r a.slots → AreDeferred facts.deferred r
       → IsLast last a.frame.copies.items a.frame.homes.items r a.slots s → Placed leaf a.frame place head a.blocks → IsFrame ok.most a.frame
       → Waits link a.result_to ws below → Stand (hide facts.deferred r) g (stored_frame leaf a.frame a.slots a.aside link ∷ frames_of ws below) s
-      → Reach 1 (At k (exit_code leaf a.frame facts last x) s out) (state_after_exit h depth x a r ws g out)
+      → Reach 1 (At k (exit_code leaf a.frame facts last x) s out) (state_after_exit h depth x a (around r ws g out))
   exits leaf (Goto b) facts last a k link below place head ws r g out s c kn lz new placed frame waits st =
       jumps leaf (At k [] s out) 1 a link below place head ws placed frame waits b (callee_saved r) a.slots g out s
       (settled facts.deferred r g (stored_frame leaf a.frame a.slots a.aside link ∷ frames_of ws below) s lz st) (omega arith)
-      (λ block stood. no_head 1 (At k [] s out) (place b) (head b) (code_insts gs starts leaf a.frame no_facts no_last (code_of block)) s out c.leads_on
-      (jump k c.form (place b) (own_block gs starts ok.entry place leaf a.frame (head b) stood.next block) s out c.there c.exit stood.there))
+      (λ block stood. no_head 1 (At k [] s out) (place b) (head b) (code_insts linking (placing_of leaf a.frame place) no_facts no_last (code_of block)) s out c.leads_on
+      (jump k c.form (place b) (own_block linking (placing_of leaf a.frame place) (head b) stood.next block) s out c.there c.exit stood.there))
   exits leaf (Branch x y z) facts last a k link below place head ws r g out s c kn lz new placed frame waits st =
       value_or_failed (λ run. Reach 1 (At k (exit_code leaf a.frame facts last (Branch x y z)) s out) run) (read_home a.frame.homes.items r a.slots x) out
-      (λ v. state_at_block (if nat_eq v 0 then z else y) a (callee_saved r) a.slots ws g out) tt (λ v e. branch v e (tested last.comparison x) refl (known_in facts x) refl c.exit)
+      (λ v. state_at_block (if nat_eq v 0 then z else y) a a.slots (around (callee_saved r) ws g out)) tt (λ v e. branch v e (tested last.comparison x) refl (known_in facts x) refl c.exit)
     where
       o : Source
       o = last_operand (locations a.frame) facts last.fresh x
 
       -- what is left of a comparison says whether the branch is taken
       found : (v : ℕ) (m : Comparison) → read_home a.frame.homes.items r a.slots x ≡ Some v → (p : Option Comparison) → last.comparison ≡ p
-          → tested p x ≡ Some m → passes m.form m.x m.y s ≡ not (nat_eq v 0)
+          → tested p x ≡ Some m → passes m.form m.left.source m.right.source s ≡ not (nat_eq v 0)
       found v m e None is t = absurd (none-some m t)
       found v m e (Some n) is t = go (nat_eq n.result x) refl t
         where
-          go : (b : Bool) → nat_eq n.result x ≡ b → (if b then Some n else None) ≡ Some m → passes m.form m.x m.y s ≡ not (nat_eq v 0)
+          go : (b : Bool) → nat_eq n.result x ≡ b → (if b then Some n else None) ≡ Some m → passes m.form m.left.source m.right.source s ≡ not (nat_eq v 0)
           go false eb t = absurd (none-some m t)
-          go true eb t = subst (λ (m : Comparison). passes m.form m.x m.y s ≡ not (nat_eq v 0)) (same_Some n m t)
+          go true eb t = subst (λ (m : Comparison). passes m.form m.left.source m.right.source s ≡ not (nat_eq v 0)) (same_Some n m t)
               (new.comparison n v is (ap (read_home a.frame.homes.items r a.slots) (eqb-true n.result x eb) ∙ e))
 
       branch : (v : ℕ) → read_home a.frame.homes.items r a.slots x ≡ Some v → (t : Option Comparison) → tested last.comparison x ≡ t
           → (known : Option ℕ) → known_in facts x ≡ known
           → (c.form).exit ≡ branch_exit t known (last_operand (locations a.frame) facts last.fresh x) (place y) (place z)
           → Reach 1 (At k (branch_code t known (last_operand (locations a.frame) facts last.fresh x)) s out)
-          (state_at_block (if nat_eq v 0 then z else y) a (callee_saved r) a.slots ws g out)
+          (state_at_block (if nat_eq v 0 then z else y) a a.slots (around (callee_saved r) ws g out))
       branch v e None is_test (Some w) is_known is_exit =
           let b = if nat_eq v 0 then z else y in
           let same : w ≡ v = same_Some w v (sym (kn.by x w is_known) ∙ e) in
@@ -481,9 +484,9 @@ module _ (h : Homed) (depth : ℕ) (blocks : List BlockParts) (ok : IsSelected h
           is_exit ∙ ap (λ w. E.Goto (if nat_eq w 0 then place z else place y)) same ∙ ap E.Goto (either_place place z y (nat_eq v 0)) in
           jumps leaf (At k [] s out) 1 a link below place head ws placed frame waits b (callee_saved r) a.slots g out s
           (settled facts.deferred r g (stored_frame leaf a.frame a.slots a.aside link ∷ frames_of ws below) s lz st) (omega arith)
-          (λ block stood. no_head 1 (At k [] s out) (place b) (head b) (code_insts gs starts leaf a.frame no_facts no_last (code_of block)) s out
+          (λ block stood. no_head 1 (At k [] s out) (place b) (head b) (code_insts linking (placing_of leaf a.frame place) no_facts no_last (code_of block)) s out
           (either head z y (nat_eq v 0) c.leads_on)
-          (jump k c.form (place b) (own_block gs starts ok.entry place leaf a.frame (head b) stood.next block) s out c.there goes stood.there))
+          (jump k c.form (place b) (own_block linking (placing_of leaf a.frame place) (head b) stood.next block) s out c.there goes stood.there))
       branch v e None is_test None is_known is_exit =
           let code = fetch 1 (last_operand (locations a.frame) facts last.fresh x) in
           let means = last_means ok.most total gs starts facts.deferred r g (stored_frame leaf a.frame a.slots a.aside link) (frames_of ws below) s st lz (known_in facts)
@@ -496,7 +499,7 @@ module _ (h : Homed) (depth : ℕ) (blocks : List BlockParts) (ok : IsSelected h
           jumps leaf (At k code s out) (length code + 1) a link below place head ws placed frame waits b (callee_saved r) a.slots g out s1
           (settled facts.deferred r g (stored_frame leaf a.frame a.slots a.aside link ∷ frames_of ws below) s1 lz one.stands) (omega arith)
           (λ block stood.
-          let rest = code_insts gs starts leaf a.frame no_facts no_last (code_of block) in
+          let rest = code_insts linking (placing_of leaf a.frame place) no_facts no_last (code_of block) in
           let q = At (place b) (head b ++ rest) s1 out in
           let l2 = departs k c.form (E.BranchPair NotEqual (operand_register 1 (last_operand (locations a.frame) facts last.fresh x)) 0 (place y) (place z)) s1 out q
           c.there is_exit (λ n.
@@ -508,21 +511,21 @@ module _ (h : Homed) (depth : ℕ) (blocks : List BlockParts) (ok : IsSelected h
           (no_head 1 (At k [] s1 out) (place b) (head b) rest s1 out (either head z y (nat_eq v 0) c.leads_on) l2))
       branch v e (Some m) is_test known is_known is_exit =
           let b = if nat_eq v 0 then z else y in
-          let taken : passes m.form m.x m.y s ≡ not (nat_eq v 0) = found v m e last.comparison refl is_test in
+          let taken : passes m.form m.left.source m.right.source s ≡ not (nat_eq v 0) = found v m e last.comparison refl is_test in
           jumps leaf (At k [] s out) 1 a link below place head ws placed frame waits b (callee_saved r) a.slots g out s
           (settled facts.deferred r g (stored_frame leaf a.frame a.slots a.aside link ∷ frames_of ws below) s lz st) (omega arith)
           (λ block stood.
-          let rest = code_insts gs starts leaf a.frame no_facts no_last (code_of block) in
+          let rest = code_insts linking (placing_of leaf a.frame place) no_facts no_last (code_of block) in
           let to = At (place b) (head b ++ rest) s out in
-          let l2 = departs k c.form (exit_by_form m.form m.x m.y (place y) (place z)) s out to c.there is_exit (λ n.
-          goes_by blocks links m.form m.x m.y (place y) (place z) k s out n
+          let l2 = departs k c.form (exit_by_form m.form m.left.source m.right.source (place y) (place z)) s out to c.there is_exit (λ n.
+          goes_by blocks links m.form m.left.source m.right.source (place y) (place z) k s out n
           ∙ ap (λ t. outcome_at_block (if t then place y else place z) (slice_get blocks (if t then place y else place z)) (items blocks links n) s out) taken
           ∙ ap (λ t. outcome_at_block t (slice_get blocks t) (items blocks links n) s out) (branch_words place z y v (nat_eq v 0))
           ∙ ap (λ o. outcome_at_block (place b) o (items blocks links n) s out) stood.there) in
           no_head 1 (At k [] s out) (place b) (head b) rest s out (either head z y (nat_eq v 0) c.leads_on) l2)
   exits leaf (Out x next) facts last a k link below place head ws r g out s c kn lz new placed frame waits st =
       value_or_failed (λ run. Reach 1 (At k (exit_code leaf a.frame facts last (Out x next)) s out) run) (read_home a.frame.homes.items r a.slots x) out
-      (λ v. state_at_block next a (callee_saved r) a.slots ws g (out ++ v ∷ [])) tt (λ v e.
+      (λ v. state_at_block next a a.slots (around (callee_saved r) ws g (out ++ v ∷ []))) tt (λ v e.
       let o = last_operand (locations a.frame) facts last.fresh x in
       let code = carry 4 o in
       let means = last_means ok.most total gs starts facts.deferred r g (stored_frame leaf a.frame a.slots a.aside link) (frames_of ws below) s st lz (known_in facts)
@@ -540,7 +543,7 @@ module _ (h : Homed) (depth : ℕ) (blocks : List BlockParts) (ok : IsSelected h
       jumps leaf (At k code s out) (length code + 1) a link below place head ws placed frame waits next (callee_saved r) a.slots g (out ++ v ∷ []) s2
       st2 (omega arith)
       (λ block stood.
-      let rest = code_insts gs starts leaf a.frame no_facts no_last (code_of block) in
+      let rest = code_insts linking (placing_of leaf a.frame place) no_facts no_last (code_of block) in
       let q = At (place next) (head next ++ rest) s2 (out ++ v ∷ []) in
       let l2 = departs k c.form (E.Out (place next)) s1 out q c.there c.exit (λ n.
       ap (λ w. outcome_at_block (place next) (slice_get blocks (place next)) (items blocks links n) s2 (out ++ w ∷ [])) one.here
@@ -618,8 +621,7 @@ module _ (h : Homed) (depth : ℕ) (blocks : List BlockParts) (ok : IsSelected h
         number = c.next;
         found
             = found;
-        next = place next;
-        first = head next;
+        next = next;
         after = (c.leads_on).1;
         block = block;
         code = refl;
@@ -658,13 +660,13 @@ module _ (h : Homed) (depth : ℕ) (blocks : List BlockParts) (ok : IsSelected h
   }
   advances (Running r [] g out) p m = absurd m
   advances (Running r (a ∷ ws) g out) p m =
-      subst (λ p. Reach 1 p (step_at h depth a.code.insts a.code.exit a r ws g out)) (sym m.point) (step a.code.insts m.code)
+      subst (λ p. Reach 1 p (step_at h depth a.code.insts a.code.exit a (around r ws g out))) (sym m.point) (step a.code.insts m.code)
     where
       asked : Asked
       asked = asked_of a.code.exit
 
       at : List RInst → Facts → Last → State → Point
-      at is facts last s = At m.number (insts_code gs starts (locations a.frame) asked facts is
+      at is facts last s = At m.number (insts_code (context_in linking (placing_of m.leaf a.frame m.place)) asked facts is
           (exit_code m.leaf a.frame (known_after (locations a.frame) is facts) (last_after (locations a.frame) asked facts is last) a.code.exit)) s out
 
       Coded : List RInst → Facts → Last → Type 0
@@ -696,15 +698,15 @@ module _ (h : Homed) (depth : ℕ) (blocks : List BlockParts) (ok : IsSelected h
       -- the next instruction, with the comparison that is one with the branch if it is such
       next : (i : RInst) (is : List RInst) (o : Option Comparison) → comparison_of (locations a.frame) m.facts (asked_last asked is) i ≡ o
           → Coded is (learned (locations a.frame) i m.facts) (last_with o (fresh_of (locations a.frame) i))
-          → Reach 1 (At m.number (next_code gs starts (locations a.frame) m.facts o i
-          ++ insts_code gs starts (locations a.frame) asked (learned (locations a.frame) i m.facts) is
+          → Reach 1 (At m.number (next_code (context_in linking (placing_of m.leaf a.frame m.place)) m.facts o i
+          ++ insts_code (context_in linking (placing_of m.leaf a.frame m.place)) asked (learned (locations a.frame) i m.facts) is
           (exit_code m.leaf a.frame (known_after (locations a.frame) is (learned (locations a.frame) i m.facts))
           (last_after (locations a.frame) asked (learned (locations a.frame) i m.facts) is (last_with o (fresh_of (locations a.frame) i))) a.code.exit)) m.state out)
-          (step_at h depth (i ∷ is) a.code.exit a r ws g out)
+          (step_at h depth (i ∷ is) a.code.exit a (around r ws g out))
       next i is None e0 c =
           performs ok.most total gs starts g (frames_of ws m.below) a.frame.homes.items
           (λ run. Reach 1 (At m.number (inst_code gs starts (locations a.frame) m.facts i
-          ++ insts_code gs starts (locations a.frame) asked (learned (locations a.frame) i m.facts) is
+          ++ insts_code (context_in linking (placing_of m.leaf a.frame m.place)) asked (learned (locations a.frame) i m.facts) is
           (exit_code m.leaf a.frame (known_after (locations a.frame) is (learned (locations a.frame) i m.facts))
           (last_after (locations a.frame) asked (learned (locations a.frame) i m.facts) is (last_with None (fresh_of (locations a.frame) i))) a.code.exit)) m.state out)
           run) out tt i
@@ -716,7 +718,7 @@ module _ (h : Homed) (depth : ℕ) (blocks : List BlockParts) (ok : IsSelected h
             count = length (inst_code gs starts (locations a.frame) m.facts i);
             enough = some;
             leads = leads_run blocks links m.number (inst_code gs starts (locations a.frame) m.facts i)
-                (insts_code gs starts (locations a.frame) asked (learned (locations a.frame) i m.facts) is
+                (insts_code (context_in linking (placing_of m.leaf a.frame m.place)) asked (learned (locations a.frame) i m.facts) is
                 (exit_code m.leaf a.frame (known_after (locations a.frame) is (learned (locations a.frame) i m.facts))
                 (last_after (locations a.frame) asked (learned (locations a.frame) i m.facts) is (last_with None (fresh_of (locations a.frame) i)))
                 a.code.exit)) m.state s' out e;
@@ -747,13 +749,13 @@ module _ (h : Homed) (depth : ℕ) (blocks : List BlockParts) (ok : IsSelected h
                   next = c.next;
                   there = c.there;
                   exit = c.exit
-                      ∙ same_exit ok.entry m.place a.frame m.facts (learned (locations a.frame) i m.facts) (waiting m.facts q u) i n c.next a.code.exit is;
+                      ∙ same_exit linking (placing_of m.leaf a.frame m.place) m.facts (learned (locations a.frame) i m.facts) (waiting m.facts q u) i n c.next a.code.exit is;
                   leads_on = c.leads_on;
                 })
                 (nothing_known a.frame.homes.items (places_with r q (Some u)) a.slots) lz (no_bases gs starts s'.regs) new st;
           })
 
-      step : (is : List RInst) → Coded is m.facts m.last → Reach 1 (at is m.facts m.last m.state) (step_at h depth is a.code.exit a r ws g out)
+      step : (is : List RInst) → Coded is m.facts m.last → Reach 1 (at is m.facts m.last m.state) (step_at h depth is a.code.exit a (around r ws g out))
       step [] c = exits m.leaf a.code.exit m.facts m.last a m.number m.link m.below m.place m.head ws r g out m.state c m.is_known m.are_deferred m.is_last m.placed m.frame
           m.waits m.stands
       step (i ∷ is) c = next i is (comparison_of (locations a.frame) m.facts (asked_last asked is) i) refl c

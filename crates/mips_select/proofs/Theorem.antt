@@ -22,7 +22,7 @@ use Rattle.mblock.proofs.StateWords.{run_words}
 use Rattle.rtl.specs.declared.block.RFunc.{RFunc}
 use Rattle.rtl.specs.declared.block.RGlobal.{RGlobal}
 use Rattle.rtl.specs.Meaning.{first_values}
-use Rattle.mips_homes.specs.HomedRun.{Run, Running, Ended, Failed, new_activation, is_in, registers_at_entry, state_at_block, homed_steps}
+use Rattle.mips_homes.specs.HomedRun.{around, Run, Running, Ended, Failed, new_activation, is_in, registers_at_entry, state_at_block, homed_steps}
 use Rattle.mips_homes.specs.HomedRun.{homed_start, outcome}
 use Rattle.mips_homes.specs.declared.homed.Homed.{Homed}
 use Rattle.mips_emit.specs.Elements.{width_of, element_place, address_of_place, data_middle}
@@ -146,7 +146,7 @@ module _ (h : Homed) (depth : ℕ) (blocks : List BlockParts) (ok : IsSelected h
       let small = ok.small in
       reach_after h depth blocks ok links tells 1 1 2 (At 0 (constant 28 data_middle) s []) (At 0 [] s0 []) _ (omega arith) first
       (subst (λ registers. Reach h depth blocks ok links tells 1 (At 0 [] s0 [])
-      (state_at_block 0 (new_activation func.blocks.items frame unset_places unset_places None) registers unset_places [] arrays []))
+      (state_at_block 0 (new_activation func.blocks.items frame unset_places unset_places None) unset_places (around registers [] arrays [])))
       (entry_unset frame.saved.items)
       (entered h depth blocks ok links tells (At 0 [] s0 []) (h.rtl.now).main func frame is unset_places arrays [] (links 0) None [] [] s1 []
       (λ form there. departs h depth blocks ok links tells 0 (start_block (ok.entry (h.rtl.now).main)) (E.Call (ok.entry (h.rtl.now).main) 1) s0 []

@@ -1,4 +1,4 @@
--- The machine code of functions: what stands before and behind the code of their instructions, and how blocks are left.
+-- The machine code of functions: what stands before and after the code of their instructions, and how blocks are left.
 use Rattle.std.specs.Prelude.{ℕ, ℤ, pos, negsuc, zero, suc, ◌+◌, ◌-◌, ◌*◌, Bool, true, false, nat_eq, if◌then◌else◌, List, [], ◌∷◌, ◌++◌}
 use Rattle.std.specs.Prelude.{Option, Some}
 use Rattle.std.specs.Prelude.{None, length}
@@ -11,7 +11,6 @@ use Rattle.mblock.specs.Parts.{BlockParts}
 use Rattle.rtl.specs.declared.instruction.RExit.{RExit}
 use Rattle.rtl.specs.declared.instruction.RExit.TheVariants.{Goto, Branch, Call, Return, Out}
 use Rattle.rtl.specs.declared.block.RBlock.{RBlock}
-use Rattle.rtl.specs.declared.block.RGlobal.{RGlobal}
 use Rattle.rtl.specs.Meaning.{Code, code_of}
 use Rattle.mips_homes.specs.declared.convention.TheConstants.{RESULT, FIRST_ARGUMENT, GLOBAL_POINTER, STACK_POINTER, LINK}
 use Rattle.mips_homes.specs.declared.homed.Frame.{Frame}
@@ -21,12 +20,13 @@ use Rattle.mips_emit.specs.declared.comparison.Asked.TheVariants.{Nothing, Branc
 use Rattle.mips_emit.specs.Frames.{link_words}
 use Rattle.mips_emit.specs.Elements.{data_middle}
 use Rattle.mips_emit.specs.Locations.{Locations, locations, Facts, no_facts, known_after, known_in, last_operand}
-use Rattle.mips_emit.specs.Code.{constant, load_word_at, store_word_at, move_code, carry, arrive, arguments_code}
+use Rattle.mips_emit.specs.Code.{Context, constant, load_word_at, store_word_at, move_code, carry, arrive, arguments_code}
 use Rattle.mips_emit.specs.Comparisons.{insts_code, last_after, no_last, tested, branch_code, branch_exit, returned, return_code}
 use Rattle.mips_select.specs.declared.heads.Head.{Head}
 use Rattle.mips_select.specs.declared.heads.Head.TheVariants.{Bare, Enters, Takes}
 use Rattle.mips_select.specs.declared.prologue.Direction.{Direction}
 use Rattle.mips_select.specs.declared.prologue.Direction.TheVariants.{Save, Restore}
+use Rattle.mips_select.specs.Plans.{Linking, Placing, Planning}
 
 -- ---- frames
 
@@ -50,7 +50,7 @@ restores at rs = frame_words Restore at rs
 abbrev pub frame_bytes : Bool → Frame → ℕ
 frame_bytes leaf f = 4 * (f.slots + length f.saved.items + link_words leaf)
 
--- the link stands behind the registers that are saved
+-- the link stands after the registers that are saved
 abbrev pub link_offset : Frame → ℕ
 link_offset f = 4 * f.slots + 4 * length f.saved.items
 
@@ -113,29 +113,34 @@ exit_code leaf f facts last (Return (Some x)) =
     return_code (returned last.comparison x) (last_operand (locations f) facts last.fresh x) ++ epilogue leaf f
 exit_code leaf f facts last (Out x next) = carry FIRST_ARGUMENT (last_operand (locations f) facts last.fresh x)
 
--- an exit, where functions begin at `entry` and blocks stand at `place`; a call goes on at block n
-abbrev pub exit_of : (entry place : ℕ → ℕ) → Frame → Facts → Last → ℕ → RExit → Exit
-exit_of entry place f facts last n (Goto b) = exits.Goto (place b)
-exit_of entry place f facts last n (Branch c t e) =
-    branch_exit (tested last.comparison c) (known_in facts c) (last_operand (locations f) facts last.fresh c) (place t) (place e)
-exit_of entry place f facts last n (Call g xs d next) = exits.Call (entry g) n
-exit_of entry place f facts last n (Return o) = exits.Return
-exit_of entry place f facts last n (Out x next) = exits.Out (place next)
+-- an exit; a call goes on at block n
+abbrev pub exit_of : Linking → Placing → Facts → Last → ℕ → RExit → Exit
+exit_of l p facts last n (Goto b) = exits.Goto (p.place b)
+exit_of l p facts last n (Branch c t e) =
+    branch_exit (tested last.comparison c) (known_in facts c) (last_operand (locations p.frame) facts last.fresh c) (p.place t) (p.place e)
+exit_of l p facts last n (Call g xs d next) = exits.Call (l.entry g) n
+exit_of l p facts last n (Return o) = exits.Return
+exit_of l p facts last n (Out x next) = exits.Out (p.place next)
 
 -- ---- blocks
 
--- what is left of a block's code
-abbrev pub code_insts : List RGlobal → (starts : ℕ → ℕ) → Bool → Frame → Facts → Last → Code → List Plain
-code_insts globals starts leaf f facts last c =
-    insts_code globals starts (locations f) (asked_of c.exit) facts c.insts
-    (exit_code leaf f (known_after (locations f) c.insts facts) (last_after (locations f) (asked_of c.exit) facts c.insts last) c.exit)
+-- what code depends on besides its instructions
+abbrev pub context_in : Linking → Placing → Context
+context_in l p = record { globals = l.globals; starts = l.starts; at = locations p.frame }
 
--- the block for a block, with what stands before its own code
-abbrev pub own_block : List RGlobal → (starts entry place : ℕ → ℕ) → Bool → Frame → (head : List Plain) → ℕ → RBlock → BlockParts
-own_block globals starts entry place leaf f head n b = record {
-  insts = head ++ code_insts globals starts leaf f no_facts no_last (code_of b);
-  exit = exit_of entry place f (known_after (locations f) b.insts.items no_facts)
-      (last_after (locations f) (asked_of b.exit) no_facts b.insts.items no_last) n b.exit;
+-- what is left of a block's code
+abbrev pub code_insts : Linking → Placing → Facts → Last → Code → List Plain
+code_insts l p facts last c =
+    insts_code (context_in l p) (asked_of c.exit) facts c.insts
+    (exit_code p.leaf p.frame (known_after (locations p.frame) c.insts facts) (last_after (locations p.frame) (asked_of c.exit) facts c.insts last)
+    c.exit)
+
+-- the block for a block, with what stands before its own code; a call goes on at block n
+abbrev pub own_block : Linking → Placing → (head : List Plain) → (n : ℕ) → RBlock → BlockParts
+own_block l p head n b = record {
+  insts = head ++ code_insts l p no_facts no_last (code_of b);
+  exit = exit_of l p (known_after (locations p.frame) b.insts.items no_facts)
+      (last_after (locations p.frame) (asked_of b.exit) no_facts b.insts.items no_last) n b.exit;
 }
 
 -- the result of a call into its location
@@ -144,10 +149,10 @@ result_code at None = []
 result_code at (Some d) = arrive (at d) RESULT
 
 -- what stands before a block's own code
-abbrev pub head_code : Bool → Frame → (parameters : ℕ) → Head → List Plain
-head_code leaf f n Bare = []
-head_code leaf f n Enters = prologue leaf f n
-head_code leaf f n (Takes d) = result_code (locations f) (Some d)
+abbrev pub head_code : Planning → Head → List Plain
+head_code p Bare = []
+head_code p Enters = prologue p.leaf p.frame p.parameters
+head_code p (Takes d) = result_code (locations p.frame) (Some d)
 
 -- where a call goes on, if that is no block of the function itself
 abbrev pub after_block : Frame → Option ℕ → (next : ℕ) → BlockParts

@@ -1,4 +1,4 @@
--- The bytes of a program's globals, one global behind another. A word has its highest byte first. Each global begins at a
+-- The bytes of a program's globals, one global after another. A word has its highest byte first. Each global begins at a
 -- multiple of 4, and the bytes between two are 0.
 use Rattle.std.specs.Prelude.{ℕ, zero, suc, ◌+◌, ◌-◌, ◌*◌, ◌%◌, List, [], ◌∷◌, ◌++◌, length, take, drop, slice_index}
 use Rattle.words.specs.declared.width.Width.{Width}
@@ -16,7 +16,7 @@ abbrev pub elements_bytes : Width → List ℕ → List ℕ
 elements_bytes width [] = []
 elements_bytes width (v ∷ vs) = element_bytes width v ++ elements_bytes width vs
 
--- how many bytes stand behind so many elements, up to a whole word
+-- how many bytes stand after so many elements, up to a whole word
 abbrev pub gap_behind : Width → ℕ → ℕ
 gap_behind Word n = 0
 gap_behind Byte n = (4 - n % 4) % 4
@@ -37,7 +37,7 @@ abbrev pub bare_bytes : List RGlobal → List ℕ
 bare_bytes [] = []
 bare_bytes (a ∷ globals) = elements_bytes a.width (first_values a) ++ bare_bytes globals
 
--- the data of a program: no gap stands behind the last global
+-- the data of a program: no gap stands after the last global
 abbrev pub data_bytes : List RGlobal → List ℕ
 data_bytes globals = padded_bytes (take (length globals - 1) globals) ++ bare_bytes (drop (length globals - 1) globals)
 

@@ -2,6 +2,7 @@ pub mod Split
 pub mod Functions
 pub mod SplitLaws
 pub mod Heads
+pub mod Plans
 pub mod Data
 pub mod Code
 pub mod Emittable

@@ -38,8 +38,8 @@ pub record HaveRoom (fs : List Frame) (depth : ℕ) : Type 0 where
   pub frames : largest_by_homes fs ≤ FRAME_BYTES
   pub stack : depth * largest_by_homes fs ≤ STACK_BYTES
 
--- at most how many blocks a unit has for a function with so many blocks and instructions. There are two for each block and one before
--- them; their instructions are at most 14 for the function, 14 for each block, and 8 for each instruction; and long ones are cut
+-- at most how many blocks a unit has for a function with so many blocks and instructions. There are two for each block and one before them.
+-- Their instructions are at most 14 for the function, 14 for each block, and 8 for each instruction; and long ones are cut
 abbrev pub most_blocks : (blocks insts : ℕ) → ℕ
 most_blocks blocks insts = 1 + 2 * blocks + (14 + 14 * blocks + 8 * insts) / BLOCK_INSTS
 
@@ -47,7 +47,7 @@ abbrev pub insts_in : List RBlock → ℕ
 insts_in [] = 0
 insts_in (b ∷ bs) = length b.insts.items + insts_in bs
 
--- a block has one, and a second behind it only if it ends with a call
+-- a block has one, and a second after it only if it ends with a call
 abbrev pub exit_blocks : RExit → ℕ
 exit_blocks (Call g xs d next) = 2
 exit_blocks (Goto b) = 1

@@ -9,7 +9,6 @@ use Rattle.rtl.specs.declared.instruction.RExit.{RExit}
 use Rattle.rtl.specs.declared.instruction.RExit.TheVariants.{Goto, Branch, Call, Return, Out}
 use Rattle.rtl.specs.declared.block.RBlock.{RBlock}
 use Rattle.rtl.specs.declared.block.RFunc.{RFunc}
-use Rattle.rtl.specs.declared.block.RGlobal.{RGlobal}
 use Rattle.rtl.specs.declared.limits.TheConstants.{MAX_PARAMETERS}
 use Rattle.rtl.specs.Programs.{IsProgram}
 use Rattle.mips_homes.specs.declared.homed.Frame.{Frame}
@@ -23,6 +22,7 @@ use Rattle.mips_emit.specs.Locations.{Locations, locations}
 use Rattle.mips_emit.specs.Frames.{IsFrame}
 use Rattle.mips_select.specs.declared.limits.TheConstants.{STACK_BYTES}
 use Rattle.mips_select.specs.Data.{padded_bytes, start_of}
+use Rattle.mips_select.specs.Plans.{Linking, Placing, placing_of}
 use Rattle.mips_select.specs.Code.{result_code, prologue, own_block, after_block, prologue_block, start_block, end_block}
 
 -- an argument that is moved into register t isn't in a register that an earlier one was moved into
@@ -52,37 +52,36 @@ abbrev pub KeepHomedRuns : Homed → (depth : ℕ) → List BlockParts → Type 
 KeepHomedRuns h depth blocks =
     (r : ℕ) → (homed_run h depth r).end ≢ Wrong → ComesTo blocks (start_state (padded_bytes (h.rtl.now).globals)) r (homed_run h depth r)
 
-module _ (blocks : List BlockParts) (globals : List RGlobal) (starts entry : ℕ → ℕ) where
-  -- what an exit needs: a leaf has no calls, and no argument is lost before it is moved; a block to which it goes has no head. But a call
+module _ (blocks : List BlockParts) (l : Linking) where
+  -- what an exit needs: a leaf has no calls, and no argument is lost before it is moved. A block to which it goes has no head. But a call
   -- may go on at a block that begins with the store of its result
-  abbrev pub GoesOn : Bool → Frame → (place : ℕ → ℕ) → (head : ℕ → List Plain) → ℕ → RExit → Type 0
-  GoesOn leaf f place head n (Call g xs d next) =
-      ((leaf ≡ false) × AreInOrder (locations f) FIRST_ARGUMENT xs.items)
-      × (((slice_get blocks n ≡ Some (after_block f d (place next))) × (head next ≡ []))
-      ⊎ ((n ≡ place next) × (head next ≡ result_code (locations f) d)))
-  GoesOn leaf f place head n (Goto b) = head b ≡ []
-  GoesOn leaf f place head n (Branch c t e) = (head t ≡ []) × (head e ≡ [])
-  GoesOn leaf f place head n (Return o) = Unit {0}
-  GoesOn leaf f place head n (Out x next) = head next ≡ []
+  abbrev pub GoesOn : Placing → (head : ℕ → List Plain) → ℕ → RExit → Type 0
+  GoesOn p head n (Call g xs d next) =
+      ((p.leaf ≡ false) × AreInOrder (locations p.frame) FIRST_ARGUMENT xs.items)
+      × (((slice_get blocks n ≡ Some (after_block p.frame d (p.place next))) × (head next ≡ []))
+      ⊎ ((n ≡ p.place next) × (head next ≡ result_code (locations p.frame) d)))
+  GoesOn p head n (Goto b) = head b ≡ []
+  GoesOn p head n (Branch c t e) = (head t ≡ []) × (head e ≡ [])
+  GoesOn p head n (Return o) = Unit {0}
+  GoesOn p head n (Out x next) = head next ≡ []
 
-  -- block k stands for a block of a function, which begins with `first`
-  pub record StandsAt (leaf : Bool) (f : Frame) (place : ℕ → ℕ) (head : ℕ → List Plain) (k : ℕ) (first : List Plain)
-      (b : RBlock) : Type 0 where
+  -- a block stands for block b of a function
+  pub record StandsAt (p : Placing) (head : ℕ → List Plain) (b : ℕ) (block : RBlock) : Type 0 where
     pub next : ℕ
-    pub there : slice_get blocks k ≡ Some (own_block globals starts entry place leaf f first next b)
-    pub leads_on : GoesOn leaf f place head next b.exit
+    pub there : slice_get blocks (p.place b) ≡ Some (own_block l p (head b) next block)
+    pub leads_on : GoesOn p head next block.exit
 
-  pub record IsPlaced (leaf : Bool) (f : Frame) (place : ℕ → ℕ) (head : ℕ → List Plain) (bs : List RBlock) : Type 0 where
-    pub by : (b : ℕ) (block : RBlock) → slice_get bs b ≡ Some block → StandsAt leaf f place head (place b) (head b) block
+  pub record IsPlaced (p : Placing) (head : ℕ → List Plain) (bs : List RBlock) : Type 0 where
+    pub by : (b : ℕ) (block : RBlock) → slice_get bs b ≡ Some block → StandsAt p head b block
 
   -- a function begins with its prologue: in a block of its own, or at the head of block 0
   pub record IsFunction (most : ℕ) (g : ℕ) (func : RFunc) (f : Frame) : Type 0 where
     pub leaf : Bool
     pub place : ℕ → ℕ
     pub head : ℕ → List Plain
-    pub first : ((slice_get blocks (entry g) ≡ Some (prologue_block leaf f func.parameters (place 0))) × (head 0 ≡ []))
-        ⊎ ((entry g ≡ place 0) × (head 0 ≡ prologue leaf f func.parameters))
-    pub placed : IsPlaced leaf f place head func.blocks.items
+    pub first : ((slice_get blocks (l.entry g) ≡ Some (prologue_block leaf f func.parameters (place 0))) × (head 0 ≡ []))
+        ⊎ ((l.entry g ≡ place 0) × (head 0 ≡ prologue leaf f func.parameters))
+    pub placed : IsPlaced (placing_of leaf f place) head func.blocks.items
     pub frame : IsFrame most f
     pub parameters : func.parameters ≤ MAX_PARAMETERS
     pub clear : AreClear (locations f) FIRST_ARGUMENT 0 func.parameters
@@ -95,6 +94,6 @@ pub record IsSelected (h : Homed) (depth : ℕ) (blocks : List BlockParts) : Typ
   pub start : slice_get blocks 0 ≡ Some (start_block (entry (h.rtl.now).main))
   pub end : slice_get blocks 1 ≡ Some end_block
   pub functions : (g : ℕ) (func : RFunc) (f : Frame) → slice_get (h.rtl.now).functions g ≡ Some func → slice_get h.frames.items g ≡ Some f
-      → IsFunction blocks (h.rtl.now).globals (start_of (h.rtl.now).globals) entry most g func f
+      → IsFunction blocks (record { globals = (h.rtl.now).globals; starts = start_of (h.rtl.now).globals; entry = entry }) most g func f
   pub small : most ≤ FRAME_BYTES
   pub room : depth * most ≤ STACK_BYTES

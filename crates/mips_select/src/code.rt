@@ -1,13 +1,14 @@
-// The blocks for the blocks of a function.
+//! The blocks for the blocks of a function.
 
-ghost use Rattle.std.specs.Prelude.{◌≡◌, ◌+◌, ◌≤◌, ◌++◌, ◌∷◌, [], length, IfOk, OnOk, slice_index};
+ghost use Rattle.std.specs.Prelude.{◌≡◌, ◌+◌, ◌≤◌, ◌++◌, [], length, IfOk, OnOk, slice_index};
 ghost use Rattle.mblock.specs.declared.limits.TheConstants.{UNIT_BLOCKS, UNIT_BYTES};
 ghost use Rattle.mips_emit.specs.Frames.{IsReachable};
 ghost use Rattle.mips_emit.specs.Locations.{locations};
 ghost use Rattle.mips_select.specs.Heads.{heads_in, count};
 ghost use Rattle.mips_select.specs.Code.{result_code, head_code, own_block, after_block};
 ghost use Rattle.mips_select.specs.Emittable.{IsEmittable, AreInside};
-ghost use Rattle.mips_select.specs.Whole.{next_of, behind};
+ghost use Rattle.mips_select.specs.Plans.{linking_of, planning_of};
+ghost use Rattle.mips_select.specs.Whole.{behind, blocks_for};
 
 use crate::exits::{asked_of, emit_exit, next_at};
 use crate::heads::{Head, head_at, resumes};
@@ -23,7 +24,7 @@ use mips_isa::Plain;
 use rtl::{RBlock, RExit, Register};
 use std::alloc::{AllocError, Global};
 
-// The result of a call into its location, if it is wanted.
+/// Emits the result of a call into its location, if it is wanted.
 fn emit_result(code: &mut Vec<Plain>, frame: &Frame, to: Option<Register>) -> Result<(), AllocError>
     requires { IsReachable frame.now }
     ensures { OnOk result (code.new.items ≡ code.old.items ++ result_code (locations frame.now) to) }
@@ -34,12 +35,9 @@ fn emit_result(code: &mut Vec<Plain>, frame: &Frame, to: Option<Register>) -> Re
     }
 }
 
-// What stands before a block's own code.
+/// Emits what stands before a block's own code.
 fn emit_head(code: &mut Vec<Plain>, plan: &Plan<'_>, head: Head) -> Result<(), AllocError>
-    requires frame { IsReachable plan.now.frame.now }
-    requires parameters { plan.now.parameters ≤ 4 }
-    ensures { OnOk result (code.new.items ≡ code.old.items
-        ++ head_code plan.now.leaf plan.now.frame.now plan.now.parameters head) }
+    ensures { OnOk result (code.new.items ≡ code.old.items ++ head_code (planning_of plan.now) head) }
 {
     match head {
         Head::Bare => Ok(()),
@@ -48,7 +46,7 @@ fn emit_head(code: &mut Vec<Plain>, plan: &Plan<'_>, head: Head) -> Result<(), A
     }
 }
 
-// A block's own code, and how it is left.
+/// Emits a block's own code, and returns how it is left.
 fn emit_own(
     code: &mut Vec<Plain>,
     facts: &mut Knowledge,
@@ -57,15 +55,10 @@ fn emit_own(
     next: BlockNumber,
     block: &RBlock,
 ) -> Result<Exit, AllocError>
-    requires frame { IsReachable plan.now.frame.now }
-    requires inside { AreInside linkage.now.starts.now UNIT_BYTES }
     requires block { IsEmittable (length linkage.now.starts.now) block.now }
-    ensures code { OnOk result (code.new.items ≡ code.old.items ++ (own_block linkage.now.globals.now (slice_index linkage.now.starts.now)
-        (slice_index linkage.now.entries.now) (slice_index plan.now.places.now)
-        plan.now.leaf plan.now.frame.now [] next block.now).insts) }
-    ensures exit { IfOk result (λ x. x ≡ (own_block linkage.now.globals.now (slice_index linkage.now.starts.now)
-        (slice_index linkage.now.entries.now) (slice_index plan.now.places.now)
-        plan.now.leaf plan.now.frame.now [] next block.now).exit) }
+    ensures code { OnOk result (code.new.items ≡ code.old.items
+        ++ (own_block (linking_of linkage.now) (planning_of plan.now).placing [] next block.now).insts) }
+    ensures exit { IfOk result (λ x. x ≡ (own_block (linking_of linkage.now) (planning_of plan.now).placing [] next block.now).exit) }
 {
     facts.clear();
     let setting = Setting {
@@ -87,12 +80,12 @@ fn emit_own(
     emit_exit(code, facts, &last, linkage, plan, next, &block.exit)
 }
 
-// For how many instructions there is room at once, as most blocks need: a list that grows is copied at each step.
+/// Returns for how many instructions there is room at once, as most blocks need: a list that grows is copied at each step.
 fn room_for(count: usize) -> usize {
     count.saturating_add(count / 2).saturating_add(2)
 }
 
-// The block for a block.
+/// Makes the block for a block.
 fn block_for(
     facts: &mut Knowledge,
     linkage: &Linkage<'_>,
@@ -101,13 +94,9 @@ fn block_for(
     next: BlockNumber,
     block: &RBlock,
 ) -> Result<LongBlock, AllocError>
-    requires frame { IsReachable plan.now.frame.now }
-    requires parameters { plan.now.parameters ≤ 4 }
-    requires inside { AreInside linkage.now.starts.now UNIT_BYTES }
     requires block { IsEmittable (length linkage.now.starts.now) block.now }
-    ensures { IfOk result (λ b. b ≡ own_block linkage.now.globals.now (slice_index linkage.now.starts.now)
-        (slice_index linkage.now.entries.now) (slice_index plan.now.places.now)
-        plan.now.leaf plan.now.frame.now (head_code plan.now.leaf plan.now.frame.now plan.now.parameters head) next block.now) }
+    ensures { IfOk result (λ b. b ≡ own_block (linking_of linkage.now) (planning_of plan.now).placing (head_code (planning_of plan.now) head)
+        next block.now) }
 {
     let mut insts = Vec::with_capacity(linkage.alloc, room_for(block.insts.len()))?;
     emit_head(&mut insts, plan, head)?;
@@ -115,7 +104,7 @@ fn block_for(
     Ok(LongBlock::new(insts, exit))
 }
 
-// The block at which a call goes on.
+/// Makes the block at which a call goes on.
 fn block_after(
     alloc: Global,
     places: &[BlockNumber],
@@ -132,16 +121,14 @@ fn block_after(
     Ok(LongBlock::new(insts, exit))
 }
 
-// The block behind a call, where there is one.
+/// Emits the block after a call, if there is one.
 fn emit_behind(
     alloc: Global,
     out: &mut Vec<LongBlock>,
     plan: &Plan<'_>,
     exit: &RExit,
 ) -> Result<(), AllocError>
-    requires { IsReachable plan.now.frame.now }
-    ensures { OnOk result (out.new.items ≡ out.old.items ++ behind (heads_in plan.now.table.now)
-        (slice_index plan.now.places.now) plan.now.frame.now exit.now) }
+    ensures { OnOk result (out.new.items ≡ out.old.items ++ behind (planning_of plan.now) exit.now) }
 {
     match exit {
         RExit::Call(_, _, to, next) => {
@@ -158,7 +145,7 @@ fn emit_behind(
     }
 }
 
-// The blocks for block j, the first of which has the number k.
+/// Emits the blocks for block j, the first of which has the number k.
 pub(crate) fn emit_block(
     out: &mut Vec<LongBlock>,
     facts: &mut Knowledge,
@@ -169,21 +156,11 @@ pub(crate) fn emit_block(
     block: &RBlock,
 ) -> Result<(), AllocError>
     requires number { k + count (heads_in plan.now.table.now) block.now.exit ≤ UNIT_BLOCKS }
-    requires frame { IsReachable plan.now.frame.now }
-    requires parameters { plan.now.parameters ≤ 4 }
-    requires inside { AreInside linkage.now.starts.now UNIT_BYTES }
     requires block { IsEmittable (length linkage.now.starts.now) block.now }
-    ensures { OnOk result (out.new.items ≡ out.old.items ++ own_block linkage.now.globals.now (slice_index linkage.now.starts.now)
-        (slice_index linkage.now.entries.now)
-        (slice_index plan.now.places.now) plan.now.leaf plan.now.frame.now
-        (head_code plan.now.leaf plan.now.frame.now plan.now.parameters (heads_in
-        plan.now.table.now j))
-        (next_of (heads_in plan.now.table.now) (slice_index plan.now.places.now) k block.now.exit) block.now
-        ∷ behind (heads_in plan.now.table.now)
-        (slice_index plan.now.places.now) plan.now.frame.now block.now.exit) }
+    ensures { OnOk result (out.new.items ≡ out.old.items ++ blocks_for (linking_of linkage.now) (planning_of plan.now) k j block.now) }
 {
     let head = head_at(plan.table, j);
-    let next = next_at(plan.table, plan.places, k, &block.exit);
+    let next = next_at(plan, k, &block.exit);
     let first = block_for(facts, linkage, plan, head, next, block)?;
     push(out, first)?;
     emit_behind(linkage.alloc, out, plan, &block.exit)

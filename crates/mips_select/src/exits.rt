@@ -1,16 +1,17 @@
-// How blocks are left.
+//! How blocks are left.
 
-ghost use Rattle.std.specs.Prelude.{◌≡◌, ◌+◌, ◌≤◌, ◌++◌, IfOk, OnOk, slice_index};
+ghost use Rattle.std.specs.Prelude.{◌≡◌, ◌+◌, ◌≤◌, ◌++◌, IfOk, OnOk};
 ghost use Rattle.mblock.specs.declared.limits.TheConstants.{UNIT_BLOCKS};
 ghost use Rattle.mips_emit.specs.Frames.{IsReachable};
 ghost use Rattle.mips_emit.specs.Locations.{facts_of, known_in, locations, last_operand};
 ghost use Rattle.mips_emit.specs.Comparisons.{tested, branch_code, branch_exit, returned, return_code};
 ghost use Rattle.mips_select.specs.Heads.{heads_in, count};
+ghost use Rattle.mips_select.specs.Plans.{linking_of, planning_of};
 ghost use Rattle.mips_select.specs.Code.{asked_of, exit_code, exit_of};
 ghost use Rattle.mips_select.specs.Emittable.{HasFewArguments};
 ghost use Rattle.mips_select.specs.Whole.{next_of};
 
-use crate::heads::{Naming, head_at, resumes};
+use crate::heads::{head_at, resumes};
 use crate::numbers::{number, number_at};
 use crate::plan::{Linkage, Plan};
 use crate::prologue::emit_epilogue;
@@ -24,20 +25,15 @@ use mips_isa::{PairTest, Plain, Reg};
 use rtl::{RExit, Register};
 use std::alloc::AllocError;
 
-// Where the call at the end of block k goes on.
-pub(crate) fn next_at(
-    table: &[Naming],
-    places: &[BlockNumber],
-    k: usize,
-    exit: &RExit,
-) -> BlockNumber
-    requires { k + count (heads_in table.now) exit.now ≤ UNIT_BLOCKS }
-    ensures { result ≡ next_of (heads_in table.now) (λ b. slice_index places.now b) k exit.now }
+/// Returns where the call at the end of block k goes on.
+pub(crate) fn next_at(plan: &Plan<'_>, k: usize, exit: &RExit) -> BlockNumber
+    requires { k + count (heads_in plan.now.table.now) exit.now ≤ UNIT_BLOCKS }
+    ensures { result ≡ next_of (planning_of plan.now) k exit.now }
 {
     match exit {
         RExit::Call(_, _, d, next) => {
-            if resumes(*d, head_at(table, *next as usize)) {
-                number_at(places, *next)
+            if resumes(*d, head_at(plan.table, *next as usize)) {
+                number_at(plan.places, *next)
             } else {
                 number(k + 1)
             }
@@ -49,7 +45,7 @@ pub(crate) fn next_at(
     }
 }
 
-// By which pseudo-register a block is left.
+/// Returns the pseudo-register by which a block is left.
 pub(crate) fn asked_of(exit: &RExit) -> Asked
     ensures { result ≡ asked_of exit.now }
 {
@@ -63,7 +59,7 @@ pub(crate) fn asked_of(exit: &RExit) -> Asked
     }
 }
 
-// A branch to `then` where a pseudo-register isn't 0, else to `other`: what stands before it, and the exit.
+/// Emits a branch to `then` if a pseudo-register isn't 0, else to `other`, and returns the exit.
 fn emit_branch(
     code: &mut Vec<Plain>,
     facts: &Knowledge,
@@ -98,7 +94,7 @@ fn emit_branch(
     })
 }
 
-// A pseudo-register into the result's register, but where it is there already.
+/// Emits a pseudo-register into the result's register, except where it is there already.
 fn emit_returned(
     code: &mut Vec<Plain>,
     facts: &Knowledge,
@@ -116,7 +112,7 @@ fn emit_returned(
     emit_departure(code, facts, last.fresh, frame, register(RESULT), x)
 }
 
-// How a block is left, where a call goes on at `next`: what stands before the exit, and the exit.
+/// Emits what stands before the exit of a block, whose call goes on at `next`, and returns the exit. A call goes on at `next`.
 pub(crate) fn emit_exit(
     code: &mut Vec<Plain>,
     facts: &Knowledge,
@@ -126,12 +122,11 @@ pub(crate) fn emit_exit(
     next: BlockNumber,
     exit: &RExit,
 ) -> Result<Exit, AllocError>
-    requires frame { IsReachable plan.now.frame.now }
     requires few { HasFewArguments exit.now }
     ensures code { OnOk result (code.new.items ≡ code.old.items
         ++ exit_code plan.now.leaf plan.now.frame.now (facts_of facts.now) last.now exit.now) }
-    ensures exit { IfOk result (λ x. x ≡ exit_of (λ g. slice_index linkage.now.entries.now g)
-        (λ b. slice_index plan.now.places.now b) plan.now.frame.now (facts_of facts.now) last.now next exit.now) }
+    ensures exit { IfOk result (λ x. x ≡ exit_of (linking_of linkage.now) (planning_of plan.now).placing (facts_of facts.now) last.now
+        next exit.now) }
 {
     let frame = plan.frame;
     match exit {

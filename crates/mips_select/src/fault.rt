@@ -1,4 +1,4 @@
-// Why there is no unit: a limit, or memory.
+//! Why there is no unit: a limit, or memory.
 use std::alloc::AllocError;
 
 /// Why a program has no unit.

@@ -1,10 +1,12 @@
-// The blocks for whole functions, one function behind another.
+//! The blocks for whole functions, one function after another.
 
-ghost use Rattle.std.specs.Prelude.{◌≡◌, ◌+◌, ◌≤◌, ◌++◌, ◌∷◌, [], length, OnOk, slice_index};
+ghost use Rattle.std.specs.Prelude.{◌≡◌, ◌+◌, ◌≤◌, ◌++◌, ◌∷◌, [], length, OnOk};
 ghost use Rattle.mblock.specs.declared.limits.TheConstants.{UNIT_BLOCKS, UNIT_BYTES};
 ghost use Rattle.mips_emit.specs.Frames.{IsReachable};
 ghost use Rattle.mips_select.specs.Heads.{heads_in, namings_of, AreNamed};
-ghost use Rattle.mips_select.specs.Code.{prologue_block, start_block, end_block};
+ghost use Rattle.mips_select.specs.Plans.{linking_of, planning_of};
+ghost use Rattle.mips_select.specs.Code.{start_block, end_block};
+ghost use Rattle.mips_select.specs.declared.heads.Head.TheVariants.{Bare};
 ghost use Rattle.mips_select.specs.Emittable.{AreEmittable, AreInside, AreReachable, IsFunctionEmittable, AreFunctionsEmittable};
 ghost use Rattle.mips_select.specs.Whole.{size_of_blocks, blocks_from, lead_blocks, function_size, functions_size, function_blocks};
 ghost use Rattle.mips_select.specs.Whole.{functions_blocks};
@@ -26,7 +28,7 @@ use std::alloc::{AllocError, Global};
 // What the global pointer always holds: the middle of the first 65,536 bytes of data.
 const DATA_MIDDLE: u32 = DATA_BASE + 32_768;
 
-// The blocks for some blocks, the first of which has the number `first`.
+/// Emits the blocks for some blocks, the first of which has the number `first`.
 fn emit_blocks(
     out: &mut Vec<LongBlock>,
     facts: &mut Knowledge,
@@ -36,13 +38,8 @@ fn emit_blocks(
     blocks: &[RBlock],
 ) -> Result<(), AllocError>
     requires number { first + size_of_blocks (heads_in plan.now.table.now) blocks.now ≤ UNIT_BLOCKS }
-    requires frame { IsReachable plan.now.frame.now }
-    requires parameters { plan.now.parameters ≤ 4 }
-    requires inside { AreInside linkage.now.starts.now UNIT_BYTES }
     requires blocks { AreEmittable (length linkage.now.starts.now) blocks.now }
-    ensures { OnOk result (out.new.items ≡ out.old.items ++ blocks_from linkage.now.globals.now (slice_index linkage.now.starts.now)
-        (slice_index linkage.now.entries.now) (slice_index plan.now.places.now) plan.now.leaf (heads_in plan.now.table.now)
-        plan.now.frame.now plan.now.parameters first 0 blocks.now) }
+    ensures { OnOk result (out.new.items ≡ out.old.items ++ blocks_from (linking_of linkage.now) (planning_of plan.now) first 0 blocks.now) }
 {
     let mut k = first;
     for j in 0..blocks.len() {
@@ -53,44 +50,37 @@ fn emit_blocks(
     Ok(())
 }
 
-// A block of the prologue.
+/// Emits a block of the prologue.
 fn emit_prologue_block(
     alloc: Global,
     out: &mut Vec<LongBlock>,
     plan: &Plan<'_>,
-    first: BlockNumber,
 ) -> Result<(), AllocError>
-    requires frame { IsReachable plan.now.frame.now }
-    requires parameters { plan.now.parameters ≤ 4 }
-    ensures { OnOk result (out.new.items ≡ out.old.items
-        ++ prologue_block plan.now.leaf plan.now.frame.now plan.now.parameters first ∷ []) }
+    ensures { OnOk result (out.new.items ≡ out.old.items ++ lead_blocks (planning_of plan.now) Bare) }
 {
     let mut insts = Vec::new(alloc);
     emit_prologue(&mut insts, plan.frame, plan.leaf, plan.parameters)?;
+    let first = number_at(plan.places, 0);
     push(out, LongBlock::new(insts, Exit::Goto(first)))
 }
 
-// The prologue's block, where block 0 doesn't begin with it.
+/// Emits the prologue's block, where block 0 doesn't begin with it.
 fn emit_lead(
     alloc: Global,
     out: &mut Vec<LongBlock>,
     plan: &Plan<'_>,
     head: Head,
-    first: BlockNumber,
 ) -> Result<(), AllocError>
-    requires frame { IsReachable plan.now.frame.now }
-    requires parameters { plan.now.parameters ≤ 4 }
-    ensures { OnOk result (out.new.items ≡ out.old.items
-        ++ lead_blocks plan.now.leaf head plan.now.frame.now plan.now.parameters first) }
+    ensures { OnOk result (out.new.items ≡ out.old.items ++ lead_blocks (planning_of plan.now) head) }
 {
     match head {
         Head::Enters => Ok(()),
-        Head::Bare => emit_prologue_block(alloc, out, plan, first),
-        Head::Takes(_) => emit_prologue_block(alloc, out, plan, first),
+        Head::Bare => emit_prologue_block(alloc, out, plan),
+        Head::Takes(_) => emit_prologue_block(alloc, out, plan),
     }
 }
 
-// The blocks for a function, the first of which has the number k.
+/// Emits the blocks for a function, the first of which has the number k.
 fn emit_function(
     out: &mut Vec<LongBlock>,
     facts: &mut Knowledge,
@@ -103,17 +93,13 @@ fn emit_function(
     requires named { table.now ≡ namings_of func.now }
     requires number { k + function_size func.now ≤ UNIT_BLOCKS }
     requires frame { IsReachable frame.now }
-    requires inside { AreInside linkage.now.starts.now UNIT_BYTES }
     requires function { IsFunctionEmittable (length linkage.now.starts.now) func.now }
-    ensures { OnOk result (out.new.items ≡ out.old.items ++ function_blocks linkage.now.globals.now (slice_index linkage.now.starts.now)
-        (slice_index linkage.now.entries.now) k
-        func.now frame.now) }
+    ensures { OnOk result (out.new.items ≡ out.old.items ++ function_blocks (linking_of linkage.now) k func.now frame.now) }
 {
     let blocks = func.blocks.as_slice();
     let first = k + lead_in(table);
     let numbers = number_blocks(linkage.alloc, table, first, blocks)?;
     let places = numbers.as_slice();
-    let start = number_at(places, 0);
     let plan = Plan {
         frame,
         leaf: is_leaf(blocks),
@@ -121,11 +107,11 @@ fn emit_function(
         table,
         places,
     };
-    emit_lead(linkage.alloc, out, &plan, head_at(table, 0), start)?;
+    emit_lead(linkage.alloc, out, &plan, head_at(table, 0))?;
     emit_blocks(out, facts, linkage, &plan, first, blocks)
 }
 
-// The blocks for all functions, behind the two for start and end.
+/// Emits the blocks for all functions, after the two for start and end.
 pub(crate) fn emit_functions(
     out: &mut Vec<LongBlock>,
     linkage: &Linkage<'_>,
@@ -138,11 +124,8 @@ pub(crate) fn emit_functions(
     requires number { 2 + functions_size functions.now ≤ UNIT_BLOCKS }
     requires lengths { length frames.now ≡ length functions.now }
     requires frames { AreReachable frames.now }
-    requires inside { AreInside linkage.now.starts.now UNIT_BYTES }
     requires functions { AreFunctionsEmittable (length linkage.now.starts.now) functions.now }
-    ensures { OnOk result (out.new.items ≡ out.old.items ++ functions_blocks linkage.now.globals.now (slice_index linkage.now.starts.now)
-        (slice_index linkage.now.entries.now) 2
-        functions.now frames.now) }
+    ensures { OnOk result (out.new.items ≡ out.old.items ++ functions_blocks (linking_of linkage.now) 2 functions.now frames.now) }
 {
     let mut facts = Knowledge::none(linkage.alloc)?;
     for i in 0..functions.len() {
@@ -155,7 +138,7 @@ pub(crate) fn emit_functions(
     Ok(())
 }
 
-// Block 0, which sets the global pointer and calls the main function.
+/// Emits block 0, which sets the global pointer and calls the main function.
 pub(crate) fn emit_start(
     alloc: Global,
     out: &mut Vec<LongBlock>,
@@ -172,7 +155,7 @@ pub(crate) fn emit_start(
     push(out, LongBlock::new(insts, exit))
 }
 
-// Block 1, which ends with the main function's result.
+/// Emits block 1, which ends with the main function's result.
 pub(crate) fn emit_end(alloc: Global, out: &mut Vec<LongBlock>) -> Result<(), AllocError>
     ensures { OnOk result (out.new.items ≡ out.old.items ++ end_block ∷ []) }
 {

@@ -1,4 +1,4 @@
-// The data of a program: where its globals begin, and their bytes.
+//! The data of a program: where its globals begin, and their bytes.
 
 ghost use Rattle.std.specs.Prelude.{◌≡◌, ◌*◌, ◌≤◌, ◌++◌, ◌∷◌, [], All, IfOk, OnOk, map, sum_by};
 ghost use Rattle.words.specs.Words.{wrap};
@@ -14,7 +14,7 @@ use rtl::RGlobal;
 use std::alloc::{AllocError, Global};
 use words::Width;
 
-// A word, its highest byte first.
+/// Pushes a word, its highest byte first.
 fn push_word(bytes: &mut Vec<u8>, v: u32) -> Result<(), AllocError>
     ensures { OnOk result (bytes.new.items ≡ bytes.old.items ++ element_bytes Width.Word v) }
 {
@@ -24,7 +24,7 @@ fn push_word(bytes: &mut Vec<u8>, v: u32) -> Result<(), AllocError>
     push(bytes, (v % 256) as u8)
 }
 
-// An element, of which an array of bytes has the low eight bits.
+/// Pushes an element, of which an array of bytes has the low eight bits.
 fn push_element(bytes: &mut Vec<u8>, width: Width, v: u32) -> Result<(), AllocError>
     ensures { OnOk result (bytes.new.items ≡ bytes.old.items ++ element_bytes width (kept width (wrap v))) }
 {
@@ -52,7 +52,7 @@ fn push_zeros(bytes: &mut Vec<u8>, n: u32) -> Result<(), AllocError>
     Ok(())
 }
 
-// How many bytes stand behind so many elements, up to a whole word.
+/// Returns how many bytes stand after so many elements, up to a whole word.
 fn gap_behind(width: Width, n: u32) -> u32
     ensures { result ≡ gap_behind width n }
 {
@@ -75,7 +75,7 @@ fn push_global(bytes: &mut Vec<u8>, global: &RGlobal) -> Result<(), AllocError>
     push_zeros(bytes, gap_behind(global.width, global.length))
 }
 
-// The elements of globals without gaps.
+/// Pushes the elements of globals without gaps.
 fn push_bare(bytes: &mut Vec<u8>, globals: &[RGlobal]) -> Result<(), AllocError>
     ensures { OnOk result (bytes.new.items ≡ bytes.old.items ++ bare_bytes globals.now) }
 {
@@ -85,7 +85,7 @@ fn push_bare(bytes: &mut Vec<u8>, globals: &[RGlobal]) -> Result<(), AllocError>
     Ok(())
 }
 
-// The bytes of a program's globals.
+/// Returns the bytes of a program's globals.
 pub(crate) fn globals_bytes(alloc: Global, globals: &[RGlobal]) -> Result<Vec<u8>, AllocError>
     ensures { IfOk result (λ d. d.items ≡ data_bytes globals.now) }
 {
@@ -95,7 +95,7 @@ pub(crate) fn globals_bytes(alloc: Global, globals: &[RGlobal]) -> Result<Vec<u8
     Ok(bytes)
 }
 
-// The bytes of globals, each with its gap.
+/// Returns the bytes of globals, each with its gap.
 fn padded_bytes(alloc: Global, globals: &[RGlobal]) -> Result<Vec<u8>, AllocError>
     ensures { IfOk result (λ d. d.items ≡ padded_bytes globals.now) }
 {
@@ -106,7 +106,7 @@ fn padded_bytes(alloc: Global, globals: &[RGlobal]) -> Result<Vec<u8>, AllocErro
     Ok(bytes)
 }
 
-// Where each global begins.
+/// Returns where each global begins.
 pub(crate) fn globals_starts(alloc: Global, globals: &[RGlobal]) -> Result<Vec<u32>, AllocError>
     requires { sum_by word_count globals.now ≤ MAX_GLOBAL_WORDS }
     ensures { IfOk result (λ s. s.items ≡ starts_from 0 globals.now) }

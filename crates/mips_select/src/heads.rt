@@ -1,4 +1,4 @@
-// What blocks begin with, from how the exits of their function name them.
+//! What blocks begin with, from how the exits of their function name them.
 
 ghost use Rattle.std.specs.Prelude.{◌≡◌, ◌≤◌, IfOk, slice_set, slice_get};
 ghost use Rattle.mips_select.specs.Heads.{naming_with_call, note, namings, unnamed, head_at, heads_in, resumes, count, lead_in};
@@ -6,7 +6,7 @@ ghost use Rattle.mips_select.specs.Heads.{naming_with_call, note, namings, unnam
 use rtl::{RBlock, RExit, Register};
 use std::alloc::{AllocError, Global};
 
-// How exits name a block.
+/// Says how exits name a block.
 #[derive(Clone, Copy)]
 pub(crate) enum Naming {
     /// None does.
@@ -17,7 +17,7 @@ pub(crate) enum Naming {
     Jumped,
 }
 
-// What a block begins with.
+/// Says what a block begins with.
 #[derive(Clone, Copy)]
 pub(crate) enum Head {
     /// Its own code.
@@ -28,7 +28,7 @@ pub(crate) enum Head {
     Takes(Register),
 }
 
-// One more call goes on at a block.
+/// Names a block at which one more call goes on.
 fn naming_with_call(d: Option<Register>, before: Option<Naming>) -> Naming
     ensures { result ≡ naming_with_call d before }
 {
@@ -40,7 +40,7 @@ fn naming_with_call(d: Option<Register>, before: Option<Naming>) -> Naming
     }
 }
 
-// How a block was named.
+/// Returns how a block was named.
 fn naming_at(table: &[Naming], b: usize) -> Option<Naming>
     ensures { result ≡ slice_get table.now b }
 {
@@ -50,7 +50,7 @@ fn naming_at(table: &[Naming], b: usize) -> Option<Naming>
     }
 }
 
-// A mark in the table, if there is such a block.
+/// Marks the block in the table, if there is such a block.
 fn mark(table: &mut Vec<Naming>, b: u32, s: Naming)
     ensures { table.new.items ≡ slice_set table.old.items b s }
 {
@@ -59,7 +59,7 @@ fn mark(table: &mut Vec<Naming>, b: u32, s: Naming)
     }
 }
 
-// What an exit names.
+/// Notes what an exit names.
 fn note_exit(table: &mut Vec<Naming>, exit: &RExit)
     ensures { table.new.items ≡ note exit.now table.old.items }
 {
@@ -78,7 +78,7 @@ fn note_exit(table: &mut Vec<Naming>, exit: &RExit)
     }
 }
 
-// A table in which no block is named.
+/// Makes a table in which no block is named.
 fn none_named(alloc: Global, blocks: &[RBlock]) -> Result<Vec<Naming>, AllocError>
     ensures { IfOk result (λ t. t.items ≡ unnamed blocks.now) }
 {
@@ -89,7 +89,7 @@ fn none_named(alloc: Global, blocks: &[RBlock]) -> Result<Vec<Naming>, AllocErro
     Ok(table)
 }
 
-// How the exits of a function name its blocks.
+/// Finds how the exits of a function name its blocks.
 pub(crate) fn all_namings(alloc: Global, blocks: &[RBlock]) -> Result<Vec<Naming>, AllocError>
     ensures { IfOk result (λ t. t.items ≡ namings blocks.now (unnamed blocks.now)) }
 {
@@ -100,7 +100,7 @@ pub(crate) fn all_namings(alloc: Global, blocks: &[RBlock]) -> Result<Vec<Naming
     Ok(table)
 }
 
-// What a block begins with.
+/// Returns what a block begins with.
 pub(crate) fn head_at(table: &[Naming], b: usize) -> Head
     ensures { result ≡ heads_in table.now b }
 {
@@ -113,7 +113,7 @@ pub(crate) fn head_at(table: &[Naming], b: usize) -> Head
     }
 }
 
-// Whether a call goes on at a block itself.
+/// Says whether a call goes on at a block itself.
 pub(crate) fn resumes(d: Option<Register>, head: Head) -> bool
     ensures { result ≡ resumes d head }
 {
@@ -130,7 +130,7 @@ pub(crate) fn resumes(d: Option<Register>, head: Head) -> bool
     }
 }
 
-// How many blocks stand for a block that is left so.
+/// Counts the blocks that stand for a block that is left so.
 pub(crate) fn count_of(table: &[Naming], exit: &RExit) -> usize
     ensures value { result ≡ count (heads_in table.now) exit.now }
     ensures some { 1 ≤ result }
@@ -151,7 +151,7 @@ pub(crate) fn count_of(table: &[Naming], exit: &RExit) -> usize
     }
 }
 
-// How many blocks stand before those of the blocks of a function.
+/// Counts the blocks before those that stand for the blocks of a function.
 pub(crate) fn lead_in(table: &[Naming]) -> usize
     ensures value { result ≡ lead_in (heads_in table.now) }
     ensures few { result ≤ 1 }

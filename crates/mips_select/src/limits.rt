@@ -1,4 +1,4 @@
-// The limits of frames and of the stack.
+//! The limits of frames and of the stack.
 
 ghost use Rattle.std.specs.Prelude.{◌↔◌, IsTrue};
 ghost use Rattle.mips_select.specs.Limits.{IsLargest, HaveRoom};
@@ -9,7 +9,7 @@ use mips_homes::Frame;
 /// How many bytes the stack has.
 pub const STACK_BYTES: u32 = 16_777_216;
 
-// The bytes of the largest frame, with its link, if none has too many.
+/// Returns the bytes of the largest frame, with its link, if none has too many.
 fn largest_frame(frames: &[Frame]) -> Option<u32>
     ensures { IsLargest frames.now result }
 {
@@ -24,7 +24,7 @@ fn largest_frame(frames: &[Frame]) -> Option<u32>
     Some(largest)
 }
 
-// Whether each frame is within reach of its instructions, and so many of the largest fit the stack.
+/// Reports whether each frame is within reach of its instructions, and so many of the largest fit the stack.
 pub(crate) fn have_room(frames: &[Frame], depth: u32) -> bool
     ensures { IsTrue result ↔ HaveRoom frames.now depth }
 {

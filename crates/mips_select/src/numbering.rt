@@ -1,4 +1,4 @@
-// Units with the numbers of the blocks with which a program's blocks begin.
+//! Units with the numbers of the blocks with which a program's blocks begin.
 
 ghost use Rattle.std.specs.Prelude.{◌≡◌, ℕ, ◌+◌, ◌<◌, ◌≤◌, length, map, slice_get, slice_index, IfOk, IfErr, Some};
 ghost use Rattle.mblock.specs.declared.limits.TheConstants.{BLOCK_INSTS, UNIT_BLOCKS};
@@ -18,7 +18,7 @@ use mblock::{BlockNumber, Unit};
 use rtl::{RFunc, Rtl};
 use std::alloc::{AllocError, Global};
 
-/// A program's unit, and the number of the unit's block with which each block of the program begins, one function behind
+/// Has a program's unit, and the number of the unit's block with which each block of the program begins, one function after
 /// another.
 #[derive(Drop)]
 pub struct Numbered {
@@ -26,7 +26,7 @@ pub struct Numbered {
     pub numbers: Vec<BlockNumber>,
 }
 
-// What a table has at each of some numbers.
+/// Looks up a table at each of some numbers.
 fn all_at(
     alloc: Global,
     table: &[BlockNumber],
@@ -40,7 +40,7 @@ fn all_at(
         .collect(alloc)
 }
 
-// Where the blocks of functions begin, of these blocks of any length: at their first pieces.
+/// Finds where the blocks of functions begin among blocks of any length: at their first pieces.
 fn block_numbers(
     alloc: Global,
     long: &LongUnit,
@@ -60,7 +60,7 @@ fn block_numbers(
     Ok(found)
 }
 
-/// What `select` makes, with the numbers of the blocks with which the program's blocks begin.
+/// Makes what `select` makes, with the numbers of the blocks with which the program's blocks begin.
 pub fn select_numbered(alloc: Global, rtl: &Rtl, depth: u32) -> Result<Numbered, SelectFault>
     ensures numbered { IfOk result (λ n. IsNumbered rtl.now n.unit n.numbers.items) }
     ensures within { IfOk result (λ _. FramesFit rtl.now depth) }

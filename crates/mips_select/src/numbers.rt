@@ -1,4 +1,4 @@
-// Numbers of blocks.
+//! Numbers of blocks.
 
 ghost use Rattle.std.specs.Prelude.{◌≡◌, ℕ, ◌+◌, ◌<◌, ◌≤◌, ◌++◌, ◌∷◌, [], length, IfOk, OnOk, IfErr, Some, slice_get, slice_index};
 ghost use Rattle.std.specs.Prelude.{replicate};
@@ -16,7 +16,7 @@ use mblock::{BlockNumber, UNIT_BLOCKS};
 use rtl::{RBlock, RFunc};
 use std::alloc::{AllocError, Global};
 
-// The number of a block.
+/// Returns the number of a block.
 pub(crate) fn number(n: usize) -> BlockNumber
     requires { n < UNIT_BLOCKS }
     ensures { result ≡ n }
@@ -27,7 +27,7 @@ pub(crate) fn number(n: usize) -> BlockNumber
     }
 }
 
-// A number of a table, 0 behind its end.
+/// Returns a number of a table, 0 after its end.
 pub(crate) fn number_at(table: &[BlockNumber], i: u32) -> BlockNumber
     ensures { result ≡ slice_index table.now i }
 {
@@ -38,7 +38,7 @@ pub(crate) fn number_at(table: &[BlockNumber], i: u32) -> BlockNumber
     }
 }
 
-// One number, several times.
+/// Pushes one number, several times.
 pub(crate) fn push_copies(
     table: &mut Vec<BlockNumber>,
     n: BlockNumber,
@@ -52,7 +52,7 @@ pub(crate) fn push_copies(
     Ok(())
 }
 
-// The first of the blocks that stand for each block, the first of all having the number `first`.
+/// Returns the first of the blocks that stand for each block, the first of all having the number `first`.
 pub(crate) fn number_blocks(
     alloc: Global,
     table: &[Naming],
@@ -71,7 +71,7 @@ pub(crate) fn number_blocks(
     Ok(ns)
 }
 
-// How many blocks stand for some.
+/// Returns how many blocks stand for some.
 fn count_blocks(table: &[Naming], blocks: &[RBlock]) -> usize
     requires { length blocks.now ≤ MAX_BLOCKS }
     ensures value { result ≡ size_of_blocks (heads_in table.now) blocks.now }
@@ -84,7 +84,7 @@ fn count_blocks(table: &[Naming], blocks: &[RBlock]) -> usize
     n
 }
 
-// How many blocks stand for a function, whose blocks are named as in the table.
+/// Returns how many blocks stand for a function, whose blocks are named as in the table.
 fn count_function(table: &[Naming], func: &RFunc) -> usize
     requires few { length func.now.blocks.items ≤ MAX_BLOCKS }
     requires named { table.now ≡ namings_of func.now }
@@ -103,7 +103,7 @@ pub(crate) struct Numbers {
     pub(crate) owners: Vec<BlockNumber>,
 }
 
-// Those of no functions: the two blocks for start and end.
+/// Returns those of no functions: the two blocks for start and end.
 fn first_numbers(alloc: Global) -> Result<Numbers, AllocError>
     ensures namings { IfOk result (λ n. n.namings.items ≡ []) }
     ensures entries { IfOk result (λ n. n.entries.items ≡ []) }
@@ -120,7 +120,7 @@ fn first_numbers(alloc: Global) -> Result<Numbers, AllocError>
     })
 }
 
-// One more function, of so many blocks, the first of which is `entry`.
+/// Pushes one more function, of so many blocks, the first of which is `entry`.
 fn push_function(
     numbers: &mut Numbers,
     table: Vec<Naming>,
@@ -136,7 +136,7 @@ fn push_function(
     push(&mut numbers.namings, table)
 }
 
-// The numbers of functions, from 2 on.
+/// Returns the numbers of functions, from 2 on.
 pub(crate) fn number_functions(alloc: Global, functions: &[RFunc]) -> Result<Numbers, SelectFault>
     requires { (g : ℕ) (func : RFunc) → slice_get functions.now g ≡ Some func → length func.blocks.items ≤ MAX_BLOCKS }
     ensures namings { IfOk result (λ n. AreNamed n.namings.items functions.now) }
@@ -159,7 +159,7 @@ pub(crate) fn number_functions(alloc: Global, functions: &[RFunc]) -> Result<Num
     Ok(numbers)
 }
 
-// The numbers of a function's blocks behind others, that of its first one being k, and how many blocks stand for it.
+/// Pushes the numbers of a function's blocks, the first of which is k, and returns how many blocks stand for it.
 fn push_numbers(
     alloc: Global,
     out: &mut Vec<BlockNumber>,
@@ -179,7 +179,7 @@ fn push_numbers(
     Ok(count_function(table, func))
 }
 
-// The numbers of the blocks of functions, from 2 on, one function behind another.
+/// Returns the numbers of the blocks of functions, from 2 on, one function after another.
 pub(crate) fn number_each(
     alloc: Global,
     namings: &[Vec<Naming>],

@@ -1,4 +1,4 @@
-// Long blocks to pieces.
+//! Long blocks to pieces.
 
 ghost use Rattle.std.specs.Prelude.{◌≡◌, ◌↔◌, ℕ, suc, ◌+◌, ◌-◌, ◌/◌, ◌^◌, ◌<◌, ◌≤◌, ◌++◌, ◌∷◌, [], length, IfOk, OnOk, IfErr, IsTrue};
 ghost use Rattle.std.specs.Prelude.{slice_index};
@@ -18,7 +18,7 @@ use mblock::{BLOCK_INSTS, Block, BlockNumber, Exit, UNIT_BLOCKS, Unit};
 use mips_isa::Plain;
 use std::alloc::{AllocError, Global};
 
-// How many pieces come behind the first.
+/// Returns how many pieces come after the first.
 fn count_more(block: &LongBlock) -> usize
     ensures value { result ≡ more_pieces BLOCK_INSTS block.now }
     ensures small { result < 2 ^ 63 }
@@ -27,7 +27,7 @@ fn count_more(block: &LongBlock) -> usize
     if n == 0 { 0 } else { (n - 1) / BLOCK_INSTS }
 }
 
-// Behind `k` pieces there is no place for one and `more`.
+/// Reports whether after `k` pieces there is no place for one and `more`.
 fn is_beyond(k: usize, more: usize) -> bool
     requires { k ≤ UNIT_BLOCKS }
     ensures { IsTrue result ↔ (UNIT_BLOCKS < k + 1 + more) }
@@ -35,7 +35,7 @@ fn is_beyond(k: usize, more: usize) -> bool
     more >= UNIT_BLOCKS - k
 }
 
-/// The number of each block's first piece.
+/// Returns the number of each block's first piece.
 pub(crate) fn first_pieces(
     alloc: Global,
     long: &[LongBlock],
@@ -57,7 +57,7 @@ pub(crate) fn first_pieces(
     Ok(numbers)
 }
 
-// A number of the table, 0 behind its end.
+/// Returns a number of the table, 0 after its end.
 fn number_at(numbers: &[BlockNumber], n: BlockNumber) -> BlockNumber
     ensures { result ≡ slice_index numbers.now n }
 {
@@ -69,7 +69,7 @@ fn number_at(numbers: &[BlockNumber], n: BlockNumber) -> BlockNumber
     }
 }
 
-// The exit with the numbers of pieces.
+/// Returns the exit with the numbers of pieces.
 fn renumber(numbers: &[BlockNumber], mut exit: Exit) -> Exit
     ensures { result ≡ renumbered_exit (λ n. slice_index numbers.now n) exit }
 {
@@ -93,7 +93,7 @@ fn renumber(numbers: &[BlockNumber], mut exit: Exit) -> Exit
     exit
 }
 
-// One more block of instructions that are few enough.
+/// Pushes one more block of instructions that are few enough.
 fn push_whole(out: &mut Vec<Block>, insts: Vec<Plain>, exit: Exit) -> Result<(), AllocError>
     requires { length insts.items ≤ BLOCK_INSTS }
     ensures { OnOk result (out.new.items ≡ out.old.items ++ piece insts.items exit ∷ []) }
@@ -105,7 +105,7 @@ fn push_whole(out: &mut Vec<Block>, insts: Vec<Plain>, exit: Exit) -> Result<(),
     Ok(())
 }
 
-// A copy as one more piece.
+/// Pushes a copy as one more piece.
 fn push_piece(
     alloc: Global,
     out: &mut Vec<Block>,
@@ -119,7 +119,7 @@ fn push_piece(
     push_whole(out, copy, exit)
 }
 
-// The pieces of a block, the exit having the numbers of pieces.
+/// Pushes the pieces of a block, the exit having the numbers of pieces.
 fn push_pieces(
     alloc: Global,
     out: &mut Vec<Block>,
@@ -140,7 +140,7 @@ fn push_pieces(
     push_piece(alloc, out, rest, exit)
 }
 
-// The pieces of a block, the exit having the numbers of pieces: a short one's instructions aren't copied.
+/// Pushes the pieces of a block, the exit having the numbers of pieces: a short one's instructions aren't copied.
 fn push_block(
     alloc: Global,
     out: &mut Vec<Block>,
@@ -158,7 +158,7 @@ fn push_block(
     }
 }
 
-// The pieces of all blocks.
+/// Returns the pieces of all blocks.
 fn pieces_of(
     alloc: Global,
     numbers: &[BlockNumber],
@@ -175,7 +175,7 @@ fn pieces_of(
     Ok(out)
 }
 
-// The owner of each piece.
+/// Returns the owner of each piece.
 fn owners_of(
     alloc: Global,
     numbers: &[BlockNumber],
@@ -193,7 +193,7 @@ fn owners_of(
     Ok(owners)
 }
 
-/// The unit of the pieces of blocks with their owners.
+/// Returns the unit of the pieces of blocks with their owners.
 pub(crate) fn split_unit(
     alloc: Global,
     long: Vec<LongBlock>,

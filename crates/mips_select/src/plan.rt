@@ -1,4 +1,10 @@
-// What the code of blocks is selected by.
+//! What the code of blocks is selected by.
+
+ghost use Rattle.std.specs.Prelude.{◌≤◌};
+ghost use Rattle.std.proofs.Props.{props};
+ghost use Rattle.mblock.specs.declared.limits.TheConstants.{UNIT_BYTES};
+ghost use Rattle.mips_emit.specs.Frames.{IsHome-prop, IsReachable};
+ghost use Rattle.mips_select.specs.Emittable.{AreInside};
 
 use crate::heads::Naming;
 use mblock::BlockNumber;
@@ -6,16 +12,17 @@ use mips_homes::Frame;
 use rtl::RGlobal;
 use std::alloc::Global;
 
-// What all functions share: the allocator, the globals, where in the data each begins, and at which block each function begins.
+/// Shares the allocator, the globals, where in the data each begins, and at which block each function begins.
 #[derive(Clone, Copy)]
 pub(crate) struct Linkage<'a> {
     pub(crate) alloc: Global,
     pub(crate) globals: &'a [RGlobal],
     pub(crate) starts: &'a [u32],
     pub(crate) entries: &'a [BlockNumber],
+    ghost inside: { AreInside starts.now UNIT_BYTES },
 }
 
-// A function's frame, whether it makes no call, how many parameters it has, how its blocks are named, and where they stand.
+/// Says of a function: its frame, whether it makes no call, its parameters, how its blocks are named, and where they are.
 #[derive(Clone, Copy)]
 pub(crate) struct Plan<'a> {
     pub(crate) frame: &'a Frame,
@@ -23,4 +30,6 @@ pub(crate) struct Plan<'a> {
     pub(crate) parameters: u32,
     pub(crate) table: &'a [Naming],
     pub(crate) places: &'a [BlockNumber],
+    ghost reachable: { IsReachable frame.now } by { Prim.hlevel (IsHome-prop, props) },
+    ghost few: { parameters ≤ 4 },
 }

@@ -1,4 +1,4 @@
-// Programs to units.
+//! Programs to units.
 
 ghost use Rattle.std.specs.Prelude.{◌≡◌, ℕ, ◌+◌, ◌<◌, ◌≤◌, length, IfOk, IfErr};
 ghost use Rattle.mblock.specs.declared.limits.TheConstants.{UNIT_BLOCKS};
@@ -24,7 +24,7 @@ use mips_homes::{Homed, place};
 use rtl::Rtl;
 use std::alloc::{AllocError, Global};
 
-// The blocks for a program, of any length. Its functions begin at `entries`, and their blocks are named as in `namings`.
+/// Emits the blocks for a program, of any length. Its functions begin at `entries`, and `namings` says how their blocks are named.
 fn emit_program(
     alloc: Global,
     homed: &Homed,
@@ -56,7 +56,7 @@ fn emit_program(
     Ok(out)
 }
 
-// The homes of a program, if each frame is within reach and `depth` of the largest ones have room.
+/// Chooses the homes of a program, if each frame is within reach and `depth` of the largest ones have room.
 pub(crate) fn homes_with_room<'a>(
     alloc: Global,
     rtl: &'a Rtl,
@@ -75,7 +75,7 @@ pub(crate) fn homes_with_room<'a>(
     Ok(homed)
 }
 
-// The blocks for a program, of any length, the first block of each one's function, and how the program's blocks are named.
+/// Has the blocks of a program, of any length, the first block of each one's function, and how the program's blocks are named.
 #[derive(Drop)]
 pub(crate) struct LongUnit {
     pub(crate) blocks: Vec<LongBlock>,
@@ -83,7 +83,7 @@ pub(crate) struct LongUnit {
     pub(crate) namings: Vec<Vec<Naming>>,
 }
 
-// Those over homes.
+/// Returns the blocks of a program whose homes are chosen, before long ones are cut.
 pub(crate) fn long_unit(alloc: Global, homed: &Homed) -> Result<LongUnit, SelectFault>
     requires places { ArePlaced homed.now }
     requires frames { AreReachable homed.now.frames.items }
@@ -108,7 +108,7 @@ pub(crate) fn long_unit(alloc: Global, homed: &Homed) -> Result<LongUnit, Select
     })
 }
 
-// The unit over homes, of its long blocks.
+/// Makes the unit of a program over its homes, of its long blocks.
 pub(crate) fn unit_of(alloc: Global, homed: &Homed, long: LongUnit) -> Result<Unit, SelectFault>
     requires places { ArePlaced homed.now }
     requires blocks { long.blocks.items ≡ program_blocks homed.now }
@@ -122,9 +122,9 @@ pub(crate) fn unit_of(alloc: Global, homed: &Homed, long: LongUnit) -> Result<Un
     split_unit(alloc, blocks, owners.as_slice(), bytes)
 }
 
-/// The unit of a program, whose stack holds `depth` activations: wherever the program isn't wrong, the unit comes to the same end and
-/// output. Its data are the globals' bytes, each global at a multiple of 4. Limit if a frame would have more than 32,000 bytes, `depth`
-/// of the largest ones more than 16 MiB, or the unit more than 1,048,576 blocks.
+/// Makes the unit of a program, whose stack holds `depth` activations: wherever the program isn't wrong, the unit comes to the same
+/// end and output. Its data are the globals' bytes, each global at a multiple of 4. Limit if a frame would have more than 32,000
+/// bytes, `depth` of the largest ones more than 16 MiB, or the unit more than 1,048,576 blocks.
 pub fn select(alloc: Global, rtl: &Rtl, depth: u32) -> Result<Unit, SelectFault>
     ensures runs { IfOk result (λ u. KeepsRuns rtl.now depth u) }
     ensures unit { IfOk result (λ u. IsSelected rtl.now u) }

@@ -1,4 +1,4 @@
-// What functions begin and end with.
+//! What functions begin and end with.
 
 ghost use Rattle.std.specs.Prelude.{◌≡◌, ℕ, ◌+◌, ◌*◌, ◌<◌, ◌≤◌, ◌++◌, ◌∷◌, [], length, OnOk, Some, slice_get};
 ghost use Rattle.mips_isa.specs.declared.inst.ImmOp.TheVariants.{Addiu};
@@ -16,14 +16,14 @@ use mips_homes::{FIRST_ARGUMENT, Frame, LINK, STACK_POINTER};
 use mips_isa::{ImmOp, NonzeroReg, Plain, Reg};
 use std::alloc::AllocError;
 
-// In which direction words go between registers and the frame.
+/// Says in which direction words go between registers and the frame.
 #[derive(Clone, Copy)]
 pub(crate) enum Direction {
     Save,
     Restore,
 }
 
-// A register into a word of the frame, or back.
+/// Emits a register into a word of the frame, or back.
 fn emit_word(
     code: &mut Vec<Plain>,
     direction: Direction,
@@ -39,7 +39,7 @@ fn emit_word(
     }
 }
 
-// Registers into the frame from an offset on, or back.
+/// Emits registers into the frame from an offset on, or back.
 fn emit_words(
     code: &mut Vec<Plain>,
     direction: Direction,
@@ -58,7 +58,7 @@ fn emit_words(
     Ok(())
 }
 
-// How many bytes a frame takes.
+/// Returns how many bytes a frame takes.
 fn size_of_frame(frame: &Frame, leaf: bool) -> u32
     requires { IsReachable frame.now }
     ensures size { result ≡ frame_bytes leaf frame.now }
@@ -71,7 +71,7 @@ fn size_of_frame(frame: &Frame, leaf: bool) -> u32
     }
 }
 
-// How far the stack pointer goes.
+/// Returns how far the stack pointer goes.
 fn step_of(direction: Direction, size: u32) -> i16
     requires some { 0 < size }
     requires few { size ≤ FRAME_BYTES }
@@ -83,7 +83,7 @@ fn step_of(direction: Direction, size: u32) -> i16
     }
 }
 
-// The stack pointer goes down or up again, if the frame takes anything.
+/// Emits the step of the stack pointer, down or up again, if the frame takes anything.
 fn emit_step(code: &mut Vec<Plain>, direction: Direction, size: u32) -> Result<(), AllocError>
     requires { size ≤ FRAME_BYTES }
     ensures { OnOk result (code.new.items ≡ code.old.items ++ stack_step direction size) }
@@ -99,7 +99,7 @@ fn emit_step(code: &mut Vec<Plain>, direction: Direction, size: u32) -> Result<(
     Ok(())
 }
 
-// The link into the frame or back, but in a leaf.
+/// Emits the link into the frame or back, except in a leaf.
 fn emit_link(
     code: &mut Vec<Plain>,
     direction: Direction,
@@ -116,7 +116,7 @@ fn emit_link(
     emit_word(code, direction, register(LINK), place)
 }
 
-// Parameters into their locations.
+/// Emits parameters into their locations.
 fn emit_parameters(code: &mut Vec<Plain>, frame: &Frame, n: u32) -> Result<(), AllocError>
     requires frame { IsReachable frame.now }
     requires few { n ≤ 4 }
@@ -128,7 +128,7 @@ fn emit_parameters(code: &mut Vec<Plain>, frame: &Frame, n: u32) -> Result<(), A
     Ok(())
 }
 
-// What a function begins with: its frame, what it saves, and its parameters in their locations.
+/// Emits what a function begins with: its frame, what it saves, and its parameters in their locations.
 pub(crate) fn emit_prologue(
     code: &mut Vec<Plain>,
     frame: &Frame,
@@ -151,7 +151,7 @@ pub(crate) fn emit_prologue(
     emit_parameters(code, frame, parameters)
 }
 
-// What a function ends with: what it saved comes back, and its frame goes.
+/// Emits what a function ends with: what it saved comes back, and its frame goes.
 pub(crate) fn emit_epilogue(
     code: &mut Vec<Plain>,
     frame: &Frame,

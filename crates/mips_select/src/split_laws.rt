@@ -1,23 +1,23 @@
-// The laws of split units, each as the contract of a function that does nothing.
+//! The laws of split units, each as the contract of a function that does nothing.
 ghost use Rattle.mips_select.specs.Functions.{EachListOfFunctionsIsOwned};
 ghost use Rattle.mips_select.specs.SplitLaws.{EachSplitUnitComesTo, EachSplitUnitIsWell, EachSplitUnitRuns};
 
-/// The pieces of a unit do what the unit does.
+/// States that the pieces of a unit do what the unit does.
 pub fn each_split_unit_runs()
     ensures { EachSplitUnitRuns }
 {}
 
-/// What every run of a unit comes to, every run of its pieces comes to.
+/// States that what every run of a unit comes to, every run of its pieces comes to.
 pub fn each_split_unit_comes_to()
     ensures { EachSplitUnitComesTo }
 {}
 
-/// Pieces are short, and a unit of them is as well linked and owned as the unit that was cut.
+/// States that pieces are short, and a unit of them is as well linked and owned as the unit that was cut.
 pub fn each_split_unit_is_well()
     ensures { EachSplitUnitIsWell }
 {}
 
-/// Functions one behind another, with branches that stay inside them, are linked and owned.
+/// States that functions one after another, with branches that stay inside them, are linked and owned.
 pub fn each_list_of_functions_is_owned()
     ensures { EachListOfFunctionsIsOwned }
 {}

@@ -1,16 +1,16 @@
 use Rattle.mips_emit.proofs.Emitted.{insts_step}
 use Rattle.std.proofs.Common.{List, [], ◌++◌, refl, sym, ap, ◌∙◌, arith}
-use Rattle.std.specs.Prelude.{slice_index}
 use Rattle.std.proofs.lemmas.List.{append-nil, at_drop_all}
 use Rattle.rtl.specs.declared.instruction.RInst.{RInst}
 use Rattle.mips_emit.specs.Locations.{facts_of, locations, known_after}
+use Rattle.mips_emit.specs.Code.{context_of}
 use Rattle.mips_emit.specs.Comparisons.{insts_code, last_after}
 use Rattle.mips_emit.proofs.Prefixes.{stops_here, stops_later, at_err, prefix_all}
 use Rattle.mips_emit.proofs.inst.emit_insts.Goals as goal
 
 pub loop-inst-preserved : goal.loop-inst-preserved
 loop-inst-preserved c =
-    let z = insts_step c.args.setting.now.globals.now _ _ c.args.asked c.asked_if-asks.result c.loop-inst.inst-index c.loop-inst.left c.args.insts.now _
+    let z = insts_step (context_of c.args.setting.now) c.args.asked c.asked_if-asks.result c.loop-inst.inst-index c.loop-inst.left c.args.insts.now _
     c.comparison_of-comparison.result c.fresh_of-fresh.result _ _ _ _ _ _ _ _ _
     c.loop-inst-test.true c.asked_if-asks.ensures c.comparison_of-comparison.ensures.value c.fresh_of-fresh.ensures c.in_ok-emit_next.ensures
     c.in_ok-learn.ensures.is c.last_with-last.ensures
@@ -20,7 +20,7 @@ loop-inst-preserved c =
       z.2,
       z.3,
       λ final now s. c.loop-inst.invariant.4 final now
-          (stops_later c.args.setting.now.globals.now _ _ c.args.asked c.asked_if-asks.result c.args.insts.now c.loop-inst.inst-index c.loop-inst.left _
+          (stops_later (context_of c.args.setting.now) c.args.asked c.asked_if-asks.result c.args.insts.now c.loop-inst.inst-index c.loop-inst.left _
           c.comparison_of-comparison.result _ final _ now c.loop-inst-test.true c.loop-inst.invariant.0 c.asked_if-asks.ensures
           c.comparison_of-comparison.ensures.value _ _ c.in_ok-learn.ensures.is c.in_ok-emit_next.ensures s),
     )
@@ -30,8 +30,7 @@ returns-in_err-emit_next-clause-left c =
     let facts = facts_of c.loop-inst.facts in
     let was = c.loop-inst.code.items in
     let now = c.emit_next.new.code.items in
-    at_err c.from_residual.result (c.loop-inst.invariant.4 facts now (stops_here c.args.setting.now.globals.now (slice_index c.args.setting.now.starts.now)
-    (locations c.args.setting.now.frame.now) c.args.asked c.asked_if-asks.result c.args.insts.now c.loop-inst.inst-index c.loop-inst.left _
+    at_err c.from_residual.result (c.loop-inst.invariant.4 facts now (stops_here (context_of c.args.setting.now) c.args.asked c.asked_if-asks.result c.args.insts.now c.loop-inst.inst-index c.loop-inst.left _
     c.comparison_of-comparison.result facts facts was now c.loop-inst-test.true c.loop-inst.invariant.0 c.asked_if-asks.ensures
     c.comparison_of-comparison.ensures.value refl c.in_err-emit_next.ensures))
 
@@ -41,8 +40,7 @@ returns-in_err-learn-clause-left c =
     let final = facts_of c.learn.new.facts in
     let was = c.loop-inst.code.items in
     let now = c.emit_next.new.code.items in
-    at_err c.from_residual-in_err-learn.result (c.loop-inst.invariant.4 final now (stops_here c.args.setting.now.globals.now (slice_index c.args.setting.now.starts.now)
-    (locations c.args.setting.now.frame.now) c.args.asked c.asked_if-asks.result c.args.insts.now c.loop-inst.inst-index c.loop-inst.left _
+    at_err c.from_residual-in_err-learn.result (c.loop-inst.invariant.4 final now (stops_here (context_of c.args.setting.now) c.args.asked c.asked_if-asks.result c.args.insts.now c.loop-inst.inst-index c.loop-inst.left _
     c.comparison_of-comparison.result facts final was now c.loop-inst-test.true c.loop-inst.invariant.0 c.asked_if-asks.ensures
     c.comparison_of-comparison.ensures.value c.in_err-learn.ensures.kept (prefix_all was now _ c.in_ok-emit_next.ensures)))
 
@@ -51,8 +49,7 @@ loop-inst-init c = (omega arith, refl, refl, refl, λ final now s. s)
 
 pub returns-clause-code : goal.returns-clause-code
 returns-clause-code c =
-    let at = locations c.args.setting.now.frame.now in
-    let code_of = λ (is : List RInst). insts_code c.args.setting.now.globals.now (slice_index c.args.setting.now.starts.now) at c.args.asked (facts_of c.loop-inst.facts) is [] in
+    let code_of = λ (is : List RInst). insts_code (context_of c.args.setting.now) c.args.asked (facts_of c.loop-inst.facts) is [] in
     sym (ap (λ l. c.loop-inst.code.items ++ l) (at_drop_all code_of c.args.insts.now c.loop-inst.inst-index c.loop-inst-test.false)
     ∙ append-nil c.loop-inst.code.items) ∙ c.loop-inst.invariant.1
 

@@ -11,7 +11,7 @@ returns-in-None c =
     let right = c.args.y.now.known in
     let rs = c.operand_register-rs.ensures in
     let rt = c.operand_register-rt.ensures ∙ ap (λ t. operand_register t c.args.y.now.source) c.register.ensures in
-    both_fetched op c.args.inner rd _ _ _ c.args.x.now.source c.args.y.now.source c.first_of.result c.second_of.result
+    both_fetched op c.args.inner rd c.args.x.now c.args.y.now c.first_of.result c.second_of.result
     (sym (c.immediate_of.ensures ∙ ap (λ q. immediate_of op rd q right) rs) ∙ c.in_default.is)
     (sym (c.turned_immediate_of.ensures ∙ ap (λ q. turned_immediate_of op rd q left) rt) ∙ c.in_default-turned_immediate_of.is)
     (sym (c.turned_less_of.ensures ∙ ap (λ q. turned_less_of op rd q left) rt) ∙ c.in-None.is)

@@ -1,6 +1,6 @@
 use Rattle.std.proofs.Common.{◌∙◌, ◌++◌, arith, drop, length, sym}
-use Rattle.std.specs.Prelude.{slice_index}
 use Rattle.std.proofs.lemmas.List.{append-nil, at_drop_all}
+use Rattle.mips_select.specs.Plans.{linking_of}
 use Rattle.mips_select.specs.Whole.{functions_blocks}
 use Rattle.mips_select.proofs.Blocks.{read_at, functions_room, functions_step, named_here, named_long}
 use Rattle.mips_select.proofs.functions.emit_functions.Goals as goal
@@ -32,14 +32,12 @@ emit_function-requires-clause-function c = (c.requires.functions).by c.loop-i.i 
 pub loop-i-preserved : goal.loop-i-preserved
 loop-i-preserved c =
     let len = c.len-k.ensures in
-    functions_step _ _ _ c.loop-i.i _ c.args.functions.now c.args.frames.now c.index-functions-i.result c.index-frames-i.result c.loop-i.out.items _ _
+    functions_step _ c.loop-i.i _ c.args.functions.now c.args.frames.now c.index-functions-i.result c.index-frames-i.result c.loop-i.out.items _ _
     c.len-k.result c.loop-i-test.true c.requires.lengths c.index-functions-i.is c.index-frames-i.is
     (omega (arith, len)) c.in_ok-emit_function.ensures c.loop-i.invariant
 
 pub returns : goal.returns
 returns c =
-    let linkage = c.args.linkage.now in
     let out = c.loop-i.out.items in
-    sym (at_drop_all (λ fs. out ++ functions_blocks linkage.globals.now (slice_index linkage.starts.now)
-    (slice_index linkage.entries.now) (length out) fs (drop c.loop-i.i c.args.frames.now)) c.args.functions.now c.loop-i.i
+    sym (at_drop_all (λ fs. out ++ functions_blocks (linking_of c.args.linkage.now) (length out) fs (drop c.loop-i.i c.args.frames.now)) c.args.functions.now c.loop-i.i
     c.loop-i-test.false ∙ append-nil out) ∙ c.loop-i.invariant.1

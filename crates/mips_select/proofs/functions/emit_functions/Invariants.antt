@@ -1,13 +1,10 @@
 use Rattle.std.proofs.Common.{◌≡◌, ◌+◌, ◌++◌, drop, length}
-use Rattle.std.specs.Prelude.{slice_index}
+use Rattle.mips_select.specs.Plans.{linking_of}
 use Rattle.mips_select.specs.Whole.{functions_size, functions_blocks}
 use Rattle.mips_select.proofs.functions.emit_functions.Given as goal
 
 abbrev pub invariant-loop-i : goal.invariant-loop-i
 invariant-loop-i l =
     (length l.out.items + functions_size (drop l.i l.functions) ≡ 2 + functions_size l.functions)
-    × (l.out.items ++ functions_blocks l.linkage.globals.now (slice_index l.linkage.starts.now)
-    (slice_index l.linkage.entries.now) (length l.out.items) (drop l.i l.functions)
-    (drop l.i l.frames)
-    ≡ l.fn.out.items ++ functions_blocks l.linkage.globals.now (slice_index l.linkage.starts.now)
-    (slice_index l.linkage.entries.now) 2 l.functions l.frames)
+    × (l.out.items ++ functions_blocks (linking_of l.linkage) (length l.out.items) (drop l.i l.functions) (drop l.i l.frames)
+    ≡ l.fn.out.items ++ functions_blocks (linking_of l.linkage) 2 l.functions l.frames)

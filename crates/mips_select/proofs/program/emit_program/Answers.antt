@@ -4,10 +4,11 @@ use Rattle.mips_select.proofs.DataPlaces.{starts_inside, starts_length}
 use Rattle.mips_select.proofs.Selecting.{functions_emittable, program_made}
 use Rattle.mips_select.proofs.program.emit_program.Goals as goal
 
-pub emit_functions-requires-clause-inside : goal.emit_functions-requires-clause-inside
-emit_functions-requires-clause-inside c =
-    starts_inside _ _ (c.as_slice-starts.ensures.value ∙ c.in_ok-table.ensures ∙ ap (starts_from 0) c.globals-globals.ensures.value)
-    (c.globals-globals.ensures.sound).words_fit
+pub invariant_of-linkage : goal.invariant_of-linkage
+invariant_of-linkage c = record {
+  inside = starts_inside _ _ (c.as_slice-starts.ensures.value ∙ c.in_ok-table.ensures ∙ ap (starts_from 0) c.globals-globals.ensures.value)
+      (c.globals-globals.ensures.sound).words_fit;
+}
 
 pub emit_functions-requires-clause-functions : goal.emit_functions-requires-clause-functions
 emit_functions-requires-clause-functions c =
