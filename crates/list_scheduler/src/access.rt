@@ -1,5 +1,6 @@
 //! What instructions do with memory.
-use mips_isa::{Action, Plain, Reg};
+use crate::node::Node;
+use mips_isa::{Plain, Reg};
 use words::Width;
 
 /// A load or a store: its address is the word that the base holds then, and an offset.
@@ -15,29 +16,9 @@ pub struct Access {
     pub stores: bool,
 }
 
-/// The load or store of an instruction, if it is one.
+/// Returns the load or store of an instruction, if it is one.
 pub fn access_of(inst: &Plain) -> Option<Access> {
-    let (stores, width, base, offset) = match inst.action() {
-        Action::Loads {
-            width,
-            base,
-            offset,
-            ..
-        } => (false, width, base, offset),
-        Action::Stores {
-            width,
-            base,
-            offset,
-            ..
-        } => (true, width, base, offset),
-        _ => return None,
-    };
-    Some(Access {
-        base,
-        offset,
-        width,
-        stores,
-    })
+    Node::of(inst).access
 }
 
 fn bytes(width: Width) -> u32 {
@@ -48,7 +29,7 @@ fn bytes(width: Width) -> u32 {
 }
 
 impl Access {
-    /// Whether two accesses whose bases hold one word may be exchanged: both load, or their bytes are apart.
+    /// Reports whether two accesses whose bases hold one word may be exchanged: both load, or their bytes are apart.
     pub fn passes(&self, other: &Access) -> bool {
         if !self.stores && !other.stores {
             return true;

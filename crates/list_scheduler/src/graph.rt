@@ -1,232 +1,319 @@
-//! What has to stay before what in a block, and by how many words.
-use crate::access::{Access, access_of};
-use crate::accesses::Accesses;
-use crate::chains::{Chain, Chains};
+//! What has to stay before what in a block.
+use crate::access::Access;
+use crate::node::Node;
 use crate::resources::Resources;
-use crate::uses::Uses;
+use crate::sets::{Sets, number, split, split_last};
 use mblock::Exit;
-use mips_isa::Plain;
 use std::alloc::{AllocError, Global};
 
-/// An instruction that has to stand behind another.
-#[derive(Clone, Copy)]
-pub struct Edge {
-    /// Its number in the graph.
-    pub to: usize,
-    /// By how many words at least.
-    pub words: u32,
-}
-
-/// An instruction of the graph.
-#[derive(Clone, Copy)]
-pub struct Node {
-    /// The instruction.
-    pub inst: Plain,
-    /// Those that have to stand behind it. Who follows by way of others may be left out.
-    pub edges: Chain,
-    /// How many that are not in their places yet have to stand before it.
-    pub waits_for: u32,
-    /// The first word at which it may stand, for the sake of those that are in their places.
-    pub earliest: u32,
-    /// The words from it to the end of the block, at least.
-    pub height: u32,
-}
-
-/// The instructions of a block.
+/// The instructions of a block, and sets of them by their numbers.
 #[derive(Drop)]
 pub struct Graph {
+    /// The instructions.
     pub nodes: Vec<Node>,
-    pub edges: Chains<Edge>,
+    // By the numbers that the functions below give.
+    sets: Sets,
 }
 
-/// The graph of a block up to some instruction.
-#[derive(Drop)]
-struct Builder {
-    graph: Graph,
-    uses: Uses,
-    accesses: Accesses,
-    // Room for the nodes that an access stands behind.
-    behind: Vec<usize>,
+// The last instruction that wrote each register, HI and LO.
+type Writers = [Option<usize>; Resources::COUNT];
+
+// An instruction has two sets: those that stand after it, and the loads and stores that stand before it. One may be left out of
+// the first where it stands after by way of others.
+const SETS_OF_NODE: usize = 2;
+
+// One set for those that read a register, HI or LO since it was written, one for those that load or store, one for those that store,
+// and one for those that wait for no other.
+const OTHER_SETS: usize = Resources::COUNT + 3;
+
+fn behind(k: usize) -> usize {
+    k.wrapping_mul(SETS_OF_NODE)
 }
 
-// The words from a load to who touches its register, from a move of HI or LO to a product, and else.
-const AFTER_LOAD: u32 = 2;
-
-const PRODUCT_AFTER_MOVE: u32 = 3;
-
-const NEXT: u32 = 1;
-
-fn node_of(inst: Plain) -> Node {
-    Node {
-        inst,
-        edges: Chain::EMPTY,
-        waits_for: 0,
-        earliest: 0,
-        height: NEXT,
-    }
+fn before(k: usize) -> usize {
+    behind(k).wrapping_add(1)
 }
 
-impl Builder {
-    // An instruction of the graph stands before the one that comes next into it.
-    fn stand_before(
-        &mut self,
-        first: usize,
-        next: &mut Node,
-        words: u32,
-    ) -> Result<(), AllocError> {
-        let to = self.graph.nodes.len();
-        if let Some(node) = self.graph.nodes.get_mut(first) {
-            node.edges = self.graph.edges.push(node.edges, Edge { to, words })?;
-            next.waits_for = next.waits_for.saturating_add(1);
-        }
-        Ok(())
+impl Graph {
+    fn readers(&self, resource: usize) -> usize {
+        behind(self.nodes.len()).wrapping_add(resource)
     }
 
-    // The words from a writer of a register to who touches the register next.
-    fn words_behind_write(&self, writer: usize) -> u32 {
-        match self.graph.nodes.get(writer) {
-            Some(node) if node.inst.action().is_load() => AFTER_LOAD,
-            _ => NEXT,
+    fn accesses(&self) -> usize {
+        self.readers(Resources::COUNT)
+    }
+
+    fn stores(&self) -> usize {
+        self.accesses().wrapping_add(1)
+    }
+
+    fn free(&self) -> usize {
+        self.stores().wrapping_add(1)
+    }
+
+    /// Returns how many words a set has.
+    pub fn width(&self) -> usize {
+        self.sets.width()
+    }
+
+    /// Returns a word of the set of those that stand after a node.
+    pub fn word_behind(&self, k: usize, w: usize) -> u64 {
+        self.sets.word(behind(k), w)
+    }
+
+    /// Returns a word of the set of those that wait for no other.
+    pub fn free_word(&self, w: usize) -> u64 {
+        self.sets.word(self.free(), w)
+    }
+
+    /// Adds a node that waits for no other.
+    pub fn insert_free(&mut self, k: usize) {
+        let free = self.free();
+        let _ = self.sets.insert(free, k);
+    }
+
+    /// Removes a node that is in its place.
+    pub fn remove_free(&mut self, k: usize) {
+        let free = self.free();
+        self.sets.remove(free, k);
+    }
+
+    /// Puts a node after another.
+    fn stand_behind(&mut self, k: usize, first: usize) {
+        if self.sets.insert(behind(first), k) {
+            if let Some(node) = self.nodes.get_mut(k) {
+                node.waits_for = node.waits_for.saturating_add(1);
+            }
         }
     }
 
-    // The words from a reader of a register to who writes the register next.
-    fn words_behind_read(&self, reader: usize) -> u32 {
-        match self.graph.nodes.get(reader) {
-            Some(node) if node.inst.action().is_move() => PRODUCT_AFTER_MOVE,
-            _ => NEXT,
-        }
-    }
-
-    // Behind the last writer of each register that it touches.
-    fn link_behind_writers(
-        &mut self,
-        next: &mut Node,
-        touched: Resources,
-    ) -> Result<(), AllocError> {
+    /// Puts it after the last writer of each register that it touches.
+    fn link_behind_writers(&mut self, k: usize, touched: Resources, writers: &Writers) {
         let mut left = touched;
         for _ in 0..Resources::COUNT {
             let Some((resource, others)) = left.split() else {
                 break;
             };
-            if let Some(writer) = self.uses.writer(resource) {
-                self.stand_before(writer, next, self.words_behind_write(writer))?;
+            if let Some(writer) = writers.get(resource).copied().flatten() {
+                self.stand_behind(k, writer);
             }
             left = others;
         }
-        Ok(())
     }
 
-    // Behind the readers of each register that it writes.
-    fn link_behind_readers(
-        &mut self,
-        next: &mut Node,
-        written: Resources,
-    ) -> Result<(), AllocError> {
+    /// Puts it after the readers of each register that it writes.
+    fn link_behind_readers(&mut self, k: usize, written: Resources) {
         let mut left = written;
         for _ in 0..Resources::COUNT {
             let Some((resource, others)) = left.split() else {
                 break;
             };
-            let mut readers = self.uses.readers(resource);
-            for _ in 0..self.graph.nodes.len() {
-                let Some((reader, earlier)) = self.uses.split_last(readers) else {
-                    break;
-                };
-                self.stand_before(reader, next, self.words_behind_read(reader))?;
-                readers = earlier;
+            let readers = self.readers(resource);
+            for w in 0..self.width() {
+                let word = self.sets.word(readers, w);
+                self.link_behind_word(k, w, word);
             }
             left = others;
         }
-        Ok(())
     }
 
-    // Behind the accesses that it has to stay behind.
-    fn link_behind_accesses(&mut self, next: &mut Node, access: Access) -> Result<(), AllocError> {
-        let base_written = self.uses.writer(access.base.index() as usize);
-        self.behind.clear();
-        self.accesses.take(
-            self.graph.nodes.len(),
-            access,
-            base_written,
-            &mut self.behind,
-        )?;
-        for k in 0..self.behind.len() {
-            if let Some(first) = self.behind.get(k).copied() {
-                self.stand_before(first, next, NEXT)?;
-            }
-        }
-        Ok(())
-    }
-
-    // One instruction more.
-    fn add(&mut self, inst: Plain) -> Result<(), AllocError> {
-        let mut next = node_of(inst);
-        let reads = Resources::read_by(&inst);
-        let writes = Resources::written_by(&inst);
-        self.link_behind_writers(&mut next, reads.union(writes))?;
-        self.link_behind_readers(&mut next, writes)?;
-        if let Some(access) = access_of(&inst) {
-            self.link_behind_accesses(&mut next, access)?;
-        }
-        self.uses.take(self.graph.nodes.len(), reads, writes)?;
-        self.graph.nodes.push(next)?;
-        Ok(())
-    }
-}
-
-impl Graph {
-    // The words from a node to the end, those behind it having theirs. A load whose register the exit's first word touches is
-    // two words before it.
-    fn height_of(&self, node: &Node, touched: Resources) -> u32 {
-        let mut height = NEXT;
-        if node.inst.action().is_load() && Resources::written_by(&node.inst).meets(touched) {
-            height = AFTER_LOAD + NEXT;
-        }
-        let mut edges = node.edges;
-        for _ in 0..self.edges.len() {
-            let Some((edge, others)) = self.edges.split_last(edges) else {
+    /// Puts it after the nodes of a word of a set.
+    fn link_behind_word(&mut self, k: usize, w: usize, word: u64) {
+        let mut left = word;
+        for _ in 0..64 {
+            let Some((bit, others)) = split(left) else {
                 break;
             };
-            if let Some(behind) = self.nodes.get(edge.to) {
-                height = height.max(behind.height.saturating_add(edge.words));
+            self.stand_behind(k, number(w, bit));
+            left = others;
+        }
+    }
+
+    /// Notes what it reads and writes; what it writes counts as written by it alone.
+    fn use_resources(
+        &mut self,
+        k: usize,
+        reads: Resources,
+        writes: Resources,
+        writers: &mut Writers,
+    ) {
+        let mut left = reads.difference(writes);
+        for _ in 0..Resources::COUNT {
+            let Some((resource, others)) = left.split() else {
+                break;
+            };
+            let readers = self.readers(resource);
+            let _ = self.sets.insert(readers, k);
+            left = others;
+        }
+        let mut left = writes;
+        for _ in 0..Resources::COUNT {
+            let Some((resource, others)) = left.split() else {
+                break;
+            };
+            if let Some(writer) = writers.get_mut(resource) {
+                *writer = Some(k);
             }
-            edges = others;
+            let readers = self.readers(resource);
+            self.sets.clear(readers);
+            left = others;
+        }
+    }
+
+    /// Puts it after all that it has to stand after, as those before it are.
+    fn link(&mut self, k: usize, writers: &mut Writers) {
+        let Some(node) = self.nodes.get(k) else {
+            return;
+        };
+        let (reads, writes, access) = (node.reads, node.writes, node.access);
+        self.link_behind_writers(k, reads.union(writes), writers);
+        self.link_behind_readers(k, writes);
+        if let Some(access) = access {
+            self.link_behind_accesses(k, access, writers);
+        }
+        self.use_resources(k, reads, writes, writers);
+    }
+
+    /// Returns the words from a node to the end, those after it having theirs.
+    fn height_of(&self, k: usize, node: &Node, touched: Resources) -> u32 {
+        let mut height = node.words_to_exit(touched);
+        for w in 0..self.width() {
+            let mut left = self.word_behind(k, w);
+            for _ in 0..64 {
+                let Some((bit, others)) = split(left) else {
+                    break;
+                };
+                if let Some(next) = self.nodes.get(number(w, bit)) {
+                    height = height.max(next.height.saturating_add(node.words_to(next)));
+                }
+                left = others;
+            }
         }
         height
     }
 
-    // The height of each node, from the last one on.
-    fn set_heights(&mut self, exit: &Exit) {
+    /// Sets the height of each node, from the last one on, and returns which nodes wait for no other.
+    fn finish(&mut self, exit: &Exit) {
         let touched = Resources::touched_at_exit(exit);
         for k in (0..self.nodes.len()).rev() {
-            let height = match self.nodes.get(k) {
-                Some(node) => self.height_of(node, touched),
-                None => NEXT,
+            let Some(node) = self.nodes.get(k) else {
+                break;
             };
+            let height = self.height_of(k, node, touched);
+            if node.waits_for == 0 {
+                self.insert_free(k);
+            }
             if let Some(node) = self.nodes.get_mut(k) {
                 node.height = height;
             }
         }
     }
 
-    /// The graph of a block's instructions.
-    pub fn of(alloc: Global, insts: &[Plain], exit: &Exit) -> Result<Graph, AllocError> {
-        let most = insts.len().saturating_mul(2);
-        let mut builder = Builder {
-            graph: Graph {
-                nodes: Vec::with_capacity(alloc, insts.len())?,
-                edges: Chains::with_capacity(alloc, most)?,
-            },
-            uses: Uses::of_none(Chains::with_capacity(alloc, most)?),
-            accesses: Accesses::new(alloc),
-            behind: Vec::new(alloc),
-        };
-        for inst in insts {
-            builder.add(*inst)?;
+    /// Returns the graph of a block's instructions.
+    pub fn of(alloc: Global, nodes: Vec<Node>, exit: &Exit) -> Result<Graph, AllocError> {
+        let count = nodes.len();
+        let sets = Sets::new(alloc, behind(count).wrapping_add(OTHER_SETS), count)?;
+        let mut graph = Graph { nodes, sets };
+        let mut writers = [None; Resources::COUNT];
+        for k in 0..count {
+            graph.link(k, &mut writers);
         }
-        let Builder { mut graph, .. } = builder;
-        graph.set_heights(exit);
+        graph.finish(exit);
         Ok(graph)
+    }
+}
+
+// Loads and stores, and which have to stay in their order.
+impl Graph {
+    /// Reports whether a load or store comes before another whose base was written since.
+    fn loses_base(first: usize, base_written: Option<usize>) -> bool {
+        match base_written {
+            Some(written) => written >= first,
+            None => false,
+        }
+    }
+
+    /// Reports whether a load or store has to stay before one that comes next. Where the base of that one was written since, nothing is
+    /// known of where the two are.
+    fn stays_before(
+        &self,
+        first: usize,
+        later: &Access,
+        meets_store: bool,
+        base_written: Option<usize>,
+    ) -> bool {
+        let Some(node) = self.nodes.get(first) else {
+            return false;
+        };
+        let Some(earlier) = node.access else {
+            return false;
+        };
+        if (meets_store && earlier.stores) || (node.meets_store && later.stores) {
+            return true;
+        }
+        Graph::loses_base(first, base_written) || !earlier.passes(later)
+    }
+
+    /// Reports whether a load that comes next loads what a store may have stored that came since its base was written.
+    fn meets_store(&self, load: &Access, base_written: Option<usize>) -> bool {
+        if load.stores {
+            return false;
+        }
+        for w in (0..self.width()).rev() {
+            let mut left = self.sets.word(self.stores(), w);
+            for _ in 0..64 {
+                let Some((bit, others)) = split_last(left) else {
+                    break;
+                };
+                let first = number(w, bit);
+                if Graph::loses_base(first, base_written) {
+                    return false;
+                }
+                if let Some(node) = self.nodes.get(first) {
+                    if node.is_met_by(load) {
+                        return true;
+                    }
+                }
+                left = others;
+            }
+        }
+        false
+    }
+
+    /// Puts it after the accesses that it has to stay after.
+    fn link_behind_accesses(&mut self, k: usize, access: Access, writers: &Writers) {
+        let base = access.base.index() as usize;
+        let base_written = writers.get(base).copied().flatten();
+        let meets_store = self.meets_store(&access, base_written);
+        // A load stays behind stores alone.
+        let earlier = if access.stores {
+            self.accesses()
+        } else {
+            self.stores()
+        };
+        for w in (0..self.width()).rev() {
+            let mut left = self.sets.word(earlier, w);
+            for _ in 0..64 {
+                let Some((bit, others)) = split_last(left & !self.sets.word(before(k), w)) else {
+                    break;
+                };
+                let first = number(w, bit);
+                if self.stays_before(first, &access, meets_store, base_written) {
+                    self.stand_behind(k, first);
+                    let _ = self.sets.insert(before(k), first);
+                    self.sets.insert_all(before(k), before(first));
+                }
+                left = others;
+            }
+        }
+        let accesses = self.accesses();
+        let _ = self.sets.insert(accesses, k);
+        if access.stores {
+            let stores = self.stores();
+            let _ = self.sets.insert(stores, k);
+        }
+        if let Some(node) = self.nodes.get_mut(k) {
+            node.meets_store = meets_store;
+        }
     }
 }

@@ -41,7 +41,7 @@ impl Reorder for Hostile {
     }
 }
 
-// What is proposed in place of a block's plain order, if there is something to change.
+/// Returns what is proposed in place of a block's plain order, if there is something to change.
 fn change(
     alloc: Global,
     kind: Hostile,
@@ -132,7 +132,7 @@ fn rename_first(alloc: Global, insts: &[Plain]) -> Result<Vec<Plain>, AllocError
     Ok(all)
 }
 
-// The instruction with the next register in place of one from 1 to 30 that it writes.
+/// Returns the instruction with the next register in place of one from 1 to 30 that it writes.
 fn to_next(inst: &Plain) -> Option<Plain> {
     let mut changed = *inst;
     let is_changed = match &mut changed {
@@ -149,7 +149,7 @@ fn to_next(inst: &Plain) -> Option<Plain> {
     if is_changed { Some(changed) } else { None }
 }
 
-// A register from 1 to 30 becomes the one behind it.
+/// Replaces a register from 1 to 30 by the next one.
 fn raise(r: &mut Reg) -> bool {
     match NonzeroReg::new(r.index()) {
         Some(mut nonzero) => {

@@ -11,17 +11,15 @@
 #![tactic(auto)]
 
 mod access;
-mod accesses;
-mod chains;
 mod filled;
 mod graph;
 mod hostile;
 mod list;
-mod needs;
+mod node;
 mod reorder;
 mod resources;
+mod sets;
 mod slot;
-mod uses;
 
 pub use access::{Access, access_of};
 pub use filled::FilledOrder;

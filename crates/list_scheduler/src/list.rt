@@ -1,16 +1,14 @@
 //! The list scheduler.
 ghost use Rattle.std.specs.Prelude.{⊤};
 
-use crate::chains::Chain;
-use crate::graph::{Edge, Graph, Node};
-use crate::needs::keep_needed;
+use crate::graph::Graph;
+use crate::node::{Node, keep_needed};
 use crate::reorder::Reorder;
 use crate::resources::Resources;
+use crate::sets::{number, split};
 use mblock::{Block, Exit, ORDER_INSTS, Order, plain};
 use mips_isa::Plain;
 use std::alloc::{AllocError, Global};
-use std::cmp::Reverse;
-use std::collections::BinaryHeap;
 
 /// The list scheduler: of the instructions that may come next, the one with the longest way to the end, or the earlier one
 /// of two. A Nop stands only where none may come next, or before an exit that a load has to wait for.
@@ -22,8 +20,8 @@ impl Reorder for ListOrder {
 
     fn reorder(&self, alloc: Global, block: &Block) -> Result<Order, AllocError> {
         let exit = block.exit();
-        let insts = keep_needed(alloc, block.insts())?;
-        let graph = Graph::of(alloc, insts.as_slice(), &exit)?;
+        let nodes = keep_needed(alloc, block.insts())?;
+        let graph = Graph::of(alloc, nodes, &exit)?;
         let list = list_nodes(alloc, graph, &exit)?;
         let slot = if exit.has_slot() {
             Some(Plain::nop())
@@ -37,110 +35,70 @@ impl Reorder for ListOrder {
     }
 }
 
-// The instructions that wait for no other.
-#[derive(Drop)]
-struct Free {
-    // Those that may stand at the next word, the one with the longest way to the end first, of two the earlier one.
-    ready: BinaryHeap<(u32, Reverse<usize>)>,
-    // Those that may stand a word or two later.
-    soon: Vec<usize>,
-}
-
-impl Free {
-    // Those of a graph with no instruction in its place.
-    fn of(alloc: Global, nodes: &[Node]) -> Result<Free, AllocError> {
-        let mut soon = Vec::with_capacity(alloc, nodes.len())?;
-        for (k, node) in nodes.iter().enumerate() {
-            if node.waits_for == 0 {
-                soon.push(k)?;
-            }
-        }
-        Ok(Free {
-            ready: BinaryHeap::with_capacity(alloc, nodes.len())?,
-            soon,
-        })
-    }
-
-    // The best of those that are ready.
-    fn take_best(&mut self) -> Option<usize> {
-        match self.ready.pop() {
-            Some((_, Reverse(k))) => Some(k),
-            None => None,
-        }
-    }
-
-    // Those that may stand at this word are ready.
-    fn reach(&mut self, nodes: &[Node], word: u32) -> Result<(), AllocError> {
-        let mut later = 0;
-        for k in 0..self.soon.len() {
-            let Some(at) = self.soon.get(k).copied() else {
+/// Returns the best of those that wait for no other and may stand at this word: the one with the longest way to the end, of two the earlier
+/// one.
+fn best(graph: &Graph, word: u32) -> Option<usize> {
+    let mut best = None;
+    let mut height = 0;
+    for w in 0..graph.width() {
+        let mut left = graph.free_word(w);
+        for _ in 0..64 {
+            let Some((bit, others)) = split(left) else {
                 break;
             };
-            let Some(node) = nodes.get(at) else {
-                break;
-            };
-            if node.earliest <= word {
-                self.ready.push((node.height, Reverse(at)))?;
-            } else {
-                if let Some(place) = self.soon.get_mut(later) {
-                    *place = at;
+            let k = number(w, bit);
+            if let Some(node) = graph.nodes.get(k) {
+                if node.earliest <= word && node.height > height {
+                    height = node.height;
+                    best = Some(k);
                 }
-                later = later.saturating_add(1);
             }
-        }
-        self.soon.truncate(later);
-        Ok(())
-    }
-}
-
-// One that waited for an instruction which now stands at a word.
-fn release(nodes: &mut [Node], free: &mut Free, edge: Edge, word: u32) -> Result<(), AllocError> {
-    if let Some(node) = nodes.get_mut(edge.to) {
-        node.waits_for = node.waits_for.saturating_sub(1);
-        node.earliest = node.earliest.max(word.saturating_add(edge.words));
-        if node.waits_for == 0 {
-            free.soon.push(edge.to)?;
+            left = others;
         }
     }
-    Ok(())
+    best
 }
 
-// Those that waited for an instruction which now stands at a word.
-fn release_all(
-    graph: &mut Graph,
-    free: &mut Free,
-    edges: Chain,
-    word: u32,
-) -> Result<(), AllocError> {
-    let mut left = edges;
-    for _ in 0..graph.edges.len() {
-        let Some((edge, others)) = graph.edges.split_last(left) else {
-            break;
-        };
-        release(graph.nodes.as_mut_slice(), free, edge, word)?;
-        left = others;
+/// Releases those that waited for an instruction which now stands at a word.
+fn release_all(graph: &mut Graph, k: usize, node: &Node, word: u32) {
+    for w in 0..graph.width() {
+        let mut left = graph.word_behind(k, w);
+        for _ in 0..64 {
+            let Some((bit, others)) = split(left) else {
+                break;
+            };
+            release(graph, number(w, bit), node, word);
+            left = others;
+        }
     }
-    Ok(())
 }
 
-// The instruction of a node, or a Nop, stands at a word.
-fn place(
-    graph: &mut Graph,
-    free: &mut Free,
-    best: Option<usize>,
-    word: u32,
-) -> Result<Plain, AllocError> {
+/// Releases one that waited for an instruction which now stands at a word.
+fn release(graph: &mut Graph, k: usize, first: &Node, word: u32) {
+    let Some(node) = graph.nodes.get_mut(k) else {
+        return;
+    };
+    node.waits_for = node.waits_for.saturating_sub(1);
+    node.earliest = node.earliest.max(word.saturating_add(first.words_to(node)));
+    if node.waits_for == 0 {
+        graph.insert_free(k);
+    }
+}
+
+/// Puts the instruction of a node, or a Nop, at a word.
+fn place(graph: &mut Graph, best: Option<usize>, word: u32) -> Plain {
     let Some(k) = best else {
-        return Ok(Plain::nop());
+        return Plain::nop();
     };
     let Some(node) = graph.nodes.get(k).copied() else {
-        return Ok(Plain::nop());
+        return Plain::nop();
     };
-    release_all(graph, free, node.edges, word)?;
-    Ok(node.inst)
+    graph.remove_free(k);
+    release_all(graph, k, &node, word);
+    node.inst
 }
 
-// A Nop behind a load whose register the exit's first word touches.
+/// Adds a Nop after a load whose register the exit's first word touches.
 fn finish(list: &mut Vec<Plain>, exit: &Exit) -> Result<(), AllocError> {
     let waits = match list.last() {
         Some(inst) => {
@@ -155,28 +113,26 @@ fn finish(list: &mut Vec<Plain>, exit: &Exit) -> Result<(), AllocError> {
     Ok(())
 }
 
-// The instructions of the graph word by word, one more than an order may have at most.
-fn list_words(graph: &mut Graph, free: &mut Free, list: &mut Vec<Plain>) -> Result<(), AllocError> {
+/// Lists the instructions of the graph word by word, one more than an order may have at most.
+fn list_words(graph: &mut Graph, list: &mut Vec<Plain>) -> Result<(), AllocError> {
     let mut left = graph.nodes.len();
     for word in 0..=ORDER_INSTS as u32 {
         if left == 0 {
             break;
         }
-        free.reach(graph.nodes.as_slice(), word)?;
-        let best = free.take_best();
+        let best = best(graph, word);
         if best.is_some() {
             left = left.saturating_sub(1);
         }
-        list.push(place(graph, free, best, word)?)?;
+        list.push(place(graph, best, word))?;
     }
     Ok(())
 }
 
-// The same, and a Nop behind them where the exit has to wait.
+/// Lists the instructions, and a Nop after them if the exit has to wait.
 fn list_nodes(alloc: Global, mut graph: Graph, exit: &Exit) -> Result<Vec<Plain>, AllocError> {
-    let mut free = Free::of(alloc, graph.nodes.as_slice())?;
-    let mut list = Vec::with_capacity(alloc, graph.nodes.len())?;
-    list_words(&mut graph, &mut free, &mut list)?;
+    let mut list = Vec::with_capacity(alloc, graph.nodes.len().saturating_add(1))?;
+    list_words(&mut graph, &mut list)?;
     finish(&mut list, exit)?;
     Ok(list)
 }

@@ -10,7 +10,7 @@ pub trait Reorder {
     /// The orders that it may answer for a block.
     ghost proposes: { Self → BlockParts → OrderParts → Type 0 };
 
-    /// An order for the block; an Err is refused memory.
+    /// Returns an order for the block; an Err means out of memory.
     fn reorder(&self, alloc: Global, block: &Block) -> Result<Order, AllocError>
         ensures { IfOk result (λ o. proposes self.now block.now o) };
 }

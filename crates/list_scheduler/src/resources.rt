@@ -1,6 +1,7 @@
 //! What instructions read and write.
+use crate::node::Node;
 use mblock::Exit;
-use mips_isa::{Action, NonzeroReg, Operand, Plain, Reg};
+use mips_isa::{Operand, Plain, Reg};
 
 /// A set of registers, HI and LO. Register 0 is in none: it reads as 0 and keeps nothing.
 #[derive(Clone, Copy, Debug, PartialEq, Eq)]
@@ -18,18 +19,25 @@ impl Resources {
         bits: 0x3_ffff_fffe,
     };
 
-    /// How many numbers there are: registers have theirs, HI and LO come behind them.
+    /// How many numbers there are: registers have theirs, HI and LO come after them.
     pub const COUNT: usize = 34;
 
-    const HIGH: Resources = Resources {
+    /// HI and LO.
+    pub(crate) const PRODUCT: Resources = Resources {
+        bits: 0x3_0000_0000,
+    };
+
+    /// HI alone.
+    pub(crate) const HIGH: Resources = Resources {
         bits: 0x1_0000_0000,
     };
 
-    const LOW: Resources = Resources {
+    /// LO alone.
+    pub(crate) const LOW: Resources = Resources {
         bits: 0x2_0000_0000,
     };
 
-    /// A register alone; none for register 0.
+    /// Returns a register alone; none for register 0.
     pub fn of(r: Reg) -> Resources {
         Resources {
             bits: 1 << r.index(),
@@ -37,32 +45,28 @@ impl Resources {
         .difference(Resources { bits: 1 })
     }
 
-    fn of_nonzero(r: NonzeroReg) -> Resources {
-        Resources::of(r.reg())
-    }
-
-    /// Those of either.
+    /// Returns those of either.
     pub fn union(self, other: Resources) -> Resources {
         Resources {
             bits: self.bits | other.bits,
         }
     }
 
-    /// Those that aren't in the other.
+    /// Returns those that aren't in the other.
     pub fn difference(self, other: Resources) -> Resources {
         Resources {
             bits: self.bits & !other.bits,
         }
     }
 
-    /// Those in both.
+    /// Returns those in both.
     pub fn intersection(self, other: Resources) -> Resources {
         Resources {
             bits: self.bits & other.bits,
         }
     }
 
-    /// The number of one of them, and the others.
+    /// Returns the number of one of them, and the others.
     pub fn split(self) -> Option<(usize, Resources)> {
         if self.bits == 0 {
             return None;
@@ -73,52 +77,35 @@ impl Resources {
         Some((self.bits.trailing_zeros() as usize, others))
     }
 
-    /// Whether there are none.
+    /// Reports whether there are none.
     pub fn is_empty(self) -> bool {
         self.bits == 0
     }
 
-    /// Whether one is in both.
+    /// Reports whether one is in both.
     pub fn meets(self, other: Resources) -> bool {
         !self.intersection(other).is_empty()
     }
 
-    fn of_operand(operand: Operand) -> Resources {
+    /// Returns the register of an operand, if it has one.
+    pub(crate) fn of_operand(operand: Operand) -> Resources {
         match operand {
             Operand::Held(r) => Resources::of(r),
             Operand::Fixed(_) => Resources::NONE,
         }
     }
 
-    /// What an instruction reads.
+    /// Returns what an instruction reads.
     pub fn read_by(inst: &Plain) -> Resources {
-        match inst.action() {
-            Action::Computes { a, b, .. } => Resources::of(a).union(Resources::of_operand(b)),
-            Action::Sets { .. } => Resources::NONE,
-            Action::Loads { base, .. } => Resources::of(base),
-            Action::Stores { r, base, .. } => Resources::of(r).union(Resources::of(base)),
-            Action::Multiplies { a, b, .. } => Resources::of(a).union(Resources::of(b)),
-            Action::Divides { a, b, .. } => Resources::of(a).union(Resources::of(b)),
-            Action::MovesHigh { .. } => Resources::HIGH,
-            Action::MovesLow { .. } => Resources::LOW,
-        }
+        Node::of(inst).reads
     }
 
-    /// What an instruction writes.
+    /// Returns what an instruction writes.
     pub fn written_by(inst: &Plain) -> Resources {
-        match inst.action() {
-            Action::Computes { d, .. } => Resources::of(d),
-            Action::Sets { d, .. } => Resources::of(d),
-            Action::Loads { d, .. } => Resources::of_nonzero(d),
-            Action::Stores { .. } => Resources::NONE,
-            Action::Multiplies { .. } => Resources::HIGH.union(Resources::LOW),
-            Action::Divides { .. } => Resources::HIGH.union(Resources::LOW),
-            Action::MovesHigh { d } => Resources::of(d),
-            Action::MovesLow { d } => Resources::of(d),
-        }
+        Node::of(inst).writes
     }
 
-    /// What an exit reads before its slot runs.
+    /// Returns what an exit reads before its slot runs.
     pub fn read_by_exit(exit: &Exit) -> Resources {
         match exit {
             Exit::Goto(_) => Resources::NONE,
@@ -131,7 +118,7 @@ impl Resources {
         }
     }
 
-    /// What the first word of an exit writes.
+    /// Returns what the first word of an exit writes.
     pub fn written_by_exit(exit: &Exit) -> Resources {
         match exit {
             Exit::Call { .. } => Resources::of(Reg::LINK),
@@ -141,8 +128,8 @@ impl Resources {
         }
     }
 
-    /// What the first word of an exit reads and writes. That of Out and Halt puts a number into register 2; register 4 is
-    /// read a word later.
+    /// Returns what the first word of an exit reads and writes. That of Out and Halt puts a number into register 2; register 4 is read a
+    /// word later.
     pub fn touched_at_exit(exit: &Exit) -> Resources {
         match exit {
             Exit::Out(_) | Exit::Halt => Resources::written_by_exit(exit),

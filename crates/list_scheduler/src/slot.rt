@@ -1,11 +1,12 @@
 //! One slot is filled.
-use crate::access::{Access, access_of};
+use crate::access::Access;
+use crate::node::Node;
 use crate::resources::Resources;
 use mblock::{Block, Order, clean};
 use mips_isa::Plain;
 use std::alloc::{AllocError, Global};
 
-// What an instruction has to pass on its way to the slot: the exit's first word, and the instructions behind it.
+// What an instruction has to pass on its way to the slot: the exit's first word, and the instructions after it.
 #[derive(Drop)]
 struct Passed {
     reads: Resources,
@@ -26,20 +27,16 @@ impl Passed {
         }
     }
 
-    // Whether it may run behind all of these. A load or a move of HI or LO may not stand in a slot, and a Nop needn't.
-    fn lets(&self, inst: &Plain) -> bool {
-        let action = inst.action();
-        let may_fill = !action.is_load() && !action.is_move() && !inst.is_nop();
-        let touched = Resources::read_by(inst).union(Resources::written_by(inst));
-        let is_apart = !touched.meets(self.writes)
-            && !Resources::written_by(inst).meets(self.reads);
-        may_fill && is_apart && self.lets_access(inst)
+    /// Reports whether it may run after all of these. A load or a move of HI or LO may not stand in a slot, and a Nop needn't.
+    fn lets(&self, node: &Node) -> bool {
+        let may_fill = !node.loads() && !node.moves() && !node.inst.is_nop();
+        let is_apart = !node.touched().meets(self.writes) && !node.writes.meets(self.reads);
+        may_fill && is_apart && self.lets_access(node)
     }
 
-    // The same for the sake of memory alone: a store passes what is over its base, which none of these writes, with other
-    // bytes.
-    fn lets_access(&self, inst: &Plain) -> bool {
-        let Some(store) = access_of(inst) else {
+    /// Reports the same for the sake of memory alone: a store passes what is over its base, which none of these writes, with other bytes.
+    fn lets_access(&self, node: &Node) -> bool {
+        let Some(store) = node.access else {
             return true;
         };
         for access in &self.accesses {
@@ -50,11 +47,11 @@ impl Passed {
         !self.has_fixed_load
     }
 
-    // One more instruction, and those before it.
-    fn take(&mut self, inst: &Plain, before: &[Plain]) -> Result<(), AllocError> {
-        self.reads = self.reads.union(Resources::read_by(inst));
-        self.writes = self.writes.union(Resources::written_by(inst));
-        if let Some(access) = access_of(inst) {
+    /// Takes one more instruction, and those before it.
+    fn take(&mut self, node: &Node, before: &[Plain]) -> Result<(), AllocError> {
+        self.reads = self.reads.union(node.reads);
+        self.writes = self.writes.union(node.writes);
+        if let Some(access) = node.access {
             self.has_fixed_load = self.has_fixed_load || meets_store(&access, before);
             self.accesses.push(access)?;
         }
@@ -62,11 +59,14 @@ impl Passed {
     }
 }
 
-// Whether it loads what a store over the same register may have stored.
+/// Reports whether it loads what a store over the same register may have stored.
 fn meets_store(load: &Access, before: &[Plain]) -> bool {
+    if load.stores {
+        return false;
+    }
     for inst in before {
-        if let Some(store) = access_of(inst) {
-            if store.stores && !load.stores && store.base == load.base && !store.passes(load) {
+        if let Plain::Store { .. } = *inst {
+            if Node::of(inst).is_met_by(load) {
                 return true;
             }
         }
@@ -74,7 +74,7 @@ fn meets_store(load: &Access, before: &[Plain]) -> bool {
     false
 }
 
-// The order with its instruction k in the slot, if that makes an order that breaks no delay rule.
+/// Returns the order with its instruction k in the slot, if that makes an order that breaks no delay rule.
 fn move_to_slot(alloc: Global, order: &Order, k: usize) -> Result<Option<Order>, AllocError> {
     let mut insts = Vec::with_capacity(alloc, order.insts().len())?;
     let mut slot = None;
@@ -97,9 +97,8 @@ fn move_to_slot(alloc: Global, order: &Order, k: usize) -> Result<Option<Order>,
     })
 }
 
-/// The order with an instruction in its slot in place of a Nop: the last one that nothing behind it depends on, and without
-/// which in its place no delay rule is broken. The order as it was, where it has no such instruction. An Err is refused
-/// memory.
+/// Returns the order with an instruction in its slot in place of a Nop: the last one that nothing after it depends on, and without which in
+/// its place no delay rule is broken. The order as it was, where it has no such instruction. An Err means out of memory.
 pub fn fill(alloc: Global, _block: &Block, order: Order) -> Result<Order, AllocError> {
     let is_free = match order.slot() {
         Some(inst) => inst.is_nop(),
@@ -113,12 +112,13 @@ pub fn fill(alloc: Global, _block: &Block, order: Order) -> Result<Order, AllocE
         let Some(inst) = order.insts().get(k) else {
             return Ok(order);
         };
-        if passed.lets(inst) {
+        let node = Node::of(inst);
+        if passed.lets(&node) {
             if let Some(filled) = move_to_slot(alloc, &order, k)? {
                 return Ok(filled);
             }
         }
-        passed.take(inst, order.insts().get(..k).unwrap_or_default())?;
+        passed.take(&node, order.insts().get(..k).unwrap_or_default())?;
     }
     Ok(order)
 }

@@ -1,0 +1,96 @@
+//! Sets of a block's instructions, by number, in one memory.
+use std::alloc::{AllocError, Global};
+
+/// So many sets of the numbers below some number: a bit for each.
+#[derive(Drop)]
+pub struct Sets {
+    words: Vec<u64>,
+    // How many words a set has.
+    width: usize,
+}
+
+impl Sets {
+    /// Returns so many empty sets.
+    pub fn new(alloc: Global, sets: usize, numbers: usize) -> Result<Sets, AllocError> {
+        let width = numbers.div_ceil(64);
+        Ok(Sets {
+            words: vec![in alloc; 0u64; sets.saturating_mul(width)]?,
+            width,
+        })
+    }
+
+    /// Returns how many words a set has.
+    pub fn width(&self) -> usize {
+        self.width
+    }
+
+    /// Returns a word of a set: its bits are 64 numbers. A word that isn't there has none.
+    pub fn word(&self, set: usize, w: usize) -> u64 {
+        let at = set.wrapping_mul(self.width).wrapping_add(w);
+        self.words.get(at).copied().unwrap_or(0)
+    }
+
+    fn word_mut(&mut self, set: usize, w: usize) -> Option<&mut u64> {
+        let at = set.wrapping_mul(self.width).wrapping_add(w);
+        self.words.get_mut(at)
+    }
+
+    /// Puts a number into a set, and answers whether it wasn't there.
+    pub fn insert(&mut self, set: usize, number: usize) -> bool {
+        let Some(word) = self.word_mut(set, number / 64) else {
+            return false;
+        };
+        let bit = 1 << (number % 64);
+        let is_new = *word & bit == 0;
+        *word |= bit;
+        is_new
+    }
+
+    /// Takes a number out of a set.
+    pub fn remove(&mut self, set: usize, number: usize) {
+        if let Some(word) = self.word_mut(set, number / 64) {
+            *word &= !(1 << (number % 64));
+        }
+    }
+
+    /// Puts all numbers of another set into a set.
+    pub fn insert_all(&mut self, set: usize, other: usize) {
+        for w in 0..self.width {
+            let more = self.word(other, w);
+            if let Some(word) = self.word_mut(set, w) {
+                *word |= more;
+            }
+        }
+    }
+
+    /// Takes all numbers out of a set.
+    pub fn clear(&mut self, set: usize) {
+        for w in 0..self.width {
+            if let Some(word) = self.word_mut(set, w) {
+                *word = 0;
+            }
+        }
+    }
+}
+
+/// Returns the number of a bit of a word.
+pub fn number(w: usize, bit: usize) -> usize {
+    w.wrapping_mul(64).wrapping_add(bit)
+}
+
+/// Returns the least bit of a word, and the others.
+pub fn split(word: u64) -> Option<(usize, u64)> {
+    if word == 0 {
+        return None;
+    }
+    Some((word.trailing_zeros() as usize, word & (word - 1)))
+}
+
+/// Returns the greatest bit of a word, and the others.
+pub fn split_last(word: u64) -> Option<(usize, u64)> {
+    if word == 0 {
+        return None;
+    }
+    let bit = 63 - word.leading_zeros() as usize;
+    Some((bit, word & !(1 << bit)))
+}
