@@ -112,3 +112,11 @@ pub address-later : {p q : PassState} {t : ℕ} {a : TermAddress} → HasSeen p 
     → ((x : Tree) → HasTree p t x → IsAddress q a (address_of x)) → (b : Tree) → HasTree q t b → IsAddress q a (address_of b)
 address-later {p} {q} {t} {a} seen on at b h =
     subst (λ y. IsAddress q a (address_of y)) (one_tree (still_tree on.extends seen.has) h) (at seen.term seen.has)
+
+-- the address of a sum with a constant, by the sum's ticket
+pub sum-reached : {p : PassState} {base t c : ℕ} {x : Tree} → HasTree p base x → c < 2 ^ 32 → HasTree p t (binary (Op Addu) x (const_tree c))
+    → (b : Tree) → HasTree p t b → IsAddress p (record { base = base; offset = c }) (address_of b)
+sum-reached {p} {base} {t} {c} {x} has low sum b h =
+    let same : wrap c ≡ c = omega (arith, low) in
+    subst (λ y. IsAddress p (record { base = base; offset = c }) (address_of y)) (one_tree sum h)
+    (record { base = has; offset = sym same })

@@ -1,6 +1,6 @@
 -- How many terms a run may link. Each `intern` links one at most, and none where the term is there (hash-consing: Filliâtre and Conchon,
 -- ML 2006). So an action links no more terms than it makes nodes. Loads depend on the stores before them: stores are kept sorted. One
--- that goes between others changes all memories behind it, so the next load may need each of them again.
+-- that goes between others changes all memories after it, so the next load may need each of them again.
 use Rattle.std.specs.Prelude.{ℕ, suc, ◌+◌, ◌*◌, ◌≤◌, List, [], ◌∷◌, map, length, if◌then◌else◌}
 use Rattle.words.specs.declared.operator.Operator.{Operator}
 use Rattle.mips_isa.specs.declared.action.Operand.{Operand}
@@ -53,7 +53,7 @@ growth_by_shape (Prints n) = 1
 growth_by_shape Halts = 1
 growth_by_shape _ = 0
 
--- at the start the terms of 32 registers, HI, LO and memory; at the end the memory behind each store
+-- at the start the terms of 32 registers, HI, LO and memory; at the end the memory after each store
 abbrev pub code_growth : List Action → Exit → List Action → ℕ
 code_growth acts exit slots =
     let before = all_stores acts 0 in

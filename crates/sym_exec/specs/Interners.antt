@@ -9,7 +9,7 @@ pub record GoesOn (before after : Interner) : Type 0 where
   pub same_reference : after.pass.ghost_name ≡ before.pass.ghost_name
   pub later : Later before.pass.now after.pass.now
 
--- behind some calls that make terms it goes on, and the pass has linked all it may where there is no answer
+-- after some calls that make terms it goes on, and the pass has linked all it may where there is no answer
 pub record Interns {A E : Type 0} (before : Interner) (result : Result A E) (after : Interner) : Type 0 where
   pub same_reference : after.pass.ghost_name ≡ before.pass.ghost_name
   pub later : Later before.pass.now after.pass.now

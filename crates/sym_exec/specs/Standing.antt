@@ -23,7 +23,7 @@ pub record Later (p q : PassState) : Type 0 where
   pub extends : Extends p q
   pub legal : HasLegalHistory p → HasLegalHistory q
 
--- a pass behind some calls of `intern`: it is the table's and later, and has linked all it may where there is no answer
+-- a pass after some calls of `intern`: it is the table's and later, and has linked all it may where there is no answer
 pub record AfterInterns {A E : Type 0} (t : TableState) (p : PassState) (result : Result A E) (q : PassState) : Type 0 where
   pub table : IsOf t q
   pub later : Later p q

@@ -46,7 +46,7 @@ LeadsTo p t (s ∷ rest) u = (v : Tree) × Makes p s t v × LeadsTo p v rest u
 abbrev pub MakeMemory : PassState → List Stored → Tree → Type 0
 MakeMemory p stores u = LeadsTo p (leaf Mem0) stores u
 
--- each ticket has the tree of the memory behind as many stores as tickets stand before it
+-- each ticket has the tree of the memory after as many stores as tickets stand before it
 abbrev pub AreMemories : PassState → List ℕ → List Stored → Type 0
 AreMemories p memories stores = (k : ℕ) → k < length memories → (t : Tree) → MakeMemory p (take k stores) t
     → HasTree p (slice_index memories k) t
@@ -59,7 +59,7 @@ pub record IsChain (p : PassState) (c : StoreChain) : Type 0 where
   pub some : 0 < length c.memories.items
   pub fit : length c.memories.items ≤ length c.stores.items + 1
 
--- where there is memory for stores, there is for the terms before and behind each
+-- where there is memory for stores, there is for the terms before and after each
 abbrev pub HasStoreRoom : StoreChain → Type 0
 HasStoreRoom c = vec_capacity c.stores < vec_capacity c.memories
 

@@ -13,11 +13,18 @@ use sym_terms::Label;
 use term_table::{TableFull, Ticket};
 use words::Operator;
 
-/// An address by its terms: a base, and how many bytes behind it.
+/// An address by its terms: a base, and how many bytes after it.
 #[derive(Clone, Copy)]
 pub(crate) struct TermAddress {
     pub(crate) base: Ticket,
     pub(crate) offset: u32,
+}
+
+/// The term of an address, and the address.
+#[derive(Clone, Copy)]
+pub(crate) struct Reached {
+    pub(crate) address: Ticket,
+    pub(crate) at: TermAddress,
 }
 
 fn label_constant(label: Label) -> Option<u32>
@@ -29,7 +36,7 @@ fn label_constant(label: Label) -> Option<u32>
     }
 }
 
-/// The constant that a term is.
+/// Returns the constant that a term is.
 pub(crate) fn constant_at(terms: &mut Interner, ticket: Ticket) -> Option<u32>
     requires { HasSeen terms.old.pass.now ticket }
     ensures value { (x : Tree) → HasTree terms.old.pass.now ticket x → result ≡ constant_of x }
@@ -52,7 +59,7 @@ fn is_sum_label(label: Label) -> bool
     }
 }
 
-// The two terms that a sum is made of.
+/// Returns the two terms that a sum is made of.
 fn summands(terms: &mut Interner, ticket: Ticket) -> Option<(Ticket, Ticket)>
     requires { HasSeen terms.old.pass.now ticket }
     ensures seen { IfSome result (λ s. HasSeen terms.new.pass.now s.0 × HasSeen terms.new.pass.now s.1) }
@@ -72,7 +79,7 @@ fn summands(terms: &mut Interner, ticket: Ticket) -> Option<(Ticket, Ticket)>
     }
 }
 
-/// The base and the constant of an address.
+/// Returns the base and the constant of an address.
 pub(crate) fn address_at(terms: &mut Interner, ticket: Ticket) -> TermAddress
     requires { HasSeen terms.old.pass.now ticket }
     ensures legal { HasLegalHistory terms.new.pass.now }
@@ -96,7 +103,7 @@ pub(crate) fn address_at(terms: &mut Interner, ticket: Ticket) -> TermAddress
     }
 }
 
-/// The term of a base and a constant behind it.
+/// Returns the term of a base and a constant after it.
 pub(crate) fn plus_term(
     terms: &mut Interner,
     base: Ticket,
@@ -114,4 +121,28 @@ pub(crate) fn plus_term(
     }
     let constant = terms.leaf(Label::Const(offset))?;
     terms.binary(Label::Op(Operator::Addu), base, constant)
+}
+
+/// Returns the same with its own base and constant, which are these, except that the base alone may be a sum.
+pub(crate) fn reach(terms: &mut Interner, base: Ticket, offset: u32) -> Result<Reached, TableFull>
+    requires legal { HasLegalHistory terms.old.pass.now }
+    requires base { HasSeen terms.old.pass.now base }
+    ensures legal { HasLegalHistory terms.new.pass.now }
+    ensures seen { IfOk result (λ r. HasSeen terms.new.pass.now r.address) }
+    ensures at { IfOk result (λ r. (b : Tree) → HasTree terms.new.pass.now r.address b → IsAddress terms.new.pass.now r.at (address_of b)) }
+    ensures tree { (x : Tree) → HasTree terms.old.pass.now base x
+        → IfOk result (λ r. HasTree terms.new.pass.now r.address (tree_plus x offset)) }
+    ensures absent { (x : Tree) → HasTree terms.old.pass.now base x → OnErr result (Lacks terms.new.pass.now (tree_plus x offset)) }
+    ensures pass { Interns terms.old result terms.new }
+    ensures grows { linked terms.new.pass.now ≤ linked terms.old.pass.now + 2 }
+{
+    let address = plus_term(terms, base, offset)?;
+    if offset == 0 {
+        let at = address_at(terms, address);
+        return Ok(Reached { address, at });
+    }
+    Ok(Reached {
+        address,
+        at: TermAddress { base, offset },
+    })
 }

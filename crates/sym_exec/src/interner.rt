@@ -30,7 +30,7 @@ impl<'t> Interner<'t> {
         Interner { table, pass }
     }
 
-    /// The term of a label without children.
+    /// Returns the term of a label without children.
     pub(crate) fn leaf(&mut self, label: Label) -> Result<Ticket, TableFull>
         requires { label_arity label ≡ 0 }
         ensures tree { IfOk result (λ t. HasTree self.new.pass.now t (leaf label)) }
@@ -82,7 +82,7 @@ impl<'t> Interner<'t> {
         Ok(interned.ticket)
     }
 
-    /// The label of a term, and its children.
+    /// Returns the label of a term, and its children.
     pub(crate) fn read(&mut self, ticket: Ticket) -> Node<Label>
         requires { HasSeen self.old.pass.now ticket }
         ensures legal { HasLegalHistory self.new.pass.now }

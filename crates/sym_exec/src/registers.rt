@@ -10,7 +10,7 @@ ghost use Rattle.sym_exec.specs.Symbolic.{TreeState, register_tree, operand_tree
 ghost use Rattle.sym_exec.specs.Standing.{Known, Hold, with_reg, with_halves};
 ghost use Rattle.sym_exec.specs.Interners.{Interns};
 
-use crate::address::{address_at, plus_term};
+use crate::address::{Reached, address_at, reach};
 use crate::interner::Interner;
 use crate::stores::{StoreChain, Stored};
 use crate::terms::op_term;
@@ -19,7 +19,7 @@ use sym_terms::Label;
 use term_table::{TableFull, Ticket};
 use words::{Operator, Width};
 
-/// What a load or a store reaches: how wide, and how many bytes behind a register's word.
+/// What a load or a store reaches: how wide, and how many bytes after a register's word.
 #[derive(Clone, Copy)]
 pub(crate) struct Access {
     pub(crate) width: Width,
@@ -39,7 +39,9 @@ impl TermRegisters {
     ghost use Rattle.std.specs.Prelude.{◌≡◌, ℕ, ◌<◌, ◌≤◌, ◌+◌, ◌∷◌, [], OnOk, OnErr, IfOk, slice_index, length, vec_len, vec_capacity};
     ghost use Rattle.sym_exec.specs.MipsTerms.{HasTree, Lacks};
     ghost use Rattle.sym_exec.specs.Asked.{asked_by, LacksOne};
-    ghost use Rattle.sym_exec.specs.Standing.{Known, Hold, with_reg, with_halves};
+    ghost use Rattle.sym_exec.specs.Standing.{Known, Hold, IsAddress, with_reg, with_halves};
+    ghost use Rattle.sym_terms.specs.NormalForms.{address_of};
+    ghost use Rattle.term_table.specs.Trees.{HasLegalHistory};
     ghost use Rattle.sym_exec.specs.Interners.{Interns};
     ghost use Rattle.sym_exec.specs.Growth.{operand_growth, op_growth};
     ghost use Rattle.term_table.specs.Passes.{linked};
@@ -52,7 +54,7 @@ impl TermRegisters {
         self.regs[r.index() as usize]
     }
 
-    /// A write to register 0 is lost.
+    /// Writes a register; a write to register 0 is lost.
     pub(crate) fn set(&mut self, d: Reg, ticket: Ticket)
         ensures value { self.new ≡ with_reg self.old d ticket }
         ensures range { d < 32 }
@@ -80,18 +82,20 @@ impl TermRegisters {
         }
     }
 
-    fn address(&self, terms: &mut Interner, base: Reg, offset: u32) -> Result<Ticket, TableFull>
+    fn address(&self, terms: &mut Interner, base: Reg, offset: u32) -> Result<Reached, TableFull>
         requires { Known terms.old.pass.now self.now }
-        ensures seen { IfOk result (λ x. HasSeen terms.new.pass.now x) }
+        ensures legal { HasLegalHistory terms.new.pass.now }
+        ensures seen { IfOk result (λ r. HasSeen terms.new.pass.now r.address) }
+        ensures at { IfOk result (λ r. (b : Tree) → HasTree terms.new.pass.now r.address b → IsAddress terms.new.pass.now r.at (address_of b)) }
         ensures tree { (t : TreeState) → Hold terms.old.pass.now self.now t
-            → IfOk result (λ x. HasTree terms.new.pass.now x (address_tree t base offset)) }
+            → IfOk result (λ r. HasTree terms.new.pass.now r.address (address_tree t base offset)) }
         ensures absent { (t : TreeState) → Hold terms.old.pass.now self.now t
             → OnErr result (Lacks terms.new.pass.now (address_tree t base offset)) }
         ensures pass { Interns terms.old result terms.new }
         ensures grows { linked terms.new.pass.now ≤ linked terms.old.pass.now + 2 }
     {
-        let at = address_at(terms, self.get(base));
-        plus_term(terms, at.base, at.offset.wrapping_add(offset))
+        let from = address_at(terms, self.get(base));
+        reach(terms, from.base, from.offset.wrapping_add(offset))
     }
 
     pub(crate) fn computes(
@@ -111,13 +115,17 @@ impl TermRegisters {
         ensures pass { Interns terms.old result terms.new }
         ensures grows { linked terms.new.pass.now ≤ linked terms.old.pass.now + (operand_growth b.now + op_growth op) }
     {
+        // What register 0 would get is lost, as all that a Nop does, so no term is asked for.
+        if d.index() == 0 {
+            return Ok(());
+        }
         let y = self.operand(terms, b)?;
         let value = op_term(terms, op, self.get(a), y)?;
         self.set(d, value);
         Ok(())
     }
 
-    /// Register `d` gets the term of a label without children.
+    /// Puts the term of a label without children into register `d`.
     pub(crate) fn put_leaf(
         &mut self,
         terms: &mut Interner,
@@ -163,8 +171,7 @@ impl TermRegisters {
         ensures pass { Interns terms.old result terms.new }
         ensures grows { linked terms.new.pass.now ≤ linked terms.old.pass.now + (vec_len chain.old.stores + 3) }
     {
-        let address = self.address(terms, access.base, access.offset)?;
-        let at = address_at(terms, address);
+        let Reached { address, at } = self.address(terms, access.base, access.offset)?;
         let value = chain.load_term(terms, access.width, &at, address)?;
         self.set(d.reg(), value);
         Ok(address)
@@ -197,8 +204,7 @@ impl TermRegisters {
         ensures pass { Interns terms.old result terms.new }
         ensures grows { linked terms.new.pass.now ≤ linked terms.old.pass.now + 2 }
     {
-        let address = self.address(terms, access.base, access.offset)?;
-        let at = address_at(terms, address);
+        let Reached { address, at } = self.address(terms, access.base, access.offset)?;
         let value = self.get(r);
         chain.store(Stored {
             address,
@@ -210,7 +216,7 @@ impl TermRegisters {
         Ok(address)
     }
 
-    /// HI and LO hold the results of two operators at the same registers.
+    /// Puts the results of two operators at the same registers into HI and LO.
     pub(crate) fn put_halves(
         &mut self,
         terms: &mut Interner,

@@ -38,7 +38,7 @@ use term_table::{Pass, TableFull, TermTable, Ticket};
 impl RunLists {
     ghost use Rattle.std.specs.Prelude.{◌≡◌, ◌<◌, ◌+◌, ◌++◌, [], ◌∷◌, vec_len, vec_capacity};
 
-    /// A guard more, in memory that was taken before.
+    /// Pushes one more guard, in memory that was taken before.
     fn push_guard(&mut self, guard: Guard)
         requires { vec_len self.old.guards < vec_capacity self.old.guards }
         ensures pushed { self.new.guards.items ≡ self.old.guards.items ++ guard ∷ [] }
@@ -50,7 +50,7 @@ impl RunLists {
     }
 }
 
-/// What an action does to the trees, done to their tickets.
+/// Does to the tickets what an action does to the trees.
 fn step(
     terms: &mut Interner,
     registers: &mut TermRegisters,
@@ -165,7 +165,7 @@ fn steps(
     Ok(())
 }
 
-/// What register `r` holds at the start.
+/// Returns what register `r` holds at the start.
 fn start_reg(terms: &mut Interner, r: u8) -> Result<Ticket, TableFull>
     requires nonzero { 0 < r }
     requires low { r < 32 }
@@ -181,7 +181,7 @@ fn start_reg(terms: &mut Interner, r: u8) -> Result<Ticket, TableFull>
     terms.leaf(Label::Init(Origin::Register(reg)))
 }
 
-/// What registers, HI and LO hold at the start: the constant 0 in register 0, in any other its own label.
+/// Returns what registers, HI and LO hold at the start: the constant 0 in register 0, in any other its own label.
 fn start_registers(terms: &mut Interner) -> Result<TermRegisters, TableFull>
     ensures known { IfOk result (Known terms.new.pass.now) }
     ensures hold { IfOk result (λ s. Hold terms.new.pass.now s start_trees) }
@@ -200,7 +200,7 @@ fn start_registers(terms: &mut Interner) -> Result<TermRegisters, TableFull>
     Ok(TermRegisters { regs, hi, lo })
 }
 
-/// What registers, HI, LO and memory hold at the start.
+/// Returns what registers, HI, LO and memory hold at the start.
 fn start(terms: &mut Interner) -> Result<TermPlaces, TableFull>
     ensures start { IfOk result (IsStart terms.new.pass.now) }
     ensures absent { OnErr result (LacksOne terms.new.pass.now asked_first) }
@@ -218,7 +218,7 @@ fn start(terms: &mut Interner) -> Result<TermPlaces, TableFull>
     })
 }
 
-/// The memory at the start begins the chain of stores.
+/// Begins the chain of stores with the memory at the start.
 fn begin(start: &TermPlaces, lists: &mut RunLists)
     requires room { HasRoom lists.old }
     requires empty { IsEmpty lists.old }
@@ -231,7 +231,7 @@ fn begin(start: &TermPlaces, lists: &mut RunLists)
     lists.chain.memories.push_reserved(start.memory);
 }
 
-/// The exit, with the tickets of what it reads.
+/// Returns the exit, with the tickets of what it reads.
 fn leave(registers: &TermRegisters, exit: &Exit) -> TermExit
     ensures { (p : PassState) (t : TreeState) → Hold p registers.now t
         → LeavesBy p result (exit_shape exit.now) (exit_operands exit.now t) }
@@ -272,7 +272,7 @@ fn leave(registers: &TermRegisters, exit: &Exit) -> TermExit
     }
 }
 
-/// What the exit itself writes: a call its link, Out and Halt the number of the system call.
+/// Writes what the exit itself writes: a call its link, Out and Halt the number of the system call.
 fn put_own(
     terms: &mut Interner,
     registers: &mut TermRegisters,
@@ -297,7 +297,7 @@ fn put_own(
     }
 }
 
-/// The slot, where there is one.
+/// Runs the slot, if there is one.
 fn run_slot(
     terms: &mut Interner,
     registers: &mut TermRegisters,
@@ -324,7 +324,7 @@ fn run_slot(
     }
 }
 
-/// What code leaves from the start on.
+/// Returns what code leaves from the start on.
 fn run_from(
     terms: &mut Interner,
     start: &TermPlaces,
@@ -365,7 +365,7 @@ fn run_from(
     })
 }
 
-/// What code leaves.
+/// Returns what code leaves.
 fn run_code(
     terms: &mut Interner,
     insts: &[Plain],
@@ -385,8 +385,8 @@ fn run_code(
     run_from(terms, &start, insts, exit, slot, lists)
 }
 
-/// The tickets of what a block leaves: those of its trees. Memory is taken before any term is linked: where it is refused, the pass is
-/// as it was.
+/// Returns the tickets of what a block leaves: those of its trees. Memory is taken before any term is linked: where it is refused, the pass
+/// is as it was.
 ///
 /// `TableFull` comes only if the pass has linked all it may and a term that the block asks for isn't in the table. The terms that were
 /// linked stay, and they are no more than the block's actions may link.
@@ -406,7 +406,7 @@ pub fn run_block(
     Ok(run_code(&mut terms, block.insts(), &block.exit(), &None, lists))
 }
 
-/// The tickets of what an order leaves, its slot run behind the exit; else as `run_block`.
+/// Returns the tickets of what an order leaves, its slot run after the exit; else as `run_block`.
 pub fn run_order(
     alloc: Global,
     table: &TermTable,
@@ -429,7 +429,7 @@ pub fn run_order(
     ))
 }
 
-/// What a block leaves from the start on.
+/// Returns what a block leaves from the start on.
 fn run_block_from(
     terms: &mut Interner,
     start: &TermPlaces,
@@ -446,7 +446,7 @@ fn run_block_from(
     run_from(terms, start, block.insts(), &block.exit(), &None, lists)
 }
 
-/// What an order leaves from the start on.
+/// Returns what an order leaves from the start on.
 fn run_order_from(
     terms: &mut Interner,
     start: &TermPlaces,
@@ -470,7 +470,7 @@ fn run_order_from(
     )
 }
 
-/// What a block and an order leave from the start on.
+/// Returns what a block and an order leave from the start on.
 fn run_pair_from(
     terms: &mut Interner,
     start: &TermPlaces,
@@ -492,7 +492,7 @@ fn run_pair_from(
     Ok((first, second))
 }
 
-/// What a block and an order leave.
+/// Returns what a block and an order leave.
 fn run_pair(
     terms: &mut Interner,
     block: &Block,
@@ -512,8 +512,8 @@ fn run_pair(
     run_pair_from(terms, &start, block, order, lists)
 }
 
-/// The tickets of what a block and an order leave, as `run_block` and `run_order` give them. The terms of the start are made
-/// once for both.
+/// Returns the tickets of what a block and an order leave, as `run_block` and `run_order` give them. The terms of the start are made once
+/// for both.
 pub fn run_both(
     alloc: Global,
     table: &TermTable,
@@ -534,7 +534,7 @@ pub fn run_both(
     Ok(run_pair(&mut terms, block, order, (block_lists, order_lists)))
 }
 
-/// The tickets of what registers, HI, LO and memory hold at the start, for runs of many blocks by passes that know them.
+/// Returns the tickets of what registers, HI, LO and memory hold at the start, for runs of many blocks by passes that know them.
 ///
 /// `TableFull` comes only if the pass has linked all it may and one of these terms isn't in the table. At most 35 terms are linked.
 pub fn start_places(table: &TermTable, pass: &mut Pass) -> Result<TermPlaces, TableFull>
@@ -546,7 +546,7 @@ pub fn start_places(table: &TermTable, pass: &mut Pass) -> Result<TermPlaces, Ta
     start(&mut terms)
 }
 
-/// The same as `run_both`, from a start whose terms the pass knows.
+/// Returns the same as `run_both`, from a start whose terms the pass knows.
 pub fn run_both_from(
     alloc: Global,
     table: &TermTable,
@@ -571,7 +571,7 @@ pub fn run_both_from(
     Ok(run_pair_from(&mut terms, start, block, order, (block_lists, order_lists)))
 }
 
-/// What a run may link is at most quadratic in the number of its actions. A law: it computes nothing.
+/// States that what a run may link is at most quadratic in the number of its actions. A law: it computes nothing.
 pub fn growth_has_bound()
     ensures { GrowthHasBound }
 {}

@@ -1,6 +1,6 @@
 //! The stores that a run's memory is made of. They are kept in the order of the term of memory. So a load finds the memory that it sees,
 //! and a store its place, by one walk from the last store inward. Terms of memory are made where a load or the end of the run needs them:
-//! a store that goes inside others makes none of theirs anew.
+//! a store that goes inside others makes none of theirs again.
 ghost use Rattle.std.specs.Prelude.{◌≡◌, ℕ, ◌<◌, ◌≤◌, ◌+◌, ◌&&◌, [], IfOk, OnErr, length, take, drop, vec_len};
 ghost use Rattle.sym_terms.specs.declared.label.Label.TheVariants.{Load, Store};
 ghost use Rattle.sym_terms.specs.Trees.{Tree, binary, ternary};
@@ -30,14 +30,14 @@ pub(crate) struct Stored {
 }
 
 /// The stores of a run, innermost first, and the terms of memory that were needed so far: the first is the memory at the
-/// start, each further one that behind one store more.
+/// start, each further one that after one store more.
 #[derive(Drop)]
 pub(crate) struct StoreChain {
     pub(crate) stores: Vec<Stored>,
     pub(crate) memories: Vec<Ticket>,
 }
 
-// Whether what stands at two offsets from one base shares no byte.
+/// Reports whether what stands at two offsets from one base shares no byte.
 fn are_disjoint(v: Width, a: u32, w: Width, b: u32) -> bool
     ensures { result ≡ are_disjoint v a w b }
 {
@@ -62,14 +62,14 @@ impl Stored {
         }
     }
 
-    /// Whether an access doesn't meet this store.
+    /// Reports whether an access doesn't meet this store.
     fn is_passed(&self, width: Width, at: &TermAddress) -> bool
         ensures { result ≡ passes self.now width at.now }
     {
         self.base == at.base && are_disjoint(self.width, self.offset, width, at.offset)
     }
 
-    /// Whether a store at this address belongs inside this one.
+    /// Reports whether a store at this address belongs inside this one.
     fn is_passed_inward(&self, width: Width, at: &TermAddress) -> bool
         ensures { result ≡ passes_inward self.now width at.now }
     {
@@ -78,7 +78,7 @@ impl Stored {
     }
 }
 
-/// How many stores make the memory that a load sees: those inside all that it passes.
+/// Returns how many stores make the memory that a load sees: those inside all that it passes.
 fn stores_seen(stores: &[Stored], width: Width, at: &TermAddress) -> usize
     ensures count { result ≤ length stores.now }
     ensures tree { (p : PassState) (m b : Tree) → HasLegalHistory p → MakeMemory p stores.now m → IsAddress p at.now (address_of b)
@@ -94,7 +94,7 @@ fn stores_seen(stores: &[Stored], width: Width, at: &TermAddress) -> usize
     0
 }
 
-/// How many stores a store at this address goes outside of; it goes inside the others.
+/// Returns how many stores a store at this address goes outside of; it goes inside the others.
 fn stores_inside(stores: &[Stored], width: Width, at: &TermAddress) -> usize
     ensures count { result ≤ length stores.now }
     ensures tree { (p : PassState) (m b v : Tree) → HasLegalHistory p → MakeMemory p stores.now m → IsAddress p at.now (address_of b)
@@ -122,7 +122,7 @@ impl StoreChain {
     ghost use Rattle.sym_exec.specs.Interners.{Interns};
     ghost use Rattle.sym_exec.specs.Stores.{address_of_store, MakeMemory, IsChain, HasStoreRoom};
 
-    /// The term of the memory behind so many stores; those of the memories before it are made with it.
+    /// Returns the term of the memory after so many stores; those of the memories before it are made with it.
     fn memory_behind(&mut self, terms: &mut Interner, count: usize) -> Result<Ticket, TableFull>
         requires chain { IsChain terms.old.pass.now self.old }
         requires room { HasStoreRoom self.old }
@@ -148,7 +148,7 @@ impl StoreChain {
         Ok(self.memories[count])
     }
 
-    /// The term of the memory behind all stores.
+    /// Returns the term of the memory after all stores.
     pub(crate) fn memory_term(&mut self, terms: &mut Interner) -> Result<Ticket, TableFull>
         requires chain { IsChain terms.old.pass.now self.old }
         requires room { HasStoreRoom self.old }
@@ -163,7 +163,7 @@ impl StoreChain {
         self.memory_behind(terms, count)
     }
 
-    /// The term of a load from the memory that the stores make.
+    /// Returns the term of a load from the memory that the stores make.
     pub(crate) fn load_term(
         &mut self,
         terms: &mut Interner,
@@ -192,8 +192,8 @@ impl StoreChain {
         terms.binary(Label::Load(width), memory, address)
     }
 
-    /// A store more. It goes inside those that it doesn't meet and that have greater offsets; the terms of memory behind its
-    /// place are made anew where they are needed.
+    /// Adds one more store. It goes inside those that it doesn't meet and that have greater offsets. The terms of memory after its place
+    /// are made again where they are needed.
     pub(crate) fn store(&mut self, stored: Stored)
         requires room { HasStoreRoom self.old }
         requires few { vec_len self.old.stores < vec_capacity self.old.stores }

@@ -22,7 +22,7 @@ fn is_addition(op: Operator) -> bool
     }
 }
 
-// A sum: a constant on its right is added to the constant on its left.
+/// Returns a sum: a constant on its right is added to the constant on its left.
 fn sum_term(terms: &mut Interner, a: Ticket, b: Ticket) -> Result<Ticket, TableFull>
     requires a { HasSeen terms.old.pass.now a }
     requires b { HasSeen terms.old.pass.now b }

@@ -1,9 +1,19 @@
-use Rattle.std.proofs.Common.{rules}
+use Rattle.std.proofs.Common.{rules, ◌≡◌, refl, sym, ap}
 use Rattle.sym_exec.proofs.MipsTerms.{still_seen, still_tree}
-use Rattle.sym_exec.proofs.Tickets.{later_more, goes_on, goes_more, interns_by, hold_on, known_on, get_seen, get_tree, known_put, hold_put}
+use Rattle.sym_exec.proofs.Tickets.{later_more, goes_on, goes_more, interns_by, hold_on, known_on, get_seen, get_tree, known_put, hold_put, hold_same, goes_none}
+use Rattle.mips_isa.specs.States.{is_register}
+use Rattle.mips_isa.proofs.Registers.{put_lost}
 use Rattle.sym_exec.specs.Symbolic.{operand_tree}
 use Rattle.sym_exec.proofs.Asked.{err_always, lacks_here, lacks_next}
 use Rattle.sym_exec.proofs.registers.TermRegisters.computes.Goals as goal
+
+pub returns-then-index-eq0-clause-hold : goal.returns-then-index-eq0-clause-hold
+returns-then-index-eq0-clause-hold c = λ t h.
+    let none : c.args.d ≡ 0 = search rules in
+    hold_same {t = t} h (sym (put_lost t.regs c.args.d _ (ap is_register none))) refl refl
+
+pub returns-then-index-eq0-clause-pass : goal.returns-then-index-eq0-clause-pass
+returns-then-index-eq0-clause-pass c = interns_by (goes_none c.args.terms.now) tt
 
 pub op_term-requires-clause-a : goal.op_term-requires-clause-a
 op_term-requires-clause-a c = still_seen c.in_ok-y.ensures.pass.later.extends c.get.result (get_seen c.requires c.get.ensures.value c.get.ensures.range)

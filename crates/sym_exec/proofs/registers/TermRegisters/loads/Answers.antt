@@ -1,63 +1,47 @@
 use Rattle.std.proofs.Common.{refl, subst, rules}
 use Rattle.mips_isa.specs.States.{put}
 use Rattle.sym_terms.specs.NormalForms.{load_tree}
-use Rattle.sym_exec.proofs.MipsTerms.{still_seen, still_tree}
+use Rattle.sym_exec.proofs.MipsTerms.{still_tree}
 use Rattle.sym_exec.specs.Symbolic.{address_tree}
 use Rattle.sym_exec.specs.Standing.{Hold}
 use Rattle.sym_exec.proofs.Tickets.{later_more, goes_on, goes_more, interns_by, hold_on, known_on, known_put, hold_put, hold_same}
-use Rattle.sym_exec.proofs.Reading.{address-later}
 use Rattle.sym_exec.proofs.Chains.{chain-on, memory-on}
 use Rattle.sym_exec.proofs.Asked.{err_always, lacks_here, lacks_next}
 use Rattle.sym_exec.proofs.registers.TermRegisters.loads.Goals as goal
 
 pub load_term-requires-clause-chain : goal.load_term-requires-clause-chain
-load_term-requires-clause-chain c = chain-on (later_more c.in_ok-address.ensures.pass.later c.address_at-at.ensures.pass.later) c.requires.chain
-
-pub load_term-requires-clause-address : goal.load_term-requires-clause-address
-load_term-requires-clause-address c = still_seen c.address_at-at.ensures.pass.later.extends c.in_ok-address.address c.in_ok-address.ensures.seen
-
-pub load_term-requires-clause-at : goal.load_term-requires-clause-at
-load_term-requires-clause-at c =
-    address-later c.in_ok-address.ensures.seen c.address_at-at.ensures.pass.later c.address_at-at.ensures.tree
+load_term-requires-clause-chain c = chain-on c.in_ok-address.ensures.pass.later c.requires.chain
 
 pub returns-clause-known : goal.returns-clause-known
 returns-clause-known c =
-    let before = later_more c.in_ok-address.ensures.pass.later c.address_at-at.ensures.pass.later in
-    known_put c.reg.result c.in_ok-value.value (known_on (later_more before c.in_ok-value.ensures.pass.later) c.requires.known)
+    known_put c.reg.result c.in_ok-value.value (known_on (later_more c.in_ok-address.ensures.pass.later c.in_ok-value.ensures.pass.later) c.requires.known)
     c.in_ok-value.ensures.seen c.set.ensures.value c.set.ensures.range c.set.ensures.count
 
 pub returns-clause-hold : goal.returns-clause-hold
 returns-clause-hold c = λ t h m.
-    let before = later_more c.in_ok-address.ensures.pass.later c.address_at-at.ensures.pass.later in
+    let before = c.in_ok-address.ensures.pass.later in
     let all = later_more before c.in_ok-value.ensures.pass.later in
     let value = c.in_ok-value.ensures.tree t.memory (address_tree t c.args.access.base c.args.access.offset) (memory-on c.args.chain.now.stores.items t.memory before m)
-    (still_tree c.address_at-at.ensures.pass.later.extends (c.in_ok-address.ensures.tree t h)) in
+    (c.in_ok-address.ensures.tree t h) in
     hold_same
     (subst (λ d. Hold c.load_term.new.terms.pass.now c.set.new.self
     (record t { regs = put t.regs d (load_tree c.args.access.width t.memory (address_tree t c.args.access.base c.args.access.offset)) })) c.reg.ensures.value
     (hold_put {t = t} (hold_on all h) value c.set.ensures.value c.set.ensures.range c.set.ensures.count)) refl refl refl
 
 pub returns-clause-address : goal.returns-clause-address
-returns-clause-address c = λ t h.
-    still_tree (later_more c.address_at-at.ensures.pass.later c.in_ok-value.ensures.pass.later).extends (c.in_ok-address.ensures.tree t h)
+returns-clause-address c = λ t h. still_tree c.in_ok-value.ensures.pass.later.extends (c.in_ok-address.ensures.tree t h)
 
 pub returns-in_err-value-clause-pass : goal.returns-in_err-value-clause-pass
-returns-in_err-value-clause-pass c =
-    let before = goes_more (goes_on c.in_ok-address.ensures.pass) c.address_at-at.ensures.pass in
-    interns_by (goes_more before (goes_on c.in_err-value.ensures.pass)) (search rules)
+returns-in_err-value-clause-pass c = interns_by (goes_more (goes_on c.in_ok-address.ensures.pass) (goes_on c.in_err-value.ensures.pass)) (search rules)
 
 pub returns-clause-pass : goal.returns-clause-pass
-returns-clause-pass c =
-    let before = goes_more (goes_on c.in_ok-address.ensures.pass) c.address_at-at.ensures.pass in
-    interns_by (goes_more before (goes_on c.in_ok-value.ensures.pass)) tt
+returns-clause-pass c = interns_by (goes_more (goes_on c.in_ok-address.ensures.pass) (goes_on c.in_ok-value.ensures.pass)) tt
 
 pub returns-in_err-address-clause-absent : goal.returns-in_err-address-clause-absent
 returns-in_err-address-clause-absent c = λ t h m. err_always _ (lacks_here (c.in_err-address.ensures.absent t h))
 
 pub returns-in_err-value-clause-absent : goal.returns-in_err-value-clause-absent
 returns-in_err-value-clause-absent c = λ t h m.
-    let before = later_more c.in_ok-address.ensures.pass.later c.address_at-at.ensures.pass.later in
     let address = address_tree t c.args.access.base c.args.access.offset in
     err_always _ (lacks_next address (lacks_here (c.in_err-value.ensures.absent t.memory address
-    (memory-on c.args.chain.now.stores.items t.memory before m)
-    (still_tree c.address_at-at.ensures.pass.later.extends (c.in_ok-address.ensures.tree t h)))))
+    (memory-on c.args.chain.now.stores.items t.memory c.in_ok-address.ensures.pass.later m) (c.in_ok-address.ensures.tree t h))))

@@ -1,0 +1,30 @@
+use Rattle.std.proofs.Common.{subst, cond, ne_eqb, arith}
+use Rattle.words.specs.declared.operator.Operator.TheVariants.{Addu}
+use Rattle.sym_terms.specs.declared.label.Label.TheVariants.{Op}
+use Rattle.sym_terms.specs.Trees.{binary}
+use Rattle.sym_terms.specs.NormalForms.{const_tree}
+use Rattle.sym_exec.specs.MipsTerms.{HasTree}
+use Rattle.sym_exec.proofs.MipsTerms.{still_seen, still_tree}
+use Rattle.sym_exec.proofs.Tickets.{goes_on, goes_more, interns_by}
+use Rattle.sym_exec.proofs.Reading.{address-later, sum-reached}
+use Rattle.sym_exec.proofs.address.reach.Goals as goal
+
+pub returns-then-offset-eq0-clause-at : goal.returns-then-offset-eq0-clause-at
+returns-then-offset-eq0-clause-at c = address-later c.in_ok-address.ensures.seen c.address_at-at.ensures.pass.later c.address_at-at.ensures.tree
+
+pub returns-then-offset-eq0-clause-seen : goal.returns-then-offset-eq0-clause-seen
+returns-then-offset-eq0-clause-seen c = still_seen c.address_at-at.ensures.pass.later.extends _ c.in_ok-address.ensures.seen
+
+pub returns-then-offset-eq0-clause-tree : goal.returns-then-offset-eq0-clause-tree
+returns-then-offset-eq0-clause-tree c = λ x h. still_tree c.address_at-at.ensures.pass.later.extends (c.in_ok-address.ensures.tree x h)
+
+pub returns-then-offset-eq0-clause-pass : goal.returns-then-offset-eq0-clause-pass
+returns-then-offset-eq0-clause-pass c = interns_by (goes_more (goes_on c.in_ok-address.ensures.pass) c.address_at-at.ensures.pass) tt
+
+pub returns-clause-at : goal.returns-clause-at
+returns-clause-at c =
+    let x = c.requires.base.term in
+    let sum = c.in_ok-address.ensures.tree x c.requires.base.has in
+    let is = subst (λ b. HasTree c.plus_term.new.terms.pass.now c.in_ok-address.address (cond b x (binary (Op Addu) x (const_tree c.args.offset))))
+    (ne_eqb c.args.offset 0 c.if-offset-eq0.false) sum in
+    sum-reached (still_tree c.in_ok-address.ensures.pass.later.extends c.requires.base.has) (omega arith) is
