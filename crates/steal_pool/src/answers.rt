@@ -5,7 +5,7 @@ ghost use Rattle.steal_pool.specs.Places.{EachPlace};
 use crate::job::Job;
 use std::alloc::Global;
 
-/// Each answer goes to its place, if there is one.
+/// Puts each answer at its place, if there is one.
 pub(crate) fn put_done<J: Job>(job: &J, all: &mut Vec<Option<J::Out>>, done: Vec<(usize, J::Out)>)
     requires right { All (λ d. J.right job.now d.0 d.1) done.items }
     requires so_far { EachPlace (J.right job.now) all.old.items }
@@ -19,7 +19,7 @@ pub(crate) fn put_done<J: Job>(job: &J, all: &mut Vec<Option<J::Out>>, done: Vec
     }
 }
 
-/// Empty places, fewer than n where memory is refused.
+/// Returns empty places, fewer than n if memory runs out.
 pub(crate) fn nones<O: Drop>(alloc: Global, n: usize) -> Vec<Option<O>>
     ensures len { vec_len result ≤ n }
     ensures none { All (λ x. x ≡ None) result.items }

@@ -1,5 +1,5 @@
 //! The deques at the start.
-ghost use Rattle.std.specs.Prelude.{◌≡◌, ◌<◌, ◌≤◌, [], ◌∷◌, All, IfOk, OnOk, true, map, length, ℕ, Some, slice_get, vec_len};
+ghost use Rattle.std.specs.Prelude.{◌≡◌, ◌+◌, ◌%◌, ◌<◌, ◌≤◌, [], ◌∷◌, All, IfOk, OnOk, true, map, length, ℕ, Some, slice_get, vec_len};
 ghost use Rattle.crossbeam_deque.specs.Handles.{view, worker_view, worker_flavor, worker_deque, stealer_deque};
 ghost use Rattle.term_table.specs.declared.limits.TheConstants.{MAX_PASSES};
 ghost use Rattle.steal_pool.specs.Rule.{maker, shared, after_putting, KeptByPutting, KeptBySharing};
@@ -13,7 +13,16 @@ use crate::view::View;
 use crossbeam_deque::Worker;
 use std::alloc::{AllocError, Global};
 
-// A deque with the tasks below n whose number leaves w.
+/// Returns the remainder of the next number, divided by count.
+fn next_remainder(remainder: usize, count: usize) -> usize
+    requires { remainder < count }
+    ensures { result ≡ (remainder + 1) % count }
+{
+    let next = remainder + 1;
+    if next == count { 0 } else { next }
+}
+
+/// Returns a deque with the tasks below n whose number leaves w. Their remainders are counted, since a division takes long.
 pub(crate) fn filled_deque<K: Fact>(
     alloc: Global,
     w: usize,
@@ -30,10 +39,12 @@ pub(crate) fn filled_deque<K: Fact>(
         alloc,
         (n / count).saturating_add(1),
     )?;
+    let mut remainder = 0;
     for i in 0..n {
-        if i % count == w {
+        if remainder == w {
             put(&mut own, i)?;
         }
+        remainder = next_remainder(remainder, count);
     }
     Ok(own)
 }
@@ -53,7 +64,7 @@ fn put<K: Fact>(
     }
 }
 
-// The ways of member w to the others, the next one first.
+/// Returns the ways of member w to the others, the next one first.
 pub(crate) fn victims_of<K: Fact>(
     alloc: Global,
     workers: &mut Vec<Worker<usize, Global, View, Shared<K>>>,

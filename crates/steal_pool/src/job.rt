@@ -24,7 +24,7 @@ pub trait Job {
 
 /// Is told of each task just before a worker begins it.
 pub trait Gate {
-    /// The task of this number is about to begin.
+    /// Notes that the task of this number is about to begin.
     fn enter(&self, i: usize);
 }
 

@@ -1,13 +1,13 @@
-// The laws of a pool's deques, each as the contract of a function that does nothing.
+//! The laws of a pool's deques, each as the contract of a function that does nothing.
 ghost use Rattle.steal_pool.specs.Laws.{EachDequeKeepsItsTasks, ViewsTellPlaces};
 
-/// The rule of a deque is itself a fact that its steps carry on. Of a deque that was found empty it tells that each task was taken. A
-/// law: it computes nothing.
+/// States that the rule of a deque is itself a fact that its steps carry on. Of a deque that was found empty it tells that each task was
+/// taken. A law: it computes nothing.
 pub fn each_deque_keeps_its_tasks()
     ensures { EachDequeKeepsItsTasks }
 {}
 
-/// What is noted of the view of one place's pass says nothing of another's: the two views differ. A law: it computes nothing.
+/// States that what is noted of the view of one place's pass says nothing of another's: the two views differ. A law: it computes nothing.
 pub fn views_tell_places()
     ensures { ViewsTellPlaces }
 {}

@@ -24,8 +24,8 @@ pub struct Member<K: Fact> {
 }
 
 impl<K: Fact> Member<K> {
-    /// A task of its own deque, the first one, or else one that it steals from the others in turn; a steal that must be
-    /// tried again is tried again. With None each deque of the pool was found empty during the call.
+    /// Takes a task of its own deque, the first one, or else one that it steals from the others in turn. A steal that must be tried again
+    /// is tried again. With None each deque of the pool was found empty during the call.
     pub fn take<N: Note, R: Wait>(&mut self, rt: &R) -> Option<usize>
         requires member { IsMember self.old }
         requires keeps { KeptByTaking K.real }
@@ -44,7 +44,7 @@ impl<K: Fact> Member<K> {
     }
 }
 
-// A task of the first deque in turn that isn't found empty.
+/// Takes a task of the first deque in turn that isn't found empty.
 fn take_from<K: Fact, N: Note, R: Wait>(rt: &R, victims: &mut Vec<Victim<K>>) -> Option<usize>
     requires victims { All IsVictim victims.old.items }
     requires keeps { KeptByTaking K.real }

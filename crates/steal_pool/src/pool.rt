@@ -23,9 +23,9 @@ pub(crate) struct Station<O> {
     pub(crate) done: Vec<(usize, O)>,
 }
 
-/// The answers of the tasks below n, each at the place of its task. There is a worker for each pass, but no more than tasks. A place
-/// without an answer is a task that was missed: memory or a worker's start was refused. There are fewer places than n only where memory
-/// for them was refused. The gate is told of each task just before it begins, by the worker that does it.
+/// Returns the answers of the tasks below n, each at the place of its task. There is a worker for each pass, but no more than tasks. A
+/// place without an answer is a task that was missed: memory or a worker's start was refused. There are fewer places than n only where
+/// memory for them was refused. The gate is told of each task just before it begins, by the worker that does it.
 pub fn run<R: Threads + Wait + Sync, J: Job + Sync, G: Gate + Sync>(
     rt: &R,
     alloc: Global,
@@ -55,7 +55,7 @@ pub fn run<R: Threads + Wait + Sync, J: Job + Sync, G: Gate + Sync>(
     all
 }
 
-// A station for each pass that has a member. Where memory ran out there are fewer.
+/// Returns a station for each pass that has a member. If memory ran out there are fewer.
 fn stations<J: Job>(
     alloc: Global,
     passes: Vec<Pass>,
@@ -79,7 +79,7 @@ fn stations<J: Job>(
     stations
 }
 
-// Each station in a thread of its own where one can be made.
+/// Runs each station in a thread of its own, if one can be made.
 fn do_all<R: Threads + Wait + Sync, J: Job + Sync, G: Gate + Sync>(
     rt: &R,
     count: usize,
@@ -103,7 +103,7 @@ fn do_all<R: Threads + Wait + Sync, J: Job + Sync, G: Gate + Sync>(
     );
 }
 
-// Takes tasks until each deque was found empty.
+/// Takes tasks until each deque was found empty.
 fn work<R: Wait, J: Job, G: Gate>(rt: &R, job: &J, gate: &G, station: &mut Station<J::Out>)
     requires member { IsMember station.old.member }
     requires suits { J.suits job.now station.old.pass }

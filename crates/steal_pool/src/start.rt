@@ -18,7 +18,7 @@ use crate::view::View;
 use crossbeam_deque::Worker;
 use std::alloc::{AllocError, Global};
 
-// The deques of all members.
+/// Returns the deques of all members.
 fn filled_deques<K: Fact>(
     alloc: Global,
     count: usize,
@@ -38,7 +38,7 @@ fn filled_deques<K: Fact>(
     Ok(workers)
 }
 
-// The ways of all members, those of the first one last.
+/// Returns the ways of all members, those of the first one last.
 fn all_ways<K: Fact>(
     alloc: Global,
     workers: &mut Vec<Worker<usize, Global, View, Shared<K>>>,
@@ -61,8 +61,8 @@ fn all_ways<K: Fact>(
     Ok(ways)
 }
 
-/// The members of a pool, each with a deque of its own and a way to all others. Task i below n lies on the deque of the
-/// member i % count; an Err is refused memory. Where there are more members than tasks, the last deques stay empty.
+/// Returns the members of a pool, each with a deque of its own and a way to all others. Task i below n lies on the deque of the member i %
+/// count; an Err means out of memory. Where there are more members than tasks, the last deques stay empty.
 pub fn members<K: Fact>(alloc: Global, count: usize, n: usize) -> Result<Vec<Member<K>>, AllocError>
     requires count { (0 < count) × (count ≤ MAX_PASSES) }
     requires begins { K.real [] (maker ∷ []) }

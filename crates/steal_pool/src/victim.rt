@@ -19,7 +19,7 @@ pub(crate) struct Victim<K: Fact> {
 impl<K: Fact> Victim<K> {
     ghost use Rattle.steal_pool.specs.Victims.{IsVictim};
 
-    /// The first task of the deque, unless it was found empty.
+    /// Takes the first task of the deque, unless it was found empty.
     pub(crate) fn take<N: Note, R: Wait>(&mut self, rt: &R) -> Option<usize>
         requires victim { IsVictim self.old }
         requires keeps { KeptByTaking K.real }
