@@ -1,4 +1,4 @@
-// How many workers, nodes and heads a phase has.
+//! How many workers, nodes and heads a phase has.
 ghost use Rattle.std.specs.Option.{SomeIff};
 ghost use Rattle.std.specs.Prelude.{◌≡◌};
 ghost use Rattle.term_table.specs.Passes.{InRange};
@@ -28,7 +28,7 @@ impl Model for PhaseOpts {
 }
 
 impl PhaseOpts {
-    /// These options, where a table can be opened by them: 1 to `MAX_PASSES` workers, 1 to `MAX_NODES` nodes for each, 1 to
+    /// Returns these options, if a table can be opened by them: 1 to `MAX_PASSES` workers, 1 to `MAX_NODES` nodes for each, 1 to
     /// `MAX_HEADS` chains.
     pub fn new(workers: u64, nodes: u64, heads: u64) -> Option<PhaseOpts>
         ensures { SomeIff result (InRange workers nodes heads) (record { workers = workers; nodes = nodes; heads = heads }) }
@@ -50,7 +50,7 @@ impl PhaseOpts {
         }
     }
 
-    /// How many workers.
+    /// Returns how many workers.
     pub fn workers(self) -> u64
         ensures value { result ≡ self.workers }
         ensures range { InRange self.workers self.nodes self.heads }
@@ -58,7 +58,7 @@ impl PhaseOpts {
         self.workers
     }
 
-    /// How many terms each worker may link.
+    /// Returns how many terms each worker may link.
     pub fn nodes(self) -> u64
         ensures value { result ≡ self.nodes }
         ensures range { InRange self.workers self.nodes self.heads }
@@ -66,7 +66,7 @@ impl PhaseOpts {
         self.nodes
     }
 
-    /// How many chains the table has.
+    /// Returns how many chains the table has.
     pub fn heads(self) -> u64
         ensures value { result ≡ self.heads }
         ensures range { InRange self.workers self.nodes self.heads }

@@ -20,10 +20,10 @@ use std::thread::Threads;
 use steal_pool::{Gate, run};
 use term_table::Pass;
 
-/// An order for each block of a unit: the one that the scheduler proposes, where the validator finds that it means its
-/// block, else the plain one. The options' workers do so at once, over one table for each batch of blocks; the gate is told of
-/// each block's number just before its work begins. A block whose scheduler or validator was refused memory is counted as
-/// that, one that no worker came to as missed. An Err is refused memory.
+/// Gives each block of a unit an order: the one that the scheduler proposes, if the validator finds that it means its block, else the plain
+/// one. The options' workers do so at once, over one table for each batch of blocks. The gate is told of each block's number just before
+/// its work begins. A block whose scheduler or validator was refused memory is counted as that, one that no worker came to as missed. An
+/// Err means out of memory.
 pub fn schedule_all<'a, T: Threads + Wait + Sync, R: Reorder + Sync, G: Gate + Sync>(
     rt: &T,
     alloc: Global,
@@ -44,7 +44,7 @@ pub fn schedule_all<'a, T: Threads + Wait + Sync, R: Reorder + Sync, G: Gate + S
     Ok(progress.finish(reorder, unit))
 }
 
-// An order for each block of the next batch, by workers.
+/// Gives each block of the next batch an order, by workers.
 fn schedule_batch<T: Threads + Wait + Sync, R: Reorder + Sync, G: Gate + Sync>(
     rt: &T,
     alloc: Global,
@@ -61,7 +61,7 @@ fn schedule_batch<T: Threads + Wait + Sync, R: Reorder + Sync, G: Gate + Sync>(
     ensures done { OnOk result (AreDone (R.proposes reorder.now) unit.now.blocks progress.new) }
 {
     let first = progress.orders.len();
-    let (end, terms) = batch_from(unit.blocks(), first);
+    let (end, terms) = batch_from(unit.blocks(), first, options.workers());
     let count = end - first;
     let (terms, passes) = open_terms(alloc, workers_for(options, count), options, terms)?;
     let job = BlockJob {
@@ -77,7 +77,7 @@ fn schedule_batch<T: Threads + Wait + Sync, R: Reorder + Sync, G: Gate + Sync>(
     settle_batch(alloc, reorder, unit, count, verdicts, progress)
 }
 
-// An order for each of the next blocks by the verdict at its place.
+/// Gives each of the next blocks an order by the verdict at its place.
 fn settle_batch<'a, R: Reorder>(
     alloc: Global,
     reorder: &R,
@@ -101,7 +101,7 @@ fn settle_batch<'a, R: Reorder>(
     Ok(())
 }
 
-// Takes out the verdict at a place of a batch; None where there is none.
+/// Takes out the verdict at a place of a batch; None if there is none.
 fn verdict_at<'a, R: Reorder>(
     reorder: &R,
     unit: &Unit,
@@ -123,7 +123,7 @@ fn verdict_at<'a, R: Reorder>(
     }
 }
 
-/// The same by one worker without threads, whose tables have room for one: no block is missed.
+/// Returns the same by one worker without threads, whose tables have room for one: no block is missed.
 pub fn schedule_one<'a, R: Reorder>(
     alloc: Global,
     unit: &'a Unit,
@@ -143,7 +143,7 @@ pub fn schedule_one<'a, R: Reorder>(
     Ok(progress.finish(reorder, unit))
 }
 
-// An order for each block of the next batch, by one worker.
+/// Gives each block of the next batch an order, by one worker.
 fn batch_by_one<R: Reorder>(
     alloc: Global,
     unit: &Unit,
@@ -159,7 +159,7 @@ fn batch_by_one<R: Reorder>(
     ensures asked { OnOk result (progress.new.report.missed ≡ progress.old.report.missed) }
 {
     let first = progress.orders.len();
-    let (end, terms) = batch_from(unit.blocks(), first);
+    let (end, terms) = batch_from(unit.blocks(), first, 1);
     let (terms, mut passes) = open_terms(alloc, 1, options, terms)?;
     let Some(mut pass) = passes.pop() else {
         unreachable!()
@@ -176,7 +176,7 @@ fn batch_by_one<R: Reorder>(
     )
 }
 
-// An order for each of the next blocks, one after another.
+/// Gives each of the next blocks an order, one after another.
 fn one_by_one<R: Reorder>(
     alloc: Global,
     unit: &Unit,

@@ -1,4 +1,4 @@
-// Scheduled units: an order for each block, which means it.
+//! Scheduled units: an order for each block, which means it.
 use image::Counts;
 use mblock::{Order, UNIT_BLOCKS, Unit};
 use std::marker::Model;
@@ -29,7 +29,7 @@ impl<'a> Scheduled<'a> {
     ghost use Rattle.mblock.specs.Orders.{AreOrders};
     ghost use Rattle.sched_phase.specs.Schedules.{IsScheduled};
 
-    /// These orders of the unit's blocks, with these counts.
+    /// Returns these orders of the unit's blocks, with these counts.
     pub(crate) fn of(unit: &'a Unit, orders: Vec<Order>, report: Counts) -> Scheduled<'a>
         requires orders { AreOrders unit.now.blocks orders.items }
         requires counted { total (counts_of report) ≤ length unit.now.blocks }
@@ -44,7 +44,7 @@ impl<'a> Scheduled<'a> {
         }
     }
 
-    /// The unit that is lent.
+    /// Returns the unit that is lent.
     pub fn unit(&self) -> &'a Unit
         ensures value { result.now ≡ self.now.unit }
         ensures sound { IsScheduled self.now }
@@ -52,7 +52,7 @@ impl<'a> Scheduled<'a> {
         self.unit
     }
 
-    /// The order of each block, in order of number.
+    /// Returns the order of each block, in order of number.
     pub fn orders(&self) -> &[Order]
         ensures value { result.now ≡ self.now.orders }
         ensures sound { IsScheduled self.now }
@@ -60,7 +60,7 @@ impl<'a> Scheduled<'a> {
         self.orders.as_slice()
     }
 
-    /// How many blocks had which verdict; none has one where every order is plain without a check.
+    /// Returns how many blocks had which verdict; none has one where every order is plain without a check.
     pub fn report(&self) -> Counts
         ensures value { counts_of result ≡ self.now.report }
         ensures sound { IsScheduled self.now }
@@ -68,7 +68,7 @@ impl<'a> Scheduled<'a> {
         self.report
     }
 
-    /// How many blocks there are.
+    /// Returns how many blocks there are.
     pub fn count(&self) -> usize
         ensures { result ≡ length self.now.unit.blocks }
     {

@@ -14,7 +14,7 @@ use list_scheduler::Reorder;
 use mblock::{BLOCK_INSTS, Block, Order, UNIT_BLOCKS, Unit, plain};
 use std::alloc::{AllocError, Global};
 
-// The plain order.
+/// Returns the plain order.
 fn plain_order(alloc: Global, block: &Block) -> Result<Order, AllocError>
     ensures is { IfOk result (λ o. o ≡ plain_order_of block.now) }
     ensures serves { IfOk result (Serves block.now) }
@@ -22,7 +22,7 @@ fn plain_order(alloc: Global, block: &Block) -> Result<Order, AllocError>
     plain(alloc, block)
 }
 
-// The order that was checked.
+/// Returns the order that was checked.
 fn checked_order<'a>(block: &Block, checked: Checked<'a>) -> Order
     requires { checked.block ≡ block.now }
     ensures is { result ≡ checked.entry.order }
@@ -33,8 +33,8 @@ fn checked_order<'a>(block: &Block, checked: Checked<'a>) -> Order
     checked.into_order()
 }
 
-// The order that a verdict gives its block, which is counted: the one that was proposed, where it means the block, else the
-// plain one. None stands for a block that was missed. An Err is refused memory.
+/// Returns the order that a verdict gives its block, which is counted: the one that was proposed, where it means the block, else the plain
+/// one. None stands for a block that was missed. An Err means out of memory.
 fn order_by_verdict<'a, R: Reorder>(
     alloc: Global,
     reorder: &R,
@@ -72,21 +72,24 @@ pub(crate) struct Progress {
 }
 
 impl Progress {
-    /// Before the first block.
+    /// Returns the progress before the first block. There is room for all orders, if it may be had at once.
     pub(crate) fn new<R: Reorder>(alloc: Global, reorder: &R, unit: &Unit) -> Progress
         ensures none { length result.orders.items ≡ 0 }
         ensures done { AreDone (R.proposes reorder.now) unit.now.blocks result }
         ensures missed { result.report.missed ≡ 0 }
     {
         let _ = reorder;
-        let _ = unit;
+        let orders = match Vec::with_capacity(alloc, unit.blocks().len()) {
+            Ok(orders) => orders,
+            Err(_) => Vec::new(alloc),
+        };
         Progress {
-            orders: Vec::new(alloc),
+            orders,
             report: NO_COUNTS,
         }
     }
 
-    /// One more block gets its order by the verdict, or as one that was missed.
+    /// Gives one more block its order by the verdict, or as one that was missed.
     pub(crate) fn settle<'a, R: Reorder>(
         &mut self,
         alloc: Global,
@@ -109,7 +112,7 @@ impl Progress {
         Ok(())
     }
 
-    /// The unit with an order for each block.
+    /// Returns the unit with an order for each block.
     pub(crate) fn finish<'a, R: Reorder>(self, reorder: &R, unit: &'a Unit) -> Scheduled<'a>
         requires all { length self.orders.items ≡ length unit.now.blocks }
         requires done { AreDone (R.proposes reorder.now) unit.now.blocks self }

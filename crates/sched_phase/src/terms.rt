@@ -18,7 +18,7 @@ pub(crate) struct BatchTerms {
     pub(crate) start: Option<TermPlaces>,
 }
 
-/// A table for so many workers and so many terms, with no more nodes for each than by the options, and no fewer chains.
+/// Returns a table for so many workers and so many terms, with no more nodes for each than by the options, and no fewer chains.
 pub(crate) fn open_table(
     alloc: Global,
     workers: u64,
@@ -38,7 +38,7 @@ pub(crate) fn open_table(
     }
 }
 
-// A pass learns the terms of the start from the first one that knows them.
+/// Has a pass learn the terms of the start from the first one that knows them.
 fn tell_start(table: &TermTable, start: &TermPlaces, first: &mut Pass, pass: &mut Pass)
     requires first { IsOf table.now first.old }
     requires start { IsStart first.old start.now }
@@ -51,7 +51,7 @@ fn tell_start(table: &TermTable, start: &TermPlaces, first: &mut Pass, pass: &mu
     table.learn(pass, note);
 }
 
-// The terms of the start, made by one pass, the first to know them, and the passes, each of which then knows them.
+/// Returns the terms of the start, made by one pass, the first to know them, and the passes, each of which then knows them.
 fn tell_starts(
     alloc: Global,
     table: &TermTable,
@@ -78,7 +78,7 @@ fn tell_starts(
     Ok((Some(start), told))
 }
 
-/// The terms for a batch of so many workers and so many terms, and a pass for each worker.
+/// Returns the terms for a batch of so many workers and so many terms, and a pass for each worker.
 pub(crate) fn open_terms(
     alloc: Global,
     workers: u64,

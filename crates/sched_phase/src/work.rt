@@ -65,8 +65,8 @@ impl<'g, G: Gate> Gate for BatchGate<'g, G> {
     }
 }
 
-/// The verdict on the order that is proposed for a block; if the table is full, the verdict over a table of the block's own. First it has
-/// room for the terms that the block may have, then all the nodes of the options.
+/// Returns the verdict on the order that is proposed for a block. If the table is full, the verdict over a table of the block's own. First
+/// it has room for the terms that the block may have, then all the nodes of the options.
 pub(crate) fn last_verdict<'a, R: Reorder>(
     alloc: Global,
     options: PhaseOpts,
@@ -85,7 +85,7 @@ pub(crate) fn last_verdict<'a, R: Reorder>(
     }
 }
 
-// The verdict over tables of the block's own.
+/// Returns the verdict over tables of the block's own.
 fn verdict_apart<'a, R: Reorder>(
     alloc: Global,
     options: PhaseOpts,
@@ -100,7 +100,7 @@ fn verdict_apart<'a, R: Reorder>(
     }
 }
 
-// The verdict over a table for this block alone and so many terms.
+/// Returns the verdict over a table for this block alone and so many terms.
 fn verdict_alone<'a, R: Reorder>(
     alloc: Global,
     options: PhaseOpts,
@@ -120,7 +120,7 @@ fn verdict_alone<'a, R: Reorder>(
     proposal_verdict(alloc, &alone, &mut pass, reorder, block)
 }
 
-// The verdict on the order that is proposed for a block; NoMemory where none is.
+/// Returns the verdict on the order that is proposed for a block; NoMemory where none is.
 fn proposal_verdict<'a, R: Reorder>(
     alloc: Global,
     terms: &BatchTerms,
