@@ -44,7 +44,7 @@ made Memory e xs = just e 0
 made Load e xs = just e ((at xs 0).memory (at xs 1).word)
 made Store e xs = record { word = 0; memory = stored (at xs 1).word (at xs 2).word (at xs 0).memory }
 
--- the values that instructions make, behind those that are there
+-- the values that instructions make, after those that are there
 abbrev pub values_behind : List Value → List Instruction → Environment → List Value
 values_behind xs [] e = xs
 values_behind xs (i ∷ is) e = values_behind (xs ++ made i.op e (map (at xs) i.operands.items) ∷ []) is e

@@ -21,7 +21,7 @@ pub struct Block {
 }
 
 impl Block {
-    /// The block of these operators and operands, whose value and memory its last two instructions make.
+    /// Returns the block of these operators and operands, whose value and memory its last two instructions make.
     pub fn of(alloc: Global, code: &[(Op, &[Place])]) -> Result<Block, AllocError> {
         let mut instructions = Vec::new(alloc);
         for &(op, operands) in code {

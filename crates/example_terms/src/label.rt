@@ -31,7 +31,7 @@ pub enum Op {
 }
 
 impl Op {
-    /// How many operands it has.
+    /// Returns how many operands it has.
     pub fn arity(self) -> usize
         ensures { result ≡ op_arity self }
     {
@@ -42,7 +42,7 @@ impl Op {
         }
     }
 
-    /// What an operator on words makes of two; None for all others.
+    /// Returns what an operator on words makes of two; None for all others.
     pub fn word(self, a: u32, b: u32) -> Option<u32>
         ensures { IfSome result (λ n. (e : Environment) → made self e (just e a ∷ just e b ∷ []) ≡ just e n) }
     {

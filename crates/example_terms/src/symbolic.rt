@@ -40,7 +40,7 @@ impl From<AllocError> for Fault {
     }
 }
 
-/// The tickets of a block's value and of memory behind it, and the pass that has seen them.
+/// The tickets of a block's value and of memory after it, and the pass that has seen them.
 #[derive(Drop)]
 pub struct Ran {
     pub pass: Pass,
@@ -48,7 +48,7 @@ pub struct Ran {
     pub memory: Ticket,
 }
 
-// The ticket of the value that was made at a place.
+/// Returns the ticket of the value that was made at a place.
 fn value_at(values: &[Ticket], place: Place) -> Result<Ticket, Fault>
     ensures { IfOk result (λ t. (t ≡ slice_index values.now place) × (place < length values.now)) }
 {
@@ -58,7 +58,7 @@ fn value_at(values: &[Ticket], place: Place) -> Result<Ticket, Fault>
         .ok_or(Fault::NoValue)
 }
 
-// The tickets of the values that were made at these places.
+/// Returns the tickets of the values that were made at these places.
 fn values_at(
     alloc: Global,
     values: &[Ticket],
@@ -75,7 +75,7 @@ fn values_at(
     Ok(found)
 }
 
-// The word of a term, where it is a constant.
+/// Returns the word of a term, where it is a constant.
 fn known(table: &TermTable, pass: &mut Pass, ticket: Ticket) -> Option<u32>
     requires own { IsOf table.now pass.old }
     requires seen { HasSeenTerm op_coding pass.old ticket }
@@ -90,7 +90,7 @@ fn known(table: &TermTable, pass: &mut Pass, ticket: Ticket) -> Option<u32>
     }
 }
 
-// The word that an operator makes of two terms, where both are constants.
+/// Returns the word that an operator makes of two terms, where both are constants.
 #[tactic(auto, using(term_table::proofs::TermCallers::interning))]
 fn fold_constants(table: &TermTable, pass: &mut Pass, op: Op, operands: &[Ticket]) -> Option<u32>
     requires own { IsOf table.now pass.old }
@@ -108,7 +108,7 @@ fn fold_constants(table: &TermTable, pass: &mut Pass, op: Op, operands: &[Ticket
     op.word(first?, second?)
 }
 
-// The ticket of what an operator makes of these terms. Constants are folded.
+/// Returns the ticket of what an operator makes of these terms. Constants are folded.
 #[tactic(auto, using(term_table::proofs::TermCallers::interning, term_table::proofs::TermCallers::still_seen_terms))]
 fn make(
     table: &TermTable,
@@ -130,7 +130,7 @@ fn make(
     Ok(table.intern(pass, op, operands)?.ticket)
 }
 
-// The ticket of the value that an instruction makes behind those that are done.
+/// Returns the ticket of the value that an instruction makes after those that are done.
 fn step(
     table: &TermTable,
     alloc: Global,

@@ -17,8 +17,7 @@ const TERMS: u64 = 65_536;
 
 const CHAINS: u64 = 4_096;
 
-/// Whether the optimised block provably means the original: in each environment it has the same value
-/// and leaves the same memory.
+/// Reports whether the optimised block provably means the original: in each environment it has the same value and leaves the same memory.
 pub fn validate(
     rt: &impl Threads,
     alloc: Global,
@@ -54,7 +53,8 @@ fn both<R: Threads>(
     Ok((one?, other?))
 }
 
-/// The passes meet. Where the tickets are equal, the blocks mean the same.
+/// Has the passes meet, and reports whether the tickets are equal: then the blocks mean the same. Where the tickets are equal, the blocks
+/// mean the same.
 fn agree(
     table: &TermTable,
     first: &mut Ran,

@@ -1,10 +1,10 @@
-// Comparisons of comparisons without parentheses, as `1 < x < 3`, which compares 0 or 1 with 3.
+//! Comparisons of comparisons without parentheses, as `1 < x < 3`, which compares 0 or 1 with 3.
 
 use crate::more_tokens::line_end;
 use crate::source::{back, front};
 use std::alloc::{AllocError, Global};
 
-/// Where a comment ends that begins with `/*` at an offset.
+/// Returns where a comment ends that begins with `/*` at an offset.
 fn block_end(text: &[u8], at: usize) -> usize {
     let inside = at.saturating_add(2);
     let mut is_star = false;
@@ -17,7 +17,7 @@ fn block_end(text: &[u8], at: usize) -> usize {
     text.len()
 }
 
-/// Where the comment or the sign ends that begins with a `/` at an offset.
+/// Returns where the comment or the sign ends that begins with a `/` at an offset.
 fn slash_end(text: &[u8], at: usize) -> usize {
     match text.get(at.saturating_add(1)) {
         Some(b'/') => line_end(text, at),
@@ -26,7 +26,7 @@ fn slash_end(text: &[u8], at: usize) -> usize {
     }
 }
 
-/// Whether the sign that begins with this `<` or `>` at an offset compares, and where it ends.
+/// Reports whether the sign that begins with this `<` or `>` at an offset compares, and where it ends.
 fn relation(text: &[u8], at: usize, first: u8) -> (bool, usize) {
     let second = at.saturating_add(1);
     match text.get(second) {
@@ -54,7 +54,7 @@ pub(crate) struct ChainParts {
 }
 
 impl ChainParts {
-    /// No parts, at the beginning of a text.
+    /// Returns no parts, at the beginning of a text.
     pub(crate) fn new(alloc: Global) -> ChainParts {
         ChainParts {
             parts: Vec::new(alloc),
@@ -63,7 +63,7 @@ impl ChainParts {
         }
     }
 
-    /// A statement begins here, in no brackets but those of a `for`; statements are told in the order of the text.
+    /// Begins a statement here, in no brackets but those of a `for`; statements come in the order of the text.
     pub(crate) fn begin(&mut self, at: usize) -> Result<(), AllocError> {
         if self.has_chain {
             let from = self.from;
@@ -74,12 +74,12 @@ impl ChainParts {
         Ok(())
     }
 
-    /// A comparison is compared in the statement in front.
+    /// Notes that a comparison is compared in the statement in front.
     pub(crate) fn compare(&mut self) {
         self.has_chain = true;
     }
 
-    /// Where such a comparison's second sign stands, for each without parentheses, in the order of the text.
+    /// Returns where such a comparison's second sign stands, for each without parentheses, in the order of the text.
     pub(crate) fn places(mut self, alloc: Global, text: &[u8]) -> Result<Vec<usize>, AllocError> {
         self.begin(text.len())?;
         let mut found = Vec::new(alloc);
@@ -90,7 +90,7 @@ impl ChainParts {
     }
 }
 
-/// Finds those behind an offset at which a statement begins.
+/// Finds those after an offset at which a statement begins.
 fn push_chains(
     alloc: Global,
     found: &mut Vec<usize>,

@@ -1,4 +1,4 @@
-// What is said of numbers that are no constants, and of texts beyond a size.
+//! What is said of numbers that are no constants, and of texts beyond a size.
 
 use crate::said::Said;
 use crate::source::{Source, back, before, front, is_word, shown_text, spelled_at};
@@ -35,7 +35,7 @@ const OF_HEXADECIMAL: &[(&[u8], Reason)] = &[(b".pP", FLOATING), (b"lL", LONG)];
 
 const OF_OTHERS: &[(&[u8], Reason)] = &[(b".pPeE", FLOATING), (b"lL", LONG)];
 
-/// The bytes of the preprocessing number at the front (C99 6.4.8).
+/// Returns the bytes of the preprocessing number at the front (C99 6.4.8).
 fn number<'t>(text: &'t [u8]) -> &'t [u8] {
     let mut is_behind_exponent = false;
     for (n, byte) in text.iter().enumerate() {
@@ -66,7 +66,7 @@ fn has_only(number: &[u8], bytes: &[u8]) -> bool {
     true
 }
 
-/// The first reason of a list that a number has a byte for.
+/// Returns the first reason of a list that a number has a byte for.
 fn reason_of(number: &[u8], reasons: &[(&[u8], Reason)]) -> Option<Reason> {
     for (bytes, reason) in reasons {
         if has(number, *bytes) {
@@ -76,7 +76,7 @@ fn reason_of(number: &[u8], reasons: &[(&[u8], Reason)]) -> Option<Reason> {
     None
 }
 
-/// Why digits are no constant.
+/// Returns why digits are no constant.
 fn digits_reason(digits: &[u8]) -> Reason {
     if has_only(digits, b"0123456789abcdefABCDEFuU") {
         ("an unsigned goes up to 4294967295", "")
@@ -85,7 +85,7 @@ fn digits_reason(digits: &[u8]) -> Reason {
     }
 }
 
-/// Why a number without a prefix is no constant.
+/// Returns why a number without a prefix is no constant.
 fn decimal_reason(number: &[u8]) -> Reason {
     let is_octal = number.starts_with(b"0");
     if !is_octal && shown_text(number).parse::<u32>().is_ok() {
@@ -97,7 +97,7 @@ fn decimal_reason(number: &[u8]) -> Reason {
     digits_reason(number)
 }
 
-/// Why a number is no constant.
+/// Returns why a number is no constant.
 fn reason(number: &[u8]) -> Reason {
     let is_hexadecimal = number.starts_with(b"0x") || number.starts_with(b"0X");
     let reasons = if is_hexadecimal {
@@ -117,7 +117,7 @@ fn reason(number: &[u8]) -> Reason {
     decimal_reason(number)
 }
 
-/// What is written in place of the least int; at file scope a minus and a constant are all that can stand.
+/// Returns what is written in place of the least int; at file scope a minus and a constant are all that can stand.
 fn least_int_hint(source: &Source<'_>, k: usize) -> &'static str {
     if source
         .open_before(k, Mark::LeftBrace, Mark::RightBrace)
@@ -129,7 +129,7 @@ fn least_int_hint(source: &Source<'_>, k: usize) -> &'static str {
     }
 }
 
-/// Why the number at a token is no constant.
+/// Returns why the number at a token is no constant.
 fn reason_at(source: &Source<'_>, number: &[u8], k: usize) -> Reason {
     if number == b"2147483648".as_slice() && source.is(before(k, 1), Mark::Minus) {
         return ("an int goes up to 2147483647", least_int_hint(source, k));
@@ -137,7 +137,7 @@ fn reason_at(source: &Source<'_>, number: &[u8], k: usize) -> Reason {
     reason(number)
 }
 
-/// What is said of a number that is no constant.
+/// Says what is wrong with a number that is no constant.
 pub(crate) fn say_constant(said: &mut Said, source: &Source<'_>, at: usize) {
     let number = number(back(source.text, at));
     let (why, hint) = reason_at(source, number, source.index_of(at));
@@ -147,7 +147,7 @@ pub(crate) fn say_constant(said: &mut Said, source: &Source<'_>, at: usize) {
     said.hint(hint);
 }
 
-/// What is said of a text that is too long, or of the token that goes beyond a size.
+/// Says what is wrong with a text that is too long, or of the token that goes beyond a size.
 pub(crate) fn say_size(said: &mut Said, source: &Source<'_>, at: usize) {
     let k = source.index_of(at);
     if at >= MAX_TEXT {

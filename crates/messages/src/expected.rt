@@ -1,8 +1,8 @@
-// Which tokens can stand where a text goes wrong.
-//
-// A fault of syntax lies at the first token with which the tokens so far begin no program. What stands before the declaration that is
-// open there doesn't matter. So a token can stand there exactly where that declaration up to the place, followed by the token, has no
-// fault at the token.
+//! Which tokens can stand where a text goes wrong.
+//!
+//! A fault of syntax lies at the first token with which the tokens so far begin no program. What stands before the declaration that is
+//! open there doesn't matter. So a token can stand there exactly where that declaration up to the place, followed by the token, has no
+//! fault at the token.
 
 use crate::source::{Source, back, front};
 use c_front::{FrontFaultKind, read};
@@ -49,7 +49,7 @@ const CANDIDATES: &[(&[u8], &str, &[&str])] = &[
     (b"}", "'}'", &[]),
 ];
 
-/// The bytes before a token from the beginning of the declaration that is open there.
+/// Returns the bytes before a token from the beginning of the declaration that is open there.
 fn open_declaration<'t>(source: &Source<'t>, k: usize) -> &'t [u8] {
     let (mut depth, mut start) = (0usize, 0usize);
     for token in 0..k.min(source.count()) {
@@ -68,7 +68,7 @@ fn open_declaration<'t>(source: &Source<'t>, k: usize) -> &'t [u8] {
     back(front(source.text, source.at(k)), start)
 }
 
-/// Whether a token can stand behind these bytes.
+/// Reports whether a token can stand after these bytes.
 fn can_stand(alloc: Global, piece: &[u8], token: &[u8]) -> Result<bool, AllocError> {
     let mut text = Vec::from_slice(alloc, piece)?;
     text.push(b' ')?;
@@ -84,7 +84,7 @@ fn can_stand(alloc: Global, piece: &[u8], token: &[u8]) -> Result<bool, AllocErr
     }
 }
 
-/// Whether one of these words is told.
+/// Reports whether one of these words is told.
 fn is_told(told: &[&'static str], words: &[&'static str]) -> bool {
     for word in words {
         if told.contains(word) {
@@ -94,7 +94,7 @@ fn is_told(told: &[&'static str], words: &[&'static str]) -> bool {
     false
 }
 
-/// What can stand behind these bytes, in the words of a message.
+/// Returns what can stand after these bytes, in the words of a message.
 fn all_expected(alloc: Global, piece: &[u8]) -> Result<Vec<&'static str>, AllocError> {
     let mut all = Vec::new(alloc);
     for (token, told, covers) in CANDIDATES {
@@ -105,7 +105,7 @@ fn all_expected(alloc: Global, piece: &[u8]) -> Result<Vec<&'static str>, AllocE
     Ok(all)
 }
 
-/// What can stand in a token's place; nothing where that is more than four things, or the declaration is long.
+/// Returns what can stand in a token's place; nothing where that is more than four things, or the declaration is long.
 pub(crate) fn expected_words(
     alloc: Global,
     source: &Source<'_>,

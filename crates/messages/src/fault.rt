@@ -1,4 +1,4 @@
-// The fault of a C text, and how it prints.
+//! The fault of a C text, and how it prints.
 
 ghost use Rattle.std.specs.Prelude.{Some};
 ghost use Rattle.messages.specs.Texts.{source_fault_text};
@@ -18,7 +18,7 @@ pub enum SourceFault {
 }
 
 impl SourceFault {
-    /// Where the fault lies in its text; none where memory was refused.
+    /// Returns where the fault lies in its text; none if memory ran out.
     pub fn offset(self) -> Option<usize> {
         match self {
             SourceFault::Front(fault) if fault.kind == FrontFaultKind::NoMemory => None,

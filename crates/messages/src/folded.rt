@@ -1,10 +1,10 @@
-// The values of constant expressions, as far as warnings ask for them.
+//! The values of constant expressions, as far as warnings ask for them.
 
 use c_tokens::IntegerType;
 use c_tree::{BinaryOp, UnaryOp};
 use words::Sign;
 
-/// How the words of a type are read.
+/// Returns how the words of a type are read.
 fn sign(integer_type: IntegerType) -> Sign {
     match integer_type {
         IntegerType::SignedInt => Sign::Signed,
@@ -12,7 +12,7 @@ fn sign(integer_type: IntegerType) -> Sign {
     }
 }
 
-/// The value of an operator before a constant; None where it overflows, or the operand isn't known.
+/// Returns the value of an operator before a constant; None if it overflows, or the operand isn't known.
 pub(crate) fn folded_unary(
     operator: UnaryOp,
     integer_type: IntegerType,
@@ -27,7 +27,7 @@ pub(crate) fn folded_unary(
     }
 }
 
-/// The value of an operator between two words; None where it has no meaning.
+/// Returns the value of an operator between two words; None if it has no meaning.
 fn value_between(operator: BinaryOp, sign: Sign, x: u32, y: u32) -> Option<u32> {
     match operator {
         BinaryOp::Multiply => sign.times(x, y),
@@ -51,7 +51,7 @@ fn value_between(operator: BinaryOp, sign: Sign, x: u32, y: u32) -> Option<u32> 
     }
 }
 
-/// Whether an operator's left operand decides, so that the right one isn't reached.
+/// Reports whether an operator's left operand decides, so that the right one isn't reached.
 pub(crate) fn is_decided(operator: BinaryOp, left: Option<u32>) -> bool {
     match (operator, left) {
         (BinaryOp::LogicalAnd, Some(0)) => true,
@@ -60,7 +60,7 @@ pub(crate) fn is_decided(operator: BinaryOp, left: Option<u32>) -> bool {
     }
 }
 
-/// The value of an operator between constants, in the type that it computes in; None where it isn't known or has no meaning.
+/// Returns the value of an operator between constants, in the type that it computes in; None if it isn't known or has no meaning.
 pub(crate) fn folded_binary(
     operator: BinaryOp,
     integer_type: IntegerType,

@@ -1,4 +1,4 @@
-// What is written in place of the names of C's headers stdint.h, stdbool.h, stddef.h and limits.h.
+//! What is written in place of the names of C's headers stdint.h, stdbool.h, stddef.h and limits.h.
 
 use crate::source::{Source, Told, before, told_of};
 use c_tokens::Mark;
@@ -72,7 +72,7 @@ const CONSTANTS: &[Told] = &[
     (b"SIZE_MAX", "write 4294967295u"),
 ];
 
-/// What is written in place of a name of these headers.
+/// Returns what is written in place of a name of these headers.
 pub(crate) fn written_for(name: &[u8]) -> Option<&'static str> {
     match told_of(TYPES, name) {
         Some(told) => Some(told),
@@ -80,7 +80,7 @@ pub(crate) fn written_for(name: &[u8]) -> Option<&'static str> {
     }
 }
 
-/// Whether a token declares this name.
+/// Reports whether a token declares this name.
 fn is_declared_somewhere(source: &Source<'_>, name: &[u8]) -> bool {
     for k in 0..source.count() {
         if source.is_declared(k) && source.spelling(k) == name {
@@ -90,7 +90,7 @@ fn is_declared_somewhere(source: &Source<'_>, name: &[u8]) -> bool {
     false
 }
 
-/// Whether a token stands behind a cast to a type of these headers.
+/// Reports whether a token stands after a cast to a type of these headers.
 fn is_behind_cast(source: &Source<'_>, k: usize) -> bool {
     let name = before(k, 2);
     source.is(before(k, 1), Mark::RightParen)
@@ -99,7 +99,7 @@ fn is_behind_cast(source: &Source<'_>, k: usize) -> bool {
         && !is_declared_somewhere(source, source.spelling(name))
 }
 
-/// What to write in place of a type of these headers, or of a cast to one, if a token or the one before names it.
+/// Returns what to write in place of a type of these headers, or of a cast to one, if a token or the one before names it.
 pub(crate) fn type_hint(source: &Source<'_>, k: usize) -> Option<&'static str> {
     if is_behind_cast(source, k) {
         return Some(NO_CASTS);

@@ -1,4 +1,4 @@
-// What is said of bytes that begin no token, and of what C has and this subset leaves out.
+//! What is said of bytes that begin no token, and of what C has and this subset leaves out.
 
 use crate::said::Said;
 use crate::source::{Source, Told, back, before, front, shown_text, spelled_at, told_of};
@@ -16,6 +16,7 @@ const IF_ELSE: &str = "write if and else";
 const NO_FLOATING: &str = "floating point isn't in this subset of C: write int or unsigned";
 
 /// What C has and the subset leaves out, with what to write in its place.
+#[rattlefmt::skip]
 const LEFT_OUT: &[Told] = &[
     (b"do", "write while (1) { s if (!(e)) break; }"),
     (b"switch", IF_ELSE),
@@ -24,18 +25,12 @@ const LEFT_OUT: &[Told] = &[
     (b"goto", "write a loop with break"),
     (b"struct", NO_MEMBERS),
     (b"union", NO_MEMBERS),
-    (
-        b"enum",
-        "write a variable at file scope for each constant: int red = 0;",
-    ),
+    (b"enum", "write a variable at file scope for each constant: int red = 0;"),
     (b"typedef", "write int or unsigned in its place"),
     (b"sizeof", "write the number: int and unsigned have 4 bytes"),
     (b"const", LEAVE_OUT),
     (b"volatile", LEAVE_OUT),
-    (
-        b"static",
-        "leave it out; what outlives a call stands at file scope",
-    ),
+    (b"static", "leave it out; what outlives a call stands at file scope"),
     (b"extern", "leave it out: a program is one text"),
     (b"auto", LEAVE_OUT),
     (b"register", LEAVE_OUT),
@@ -56,7 +51,7 @@ const LEFT_OUT: &[Told] = &[
     (b"??", "trigraphs aren't read: write the sign itself"),
 ];
 
-/// `++`, `--` and assignments with an operator, and what is written behind `i = i` in their place.
+/// `++`, `--` and assignments with an operator, and what is written after `i = i` in their place.
 const COMPOUND: &[Told] = &[
     (b"++", "+ 1"),
     (b"--", "- 1"),
@@ -73,18 +68,13 @@ const COMPOUND: &[Told] = &[
 ];
 
 /// Directives that have a hint of their own.
+#[rattlefmt::skip]
 const DIRECTIVES: &[Told] = &[
-    (
-        b"include",
-        "there is nothing to include: out(e); prints a word",
-    ),
-    (
-        b"define",
-        "write a variable at file scope, as int size = 16;, or the number itself",
-    ),
+    (b"include", "there is nothing to include: out(e); prints a word"),
+    (b"define", "write a variable at file scope, as int size = 16;, or the number itself"),
 ];
 
-/// The numbers of characters behind a backslash (C99 5.2.2, 6.4.4.4).
+/// The numbers of characters after a backslash (C99 5.2.2, 6.4.4.4).
 const ESCAPES: &[Told] = &[
     (b"n", "10"),
     (b"t", "9"),
@@ -105,7 +95,7 @@ const NOT_IN_COMMENTS: &[&[u8]] = &[b"\\", b"??"];
 /// What is said of a word or a sign that C has and the subset leaves out.
 const LEFT_OUT_HERE: &str = "isn't in this subset of C";
 
-/// What a text is that begins with a byte order mark, and what to do; None where it doesn't.
+/// Returns what a text is that begins with a byte order mark, and what to do; None if it doesn't.
 fn mark_hint(text: &[u8]) -> Option<&'static str> {
     match text {
         [239, 187, 191, ..] => Some("save the file as UTF-8 without it"),
@@ -114,7 +104,7 @@ fn mark_hint(text: &[u8]) -> Option<&'static str> {
     }
 }
 
-/// What is said of a byte that no text may have.
+/// Says what is wrong with a byte that no text may have.
 pub(crate) fn say_byte(said: &mut Said, text: &[u8], at: usize) {
     if at == 0
         && let Some(hint) = mark_hint(text)
@@ -127,7 +117,7 @@ pub(crate) fn say_byte(said: &mut Said, text: &[u8], at: usize) {
     said.hint("write ASCII alone: bytes 32 to 126, tab and the ends of lines");
 }
 
-/// The word or the sign behind blanks.
+/// Returns the word or the sign after blanks.
 pub(crate) fn behind_blanks<'t>(text: &'t [u8], at: usize) -> &'t [u8] {
     let rest = back(text, at);
     for (n, byte) in rest.iter().enumerate() {
@@ -138,7 +128,7 @@ pub(crate) fn behind_blanks<'t>(text: &'t [u8], at: usize) -> &'t [u8] {
     b""
 }
 
-/// The name before `++` or behind it, or `i`.
+/// Returns the name before `++` or after it, or `i`.
 fn counted_name<'t>(source: &Source<'t>, at: usize) -> &'t str {
     let k = before(source.index_of(at), 1);
     if source.is_name(k) {
@@ -151,7 +141,7 @@ fn counted_name<'t>(source: &Source<'t>, at: usize) -> &'t str {
     }
 }
 
-/// A sign that assigns to a name and computes with it.
+/// Says what to write for a sign that assigns to a name and computes with it.
 fn say_compound(said: &mut Said, name: &str, written: &str) {
     said.hint("write ");
     said.hint(name);
@@ -161,7 +151,7 @@ fn say_compound(said: &mut Said, name: &str, written: &str) {
     said.hint(written);
 }
 
-/// What stands behind `#`.
+/// Says what to do about what stands after `#`.
 fn say_directive(said: &mut Said, text: &[u8], at: usize) {
     let word = behind_blanks(text, at.saturating_add(1));
     said.say("'#");
@@ -188,7 +178,7 @@ fn say_quoted(said: &mut Said, text: &[u8], at: usize) {
     }
 }
 
-/// Whether the offset lies inside a comment: behind the last token stands one that isn't closed before it.
+/// Reports whether the offset lies inside a comment: after the last token stands one that isn't closed before it.
 fn is_in_comment(source: &Source<'_>, at: usize) -> bool {
     let from = match source.index_of(at) {
         0 => 0,
@@ -205,7 +195,7 @@ fn is_in_comment(source: &Source<'_>, at: usize) -> bool {
     is_inside
 }
 
-/// What is written in the place of a sign that the subset leaves out; of a point it depends on what follows.
+/// Returns what is written in the place of a sign that the subset leaves out; of a point it depends on what follows.
 fn left_out(text: &[u8], at: usize) -> Option<&'static str> {
     match back(text, at) {
         [b'.', b'0'..=b'9', ..] => Some(NO_FLOATING),
@@ -213,7 +203,7 @@ fn left_out(text: &[u8], at: usize) -> Option<&'static str> {
     }
 }
 
-/// A sign or a word.
+/// Says what is wrong with a sign or a word.
 fn say_sign(said: &mut Said, source: &Source<'_>, at: usize) {
     let sign = spelled_at(source.text, at);
     if let Some(written) = told_of(COMPOUND, sign) {
@@ -227,12 +217,12 @@ fn say_sign(said: &mut Said, source: &Source<'_>, at: usize) {
     }
 }
 
-/// Whether this is a sign that no comment may have, inside a comment.
+/// Reports whether this is a sign that no comment may have, inside a comment.
 fn is_forbidden(source: &Source<'_>, sign: &[u8], at: usize) -> bool {
     NOT_IN_COMMENTS.contains(&sign) && is_in_comment(source, at)
 }
 
-/// What is said where no token begins.
+/// Says what is wrong where no token begins.
 pub(crate) fn say_token(said: &mut Said, source: &Source<'_>, at: usize) {
     match spelled_at(source.text, at) {
         [b'/', b'*'] => said.say_both("this comment isn't closed", "write */ where it ends"),

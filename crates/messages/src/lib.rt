@@ -88,8 +88,8 @@ fn say_types(
     Ok(())
 }
 
-/// What is wrong with a text that has this fault, and what to write in its place.
-/// Like the reading of the text it descends into it: run it on a thread with a large stack where the text may be hostile.
+/// Returns what is wrong with a text that has this fault, and what to write in its place. Like the reading of the text it descends into it:
+/// run it on a thread with a large stack where the text may be hostile.
 pub fn explain(alloc: Global, text: &[u8], fault: SourceFault) -> Result<Explanation, AllocError>
     ensures { IfOk result IsPrintableExplanation }
 {

@@ -1,10 +1,10 @@
-// Hints that name what is missing further up in the text: a brace or a semicolon.
+//! Hints that name what is missing further up in the text: a brace or a semicolon.
 
 use crate::said::Said;
 use crate::source::{Source, TYPES, before, behind};
 use c_tokens::{Mark, Token};
 
-/// Whether a function's head stands at a token that can't stand: it is the `(` of `type name (`, or the `void` that such a head
+/// Reports whether a function's head stands at a token that can't stand: it is the `(` of `type name (`, or the `void` that such a head
 /// begins with.
 fn is_at_head(source: &Source<'_>, k: usize) -> bool {
     let name = if source.is(k, Mark::Void) {
@@ -17,7 +17,7 @@ fn is_at_head(source: &Source<'_>, k: usize) -> bool {
         && source.is(behind(name, 1), Mark::LeftParen)
 }
 
-/// Names the brace that isn't closed where a function begins inside of another; false where that isn't so.
+/// Names the brace that isn't closed where a function begins inside of another; false if that isn't so.
 fn hint_brace(said: &mut Said, source: &Source<'_>, k: usize) -> bool {
     let Some(brace) = source.open_before(k, Mark::LeftBrace, Mark::RightBrace) else {
         return false;
@@ -31,7 +31,7 @@ fn hint_brace(said: &mut Said, source: &Source<'_>, k: usize) -> bool {
     true
 }
 
-/// Whether a statement or a declaration can begin with a token, or a block end.
+/// Reports whether a statement or a declaration can begin with a token, or a block end.
 fn can_begin(source: &Source<'_>, k: usize) -> bool {
     match source.token(k) {
         Some(Token::The(mark)) => {
@@ -51,7 +51,7 @@ fn can_begin(source: &Source<'_>, k: usize) -> bool {
     }
 }
 
-/// Names the line that lacks a `;` at its end; false where that isn't so.
+/// Names the line that lacks a `;` at its end; false if that isn't so.
 fn hint_semicolon(said: &mut Said, source: &Source<'_>, k: usize, expected: &[&str]) -> bool {
     if k == 0 || !expected.contains(&"';'") || !can_begin(source, k) {
         return false;
@@ -65,7 +65,7 @@ fn hint_semicolon(said: &mut Said, source: &Source<'_>, k: usize, expected: &[&s
     true
 }
 
-/// Says what is missing before a token that can't stand; false where nothing is known.
+/// Says what is missing before a token that can't stand; false if nothing is known.
 pub(crate) fn hint_missing(
     said: &mut Said,
     source: &Source<'_>,

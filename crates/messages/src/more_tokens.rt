@@ -1,4 +1,4 @@
-// The tokens behind the first wrong one that C doesn't have either.
+//! The tokens after the first wrong one that C doesn't have either.
 
 ghost use Rattle.std.specs.Prelude.{◌≤◌, length};
 ghost use Rattle.c_tokens.specs.declared.sizes.TheConstants.{MAX_TEXT};
@@ -13,7 +13,7 @@ use std::alloc::{AllocError, Global};
 /// So many are named at most.
 const NAMED: usize = 8;
 
-/// Where the line of an offset ends.
+/// Returns where the line of an offset ends.
 pub(crate) fn line_end(text: &[u8], at: usize) -> usize {
     for (n, byte) in back(text, at).iter().enumerate() {
         if *byte == b'\n' {
@@ -23,7 +23,7 @@ pub(crate) fn line_end(text: &[u8], at: usize) -> usize {
     text.len()
 }
 
-/// Where a string or a character that begins at an offset ends, at the latest with its line.
+/// Returns where a string or a character that begins at an offset ends, at the latest with its line.
 fn quoted_end(text: &[u8], at: usize, quote: u8) -> usize {
     let mut is_escaped = false;
     for (n, byte) in back(text, at.saturating_add(1)).iter().enumerate() {
@@ -35,7 +35,7 @@ fn quoted_end(text: &[u8], at: usize, quote: u8) -> usize {
     text.len()
 }
 
-/// Where a number that is no constant ends.
+/// Returns where a number that is no constant ends.
 fn number_end(text: &[u8], at: usize) -> usize {
     for (n, byte) in back(text, at).iter().enumerate() {
         if !is_word(*byte) && *byte != b'.' {
@@ -45,7 +45,7 @@ fn number_end(text: &[u8], at: usize) -> usize {
     text.len()
 }
 
-/// Where tokens can be read on behind a wrong one; None in a comment, and where it can't be told.
+/// Returns where tokens can be read on after a wrong one; None in a comment, and where it can't be told.
 fn goes_on(text: &[u8], at: usize) -> Option<usize> {
     match spelled_at(text, at) {
         [b'/', b'*'] | [b'\\'] | [b'?', b'?'] => None,
@@ -55,7 +55,7 @@ fn goes_on(text: &[u8], at: usize) -> Option<usize> {
     }
 }
 
-/// The next place that is refused, from an offset on.
+/// Returns the next place that is refused, from an offset on.
 fn next_refused(
     alloc: Global,
     text: &[u8],
@@ -84,7 +84,7 @@ fn say_one(said: &mut Said, text: &[u8], at: usize) {
     said.more("'");
 }
 
-/// Says which tokens behind the first wrong one C doesn't have either, as far as they can be read.
+/// Says which tokens after the first wrong one C doesn't have either, as far as they can be read.
 pub(crate) fn say_more(
     alloc: Global,
     said: &mut Said,

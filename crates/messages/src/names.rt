@@ -1,4 +1,4 @@
-// The names that a text declares, up to a place: in a text that spells a program, as c_types has them.
+//! The names that a text declares, up to a place: in a text that spells a program, as c_types has them.
 
 use crate::source::{Source, before, behind};
 use c_tokens::Mark;
@@ -12,7 +12,7 @@ fn leave(names: &mut Vec<usize>, scopes: &mut Vec<usize>) {
     }
 }
 
-/// The names that are in sight at a token, by the tokens that declare them, the innermost last.
+/// Returns the names that are in sight at a token, by the tokens that declare them, the innermost last.
 pub(crate) fn names_before(
     alloc: Global,
     source: &Source<'_>,
@@ -35,7 +35,7 @@ pub(crate) fn names_before(
     Ok(names)
 }
 
-/// The token among these names that declares the name of a token, the innermost one.
+/// Returns the token among these names that declares the name of a token, the innermost one.
 pub(crate) fn in_sight(source: &Source<'_>, names: &[usize], k: usize) -> Option<usize> {
     let mut found = None;
     for declared in names {
@@ -46,7 +46,7 @@ pub(crate) fn in_sight(source: &Source<'_>, names: &[usize], k: usize) -> Option
     found
 }
 
-/// The function that is declared last before a token: at a place inside a function that one.
+/// Returns the function that is declared last before a token: at a place inside a function that one.
 pub(crate) fn last_function(source: &Source<'_>, k: usize) -> Option<usize> {
     for n in 1..behind(k, 1) {
         let token = before(k, n);

@@ -1,4 +1,4 @@
-// What is said of a fault, as it is written.
+//! What is said of a fault, as it is written.
 
 ghost use Rattle.std.specs.Prelude.{IfOk};
 ghost use Rattle.commands.specs.Texts.{IsPrintableExplanation};
@@ -37,7 +37,7 @@ impl Said {
         }
     }
 
-    /// A whole message and a whole hint.
+    /// Says a whole message and a whole hint.
     pub(crate) fn say_both(&mut self, message: &str, hint: &str) {
         self.say(message);
         self.hint(hint);
@@ -83,7 +83,7 @@ impl Said {
         }
     }
 
-    /// How much else is wrong, and how much of that is named at most.
+    /// Counts how much else is wrong, and how much of that is named at most.
     pub(crate) fn count_more(&mut self, count: usize, named: usize) {
         self.count = count;
         if named < count {
@@ -91,7 +91,7 @@ impl Said {
         }
     }
 
-    /// What was written, unless memory was refused.
+    /// Returns what was written, unless memory was refused.
     pub(crate) fn end(self, alloc: Global) -> Result<Explanation, AllocError>
         ensures { IfOk result IsPrintableExplanation }
     {

@@ -1,4 +1,4 @@
-// The tokens of a text, by their numbers, as messages speak of them.
+//! The tokens of a text, by their numbers, as messages speak of them.
 
 ghost use Rattle.std.specs.Prelude.{◌≤◌, length};
 
@@ -23,7 +23,7 @@ pub(crate) const TYPES: &[Mark] = &[Mark::Int, Mark::Unsigned, Mark::Char, Mark:
 /// What stands before a statement or a declaration.
 const ENDS: &[Mark] = &[Mark::Semicolon, Mark::LeftBrace, Mark::RightBrace];
 
-/// The first bytes of a text, at most so many.
+/// Returns the first bytes of a text, at most so many.
 pub(crate) fn front<'t>(text: &'t [u8], n: usize) -> &'t [u8]
     ensures most { length result.now ≤ n }
     ensures part { length result.now ≤ length text.now }
@@ -31,7 +31,7 @@ pub(crate) fn front<'t>(text: &'t [u8], n: usize) -> &'t [u8]
     if n < text.len() { &text[..n] } else { text }
 }
 
-/// The bytes of a text from an offset on.
+/// Returns the bytes of a text from an offset on.
 pub(crate) fn back<'t>(text: &'t [u8], n: usize) -> &'t [u8]
     ensures part { length result.now ≤ length text.now }
 {
@@ -42,7 +42,7 @@ pub(crate) fn back<'t>(text: &'t [u8], n: usize) -> &'t [u8]
     }
 }
 
-/// The text that a message shows of bytes.
+/// Returns the text that a message shows of bytes.
 pub(crate) fn shown_text<'t>(bytes: &'t [u8]) -> &'t str {
     str::from_utf8(front(bytes, SHOWN)).unwrap_or("?")
 }
@@ -50,7 +50,7 @@ pub(crate) fn shown_text<'t>(bytes: &'t [u8]) -> &'t str {
 /// A word or a sign, and what is told of it.
 pub(crate) type Told = (&'static [u8], &'static str);
 
-/// What a table tells of a word.
+/// Returns what a table tells of a word.
 pub(crate) fn told_of(table: &[Told], word: &[u8]) -> Option<&'static str> {
     for (known, told) in table {
         if word == *known {
@@ -60,12 +60,12 @@ pub(crate) fn told_of(table: &[Told], word: &[u8]) -> Option<&'static str> {
     None
 }
 
-/// Whether a byte can stand in a name.
+/// Reports whether a byte can stand in a name.
 pub(crate) fn is_word(byte: u8) -> bool {
     byte.is_ascii_alphanumeric() || byte == b'_'
 }
 
-/// How many bytes of a word stand at the front.
+/// Returns how many bytes of a word stand at the front.
 fn word_length(text: &[u8]) -> usize {
     for (n, byte) in text.iter().enumerate() {
         if !is_word(*byte) {
@@ -75,7 +75,7 @@ fn word_length(text: &[u8]) -> usize {
     text.len()
 }
 
-/// How many bytes the longest sign at the front has.
+/// Returns how many bytes the longest sign at the front has.
 fn sign_length(text: &[u8]) -> usize {
     for sign in LONG_SIGNS {
         if text.starts_with(*sign) {
@@ -85,7 +85,7 @@ fn sign_length(text: &[u8]) -> usize {
     1
 }
 
-/// The word or the longest sign at an offset.
+/// Returns the word or the longest sign at an offset.
 pub(crate) fn spelled_at<'t>(text: &'t [u8], at: usize) -> &'t [u8] {
     let rest = back(text, at);
     let length = match word_length(rest) {
@@ -104,7 +104,7 @@ pub(crate) struct Source<'t> {
 }
 
 impl<'t> Source<'t> {
-    /// A refusal inside a comment leaves an open comment before it, so at most two refusals stand behind one another.
+    /// Returns a refusal inside a comment leaves an open comment before it, so at most two refusals stand after one another.
     pub(crate) fn read(alloc: Global, text: &'t [u8]) -> Result<Source<'t>, AllocError> {
         let text = front(text, MAX_TEXT);
         let mut end = text.len();
@@ -124,7 +124,7 @@ impl<'t> Source<'t> {
         Ok(Source::without_tokens(alloc, text))
     }
 
-    /// A text none of whose tokens are known.
+    /// Returns a text none of whose tokens are known.
     pub(crate) fn without_tokens(alloc: Global, text: &'t [u8]) -> Source<'t> {
         Source {
             text,
@@ -133,7 +133,7 @@ impl<'t> Source<'t> {
         }
     }
 
-    /// How many tokens there are.
+    /// Returns how many tokens there are.
     pub(crate) fn count(&self) -> usize {
         self.tokens.len()
     }
@@ -142,7 +142,7 @@ impl<'t> Source<'t> {
         self.tokens.get(k).copied()
     }
 
-    /// Where a token begins; the text's length where there is none.
+    /// Returns where a token begins; the text's length where there is none.
     pub(crate) fn at(&self, k: usize) -> usize {
         match self.places.get(k) {
             Some(place) => *place as usize,
@@ -150,7 +150,7 @@ impl<'t> Source<'t> {
         }
     }
 
-    /// The number of the first token that doesn't begin before the offset.
+    /// Returns the number of the first token that doesn't begin before the offset.
     pub(crate) fn index_of(&self, at: usize) -> usize {
         for (k, place) in self.places.iter().enumerate() {
             if *place as usize >= at {
@@ -171,7 +171,7 @@ impl<'t> Source<'t> {
         self.mark(k) == Some(mark)
     }
 
-    /// Whether a token is one of these.
+    /// Reports whether a token is one of these.
     pub(crate) fn is_one(&self, k: usize, marks: &[Mark]) -> bool {
         match self.token(k) {
             Some(Token::The(mark)) => marks.contains(&mark),
@@ -183,13 +183,13 @@ impl<'t> Source<'t> {
         matches!(self.token(k), Some(Token::Name(_)))
     }
 
-    /// Whether a token is a name that is declared here: in a text that spells a program each such name, and no other, stands
-    /// behind its type.
+    /// Reports whether a token is a name that is declared here: in a text that spells a program each such name, and no other, stands after
+    /// its type.
     pub(crate) fn is_declared(&self, k: usize) -> bool {
         self.is_name(k) && self.is_one(before(k, 1), TYPES)
     }
 
-    /// The innermost bracket of a kind that is open before a token.
+    /// Returns the innermost bracket of a kind that is open before a token.
     pub(crate) fn open_before(&self, k: usize, opening: Mark, closing: Mark) -> Option<usize> {
         let mut depth = 0usize;
         for n in 1..behind(k, 1) {
@@ -207,7 +207,7 @@ impl<'t> Source<'t> {
         None
     }
 
-    /// The first token of the statement or the declaration that is open before a token.
+    /// Returns the first token of the statement or the declaration that is open before a token.
     pub(crate) fn first_of(&self, k: usize) -> usize {
         for n in 1..behind(k, 1) {
             let token = before(k, n);
@@ -218,28 +218,28 @@ impl<'t> Source<'t> {
         0
     }
 
-    /// The bytes of a token.
+    /// Returns the bytes of a token.
     pub(crate) fn spelling(&self, k: usize) -> &'t [u8] {
         spelled_at(self.text, self.at(k))
     }
 
-    /// What a message shows of a token.
+    /// Returns what a message shows of a token.
     pub(crate) fn token_text(&self, k: usize) -> &'t str {
         shown_text(self.spelling(k))
     }
 
-    /// Line and column of a token.
+    /// Returns line and column of a token.
     pub(crate) fn spot(&self, k: usize) -> Spot {
         spot_of(self.text, self.at(k))
     }
 }
 
-/// The number of the token so many before this one; no token has it where there are fewer.
+/// Returns the number of the token so many before this one; no token has it where there are fewer.
 pub(crate) fn before(k: usize, n: usize) -> usize {
     if n <= k { k - n } else { usize::MAX }
 }
 
-/// The number of the token so many behind this one.
+/// Returns the number of the token so many after this one.
 pub(crate) fn behind(k: usize, n: usize) -> usize {
     k.saturating_add(n)
 }

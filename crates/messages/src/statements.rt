@@ -1,4 +1,4 @@
-// The statements of a function with their places in the text. A typed tree has none, but the same form as the syntax tree.
+//! The statements of a function with their places in the text. A typed tree has none, but the same form as the syntax tree.
 
 use c_tree::{Expression, ForParts, FunctionDefinition, Item, Simple, Statement};
 use c_typed::TypedStatement;
@@ -18,7 +18,8 @@ pub struct PlacedStatement<'a> {
 fn first_name(e: &Expression) -> Option<usize> {
     match e {
         Expression::Constant(_) => None,
-        Expression::Name(name) | Expression::Index(name, _) => Some(name.at as usize),
+        Expression::Name(name) => Some(name.at as usize),
+        Expression::Index(parts) => Some(parts.0.at as usize),
         Expression::Unary(_, part) => first_name(part),
         Expression::Binary(_, operands) => {
             let (left, right) = &**operands;

@@ -1,4 +1,4 @@
-// What is said of the first token that can't stand.
+//! What is said of the first token that can't stand.
 
 use crate::headers::{NO_CASTS, type_hint};
 use crate::missing::hint_missing;
@@ -91,243 +91,59 @@ const VOID: &str = "a variable is int or unsigned";
 const STATEMENT: &str = "a statement is an assignment or a call: x = x + 1; f(x);";
 
 /// What is written in place of calls that the subset leaves out. The first hint holds whose facts hold, of these and then of the others.
+#[rattlefmt::skip]
 const CALL_HINTS: &[(&[Fact], &str)] = &[
-    (
-        &[
-            Fact::In(Place::Function),
-            Fact::Is(Mark::LeftParen),
-            Fact::BehindName,
-            Fact::BeginsWithReturn,
-        ],
-        "a call stands alone or behind 'name =': int r; r = f(1); return r;",
-    ),
-    (
-        &[
-            Fact::In(Place::Function),
-            Fact::Is(Mark::LeftParen),
-            Fact::BehindName,
-            Fact::Second(Mark::Assign),
-            Fact::Third(Mark::RightBracket),
-        ],
-        "a call stands alone or behind 'name =': int r; r = f(1); a[0] = r;",
-    ),
-    (
-        &[
-            Fact::In(Place::Function),
-            Fact::Is(Mark::LeftParen),
-            Fact::BehindName,
-        ],
-        CALL,
-    ),
+    (&[Fact::In(Place::Function), Fact::Is(Mark::LeftParen), Fact::BehindName, Fact::BeginsWithReturn],
+        "a call stands alone or behind 'name =': int r; r = f(1); return r;"),
+    (&[Fact::In(Place::Function), Fact::Is(Mark::LeftParen), Fact::BehindName, Fact::Second(Mark::Assign), Fact::Third(Mark::RightBracket)],
+        "a call stands alone or behind 'name =': int r; r = f(1); a[0] = r;"),
+    (&[Fact::In(Place::Function), Fact::Is(Mark::LeftParen), Fact::BehindName], CALL),
 ];
 
 /// What is written in place of the rest that C has and the subset leaves out. (rattle 13f: `--backend rattle` has no room for all
 /// hints in one function)
+#[rattlefmt::skip]
 const HINTS: &[(&[Fact], &str)] = &[
-    (
-        &[
-            Fact::In(Place::Function),
-            Fact::IsOperator,
-            Fact::BehindCall,
-        ],
-        CALL,
-    ),
-    (
-        &[Fact::IsPointerSign, Fact::BehindNoOperand],
-        "there are no pointers: write an index into an array at file scope",
-    ),
-    (
-        &[
-            Fact::IsType,
-            Fact::Behind(Mark::LeftParen),
-            Fact::Second(Mark::For),
-        ],
-        "declare it before the loop: int i; for (i = 0; i < 3; i = i + 1)",
-    ),
-    (
-        &[
-            Fact::IsType,
-            Fact::Behind(Mark::LeftParen),
-            Fact::In(Place::Function),
-        ],
-        NO_CASTS,
-    ),
+    (&[Fact::In(Place::Function), Fact::IsOperator, Fact::BehindCall], CALL),
+    (&[Fact::IsPointerSign, Fact::BehindNoOperand], "there are no pointers: write an index into an array at file scope"),
+    (&[Fact::IsType, Fact::Behind(Mark::LeftParen), Fact::Second(Mark::For)],
+        "declare it before the loop: int i; for (i = 0; i < 3; i = i + 1)"),
+    (&[Fact::IsType, Fact::Behind(Mark::LeftParen), Fact::In(Place::Function)], NO_CASTS),
     (&[Fact::Is(Mark::Char)], CHAR),
-    (
-        &[
-            Fact::In(Place::Function),
-            Fact::IsType,
-            Fact::Behind(Mark::RightParen),
-        ],
-        NEEDS_BRACES,
-    ),
-    (
-        &[
-            Fact::In(Place::Function),
-            Fact::IsType,
-            Fact::Behind(Mark::Else),
-        ],
-        NEEDS_BRACES,
-    ),
+    (&[Fact::In(Place::Function), Fact::IsType, Fact::Behind(Mark::RightParen)], NEEDS_BRACES),
+    (&[Fact::In(Place::Function), Fact::IsType, Fact::Behind(Mark::Else)], NEEDS_BRACES),
     (&[Fact::Is(Mark::Void)], VOID),
-    (
-        &[
-            Fact::Is(Mark::Comma),
-            Fact::BeginsWithType,
-            Fact::In(Place::NoParentheses),
-        ],
-        "one declaration has one name: int i; int j;",
-    ),
-    (
-        &[Fact::Is(Mark::Comma), Fact::In(Place::Function)],
-        "there is no comma operator: write two statements",
-    ),
+    (&[Fact::Is(Mark::Comma), Fact::BeginsWithType, Fact::In(Place::NoParentheses)], "one declaration has one name: int i; int j;"),
+    (&[Fact::Is(Mark::Comma), Fact::In(Place::Function)], "there is no comma operator: write two statements"),
     (&[Fact::Is(Mark::Comma)], PARAMETER),
-    (
-        &[
-            Fact::Is(Mark::LeftBracket),
-            Fact::Behind(Mark::RightBracket),
-        ],
-        "an array has one index: write a[8 * i + j]",
-    ),
-    (
-        &[
-            Fact::Is(Mark::LeftBracket),
-            Fact::BehindDeclared,
-            Fact::In(Place::Function),
-        ],
-        "an array stands at file scope: put its declaration before the function",
-    ),
-    (
-        &[Fact::Is(Mark::LeftBracket), Fact::BehindDeclared],
-        "an array can't be passed: pass an index into one at file scope",
-    ),
-    (
-        &[
-            Fact::Behind(Mark::LeftBracket),
-            Fact::BeginsWithType,
-            Fact::In(Place::File),
-        ],
-        "an array's length is a number: int a[16];",
-    ),
-    (
-        &[Fact::Is(Mark::LeftBrace), Fact::Behind(Mark::Assign)],
-        ARRAY_VALUES,
-    ),
-    (
-        &[
-            Fact::Is(Mark::Assign),
-            Fact::Behind(Mark::RightBracket),
-            Fact::BeginsWithType,
-        ],
-        ARRAY_VALUES,
-    ),
-    (
-        &[
-            Fact::Is(Mark::Assign),
-            Fact::In(Place::Function),
-            Fact::In(Place::NoBrackets),
-            Fact::In(Place::Parentheses),
-        ],
-        "'=' assigns and is a statement of its own: write '==' to compare",
-    ),
-    (
-        &[
-            Fact::Is(Mark::Assign),
-            Fact::In(Place::Function),
-            Fact::In(Place::NoBrackets),
-        ],
-        "an assignment is a statement of its own: b = c; a = b;",
-    ),
-    (
-        &[
-            Fact::In(Place::File),
-            Fact::Begins(Mark::Void),
-            Fact::BehindDeclared,
-        ],
-        VOID,
-    ),
-    (
-        &[
-            Fact::In(Place::File),
-            Fact::BeginsWithType,
-            Fact::Second(Mark::Char),
-        ],
-        CHAR,
-    ),
-    (
-        &[
-            Fact::In(Place::File),
-            Fact::BeginsWithType,
-            Fact::BehindAssign,
-        ],
-        "a variable at file scope begins with a number: compute its value in main",
-    ),
-    (
-        &[
-            Fact::In(Place::File),
-            Fact::Is(Mark::Semicolon),
-            Fact::Behind(Mark::RightParen),
-        ],
-        "there are no prototypes: put the function before its callers",
-    ),
-    (
-        &[
-            Fact::In(Place::File),
-            Fact::Is(Mark::RightParen),
-            Fact::Behind(Mark::LeftParen),
-        ],
-        "write (void) where there are no parameters",
-    ),
-    (
-        &[Fact::In(Place::File), Fact::In(Place::Parentheses)],
-        PARAMETER,
-    ),
-    (
-        &[Fact::Is(Mark::Else)],
-        "put the statements between if and else into braces",
-    ),
-    (
-        &[Fact::In(Place::File), Fact::Is(Mark::RightBrace)],
-        "it closes nothing: a '{' before it is missing, or this is one too many",
-    ),
-    (
-        &[
-            Fact::Is(Mark::Colon),
-            Fact::In(Place::Second),
-            Fact::BeginsWithName,
-        ],
-        "there are no labels: write a loop with break",
-    ),
-    (
-        &[Fact::In(Place::File), Fact::In(Place::First)],
-        "a declaration begins with int, unsigned or void; statements stand in functions",
-    ),
+    (&[Fact::Is(Mark::LeftBracket), Fact::Behind(Mark::RightBracket)], "an array has one index: write a[8 * i + j]"),
+    (&[Fact::Is(Mark::LeftBracket), Fact::BehindDeclared, Fact::In(Place::Function)],
+        "an array stands at file scope: put its declaration before the function"),
+    (&[Fact::Is(Mark::LeftBracket), Fact::BehindDeclared], "an array can't be passed: pass an index into one at file scope"),
+    (&[Fact::Behind(Mark::LeftBracket), Fact::BeginsWithType, Fact::In(Place::File)], "an array's length is a number: int a[16];"),
+    (&[Fact::Is(Mark::LeftBrace), Fact::Behind(Mark::Assign)], ARRAY_VALUES),
+    (&[Fact::Is(Mark::Assign), Fact::Behind(Mark::RightBracket), Fact::BeginsWithType], ARRAY_VALUES),
+    (&[Fact::Is(Mark::Assign), Fact::In(Place::Function), Fact::In(Place::NoBrackets), Fact::In(Place::Parentheses)],
+        "'=' assigns and is a statement of its own: write '==' to compare"),
+    (&[Fact::Is(Mark::Assign), Fact::In(Place::Function), Fact::In(Place::NoBrackets)],
+        "an assignment is a statement of its own: b = c; a = b;"),
+    (&[Fact::In(Place::File), Fact::Begins(Mark::Void), Fact::BehindDeclared], VOID),
+    (&[Fact::In(Place::File), Fact::BeginsWithType, Fact::Second(Mark::Char)], CHAR),
+    (&[Fact::In(Place::File), Fact::BeginsWithType, Fact::BehindAssign],
+        "a variable at file scope begins with a number: compute its value in main"),
+    (&[Fact::In(Place::File), Fact::Is(Mark::Semicolon), Fact::Behind(Mark::RightParen)],
+        "there are no prototypes: put the function before its callers"),
+    (&[Fact::In(Place::File), Fact::Is(Mark::RightParen), Fact::Behind(Mark::LeftParen)], "write (void) where there are no parameters"),
+    (&[Fact::In(Place::File), Fact::In(Place::Parentheses)], PARAMETER),
+    (&[Fact::Is(Mark::Else)], "put the statements between if and else into braces"),
+    (&[Fact::In(Place::File), Fact::Is(Mark::RightBrace)], "it closes nothing: a '{' before it is missing, or this is one too many"),
+    (&[Fact::Is(Mark::Colon), Fact::In(Place::Second), Fact::BeginsWithName], "there are no labels: write a loop with break"),
+    (&[Fact::In(Place::File), Fact::In(Place::First)], "a declaration begins with int, unsigned or void; statements stand in functions"),
     (&[Fact::In(Place::First), Fact::IsConstant], STATEMENT),
-    (
-        &[Fact::In(Place::First), Fact::Is(Mark::LeftParen)],
-        STATEMENT,
-    ),
-    (
-        &[Fact::In(Place::Second), Fact::BeginsWithName, Fact::IsName],
-        "the types are int and unsigned",
-    ),
-    (
-        &[
-            Fact::In(Place::Second),
-            Fact::BeginsWithName,
-            Fact::Is(Mark::Semicolon),
-        ],
-        STATEMENT,
-    ),
-    (
-        &[
-            Fact::In(Place::Second),
-            Fact::BeginsWithName,
-            Fact::IsOperator,
-        ],
-        STATEMENT,
-    ),
+    (&[Fact::In(Place::First), Fact::Is(Mark::LeftParen)], STATEMENT),
+    (&[Fact::In(Place::Second), Fact::BeginsWithName, Fact::IsName], "the types are int and unsigned"),
+    (&[Fact::In(Place::Second), Fact::BeginsWithName, Fact::Is(Mark::Semicolon)], STATEMENT),
+    (&[Fact::In(Place::Second), Fact::BeginsWithName, Fact::IsOperator], STATEMENT),
 ];
 
 /// Where a token stands that can't stand there.
@@ -355,7 +171,7 @@ impl<'s, 't> Found<'s, 't> {
         }
     }
 
-    /// Whether an operand ends just before it.
+    /// Reports whether an operand ends just before it.
     fn is_behind_operand(&self) -> bool {
         match self.source.token(before(self.token, 1)) {
             Some(Token::Name(_) | Token::Constant(_)) => true,
@@ -364,7 +180,7 @@ impl<'s, 't> Found<'s, 't> {
         }
     }
 
-    /// Whether a call ends just before it.
+    /// Reports whether a call ends just before it.
     fn is_behind_call(&self) -> bool {
         let last = before(self.token, 1);
         let source = self.source;
@@ -374,7 +190,7 @@ impl<'s, 't> Found<'s, 't> {
         }
     }
 
-    /// Whether an `=` stands before it in its declaration.
+    /// Reports whether an `=` stands before it in its declaration.
     fn is_behind_assign(&self) -> bool {
         for k in self.first..self.token {
             if self.source.is(k, Mark::Assign) {
@@ -384,7 +200,7 @@ impl<'s, 't> Found<'s, 't> {
         false
     }
 
-    /// Whether this is so of what stands around it.
+    /// Reports whether this is so of what stands around it.
     fn is_placed(&self, place: &Place) -> bool {
         match place {
             Place::Function => self.brace.is_some(),
@@ -435,7 +251,7 @@ impl<'s, 't> Found<'s, 't> {
         true
     }
 
-    /// The first hint whose facts hold, or none.
+    /// Returns the first hint whose facts hold, or none.
     fn first_hint(&self, hints: &[(&[Fact], &'static str)]) -> &'static str {
         for (facts, hint) in hints {
             if self.hold(*facts) {
@@ -446,12 +262,12 @@ impl<'s, 't> Found<'s, 't> {
     }
 }
 
-/// The first hint about a call whose facts hold, or none.
+/// Returns the first hint about a call whose facts hold, or none.
 fn call_hint(found: &Found<'_, '_>) -> &'static str {
     found.first_hint(CALL_HINTS)
 }
 
-/// The first hint whose facts hold, or none.
+/// Returns the first hint whose facts hold, or none.
 fn hint_by_facts(found: &Found<'_, '_>) -> &'static str {
     match call_hint(found) {
         "" => found.first_hint(HINTS),
@@ -459,7 +275,7 @@ fn hint_by_facts(found: &Found<'_, '_>) -> &'static str {
     }
 }
 
-/// Words in one list, as `a, b or c`.
+/// Writes words in one list, as `a, b or c`.
 fn say_list(said: &mut Said, words: &[&str]) {
     for (n, word) in words.iter().enumerate() {
         if n > 0 {
@@ -469,7 +285,7 @@ fn say_list(said: &mut Said, words: &[&str]) {
     }
 }
 
-/// What is said at the end of a text: which brace isn't closed.
+/// Says what is wrong at the end of a text: which brace isn't closed.
 fn say_end(said: &mut Said, source: &Source<'_>, expected: &[&str]) {
     if expected.is_empty() {
         said.say("the text ends too early");
@@ -488,7 +304,7 @@ fn say_end(said: &mut Said, source: &Source<'_>, expected: &[&str]) {
     }
 }
 
-/// What is said of the first token that can't stand, or of a text that ends too early.
+/// Says what is wrong with the first token that can't stand, or of a text that ends too early.
 pub(crate) fn say_syntax(said: &mut Said, source: &Source<'_>, k: usize, expected: &[&str]) {
     let found = source.token_text(k);
     if k >= source.count() {

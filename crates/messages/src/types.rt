@@ -1,4 +1,4 @@
-// What is said of the faults of a program: names used as what they aren't, and what is missing or too much.
+//! What is said of the faults of a program: names used as what they aren't, and what is missing or too much.
 
 use crate::headers::written_for;
 use crate::names::last_function;
@@ -32,7 +32,7 @@ const TAKEN: &[&str] = &[
     "4 arguments",
 ];
 
-/// A name that is declared somewhere else in the text.
+/// Returns a name that is declared somewhere else in the text.
 fn elsewhere(source: &Source<'_>, k: usize) -> Option<usize> {
     for other in 0..source.count() {
         if source.is_declared(other) && source.spelling(other) == source.spelling(k) {
@@ -42,7 +42,7 @@ fn elsewhere(source: &Source<'_>, k: usize) -> Option<usize> {
     None
 }
 
-/// What is said of a name that no token declares.
+/// Says what is wrong with a name that no token declares.
 fn say_unknown(
     alloc: Global,
     said: &mut Said,
@@ -61,7 +61,7 @@ fn say_unknown(
     Ok(())
 }
 
-/// What is said of a name that isn't in sight, given the names that are.
+/// Says what is wrong with a name that isn't in sight, given the names that are.
 pub(crate) fn say_undeclared(
     alloc: Global,
     said: &mut Said,
@@ -101,7 +101,7 @@ fn say_redeclared(said: &mut Said, source: &Source<'_>, k: usize, first: Option<
     said.hint_number(column);
 }
 
-/// A `return` that doesn't fit its function.
+/// Says what is wrong with a `return` that doesn't fit its function.
 fn say_return(said: &mut Said, source: &Source<'_>, k: usize) {
     let function = last_function(source, k).unwrap_or(source.count());
     let name = source.token_text(function);
@@ -114,7 +114,7 @@ fn say_return(said: &mut Said, source: &Source<'_>, k: usize) {
     }
 }
 
-/// A declaration of a `main` that isn't `int main(void)`, or of an array of length 0.
+/// Says what is wrong with a declaration of a `main` that isn't `int main(void)`, or of an array of length 0.
 fn say_declaration(said: &mut Said, name: &str) {
     said.say_name(
         name,
@@ -126,7 +126,7 @@ fn say_declaration(said: &mut Said, name: &str) {
     );
 }
 
-/// A function's name, by what stands behind it.
+/// Says what is wrong with the use of a function's name, by what stands after it.
 fn say_function(said: &mut Said, name: &str, after: Option<Mark>) {
     match after {
         Some(Mark::LeftParen) => {
@@ -144,7 +144,7 @@ fn say_function(said: &mut Said, name: &str, after: Option<Mark>) {
     }
 }
 
-/// A variable's name or an array's, by what stands behind it.
+/// Says what is wrong with the use of a variable's or an array's name, by what stands after it.
 fn say_variable(said: &mut Said, name: &str, after: Option<Mark>) {
     match after {
         Some(Mark::LeftParen) => said.say_name(name, "is no function: it can't be called"),
@@ -158,7 +158,7 @@ fn say_variable(said: &mut Said, name: &str, after: Option<Mark>) {
     }
 }
 
-/// Whether the name is a function's; `out`, which no text declares, is one.
+/// Reports whether the name is a function's; `out`, which no text declares, is one.
 fn is_function(source: &Source<'_>, declared: Option<usize>) -> bool {
     match declared {
         Some(token) => source.is(behind(token, 1), Mark::LeftParen),
@@ -179,7 +179,7 @@ fn say_other_kind(said: &mut Said, source: &Source<'_>, k: usize, declared: Opti
     }
 }
 
-/// How many arguments or parameters stand between the parentheses that begin at this token.
+/// Returns how many arguments or parameters stand between the parentheses that begin at this token.
 fn arguments(source: &Source<'_>, open: usize) -> usize {
     if source.is_one(behind(open, 1), &[Mark::RightParen, Mark::Void]) {
         return 0;
@@ -230,7 +230,7 @@ fn say_limit(said: &mut Said, source: &Source<'_>, k: usize) {
     }
 }
 
-/// What is said of the first fault of a program, which lies at this token; its name is declared so.
+/// Says what the first fault of a program is, which lies at this token; its name is declared so.
 pub(crate) fn say_kind(
     said: &mut Said,
     source: &Source<'_>,

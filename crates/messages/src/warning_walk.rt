@@ -1,5 +1,5 @@
-// A walk through a program, beside its typed form, that finds what has no meaning. What can't be reached has no warnings, as far
-// as constants tell it.
+//! A walk through a program, beside its typed form, that finds what has no meaning. What can't be reached has no warnings, as far
+//! as constants tell it.
 
 use crate::chains::ChainParts;
 use crate::folded::{folded_binary, folded_unary, is_decided};
@@ -48,7 +48,7 @@ pub(crate) struct Walk<'a, 't> {
     endless: Vec<bool>,
 }
 
-/// The sign of an operator.
+/// Returns the sign of an operator.
 fn mark_of(operator: BinaryOp) -> Mark {
     match operator {
         BinaryOp::Multiply => Mark::Star,
@@ -81,7 +81,7 @@ fn prefix_mark(operator: UnaryOp) -> Mark {
     }
 }
 
-/// Whether this is `<`, `>`, `<=` or `>=`.
+/// Reports whether this is `<`, `>`, `<=` or `>=`.
 fn is_relation(operator: BinaryOp) -> bool {
     matches!(
         operator,
@@ -89,7 +89,7 @@ fn is_relation(operator: BinaryOp) -> bool {
     )
 }
 
-/// Whether an expression compares by one of these.
+/// Reports whether an expression compares by one of these.
 fn is_comparison(e: &Expression) -> bool {
     match e {
         Expression::Binary(operator, _) => is_relation(*operator),
@@ -97,7 +97,7 @@ fn is_comparison(e: &Expression) -> bool {
     }
 }
 
-/// The name that a simple statement begins with.
+/// Returns the name that a simple statement begins with.
 fn first_name(s: &Simple) -> Identifier {
     match s {
         Simple::Assign(name, _) => *name,
@@ -106,7 +106,7 @@ fn first_name(s: &Simple) -> Identifier {
     }
 }
 
-/// A word as a number of its type.
+/// Returns a word as a number of its type.
 fn number(value: u32, integer_type: IntegerType) -> i64 {
     match integer_type {
         IntegerType::SignedInt => i64::from(value.cast_signed()),
@@ -114,7 +114,7 @@ fn number(value: u32, integer_type: IntegerType) -> i64 {
     }
 }
 
-/// Whether a test may come out true, and whether it may come out false.
+/// Reports whether a test may come out true, and whether it may come out false.
 fn outcomes(test: Option<u32>) -> (bool, bool) {
     match test {
         Some(value) => (value != 0, value == 0),
@@ -122,7 +122,7 @@ fn outcomes(test: Option<u32>) -> (bool, bool) {
     }
 }
 
-/// The value of a conditional expression whose test is a constant.
+/// Returns the value of a conditional expression whose test is a constant.
 fn chosen(outcomes: (bool, bool), first: Option<u32>, second: Option<u32>) -> Option<u32> {
     match outcomes {
         (true, false) => first,
@@ -131,7 +131,7 @@ fn chosen(outcomes: (bool, bool), first: Option<u32>, second: Option<u32>) -> Op
     }
 }
 
-/// What is said of an index outside its array, which is shown by its name.
+/// Returns what is said of an index outside its array, which is shown by its name.
 fn index_message(
     alloc: Global,
     index: i64,
@@ -142,7 +142,7 @@ fn index_message(
     format!(in alloc; "the index {index} is outside '{shown}', which has {length} {elements}")
 }
 
-/// What is said of a left shift of an int that has no value.
+/// Returns what is said of a left shift of an int that has no value.
 fn left_shift_message(alloc: Global, value: i32, count: u32) -> Result<String, AllocError> {
     if value < 0 {
         format!(in alloc; "{value} << {count} shifts a negative int")
@@ -171,7 +171,7 @@ impl<'a, 't> Walk<'a, 't> {
         }
     }
 
-    /// The warnings, and where comparisons are compared.
+    /// Returns the warnings, and where comparisons are compared.
     pub(crate) fn end(self) -> (Vec<Warning>, ChainParts) {
         (self.warnings, self.chains)
     }
@@ -181,7 +181,7 @@ impl<'a, 't> Walk<'a, 't> {
         Ok(())
     }
 
-    /// Where the next sign of this kind stands. Signs are asked for in the order of the text.
+    /// Returns where the next sign of this kind stands. Signs are asked for in the order of the text.
     fn next_sign(&mut self, mark: Mark) -> usize {
         for k in self.cursor..self.source.count() {
             if self.source.is(k, mark) {
@@ -193,7 +193,7 @@ impl<'a, 't> Walk<'a, 't> {
         self.source.text.len()
     }
 
-    /// What a message shows of a name.
+    /// Returns what a message shows of a name.
     fn name(&self, name: Identifier) -> &'t str {
         let rest = self.source.text.get(name.at as usize..).unwrap_or(b"");
         shown_text(rest.get(..name.length as usize).unwrap_or(rest))
@@ -219,7 +219,7 @@ impl<'a, 't> Walk<'a, 't> {
         }
     }
 
-    /// An index whose value is known.
+    /// Warns of an index whose value is known.
     fn index(
         &mut self,
         name: Identifier,
@@ -239,7 +239,7 @@ impl<'a, 't> Walk<'a, 't> {
         self.warn(name.at as usize, message)
     }
 
-    /// A shift whose count is known, perhaps with what is shifted.
+    /// Warns of a shift whose count is known, perhaps with what is shifted.
     fn shift(
         &mut self,
         at: usize,
@@ -260,7 +260,7 @@ impl<'a, 't> Walk<'a, 't> {
         }
     }
 
-    /// A left shift of an int, both of which are known.
+    /// Warns of a left shift of an int, both of which are known.
     fn left_shift(&mut self, at: usize, value: u32, count: u32) -> Result<(), AllocError> {
         if Sign::Signed.left_shift(value, count).is_some() {
             return Ok(());
@@ -270,7 +270,7 @@ impl<'a, 't> Walk<'a, 't> {
         self.warn(at, message)
     }
 
-    /// An operator whose right operand is known.
+    /// Warns of an operator whose right operand is known.
     fn operation(
         &mut self,
         at: usize,
@@ -292,7 +292,7 @@ impl<'a, 't> Walk<'a, 't> {
         }
     }
 
-    /// Where an operator stands, behind its left operand, and whether its right one is reached.
+    /// Returns where an operator stands, after its left operand, and whether its right one is reached.
     fn between(&mut self, operator: BinaryOp, left: Option<u32>, is_live: bool) -> (usize, bool) {
         let at = self.next_sign(mark_of(operator));
         (at, is_live && !is_decided(operator, left))
@@ -331,7 +331,8 @@ impl<'a, 't> Walk<'a, 't> {
                 }
                 Ok(None)
             }
-            (Expression::Index(name, index), TypedExpression::Element(_, k, part)) => {
+            (Expression::Index(parts), TypedExpression::Element(_, k, part)) => {
+                let (name, index) = &**parts;
                 self.element(*name, *k, index, part, is_live)?;
                 Ok(None)
             }

@@ -1,4 +1,4 @@
-// Warnings of a program without faults: what has no meaning in C and is plain to see.
+//! Warnings of a program without faults: what has no meaning in C and is plain to see.
 
 use crate::chains::ChainParts;
 use crate::source::Source;
@@ -33,7 +33,7 @@ fn walk_through(
     Ok(())
 }
 
-/// The warning of a comparison of a comparison.
+/// Returns the warning of a comparison of a comparison.
 fn chain_warning(alloc: Global, at: usize) -> Result<Warning, AllocError> {
     let message = String::from_str(
         alloc,
@@ -56,7 +56,7 @@ fn push_chains(
     Ok(())
 }
 
-/// The warnings of a text that spells this program, in no order. It descends into the program: run it on a thread with a large
+/// Returns the warnings of a text that spells this program, in no order. It descends into the program: run it on a thread with a large
 /// stack where the text may be hostile.
 pub fn warnings_of(
     alloc: Global,
