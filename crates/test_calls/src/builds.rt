@@ -46,7 +46,7 @@ pub const SCHEDULER: FilledOrder<ListOrder> = FilledOrder(ListOrder);
 /// The nodes of a pass, as `mcc build` has them without options.
 pub const NODES: u64 = 65_536;
 
-/// The build of a text by so many workers, each of which may link so many terms.
+/// Returns the build of a text by so many workers, each of which may link so many terms.
 pub fn built<T: Threads + Wait + Sync, R: Reorder + Sync>(
     threads: &T,
     alloc: Global,
@@ -60,14 +60,14 @@ pub fn built<T: Threads + Wait + Sync, R: Reorder + Sync>(
     build(threads, alloc, text.as_bytes(), &options, reorder, &Open).ok()
 }
 
-/// The same by one worker without threads.
+/// Returns the same by one worker without threads.
 pub fn built_by_one<R: Reorder>(alloc: Global, text: &str, reorder: &R) -> Option<Built> {
     let phase = PhaseOpts::new(1, NODES, 1024)?;
     let options = BuildOpts { depth: 256, phase };
     build_one(alloc, text.as_bytes(), &options, reorder).ok()
 }
 
-/// Whether the image writes these words and then ends with 0.
+/// Reports whether the image writes these words and then ends with 0.
 pub fn prints(alloc: Global, built: &Built, output: &[u32]) -> bool {
     match run_image(alloc, built.image.as_slice(), 100_000_000) {
         Ok(ran) => ran.end == Ending::Halt(0) && ran.output.as_slice() == output,
@@ -75,7 +75,7 @@ pub fn prints(alloc: Global, built: &Built, output: &[u32]) -> bool {
     }
 }
 
-/// How many blocks are counted.
+/// Returns how many blocks are counted.
 pub fn counted(built: &Built) -> usize {
     let report = built.report;
     let asked = report.same as usize + report.unclean as usize + report.differs as usize;

@@ -10,7 +10,7 @@ use sym_terms::Label;
 use term_table::{Interned, Node, Pass, TableFull, TermTable, Ticket};
 use words::Operator;
 
-/// The last pass that is left.
+/// Returns the last pass that is left.
 pub fn take(table: &TermTable, passes: &mut Vec<Pass>) -> Option<Pass>
     requires { All (IsOf table.now) passes.old.items }
     ensures rest { All (IsOf table.now) passes.new.items }
@@ -80,7 +80,7 @@ pub fn intern_constants(
     (pass, all)
 }
 
-/// The passes meet, and the second reads the term `b` of the first and interns it again.
+/// Has the passes meet; the second reads the term `b` of the first and interns it again.
 pub fn meet_and_read(
     table: &TermTable,
     first: &mut Pass,
@@ -100,7 +100,7 @@ pub fn meet_and_read(
     (node, again)
 }
 
-/// Whether both passes find each constant below `count` under one ticket.
+/// Reports whether both passes find each constant below `count` under one ticket.
 pub fn find_constants(table: &TermTable, first: &mut Pass, second: &mut Pass, count: u32) -> bool
     requires first { IsOf table.now first.old }
     requires second { IsOf table.now second.old }
@@ -118,8 +118,7 @@ pub fn find_constants(table: &TermTable, first: &mut Pass, second: &mut Pass, co
     all
 }
 
-/// How many links are loaded to intern the constants below `count`, shifted to the left, where there
-/// is room.
+/// Returns how many links are loaded to intern the constants below `count`, shifted to the left, where there is room.
 pub fn constants_probes(table: &TermTable, pass: &mut Pass, count: u32, shift: u32) -> u64
     requires table { IsOf table.now pass.old }
     requires shift { shift < 32 }
@@ -134,7 +133,7 @@ pub fn constants_probes(table: &TermTable, pass: &mut Pass, count: u32, shift: u
     sum
 }
 
-/// How many links are loaded to intern the sums of the constant `n` and each constant below `count`, the constants' own left out.
+/// Returns how many links are loaded to intern the sums of the constant `n` and each constant below `count`, the constants' own left out.
 #[tactic(auto, using(term_table::proofs::TermCallers::interning))]
 pub fn sums_probes(table: &TermTable, pass: &mut Pass, n: u32, count: u32) -> Result<u64, TableFull>
     requires { IsOf table.now pass.old }
@@ -150,7 +149,7 @@ pub fn sums_probes(table: &TermTable, pass: &mut Pass, n: u32, count: u32) -> Re
     Ok(sum)
 }
 
-/// How many links are loaded to intern the sums of all pairs of the constants below `count`.
+/// Returns how many links are loaded to intern the sums of all pairs of the constants below `count`.
 pub fn pairs_probes(table: &TermTable, pass: &mut Pass, count: u32) -> Result<u64, TableFull>
     requires { IsOf table.now pass.old }
     ensures { IsOf table.now pass.new }

@@ -1,4 +1,4 @@
-// A file in memory, and a writer that fails.
+//! A file in memory, and a writer that fails.
 
 ghost use Rattle.test_calls.specs.Files.{Answers};
 
@@ -6,7 +6,7 @@ use driver::{FileFault, Files};
 use std::alloc::Global;
 use std::io::{self, Write};
 
-/// Files of one row of bytes, whatever their names; what is written to them stands in `written`, write behind write. A fault
+/// Files of one row of bytes, whatever their names; what is written to them stands in `written`, write after write. A fault
 /// that is set is that of each read or write.
 #[derive(Drop)]
 pub struct OneFile<'a> {
@@ -18,7 +18,7 @@ pub struct OneFile<'a> {
 }
 
 impl<'a> OneFile<'a> {
-    /// The file of these bytes, before anything is written.
+    /// Returns the file of these bytes, before anything is written.
     pub fn of(alloc: Global, bytes: &'a [u8]) -> OneFile<'a> {
         OneFile {
             bytes,

@@ -11,7 +11,7 @@ use std::process::Abort;
 use sym_exec::run_block;
 use term_table::{Pass, TermTable};
 
-// `addiu $8,$0,n` for each n from 1 to `count`: each has two terms of its own.
+/// Returns `addiu $8,$0,n` for each n from 1 to `count`: each has two terms of its own.
 fn constants(alloc: Global, count: i16) -> Result<Vec<Plain>, AllocError> {
     let mut insts = Vec::new(alloc);
     for n in 0..count {
@@ -42,7 +42,7 @@ fn order_of(rt: &impl Abort, alloc: Global, count: i16) -> Order {
     Order::new(insts, Exit::Return, Some(nop)).expect(rt, "an order")
 }
 
-// Whether the block's terms were all linked: else the pass is full, the only error that there is.
+/// Reports whether the block's terms were all linked: else the pass is full, the only error that there is.
 fn has_room(rt: &impl Abort, alloc: Global, table: &TermTable, pass: &mut Pass, count: i16) -> bool
     requires { IsOf table.now pass.old }
     ensures { IsOf table.now pass.new }
@@ -52,7 +52,7 @@ fn has_room(rt: &impl Abort, alloc: Global, table: &TermTable, pass: &mut Pass, 
     run.is_ok()
 }
 
-// Whether the verdict on the block's order is that the pass is full.
+/// Reports whether the verdict on the block's order is that the pass is full.
 fn is_told_full(
     rt: &impl Abort,
     alloc: Global,

@@ -21,7 +21,7 @@ const KINDS: &[Hostile] = &[
     Hostile::Silent,
 ];
 
-// Whether there is an image, each block is counted, and it prints this.
+/// Reports whether there is an image, each block is counted, and it prints this.
 fn runs(alloc: Global, built: &Option<Built>, output: &[u32]) -> bool {
     match built {
         Some(built) => counted(built) == built.blocks && prints(alloc, built, output),
@@ -29,7 +29,7 @@ fn runs(alloc: Global, built: &Option<Built>, output: &[u32]) -> bool {
     }
 }
 
-// Whether there is an image, and no block was missed.
+/// Reports whether there is an image, and no block was missed.
 fn misses_none(built: &Option<Built>) -> bool {
     match built {
         Some(built) => built.report.missed == 0,
@@ -48,7 +48,7 @@ fn images_by_one_worker_run_as_their_source(rt: HostRuntime) {
     }
 }
 
-// The first of the programs whose image by two workers doesn't run as its source.
+/// Returns the first of the programs whose image by two workers doesn't run as its source.
 fn first_wrong<T: Threads + Wait + Sync, R: Reorder + Sync>(
     threads: &T,
     alloc: Global,
@@ -72,7 +72,7 @@ fn images_by_two_workers_run_as_their_source(rt: HostRuntime) {
     }
 }
 
-// Whether each block was refused memory.
+/// Reports whether each block was refused memory.
 fn is_silent(built: &Option<Built>) -> bool {
     match built {
         Some(built) => built.report.no_memory as usize == built.blocks,
@@ -80,7 +80,7 @@ fn is_silent(built: &Option<Built>) -> bool {
     }
 }
 
-// The first of the programs that has a block with another order where nothing is proposed.
+/// Returns the first of the programs that has a block with another order where nothing is proposed.
 fn first_ordered<T: Threads + Wait + Sync>(
     threads: &T,
     alloc: Global,
@@ -113,7 +113,7 @@ impl Reorder for Own {
     }
 }
 
-// Whether each block has the order that was proposed.
+/// Reports whether each block has the order that was proposed.
 fn is_accepted(built: &Option<Built>) -> bool {
     match built {
         Some(built) => built.report.same as usize == built.blocks,
@@ -129,7 +129,7 @@ fn plain_orders_are_accepted(rt: HostRuntime) {
     }
 }
 
-// Whether there is an image of the text, and so many workers make it too, with the same report.
+/// Reports whether there is an image of the text, and so many workers make it too, with the same report.
 fn is_made<T: Threads + Wait + Sync>(
     threads: &T,
     alloc: Global,
@@ -149,7 +149,7 @@ fn is_made<T: Threads + Wait + Sync>(
 
 const WORKERS: &[u64] = &[1, 2, 4, 64];
 
-// The first of the programs of which one worker without threads and some number of workers make different images.
+/// Returns the first of the programs of which one worker without threads and some number of workers make different images.
 fn first_unequal<T: Threads + Wait + Sync>(
     threads: &T,
     alloc: Global,
@@ -172,7 +172,7 @@ fn images_are_equal_for_any_number_of_workers(rt: HostRuntime) {
     assert!(rt; unequal.is_none(), "{unequal:?}");
 }
 
-// How many of so many builds make the image of the first.
+/// Returns how many of so many builds make the image of the first.
 fn equal_builds<T: Threads + Wait + Sync>(threads: &T, alloc: Global, count: u32) -> u32 {
     let first = built(threads, alloc, LOOP.text, 4, 1024, &SCHEDULER);
     let mut equal: u32 = 0;

@@ -3,14 +3,12 @@
 //! - Public calls of passes: the homes of pseudo-registers, units assembled and run, the operators of the machine.
 //! - Orders that schedulers propose, wrong ones too, the pool of workers, phases over them, and many builds in one process.
 //! - The table of terms: small callers with their contracts, what threads do with one table, and notes between threads.
-//! - `mcc`: streams and files that fail half way. Memory that is refused to builds by workers, to a verdict and to a machine.
+//! - `mcc`: streams and files that fail half way.
 //!
-//! `files`, `written` and `scarce_memory` stand in for the host. They are a file and streams in memory, what `mcc` does over them, and all
-//! memory that can be had, to give back block by block.
+//! `files` and `written` stand in for the host: a file and streams in memory, and what `mcc` does over them. Refused memory is tested by
+//! `.ci/refuse` and `.ci/limits`.
 #![tactic(auto)]
 
-#[cfg(test)]
-mod build_memory;
 #[cfg(test)]
 mod builds;
 #[cfg(test)]
@@ -35,10 +33,6 @@ mod phases;
 mod pool;
 #[cfg(test)]
 mod programs;
-#[cfg(test)]
-mod refused_memory;
-#[cfg(test)]
-mod scarce_memory;
 #[cfg(test)]
 mod streams;
 #[cfg(test)]

@@ -10,14 +10,14 @@ use std::process::Abort;
 use sym_terms::{Label, Origin};
 use term_table::{Interned, Pass, TermTable};
 
-/// A table of one pass, and the pass.
+/// Returns a table of one pass, and the pass.
 pub fn alone(rt: &impl Abort, alloc: Global, nodes: u64, heads: u64) -> (TermTable, Pass)
     ensures { IsOf result.0 result.1 }
 {
     TermTable::open_one(alloc, nodes, heads).expect(rt, "a table")
 }
 
-/// A table of two passes, and the passes.
+/// Returns a table of two passes, and the passes.
 pub fn pair(rt: &impl Abort, alloc: Global, nodes: u64, heads: u64) -> (TermTable, Pass, Pass)
     ensures first { IsOf result.0 result.1 }
     ensures second { IsOf result.0 result.2 }
@@ -25,7 +25,7 @@ pub fn pair(rt: &impl Abort, alloc: Global, nodes: u64, heads: u64) -> (TermTabl
     TermTable::open_two(alloc, nodes, heads).expect(rt, "a table")
 }
 
-/// What the register of this number, which isn't 0, has at the start.
+/// Returns what the register of this number, which isn't 0, has at the start.
 pub fn init(rt: &impl Abort, index: u8) -> Label
     ensures { label_arity result ≡ 0 }
 {

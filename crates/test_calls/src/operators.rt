@@ -1,7 +1,8 @@
-// The operators of the machine at their edges (Kane, MIPS RISC Architecture, appendix A).
+//! The operators of the machine at their edges (Kane, MIPS RISC Architecture, appendix A).
 
 use words::Operator;
 
+#[rattlefmt::skip]
 const VALUES: &[(Operator, u32, u32, Option<u32>)] = &[
     (Operator::Addu, 0xffffffff, 0x1, Some(0x0)),
     (Operator::Addu, 0x80000000, 0x21, Some(0x80000021)),
@@ -44,12 +45,7 @@ const VALUES: &[(Operator, u32, u32, Option<u32>)] = &[
     (Operator::MultLow, 0x7fffffff, 0xffffffff, Some(0x80000001)),
     (Operator::MultuHigh, 0xffffffff, 0x1, Some(0x0)),
     (Operator::MultuHigh, 0x80000000, 0x21, Some(0x10)),
-    (
-        Operator::MultuHigh,
-        0x7fffffff,
-        0xffffffff,
-        Some(0x7ffffffe),
-    ),
+    (Operator::MultuHigh, 0x7fffffff, 0xffffffff, Some(0x7ffffffe)),
     (Operator::MultuLow, 0xffffffff, 0x1, Some(0xffffffff)),
     (Operator::MultuLow, 0x80000000, 0x21, Some(0x80000000)),
     (Operator::MultuLow, 0x7fffffff, 0xffffffff, Some(0x80000001)),
@@ -64,12 +60,7 @@ const VALUES: &[(Operator, u32, u32, Option<u32>)] = &[
     (Operator::DivQuotient, 0x80000000, 0xffffffff, None),
     (Operator::DivRemainder, 0x80000000, 0xffffffff, None),
     (Operator::DivuQuotient, 0x80000000, 0xffffffff, Some(0x0)),
-    (
-        Operator::DivuRemainder,
-        0x80000000,
-        0xffffffff,
-        Some(0x80000000),
-    ),
+    (Operator::DivuRemainder, 0x80000000, 0xffffffff, Some(0x80000000)),
     (Operator::DivQuotient, 0x5, 0x0, None),
     (Operator::DivRemainder, 0x5, 0x0, None),
     (Operator::DivuQuotient, 0x5, 0x0, None),

@@ -10,7 +10,7 @@ use std::sync::Wait;
 use std::thread::Threads;
 use steal_pool::{Gate, Open};
 
-// Returns, behind so many instructions with terms of their own.
+/// Returns, after so many instructions with terms of their own.
 fn returning(alloc: Global, count: u8) -> Option<Block> {
     let mut insts = Vec::new(alloc);
     for i in 0..count {
@@ -23,7 +23,7 @@ fn returning(alloc: Global, count: u8) -> Option<Block> {
     Block::new(insts, Exit::Return)
 }
 
-// A function of three blocks: the second has ten terms beside those of the start.
+/// Returns a function of three blocks: the second has ten terms beside those of the start.
 fn three(alloc: Global) -> Option<Unit> {
     let mut blocks = Vec::new(alloc);
     for &count in [0, 10, 0].as_slice() {
@@ -36,18 +36,18 @@ fn three(alloc: Global) -> Option<Unit> {
 // How many workers a phase has, and its nodes and heads.
 type Sizes = (u64, u64, u64);
 
-// The options of these sizes; None where there are none such.
+/// Returns the options of these sizes; None if there are none such.
 fn options_of((workers, nodes, heads): Sizes) -> Option<PhaseOpts> {
     PhaseOpts::new(workers, nodes, heads)
 }
 
-// What is counted, and how many orders there are; None where memory was refused.
+/// Returns what is counted, and how many orders there are; None if memory ran out.
 fn counts_of(scheduled: Result<Scheduled<'_>, AllocError>) -> Option<(Counts, usize)> {
     let scheduled = scheduled.ok()?;
     Some((scheduled.report(), scheduled.orders().len()))
 }
 
-// The same of a phase by workers.
+/// Returns the same of a phase by workers.
 fn counted_by_workers<T: Threads + Wait + Sync, R: Reorder + Sync, G: Gate + Sync>(
     threads: &T,
     alloc: Global,
@@ -72,7 +72,7 @@ fn two_workers_share_one_table(rt: HostRuntime) {
     assert!(rt; !gate.is_late() && counted == Some((SAME, 3)));
 }
 
-// The same of a phase by one worker without threads.
+/// Returns the same of a phase by one worker without threads.
 fn counted<R: Reorder>(alloc: Global, sizes: Sizes, reorder: &R) -> Option<(Counts, usize)> {
     let options = options_of(sizes)?;
     let unit = three(alloc)?;

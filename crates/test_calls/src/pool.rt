@@ -43,7 +43,7 @@ pub struct Meeting {
 }
 
 impl Meeting {
-    /// Of the tasks of these numbers.
+    /// Returns a meeting of the tasks of these numbers.
     pub fn between(first: usize, second: usize) -> Meeting {
         Meeting {
             first,
@@ -54,7 +54,7 @@ impl Meeting {
         }
     }
 
-    /// Whether one has waited for the other in vain.
+    /// Reports whether one has waited for the other in vain.
     pub fn is_late(&self) -> bool {
         self.late.load(Ordering::SeqCst)
     }
@@ -95,7 +95,7 @@ impl Gate for Count {
     }
 }
 
-// Whether each of n tasks has twice its number.
+/// Reports whether each of n tasks has twice its number.
 fn are_twice(all: &[Option<u64>], n: usize) -> bool {
     let mut same = all.len() == n;
     for (i, out) in all.iter().enumerate() {
@@ -104,7 +104,7 @@ fn are_twice(all: &[Option<u64>], n: usize) -> bool {
     same
 }
 
-// Whether each of n tasks by so many workers has twice its number; None where memory is refused.
+/// Reports whether each of n tasks by so many workers has twice its number; None if memory runs out.
 fn are_done<G: Gate + Sync, R: Threads + Wait + Sync>(
     rt: &R,
     alloc: Global,
@@ -119,14 +119,14 @@ fn are_done<G: Gate + Sync, R: Threads + Wait + Sync>(
     Some(are_twice(all.as_slice(), n))
 }
 
-// Whether two workers do n tasks, of which the first and another wait for each other.
+/// Reports whether two workers do n tasks, of which the first and another wait for each other.
 fn meets<R: Threads + Wait + Sync>(rt: &R, alloc: Global, other: usize, n: usize) -> Option<bool> {
     let gate = Meeting::between(0, other);
     let are_done = are_done(rt, alloc, 2, n, &gate)?;
     Some(are_done && !gate.is_late())
 }
 
-// Of two tasks that wait for each other, one has to be done beside the other; of three, the third is stolen from a worker that waits.
+/// Of two tasks that wait for each other, one has to be done beside the other; of three, the third is stolen from a worker that waits.
 #[test]
 fn tasks_that_meet_are_done_at_once(rt: HostRuntime) {
     for &(other, n) in [(1, 2), (2, 3)].as_slice() {
@@ -135,7 +135,7 @@ fn tasks_that_meet_are_done_at_once(rt: HostRuntime) {
     }
 }
 
-// How many of n tasks begin by so many workers; None where one has another answer.
+/// Returns how many of n tasks begin by so many workers; None if one has another answer.
 fn begun<R: Threads + Wait + Sync>(rt: &R, alloc: Global, workers: u64, n: usize) -> Option<u64> {
     let gate = Count {
         begun: AtomicU64::new(0),

@@ -1,4 +1,4 @@
-// Programs of RTL out of constants.
+//! Programs of RTL out of constants.
 
 use rtl::{RBlock, RExit, RFunc, RInst, Rtl};
 use std::alloc::Global;
@@ -31,14 +31,14 @@ fn exit(alloc: Global, ends: Ends) -> Option<RExit> {
     })
 }
 
-// A block of these instructions; None of each of these where memory is refused.
+/// Returns a block of these instructions; None of each of these if memory runs out.
 fn block(alloc: Global, insts: &[RInst], ends: Ends) -> Option<RBlock> {
     let insts = Vec::from_slice(alloc, insts).ok()?;
     let exit = exit(alloc, ends)?;
     Some(RBlock { insts, exit })
 }
 
-/// The function of these parts.
+/// Returns the function of these parts.
 pub fn function(alloc: Global, (parameters, parts): Function<'_>) -> Option<RFunc> {
     let mut blocks = Vec::new(alloc);
     for &(insts, ends) in parts {
@@ -55,7 +55,7 @@ fn functions(alloc: Global, parts: &[Function<'_>]) -> Option<Vec<RFunc>> {
     Some(all)
 }
 
-/// The program of these parts, without globals, whose main function is the first; None where they are none.
+/// Returns the program of these parts, without globals, whose main function is the first; None if they are none.
 pub fn program(alloc: Global, parts: &[Function<'_>]) -> Option<Rtl> {
     Rtl::new(functions(alloc, parts)?, Vec::new(alloc), 0)
 }

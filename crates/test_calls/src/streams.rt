@@ -1,4 +1,4 @@
-// Files and streams that fail, also half way.
+//! Files and streams that fail, also half way.
 
 use crate::files::OneFile;
 use crate::written::{told_by, told_with_shut_err, told_with_shut_out};
@@ -56,7 +56,7 @@ const FILES: &[FileRow] = &[
     (LIST, Some(FileFault::NoMemory), None, NO_MEMORY),
 ];
 
-// Whether `mcc` tells the row's line alone and writes no file, where reads and writes have the row's faults.
+/// Reports whether `mcc` tells the row's line alone and writes no file, where reads and writes have the row's faults.
 fn tells_fault<T: Threads + Wait + Sync>(
     threads: &T,
     alloc: Global,
@@ -76,15 +76,15 @@ fn files_that_fail_are_told(rt: HostRuntime) {
     }
 }
 
-// The image of THREE, and the line that its build prints.
+/// Returns the image of THREE, and the line that its build prints.
 fn image_of<T: Threads + Wait + Sync>(threads: &T, alloc: Global) -> (Vec<u8>, Vec<u8>) {
     let mut file = OneFile::of(alloc, THREE);
     let built = told_by(threads, alloc, &mut file, PLAIN);
     (file.written, built.out)
 }
 
-// Whether `mcc`, with these words over these bytes, tells that it can't write to a closed standard output, having written a file so many
-// times.
+/// Reports whether `mcc`, with these words over these bytes, tells that it can't write to a closed standard output, having written a file
+/// so many times.
 fn tells_shut_out<T: Threads + Wait + Sync>(
     threads: &T,
     alloc: Global,
@@ -106,7 +106,7 @@ enum Read {
     Image,
 }
 
-// The bytes of the file, where this is the image.
+/// Returns the bytes of the file, where this is the image.
 fn bytes_of(read: Read, image: &[u8]) -> &[u8] {
     match read {
         Read::Text => TEXT,
@@ -180,8 +180,8 @@ struct Printing<'a> {
     printed: &'a [u8],
 }
 
-// Whether `mcc` tells that it can't write, and leaves the beginning of what it has to print, where standard output takes so many
-// bytes.
+/// Reports whether `mcc` tells that it can't write, and leaves the beginning of what it has to print, where standard output takes so many
+/// bytes.
 fn breaks_off<T: Threads + Wait + Sync>(
     threads: &T,
     alloc: Global,
@@ -206,7 +206,7 @@ fn breaks_off<T: Threads + Wait + Sync>(
     is_told && out.taken.len() == room && printing.printed.starts_with(out.taken.as_slice())
 }
 
-// The first number of bytes behind which `mcc` doesn't tell that.
+/// Returns the first number of bytes after which `mcc` doesn't tell that.
 fn first_untold<T: Threads + Wait + Sync>(
     threads: &T,
     alloc: Global,

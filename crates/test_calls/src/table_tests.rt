@@ -32,7 +32,7 @@ fn one_pass_interns_and_finds(rt: HostRuntime) {
     );
 }
 
-// Whether the second pass of a table finds the term of the first under its ticket.
+/// Reports whether the second pass of a table finds the term of the first under its ticket.
 fn meet_and_find(rt: &impl Abort, alloc: Global, heads: u64) -> bool {
     let (table, mut first, mut second) = pair(rt, alloc, 4, heads);
     let made = interned(rt, &table, &mut first, init(rt, 1));
@@ -58,7 +58,7 @@ fn a_full_pass_still_answers(rt: HostRuntime) {
     assert!(rt; other.is_err() && first.ticket == again.ticket && pass.room() == 0);
 }
 
-// The fault with which a table of these numbers is refused.
+/// Returns the fault with which a table of these numbers is refused.
 fn fault_of(alloc: Global, workers: u64, nodes: u64, heads: u64) -> Option<OpenFault> {
     TermTable::open(alloc, workers, nodes, heads).err()
 }
@@ -72,7 +72,7 @@ const OUT_OF_RANGE: &[(u64, u64, u64)] = &[
     (1, 1048577, 1),
 ];
 
-// The largest table is opened, or memory is refused.
+/// States that the largest table is opened, or memory is refused.
 #[test]
 fn numbers_out_of_range_are_refused(rt: HostRuntime) {
     for &(workers, nodes, heads) in OUT_OF_RANGE {
@@ -91,7 +91,7 @@ fn a_pass_of_a_table_of_other_sizes_is_told_apart(rt: HostRuntime) {
     assert!(rt; one.owns(&pass) && !other.owns(&pass));
 }
 
-// The second pass reads a term of the first, and finds it when it interns it.
+/// Reads a term of the first pass by the second, which finds it when it interns it.
 fn read_of_another(rt: &impl Abort, table: &TermTable, first: &mut Pass, second: &mut Pass)
     requires first { IsOf table.now first.old }
     requires second { IsOf table.now second.old }
@@ -114,7 +114,7 @@ fn a_term_of_another_pass_is_read(rt: HostRuntime) {
     read_of_another(&rt, &table, &mut first, &mut second);
 }
 
-// Whether two threads intern the constants below 1,000, one of them downward, and each is linked once.
+/// Reports whether two threads intern the constants below 1,000, one of them downward, and each is linked once.
 fn two_share(rt: &(impl Abort + Threads), alloc: Global, heads: u64) -> bool {
     let (table, first, second) = pair(rt, alloc, 1000, heads);
     let shared = &table;
@@ -136,7 +136,7 @@ fn two_threads_intern_the_same_constants(rt: HostRuntime) {
     assert!(rt; in_one_chain && in_many);
 }
 
-// Two threads intern 500 constants each, from `from` and from 250 further on, the second downward.
+/// Has two threads intern 500 constants each, from `from` and from 250 further on, the second downward.
 fn two_halves(
     rt: &impl Threads,
     table: &TermTable,
@@ -158,7 +158,7 @@ fn two_halves(
     (first, second)
 }
 
-// Four threads intern 500 constants each, which overlap.
+/// Has four threads intern 500 constants each, which overlap.
 fn four_intern(
     rt: &(impl Threads + Sync),
     table: &TermTable,
@@ -179,7 +179,7 @@ fn four_intern(
     )
 }
 
-// Whether each of four passes, which meet, finds the 1,250 constants, and each was linked once.
+/// Reports whether each of four passes, which meet, finds the 1,250 constants, and each was linked once.
 fn four_find(table: &TermTable, a: &mut Pass, b: &mut Pass, c: &mut Pass, d: &mut Pass) -> bool
     requires front { IsOf table.now a.old × IsOf table.now b.old }
     requires back { IsOf table.now c.old × IsOf table.now d.old }
@@ -196,7 +196,7 @@ fn four_find(table: &TermTable, a: &mut Pass, b: &mut Pass, c: &mut Pass, d: &mu
     find_constants(table, a, b, 1250) && find_constants(table, c, d, 1250) && sum == 1250
 }
 
-// The last two passes that are left.
+/// Returns the last two passes that are left.
 fn last_two(rt: &impl Abort, table: &TermTable, passes: &mut Vec<Pass>) -> (Pass, Pass)
     requires { All (IsOf table.now) passes.old.items }
     ensures rest { All (IsOf table.now) passes.new.items }
@@ -207,7 +207,7 @@ fn last_two(rt: &impl Abort, table: &TermTable, passes: &mut Vec<Pass>) -> (Pass
     (first, second)
 }
 
-// Whether four threads intern constants that overlap, in a table of so many chains, and each is linked once.
+/// Reports whether four threads intern constants that overlap, in a table of so many chains, and each is linked once.
 fn four_share(rt: &(impl Abort + Threads + Sync), alloc: Global, heads: u64) -> bool {
     let (table, mut passes) = TermTable::open(alloc, 4, 500, heads).expect(rt, "a table");
     let front = last_two(rt, &table, &mut passes);
@@ -223,7 +223,7 @@ fn four_threads_intern_overlapping_constants(rt: HostRuntime) {
     assert!(rt; in_one_chain && in_many);
 }
 
-// How many links are loaded to intern the constants below 4096.
+/// Returns how many links are loaded to intern the constants below 4096.
 fn constants_in(rt: &impl Abort, alloc: Global, heads: u64, shift: u32) -> u64
     requires { shift < 32 }
 {
@@ -242,7 +242,7 @@ fn chains_of_constants_are_short(rt: HostRuntime) {
     }
 }
 
-// The sums of all pairs of the constants below 256.
+/// Returns how many links are loaded to intern the sums of all pairs of the constants below 256.
 fn sums_in(rt: &impl Abort, alloc: Global) -> u64 {
     let (table, mut pass) = alone(rt, alloc, 66000, 65536);
     constants_probes(&table, &mut pass, 256, 0);
@@ -254,7 +254,7 @@ fn chains_of_sums_are_short(rt: HostRuntime) {
     assert!(rt; sums_in(&rt, rt.alloc()) <= 163840);
 }
 
-// How many passes a table is opened with; None where it isn't.
+/// Returns how many passes a table is opened with; None if it isn't.
 fn opened_passes(alloc: Global, workers: u64) -> Option<usize> {
     let (_, passes) = TermTable::open(alloc, workers, 4, 65536).ok()?;
     Some(passes.len())

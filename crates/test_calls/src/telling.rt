@@ -87,7 +87,7 @@ pub fn tell_constants<H: Home>(
     pass
 }
 
-// Whether what was told is the constant `n`, which the pass then finds under the same ticket.
+/// Reports whether what was told is the constant `n`, which the pass then finds under the same ticket.
 #[tactic(auto, using(term_table::proofs::TermCallers::learns_seen_term))]
 fn is_constant<H: Home>(table: &TermTable, pass: &mut Pass, told: Told<H>, n: u32) -> bool
     requires home { table.now ≡ H.table }
@@ -105,7 +105,7 @@ fn is_constant<H: Home>(table: &TermTable, pass: &mut Pass, told: Told<H>, n: u3
     node.label == Label::Const(n) && node.children.is_empty() && found.ticket == Some(ticket)
 }
 
-/// Whether the constants below `count` come, each in its turn.
+/// Reports whether the constants below `count` come, each in its turn.
 pub fn hear_constants<H: Home>(
     rt: &impl Wait,
     table: &TermTable,

@@ -12,7 +12,7 @@ use std::thread;
 use std::thread::Threads;
 use term_table::{Pass, TermTable};
 
-// Whether a thousand tickets come, which one thread sends while the other reads them.
+/// Reports whether a thousand tickets come, which one thread sends while the other reads them.
 fn relay<H: Home + Send>(
     rt: &(impl Abort + Threads + Wait + Sync),
     alloc: Global,

@@ -1,21 +1,21 @@
-// Units to images, and images run. The expected words are those that GNU as gives the same program (-mips1 -EB, code at 0x00400000). The
-// texts are objdump's, with registers by number.
+//! Units to images, and images run. The expected words are those that GNU as gives the same program (-mips1 -EB, code at 0x00400000). The
+//! texts are objdump's, with registers by number.
 
 ghost use Rattle.std.specs.Prelude.{◌≡◌};
 
 use block_text::{exit_of, plain_of};
 use image::{Counts, Image, NO_COUNTS, read_image, write_image};
 use mblock::{Block, BlockNumber, Unit, plain_orders};
-use mips_asm::{AsmFault, assemble, image_of, list};
+use mips_asm::{AsmFault, assemble, image_of};
 use mips_code::Ending;
 use mips_machine::run;
 use sched_phase::schedule_plain;
 use std::alloc::Global;
 
 /// A block as lines, the last of which is its exit.
-pub type Lines<'a> = &'a [&'a str];
+type Lines<'a> = &'a [&'a str];
 
-// The block of these lines; None of each of these where there is none, or memory is refused.
+/// Returns the block of these lines; None of each of these where there is none, or memory is refused.
 fn block(alloc: Global, lines: Lines<'_>) -> Option<Block> {
     let (exit, before) = lines.split_last()?;
     let mut insts = Vec::new(alloc);
@@ -25,8 +25,8 @@ fn block(alloc: Global, lines: Lines<'_>) -> Option<Block> {
     Block::new(insts, exit_of(exit.as_bytes())?)
 }
 
-/// The unit of these blocks, the numbers of their functions' first blocks, and bytes of data.
-pub fn unit(alloc: Global, parts: &[Lines<'_>], owners: &[u32], data: &[u8]) -> Option<Unit> {
+/// Returns the unit of these blocks, the numbers of their functions' first blocks, and bytes of data.
+fn unit(alloc: Global, parts: &[Lines<'_>], owners: &[u32], data: &[u8]) -> Option<Unit> {
     let mut blocks = Vec::new(alloc);
     for lines in parts {
         blocks.push(block(alloc, lines)?).ok()?;
@@ -67,8 +67,8 @@ fn units_are_refused_for_each_reason(rt: HostRuntime) {
     }
 }
 
-/// The image of version 1 of a unit's plain orders; None where it can have none.
-pub fn first_version(alloc: Global, unit: &Unit) -> Option<Result<Image, AsmFault>> {
+/// Returns the image of version 1 of a unit's plain orders; None if it can have none.
+fn first_version(alloc: Global, unit: &Unit) -> Option<Result<Image, AsmFault>> {
     if unit.globals().len() % 4 != 0 {
         return None;
     }
@@ -78,15 +78,15 @@ pub fn first_version(alloc: Global, unit: &Unit) -> Option<Result<Image, AsmFaul
     Some(image_of(alloc, unit, orders.as_slice(), None))
 }
 
-/// The image of version 2, with no block counted.
-pub fn second_version(alloc: Global, unit: &Unit) -> Option<Image> {
+/// Returns the image of version 2, with no block counted.
+fn second_version(alloc: Global, unit: &Unit) -> Option<Image> {
     let Ok(orders) = plain_orders(alloc, unit) else {
         return None;
     };
     image_of(alloc, unit, orders.as_slice(), Some(NO_COUNTS)).ok()
 }
 
-// The same with blocks of each count.
+/// Returns the same with blocks of each count.
 fn counted_version(alloc: Global, unit: &Unit) -> Option<Image> {
     let Ok(orders) = plain_orders(alloc, unit) else {
         return None;
@@ -164,74 +164,25 @@ const WORDS: &[u32] = &[
     0,
 ];
 
+#[rattlefmt::skip]
 const ROWS: &[Row] = &[
-    Row {
-        blocks: PROGRAM,
-        owners: OWNERS,
-        data: &[0, 0, 0, 7, 0, 0, 0, 20],
-        version: Version::First,
-        head: &[0x4d43_4349, 1, 24, 0x0040_0000, 2],
-        code: WORDS,
-        steps: 20,
-        end: 3,
-        output: &[42],
-    },
-    Row {
-        blocks: PROGRAM,
-        owners: OWNERS,
-        data: &[0, 0, 0, 7, 0, 0, 0, 20, 9],
-        version: Version::Counted,
-        head: &[0x4d43_4349, 2, 24, 0x0040_0000, 9, 6, 5, 4, 3, 2, 1],
-        code: WORDS,
-        steps: 20,
-        end: 3,
-        output: &[42],
-    },
+    Row {blocks: PROGRAM, owners: OWNERS, data: &[0, 0, 0, 7, 0, 0, 0, 20], version: Version::First,
+        head: &[0x4d43_4349, 1, 24, 0x0040_0000, 2], code: WORDS, steps: 20, end: 3, output: &[42]},
+    Row {blocks: PROGRAM, owners: OWNERS, data: &[0, 0, 0, 7, 0, 0, 0, 20, 9], version: Version::Counted,
+        head: &[0x4d43_4349, 2, 24, 0x0040_0000, 9, 6, 5, 4, 3, 2, 1], code: WORDS, steps: 20, end: 3, output: &[42]},
     // Adds 1 to a byte of data, writes it before another, and ends with the word that it then stands in. A loaded byte is waited
     // for as a loaded word is.
-    Row {
-        blocks: &[&[
-            "lui $8,4096",
-            "lbu $4,5($8)",
-            "addiu $4,$4,1",
-            "sb $4,2($8)",
-            "lw $4,0($8)",
-            "halt",
-        ]],
-        owners: &[0],
-        data: &[1, 2, 3, 4, 5, 255, 7, 8],
-        version: Version::First,
-        head: &[0x4d43_4349, 1, 9, 0x0040_0000, 2],
-        code: &[
-            0x3c08_1000,
-            0x9104_0005,
-            0,
-            0x2484_0001,
-            0xa104_0002,
-            0x8d04_0000,
-            0,
-            0x2402_000a,
-            0x0000_000c,
-        ],
-        steps: 9,
-        end: 0x0102_0004,
-        output: &[],
-    },
-    Row {
-        blocks: &[&["addiu $4,$0,7", "halt"]],
-        owners: &[0],
-        data: &[],
-        version: Version::Second,
-        head: &[0x4d43_4349, 2, 3, 0x0040_0000, 0, 0, 0, 0, 0, 0, 0],
-        code: &[0x2404_0007, 0x2402_000a, 0x0000_000c],
-        steps: 3,
-        end: 7,
-        output: &[],
-    },
+    Row {blocks: &[&["lui $8,4096", "lbu $4,5($8)", "addiu $4,$4,1", "sb $4,2($8)", "lw $4,0($8)", "halt"]], owners: &[0],
+        data: &[1, 2, 3, 4, 5, 255, 7, 8], version: Version::First, head: &[0x4d43_4349, 1, 9, 0x0040_0000, 2],
+        code: &[0x3c08_1000, 0x9104_0005, 0, 0x2484_0001, 0xa104_0002, 0x8d04_0000, 0, 0x2402_000a, 0x0000_000c], steps: 9,
+        end: 0x0102_0004, output: &[]},
+    Row {blocks: &[&["addiu $4,$0,7", "halt"]], owners: &[0], data: &[], version: Version::Second,
+        head: &[0x4d43_4349, 2, 3, 0x0040_0000, 0, 0, 0, 0, 0, 0, 0], code: &[0x2404_0007, 0x2402_000a, 0x0000_000c], steps: 3, end: 7,
+        output: &[]},
 ];
 
-/// The bytes of words, as an image has them, and more bytes.
-pub fn bytes_of(alloc: Global, words: &[&[u32]], more: &[u8]) -> Option<Vec<u8>> {
+/// Returns the bytes of words, as an image has them, and more bytes.
+fn bytes_of(alloc: Global, words: &[&[u32]], more: &[u8]) -> Option<Vec<u8>> {
     let mut bytes = Vec::new(alloc);
     for part in words {
         for word in *part {
@@ -242,15 +193,15 @@ pub fn bytes_of(alloc: Global, words: &[&[u32]], more: &[u8]) -> Option<Vec<u8>>
     Some(bytes)
 }
 
-/// Whether the image comes to this end and this output by so many words.
-pub fn comes_to(alloc: Global, image: &Image, words: u64, end: Ending, output: &[u32]) -> bool {
+/// Reports whether the image comes to this end and this output by so many words.
+fn comes_to(alloc: Global, image: &Image, words: u64, end: Ending, output: &[u32]) -> bool {
     match run(alloc, image, words) {
         Ok(ran) => ran.end == end && ran.output.as_slice() == output,
         Err(_) => false,
     }
 }
 
-// The image of a unit whose blocks are scheduled, each in plain order; None where not each is, or one is counted.
+/// Returns the image of a unit whose blocks are scheduled, each in plain order; None if not each is, or one is counted.
 fn scheduled(alloc: Global, unit: &Unit) -> Option<Image> {
     let all = schedule_plain(alloc, unit).ok()?;
     if all.count() == unit.blocks().len() && all.report() == NO_COUNTS {
@@ -260,7 +211,7 @@ fn scheduled(alloc: Global, unit: &Unit) -> Option<Image> {
     }
 }
 
-// Whether the image is written as the row says and read back, and what is read ends and prints as it should, not before.
+/// Reports whether the image is written as the row says and read back, and what is read ends and prints as it should, not before.
 fn is_image(alloc: Global, image: &Image, row: &Row) -> Option<bool> {
     let bytes = bytes_of(alloc, &[row.head, row.code], row.data)?;
     let written = write_image(alloc, image).ok()?;
@@ -276,7 +227,7 @@ fn is_image(alloc: Global, image: &Image, row: &Row) -> Option<bool> {
     Some(written.as_slice() == bytes.as_slice() && ends && goes_on)
 }
 
-// The image of a unit in this version.
+/// Returns the image of a unit in this version.
 fn image_in(alloc: Global, unit: &Unit, version: Version) -> Option<Image> {
     match version {
         Version::First => first_version(alloc, unit)?.ok(),
@@ -285,7 +236,7 @@ fn image_in(alloc: Global, unit: &Unit, version: Version) -> Option<Image> {
     }
 }
 
-// Whether the unit has the row's code where it is scheduled; where it counts nothing, also the row's image.
+/// Reports whether the unit has the row's code where it is scheduled; where it counts nothing, also the row's image.
 fn has_code(alloc: Global, unit: &Unit, row: &Row) -> Option<bool> {
     let image = scheduled(alloc, unit)?;
     match row.version {
@@ -294,7 +245,7 @@ fn has_code(alloc: Global, unit: &Unit, row: &Row) -> Option<bool> {
     }
 }
 
-// Whether the row's unit becomes its image, and has its code where it is scheduled.
+/// Reports whether the row's unit becomes its image, and has its code where it is scheduled.
 fn becomes(alloc: Global, row: &Row) -> Option<bool> {
     let unit = unit(alloc, row.blocks, row.owners, row.data)?;
     let image = image_in(alloc, &unit, row.version)?;
@@ -308,48 +259,4 @@ fn units_become_images(rt: HostRuntime) {
     }
     let half = unit(rt.alloc(), PROGRAM, OWNERS, &[1, 2]).expect(&rt, "a unit");
     assert!(rt; first_version(rt.alloc(), &half).is_none());
-}
-
-const LISTING: &str = "\
-00400000  3c081000  lui $8,4096
-00400004  8d040004  lw $4,4($8)
-00400008  00000000  nop
-0040000c  0c10000e  jal 0x00400038
-00400010  00000000  nop
-00400014  08100007  j 0x0040001c
-00400018  00000000  nop
-0040001c  24020001  addiu $2,$0,1
-00400020  0000000c  syscall
-00400024  0810000b  j 0x0040002c
-00400028  00000000  nop
-0040002c  24040003  addiu $4,$0,3
-00400030  2402000a  addiu $2,$0,10
-00400034  0000000c  syscall
-00400038  24840001  addiu $4,$4,1
-0040003c  1c800003  bgtz $4,0x0040004c
-00400040  00000000  nop
-00400044  08100016  j 0x00400058
-00400048  00000000  nop
-0040004c  00042040  sll $4,$4,1
-00400050  03e00008  jr $31
-00400054  00000000  nop
-00400058  03e00008  jr $31
-0040005c  00000000  nop
-10000000  00000007  .word
-10000004  00000014  .word
-10000008  09  .byte
-report same 0 unclean 0 differs 0 full 0 nomemory 0 missed 0
-";
-
-// The listing of the program.
-fn listing(alloc: Global) -> Option<String> {
-    let data = [0, 0, 0, 7, 0, 0, 0, 20, 9];
-    let unit = unit(alloc, PROGRAM, OWNERS, &data)?;
-    list(alloc, &scheduled(alloc, &unit)?).ok()
-}
-
-#[test]
-fn a_scheduled_unit_is_listed(rt: HostRuntime) {
-    let text = listing(rt.alloc()).expect(&rt, "a listing");
-    assert!(rt; text.as_str() == LISTING);
 }

@@ -1,4 +1,4 @@
-// What `mcc` writes to its two streams.
+//! What `mcc` writes to its two streams.
 ghost use Rattle.std.specs.Prelude.{◌≡◌, ◌≢◌, ◌≤◌, List, map, true};
 ghost use Rattle.std.specs.List.{FoldsTo};
 ghost use Rattle.clap.specs.Words.{takes};
@@ -23,7 +23,7 @@ pub struct Written {
 }
 
 impl Written {
-    /// Whether it has this status, and the streams have just these texts.
+    /// Reports whether it has this status, and the streams have just these texts.
     pub fn is(&self, status: u8, out: &str, err: &str) -> bool {
         self.status == status
             && self.out.as_slice() == out.as_bytes()
@@ -31,7 +31,7 @@ impl Written {
     }
 }
 
-/// What `mcc` does with these words over these files.
+/// Returns what `mcc` does with these words over these files.
 pub fn told_by<T: Threads + Wait + Sync>(
     threads: &T,
     alloc: Global,
@@ -49,7 +49,7 @@ pub fn told_by<T: Threads + Wait + Sync>(
     Written { status, out, err }
 }
 
-/// The same where standard output takes nothing.
+/// Returns the same where standard output takes nothing.
 pub fn told_with_shut_out<T: Threads + Wait + Sync>(
     threads: &T,
     alloc: Global,
@@ -64,7 +64,7 @@ pub fn told_with_shut_out<T: Threads + Wait + Sync>(
     Written { status, out, err }
 }
 
-/// The same where standard error takes nothing.
+/// Returns the same where standard error takes nothing.
 pub fn told_with_shut_err<T: Threads + Wait + Sync>(
     threads: &T,
     alloc: Global,
