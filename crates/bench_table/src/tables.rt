@@ -1,6 +1,6 @@
 //! How fast the term table is: interns a second of distinct terms with two children each.
 //!
-//! Time is taken from when all threads have begun to when the last has ended; the table's words were written before, when it was laid out.
+//! Time is taken from when all threads have begun to when the last has ended. The table's words were written before, when it was laid out.
 //! Each plan has two rounds. In the second round all terms are there.
 
 ghost use Rattle.std.specs.Prelude.{◌*◌, ◌<◌, ◌≤◌, All, IfSome};
@@ -57,7 +57,7 @@ const LARGE: Setting = Setting {
     runs: 5,
 };
 
-/// Where the part of worker `k` of `count` begins.
+/// Returns where the part of worker `k` of `count` begins.
 fn cut(terms: u32, k: u32, count: u32) -> u32
     requires { 0 < count }
 {
@@ -65,7 +65,7 @@ fn cut(terms: u32, k: u32, count: u32) -> u32
     at.min(u64::from(terms)) as u32
 }
 
-/// The part of worker `k` of `count`.
+/// Returns the part of worker `k` of `count`.
 fn part_of(plan: Plan, terms: u32, k: u32, count: u32) -> Part
     requires { 0 < count }
 {
@@ -91,7 +91,7 @@ fn part_of(plan: Plan, terms: u32, k: u32, count: u32) -> Part
     }
 }
 
-/// A worker more, for the last pass that is left.
+/// Hires one more worker, for the last pass that is left.
 fn hire(
     alloc: Global,
     table: &TermTable,
@@ -114,7 +114,7 @@ fn hire(
     Some(())
 }
 
-/// Workers for the passes, which have interned their leaves.
+/// Returns workers for the passes, which have interned their leaves.
 fn staff(
     alloc: Global,
     table: &TermTable,
@@ -136,7 +136,7 @@ fn staff(
     Some(workers)
 }
 
-/// Each worker interns its terms, in a thread of its own.
+/// Has each worker intern its terms in a thread of its own, and returns how long that took in nanoseconds.
 fn round<R: Threads + Sync + Clock>(
     rt: &R,
     table: &TermTable,
@@ -155,7 +155,7 @@ fn round<R: Threads + Sync + Clock>(
     Ok(span(workers))
 }
 
-/// Nanoseconds from when the first worker began to when the last ended.
+/// Returns the nanoseconds from when the first worker began to when the last ended.
 fn span(workers: &[Worker]) -> u128 {
     let mut began = u128::MAX;
     let mut ended = 0u128;
@@ -166,7 +166,7 @@ fn span(workers: &[Worker]) -> u128 {
     ended.saturating_sub(began)
 }
 
-/// How many interns of the last round were answered with a ticket.
+/// Returns how many interns of the last round were answered with a ticket.
 fn answered(workers: &[Worker]) -> u64 {
     let mut sum = 0u64;
     for worker in workers {
@@ -175,7 +175,7 @@ fn answered(workers: &[Worker]) -> u64 {
     sum
 }
 
-/// How many terms the passes linked.
+/// Returns how many terms the passes linked.
 fn linked(workers: &[Worker]) -> u64 {
     let mut sum = 0u64;
     for worker in workers {
@@ -194,7 +194,7 @@ struct Figures {
     again: u128,
 }
 
-/// Two rounds of `count` workers. None where memory was refused.
+/// Runs two rounds of `count` workers. None if memory ran out.
 fn run<R: Threads + Sync + Clock>(
     rt: &R,
     alloc: Global,
@@ -240,7 +240,7 @@ struct Row {
     ghost some: { 0 < count },
 }
 
-/// The fastest of both.
+/// Returns the fastest of both.
 fn faster(best: Option<Figures>, now: Figures) -> Figures {
     match best {
         None => now,
@@ -301,7 +301,7 @@ fn print_row<R: Print>(rt: &R, row: &Row, figures: bool) -> io::Result<()> {
     println!(rt; "  {first:>12} a second at first {again:>12} a second again")
 }
 
-/// The rows, three of each plan, each three under their plan's title.
+/// Prints the rows, three of each plan, each three under their plan's title.
 fn print_rows<R: Print>(rt: &R, rows: &[Row], figures: bool) -> io::Result<()> {
     for (at, row) in rows.iter().enumerate() {
         if at % 3 == 0 {
@@ -312,7 +312,7 @@ fn print_rows<R: Print>(rt: &R, rows: &[Row], figures: bool) -> io::Result<()> {
     Ok(())
 }
 
-/// All plans by 1, 2 and 4 threads.
+/// Measures and prints all plans by 1, 2 and 4 threads.
 fn show<R: Threads + Sync + Clock + Print + AllocGlobal>(
     rt: &R,
     setting: Setting,
@@ -336,7 +336,7 @@ fn show<R: Threads + Sync + Clock + Print + AllocGlobal>(
     print_rows(rt, &rows, figures)
 }
 
-/// How many terms the passes linked together, which is the same in every run.
+/// Prints how many terms the passes linked together, which is the same in every run.
 pub(crate) fn show_linked<R: Threads + Sync + Clock + Print + AllocGlobal>(
     rt: &R,
 ) -> io::Result<()> {

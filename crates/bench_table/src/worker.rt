@@ -44,8 +44,8 @@ impl Start {
         }
     }
 
-    // Returns when all have come; after some seconds in any case, since where no thread can be had the workers run one
-    // after another.
+    /// Returns when all have come; after some seconds in any case, since where no thread can be had the workers run one
+    /// after another.
     fn wait(&self) {
         self.come.fetch_add(1, Ordering::SeqCst);
         for _ in 0..10_000_000u32 {
@@ -56,8 +56,8 @@ impl Start {
         }
     }
 
-    // Keeps the processor busy for a while, since one that slept comes to speed slowly, and the system spreads busy threads
-    // alone over processors.
+    /// Keeps the processor busy for a while, since one that slept comes to speed slowly, and the system spreads busy threads
+    /// alone over processors.
     fn warm_up(&self, clock: &impl Clock) {
         let began = self.nanoseconds(clock);
         for _ in 0..10_000_000u32 {
@@ -67,7 +67,7 @@ impl Start {
         }
     }
 
-    // Nanoseconds by the clock, 0 where it fails.
+    /// Returns nanoseconds by the clock, 0 if it fails.
     fn nanoseconds(&self, clock: &impl Clock) -> u128 {
         match self.clock_start.elapsed(clock) {
             Ok(time) => time.as_nanos(),
@@ -101,7 +101,7 @@ pub struct Worker {
 }
 
 impl Worker {
-    /// Interns the leaves. None where memory was refused or the pass is full.
+    /// Interns the leaves. None if memory ran out or the pass is full.
     pub fn new(
         alloc: Global,
         table: &TermTable,
@@ -143,7 +143,7 @@ impl Worker {
         self.ended = start.nanoseconds(clock);
     }
 
-    // Interns each of its terms once.
+    /// Interns each of its terms once.
     fn intern_terms(&mut self, table: &TermTable)
         requires { IsReady table.now self.old }
         ensures { IsReady table.now self.new }
@@ -158,7 +158,7 @@ impl Worker {
         self.answered = answered;
     }
 
-    // Interns the term of one pair of leaves.
+    /// Interns the term of one pair of leaves.
     fn intern_pair(&mut self, table: &TermTable, n: u32) -> bool
         requires ready { IsReady table.now self.old }
         requires term { n < self.old.terms }
@@ -173,7 +173,7 @@ impl Worker {
     }
 }
 
-// The term that comes at `i` of so many. The multiplier has no divisor in common with 2,000, 200,000 and 1,000,000.
+/// Returns the term that comes at `i` of so many. The multiplier has no divisor in common with 2,000, 200,000 and 1,000,000.
 fn term_at(order: Order, terms: u32, i: u32) -> u32
     requires { i < terms }
     ensures { result < terms }
@@ -193,7 +193,7 @@ fn shuffled(terms: u32, i: u32) -> u32
     (u64::from(i) * 123_607 % u64::from(terms)) as u32
 }
 
-// Interns one leaf more.
+/// Interns one leaf more.
 fn add_leaf(table: &TermTable, pass: &mut Pass, leaves: &mut Vec<Ticket>, n: u32) -> Option<()>
     requires pass { IsOf table.now pass.old }
     requires seen { All (HasSeenTerm label_coding pass.old) leaves.old.items }

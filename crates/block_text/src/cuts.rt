@@ -1,4 +1,4 @@
-// Texts cut at a byte, and into lines.
+//! Texts cut at a byte, and into lines.
 ghost use Rattle.std.specs.Prelude.{◌≡◌, ℕ, List, ◌++◌, ◌∷◌, ◌==◌, ◌<◌, true, position, IfSome, IfNone, IsSomeAnd, length};
 ghost use Rattle.block_text.specs.Lines.{lacks, lines_of};
 
@@ -15,7 +15,7 @@ fn position_of(text: &[u8], mark: u8) -> Option<usize>
     text.iter().position(|b| *b == mark)
 }
 
-/// The text before and after the first place of the byte.
+/// Returns the text before and after the first place of the byte.
 pub fn cut(text: &[u8], mark: u8) -> Option<Halves<'_>>
     ensures found { IfSome result (λ h. text.now ≡ h.before.now ++ mark ∷ h.after.now) }
     ensures only { (a b : List ℕ) → lacks mark a ≡ true → text.now ≡ a ++ mark ∷ b
@@ -30,7 +30,7 @@ pub fn cut(text: &[u8], mark: u8) -> Option<Halves<'_>>
     })
 }
 
-/// The first line of a text that isn't empty, and what follows it.
+/// Returns the first line of a text that isn't empty, and what follows it.
 pub fn first_line(text: &[u8]) -> Halves<'_>
     requires { 0 < length text.now }
     ensures line { lines_of text.now ≡ result.before.now ∷ lines_of result.after.now }

@@ -1,4 +1,4 @@
-// Why lines spell no block and order.
+//! Why lines spell no block and order.
 ghost use Rattle.std.specs.Prelude.{Some};
 ghost use Rattle.block_text.specs.Faults.{pair_fault_text};
 

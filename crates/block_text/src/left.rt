@@ -1,4 +1,4 @@
-// What a block or an order leaves, place by place.
+//! What a block or an order leaves, place by place.
 
 use crate::lines::put_block;
 use crate::terms::{Code, Left, ReadFault, left_of};
@@ -21,7 +21,7 @@ const MEMORY: usize = 34;
 
 const OPERANDS: usize = 35;
 
-/// How many terms the exit reads.
+/// Returns how many terms the exit reads.
 fn operands_of(exit: &TermExit) -> usize {
     match exit {
         TermExit::BranchPair { .. } => 2,
@@ -30,13 +30,13 @@ fn operands_of(exit: &TermExit) -> usize {
     }
 }
 
-/// The two targets of a branch.
+/// Writes the two targets of a branch.
 fn put_sides(out: &mut Writer, then: BlockNumber, other: BlockNumber) {
     put_block(out, " ? ", then);
     put_block(out, " : ", other);
 }
 
-/// The exit by the terms that it reads and its targets.
+/// Writes the exit by the terms that it reads and its targets.
 fn put_exit(out: &mut Writer, exit: TermExit, first: &str, second: &str) {
     match exit {
         TermExit::Goto(target) => put_block(out, "goto ", target),
@@ -89,7 +89,7 @@ fn exit_text(alloc: Global, left: &mut Left, depth: u32) -> Result<String, Alloc
     out.end()
 }
 
-/// A guard, the first of whose roots has this number.
+/// Returns a guard, the first of whose roots has this number.
 fn guard_text(
     alloc: Global,
     left: &mut Left,
@@ -130,7 +130,7 @@ fn roots_of(guard: &Guard) -> usize {
     }
 }
 
-/// One more text, unless it is there.
+/// Adds one more text, unless it is there.
 fn add(texts: &mut Vec<String>, text: String) -> Result<(), AllocError> {
     for other in texts.iter() {
         if other.as_str() == text.as_str() {
@@ -141,7 +141,7 @@ fn add(texts: &mut Vec<String>, text: String) -> Result<(), AllocError> {
     Ok(())
 }
 
-/// All guards, each of them once.
+/// Returns all guards, each of them once.
 fn guard_texts(alloc: Global, left: &mut Left, depth: u32) -> Result<Vec<String>, AllocError> {
     let mut texts: Vec<String> = Vec::new(alloc);
     let mut root = operands_of(&left.exit).saturating_add(OPERANDS);
@@ -155,7 +155,7 @@ fn guard_texts(alloc: Global, left: &mut Left, depth: u32) -> Result<Vec<String>
     Ok(texts)
 }
 
-/// Guards one behind another.
+/// Writes guards one after another.
 fn put_guards(out: &mut Writer, texts: &[String]) {
     if texts.is_empty() {
         out.text("none");
@@ -191,7 +191,7 @@ fn place_in(
     }
 }
 
-/// What is left in a place.
+/// Returns what is left in a place.
 fn place_text(
     alloc: Global,
     code: Code<'_>,
@@ -203,7 +203,7 @@ fn place_text(
     Ok(text)
 }
 
-/// What a block leaves in a place, as its term is written, cut at a depth.
+/// Returns what a block leaves in a place, as its term is written, cut at a depth.
 pub fn block_place_text(
     alloc: Global,
     block: &Block,
@@ -213,7 +213,7 @@ pub fn block_place_text(
     place_text(alloc, Code::Block(block), place, depth)
 }
 
-/// The same of an order.
+/// Returns the same of an order.
 pub fn order_place_text(
     alloc: Global,
     order: &Order,
@@ -223,7 +223,7 @@ pub fn order_place_text(
     place_text(alloc, Code::Order(order), place, depth)
 }
 
-/// Whether a root's term is what was there at the start.
+/// Reports whether a root's term is what was there at the start.
 fn is_start(left: &mut Left, root: usize, label: Label) -> Result<bool, AllocError> {
     if !left.reader.start(root)? {
         return Ok(true);
@@ -234,7 +234,7 @@ fn is_start(left: &mut Left, root: usize, label: Label) -> Result<bool, AllocErr
     }
 }
 
-/// One place on a line, behind its name, unless it keeps what was there.
+/// Writes one place on a line, after its name, unless it keeps what was there.
 fn put_place(
     alloc: Global,
     out: &mut Writer,
@@ -250,7 +250,7 @@ fn put_place(
     Ok(())
 }
 
-/// The name of a root's place.
+/// Writes the name of a root's place.
 fn put_name(out: &mut Writer, root: usize) {
     match root {
         HI => out.text("hi"),
@@ -263,14 +263,14 @@ fn put_name(out: &mut Writer, root: usize) {
     }
 }
 
-/// The end of a line: a text behind some words.
+/// Writes the end of a line: a text after some words.
 fn put_end(out: &mut Writer, before: &str, text: String) {
     out.text(before);
     out.text(text.as_str());
     out.text("\n");
 }
 
-/// A line for each register that changes.
+/// Writes a line for each register that changes.
 fn put_registers(
     alloc: Global,
     out: &mut Writer,
@@ -286,7 +286,7 @@ fn put_registers(
     Ok(())
 }
 
-/// A line for each of HI, LO and memory that changes, one for the exit and one for the guards.
+/// Writes a line for each of HI, LO and memory that changes, one for the exit and one for the guards.
 fn put_others(
     alloc: Global,
     out: &mut Writer,
@@ -308,8 +308,8 @@ fn lines_of(alloc: Global, left: &mut Left, depth: u32) -> Result<String, AllocE
     out.end()
 }
 
-/// What a block leaves: a line for each register, HI, LO and memory that changes, its term cut at a depth; one for the exit, one for the
-/// guards.
+/// Returns what a block leaves: a line for each register, HI, LO and memory that changes, its term cut at a depth; one for the exit, one
+/// for the guards.
 pub fn left_lines(alloc: Global, block: &Block, depth: u32) -> Result<String, ReadFault> {
     let mut left = left_of(alloc, Code::Block(block))?;
     let lines = lines_of(alloc, &mut left, depth)?;

@@ -1,4 +1,4 @@
-// Lines of instructions and exits.
+//! Lines of instructions and exits.
 ghost use Rattle.std.specs.Prelude.{◌≡◌, ℕ, ◌++◌, ◌∷◌, ◌<◌, ◌^◌, codes, decimal, IfSome, Some};
 ghost use Rattle.mips_isa.specs.declared.inst.Plain.{Plain};
 ghost use Rattle.mblock.specs.declared.exit.Exit.{Exit};
@@ -14,8 +14,7 @@ use crate::spelled::{Spelled, three, two};
 use mblock::{BlockNumber, Exit};
 use mips_isa::{PairTest, Plain, Reg, ZeroTest};
 
-/// The instruction that the line spells, if it spells one: as it is printed by Plain's Display, or
-/// `sll $0,$0,0` for `nop`.
+/// Returns the instruction that the line spells, if it spells one: as it is printed by Plain's Display, or `sll $0,$0,0` for `nop`.
 pub fn plain_of(line: &[u8]) -> Option<Plain>
     ensures found { IfSome result (SpellsPlain line.now) }
     ensures only { (i : Plain) → SpellsPlain line.now i → result ≡ Some i }
@@ -86,7 +85,7 @@ fn call(text: &[u8]) -> Option<Exit>
     })
 }
 
-/// The exit of this name with the targets that the text spells.
+/// Returns the exit of this name with the targets that the text spells.
 fn targets(name: ExitName, text: &[u8]) -> Option<Exit>
     ensures found { IfSome result (HasTargets name text.now) }
     ensures only { (e : Exit) → HasTargets name text.now e → result ≡ Some e }
@@ -100,8 +99,8 @@ fn targets(name: ExitName, text: &[u8]) -> Option<Exit>
     }
 }
 
-/// The exit that the line spells, if it spells one: `goto T`, `beq $s,$t,T,E` (`bne`), `blez $s,T,E`
-/// (`bgtz`, `bltz`, `bgez`), `call F,N`, `return`, `out N` or `halt`, with numbers of blocks below 2^20.
+/// Returns the exit that the line spells, if it spells one: `goto T`, `beq $s,$t,T,E` (`bne`), `blez $s,T,E` (`bgtz`, `bltz`, `bgez`),
+/// `call F,N`, `return`, `out N` or `halt`, with numbers of blocks below 2^20.
 pub fn exit_of(line: &[u8]) -> Option<Exit>
     ensures found { IfSome result (SpellsExit line.now) }
     ensures only { (e : Exit) → SpellsExit line.now e → result ≡ Some e }

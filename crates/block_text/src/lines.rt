@@ -1,4 +1,4 @@
-// Blocks and orders in the lines of a check text.
+//! Blocks and orders in the lines of a check text.
 
 ghost use Rattle.std.specs.Prelude.{◌≡◌, Some};
 ghost use Rattle.block_text.specs.Spelling.{exit_text, name_of_exit, targets_text};
@@ -9,7 +9,7 @@ use mblock::{BlockNumber, Exit, Order};
 use mips_isa::Plain;
 use std::fmt;
 
-/// The name of an exit that names blocks.
+/// Returns the name of an exit that names blocks.
 fn name_of(exit: &Exit) -> Option<ExitName>
     ensures { result ≡ name_of_exit exit.now }
 {
@@ -23,7 +23,7 @@ fn name_of(exit: &Exit) -> Option<ExitName>
     }
 }
 
-/// What stands behind the name of an exit, or alone.
+/// What stands after the name of an exit, or alone.
 #[derive(Clone, Copy)]
 struct Targets<'a>(&'a Exit);
 
@@ -88,13 +88,13 @@ impl fmt::Display for ExitLine {
     }
 }
 
-/// The number of a block behind some words.
+/// Writes the number of a block after some words.
 pub(crate) fn put_block(out: &mut Writer, before: &str, block: BlockNumber) {
     out.text(before);
     out.put(&block.number());
 }
 
-/// Instructions, each behind a margin and before an end.
+/// Writes instructions, each after a margin and before an end.
 pub fn put_insts(out: &mut Writer, insts: &[Plain], margin: &str, end: &str) {
     for inst in insts {
         out.text(margin);
@@ -103,7 +103,7 @@ pub fn put_insts(out: &mut Writer, insts: &[Plain], margin: &str, end: &str) {
     }
 }
 
-/// An order: its instructions, its exit and its slot.
+/// Writes an order: its instructions, its exit and its slot.
 pub fn put_order(out: &mut Writer, order: &Order, margin: &str, end: &str) {
     put_insts(out, order.insts(), margin, end);
     out.text(margin);

@@ -1,4 +1,4 @@
-// Names of instructions and exits.
+//! Names of instructions and exits.
 ghost use Rattle.std.specs.Prelude.{◌≡◌, ℕ, List, IfSome, Some};
 ghost use Rattle.mips_isa.specs.Texts.{mnemonic_text};
 ghost use Rattle.mips_isa.specs.declared.text.Mnemonic.{Mnemonic};
@@ -13,7 +13,7 @@ use words::{Sign, Width};
 trait Named: Copy {
     ghost text: { Self → List ℕ };
 
-    /// The word.
+    /// Returns the word.
     fn word(self) -> &'static str
         ensures { result.now ≡ text self };
 }
@@ -61,7 +61,7 @@ const MNEMONICS: &[Mnemonic] = &[
     Mnemonic::Store(Width::Byte),
 ];
 
-/// The first of some things that the word names.
+/// Returns the first of some things that the word names.
 fn first_named<N: Named>(all: &[N], word: &[u8]) -> Option<N>
     ensures { result ≡ first_named N.text word.now all.now }
 {
@@ -73,7 +73,7 @@ fn first_named<N: Named>(all: &[N], word: &[u8]) -> Option<N>
     None
 }
 
-/// The mnemonic that the word is.
+/// Returns the mnemonic that the word is.
 pub fn mnemonic_named(word: &[u8]) -> Option<Mnemonic>
     ensures found { IfSome result (λ n. word.now ≡ mnemonic_text n) }
     ensures only { (n : Mnemonic) → word.now ≡ mnemonic_text n → result ≡ Some n }
@@ -95,7 +95,7 @@ impl ExitName {
     ghost use Rattle.std.specs.Prelude.{◌≡◌};
     ghost use Rattle.block_text.specs.Spelling.{exit_name_text};
 
-    /// The word.
+    /// Returns the word.
     pub fn name(self) -> &'static str
         ensures { result.now ≡ exit_name_text self }
     {
@@ -134,7 +134,7 @@ const EXIT_NAMES: &[ExitName] = &[
     ExitName::Out,
 ];
 
-/// The exit that the word names.
+/// Returns the exit that the word names.
 pub fn exit_named(word: &[u8]) -> Option<ExitName>
     ensures found { IfSome result (λ n. word.now ≡ exit_name_text n) }
     ensures only { (n : ExitName) → word.now ≡ exit_name_text n → result ≡ Some n }

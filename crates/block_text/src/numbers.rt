@@ -1,4 +1,4 @@
-// Numbers and registers as texts.
+//! Numbers and registers as texts.
 
 ghost use Rattle.std.specs.Prelude.{◌<◌, ◌^◌, decimal, FitsSigned};
 ghost use Rattle.std.specs.Fmt.{signed_decimal};

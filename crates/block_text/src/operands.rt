@@ -1,4 +1,4 @@
-// Operands, form by form of instruction.
+//! Operands, form by form of instruction.
 ghost use Rattle.std.specs.Prelude.{◌≡◌, ℕ, ℤ, ◌<◌, IfSome, Some, FitsSigned};
 ghost use Rattle.std.specs.Int.{w16};
 ghost use Rattle.mips_isa.specs.Texts.{address_text};
@@ -145,7 +145,7 @@ fn store(width: Width, text: &[u8]) -> Option<Plain>
     })
 }
 
-/// The instruction of this mnemonic with the operands that the text spells.
+/// Returns the instruction of this mnemonic with the operands that the text spells.
 pub fn operands(name: Mnemonic, text: &[u8]) -> Option<Plain>
     ensures found { IfSome result (HasOperands name text.now) }
     ensures only { (i : Plain) → HasOperands name text.now i → result ≡ Some i }

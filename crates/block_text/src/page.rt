@@ -1,4 +1,4 @@
-// Text as it is printed: printable, and in lines that aren't too long.
+//! Text as it is printed: printable, and in lines that aren't too long.
 
 ghost use Rattle.std.specs.Prelude.{All, IfOk};
 ghost use Rattle.block_text.specs.Shown.{IsShown};
@@ -10,7 +10,7 @@ pub const WIDTH: usize = 120;
 
 const DOTS: usize = 3;
 
-/// The byte itself if it is printable or a line's end, else `?`.
+/// Returns the byte itself if it is printable or a line's end, else `?`.
 fn shown_byte(byte: u8) -> u8
     ensures { IsShown result }
 {
@@ -21,7 +21,7 @@ fn shown_byte(byte: u8) -> u8
     }
 }
 
-/// One more byte, as it is shown.
+/// Writes one more byte, as it is shown.
 fn put(page: &mut Vec<u8>, byte: u8) -> Result<(), AllocError>
     requires { All IsShown page.old.items }
     ensures { All IsShown page.new.items }
@@ -30,7 +30,7 @@ fn put(page: &mut Vec<u8>, byte: u8) -> Result<(), AllocError>
     Ok(())
 }
 
-/// A line, cut where it is longer than so many bytes.
+/// Writes a line, cut where it is longer than so many bytes.
 fn put_line(page: &mut Vec<u8>, line: &[u8], width: usize) -> Result<(), AllocError>
     requires { All IsShown page.old.items }
     ensures { All IsShown page.new.items }
@@ -52,7 +52,7 @@ fn put_line(page: &mut Vec<u8>, line: &[u8], width: usize) -> Result<(), AllocEr
     put(page, b'\n')
 }
 
-/// The text with `?` for what isn't printable, and `...` for what is too much of a line.
+/// Returns the text with `?` for what isn't printable, and `...` for what is too much of a line.
 pub fn page_of(alloc: Global, text: &[u8], width: usize) -> Result<Vec<u8>, AllocError>
     ensures { IfOk result (λ page. All IsShown page.items) }
 {

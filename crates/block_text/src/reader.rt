@@ -1,4 +1,4 @@
-// The whole text, line by line.
+//! The whole text, line by line.
 ghost use Rattle.std.specs.Prelude.{◌≡◌, ℕ, ◌≤◌, ◌^◌, length, IfOk, IfErr, IfSome, OnOk, MatchResult, Some, true};
 ghost use Rattle.mips_isa.specs.declared.inst.Plain.{Plain};
 ghost use Rattle.mblock.specs.declared.limits.TheConstants.{BLOCK_INSTS, ORDER_INSTS};
@@ -96,7 +96,7 @@ fn at_slot(block: Block, insts: Vec<Plain>, exit: Exit, line: &[u8]) -> Option<S
     }
 }
 
-/// Where one line takes the reader.
+/// Returns where one line takes the reader.
 fn step(alloc: Global, place: Stage, line: &[u8]) -> Result<Option<Stage>, AllocError>
     requires { Fits place }
     ensures leads { IfOk result (λ r. LeadsTo (stage_parts place) line.now (parts_after r)) }
@@ -124,9 +124,8 @@ fn step(alloc: Global, place: Stage, line: &[u8]) -> Result<Option<Stage>, Alloc
     }
 }
 
-/// The block and the order that the text, of at most 2^20 bytes, spells: a line `block`, at most 512
-/// instructions, an exit; a line `order`, at most 2,048 instructions, an exit, and a line `slot I` with
-/// an instruction unless the exit is `out` or `halt`.
+/// Returns the block and the order that the text, of at most 2^20 bytes, spells: a line `block`, at most 512 instructions, an exit; a line
+/// `order`, at most 2,048 instructions, an exit, and a line `slot I` with an instruction unless the exit is `out` or `halt`.
 pub fn read(alloc: Global, text: &[u8]) -> Result<Text, PairFault>
     requires { length text.now ≤ 2 ^ 20 }
     ensures found { IfOk result (λ t. SpellsPair (lines_of text.now) t.block t.order) }

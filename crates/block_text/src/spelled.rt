@@ -1,4 +1,4 @@
-// Values as texts.
+//! Values as texts.
 
 ghost use Rattle.std.specs.Prelude.{◌≡◌, ℕ, List, ◌++◌, ◌∷◌, IfSome, Some, true};
 ghost use Rattle.block_text.specs.Lines.{lacks};
@@ -11,13 +11,13 @@ pub trait Spelled: Copy {
 
     ghost spelling: { Self → List ℕ };
 
-    /// The value that the text spells.
+    /// Reads the value that the text spells.
     fn read(text: &[u8]) -> Option<Self>
         ensures found { IfSome result (λ x. fits x × (text.now ≡ spelling x)) }
         ensures only { (x : Self) → fits x → text.now ≡ spelling x → result ≡ Some x };
 }
 
-/// Two values with a comma between them.
+/// Reads two values with a comma between them.
 pub fn two<A: Spelled, B: Spelled>(text: &[u8]) -> Option<(A, B)>
     ensures found { IfSome result (λ r. A.fits r.0 × B.fits r.1 × (text.now ≡ A.spelling r.0 ++ 44 ∷ B.spelling r.1)) }
     ensures only { (a : A) (b : B) → lacks 44 (A.spelling a) ≡ true → A.fits a → B.fits b → text.now ≡ A.spelling a ++ 44 ∷ B.spelling b
@@ -29,7 +29,7 @@ pub fn two<A: Spelled, B: Spelled>(text: &[u8]) -> Option<(A, B)>
     Some((first, second))
 }
 
-/// Three values with commas between them.
+/// Reads three values with commas between them.
 pub fn three<A: Spelled, B: Spelled, C: Spelled>(text: &[u8]) -> Option<(A, B, C)>
     ensures found { IfSome result (λ r. A.fits r.0 × B.fits r.1 × C.fits r.2
         × (text.now ≡ A.spelling r.0 ++ 44 ∷ (B.spelling r.1 ++ 44 ∷ C.spelling r.2))) }

@@ -1,4 +1,4 @@
-// The terms of what a block or an order leaves, read out of a table.
+//! The terms of what a block or an order leaves, read out of a table.
 
 ghost use Rattle.std.specs.Prelude.{All, IfOk, IfSome, OnOk};
 ghost use Rattle.term_table.specs.Passes.{IsOf};
@@ -63,14 +63,14 @@ impl Model for TermReader {
     ghost invariant = { λ r. IsReader r.open };
 }
 
-/// A table of so many terms and chains, for one pass.
+/// Returns a table of so many terms and chains, for one pass.
 fn tables(alloc: Global, nodes: u64, heads: u64) -> Option<(TermTable, Vec<Pass>)>
     ensures { IfSome result (λ t. All (IsOf t.0) t.1.items) }
 {
     TermTable::open(alloc, 1, nodes, heads).ok()
 }
 
-/// A table for one pass, and its pass; none where memory is refused.
+/// Returns a table for one pass, and its pass; none if memory runs out.
 pub fn table_of(alloc: Global, room: Room) -> Option<(TermTable, Pass)>
     ensures { IfSome result (λ t. IsOf t.0 t.1) }
 {
@@ -83,7 +83,7 @@ pub fn table_of(alloc: Global, room: Room) -> Option<(TermTable, Pass)>
     Some((table, pass))
 }
 
-/// One more root, which the pass has seen.
+/// Adds one more root, which the pass has seen.
 fn put(roots: &mut Vec<Ticket>, ticket: Ticket, _pass: &Pass) -> Result<(), AllocError>
     requires seen { HasSeen _pass.now ticket }
     requires all { All (HasSeen _pass.now) roots.old.items }
@@ -154,7 +154,7 @@ fn put_guards(roots: &mut Vec<Ticket>, guards: &[Guard], pass: &Pass) -> Result<
     Ok(())
 }
 
-/// The tickets of all places.
+/// Returns the tickets of all places.
 fn roots_of(alloc: Global, state: &SymState, pass: &Pass) -> Result<Vec<Ticket>, AllocError>
     requires { IsSeenState pass.now state.now.places state.now.exit state.now.guards.items }
     ensures { IfOk result (λ v. All (HasSeen pass.now) v.items) }
@@ -174,7 +174,7 @@ pub struct Left {
     pub guards: Vec<Guard>,
 }
 
-/// The reader of a state that a pass has seen.
+/// Returns the reader of a state that a pass has seen.
 fn left_by(alloc: Global, table: TermTable, pass: Pass, state: SymState) -> Result<Left, ReadFault>
     requires own { IsOf table pass }
     requires seen { IsSeenState pass state.places state.exit state.guards.items }
@@ -201,7 +201,7 @@ pub(crate) enum Code<'a> {
     Order(&'a Order),
 }
 
-/// The tickets of what a block or an order leaves.
+/// Returns the tickets of what a block or an order leaves.
 fn run(
     alloc: Global,
     table: &TermTable,
@@ -218,7 +218,7 @@ fn run(
     }
 }
 
-/// What a block or an order leaves, over a table of some room.
+/// Returns what a block or an order leaves, over a table of some room.
 fn left_in(alloc: Global, code: Code<'_>, size: Room) -> Result<Left, ReadFault> {
     let Some((table, mut pass)) = table_of(alloc, size) else {
         return Err(ReadFault::NoMemory);
@@ -229,7 +229,7 @@ fn left_in(alloc: Global, code: Code<'_>, size: Room) -> Result<Left, ReadFault>
     }
 }
 
-/// What a block or an order leaves.
+/// Returns what a block or an order leaves.
 pub(crate) fn left_of(alloc: Global, code: Code<'_>) -> Result<Left, ReadFault> {
     match left_in(alloc, code, Room::Few) {
         Err(ReadFault::Full) => left_in(alloc, code, Room::Many),
@@ -238,7 +238,7 @@ pub(crate) fn left_of(alloc: Global, code: Code<'_>) -> Result<Left, ReadFault> 
 }
 
 impl Open {
-    /// The root of the term that is next, and how many children it has, which are next then, the last one first.
+    /// Returns the root of the term that is next, and how many children it has, which are next then, the last one first.
     fn next(&mut self) -> Result<Option<(Label, usize)>, AllocError>
         requires { IsReader self.old }
         ensures { IsReader self.new }
@@ -253,7 +253,7 @@ impl Open {
 }
 
 impl TermReader {
-    /// Goes to a root; false where there is none of this number.
+    /// Goes to a root; false if there is none of this number.
     pub fn start(&mut self, root: usize) -> Result<bool, AllocError> {
         self.open.waiting.clear();
         match self.open.roots.get(root).copied() {
@@ -265,8 +265,8 @@ impl TermReader {
         }
     }
 
-    /// The label of the term that is next, and how many children it has, which are next then, the last one first. None where
-    /// nothing is left.
+    /// Returns the label of the term that is next, and how many children it has, which are next then, the last one first. None if nothing
+    /// is left.
     pub fn next(&mut self) -> Result<Option<(Label, usize)>, AllocError> {
         self.open.next()
     }

@@ -1,4 +1,4 @@
-// The text of a term.
+//! The text of a term.
 
 use crate::terms::TermReader;
 use crate::writer::Writer;
@@ -50,7 +50,7 @@ pub(crate) fn zero_sign(test: ZeroTest) -> &'static str {
     }
 }
 
-/// The sign between operands, of those that have one in C.
+/// Returns the sign between operands, of those that have one in C.
 fn sign(operator: Operator) -> Option<&'static str> {
     match operator {
         Operator::Addu => Some(" + "),
@@ -63,7 +63,7 @@ fn sign(operator: Operator) -> Option<&'static str> {
     }
 }
 
-/// The sign between the operands of a term, if its label has one.
+/// Returns the sign between the operands of a term, if its label has one.
 fn infix(label: &Label) -> Option<&'static str> {
     match label {
         Label::Op(operator) => sign(*operator),
@@ -71,7 +71,7 @@ fn infix(label: &Label) -> Option<&'static str> {
     }
 }
 
-/// The operator's instruction, with the register that it is read from where there are two.
+/// Returns the operator's instruction, with the register that it is read from where there are two.
 fn operator_name(operator: Operator) -> &'static str {
     match operator {
         Operator::Addu => "addu",
@@ -108,7 +108,7 @@ fn put_origin(out: &mut Writer, origin: &Origin) {
     }
 }
 
-/// The label of a term, where it has no operands; a word as a signed number.
+/// Writes the label of a term, if it has no operands; a word as a signed number.
 fn put_label(out: &mut Writer, label: &Label) {
     match label {
         Label::Init(origin) => put_origin(out, origin),
@@ -126,7 +126,7 @@ fn label_text(alloc: Global, label: &Label) -> Result<String, AllocError> {
     out.end()
 }
 
-/// The operands, the last of which stands first, between parentheses and with this between them.
+/// Writes the operands, the last of which stands first, between parentheses and with this between them.
 fn put_operands(out: &mut Writer, operands: &[String], between: &str) {
     out.text("(");
     for (k, operand) in operands.iter().rev().enumerate() {
@@ -138,7 +138,7 @@ fn put_operands(out: &mut Writer, operands: &[String], between: &str) {
     out.text(")");
 }
 
-/// A term of a label and its operands, the last of which stands first. The label stands before them, or as a sign between them.
+/// Returns a term of a label and its operands, the last of which stands first. The label stands before them, or as a sign between them.
 fn term_text(alloc: Global, label: &Label, operands: &[String]) -> Result<String, AllocError> {
     let mut out = Writer::new(alloc);
     let between = match infix(label) {
@@ -152,7 +152,7 @@ fn term_text(alloc: Global, label: &Label, operands: &[String]) -> Result<String
     out.end()
 }
 
-/// The text of the term that is next, cut at a depth, and where so many parts were shown.
+/// Returns the text of the term that is next, cut at a depth, and where so many parts were shown.
 fn next_text(
     alloc: Global,
     reader: &mut TermReader,
@@ -177,7 +177,7 @@ fn next_text(
     term_text(alloc, &label, operands.as_slice())
 }
 
-/// The text of a root's term, cut at a depth; empty where there is no such root.
+/// Returns the text of a root's term, cut at a depth; empty where there is no such root.
 pub(crate) fn root_text(
     alloc: Global,
     reader: &mut TermReader,

@@ -1,4 +1,4 @@
-// A text for people, as it is written.
+//! A text for people, as it is written.
 
 ghost use Rattle.std.specs.Prelude.{◌≡◌, [], None, Some, IfErr, IfOk, IfSome};
 ghost use Rattle.std.specs.String.{string_bytes};
@@ -26,7 +26,7 @@ impl Model for Writer {
 }
 
 impl Writer {
-    /// Nothing is written yet.
+    /// Returns a writer with nothing written.
     pub fn new(alloc: Global) -> Writer
         ensures { result ≡ Some [] }
     {
@@ -55,7 +55,7 @@ impl Writer {
         }
     }
 
-    /// What was written, unless memory was refused.
+    /// Returns what was written, unless memory was refused.
     pub fn end(self) -> Result<String, AllocError>
         ensures ok { IfOk result (λ text. self ≡ Some (string_bytes text)) }
         ensures err { IfErr result (λ _. self ≡ None) }

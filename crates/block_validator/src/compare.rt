@@ -32,7 +32,7 @@ fn has_guard(guards: &[Guard], guard: &Guard) -> bool
     false
 }
 
-/// Each of the second's guards is one of the first's.
+/// Reports whether each of the second's guards is one of the first's.
 fn has_guards(a: &[Guard], b: &[Guard]) -> bool
     ensures { IsTrue result ↔ ((g : AGuard) → Contains b.now g → Contains a.now g) }
 {

@@ -48,15 +48,15 @@ impl<'a> Checked<'a> {
     ghost use Rattle.mblock.specs.Orders.{Means};
     ghost use Rattle.block_validator.specs.Same.{SameTrees};
 
-    /// The block.
+    /// Returns the block.
     pub fn block(&self) -> &'a Block
         ensures { result.now ≡ self.now.block }
     {
         self.block
     }
 
-    /// The order. From every start state of words, and whatever link a call would put in: where the
-    /// block isn't stuck, the order isn't, and leaves equal registers, HI, LO, memory and exit.
+    /// Returns the order. From every start state of words, and whatever link a call would put in: where the block isn't stuck, the order
+    /// isn't, and leaves equal registers, HI, LO, memory and exit.
     pub fn order(&self) -> &Order
         ensures value { result.now ≡ self.now.order }
         ensures clean { IsClean self.now.order }
@@ -68,7 +68,7 @@ impl<'a> Checked<'a> {
         &self.order
     }
 
-    /// The order alone, with the same promises.
+    /// Returns the order alone, with the same promises.
     pub fn into_order(self) -> Order
         ensures value { result ≡ self.entry.order }
         ensures clean { IsClean result }
@@ -97,7 +97,7 @@ pub enum Verdict<'a> {
     NoMemory,
 }
 
-// The first place that differs, none where there is none.
+/// Returns the first place that differs, none if there is none.
 fn compare(
     alloc: Global,
     table: &TermTable,
@@ -118,7 +118,7 @@ fn compare(
     }
 }
 
-// The same, from a start whose terms the pass knows.
+/// Returns the same, from a start whose terms the pass knows.
 fn compare_from(
     alloc: Global,
     table: &TermTable,
@@ -141,7 +141,7 @@ fn compare_from(
     }
 }
 
-// What a comparison says of a clean order.
+/// Returns what a comparison says of a clean order.
 fn verdict_of<'a>(
     block: &'a Block,
     order: Order,
@@ -162,8 +162,8 @@ fn verdict_of<'a>(
     }
 }
 
-/// The verdict on an order for a block: the least delay rule that it breaks, else the first place whose
-/// terms differ, else that it means the block.
+/// Returns the verdict on an order for a block: the least delay rule that it breaks, else the first place whose terms differ, else that it
+/// means the block.
 ///
 /// Memory is taken before any term is linked: where it is refused or a rule is broken, the pass is as it was. `Full` comes only if the
 /// pass has linked all it may and a term that block or order asks for isn't in the table. Whatever the verdict, the terms that were
@@ -197,8 +197,8 @@ pub fn validate<'a>(
     verdict_of(block, order, compared)
 }
 
-/// The verdict on an order for a block, as `validate` gives it, from a start whose terms the pass knows: they are made once for many
-/// blocks.
+/// Returns the verdict on an order for a block, as `validate` gives it, from a start whose terms the pass knows: they are made once for
+/// many blocks.
 pub fn validate_from<'a>(
     alloc: Global,
     table: &TermTable,
@@ -230,13 +230,12 @@ pub fn validate_from<'a>(
     verdict_of(block, order, found)
 }
 
-/// Each clean order that has its block's trees means the block. A law: it computes nothing.
+/// States that each clean order that has its block's trees means the block. A law: it computes nothing.
 pub fn checked_orders_mean_their_blocks()
     ensures { EachCheckedOrderMeansItsBlock }
 {}
 
-/// A block and an order have one verdict: no two of what `Decides` says of them differ. A law: it
-/// computes nothing.
+/// States that a block and an order have one verdict: no two of what `Decides` says of them differ. A law: it computes nothing.
 pub fn one_verdict()
     ensures { OneDecision }
 {}

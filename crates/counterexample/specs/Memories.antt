@@ -1,4 +1,4 @@
--- The bytes of memory: what fills it, behind the stores since. Every address is mapped.
+-- The bytes of memory: what fills it, after the stores since. Every address is mapped.
 use Rattle.std.specs.Prelude.{◌≡◌, ℕ, Bool, true, ◌&&◌, ◌==◌, List, [], ◌∷◌}
 use Rattle.words.specs.declared.width.Width.{Width}
 use Rattle.words.specs.declared.width.Width.TheVariants.{Word, Byte}
@@ -10,7 +10,7 @@ use Rattle.counterexample.specs.Fillings.{filled_byte}
 abbrev pub everywhere : ℕ → Bool
 everywhere a = true
 
--- memory behind stores, the first one first
+-- memory after stores, the first one first
 abbrev pub stored : (ℕ → ℕ) → List Stored → ℕ → ℕ
 stored memory [] = memory
 stored memory (s ∷ rest) = stored (store_at s.width everywhere memory s.address s.word) rest
@@ -18,7 +18,7 @@ stored memory (s ∷ rest) = stored (store_at s.width everywhere memory s.addres
 abbrev pub bytes_of : Memory → ℕ → ℕ
 bytes_of m = stored (filled_byte m.filling) m.stores.items
 
--- the byte at an address behind a store, by the one that was there
+-- the byte at an address after a store, by the one that was there
 abbrev pub byte_behind : Stored → ℕ → ℕ → ℕ
 byte_behind s a before = store_at s.width everywhere (λ b. before) s.address s.word a
 

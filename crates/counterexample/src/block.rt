@@ -1,4 +1,4 @@
-// The run of a block.
+//! The run of a block.
 ghost use Rattle.std.specs.Prelude.{◌≡◌, map, IfOk, IfSome, Some, None, if◌then◌else◌};
 ghost use Rattle.mips_isa.specs.Actions.{action_of};
 ghost use Rattle.mblock.specs.BlockMeaning.{run, block_effect};
@@ -11,7 +11,7 @@ use mblock::Block;
 use mips_isa::Plain;
 use std::alloc::{AllocError, Global};
 
-// Instructions one after another, a load showing at once; false where one isn't safe.
+/// Runs instructions one after another, a load showing at once; false if one isn't safe.
 fn run(registers: &mut Registers, insts: &[Plain]) -> Result<bool, AllocError>
     ensures state { IfOk result (λ b. run (map action_of insts.now) (state_of registers.old)
         ≡ (if b then Some (state_of registers.new) else None)) }
@@ -25,8 +25,8 @@ fn run(registers: &mut Registers, insts: &[Plain]) -> Result<bool, AllocError>
     Ok(true)
 }
 
-/// What a block does from a start, with the link that a call of it would put in: None exactly where it is stuck. `Err` only where
-/// memory is refused.
+/// Returns what a block does from a start, with the link that a call of it would put in: None exactly if it is stuck. `Err` only if memory
+/// runs out.
 pub fn run_block(
     alloc: Global,
     block: &Block,

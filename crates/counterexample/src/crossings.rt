@@ -1,4 +1,4 @@
-// Accesses of memory that an order has the other way round than its block.
+//! Accesses of memory that an order has the other way round than its block.
 
 use crate::origins::{Pair, access_of};
 use mblock::{Block, Order};
@@ -12,12 +12,12 @@ fn is_access(inst: &Plain) -> bool {
     access_of(&inst.action()).is_some()
 }
 
-/// Whether one of two accesses is a store.
+/// Reports whether one of two accesses is a store.
 fn has_store(one: &Plain, other: &Plain) -> bool {
     !one.action().is_load() || !other.action().is_load()
 }
 
-/// Whether an instruction from the first on and before the second writes the register.
+/// Reports whether an instruction from the first on and before the second writes the register.
 fn is_written(insts: &[Plain], pair: Pair, register: Reg) -> bool {
     for inst in insts.get(pair.first..pair.second).unwrap_or_default() {
         if inst.writes(register) {
@@ -27,7 +27,7 @@ fn is_written(insts: &[Plain], pair: Pair, register: Reg) -> bool {
     false
 }
 
-/// Whether two instructions have one base, which isn't written from the first on: so the offsets tell whether they meet.
+/// Reports whether two instructions have one base, which isn't written from the first on: so the offsets tell whether they meet.
 fn is_one_base(insts: &[Plain], pair: Pair) -> bool {
     let (Some(one), Some(other)) = (insts.get(pair.first), insts.get(pair.second)) else {
         return false;
@@ -66,7 +66,7 @@ impl<'b> Waiting<'b> {
         self.insts.get(place)
     }
 
-    /// The number of the first of the waiting accesses that is this instruction.
+    /// Returns the number of the first of the waiting accesses that is this instruction.
     fn number_of(&self, inst: &Plain) -> Option<usize> {
         for (number, place) in self.places.iter().enumerate() {
             if self.inst(*place) == Some(inst) {
@@ -76,7 +76,7 @@ impl<'b> Waiting<'b> {
         None
     }
 
-    /// The order does this instruction: it passes the accesses that still wait before it.
+    /// Notes that the order does this instruction: it passes the accesses that still wait before it.
     fn does(&mut self, inst: &Plain) -> Result<(), AllocError> {
         let Some(number) = self.number_of(inst) else {
             return Ok(());
@@ -105,7 +105,7 @@ impl<'b> Waiting<'b> {
     }
 }
 
-/// Pairs of accesses, one of them a store, that the order has the other way round than the block.
+/// Returns pairs of accesses, one of them a store, that the order has the other way round than the block.
 pub(crate) fn crossings(
     alloc: Global,
     block: &Block,

@@ -1,4 +1,4 @@
-// Where what two runs leave differs.
+//! Where what two runs leave differs.
 ghost use Rattle.std.specs.Prelude.{◌≡◌, ◌≢◌, ℕ, ◌+◌, ◌%◌, ◌<◌, IfSome, IfNone, Contains, slice_index, Some, false, true};
 ghost use Rattle.counterexample.specs.declared.memory.Stored.{Stored as AStored};
 ghost use Rattle.counterexample.specs.Memories.{bytes_of, SameReached};
@@ -38,7 +38,7 @@ fn first_register(a: &Registers, b: &Registers) -> Option<Reg>
     None
 }
 
-// A byte of the word at an address that differs.
+/// Returns a byte of the word at an address that differs.
 fn byte_of_word(a: &Memory, b: &Memory, address: u32) -> Option<u32>
     requires { address % 4 ≡ 0 }
     ensures some { IfSome result (λ x. bytes_of a.now x ≢ bytes_of b.now x) }
@@ -52,7 +52,7 @@ fn byte_of_word(a: &Memory, b: &Memory, address: u32) -> Option<u32>
     None
 }
 
-// A byte that a store reaches and that differs.
+/// Returns a byte that a store reaches and that differs.
 fn byte_of_store(a: &Memory, b: &Memory, stored: &Stored) -> Option<u32>
     ensures some { IfSome result (λ x. bytes_of a.now x ≢ bytes_of b.now x) }
     ensures none { IfNone result (SameReached a.now b.now stored.now) }
@@ -75,7 +75,7 @@ fn byte_of_store(a: &Memory, b: &Memory, stored: &Stored) -> Option<u32>
     }
 }
 
-// A byte that one of the stores reaches and that differs.
+/// Returns a byte that one of the stores reaches and that differs.
 fn byte_of_stores(a: &Memory, b: &Memory, stores: &[Stored]) -> Option<u32>
     ensures some { IfSome result (λ x. bytes_of a.now x ≢ bytes_of b.now x) }
     ensures none { IfNone result ((s : AStored) → Contains stores.now s → SameReached a.now b.now s) }
@@ -89,7 +89,7 @@ fn byte_of_stores(a: &Memory, b: &Memory, stores: &[Stored]) -> Option<u32>
     None
 }
 
-// A byte that differs, of memories that are filled alike.
+/// Returns a byte that differs, of memories that are filled alike.
 fn first_byte(a: &Memory, b: &Memory) -> Option<u32>
     requires { a.now.filling ≡ b.now.filling }
     ensures some { IfSome result (λ x. bytes_of a.now x ≢ bytes_of b.now x) }
@@ -102,7 +102,7 @@ fn first_byte(a: &Memory, b: &Memory) -> Option<u32>
 }
 
 impl Departs {
-    /// Whether both go to the same place with the same word.
+    /// Reports whether both go to the same place with the same word.
     fn is_same(&self, other: &Departs) -> bool
         ensures other { result ≡ false → departure_in self.now ≢ departure_in other.now }
         ensures same { result ≡ true → departure_in self.now ≡ departure_in other.now }
@@ -136,7 +136,7 @@ impl Departs {
     }
 }
 
-/// A difference of what two runs leave.
+/// Returns a difference of what two runs leave.
 pub(crate) fn difference_of(a: &Left, b: &Left) -> Option<Difference>
     requires { a.now.registers.memory.filling ≡ b.now.registers.memory.filling }
     ensures some { IfSome result (λ d. DiffersIn d (effect_of a.now) (Some (effect_of b.now))) }

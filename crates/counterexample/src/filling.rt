@@ -1,4 +1,4 @@
-// What memory holds at the start, by a few numbers.
+//! What memory holds at the start, by a few numbers.
 ghost use Rattle.std.specs.Prelude.{◌≡◌, ◌<◌, ◌%◌, ◌/◌};
 ghost use Rattle.mips_isa.specs.States.{byte_of};
 ghost use Rattle.counterexample.specs.Fillings.{filled_word, filled_byte};
@@ -13,7 +13,7 @@ pub struct Filling {
     pub offset: u32,
 }
 
-// The byte at a place of a word, the highest first.
+/// Returns the byte at a place of a word, the highest first.
 pub(crate) fn byte_at_place(word: u32, place: usize) -> u8
     requires { place < 4 }
     ensures { result ≡ byte_of word place }
@@ -22,7 +22,7 @@ pub(crate) fn byte_at_place(word: u32, place: usize) -> u8
 }
 
 impl Filling {
-    /// The word with this number: that at four times the number.
+    /// Returns the word with this number: that at four times the number.
     #[tactic(auto, unfolding(crate::specs::Fillings::filled_word))]
     pub fn word(&self, number: u32) -> u32
         ensures { result ≡ filled_word self.now number }
@@ -31,7 +31,7 @@ impl Filling {
         self.base.wrapping_add((mixed >> 8) & self.mask)
     }
 
-    /// The byte at an address.
+    /// Returns the byte at an address.
     pub fn byte(&self, a: u32) -> u8
         ensures { result ≡ filled_byte self.now a }
     {

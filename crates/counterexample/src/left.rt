@@ -1,4 +1,4 @@
-// What a run leaves, and where it goes on.
+//! What a run leaves, and where it goes on.
 ghost use Rattle.std.specs.Prelude.{◌≡◌, map, if◌then◌else◌};
 ghost use Rattle.mips_isa.specs.States.{read};
 ghost use Rattle.mblock.specs.BlockMeaning.{exit_shape, exit_reads, exit_puts, departure_of};
@@ -32,7 +32,7 @@ pub struct Left {
 }
 
 impl Registers {
-    /// Where an exit leads from here.
+    /// Returns where an exit leads from here.
     pub fn departs(&self, exit: &Exit) -> Departs
         ensures { departure_in result ≡ departure_of (exit_shape exit.now) (map (read 0 (state_of self.now).regs) (exit_reads exit.now)) }
     {
@@ -73,7 +73,7 @@ impl Registers {
         }
     }
 
-    /// What an exit itself writes: its link, or its number of a call to the system.
+    /// Writes what an exit itself writes: its link, or its number of a call to the system.
     pub fn put_own(&mut self, exit: &Exit, link: u32)
         ensures state { state_of self.new ≡ record (state_of self.old) { regs = exit_puts link 1 10 (exit_shape exit.now) (state_of self.old).regs } }
         ensures filling { self.new.memory.filling ≡ self.old.memory.filling }

@@ -1,4 +1,4 @@
-// Which words of memory runs from a start load.
+//! Which words of memory runs from a start load.
 
 use crate::registers::Registers;
 use crate::start::Start;
@@ -6,7 +6,7 @@ use mblock::{Block, Order};
 use mips_isa::{Action, Plain};
 use std::alloc::{AllocError, Global};
 
-/// The address of the word that an action loads, or loads a byte of.
+/// Returns the address of the word that an action loads, or loads a byte of.
 fn loaded_word(registers: &Registers, action: &Action) -> Option<u32> {
     match *action {
         Action::Loads { base, offset, .. } => {
@@ -24,7 +24,7 @@ fn put_new(words: &mut Vec<u32>, word: u32) -> Result<(), AllocError> {
     Ok(())
 }
 
-/// The words that instructions load, up to one that isn't safe.
+/// Adds the words that instructions load, up to one that isn't safe.
 fn put_loaded(
     words: &mut Vec<u32>,
     registers: &mut Registers,
@@ -42,7 +42,7 @@ fn put_loaded(
     Ok(())
 }
 
-/// The addresses of the words of memory that block and order load from a start, wholly or a byte of them: what these held then, and
+/// Returns the addresses of the words of memory that block and order load from a start, wholly or a byte of them: what these held then, and
 /// the registers, tell what both do.
 pub fn loaded_words(
     alloc: Global,

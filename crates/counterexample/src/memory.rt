@@ -1,4 +1,4 @@
-// Memory: what fills it at the start, and the stores since.
+//! Memory: what fills it at the start, and the stores since.
 ghost use Rattle.std.specs.Prelude.{◌≡◌, ◌+◌, ◌*◌, ◌<◌, ◌^◌, ◌%◌, IfOk, IfSome, is_some, true, ◌&&◌};
 ghost use Rattle.mips_isa.specs.States.{is_aligned, is_open, is_inside, load_at, store_at};
 ghost use Rattle.counterexample.specs.Fillings.{filled_byte};
@@ -23,7 +23,7 @@ pub struct Memory {
     pub stores: Vec<Stored>,
 }
 
-// Whether a word or a byte may stand at the address.
+/// Reports whether a word or a byte may stand at the address.
 fn is_aligned(width: Width, a: u32) -> bool
     ensures { result ≡ is_open width everywhere a }
 {
@@ -33,7 +33,7 @@ fn is_aligned(width: Width, a: u32) -> bool
     }
 }
 
-// Whether an address is in the word at another.
+/// Reports whether an address is in the word at another.
 fn is_inside(a: u32, b: u32) -> bool
     ensures { result ≡ is_inside a b }
 {
@@ -41,7 +41,7 @@ fn is_inside(a: u32, b: u32) -> bool
 }
 
 impl Stored {
-    // The byte at an address behind a store of a word.
+    /// Returns the byte at an address after a store of a word.
     #[tactic(auto, unfolding(mips_isa::specs::States::store_word))]
     fn byte_behind_word(&self, a: u32, before: u8) -> u8
         ensures { result ≡ store_at Width.Word everywhere (λ b. before) self.now.address self.now.word a }
@@ -53,7 +53,7 @@ impl Stored {
         }
     }
 
-    // The byte at an address behind a store of a byte.
+    /// Returns the byte at an address after a store of a byte.
     #[tactic(auto, unfolding(mips_isa::specs::States::store_byte))]
     fn byte_behind_byte(&self, a: u32, before: u8) -> u8
         ensures { result ≡ store_at Width.Byte everywhere (λ b. before) self.now.address self.now.word a }
@@ -65,7 +65,7 @@ impl Stored {
         }
     }
 
-    /// The byte at an address behind the store, where this one stands before.
+    /// Returns the byte at an address after the store, where this one stands before.
     pub fn byte_behind(&self, a: u32, before: u8) -> u8
         ensures { result ≡ byte_behind self.now a before }
     {
@@ -77,7 +77,7 @@ impl Stored {
 }
 
 impl Memory {
-    /// The byte at an address.
+    /// Returns the byte at an address.
     pub fn byte(&self, a: u32) -> u8
         ensures { result ≡ bytes_of self.now a }
     {
@@ -88,7 +88,7 @@ impl Memory {
         byte
     }
 
-    // The byte at an address, as a word.
+    /// Returns the byte at an address, as a word.
     fn small(&self, a: u32) -> u32
         ensures value { result ≡ bytes_of self.now a }
         ensures small { result < 2 ^ 8 }
@@ -96,7 +96,7 @@ impl Memory {
         u32::from(self.byte(a))
     }
 
-    // The four bytes from an address on.
+    /// Returns the four bytes from an address on.
     fn word(&self, a: u32) -> u32
         requires { a % 4 ≡ 0 }
         ensures { result ≡ bytes_of self.now a * 2 ^ 24 + bytes_of self.now (a + 1) * 2 ^ 16 + bytes_of self.now (a + 2) * 2 ^ 8
@@ -108,7 +108,7 @@ impl Memory {
             + self.small(a + 3)
     }
 
-    /// The word at an address, or the byte, extended with zeros; None where no word may stand there.
+    /// Returns the word at an address, or the byte, extended with zeros; None if no word may stand there.
     #[tactic(auto, unfolding(mips_isa::specs::States::load_word, mips_isa::specs::States::load_byte))]
     pub fn load(&self, width: Width, a: u32) -> Option<u32>
         ensures open { is_some result ≡ is_open width everywhere a }
@@ -120,7 +120,7 @@ impl Memory {
         }
     }
 
-    /// Writes the word at an address, or its low eight bits as the byte there; false where no word may stand there.
+    /// Writes the word at an address, or its low eight bits as the byte there; false if no word may stand there.
     pub fn store(&mut self, width: Width, address: u32, word: u32) -> Result<bool, AllocError>
         ensures open { IfOk result (λ b. b ≡ is_open width everywhere address) }
         ensures bytes { IfOk result (λ b. b ≡ true → bytes_of self.new ≡ store_at width everywhere (bytes_of self.old) address word) }
@@ -138,7 +138,7 @@ impl Memory {
     }
 }
 
-/// Memory as a filling has it.
+/// Returns memory as a filling has it.
 pub fn memory_of(alloc: Global, filling: Filling) -> Memory
     ensures filling { result.filling ≡ filling }
     ensures bytes { bytes_of result ≡ filled_byte filling }

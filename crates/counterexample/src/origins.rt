@@ -1,4 +1,4 @@
-// What the addresses of a block's accesses follow, in a run from a start.
+//! What the addresses of a block's accesses follow, in a run from a start.
 
 use crate::registers::Registers;
 use crate::start::Start;
@@ -52,7 +52,7 @@ struct Tracing {
     takes_second: bool,
 }
 
-/// The width, the base and the offset of an access of memory.
+/// Returns the width, the base and the offset of an access of memory.
 pub(crate) fn access_of(action: &Action) -> Option<(Width, Reg, u32)> {
     match *action {
         Action::Loads {
@@ -103,7 +103,7 @@ impl Tracing {
         }
     }
 
-    /// The register that an action writes, and what it follows then.
+    /// Returns the register that an action writes, and what it follows then.
     fn origin_after(&self, action: &Action) -> Option<(Reg, Origin)> {
         match *action {
             Action::Computes { d, op, a, b } => {
@@ -137,7 +137,7 @@ impl Tracing {
         })
     }
 
-    /// Does an instruction; false where it isn't safe.
+    /// Does an instruction; false if it isn't safe.
     fn step(&mut self, inst: &Plain) -> Result<bool, AllocError> {
         let action = inst.action();
         let after = self.origin_after(&action);
@@ -153,7 +153,7 @@ impl Tracing {
     }
 }
 
-/// Runs a block from a start, and gives the accesses of two of its instructions, if a pair is asked for.
+/// Runs a block from a start, and returns the accesses of two of its instructions, if a pair is asked for.
 pub(crate) fn trace(
     alloc: Global,
     block: &Block,

@@ -1,4 +1,4 @@
-// Registers, HI, LO and memory, and what one action does to them.
+//! Registers, HI, LO and memory, and what one action does to them.
 ghost use Rattle.std.specs.Prelude.{◌≡◌, true, IfOk, IfSome, is_some};
 ghost use Rattle.words.specs.Operators.{op_value};
 ghost use Rattle.mips_isa.specs.States.{read, put};
@@ -31,7 +31,7 @@ pub struct Registers {
     pub memory: Memory,
 }
 
-// The value of an operator, 0 where it has none.
+/// Returns the value of an operator, 0 where it has none.
 #[tactic(auto, unfolding(words::specs::Operators::op_value))]
 fn value(op: Operator, a: u32, b: u32) -> u32
     ensures { result ≡ op_value op a b }
@@ -43,7 +43,7 @@ fn value(op: Operator, a: u32, b: u32) -> u32
 }
 
 impl Registers {
-    /// What a register holds.
+    /// Returns what a register holds.
     pub fn read(&self, r: Reg) -> u32
         ensures { result ≡ read 0 (state_of self.now).regs r }
     {
@@ -51,7 +51,7 @@ impl Registers {
         if index == 0 { 0 } else { self.regs[index] }
     }
 
-    /// A register is written; register 0 loses the word.
+    /// Writes a register; register 0 loses the word.
     pub fn put(&mut self, r: Reg, word: u32)
         ensures state { state_of self.new ≡ record (state_of self.old) { regs = put (state_of self.old).regs r word } }
         ensures filling { self.new.memory.filling ≡ self.old.memory.filling }
@@ -71,7 +71,7 @@ impl Registers {
         }
     }
 
-    /// The address of a load or a store.
+    /// Returns the address of a load or a store.
     #[tactic(auto, unfolding(words::specs::Operators::op_value))]
     fn address(&self, base: Reg, offset: u32) -> u32
         ensures { result ≡ address (state_of self.now) base offset }
@@ -79,7 +79,7 @@ impl Registers {
         self.read(base).wrapping_add(offset)
     }
 
-    // What a load loads, if it may.
+    /// Returns what a load loads, if it may.
     fn load(&self, width: Width, register: NonzeroReg, base: Reg, offset: u32) -> Option<Load>
         ensures safe { is_some result ≡ is_safe (Loads width register base offset) (state_of self.now) }
         ensures load { IfSome result (λ l. pending_in l ≡ pending_of (Loads width register base offset) (state_of self.now)) }
@@ -90,7 +90,7 @@ impl Registers {
         }
     }
 
-    // Does a store, if it may.
+    /// Does a store, if it may.
     fn store(&mut self, width: Width, r: Reg, base: Reg, offset: u32) -> Result<bool, AllocError>
         ensures safe { IfOk result (λ b. b ≡ is_safe (Stores width r base offset) (state_of self.old)) }
         ensures state { IfOk result (λ b. b ≡ true → state_of self.new ≡ state_after (Stores width r base offset) (state_of self.old)) }
@@ -110,7 +110,7 @@ impl Registers {
         self.lo = value(product_low(sign), a, b);
     }
 
-    // Does a division, if it has a value.
+    /// Does a division, if it has a value.
     fn divide(&mut self, sign: Sign, a: Reg, b: Reg) -> bool
         ensures safe { result ≡ is_safe (Divides sign a b) (state_of self.old) }
         ensures state { result ≡ true → state_of self.new ≡ state_after (Divides sign a b) (state_of self.old) }
@@ -125,7 +125,7 @@ impl Registers {
         true
     }
 
-    /// Does an action, and gives what it loads; None where it isn't safe.
+    /// Does an action, and gives what it loads; None if it isn't safe.
     pub fn perform(&mut self, action: Action) -> Result<Option<Load>, AllocError>
         ensures safe { IfOk result (λ r. is_some r ≡ is_safe action (state_of self.old)) }
         ensures state { IfOk result (λ r. IfSome r (λ load. state_of self.new ≡ shown_state action (state_of self.old))) }
@@ -166,7 +166,7 @@ impl Registers {
         Ok(Some(Load::Nothing))
     }
 
-    /// What was loaded shows.
+    /// Shows what was loaded.
     pub fn settle(&mut self, load: Load)
         ensures state { state_of self.new ≡ state_with_pending (pending_in load) (state_of self.old) }
         ensures filling { self.new.memory.filling ≡ self.old.memory.filling }
@@ -177,7 +177,7 @@ impl Registers {
         }
     }
 
-    /// Does an action, a load showing at once; false where it isn't safe.
+    /// Does an action, a load showing at once; false if it isn't safe.
     pub fn act(&mut self, action: Action) -> Result<bool, AllocError>
         ensures safe { IfOk result (λ b. b ≡ is_safe action (state_of self.old)) }
         ensures state { IfOk result (λ b. b ≡ true → state_of self.new ≡ state_after action (state_of self.old)) }

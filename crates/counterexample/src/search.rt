@@ -1,4 +1,4 @@
-// Starts to try.
+//! Starts to try.
 ghost use Rattle.std.specs.Prelude.{◌≡◌, IfOk, IfSome, IfNone, Contains};
 ghost use Rattle.mblock.specs.Orders.{Means};
 ghost use Rattle.counterexample.specs.declared.start.Start.{Start as AStart};
@@ -33,14 +33,14 @@ pub struct Witness {
     pub difference: Difference,
 }
 
-// A number that looks like no other (Marsaglia, Xorshift RNGs).
+/// Returns a number that looks like no other (Marsaglia, Xorshift RNGs).
 fn mixed(word: u32) -> u32 {
     let a = word ^ (word << 13);
     let b = a ^ (a >> 17);
     b ^ (b << 5)
 }
 
-// Small and extreme words.
+/// Returns small and extreme words.
 fn extreme(word: u32) -> u32 {
     match word % 8 {
         0 => 0,
@@ -54,7 +54,7 @@ fn extreme(word: u32) -> u32 {
     }
 }
 
-// A word of the kind that a start has: an address near the base, 0 or 1 or an extreme word, one of all these, any word.
+/// Returns a word of the kind that a start has: an address near the base, 0 or 1 or an extreme word, one of all these, any word.
 fn word_of_kind(kind: u32, base: u32, word: u32) -> u32 {
     let near = base.wrapping_add((word >> 8) & 0x7c);
     match (kind, word >> 30) {
@@ -82,7 +82,7 @@ fn filling_of_kind(kind: u32, base: u32, word: u32) -> Filling {
     }
 }
 
-// A base near which addresses meet: that of the data, or a word that the block itself puts into a register's upper half.
+/// Returns a base near which addresses meet: that of the data, or a word that the block itself puts into a register's upper half.
 fn base_of(block: &Block, number: u32) -> u32 {
     let insts = block.insts();
     let mut base = 0x1000_0000;
@@ -116,7 +116,7 @@ fn start_of_kind(kind: u32, base: u32, seed: u32) -> Start {
     }
 }
 
-// Makes what a word follows greater by a number; false where it follows nothing.
+/// Makes what a word follows greater by a number; false if it follows nothing.
 fn shift(start: &mut Start, origin: Origin, by: u32) -> bool {
     match origin {
         Origin::Nothing => return false,
@@ -129,7 +129,7 @@ fn shift(start: &mut Start, origin: Origin, by: u32) -> bool {
     true
 }
 
-// How far the first access is from where it meets the second: a byte meets a word in one of its four bytes.
+/// Returns how far the first access is from where it meets the second: a byte meets a word in one of its four bytes.
 fn distance(first: &Access, second: &Access, lane: u32) -> u32 {
     let by = second.address.wrapping_sub(first.address);
     match first.width {
@@ -144,7 +144,7 @@ fn distance(first: &Access, second: &Access, lane: u32) -> u32 {
     }
 }
 
-// Makes two accesses meet, if their addresses follow different things; false where nothing was changed.
+/// Makes two accesses meet, if their addresses follow different things; false if nothing was changed.
 fn meet(start: &mut Start, first: &Access, second: &Access, bits: u32) -> bool {
     let by = distance(first, second, bits & 3);
     if by == 0 || first.origin == second.origin {
@@ -158,7 +158,7 @@ fn meet(start: &mut Start, first: &Access, second: &Access, bits: u32) -> bool {
     }
 }
 
-// Changes a start so that the block runs farther, or its two accesses meet; false where nothing was changed.
+/// Changes a start so that the block runs farther, or its two accesses meet; false if nothing was changed.
 fn change(
     alloc: Global,
     block: &Block,
@@ -179,7 +179,7 @@ fn change(
     Ok(meet(start, &first, &second, bits))
 }
 
-// The pair whose turn it is.
+/// Returns the pair whose turn it is.
 fn pair_number(pairs: &[Pair], number: u32) -> Option<Pair> {
     if pairs.is_empty() {
         return None;
@@ -187,7 +187,7 @@ fn pair_number(pairs: &[Pair], number: u32) -> Option<Pair> {
     pairs.get((number / 2) as usize % pairs.len()).copied()
 }
 
-// The start with this number, of those for a block and pairs of its accesses that may meet.
+/// Returns the start with this number, of those for a block and pairs of its accesses that may meet.
 fn start_number(
     alloc: Global,
     block: &Block,
@@ -206,8 +206,8 @@ fn start_number(
     Ok(start)
 }
 
-// How many starts are tried for a block: fewer for a long one, and for one with many accesses, since a byte of memory takes as long as
-// there are stores.
+/// Returns how many starts are tried for a block: fewer for a long one, and for one with many accesses, since a byte of memory takes as
+/// long as there are stores.
 fn starts_for(block: &Block) -> u32 {
     let mut insts: u32 = 1;
     let mut accesses: u32 = 0;
@@ -221,7 +221,7 @@ fn starts_for(block: &Block) -> u32 {
     (0x2000 / work.max(1)).max(8).min(STARTS)
 }
 
-// What a start with this link tells.
+/// Returns what a start with this link tells.
 fn witness_of(
     alloc: Global,
     block: &Block,
@@ -243,8 +243,8 @@ fn witness_of(
     }
 }
 
-/// One of these starts that refutes that the order means the block; None where from each of them the order does what the block does,
-/// if that isn't stuck. `Err` only where memory is refused.
+/// Returns one of these starts that refutes that the order means the block; None if from each of them the order does what the block does,
+/// if that isn't stuck. `Err` only if memory runs out.
 pub fn find_among(
     alloc: Global,
     block: &Block,
@@ -265,7 +265,7 @@ pub fn find_among(
     Ok(None)
 }
 
-// One of the starts for a block and pairs of its accesses that refutes that the order means the block.
+/// Returns one of the starts for a block and pairs of its accesses that refutes that the order means the block.
 fn find_by(
     alloc: Global,
     block: &Block,
@@ -284,8 +284,8 @@ fn find_by(
     Ok(None)
 }
 
-/// A start of a fixed list that refutes that the order means the block; None where none of them does. The list has starts in which
-/// two accesses meet that the order has the other way round. `Err` only where memory is refused.
+/// Returns a start of a fixed list that refutes that the order means the block; None if none of them does. The list has starts in which two
+/// accesses meet that the order has the other way round. `Err` only if memory runs out.
 pub fn find_start(
     alloc: Global,
     block: &Block,

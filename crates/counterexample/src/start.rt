@@ -1,4 +1,4 @@
-// Start states.
+//! Start states.
 ghost use Rattle.std.specs.Prelude.{◌≡◌, ℕ, ◌<◌, ◌^◌, slice_index};
 ghost use Rattle.mips_isa.specs.States.{IsWords};
 ghost use Rattle.counterexample.specs.Views.{start_of, state_of};
@@ -17,19 +17,19 @@ pub struct Start {
     pub filling: Filling,
 }
 
-// Each element is a word. A law: it computes nothing.
+/// States that each element is a word. A law: it computes nothing.
 fn are_words(words: &[u32])
     ensures { (r : ℕ) → slice_index words.now r < 2 ^ 32 }
 {
     let _count = words.len();
 }
 
-// A law: it computes nothing.
+/// States a law.
 fn is_word(word: u32)
     ensures { word < 2 ^ 32 }
 {}
 
-/// A start state's registers, HI and LO are words, and its memory is bytes. A law: it computes nothing.
+/// States that a start state's registers, HI and LO are words, and its memory is bytes. A law: it computes nothing.
 pub(crate) fn has_words(start: &Start)
     ensures { IsWords (start_of start.now) }
 {
@@ -39,7 +39,7 @@ pub(crate) fn has_words(start: &Start)
 }
 
 impl Registers {
-    /// The registers and memory of a start.
+    /// Returns the registers and memory of a start.
     pub fn of(alloc: Global, start: &Start) -> Registers
         ensures state { state_of result ≡ start_of start.now }
         ensures filling { result.memory.filling ≡ start.now.filling }

@@ -1,4 +1,4 @@
-// Whether a start refutes that an order means its block.
+//! Whether a start refutes that an order means its block.
 ghost use Rattle.std.specs.Prelude.{◌≡◌, IfOk, IfSome, IfNone, Some};
 ghost use Rattle.mblock.specs.Orders.{Means};
 ghost use Rattle.counterexample.specs.Views.{start_of, effect_of, effect_in};
@@ -12,7 +12,7 @@ use crate::start::{Start, has_words};
 use mblock::{Block, Order};
 use std::alloc::{AllocError, Global};
 
-// What an order that came to this does otherwise than a block that left that.
+/// Returns what an order that came to this does otherwise than a block that left that.
 fn found(left: &Left, ordered: &Option<Left>) -> Option<Difference>
     requires { IfSome ordered.now (λ l. left.now.registers.memory.filling ≡ l.registers.memory.filling) }
     ensures some { IfSome result (λ d. DiffersIn d (effect_of left.now) (effect_in ordered.now)) }
@@ -24,7 +24,7 @@ fn found(left: &Left, ordered: &Option<Left>) -> Option<Difference>
     }
 }
 
-// The same of a block and an order, from a start.
+/// Returns the same of a block and an order, from a start.
 fn tried(
     alloc: Global,
     block: &Block,
@@ -43,9 +43,9 @@ fn tried(
     Ok(found(&left, &ordered))
 }
 
-/// Whether this start and link refute that the order means the block, and by what: from there the block isn't stuck, and the order
-/// is stuck or leaves another register, HI, LO, byte of memory or exit. None where the block is stuck from there or the order does
-/// what the block does. `Err` only where memory is refused.
+/// Reports whether this start and link refute that the order means the block, and by what: from there the block isn't stuck, and the order
+/// is stuck or leaves another register, HI, LO, byte of memory or exit. None if the block is stuck from there or the order does what the
+/// block does. `Err` only if memory runs out.
 pub fn refute(
     alloc: Global,
     block: &Block,
@@ -60,12 +60,12 @@ pub fn refute(
     tried(alloc, block, order, start, link)
 }
 
-/// An order that some state refutes doesn't mean its block. A law: it computes nothing.
+/// States that an order that some state refutes doesn't mean its block. A law: it computes nothing.
 pub fn refuted_orders_do_not_mean_their_blocks()
     ensures { RefutedOrdersDoNotMeanTheirBlocks }
 {}
 
-/// A state that refutes an order is none from which it does what the block does. A law: it computes nothing.
+/// States that from a state that refutes an order, the order does otherwise than the block. A law: it computes nothing.
 pub fn no_refuting_state_agrees()
     ensures { NoRefutingStateAgrees }
 {}

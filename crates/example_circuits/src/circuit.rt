@@ -12,7 +12,7 @@ pub enum Circuit {
 }
 
 impl Circuit {
-    /// The inverse. None if memory is refused, as of the other two.
+    /// Returns the inverse. None if memory is refused, as of the other two.
     pub fn inverse(alloc: Global, input: Circuit) -> Option<Circuit> {
         Some(Circuit::Not(Box::new(alloc, input).ok()?))
     }

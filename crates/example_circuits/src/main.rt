@@ -17,7 +17,7 @@ use std::alloc::Global;
 use std::io;
 use std::thread::Threads;
 
-/// A choice by input 1 of inputs 2 and 3, and the same with the inputs of gates in another order and a double inverse.
+/// Returns a choice by input 1 of inputs 2 and 3, and the same with the inputs of gates in another order and a double inverse.
 fn choices(alloc: Global) -> Option<(Circuit, Circuit)> {
     let inverse = Circuit::inverse(alloc, Input(1))?;
     let one = Circuit::both(alloc, Input(1), Input(2))?;
@@ -30,7 +30,7 @@ fn choices(alloc: Global) -> Option<(Circuit, Circuit)> {
     Some((left, Circuit::either(alloc, other, one)?))
 }
 
-/// An input or a level, and the input alone.
+/// Returns an input or a level, and the input alone.
 fn level(alloc: Global) -> Option<(Circuit, Circuit)> {
     Some((Circuit::either(alloc, Input(1), Level(false))?, Input(1)))
 }

@@ -10,7 +10,7 @@ ghost use Rattle.example_circuits.specs.Meaning.{Inputs, made, gates, Commutes};
 use crate::gate::Gate;
 use term_table::{Pass, TermTable, Ticket};
 
-/// The ticket of a gate over these inputs. None if the pass has linked all it may.
+/// Returns the ticket of a gate over these inputs. None if the pass has linked all it may.
 pub fn make(table: &TermTable, pass: &mut Pass, gate: Gate, inputs: &[Ticket]) -> Option<Ticket>
     requires own { IsOf table.now pass.old }
     requires seen { HasSeenTerms gate_coding pass.old inputs.now }
@@ -26,7 +26,7 @@ pub fn make(table: &TermTable, pass: &mut Pass, gate: Gate, inputs: &[Ticket]) -
     }
 }
 
-// Two tickets in their order.
+/// Returns two tickets in their order.
 fn in_order(first: Ticket, second: Ticket) -> (Ticket, Ticket)
     ensures order { result.0 ≤ result.1 }
     ensures same { (result ≡ (first, second)) ⊎ (result ≡ (second, first)) }
@@ -38,7 +38,7 @@ fn in_order(first: Ticket, second: Ticket) -> (Ticket, Ticket)
     }
 }
 
-/// The ticket of a gate whose inputs may be swapped. They come in the order of their tickets, so both ways round give one ticket.
+/// Returns the ticket of a gate whose inputs may be swapped. They come in the order of their tickets, so both ways round give one ticket.
 #[tactic(auto, using(term_table::proofs::TermCallers::interning, term_values::proofs::Meanings::meanings))]
 pub fn make_ordered(
     table: &TermTable,
@@ -61,7 +61,7 @@ pub fn make_ordered(
     make(table, pass, gate, &[low, high])
 }
 
-/// The ticket of the inverse. The inverse of an inverse is what that inverts.
+/// Returns the ticket of the inverse. The inverse of an inverse is what that inverts.
 #[tactic(auto, using(term_table::proofs::TermCallers::interning, term_values::proofs::Meanings::meanings))]
 pub fn invert(table: &TermTable, pass: &mut Pass, input: Ticket) -> Option<Ticket>
     requires own { IsOf table.now pass.old }

@@ -27,7 +27,7 @@ fn encode_own(table: &TermTable, mut pass: Pass, circuit: &Circuit) -> Option<En
     Some(Encoded { pass, output })
 }
 
-/// The same as `are_alike`, where each thread has a circuit.
+/// Returns the same as `are_alike`, where each thread has a circuit.
 pub fn are_alike_by_two(
     rt: &impl Threads,
     alloc: Global,

@@ -16,7 +16,7 @@ pub const TERMS: u64 = 4_096;
 
 pub const CHAINS: u64 = 1_024;
 
-/// Whether two circuits provably put out the same, whatever goes in. None if there is no memory or no room.
+/// Reports whether two circuits provably put out the same, whatever goes in. None if there is no memory or no room.
 pub fn are_alike(alloc: Global, left: &Circuit, right: &Circuit) -> Option<bool>
     ensures { IfSome result (λ alike. IsTrue alike → (e : Inputs) → output left.now e ≡ output right.now e) }
 {
@@ -26,7 +26,7 @@ pub fn are_alike(alloc: Global, left: &Circuit, right: &Circuit) -> Option<bool>
     Some(pass.same_term::<Gate>(first, second))
 }
 
-/// The ticket of a circuit's output. None if the pass has linked all it may.
+/// Returns the ticket of a circuit's output. None if the pass has linked all it may.
 #[tactic(auto, using(term_table::proofs::TermCallers::interning, term_values::proofs::Meanings::meanings))]
 pub fn encode(table: &TermTable, pass: &mut Pass, circuit: &Circuit) -> Option<Ticket>
     requires own { IsOf table.now pass.old }

@@ -30,14 +30,14 @@ impl Reorder for LoadsFirst {
     }
 }
 
-// Whether one of two instructions writes what the other reads or writes.
+/// Reports whether one of two instructions writes what the other reads or writes.
 fn meets(first: &Plain, second: &Plain) -> bool {
     let (written, also_written) = (Resources::written_by(first), Resources::written_by(second));
     written.meets(Resources::read_by(second).union(also_written))
         || also_written.meets(Resources::read_by(first))
 }
 
-// The first place to which a load may move: behind another load, or what touches its registers.
+/// Returns the first place to which a load may move: after another load, or what touches its registers.
 fn first_place(insts: &[Plain], load: &Plain) -> usize
     ensures { result ≤ length insts.now }
 {
@@ -50,7 +50,7 @@ fn first_place(insts: &[Plain], load: &Plain) -> usize
     }
 }
 
-// A Nop behind each load whose register the next instruction touches.
+/// Puts a Nop after each load whose register the next instruction touches.
 fn pad_loads(alloc: Global, insts: &[Plain]) -> Result<Vec<Plain>, AllocError> {
     let mut all: Vec<Plain> = Vec::with_capacity(alloc, insts.len())?;
     for inst in insts {

@@ -16,7 +16,7 @@ use std::alloc::{AllocError, Global};
 use std::io;
 
 const BLOCKS: [&[&str]; 4] = [
-    // The second load moves behind the first one.
+    // The second load moves after the first one.
     &[
         "lw $8,0($4)",
         "addu $9,$8,$8",
@@ -32,7 +32,7 @@ const BLOCKS: [&[&str]; 4] = [
     &["addiu $29,$29,8", "lw $31,-4($29)", "return"],
 ];
 
-// The block of these lines, the last of which is its exit.
+/// Returns the block of these lines, the last of which is its exit.
 fn block_of(alloc: Global, lines: &[&str]) -> Result<Option<Block>, AllocError> {
     let mut insts = Vec::new(alloc);
     for line in lines {
@@ -45,7 +45,7 @@ fn block_of(alloc: Global, lines: &[&str]) -> Result<Option<Block>, AllocError> 
     Ok(None)
 }
 
-// One function of these blocks.
+/// Returns one function of these blocks.
 fn unit_of(alloc: Global) -> Result<Option<Unit>, AllocError> {
     let mut blocks = Vec::new(alloc);
     let mut owner = Vec::new(alloc);
@@ -58,7 +58,7 @@ fn unit_of(alloc: Global) -> Result<Option<Unit>, AllocError> {
     Ok(Unit::new(blocks, owner, Vec::new(alloc)))
 }
 
-// What became of the order that was proposed for a block, and the order that the block has.
+/// Prints what became of the order that was proposed for a block, and the order that the block has.
 fn show(rt: &impl Print, alloc: Global, block: &Block, order: &Order) -> io::Result<()> {
     let proposed = LoadsFirst.reorder(alloc, block)?;
     let what = if order.insts() == proposed.insts() {

@@ -88,7 +88,7 @@ counts_at bytes = record {
   missed = word_at_byte bytes 40;
 }
 
--- behind a head of so many bytes stand the code words and the data
+-- after a head of so many bytes stand the code words and the data
 abbrev pub parts_behind : Version → ℕ → List ℕ → ImageParts
 parts_behind v head bytes = record {
   version = v;
@@ -106,7 +106,7 @@ has_sizes head most data_bytes bytes =
     nat_le 1 (word_at_byte bytes 8) && (nat_le (word_at_byte bytes 8) CODE_WORDS && (nat_le (word_at_byte bytes 16) most
     && (length bytes == head + 4 * word_at_byte bytes 8 + data_bytes)))
 
--- the tests of version 1, behind its number
+-- the tests of version 1, after its number
 abbrev pub first_version_fault : List ℕ → Option ImageFault
 first_version_fault bytes =
     if not (has_sizes 20 (DATA_BYTES / 4) (4 * word_at_byte bytes 16) bytes) then Some Length
@@ -129,7 +129,7 @@ image_fault bytes =
     else (if word_at_byte bytes 4 == 2 then second_version_fault bytes
     else Some OtherVersion)))
 
--- bytes are refused for their first fault, or those of an image for want of memory
+-- bytes are refused for their first fault, or those of an image for lack of memory
 abbrev pub IsImageFault : List ℕ → ImageFault → Type 0
 IsImageFault bytes NoMemory = image_fault bytes ≡ None
 IsImageFault bytes f = image_fault bytes ≡ Some f

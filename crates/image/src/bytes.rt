@@ -1,4 +1,4 @@
-// The bytes of images, written and read.
+//! The bytes of images, written and read.
 ghost use Rattle.std.specs.Prelude.{◌≡◌, ℕ, ◌+◌, ◌*◌, ◌≤◌, ◌^◌, ◌++◌, None, length, OnOk, IfOk, IfErr, MatchResult};
 ghost use Rattle.image.specs.Images.{ImageParts, IsImage, EachImageHasItsBytes, head_of, image_bytes, words_bytes, word_at_byte, words_of};
 ghost use Rattle.image.specs.Images.{counts_at, total, first_version_fault, second_version_fault, image_fault, is_entry, has_sizes};
@@ -52,7 +52,7 @@ fn put_head(out: &mut Vec<u8>, image: &Image) -> Result<(), AllocError>
     }
 }
 
-/// The bytes of an image.
+/// Returns the bytes of an image.
 pub fn write_image(alloc: Global, image: &Image) -> Result<Vec<u8>, AllocError>
     ensures { IfOk result (λ bytes. bytes.items ≡ image_bytes image.now) }
 {
@@ -89,7 +89,7 @@ fn words_of(alloc: Global, count: usize, bytes: &[u8]) -> Result<Vec<u32>, Alloc
     Ok(words)
 }
 
-/// Whether the address is that of one of so many code words.
+/// Reports whether the address is that of one of so many code words.
 fn is_entry(count: u32, address: u32) -> bool
     ensures { result ≡ is_entry count address }
 {
@@ -184,7 +184,7 @@ fn image_fault(bytes: &[u8]) -> Option<ImageFault>
     }
 }
 
-/// The image behind a head of so many bytes.
+/// Returns the image after a head of so many bytes.
 fn image_behind(
     alloc: Global,
     counts: Option<Counts>,
@@ -205,7 +205,7 @@ fn image_behind(
     Ok(Image::of(counts, entry, code_words, data_bytes))
 }
 
-/// The image that the bytes say.
+/// Returns the image that the bytes say.
 fn image_of(alloc: Global, bytes: &[u8]) -> Result<Image, AllocError>
     requires { image_fault bytes.now ≡ None }
     ensures { IfOk result (λ i. i ≡ parts_of bytes.now) }
@@ -217,7 +217,7 @@ fn image_of(alloc: Global, bytes: &[u8]) -> Result<Image, AllocError>
     }
 }
 
-/// The image whose bytes these are.
+/// Returns the image whose bytes these are.
 pub fn read_image(alloc: Global, bytes: &[u8]) -> Result<Image, ImageFault>
     ensures read { IfOk result (λ i. IsImage i × (image_bytes i ≡ bytes.now)) }
     ensures each { (i : ImageParts) → IsImage i → image_bytes i ≡ bytes.now
@@ -232,7 +232,7 @@ pub fn read_image(alloc: Global, bytes: &[u8]) -> Result<Image, ImageFault>
     Ok(image)
 }
 
-/// The bytes of an image are those of no other.
+/// States that the bytes of an image are those of no other.
 pub fn one_image()
     ensures { EachImageHasItsBytes }
 {}

@@ -1,4 +1,4 @@
-// Why bytes are those of no image.
+//! Why bytes are those of no image.
 ghost use Rattle.std.specs.Prelude.{◌≡◌, Some};
 ghost use Rattle.image.specs.Texts.{image_fault_text};
 ghost use Rattle.image.specs.declared.fault.ImageFault.TheVariants as faults;

@@ -1,4 +1,4 @@
-// Images, and the counts of a build's report.
+//! Images, and the counts of a build's report.
 ghost use Rattle.std.specs.Prelude.{Some};
 ghost use Rattle.image.specs.Texts.{counts_text};
 ghost use Rattle.image.specs.Views.{counts_of};
@@ -27,7 +27,7 @@ pub const NO_COUNTS: Counts = Counts {
     missed: 0,
 };
 
-/// Each count behind the name of its verdict.
+/// Each count after the name of its verdict.
 impl fmt::Display for Counts {
     ghost output = { λ c. Some (counts_text (counts_of c)) };
 
@@ -67,7 +67,7 @@ impl Image {
     ghost use Rattle.image.specs.Images.{IsImage};
     ghost use Rattle.image.specs.Views.{version_of};
 
-    /// The image of these parts.
+    /// Returns the image of these parts.
     pub fn of(counts: Option<Counts>, entry: u32, code: Vec<u32>, bytes: Vec<u8>) -> Image
         requires { IsImage (record { version = version_of counts; entry = entry; code = code.items; bytes = bytes.items }) }
         ensures { result ≡ record { version = version_of counts; entry = entry; code = code.items; bytes = bytes.items } }
@@ -80,14 +80,14 @@ impl Image {
         }
     }
 
-    /// The counts, of version 2.
+    /// Returns the counts, of version 2.
     pub fn counts(&self) -> Option<Counts>
         ensures value { version_of result ≡ self.now.version }
     {
         self.counts
     }
 
-    /// The address of the word that runs first.
+    /// Returns the address of the word that runs first.
     pub fn entry(&self) -> u32
         ensures value { result ≡ self.now.entry }
         ensures fits { IsImage self.now }
@@ -95,7 +95,7 @@ impl Image {
         self.entry
     }
 
-    /// The code words, the first one at `CODE_BASE`.
+    /// Returns the code words, the first one at `CODE_BASE`.
     pub fn code(&self) -> &[u32]
         ensures value { result.now ≡ self.now.code }
         ensures fits { IsImage self.now }
@@ -103,7 +103,7 @@ impl Image {
         self.code.as_slice()
     }
 
-    /// The data bytes, the first one at `DATA_BASE`.
+    /// Returns the data bytes, the first one at `DATA_BASE`.
     pub fn bytes(&self) -> &[u8]
         ensures value { result.now ≡ self.now.bytes }
         ensures fits { IsImage self.now }

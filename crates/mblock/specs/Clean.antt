@@ -33,7 +33,7 @@ abbrev pub IsApart : List Plain → Type 0
 IsApart insts = (i r : ℕ) (a b : Plain) → slice_get insts i ≡ Some a → slice_get insts (suc i) ≡ Some b → loads (action_of a) r ≡ true
     → touches (action_of b) r ≡ false
 
--- no product is one or two words behind a move from HI or LO
+-- no product is one or two words after a move from HI or LO
 abbrev pub IsBehind : List (Option Action) → Type 0
 IsBehind words = (i : ℕ) (a b : Action) → slice_get words i ≡ Some (Some a) → is_move a ≡ true
     → (slice_get words (suc i) ≡ Some (Some b)) ⊎ (slice_get words (suc (suc i)) ≡ Some (Some b)) → is_product b ≡ false

@@ -6,7 +6,7 @@ use Rattle.mips_isa.specs.Actions.{nop, action_of, is_load, is_move}
 use Rattle.mblock.specs.Parts.{BlockParts, OrderParts}
 use Rattle.mblock.specs.Slots.{is_slotted}
 
--- one Nop behind a load, two behind a move from HI or LO
+-- one Nop after a load, two after a move from HI or LO
 abbrev pub padded_inst : Plain → List Plain
 padded_inst i = i ∷ (if is_load (action_of i) then nop ∷ [] else (if is_move (action_of i) then nop ∷ nop ∷ [] else []))
 

@@ -1,4 +1,4 @@
--- Which exits have a slot: a word behind the exit word that runs before the exit takes effect.
+-- Which exits have a slot: a word after the exit word that runs before the exit takes effect.
 use Rattle.std.specs.Prelude.{Bool, true, false}
 use Rattle.mblock.specs.declared.exit.Exit.{Exit}
 use Rattle.mblock.specs.declared.exit.Exit.TheVariants.{Out, Halt}

@@ -1,4 +1,4 @@
-// Blocks: at most 512 instructions, and an exit.
+//! Blocks: at most 512 instructions, and an exit.
 ghost use Rattle.std.specs.Prelude.{◌≡◌, ℕ, List, ◌≤◌, length};
 ghost use Rattle.std.specs.Option.{SomeIff};
 
@@ -27,7 +27,7 @@ impl Model for Block {
 }
 
 impl Block {
-    /// A block of these parts, if there are at most 512 instructions.
+    /// Returns a block of these parts, if there are at most 512 instructions.
     pub fn new(insts: Vec<Plain>, exit: Exit) -> Option<Block>
         ensures { SomeIff result (length insts.items ≤ BLOCK_INSTS) (record { insts = insts.items; exit = exit }) }
     {
@@ -38,7 +38,7 @@ impl Block {
         }
     }
 
-    /// The instructions, in the order of the source.
+    /// Returns the instructions, in the order of the source.
     pub fn insts(&self) -> &[Plain]
         ensures value { result.now ≡ self.now.insts }
         ensures limit { length self.now.insts ≤ BLOCK_INSTS }
@@ -46,7 +46,7 @@ impl Block {
         self.insts.as_slice()
     }
 
-    /// How it is left.
+    /// Returns how it is left.
     pub fn exit(&self) -> Exit
         ensures { result ≡ self.now.exit }
     {

@@ -1,4 +1,4 @@
-// The delay rules U1 to U4 of an order.
+//! The delay rules U1 to U4 of an order.
 ghost use Rattle.std.specs.Prelude.{◌≡◌, ℕ, ◌+◌, ◌<◌, ◌≤◌, ◌↔◌, IsTrue, Bool, List, Option, slice_get, length, MatchResult};
 ghost use Rattle.mips_isa.specs.declared.inst.Plain.{Plain};
 ghost use Rattle.mips_isa.specs.Actions.{action_of, touches};
@@ -13,7 +13,7 @@ use crate::order::Order;
 use crate::unclean::Unclean;
 use mips_isa::{Action, Plain, Reg};
 
-/// The exit's first word reads or writes the register.
+/// Reports whether the exit's first word reads or writes the register.
 fn exit_names(exit: &Exit, r: Reg) -> bool
     ensures { result ≡ exit_touches exit.now r }
 {
@@ -43,7 +43,7 @@ fn exit_names(exit: &Exit, r: Reg) -> bool
     }
 }
 
-/// The first action loads a register that the second reads or writes.
+/// Reports whether the first action loads a register that the second reads or writes.
 fn loads_for(a: &Action, b: &Action) -> bool
     ensures { result ≡ loads_named a.now (touches b.now) }
 {
@@ -53,7 +53,7 @@ fn loads_for(a: &Action, b: &Action) -> bool
     }
 }
 
-/// The action loads a register that the exit's first word reads or writes.
+/// Reports whether the action loads a register that the exit's first word reads or writes.
 fn loads_for_exit(a: &Action, exit: &Exit) -> bool
     ensures { result ≡ loads_named a.now (exit_touches exit.now) }
 {
@@ -63,7 +63,7 @@ fn loads_for_exit(a: &Action, exit: &Exit) -> bool
     }
 }
 
-/// Instruction `k` loads a register that the next one reads or writes.
+/// Reports whether instruction `k` loads a register that the next one reads or writes.
 fn is_conflict_at(insts: &[Plain], k: usize) -> bool
     requires { k ≤ ORDER_INSTS }
     ensures { result ≡ conflict_of (slice_get insts.now k) (slice_get insts.now (k + 1)) }
@@ -92,7 +92,7 @@ fn is_slot_product(slot: &Option<Plain>) -> bool
     }
 }
 
-/// Whether word `k` of an order is a product: an instruction, the exit's word, or the slot.
+/// Reports whether word `k` of an order is a product: an instruction, the exit's word, or the slot.
 fn is_product_at(insts: &[Plain], slot: &Option<Plain>, k: usize) -> bool
     requires low { k ≤ ORDER_INSTS + 2 }
     requires few { length insts.now ≤ ORDER_INSTS }
@@ -104,7 +104,7 @@ fn is_product_at(insts: &[Plain], slot: &Option<Plain>, k: usize) -> bool
     k == insts.len() + 1 && is_slot_product(slot)
 }
 
-/// Instruction `k` reads HI or LO, and one of the two words behind it is a product.
+/// Reports whether instruction `k` reads HI or LO, and one of the two words after it is a product.
 fn is_early_at(insts: &[Plain], slot: &Option<Plain>, k: usize) -> bool
     requires low { k < length insts.now }
     requires few { length insts.now ≤ ORDER_INSTS }
@@ -138,7 +138,7 @@ fn is_quiet_slot(order: &Order) -> bool
     }
 }
 
-/// The last instruction loads no register that the exit's first word reads or writes.
+/// Reports whether the last instruction loads no register that the exit's first word reads or writes.
 fn is_quiet_end(insts: &[Plain], exit: &Exit) -> bool
     ensures { IsTrue result ↔ HasQuietEnd insts.now exit.now }
 {
@@ -149,7 +149,7 @@ fn is_quiet_end(insts: &[Plain], exit: &Exit) -> bool
     !loads_for_exit(&insts[last].action(), exit)
 }
 
-/// Whether an order keeps the delay rules; else the least rule that it breaks.
+/// Reports whether an order keeps the delay rules; else the least rule that it breaks.
 pub fn clean(order: &Order) -> Result<(), Unclean>
     ensures exact { MatchResult result (λ _. IsClean order.now) (λ rule. BreaksFirst rule order.now) }
     ensures fits { FitsSlot order.now }

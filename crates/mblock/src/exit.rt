@@ -1,4 +1,4 @@
-// How blocks are left.
+//! How blocks are left.
 ghost use Rattle.std.specs.Prelude.{◌≡◌};
 ghost use Rattle.mblock.specs.Slots.{is_slotted};
 
@@ -39,7 +39,7 @@ pub enum Exit {
 }
 
 impl Exit {
-    /// Whether a word behind the exit runs before it takes effect: all but Out and Halt.
+    /// Reports whether a word after the exit runs before it takes effect: all but Out and Halt.
     pub fn has_slot(&self) -> bool
         ensures { result ≡ is_slotted self.now }
     {

@@ -1,4 +1,4 @@
-// The sizes of blocks, orders and units.
+//! The sizes of blocks, orders and units.
 
 /// How many instructions a block has at most.
 pub const BLOCK_INSTS: usize = 512;

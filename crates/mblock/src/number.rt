@@ -1,4 +1,4 @@
-// Numbers of blocks.
+//! Numbers of blocks.
 ghost use Rattle.std.specs.Prelude.{◌≡◌, ℕ, ◌<◌};
 ghost use Rattle.std.specs.Option.{SomeIff};
 
@@ -25,7 +25,7 @@ impl Model for BlockNumber {
 }
 
 impl BlockNumber {
-    /// The block with this number, if it is below 2^20.
+    /// Returns the block with this number, if it is below 2^20.
     pub fn new(number: u32) -> Option<BlockNumber>
         ensures { SomeIff result (number < UNIT_BLOCKS) number }
     {
@@ -36,7 +36,7 @@ impl BlockNumber {
         }
     }
 
-    /// The number, below 2^20.
+    /// Returns the number, below 2^20.
     pub fn number(self) -> u32
         ensures value { result ≡ self }
         ensures range { self < UNIT_BLOCKS }

@@ -1,4 +1,4 @@
-// Orders: the words that may stand for a block.
+//! Orders: the words that may stand for a block.
 ghost use Rattle.std.specs.Prelude.{◌≡◌, ℕ, List, ◌≤◌, length, is_some};
 ghost use Rattle.std.specs.Option.{SomeIff};
 ghost use Rattle.mblock.specs.Slots.{is_slotted};
@@ -30,7 +30,7 @@ impl Model for Order {
 }
 
 impl Order {
-    /// An order of these parts, if there are at most 2,048 instructions, and a slot where the exit has one.
+    /// Returns an order of these parts, if there are at most 2,048 instructions, and a slot where the exit has one.
     pub fn new(insts: Vec<Plain>, exit: Exit, slot: Option<Plain>) -> Option<Order>
         ensures { SomeIff result ((length insts.items ≤ ORDER_INSTS) × (is_some slot ≡ is_slotted exit))
             (record { insts = insts.items; exit = exit; slot = slot }) }
@@ -42,7 +42,7 @@ impl Order {
         }
     }
 
-    /// The order of these parts.
+    /// Returns the order of these parts.
     pub(crate) fn of(insts: Vec<Plain>, exit: Exit, slot: Option<Plain>) -> Order
         requires few { length insts.items ≤ ORDER_INSTS }
         requires fits { is_some slot ≡ is_slotted exit }
@@ -51,7 +51,7 @@ impl Order {
         Order { insts, exit, slot }
     }
 
-    /// The instructions, in the order of their words.
+    /// Returns the instructions, in the order of their words.
     pub fn insts(&self) -> &[Plain]
         ensures value { result.now ≡ self.now.insts }
         ensures limit { length self.now.insts ≤ ORDER_INSTS }
@@ -59,14 +59,14 @@ impl Order {
         self.insts.as_slice()
     }
 
-    /// How it is left.
+    /// Returns how it is left.
     pub fn exit(&self) -> Exit
         ensures { result ≡ self.now.exit }
     {
         self.exit
     }
 
-    /// What runs behind the exit word: Some exactly where the exit has a slot.
+    /// Returns what runs after the exit word: Some exactly if the exit has a slot.
     pub fn slot(&self) -> Option<Plain>
         ensures value { result ≡ self.now.slot }
         ensures fits { is_some self.now.slot ≡ is_slotted self.now.exit }

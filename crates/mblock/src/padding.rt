@@ -1,4 +1,4 @@
-// The orders that keep every instruction in place.
+//! The orders that keep every instruction in place.
 
 ghost use Rattle.std.specs.Prelude.{◌≡◌, ◌≤◌, ◌++◌, length, map, OnOk, IfOk, Some, None, if◌then◌else◌};
 ghost use Rattle.mips_isa.specs.Actions.{nop};
@@ -14,7 +14,7 @@ use crate::unit::Unit;
 use mips_isa::Plain;
 use std::alloc::{AllocError, Global};
 
-// An instruction, and the Nops that have to stand behind it.
+/// Pushes an instruction, and the Nops that have to stand after it.
 fn push_padded(insts: &mut Vec<Plain>, inst: &Plain) -> Result<(), AllocError>
     ensures { OnOk result (insts.new.items ≡ insts.old.items ++ padded_inst inst.now) }
 {
@@ -29,7 +29,7 @@ fn push_padded(insts: &mut Vec<Plain>, inst: &Plain) -> Result<(), AllocError>
     Ok(())
 }
 
-// A Nop where the exit has a slot.
+/// Returns a Nop where the exit has a slot.
 fn plain_slot(exit: &Exit) -> Option<Plain>
     ensures { result ≡ (if is_slotted exit.now then Some nop else None) }
 {
@@ -40,13 +40,13 @@ fn plain_slot(exit: &Exit) -> Option<Plain>
     }
 }
 
-/// The plain order of a block: its instructions in place, a Nop behind each load and two behind each move from HI or LO,
-/// and a Nop in the slot. It is clean and means the block (`each_plain_order_means_its_block`).
+/// Returns the plain order of a block: its instructions in place, a Nop after each load and two after each move from HI or LO, and a Nop in
+/// the slot. It is clean and means the block (`each_plain_order_means_its_block`).
 pub fn plain(alloc: Global, block: &Block) -> Result<Order, AllocError>
     ensures order { IfOk result (λ o. o ≡ plain_order_of block.now) }
     ensures limit { length block.now.insts ≤ BLOCK_INSTS }
 {
-    // room for a Nop behind every second instruction: few blocks have more of them
+    // room for a Nop after every second instruction: few blocks have more of them
     let count = block.insts().len();
     let mut insts = Vec::with_capacity(alloc, count + count / 2 + 1)?;
     for inst in block.insts() {
@@ -57,7 +57,7 @@ pub fn plain(alloc: Global, block: &Block) -> Result<Order, AllocError>
     Ok(Order::of(insts, exit, slot))
 }
 
-/// The plain orders of a unit's blocks, which are orders of them.
+/// Returns the plain orders of a unit's blocks, which are orders of them.
 pub fn plain_orders(alloc: Global, unit: &Unit) -> Result<Vec<Order>, AllocError>
     ensures plain { IfOk result (λ os. os.items ≡ map plain_order_of unit.now.blocks) }
     ensures orders { IfOk result (λ os. AreOrders unit.now.blocks os.items) }

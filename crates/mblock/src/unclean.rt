@@ -1,4 +1,4 @@
-// The delay rules by name, as they print.
+//! The delay rules by name, as they print.
 ghost use Rattle.std.specs.Prelude.{Some};
 ghost use Rattle.mblock.specs.Texts.{unclean_text};
 
@@ -9,7 +9,7 @@ use std::fmt;
 pub enum Unclean {
     /// An instruction reads or writes the register that the instruction just before it loads.
     LoadUse,
-    /// Fewer than two words stand between an MFHI or MFLO and a MULT, MULTU, DIV or DIVU behind it.
+    /// Fewer than two words stand between an MFHI or MFLO and a MULT, MULTU, DIV or DIVU after it.
     ProductAfterMove,
     /// A load, MFHI or MFLO is in the slot.
     SlotLoadOrMove,

@@ -1,4 +1,4 @@
-// Units: the blocks of a whole program with their owners and data.
+//! Units: the blocks of a whole program with their owners and data.
 ghost use Rattle.std.specs.Prelude.{◌≡◌, ℕ, ◌<◌, ◌≤◌, ◌↔◌, IsTrue, List, Option, Some, length, slice_get, slice_index};
 ghost use Rattle.std.specs.Option.{SomeIff};
 ghost use Rattle.mblock.specs.Units.{GoesBelow, BranchesWithin, Continues, AreLinked, AreOwners, IsUnit, unit_parts};
@@ -28,14 +28,14 @@ impl Model for Unit {
     ghost invariant = { λ u. IsUnit (unit_parts u.blocks.items u.owner.items u.globals.items) };
 }
 
-// Whether the block is below n.
+/// Reports whether the block is below n.
 fn is_below(t: BlockNumber, n: usize) -> bool
     ensures { IsTrue result ↔ (t < n) }
 {
     (t.number() as usize) < n
 }
 
-// Whether every block that the exit names is below n.
+/// Reports whether every block that the exit names is below n.
 fn goes_below(n: usize, exit: Exit) -> bool
     ensures { IsTrue result ↔ GoesBelow n exit }
 {
@@ -51,7 +51,7 @@ fn goes_below(n: usize, exit: Exit) -> bool
     }
 }
 
-// Whether a block has this owner.
+/// Reports whether a block has this owner.
 fn has_owner(owner: &[BlockNumber], t: BlockNumber, o: BlockNumber) -> bool
     ensures { IsTrue result ↔ (slice_get owner.now t ≡ Some o) }
 {
@@ -61,7 +61,7 @@ fn has_owner(owner: &[BlockNumber], t: BlockNumber, o: BlockNumber) -> bool
     }
 }
 
-// Whether a branch goes to blocks of this owner.
+/// Reports whether a branch goes to blocks of this owner.
 fn branches_within(owner: &[BlockNumber], o: BlockNumber, exit: Exit) -> bool
     ensures { IsTrue result ↔ BranchesWithin owner.now o exit }
 {
@@ -73,7 +73,7 @@ fn branches_within(owner: &[BlockNumber], o: BlockNumber, exit: Exit) -> bool
     }
 }
 
-// Whether every block that an exit names exists.
+/// Reports whether every block that an exit names exists.
 fn are_linked(blocks: &[Block]) -> bool
     ensures { IsTrue result ↔ AreLinked blocks.now }
 {
@@ -85,7 +85,7 @@ fn are_linked(blocks: &[Block]) -> bool
     true
 }
 
-// Whether block i is the first of its function, or of the function of the block before it.
+/// Reports whether block i is the first of its function, or of the function of the block before it.
 fn continues(owner: &[BlockNumber], i: usize) -> bool
     requires { i < length owner.now }
     ensures { IsTrue result ↔ Continues owner.now i (slice_index owner.now i) }
@@ -100,7 +100,7 @@ fn continues(owner: &[BlockNumber], i: usize) -> bool
     }
 }
 
-// Whether each block has an owner, functions are contiguous, and branches stay inside them.
+/// Reports whether each block has an owner, functions are contiguous, and branches stay inside them.
 fn are_owners(blocks: &[Block], owner: &[BlockNumber]) -> bool
     ensures { IsTrue result ↔ AreOwners blocks.now owner.now }
 {
@@ -116,9 +116,9 @@ fn are_owners(blocks: &[Block], owner: &[BlockNumber]) -> bool
 }
 
 impl Unit {
-    /// A unit of these parts, if they make one: there are blocks, and at most 1,048,576 of them; each has an owner, which
-    /// is itself or the owner of the block before it; each block that an exit names exists, and a branch's are of its own
-    /// function; and there are at most 1,048,576 bytes of data.
+    /// Returns a unit of these parts, if they make one: there are blocks, and at most 1,048,576 of them; each has an owner, which is itself
+    /// or the owner of the block before it; each block that an exit names exists, and a branch's are of its own function; and there are at
+    /// most 1,048,576 bytes of data.
     pub fn new(blocks: Vec<Block>, owner: Vec<BlockNumber>, globals: Vec<u8>) -> Option<Unit>
         ensures { SomeIff result (IsUnit (unit_parts blocks.items owner.items globals.items))
             (unit_parts blocks.items owner.items globals.items) }
@@ -140,7 +140,7 @@ impl Unit {
         }
     }
 
-    /// The unit of these parts.
+    /// Returns the unit of these parts.
     pub fn of(blocks: Vec<Block>, owner: Vec<BlockNumber>, globals: Vec<u8>) -> Unit
         requires { IsUnit (unit_parts blocks.items owner.items globals.items) }
         ensures { result ≡ unit_parts blocks.items owner.items globals.items }
@@ -152,7 +152,7 @@ impl Unit {
         }
     }
 
-    /// The blocks.
+    /// Returns the blocks.
     pub fn blocks(&self) -> &[Block]
         ensures value { result.now ≡ self.now.blocks }
         ensures sound { IsUnit self.now }
@@ -160,7 +160,7 @@ impl Unit {
         self.blocks.as_slice()
     }
 
-    /// The first block of each block's function.
+    /// Returns the first block of each block's function.
     pub fn owner(&self) -> &[BlockNumber]
         ensures value { result.now ≡ self.now.owner }
         ensures sound { IsUnit self.now }
@@ -168,7 +168,7 @@ impl Unit {
         self.owner.as_slice()
     }
 
-    /// The bytes of data.
+    /// Returns the bytes of data.
     pub fn globals(&self) -> &[u8]
         ensures value { result.now ≡ self.now.globals }
         ensures sound { IsUnit self.now }

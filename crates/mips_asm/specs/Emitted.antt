@@ -53,7 +53,7 @@ IsOwn owner k Return = Unit {0}
 IsOwn owner k (Out m) = Unit {0}
 IsOwn owner k Halt = Unit {0}
 
--- a unit's orders: functions one behind the other, targets that are there, branches within their function
+-- a unit's orders: functions one after the other, targets that are there, branches within their function
 pub record AreUnits (owner : ℕ → ℕ) (orders : List OrderParts) : Type 0 where
   pub count : length orders ≤ UNIT_BLOCKS
   pub functions : AreFunctions (length orders) owner

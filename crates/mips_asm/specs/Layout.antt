@@ -1,4 +1,4 @@
--- The words of orders, one behind the other.
+-- The words of orders, one after the other.
 use Rattle.std.specs.Prelude.{ℕ, zero, suc, ◌+◌, ◌*◌, ◌/◌, ℤ, pos, ◌-ℤ◌, List, [], ◌∷◌, ◌++◌, map, length, Option, Some, None, slice_get}
 use Rattle.mips_isa.specs.declared.inst.Plain.{Plain}
 use Rattle.mips_isa.specs.declared.inst.Plain.TheVariants.{Imm}
@@ -41,7 +41,7 @@ slot_insts (Some i) = insts.Plain i ∷ []
 abbrev pub jump_to : ℕ → Inst
 jump_to p = insts.Control (controls.JumpTo Jump (address_of_place p / 4))
 
--- what stands behind a slot: the way on
+-- what stands after a slot: the way on
 abbrev pub hop : ℕ → List Inst
 hop p = jump_to p ∷ insts.Plain nop ∷ []
 
@@ -78,6 +78,6 @@ abbrev pub order_length : Option OrderParts → ℕ
 order_length None = 0
 order_length (Some o) = length o.insts
 
--- the link of a call in block k: behind its jump and slot
+-- the link of a call in block k: after its jump and slot
 abbrev pub links_of : List OrderParts → ℕ → ℕ
 links_of orders k = address_of_place (place orders k + order_length (slice_get orders k) + 2)

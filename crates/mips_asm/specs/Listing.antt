@@ -1,4 +1,4 @@
--- The listing of an image: a line for each code word, for each whole word of data and for each byte behind these, and one
+-- The listing of an image: a line for each code word, for each whole word of data and for each byte after these, and one
 -- for the counts.
 use Rattle.std.specs.Prelude.{ℕ, ◌+◌, ◌*◌, ◌/◌, List, [], ◌∷◌, ◌++◌, length, drop, Option, Some, None, codes}
 use Rattle.mips_isa.specs.declared.inst.Inst.{Inst}
@@ -29,7 +29,7 @@ abbrev pub lines_at : (ℕ → ℕ → List ℕ) → (step address : ℕ) → Li
 lines_at line step address [] = []
 lines_at line step address (x ∷ xs) = (line address x ++ codes "\n") ++ lines_at line step (address + step) xs
 
--- the data: its whole words, and the bytes behind them
+-- the data: its whole words, and the bytes after them
 abbrev pub data_lines : List ℕ → List ℕ
 data_lines bytes =
     lines_at word_line 4 data_base (words_of (length bytes / 4) bytes)

@@ -1,4 +1,4 @@
-// The image of a unit.
+//! The image of a unit.
 
 ghost use Rattle.std.specs.Prelude.{◌≡◌, ℕ, ◌*◌, ◌<◌, IfOk, OnOk, IfErr, length, slice_index};
 ghost use Rattle.mips_asm.specs.declared.limits.TheConstants.{FUNCTION_WORDS};
@@ -16,8 +16,8 @@ use mips_isa::CODE_BASE;
 use sched_phase::Scheduled;
 use std::alloc::Global;
 
-/// The image of a unit whose blocks have these orders: their words, one order behind another, and the unit's data. It runs
-/// as the unit. `Limit` exactly where a function has more than 32,000 words, or the code more than 1,048,576.
+/// Returns the image of a unit whose blocks have these orders: their words, one order after another, and the unit's data. It runs as the
+/// unit. `Limit` exactly if a function has more than 32,000 words, or the code more than 1,048,576.
 pub fn image_of(
     alloc: Global,
     unit: &Unit,
@@ -39,8 +39,8 @@ pub fn image_of(
     Ok(Image::of(counts, CODE_BASE, code, bytes))
 }
 
-/// The image of version 2 of a unit whose blocks are scheduled, with its counts. It runs as the unit. `Limit` exactly where a
-/// function has more than 32,000 words, or the code more than 1,048,576.
+/// Returns the image of version 2 of a unit whose blocks are scheduled, with its counts. It runs as the unit. `Limit` exactly if a function
+/// has more than 32,000 words, or the code more than 1,048,576.
 pub fn assemble(alloc: Global, scheduled: &Scheduled<'_>) -> Result<Image, AsmFault>
     ensures assembled { IfOk result (IsAssembled scheduled.now.unit scheduled.now.orders) }
     ensures version { IfOk result (λ i. i.version ≡ Second scheduled.now.report) }
@@ -55,7 +55,7 @@ pub fn assemble(alloc: Global, scheduled: &Scheduled<'_>) -> Result<Image, AsmFa
     image_of(alloc, unit, scheduled.orders(), Some(report))
 }
 
-/// An image that has the words of a unit's orders runs as the unit.
+/// States that an image that has the words of a unit's orders runs as the unit.
 pub fn each_assembled_image_runs()
     ensures { EachAssembledImageRuns }
 {}

@@ -1,4 +1,4 @@
-// The words of orders, in the order of the layout.
+//! The words of orders, in the order of the layout.
 
 ghost use Rattle.std.specs.Prelude.{◌≡◌, ℕ, ◌+◌, ◌*◌, ◌<◌, ◌≤◌, ◌++◌, ◌∷◌, [], ℤ, pos, All, length, map, slice_index, FitsSigned, Err, OnOk};
 ghost use Rattle.std.specs.Prelude.{IfOk};
@@ -77,7 +77,7 @@ fn place_at(places: &[u32], block: BlockNumber) -> u32
     }
 }
 
-// A word, its slot, and the way on.
+/// Writes a word, its slot, and the way on.
 fn put_jump(
     code: &mut Vec<u32>,
     control: Control,
@@ -93,7 +93,7 @@ fn put_jump(
     put_hop(code, next)
 }
 
-// A word and its slot.
+/// Writes a word and its slot.
 fn put_leave(code: &mut Vec<u32>, control: Inst, slot: Option<Plain>) -> Result<(), AllocError>
     ensures word { OnOk result (code.new.items ≡ code.old.items ++ map inst_word (control ∷ slot_insts slot)) }
     ensures fit { OnOk result (Fit (control ∷ slot_insts slot)) }
@@ -118,7 +118,7 @@ fn put_call(code: &mut Vec<u32>, number: i16) -> Result<(), AllocError>
     put(code, Inst::Control(Control::SystemCall))
 }
 
-// The words of an exit.
+/// Writes the words of an exit.
 fn put_exit(
     code: &mut Vec<u32>,
     places: &[u32],
@@ -206,7 +206,7 @@ fn put_order(
     put_exit(code, places, at, order.exit(), order.slot())
 }
 
-// The words behind given places.
+/// Writes the words after given places.
 fn put_orders(code: &mut Vec<u32>, places: &[u32], orders: &[Order]) -> Result<(), AllocError>
     requires places { All (λ p. p ≤ CODE_WORDS) places.now }
     requires near { AllNear (start_of places.now) orders.now }
@@ -222,7 +222,7 @@ fn put_orders(code: &mut Vec<u32>, places: &[u32], orders: &[Order]) -> Result<(
     Ok(())
 }
 
-/// The words of orders whose targets are there; Limit exactly where the limits don't allow them.
+/// Returns the words of orders whose targets are there; Limit exactly if the limits don't allow them.
 pub fn code_of(alloc: Global, owner: &[BlockNumber], orders: &[Order]) -> Result<Vec<u32>, AsmFault>
     requires owner { length owner.now ≡ length orders.now }
     requires unit { AreUnits (slice_index owner.now) orders.now }

@@ -1,4 +1,4 @@
-// Why there is no image: a limit, or memory.
+//! Why there is no image: a limit, or memory.
 ghost use Rattle.std.specs.Prelude.{◌≡◌};
 ghost use Rattle.mips_asm.specs.declared.fault.AsmFault.TheVariants as faults;
 

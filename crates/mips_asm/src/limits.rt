@@ -1,4 +1,4 @@
-// The sizes of laid out code, and whether each function is within its limit.
+//! The sizes of laid out code, and whether each function is within its limit.
 
 ghost use Rattle.std.specs.Prelude.{◌≡◌, ℕ, ◌*◌, ◌<◌, ◌≤◌, ◌↔◌, ◌==◌, cond, false, IsTrue, length, slice_index};
 ghost use Rattle.mips_asm.specs.declared.limits.TheConstants.{FUNCTION_WORDS};
@@ -14,7 +14,7 @@ pub const FUNCTION_WORDS: u32 = 32_000;
 /// How many words the code of a unit has at most.
 pub const CODE_WORDS: u32 = 1_048_576;
 
-// The words so far of the function of block `k`: none where it is the function's first.
+/// Returns the words so far of the function of block `k`: none if it is the function's first.
 fn words_before(first: usize, k: usize, words: u32) -> u32
     ensures value { result ≡ cond (first == k) 0 words }
     ensures small { result ≤ words }
@@ -22,7 +22,7 @@ fn words_before(first: usize, k: usize, words: u32) -> u32
     if first == k { 0 } else { words }
 }
 
-/// Whether no function has more than 32,000 words.
+/// Reports whether no function has more than 32,000 words.
 pub fn functions_fit(owner: &[BlockNumber], orders: &[Order]) -> bool
     requires length { length owner.now ≡ length orders.now }
     requires functions { AreFunctions (length orders.now) (slice_index owner.now) }

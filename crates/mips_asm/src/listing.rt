@@ -1,4 +1,4 @@
-// Images as a reader sees them, line by line.
+//! Images as a reader sees them, line by line.
 
 ghost use Rattle.std.specs.Prelude.{◌≡◌, ℕ, ◌+◌, ◌*◌, ◌^◌, ◌<◌, ◌≤◌, ◌++◌, length, OnOk, IfOk, Some, codes};
 ghost use Rattle.std.specs.String.{string_bytes};
@@ -118,7 +118,7 @@ fn word_at_byte(bytes: &[u8]) -> u32
         + u32::from(bytes[3])
 }
 
-// So many words, the first one at the first byte.
+/// Writes so many words, the first one at the first byte.
 fn put_words(out: &mut String, count: usize, bytes: &[u8]) -> Result<(), AllocError>
     requires room { 4 * count ≤ length bytes.now }
     requires few { length bytes.now ≤ image_limits.DATA_BYTES }
@@ -174,7 +174,7 @@ fn put_report(out: &mut String, counts: Option<Counts>) -> Result<(), AllocError
     }
 }
 
-/// The listing of an image: exactly `listing` of `specs/Listing.antt`. `Err` only where memory is refused.
+/// Returns the listing of an image: exactly `listing` of `specs/Listing.antt`. `Err` only if memory runs out.
 pub fn list(alloc: Global, image: &Image) -> Result<String, AllocError>
     ensures { IfOk result (λ text. string_bytes text ≡ listing image.now) }
 {

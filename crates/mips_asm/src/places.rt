@@ -1,4 +1,4 @@
-// Where orders stand, in words.
+//! Where orders stand, in words.
 
 ghost use Rattle.std.specs.Prelude.{◌≡◌, ℕ, ◌*◌, ◌≤◌, IfOk, length};
 ghost use Rattle.mblock.specs.declared.limits.TheConstants.{UNIT_BLOCKS};
@@ -22,7 +22,7 @@ fn exit_size(exit: Exit) -> u32
     }
 }
 
-/// How many words an order has.
+/// Returns how many words an order has.
 pub fn size(order: &Order) -> u32
     ensures value { result ≡ size order.now }
     ensures small { result ≤ 2052 }
@@ -30,7 +30,7 @@ pub fn size(order: &Order) -> u32
     order.insts().len() as u32 + exit_size(order.exit())
 }
 
-/// Where each order begins, in words.
+/// Returns where each order begins, in words.
 pub fn places(alloc: Global, orders: &[Order]) -> Result<Vec<u32>, AllocError>
     requires { length orders.now ≤ UNIT_BLOCKS }
     ensures { IfOk result (λ p. p.items ≡ places_from 0 orders.now) }
@@ -44,7 +44,7 @@ pub fn places(alloc: Global, orders: &[Order]) -> Result<Vec<u32>, AllocError>
     Ok(places)
 }
 
-/// How many words there are.
+/// Returns how many words there are.
 pub fn total(orders: &[Order]) -> u32
     requires { length orders.now ≤ UNIT_BLOCKS }
     ensures value { result ≡ place orders.now (length orders.now) }

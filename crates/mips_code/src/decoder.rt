@@ -1,4 +1,4 @@
-// From a word to the instruction that has it.
+//! From a word to the instruction that has it.
 
 ghost use Rattle.std.specs.Prelude.{◌≡◌, ℕ, ◌+◌, ◌*◌, ◌/◌, ◌%◌, ◌^◌, ◌<◌, ◌↔◌, IsTrue, IfSome, Option, Some};
 ghost use Rattle.std.specs.Int.{w16, cast_signed};
@@ -329,8 +329,7 @@ fn has_word(inst: &Inst, word: u32) -> bool
     encode(*inst) == word
 }
 
-/// The instruction that has this word: None exactly where none has it, so also where a field that the
-/// instruction doesn't use isn't 0.
+/// Returns the instruction that has this word: None exactly if none has it, so also where a field that the instruction doesn't use isn't 0.
 pub fn decode(word: u32) -> Option<Inst>
     ensures found { IfSome result (λ i. IsInst i × (inst_word i ≡ word)) }
     ensures only { (i : AnInst) → IsInst i → inst_word i ≡ word → result ≡ Some i }
@@ -343,7 +342,7 @@ pub fn decode(word: u32) -> Option<Inst>
     None
 }
 
-/// `instruction_of` has each instruction at its word, and nothing else.
+/// States that `instruction_of` has each instruction at its word, and nothing else.
 pub fn decoding_is_exact()
     ensures { DecodingIsExact }
 {}

@@ -1,4 +1,4 @@
-// From an instruction to its word.
+//! From an instruction to its word.
 
 ghost use Rattle.std.specs.Prelude.{◌≡◌, ℕ, ◌+◌, ◌*◌, ◌/◌, ◌%◌, ◌^◌, ◌<◌};
 ghost use Rattle.mips_isa.specs.Ranges.{IsPlain, IsControl, IsInst};
@@ -239,7 +239,7 @@ fn encode_control(control: Control) -> u32
     }
 }
 
-/// The word of an instruction (Kane, MIPS RISC Architecture, appendix A).
+/// Returns the word of an instruction (Kane, MIPS RISC Architecture, appendix A).
 pub fn encode(inst: Inst) -> u32
     ensures value { result ≡ inst_word inst }
     ensures range { IsInst inst }

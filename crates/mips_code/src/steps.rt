@@ -1,4 +1,4 @@
-// What the machine finds at an address, and how its run ended.
+//! What the machine finds at an address, and how its run ended.
 use mips_isa::{Inst, Rule};
 
 /// What is fetched at an address.

@@ -1,4 +1,4 @@
-// What each instruction does, one of eight kinds of action.
+//! What each instruction does, one of eight kinds of action.
 ghost use Rattle.std.specs.Prelude.{◌≡◌, ℕ, ◌*◌, ◌^◌, ◌<◌, ◌||◌, ◌&&◌, ◌==◌};
 ghost use Rattle.mips_isa.specs.declared.action.Operand.TheVariants.{Fixed, Held};
 ghost use Rattle.mips_isa.specs.declared.action.Action.TheVariants.{Computes};
@@ -151,7 +151,7 @@ fn with_word(d: Reg, op: Operator, a: Reg, word: u32) -> Action
 }
 
 impl Plain {
-    /// What the instruction does.
+    /// Returns what the instruction does.
     pub fn action(&self) -> Action
         ensures { result ≡ action_of self.now }
     {
@@ -198,14 +198,14 @@ impl Plain {
         }
     }
 
-    /// Whether it reads the register.
+    /// Reports whether it reads the register.
     pub fn reads(&self, r: Reg) -> bool
         ensures { result ≡ reads (action_of self.now) r }
     {
         self.action().reads(r)
     }
 
-    /// Whether it writes the register.
+    /// Reports whether it writes the register.
     pub fn writes(&self, r: Reg) -> bool
         ensures { result ≡ writes (action_of self.now) r }
     {
@@ -213,7 +213,7 @@ impl Plain {
     }
 }
 
-/// The operator whose value a product leaves in HI.
+/// Returns the operator whose value a product leaves in HI.
 pub fn product_high(sign: Sign) -> Operator
     ensures { result ≡ product_high sign }
 {
@@ -223,7 +223,7 @@ pub fn product_high(sign: Sign) -> Operator
     }
 }
 
-/// The operator whose value a product leaves in LO.
+/// Returns the operator whose value a product leaves in LO.
 pub fn product_low(sign: Sign) -> Operator
     ensures { result ≡ product_low sign }
 {
@@ -233,7 +233,7 @@ pub fn product_low(sign: Sign) -> Operator
     }
 }
 
-/// The operator whose value a division leaves in LO.
+/// Returns the operator whose value a division leaves in LO.
 pub fn quotient_operator(sign: Sign) -> Operator
     ensures { result ≡ quotient_operator sign }
 {
@@ -243,7 +243,7 @@ pub fn quotient_operator(sign: Sign) -> Operator
     }
 }
 
-/// The operator whose value a division leaves in HI.
+/// Returns the operator whose value a division leaves in HI.
 pub fn remainder_operator(sign: Sign) -> Operator
     ensures { result ≡ remainder_operator sign }
 {
@@ -254,7 +254,7 @@ pub fn remainder_operator(sign: Sign) -> Operator
 }
 
 impl Operand {
-    /// Whether it is this register.
+    /// Reports whether it is this register.
     pub fn touches(&self, r: Reg) -> bool
         ensures { result ≡ operand_touches self.now r }
     {
@@ -266,14 +266,14 @@ impl Operand {
 }
 
 impl Action {
-    /// Whether it reads or writes the register.
+    /// Reports whether it reads or writes the register.
     pub fn touches(&self, r: Reg) -> bool
         ensures { result ≡ touches self.now r }
     {
         self.writes(r) || self.reads(r)
     }
 
-    /// Whether it reads the register.
+    /// Reports whether it reads the register.
     pub fn reads(&self, r: Reg) -> bool
         ensures { result ≡ reads self.now r }
     {
@@ -287,7 +287,7 @@ impl Action {
         }
     }
 
-    /// Whether it writes the register.
+    /// Reports whether it writes the register.
     pub fn writes(&self, r: Reg) -> bool
         ensures { result ≡ writes self.now r }
     {
@@ -301,21 +301,21 @@ impl Action {
         }
     }
 
-    /// Whether it loads a register.
+    /// Reports whether it loads a register.
     pub fn is_load(&self) -> bool
         ensures { result ≡ is_load self.now }
     {
         matches!(self, Action::Loads { .. })
     }
 
-    /// Whether it reads HI or LO.
+    /// Reports whether it reads HI or LO.
     pub fn is_move(&self) -> bool
         ensures { result ≡ is_move self.now }
     {
         matches!(self, Action::MovesHigh { .. } | Action::MovesLow { .. })
     }
 
-    /// Whether it writes HI and LO.
+    /// Reports whether it writes HI and LO.
     pub fn is_product(&self) -> bool
         ensures { result ≡ is_product self.now }
     {

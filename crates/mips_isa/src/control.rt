@@ -1,4 +1,4 @@
-// What branches, jumps and calls to the system go by.
+//! What branches, jumps and calls to the system go by.
 
 ghost use Rattle.std.specs.Prelude.{◌≡◌};
 ghost use Rattle.mips_isa.specs.Controls.{control_touches, goes_elsewhere, pair_passes, zero_passes};
@@ -7,7 +7,7 @@ use crate::inst::{Control, JumpOp, PairTest, ZeroTest};
 use crate::reg::Reg;
 
 impl PairTest {
-    /// Whether two words pass the test.
+    /// Reports whether two words pass the test.
     pub fn passes(self, a: u32, b: u32) -> bool
         ensures { result ≡ pair_passes self a b }
     {
@@ -19,7 +19,7 @@ impl PairTest {
 }
 
 impl ZeroTest {
-    /// Whether a word passes the test.
+    /// Reports whether a word passes the test.
     pub fn passes(self, a: u32) -> bool
         ensures { result ≡ zero_passes self a }
     {
@@ -34,7 +34,7 @@ impl ZeroTest {
 }
 
 impl Control {
-    /// Whether it reads or writes the register.
+    /// Reports whether it reads or writes the register.
     pub fn touches(&self, r: Reg) -> bool
         ensures { result ≡ control_touches self.now r }
     {
@@ -59,7 +59,7 @@ impl Control {
         }
     }
 
-    /// Whether it is a branch or a jump, and so has a slot.
+    /// Reports whether it is a branch or a jump, and so has a slot.
     pub fn goes_elsewhere(&self) -> bool
         ensures { result ≡ goes_elsewhere self.now }
     {

@@ -1,4 +1,4 @@
-// Words and bytes in hexadecimal digits, as listings show them.
+//! Words and bytes in hexadecimal digits, as listings show them.
 ghost use Rattle.std.specs.Prelude.{Some};
 ghost use Rattle.mips_isa.specs.Digits.{byte_text, word_text};
 ghost use Rattle.mips_isa.specs.Texts.{half_text};

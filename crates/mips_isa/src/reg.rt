@@ -1,4 +1,4 @@
-// Registers and amounts of shifts, by their numbers.
+//! Registers and amounts of shifts, by their numbers.
 ghost use Rattle.std.specs.Prelude.{◌≡◌, ℕ, ◌%◌, ◌<◌, ◌^◌};
 ghost use Rattle.std.specs.Option.{SomeIff};
 
@@ -33,14 +33,14 @@ impl Reg {
     /// Register 31: where a call puts its link.
     pub const LINK: Reg = Reg { index: 31 };
 
-    /// The register of the low five bits.
+    /// Returns the register of the low five bits.
     pub fn masked(index: u8) -> Reg
         ensures { result ≡ index % 32 }
     {
         Reg { index: index % 32 }
     }
 
-    /// The register with this number, if it is below 32.
+    /// Returns the register with this number, if it is below 32.
     pub fn new(index: u8) -> Option<Reg>
         ensures { SomeIff result (index < 32) index }
     {
@@ -51,7 +51,7 @@ impl Reg {
         }
     }
 
-    /// The register's number, 0 to 31.
+    /// Returns the register's number, 0 to 31.
     pub fn index(self) -> u8
         ensures value { result ≡ self }
         ensures range { self < 32 }
@@ -77,14 +77,14 @@ impl Model for Amount {
 }
 
 impl Amount {
-    /// A shift by the low five bits of a number.
+    /// Returns a shift by the low five bits of a number.
     pub fn masked(bits: u8) -> Amount
         ensures { result ≡ bits % 32 }
     {
         Amount { bits: bits % 32 }
     }
 
-    /// A shift by so many bits, if there are fewer than 32.
+    /// Returns a shift by so many bits, if there are fewer than 32.
     pub fn new(bits: u8) -> Option<Amount>
         ensures { SomeIff result (bits < 32) bits }
     {
@@ -95,7 +95,7 @@ impl Amount {
         }
     }
 
-    /// How many bits, 0 to 31.
+    /// Returns how many bits, 0 to 31.
     pub fn bits(self) -> u8
         ensures value { result ≡ self }
         ensures range { self < 32 }
@@ -123,7 +123,7 @@ impl Model for NonzeroReg {
 }
 
 impl NonzeroReg {
-    /// The register with this number, if it is 1 to 31.
+    /// Returns the register with this number, if it is 1 to 31.
     pub fn new(index: u8) -> Option<NonzeroReg>
         ensures { SomeIff result ((0 < index) × (index < 32)) index }
     {
@@ -134,7 +134,7 @@ impl NonzeroReg {
         }
     }
 
-    /// The register's number, 1 to 31.
+    /// Returns the register's number, 1 to 31.
     pub fn index(self) -> u8
         ensures value { result ≡ self }
         ensures nonzero { 0 < self }
@@ -143,7 +143,7 @@ impl NonzeroReg {
         self.number
     }
 
-    /// The same register among all 32.
+    /// Returns the same register among all 32.
     pub fn reg(self) -> Reg
         ensures value { result ≡ self }
         ensures nonzero { 0 < self }
@@ -172,7 +172,7 @@ impl Model for JumpTarget {
 }
 
 impl JumpTarget {
-    /// The low 26 bits of a word.
+    /// Returns the low 26 bits of a word.
     pub fn masked(word: u32) -> JumpTarget
         ensures { result ≡ word % 2 ^ 26 }
     {
@@ -181,7 +181,7 @@ impl JumpTarget {
         }
     }
 
-    /// A target, if it is below 2^26 words.
+    /// Returns a target, if it is below 2^26 words.
     pub fn new(words: u32) -> Option<JumpTarget>
         ensures { SomeIff result (words < 2 ^ 26) words }
     {
@@ -192,7 +192,7 @@ impl JumpTarget {
         }
     }
 
-    /// The number of words, below 2^26.
+    /// Returns the number of words, below 2^26.
     pub fn words(self) -> u32
         ensures value { result ≡ self }
         ensures range { self < 2 ^ 26 }

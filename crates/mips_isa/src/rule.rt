@@ -1,4 +1,4 @@
-// The rules that make the machine stuck.
+//! The rules that make the machine stuck.
 
 ghost use Rattle.std.specs.Prelude.{Some};
 ghost use Rattle.mips_isa.specs.Texts.{rule_text};

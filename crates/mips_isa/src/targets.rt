@@ -1,11 +1,11 @@
-// Where branches and jumps lead, seen from the word behind them.
+//! Where branches and jumps lead, seen from the word after them.
 
 ghost use Rattle.std.specs.Prelude.{◌≡◌, ℕ, ◌<◌, ◌^◌};
 ghost use Rattle.mips_isa.specs.Controls.{branch_target, jump_target};
 
 use crate::reg::JumpTarget;
 
-/// Where a branch leads, by the address of its slot and its offset in words.
+/// Returns where a branch leads, by the address of its slot and its offset in words.
 pub fn branch_target(slot: u32, offset: i16) -> u32
     ensures { result ≡ branch_target slot offset }
 {
@@ -13,7 +13,7 @@ pub fn branch_target(slot: u32, offset: i16) -> u32
     slot.wrapping_add(by.cast_unsigned())
 }
 
-/// Where a jump leads, by the address of its slot.
+/// Returns where a jump leads, by the address of its slot.
 pub fn jump_target(slot: u32, target: JumpTarget) -> u32
     ensures { result ≡ jump_target slot target }
 {

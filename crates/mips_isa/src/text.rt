@@ -1,4 +1,4 @@
-// The texts of instructions.
+//! The texts of instructions.
 
 ghost use Rattle.std.specs.Prelude.{◌≡◌, ◌++◌, IfSome, Some, codes};
 ghost use Rattle.std.specs.Fmt.{DisplaysOnOk, WritesOnOk};
@@ -32,7 +32,7 @@ pub enum Mnemonic {
 }
 
 impl Mnemonic {
-    /// The name, as Kane writes it.
+    /// Returns the name, as Kane writes it.
     pub fn name(self) -> &'static str
         ensures { result.now ≡ mnemonic_text self }
     {
@@ -82,7 +82,7 @@ impl fmt::Debug for Mnemonic {
 }
 
 impl Plain {
-    /// The instruction's mnemonic.
+    /// Returns the instruction's mnemonic.
     pub fn mnemonic(&self) -> Mnemonic
         ensures { result ≡ mnemonic_of self.now }
     {
@@ -101,7 +101,7 @@ impl Plain {
         }
     }
 
-    /// The word 0, `sll $0,$0,0`, which does nothing.
+    /// Returns the word 0, `sll $0,$0,0`, which does nothing.
     pub fn nop() -> Plain
         ensures { result ≡ nop }
     {
@@ -113,7 +113,7 @@ impl Plain {
         }
     }
 
-    /// Whether it is the word 0, `sll $0,$0,0`.
+    /// Reports whether it is the word 0, `sll $0,$0,0`.
     pub fn is_nop(&self) -> bool
         ensures { result ≡ is_nop self.now }
     {

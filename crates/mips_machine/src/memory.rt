@@ -1,4 +1,4 @@
-// Data and stack, kept as words.
+//! Data and stack, kept as words.
 ghost use Rattle.std.specs.Prelude.{IfOk, ◌≡◌, ℕ, ◌<◌, ◌≤◌, ◌+◌, ◌-◌, ◌/◌, ◌^◌, slice_index, true, []};
 ghost use Rattle.std.specs.Prelude.{length, vec_len, vec_capacity, if◌then◌else◌, ◌==◌};
 ghost use Rattle.mips_isa.specs.MemoryMap.{stack_base, stack_end};
@@ -30,7 +30,7 @@ fn word_of(words: &[u32], place: usize) -> u32
     words[place]
 }
 
-// The word at a place, 0 behind those that are held.
+/// Returns the word at a place, 0 after those that are held.
 #[inline(always)]
 fn word_or_zero(words: &[u32], place: usize) -> u32
     ensures value { result ≡ slice_index words.now place }
@@ -42,7 +42,7 @@ fn word_or_zero(words: &[u32], place: usize) -> u32
     }
 }
 
-// The place of the stack's word that holds the byte at an address.
+/// Returns the place of the stack's word that holds the byte at an address.
 #[inline(always)]
 fn stack_place(a: u32) -> usize
     requires { a < stack_end }
@@ -52,7 +52,7 @@ fn stack_place(a: u32) -> usize
     ((STACK_END - 1 - a) / 4) as usize
 }
 
-// Zeros up to a place.
+/// Adds zeros up to a place.
 fn reach(stack: &mut Vec<u32>, place: usize)
     requires { place < vec_capacity stack.old }
     ensures held { place < length stack.new.items }
@@ -64,7 +64,7 @@ fn reach(stack: &mut Vec<u32>, place: usize)
     }
 }
 
-// The byte at a place of a word, the highest first.
+/// Returns the byte at a place of a word, the highest first.
 #[inline(always)]
 fn byte_at_place(word: u32, place: usize) -> u8
     requires { place < 4 }
@@ -73,7 +73,7 @@ fn byte_at_place(word: u32, place: usize) -> u8
     word.to_be_bytes()[place]
 }
 
-// The word with this byte at a place.
+/// Returns the word with this byte at a place.
 #[inline(always)]
 fn with_byte(word: u32, place: usize, byte: u8) -> u32
     requires { place < 4 }
@@ -85,7 +85,7 @@ fn with_byte(word: u32, place: usize, byte: u8) -> u32
 }
 
 impl Memory {
-    /// Whether the address of a byte is mapped.
+    /// Reports whether the address of a byte is mapped.
     #[inline(always)]
     pub fn is_mapped(&self, a: u32) -> bool
         ensures { result ≡ words_mapped (length self.now.globals.items) a }
@@ -94,7 +94,7 @@ impl Memory {
             || (STACK_BASE <= a && a < STACK_END)
     }
 
-    // The word that holds the byte at an address.
+    /// Returns the word that holds the byte at an address.
     #[inline(always)]
     fn word_at(&self, a: u32) -> u32
         requires { words_mapped (length self.now.globals.items) a ≡ true }
@@ -108,7 +108,7 @@ impl Memory {
         }
     }
 
-    // Replaces the word that holds the byte at an address.
+    /// Replaces the word that holds the byte at an address.
     #[inline(always)]
     fn put_word(&mut self, a: u32, word: u32)
         requires { words_mapped (length self.old.globals.items) a ≡ true }
@@ -125,7 +125,7 @@ impl Memory {
         }
     }
 
-    /// The word at an address, or the byte, extended with zeros.
+    /// Returns the word at an address, or the byte, extended with zeros.
     #[inline(always)]
     pub fn load(&self, width: Width, a: u32) -> u32
         requires { is_open width (words_mapped (length self.now.globals.items)) a ≡ true }
@@ -158,7 +158,7 @@ impl Memory {
     }
 }
 
-// A stack that holds nothing yet, with room for all of it.
+/// Returns a stack that holds nothing yet, with room for all of it.
 fn empty_stack(alloc: Global) -> Result<Vec<u32>, AllocError>
     ensures items { IfOk result (λ v. v.items ≡ []) }
     ensures room { IfOk result (λ v. 4194304 ≤ vec_capacity v) }
@@ -166,7 +166,7 @@ fn empty_stack(alloc: Global) -> Result<Vec<u32>, AllocError>
     Vec::with_capacity(alloc, STACK_WORDS)
 }
 
-// A byte, 0 behind the end.
+/// Returns a byte, 0 after the end.
 fn byte_at(bytes: &[u8], at: usize) -> u32
     ensures value { result ≡ slice_index bytes.now at }
     ensures small { result < 2 ^ 8 }
@@ -188,7 +188,7 @@ fn word_in(bytes: &[u8], k: usize) -> u32
         + byte_at(bytes, at + 3)
 }
 
-// The words of bytes, the last one filled up with zeros.
+/// Returns the words of bytes, the last one filled up with zeros.
 fn words_of(alloc: Global, bytes: &[u8]) -> Result<Vec<u32>, AllocError>
     requires { length bytes.now ≤ 1048576 }
     ensures count { IfOk result (λ w. length w.items ≡ (length bytes.now + 3) / 4) }
@@ -202,7 +202,7 @@ fn words_of(alloc: Global, bytes: &[u8]) -> Result<Vec<u32>, AllocError>
     Ok(words)
 }
 
-/// The memory at the start: these bytes of data, and a stack of zeros.
+/// Returns the memory at the start: these bytes of data, and a stack of zeros.
 pub fn memory_of(alloc: Global, bytes: &[u8]) -> Result<Memory, AllocError>
     requires { length bytes.now ≤ 1048576 }
     ensures words { IfOk result (λ m. length m.globals.items ≡ (length bytes.now + 3) / 4) }

@@ -1,4 +1,4 @@
-// A machine's run in portions.
+//! A machine's run in portions.
 ghost use Rattle.std.specs.Prelude.{◌≡◌, ◌<◌, IfOk};
 ghost use Rattle.mips_code.specs.Machines.{words_code};
 ghost use Rattle.mips_machine.specs.Views.{machine_of};
@@ -18,7 +18,7 @@ pub struct Portion {
 }
 
 impl<'a> Machine<'a> {
-    /// Goes on for at most so many words, until it holds so many words of output. `Err` only where memory is refused.
+    /// Goes on for at most so many words, until it holds so many words of output. `Err` only if memory runs out.
     pub fn go_on(&mut self, words: u64, outputs: usize) -> Result<Portion, AllocError>
         ensures went { IfOk result (λ p. WentOn (words_code self.old.code.words.now) words (machine_of self.old) (machine_of self.new) p.end p.words) }
         ensures moved { IfOk result (λ p. 0 < words → 0 < p.words) }
@@ -56,7 +56,7 @@ impl<'a> Machine<'a> {
     }
 }
 
-/// The law that a run doesn't depend on what was written before it.
+/// States that a run doesn't depend on what was written before it.
 pub fn output_goes_before()
     ensures { OutputGoesBefore }
 {}

@@ -1,4 +1,4 @@
-// Registers, HI, LO and memory.
+//! Registers, HI, LO and memory.
 ghost use Rattle.std.specs.Prelude.{◌≡◌, slice_index};
 
 use crate::memory::Memory;

@@ -1,4 +1,4 @@
-// What actions do to registers, HI, LO and memory, and the load under way.
+//! What actions do to registers, HI, LO and memory, and the load under way.
 ghost use Rattle.std.specs.Prelude.{◌≡◌, ◌≤◌, ℕ, None, true, length, slice_index, IfOk, IfErr};
 ghost use Rattle.words.specs.Operators.{op_value, has_quotient};
 ghost use Rattle.mips_isa.specs.MemoryMap.{stack_end};
@@ -30,7 +30,7 @@ impl Load {
     ghost use Rattle.std.specs.Prelude.{◌≡◌, false};
     ghost use Rattle.mips_machine.specs.declared.state.Load.TheVariants.{Nothing};
 
-    // Whether a word is under way.
+    /// Reports whether a word is under way.
     #[inline(always)]
     pub(crate) fn is_some(&self) -> bool
         ensures { result ≡ false → self.now ≡ Nothing }
@@ -42,7 +42,7 @@ impl Load {
     }
 }
 
-// The value of an operator, 0 where it has none.
+/// Returns the value of an operator, 0 where it has none.
 #[inline(always)]
 #[tactic(auto, unfolding(words::specs::Operators::op_value))]
 fn value(op: Operator, a: u32, b: u32) -> u32
@@ -54,7 +54,7 @@ fn value(op: Operator, a: u32, b: u32) -> u32
     }
 }
 
-// Whether a word or a byte may stand at the address.
+/// Reports whether a word or a byte may stand at the address.
 #[inline(always)]
 fn is_aligned(width: Width, a: u32) -> bool
     ensures { result ≡ is_aligned width a }
@@ -66,7 +66,7 @@ fn is_aligned(width: Width, a: u32) -> bool
 }
 
 impl Registers {
-    /// What a register holds.
+    /// Returns what a register holds.
     #[inline(always)]
     pub fn read(&self, r: Reg) -> u32
         ensures { result ≡ read 0 (state_of self.now).regs r }
@@ -74,7 +74,7 @@ impl Registers {
         self.regs[r.index() as usize]
     }
 
-    /// A register is written; register 0 loses the word.
+    /// Writes a register; register 0 loses the word.
     #[inline(always)]
     pub fn put(&mut self, r: Reg, word: u32)
         ensures { state_of self.new ≡ record (state_of self.old) { regs = put (state_of self.old).regs r word } }
@@ -95,7 +95,7 @@ impl Registers {
         }
     }
 
-    /// The address of a load or a store.
+    /// Returns the address of a load or a store.
     #[inline(always)]
     #[tactic(auto, unfolding(words::specs::Operators::op_value))]
     pub fn address(&self, base: Reg, offset: u32) -> u32
@@ -104,7 +104,7 @@ impl Registers {
         self.read(base).wrapping_add(offset)
     }
 
-    // The rule that forbids to read or write at an address.
+    /// Returns the rule that forbids to read or write at an address.
     #[inline(always)]
     fn address_broken(&self, width: Width, a: u32) -> Option<Rule>
         ensures rule { result ≡ address_rule_of width a (state_of self.now) }
@@ -119,7 +119,7 @@ impl Registers {
         None
     }
 
-    // The word or the byte at an address.
+    /// Returns the word or the byte at an address.
     #[inline(always)]
     pub(crate) fn load(&self, width: Width, a: u32) -> Result<u32, Rule>
         ensures rule { address_rule_of width a (state_of self.now) ≡ rule_told result }
@@ -131,7 +131,7 @@ impl Registers {
         }
     }
 
-    // Writes the word or its low byte at an address.
+    /// Writes the word or its low byte at an address.
     #[inline(always)]
     pub(crate) fn store(&mut self, width: Width, a: u32, word: u32) -> Result<(), Rule>
         ensures rule { address_rule_of width a (state_of self.old) ≡ rule_told result }
@@ -148,7 +148,7 @@ impl Registers {
         }
     }
 
-    // A register takes the value of an operator.
+    /// Writes the value of an operator to a register.
     #[inline(always)]
     pub(crate) fn compute(&mut self, d: Reg, op: Operator, a: Reg, b: Operand)
         ensures { state_of self.new ≡ shown_state (Computes d op a b) (state_of self.old) }
@@ -207,7 +207,7 @@ impl Registers {
         Ok(Load::Nothing)
     }
 
-    /// What was loaded shows.
+    /// Shows what was loaded.
     pub fn settle(&mut self, load: Load)
         ensures { state_of self.new ≡ state_with_pending (pending_in load) (state_of self.old) }
     {
@@ -218,7 +218,7 @@ impl Registers {
     }
 }
 
-/// The registers at the start: register 29 is the end of the stack, the others are 0.
+/// Returns the registers at the start: register 29 is the end of the stack, the others are 0.
 fn first_registers() -> [u32; 32]
     ensures { slice_index result ≡ put (λ r. 0) 29 stack_end }
 {
@@ -228,7 +228,7 @@ fn first_registers() -> [u32; 32]
 }
 
 impl Registers {
-    /// The state in which a program with these bytes of data starts.
+    /// Returns the state in which a program with these bytes of data starts.
     pub fn first(alloc: Global, bytes: &[u8]) -> Result<Registers, AllocError>
         requires { length bytes.now ≤ 1048576 }
         ensures { IfOk result (λ r. state_of r ≡ start_state bytes.now) }

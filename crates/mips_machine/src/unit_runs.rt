@@ -1,4 +1,4 @@
-// The run of a unit's blocks, item by item: an item is one instruction or one exit, and a load shows at once.
+//! The run of a unit's blocks, item by item: an item is one instruction or one exit, and a load shows at once.
 ghost use Rattle.std.specs.Prelude.{◌≡◌, ◌∷◌, ℕ, suc, true, false, IfOk, map, slice_get};
 ghost use Rattle.runs.specs.Runs.{outcome_of};
 ghost use Rattle.mips_isa.specs.Starting.{start_state};
@@ -25,7 +25,7 @@ pub(crate) struct Running<'u> {
     pub(crate) output: Vec<u32>,
 }
 
-// Does an action, a load showing at once; false where it isn't safe.
+/// Does an action, a load showing at once; false if it isn't safe.
 fn act(registers: &mut Registers, action: Action) -> bool
     ensures safe { result ≡ is_safe action (state_of registers.old) }
     ensures state { result ≡ true → state_of registers.new ≡ state_after action (state_of registers.old) }
@@ -39,7 +39,7 @@ fn act(registers: &mut Registers, action: Action) -> bool
     }
 }
 
-// Where the call with this link goes on.
+/// Returns where the call with this link goes on.
 fn return_block(blocks: &[Block], word: u32) -> Option<BlockNumber>
     ensures { result ≡ return_block_of link_of word 0 blocks.now }
 {
@@ -54,7 +54,7 @@ fn return_block(blocks: &[Block], word: u32) -> Option<BlockNumber>
 }
 
 impl<'u> Running<'u> {
-    // On to the start of a block, if it is there.
+    /// Goes on at the start of a block, if it is there.
     fn go_to(&mut self, number: u32) -> Option<End>
         ensures goes { (next : Next) → outcome_at_block number (slice_get self.old.blocks.now number) next (state_of self.old.registers)
             self.old.output.items ≡ ends_or result next self.new }
@@ -70,7 +70,7 @@ impl<'u> Running<'u> {
         }
     }
 
-    // On behind the call with this link, if there is one.
+    /// Goes on after the call with this link, if there is one.
     fn go_back(&mut self, word: u32) -> Option<End>
         ensures goes { (next : Next) → outcome_at_return self.old.blocks.now (return_block_of link_of word 0 self.old.blocks.now) next
             (state_of self.old.registers) self.old.output.items ≡ ends_or result next self.new }
@@ -82,7 +82,7 @@ impl<'u> Running<'u> {
         }
     }
 
-    // An instruction, the first of those that are left.
+    /// Runs the first of the instructions that are left.
     fn perform(&mut self, inst: Plain, rest: &'u [Plain]) -> Option<End>
         requires { self.old.rest.now ≡ inst ∷ rest.now }
         ensures item { (next : Next) → item self.old.blocks.now link_of next self.old.number self.old.rest.now (state_of self.old.registers)
@@ -97,7 +97,7 @@ impl<'u> Running<'u> {
         }
     }
 
-    // Prints a word, and goes on.
+    /// Prints a word, and goes on.
     fn print(&mut self, next: BlockNumber) -> Result<Option<End>, AllocError>
         ensures goes { IfOk result (λ e. (next' : Next) → outcome_of_departure self.old.blocks.now link_of
             (exit_effect (Out next) (state_of self.old.registers) (link_of self.old.number)).goes next'
@@ -111,7 +111,7 @@ impl<'u> Running<'u> {
         Ok(self.go_to(next.number()))
     }
 
-    // How the block is left.
+    /// Leaves the block.
     fn leave(&mut self, exit: Exit) -> Result<Option<End>, AllocError>
         ensures goes { IfOk result (λ e. (next : Next) → outcome_of_departure self.old.blocks.now link_of
             (exit_effect exit (state_of self.old.registers) (link_of self.old.number)).goes next
@@ -158,7 +158,7 @@ impl<'u> Running<'u> {
         }
     }
 
-    // One item.
+    /// Runs one item.
     fn step(&mut self) -> Result<Option<End>, AllocError>
         ensures item { IfOk result (λ e. (next : Next) → item self.old.blocks.now link_of next self.old.number self.old.rest.now
             (state_of self.old.registers) self.old.output.items ≡ ends_or e next self.new) }
@@ -174,7 +174,7 @@ impl<'u> Running<'u> {
     }
 }
 
-// So many items more.
+/// Runs so many items more.
 fn finish(mut running: Running<'_>, steps: u64) -> Result<Ran, AllocError>
     ensures { IfOk result (λ r. outcome_of r ≡ comes_to steps running.entry) }
 {
@@ -193,8 +193,8 @@ fn finish(mut running: Running<'_>, steps: u64) -> Result<Ran, AllocError>
     })
 }
 
-/// What so many items of a unit's blocks come to, from the state in which a program with its data starts. A call's link is the number of
-/// its block. `Err` only where memory is refused.
+/// Returns what so many items of a unit's blocks come to, from the state in which a program with its data starts. A call's link is the
+/// number of its block. `Err` only if memory runs out.
 pub fn run_unit(alloc: Global, unit: &Unit, steps: u64) -> Result<Ran, AllocError>
     ensures { IfOk result (λ r. outcome_of r ≡ unit_run unit.now.blocks link_of (start_state unit.now.globals) steps) }
 {

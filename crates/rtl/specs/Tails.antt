@@ -71,7 +71,7 @@ abbrev pub with_tail : Code → Option RBlock → Code
 with_tail c None = c
 with_tail c (Some t) = if is_short t.insts.items then joined_if c t.insts.items (spare_constant t.insts.items) (again t.exit) else c
 
--- of a block behind these, which are those that may be copied
+-- of a block after these, which are those that may be copied
 abbrev pub tailed_by : (before : List RBlock) → Code → RExit → Code
 tailed_by before c (Goto b) = with_tail c (slice_get before b)
 tailed_by before c (Branch x t e) = c

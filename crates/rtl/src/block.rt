@@ -1,4 +1,4 @@
-// Blocks, functions and globals of RTL.
+//! Blocks, functions and globals of RTL.
 use crate::instruction::{RExit, RInst};
 use words::Width;
 

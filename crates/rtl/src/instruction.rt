@@ -1,4 +1,4 @@
-// Instructions and exits of RTL.
+//! Instructions and exits of RTL.
 use crate::operator::Op;
 
 /// The number of a pseudo-register.

@@ -1,4 +1,4 @@
-// A program of RTL under way: activations, globals and output.
+//! A program of RTL under way: activations, globals and output.
 ghost use Rattle.std.specs.Prelude.{◌≡◌, ℕ, List, IfOk, Some, None, map, Option, slice_get};
 ghost use Rattle.std.specs.Option.{option_map};
 ghost use Rattle.rtl.specs.declared.instruction.RInst.TheVariants.{Store};
@@ -30,7 +30,7 @@ pub struct Frame<'a> {
 /// A program of RTL under way.
 pub type Interpreter<'a> = runs::Interpreter<Frame<'a>>;
 
-// The result of an operator at two registers.
+/// Returns the result of an operator at two registers.
 fn result_of(registers: &[Option<u32>], op: Op, left: Register, right: Register) -> Option<u32>
     ensures { result ≡ result_at op (places registers.now) left right }
 {
@@ -39,7 +39,7 @@ fn result_of(registers: &[Option<u32>], op: Op, left: Register, right: Register)
     op.result(x, y)
 }
 
-// The element of a global whose index a register has.
+/// Returns the element of a global whose index a register has.
 fn element_of(
     registers: &[Option<u32>],
     globals: &[Vec<u32>],
@@ -52,7 +52,7 @@ fn element_of(
     element(globals, global as usize, index as usize)
 }
 
-// A value, if there is one, goes to a register.
+/// Puts a value, if there is one, into a register.
 fn put(
     interpreter: &mut Interpreter,
     to: Register,
@@ -67,7 +67,7 @@ fn put(
     Ok(Reached::Going)
 }
 
-// `Store(global, index, from)`
+/// Runs `Store(global, index, from)`.
 fn store_at(
     globals: &[RGlobal],
     interpreter: &mut Interpreter,
@@ -93,7 +93,7 @@ fn store_at(
     }
 }
 
-// One instruction.
+/// Performs one instruction.
 fn perform(
     globals: &[RGlobal],
     interpreter: &mut Interpreter,
@@ -126,14 +126,14 @@ fn perform(
     }
 }
 
-// The block of a number.
+/// Returns the block of a number.
 fn block_at(blocks: &[RBlock], number: BlockNumber) -> Option<&RBlock>
     ensures { option_map (λ b. b.now) result ≡ slice_get blocks.now number }
 {
     blocks.get(number as usize)
 }
 
-// The activation goes on at the start of a block.
+/// Goes on at the start of a block.
 fn go_to<'a>(frame: &mut Frame<'a>, block: &'a RBlock)
     ensures { frame_of frame.new ≡ frame_at block.now frame.old }
 {
@@ -141,7 +141,7 @@ fn go_to<'a>(frame: &mut Frame<'a>, block: &'a RBlock)
     frame.exit = &block.exit;
 }
 
-// On to a block of the same function.
+/// Goes on at a block of the same function.
 fn jump(interpreter: &mut Interpreter, number: BlockNumber) -> Reached
     ensures { Jumps number interpreter.old result interpreter.new }
 {
@@ -152,7 +152,7 @@ fn jump(interpreter: &mut Interpreter, number: BlockNumber) -> Reached
     Reached::Going
 }
 
-// The words of the arguments, each a register that is set; None where one isn't.
+/// Returns the words of the arguments, each a register that is set; None if one isn't.
 fn arguments(
     alloc: Global,
     registers: &[Option<u32>],
@@ -171,7 +171,7 @@ fn arguments(
     Ok(Some(values))
 }
 
-// An activation of the function of these blocks, at the start of one of them.
+/// Returns an activation of the function of these blocks, at the start of one of them.
 fn first_frame<'a>(
     blocks: &'a [RBlock],
     entry: &'a RBlock,
@@ -198,7 +198,7 @@ struct Callee<'a> {
     result_to: Option<Register>,
 }
 
-// A function is called with these words.
+/// Calls a function with these words.
 fn enter<'a>(
     program: &'a Rtl,
     depth: u32,
@@ -228,7 +228,7 @@ fn enter<'a>(
     Ok(Reached::Going)
 }
 
-// A function is called, and its caller goes on at a block.
+/// Calls a function, whose caller goes on at a block.
 fn call<'a>(
     alloc: Global,
     program: &'a Rtl,
@@ -251,7 +251,7 @@ fn call<'a>(
     enter(program, depth, interpreter, callee, values)
 }
 
-// The activation returns, with a word or without.
+/// Returns from an activation, with a word or without.
 fn return_word(
     interpreter: &mut Interpreter,
     result_word: Option<u32>,
@@ -267,7 +267,7 @@ fn return_word(
     }
 }
 
-// How a block is left.
+/// Leaves a block.
 fn leave<'a>(
     alloc: Global,
     program: &'a Rtl,
@@ -310,7 +310,7 @@ fn leave<'a>(
     }
 }
 
-/// One step of the program.
+/// Takes one step of the program.
 pub(crate) fn step<'a>(
     alloc: Global,
     program: &'a Rtl,

@@ -1,4 +1,4 @@
-// The limits of programs, which each `Rtl` keeps.
+//! The limits of programs, which each `Rtl` keeps.
 
 /// The most parameters that a function may have.
 pub const MAX_PARAMETERS: u32 = 4;

@@ -1,4 +1,4 @@
-// Operators of RTL on two words.
+//! Operators of RTL on two words.
 ghost use Rattle.std.specs.Prelude.{◌≡◌, Option};
 ghost use Rattle.rtl.specs.Operators.{op_result};
 
@@ -40,7 +40,7 @@ pub enum Op {
 }
 
 impl Op {
-    /// The result at two words; None exactly for a division without one.
+    /// Returns the result at two words; None exactly for a division without one.
     pub fn result(self, x: u32, y: u32) -> Option<u32>
         ensures { result ≡ op_result self x y }
     {

@@ -1,4 +1,4 @@
-// Programs of RTL, and which parts make one.
+//! Programs of RTL, and which parts make one.
 ghost use Rattle.std.specs.Prelude.{◌≡◌, ℕ, ◌<◌, ◌≤◌, ◌↔◌, IsTrue, IfOk, All, length, sum_by};
 ghost use Rattle.std.specs.Option.{SomeIff};
 ghost use Rattle.rtl.specs.Programs.{IsRegister, IsMaybeRegister, IsInst, IsCallee, IsExit, IsBlock, IsFunction, IsGlobal, IsProgram};
@@ -53,7 +53,7 @@ fn are_registers(all: &[Register]) -> bool
     all.iter().all(|&x| x < MAX_REGISTERS)
 }
 
-// Whether an instruction names what is there, with so many globals.
+/// Reports whether an instruction names what is there, with so many globals.
 fn is_inst(globals: usize, inst: RInst) -> bool
     ensures { IsTrue result ↔ IsInst globals inst }
 {
@@ -72,7 +72,7 @@ fn is_inst(globals: usize, inst: RInst) -> bool
     }
 }
 
-// Whether a function is there and takes so many arguments.
+/// Reports whether a function is there and takes so many arguments.
 fn is_callee(functions: &[RFunc], function: FunctionNumber, count: usize) -> bool
     ensures { IsTrue result ↔ IsCallee functions.now function count }
 {
@@ -82,7 +82,7 @@ fn is_callee(functions: &[RFunc], function: FunctionNumber, count: usize) -> boo
     }
 }
 
-// Whether an exit names what is there, in a function with so many blocks.
+/// Reports whether an exit names what is there, in a function with so many blocks.
 fn is_exit(functions: &[RFunc], blocks: usize, exit: &RExit) -> bool
     ensures { IsTrue result ↔ IsExit functions.now blocks exit.now }
 {
@@ -167,7 +167,7 @@ fn are_globals(globals: &[RGlobal]) -> bool
     true
 }
 
-// Whether the functions have no more blocks together than a program may have.
+/// Reports whether the functions have no more blocks together than a program may have.
 fn blocks_fit(functions: &[RFunc]) -> bool
     ensures { IsTrue result ↔ (sum_by block_count functions.now ≤ MAX_BLOCKS) }
 {
@@ -182,7 +182,7 @@ fn blocks_fit(functions: &[RFunc]) -> bool
     true
 }
 
-// Whether the globals have no more words together than a program may have.
+/// Reports whether the globals have no more words together than a program may have.
 fn words_fit(globals: &[RGlobal]) -> bool
     ensures { IsTrue result ↔ (sum_by word_count globals.now ≤ MAX_GLOBAL_WORDS) }
 {
@@ -213,10 +213,10 @@ fn is_program(functions: &[RFunc], globals: &[RGlobal], main: FunctionNumber) ->
 }
 
 impl Rtl {
-    /// A program of these parts, if they make one: each function, block and global that is named exists; a function has a
-    /// block and at most four parameters; a call has as many arguments as parameters, and `main` has none; pseudo-registers
-    /// are below 8,000; a global has at least one element and as many first values; and there are at most 1,048,575 blocks
-    /// and 262,144 words of globals, where four bytes or less are a word.
+    /// Returns a program of these parts, if they make one: each function, block and global that is named exists; a function has a block and
+    /// at most four parameters; a call has as many arguments as parameters, and `main` has none; pseudo-registers are below 8,000; a global
+    /// has at least one element and as many first values; and there are at most 1,048,575 blocks and 262,144 words of globals, where four
+    /// bytes or less are a word.
     pub fn new(functions: Vec<RFunc>, globals: Vec<RGlobal>, main: FunctionNumber) -> Option<Rtl>
         ensures { SomeIff result (IsProgram (program_of functions.items globals.items main))
             (program_of functions.items globals.items main) }
@@ -232,9 +232,9 @@ impl Rtl {
         }
     }
 
-    /// The same program, where each block that goes to a short one before it ends with that one's code: at most eight
-    /// instructions, of which at most four aren't constants. A block that nothing goes to then is empty. Each run has the
-    /// same steps. An Err is refused memory.
+    /// Returns the same program, where each block that goes to a short one before it ends with that one's code: at most eight instructions,
+    /// of which at most four aren't constants. A block that nothing goes to then is empty. Each run has the same steps. An Err means out of
+    /// memory.
     pub fn with_tails(self, alloc: Global) -> Result<Rtl, AllocError>
         ensures tails { IfOk result (λ p. IsTailed self p) }
         ensures runs { IfOk result (λ p. RunsAlike self p) }
@@ -252,7 +252,7 @@ impl Rtl {
         })
     }
 
-    /// The functions.
+    /// Returns the functions.
     pub fn functions(&self) -> &[RFunc]
         ensures value { result.now ≡ self.now.functions }
         ensures sound { IsProgram self.now }
@@ -260,7 +260,7 @@ impl Rtl {
         self.functions.as_slice()
     }
 
-    /// The globals.
+    /// Returns the globals.
     pub fn globals(&self) -> &[RGlobal]
         ensures value { result.now ≡ self.now.globals }
         ensures sound { IsProgram self.now }
@@ -268,7 +268,7 @@ impl Rtl {
         self.globals.as_slice()
     }
 
-    /// The number of the function that is run.
+    /// Returns the number of the function that is run.
     pub fn main(&self) -> FunctionNumber
         ensures value { result ≡ self.now.main }
         ensures sound { IsProgram self.now }

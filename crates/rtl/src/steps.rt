@@ -1,4 +1,4 @@
-// The run of a program of RTL, so many steps.
+//! The run of a program of RTL, so many steps.
 ghost use Rattle.std.specs.Prelude.{◌≡◌, IfOk, map};
 ghost use Rattle.runs.specs.Runs.{outcome_of};
 ghost use Rattle.rtl.specs.Meaning.{first_values, rtl_start, rtl_run};
@@ -13,7 +13,7 @@ use crate::stores::constant;
 use runs::{Ran, run_steps};
 use std::alloc::{AllocError, Global};
 
-// The elements of a global before the first step.
+/// Returns the elements of a global before the first step.
 fn first_elements(alloc: Global, global: &RGlobal) -> Result<Vec<u32>, AllocError>
     ensures { IfOk result (λ elements. elements.items ≡ first_values global.now) }
 {
@@ -24,7 +24,7 @@ fn first_elements(alloc: Global, global: &RGlobal) -> Result<Vec<u32>, AllocErro
     Ok(elements)
 }
 
-// The globals before the first step.
+/// Returns the globals before the first step.
 fn first_globals(alloc: Global, globals: &[RGlobal]) -> Result<Vec<Vec<u32>>, AllocError>
     ensures { IfOk result (λ g. arrays g.items ≡ map first_values globals.now) }
 {
@@ -35,7 +35,7 @@ fn first_globals(alloc: Global, globals: &[RGlobal]) -> Result<Vec<Vec<u32>>, Al
     Ok(all)
 }
 
-// The run before its first step.
+/// Returns the run before its first step.
 fn start<'a>(alloc: Global, program: &'a Rtl) -> Result<Interpreter<'a>, AllocError>
     ensures { IfOk result (λ r. rtl_start program.now ≡ state_by frame_of r) }
 {
@@ -53,8 +53,8 @@ fn start<'a>(alloc: Global, program: &'a Rtl) -> Result<Interpreter<'a>, AllocEr
     Ok(Interpreter::new(alloc, frame, globals))
 }
 
-/// What so many steps of a program come to, with at most `depth` activations at once, that of `main` among them. `Err`
-/// only where memory is refused.
+/// Returns what so many steps of a program come to, with at most `depth` activations at once, that of `main` among them. `Err` only if
+/// memory runs out.
 pub fn run(alloc: Global, program: &Rtl, depth: u32, steps: u64) -> Result<Ran, AllocError>
     ensures { IfOk result (λ r. outcome_of r ≡ rtl_run program.now depth steps) }
 {

@@ -1,4 +1,4 @@
-// What a run keeps, by the numbers of a program: the words of registers, and what an element of a global keeps.
+//! What a run keeps, by the numbers of a program: the words of registers, and what an element of a global keeps.
 ghost use Rattle.std.specs.Prelude.{◌≡◌, Option};
 ghost use Rattle.words.specs.Words.{wrap};
 ghost use Rattle.runs.specs.Kept.{places};
@@ -8,7 +8,7 @@ use crate::block::RGlobal;
 use crate::instruction::{GlobalNumber, Register};
 use runs::word_at;
 
-/// The word that a number of a program means.
+/// Returns the word that a number of a program means.
 #[inline(always)]
 pub(crate) fn constant(word: u32) -> u32
     ensures { result ≡ wrap word }
@@ -16,7 +16,7 @@ pub(crate) fn constant(word: u32) -> u32
     word
 }
 
-/// The word of a register; None where it isn't set.
+/// Returns the word of a register; None if it isn't set.
 #[inline]
 pub(crate) fn register(registers: &[Option<u32>], x: Register) -> Option<u32>
     ensures { result ≡ places registers.now x }
@@ -24,7 +24,7 @@ pub(crate) fn register(registers: &[Option<u32>], x: Register) -> Option<u32>
     word_at(registers, x as usize)
 }
 
-/// What an element of a global keeps of a word; None where there is no such global.
+/// Returns what an element of a global keeps of a word; None if there is no such global.
 #[inline]
 pub(crate) fn kept_by(globals: &[RGlobal], global: GlobalNumber, v: u32) -> Option<u32>
     ensures { result ≡ kept_in globals.now global v }

@@ -1,4 +1,4 @@
-// Tail duplication: a block that goes to a short one ends with its code.
+//! Tail duplication: a block that goes to a short one ends with its code.
 
 ghost use Rattle.std.specs.Prelude.{◌≡◌, ℕ, ◌<◌, ◌≤◌, false, [], ◌∷◌, ◌++◌, length, get_or, IfOk};
 ghost use Rattle.rtl.specs.declared.tails.TheConstants.{TAIL_INSTS};
@@ -17,7 +17,7 @@ pub const TAIL_INSTS: usize = 8;
 /// The most of them that aren't constants.
 pub const TAIL_OPERATIONS: usize = 4;
 
-// Whether an instruction reads a register.
+/// Reports whether an instruction reads a register.
 fn reads(inst: RInst, d: Register) -> bool
     ensures { result ≡ is_in (inst_reads inst) d }
 {
@@ -30,7 +30,7 @@ fn reads(inst: RInst, d: Register) -> bool
     }
 }
 
-// Whether it writes it.
+/// Reports whether it writes it.
 fn writes(inst: RInst, d: Register) -> bool
     ensures { result ≡ is_in (inst_writes inst) d }
 {
@@ -43,7 +43,7 @@ fn writes(inst: RInst, d: Register) -> bool
     }
 }
 
-// Whether instructions write a register before they read it.
+/// Reports whether instructions write a register before they read it.
 fn writes_first(insts: &[RInst], d: Register) -> bool
     ensures { result ≡ writes_first insts.now d }
 {
@@ -58,7 +58,7 @@ fn writes_first(insts: &[RInst], d: Register) -> bool
     false
 }
 
-// The first register that an instruction sets to a constant, and that all write before they read it.
+/// Returns the first register that an instruction sets to a constant, and that all write before they read it.
 fn spare_constant(insts: &[RInst]) -> Option<Register>
     ensures { result ≡ spare_constant insts.now }
 {
@@ -72,7 +72,7 @@ fn spare_constant(insts: &[RInst]) -> Option<Register>
     None
 }
 
-// 0 for a constant, 1 for any other instruction.
+/// Returns 0 for a constant, 1 for any other instruction.
 fn weight(inst: RInst) -> usize
     ensures { result ≡ weight inst }
 {
@@ -82,7 +82,7 @@ fn weight(inst: RInst) -> usize
     }
 }
 
-// How many instructions aren't constants.
+/// Returns how many instructions aren't constants.
 fn operations(insts: &[RInst]) -> usize
     requires { length insts.now ≤ TAIL_INSTS }
     ensures { result ≡ operations insts.now }
@@ -94,7 +94,7 @@ fn operations(insts: &[RInst]) -> usize
     count
 }
 
-// Whether a block of these instructions is copied.
+/// Reports whether a block of these instructions is copied.
 fn is_short(insts: &[RInst]) -> bool
     ensures { result ≡ is_short insts.now }
 {
@@ -104,7 +104,7 @@ fn is_short(insts: &[RInst]) -> bool
     operations(insts) <= TAIL_OPERATIONS
 }
 
-// The exit once more, but for a call.
+/// Returns the exit once more, but for a call.
 fn again(exit: &RExit) -> Option<RExit>
     ensures { result ≡ again exit.now }
 {
@@ -117,7 +117,7 @@ fn again(exit: &RExit) -> Option<RExit>
     }
 }
 
-// Code with a copy of these instructions and this exit behind it, by way of a constant for a register.
+/// Returns code with a copy of these instructions and this exit after it, by way of a constant for a register.
 fn join(
     mut insts: Vec<RInst>,
     register: Register,
@@ -131,7 +131,7 @@ fn join(
     Ok(RBlock { insts, exit })
 }
 
-// A block with the code that it goes to, if that is one of these blocks and short.
+/// Returns a block with the code that it goes to, if that is one of these blocks and short.
 fn with_tail(block: RBlock, before: &[RBlock]) -> Result<RBlock, AllocError>
     ensures { IfOk result (λ b. code_of b ≡ tailed before.now (code_of block)) }
 {
@@ -153,7 +153,7 @@ fn with_tail(block: RBlock, before: &[RBlock]) -> Result<RBlock, AllocError>
     join(block.insts, register, tail.insts.as_slice(), exit)
 }
 
-// Each block with its tail, from the last one on: those before it are as they were.
+/// Returns each block with its tail, from the last one on: those before it are as they were.
 fn with_tails(alloc: Global, mut blocks: Vec<RBlock>) -> Result<Vec<RBlock>, AllocError>
     ensures { IfOk result (λ bs. AreTailed [] blocks.items bs.items) }
 {
@@ -166,7 +166,7 @@ fn with_tails(alloc: Global, mut blocks: Vec<RBlock>) -> Result<Vec<RBlock>, All
     Ok(made)
 }
 
-// Marks a block, if there is one.
+/// Marks a block, if there is one.
 fn mark(marks: &mut Vec<bool>, block: BlockNumber)
     ensures { Marks (block ∷ []) marks.old.items marks.new.items }
 {
@@ -175,7 +175,7 @@ fn mark(marks: &mut Vec<bool>, block: BlockNumber)
     }
 }
 
-// Marks the blocks that an exit goes to.
+/// Marks the blocks that an exit goes to.
 fn mark_exit(marks: &mut Vec<bool>, exit: &RExit)
     ensures { Marks (goes_to exit.now) marks.old.items marks.new.items }
 {
@@ -191,7 +191,7 @@ fn mark_exit(marks: &mut Vec<bool>, exit: &RExit)
     }
 }
 
-// Which blocks some exit goes to.
+/// Returns which blocks some exit goes to.
 fn reached_blocks(alloc: Global, blocks: &[RBlock]) -> Result<Vec<bool>, AllocError>
     ensures { IfOk result (λ marks. (length marks.items ≡ length blocks.now)
         × ((x : ℕ) → x < length blocks.now → get_or marks.items x false ≡ some_go_to blocks.now x)) }
@@ -203,7 +203,7 @@ fn reached_blocks(alloc: Global, blocks: &[RBlock]) -> Result<Vec<bool>, AllocEr
     Ok(marks)
 }
 
-// The shortest exit that goes nowhere else.
+/// Returns the shortest exit that goes nowhere else.
 fn shortest(exit: &RExit) -> RExit
     ensures { result ≡ shortest exit.now }
 {
@@ -216,7 +216,7 @@ fn shortest(exit: &RExit) -> RExit
     }
 }
 
-// The blocks, the entry and others that an exit goes to as they are, and the rest empty.
+/// Returns the blocks, the entry and others that an exit goes to as they are, and the rest empty.
 fn with_reached(alloc: Global, mut blocks: Vec<RBlock>) -> Result<Vec<RBlock>, AllocError>
     ensures { IfOk result (λ bs. AreKept (is_reached blocks.items) 0 blocks.items bs.items) }
 {
@@ -238,7 +238,7 @@ fn with_reached(alloc: Global, mut blocks: Vec<RBlock>) -> Result<Vec<RBlock>, A
     Ok(kept)
 }
 
-// A function whose blocks have their tails, without those that nothing goes to then.
+/// Returns a function whose blocks have their tails, without those that nothing goes to then.
 fn function_with_tails(alloc: Global, function: RFunc) -> Result<RFunc, AllocError>
     ensures { IfOk result (λ f. HasTails function f) }
 {
@@ -248,7 +248,7 @@ fn function_with_tails(alloc: Global, function: RFunc) -> Result<RFunc, AllocErr
     Ok(RFunc { parameters, blocks })
 }
 
-/// Functions whose blocks have their tails; an Err is refused memory.
+/// Returns functions whose blocks have their tails; an Err means out of memory.
 pub(crate) fn functions_with_tails(
     alloc: Global,
     mut functions: Vec<RFunc>,

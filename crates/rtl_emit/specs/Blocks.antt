@@ -79,7 +79,7 @@ pub record Reserves (old new : List RBlock) (b : ℕ) : Type 0 where
   pub longer : length new ≡ length old + 1
   pub grows : Grows old new
 
--- one block is written anew
+-- one block is written again
 pub record Fills (old new : List RBlock) (b : ℕ) (c : Code) : Type 0 where
   pub same_length : length new ≡ length old
   pub others : (i : ℕ) → i ≢ b → slice_get new i ≡ slice_get old i

@@ -28,8 +28,8 @@ pub record Size : Type 0 where
 abbrev pub Covers : Size → Scope → Type 0
 Covers size s = (size.registers ≤ s.registers) × (size.globals ≤ s.globals)
 
--- the blocks that were there stay, whatever is answered; an Ok adds so many and is within the limits. It keeps what is sound and small,
--- and does its work in every list of blocks that has those which were added; a Limit comes only where one of the sizes is beyond one
+-- the blocks that were there stay, whatever is answered; an Ok adds so many and is within the limits. It keeps what is sound and small, and
+-- does its work in every list of blocks that has those which were added. A Limit comes only where one of the sizes is beyond one
 pub record Emits {A : Type 0} (size : Size) (old new : List RBlock) (Keeps : A → Type 0) (Does : A → List RBlock
     → Type 0) (r : Result A LowerFault)
     : Type 0 where

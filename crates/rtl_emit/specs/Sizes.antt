@@ -36,7 +36,7 @@ by_branches (binary o k l r) = is_logical o
 by_branches _ = false
 
 abbrev mutual
-  -- of the value of an expression, with so many for what comes behind it
+  -- of the value of an expression, with so many for what comes after it
   pub value_blocks : TypedExpression → ℕ → ℕ
   value_blocks (constant c) n = 0
   value_blocks (local x k) n = 0
@@ -106,7 +106,7 @@ abbrev pub next_free : TypedExpression → (free : ℕ) → ℕ
 next_free (local x k) free = free
 next_free e free = free + 2
 
--- an operation at an operand and a constant, which has the register behind it
+-- an operation at an operand and a constant, which has the register after it
 abbrev pub combined_registers : (place next value : ℕ) → ℕ
 combined_registers place next value = max (max place (next + 1)) value
 

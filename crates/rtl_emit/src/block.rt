@@ -1,4 +1,4 @@
-// Blocks that are being made, from their exit on backwards, and the list that they are added to.
+//! Blocks that are being made, from their exit on backwards, and the list that they are added to.
 ghost use Rattle.std.specs.Prelude.{◌≡◌, ◌++◌, ◌∷◌, ◌+◌, ◌<◌, ◌≤◌, [], List, length, IfOk, IfErr, OnOk, OnErr};
 ghost use Rattle.rtl.specs.declared.limits.TheConstants.{MAX_BLOCKS};
 ghost use Rattle.rtl_emit.specs.Sizes.{joint};
@@ -26,7 +26,7 @@ pub enum Continuation {
     Made(OpenBlock),
 }
 
-/// Code that only leaves its block.
+/// Returns code that only leaves its block.
 pub fn exit_block(alloc: Global, exit: RExit) -> OpenBlock
     ensures { open_code result ≡ exit_code exit }
 {
@@ -39,7 +39,8 @@ pub fn exit_block(alloc: Global, exit: RExit) -> OpenBlock
 /// So many instructions have room at once, as most blocks need; a list that grows is copied at each step.
 const ROOM: usize = 8;
 
-/// An instruction before the code; an Err is refused memory.
+/// Puts an instruction before the code; an Err means out of memory.
+#[inline(always)]
 pub fn put_first(inst: RInst, mut code: OpenBlock) -> Result<OpenBlock, AllocError>
     ensures { IfOk result (λ c. open_code c ≡ first inst (open_code code)) }
 {
@@ -50,7 +51,7 @@ pub fn put_first(inst: RInst, mut code: OpenBlock) -> Result<OpenBlock, AllocErr
     Ok(code)
 }
 
-/// Code that comes there.
+/// Returns code that comes there.
 pub fn open_block(alloc: Global, after: Continuation) -> OpenBlock
     ensures { open_code result ≡ line_of (spot after) }
 {
@@ -60,14 +61,15 @@ pub fn open_block(alloc: Global, after: Continuation) -> OpenBlock
     }
 }
 
-/// An instruction before what comes there; an Err is refused memory.
+/// Puts an instruction before what comes there; an Err means out of memory.
+#[inline(always)]
 pub fn put_before(alloc: Global, inst: RInst, after: Continuation) -> Result<OpenBlock, AllocError>
     ensures { IfOk result (λ c. open_code c ≡ first inst (line_of (spot after))) }
 {
     put_first(inst, open_block(alloc, after))
 }
 
-/// A block that begins there: no new one for a block that is there. A function with more than 1,048,575 blocks is a Limit. After an
+/// Returns a block that begins there: no new one for a block that is there. A function with more than 1,048,575 blocks is a Limit. After an
 /// Err the blocks are as they were.
 pub fn block_of(blocks: &mut Vec<RBlock>, after: Continuation) -> Result<BlockNumber, LowerFault>
     ensures grows { Grows blocks.old.items blocks.new.items }
@@ -85,7 +87,7 @@ pub fn block_of(blocks: &mut Vec<RBlock>, after: Continuation) -> Result<BlockNu
     }
 }
 
-// The code as a block of its own; a Limit as for `block_of`.
+/// Makes the code a block of its own; a Limit as for `block_of`.
 pub(crate) fn seal(blocks: &mut Vec<RBlock>, code: OpenBlock) -> Result<BlockNumber, LowerFault>
     ensures grows { Grows blocks.old.items blocks.new.items }
     ensures left { OnErr result (blocks.new.items ≡ blocks.old.items) }
@@ -106,7 +108,7 @@ pub(crate) fn seal(blocks: &mut Vec<RBlock>, code: OpenBlock) -> Result<BlockNum
     Ok(number as u32)
 }
 
-// One more block.
+/// Puts one more block.
 fn put_block(blocks: &mut Vec<RBlock>, block: RBlock) -> Result<(), AllocError>
     ensures added { OnOk result (blocks.new.items ≡ blocks.old.items ++ block ∷ []) }
     ensures left { OnErr result (blocks.new.items ≡ blocks.old.items) }
@@ -115,7 +117,7 @@ fn put_block(blocks: &mut Vec<RBlock>, block: RBlock) -> Result<(), AllocError>
     Ok(())
 }
 
-/// A block that is filled later, and its number; a Limit as for `block_of`, and after an Err the blocks are as they were.
+/// Reserves a block that is filled later, and returns its number. A Limit as for `block_of`, and after an Err the blocks are as they were.
 pub fn reserve(alloc: Global, blocks: &mut Vec<RBlock>) -> Result<BlockNumber, LowerFault>
     ensures left { OnErr result (blocks.new.items ≡ blocks.old.items) }
     ensures limit { IfErr result (λ f. f ≡ LowerFault.Limit → MAX_BLOCKS < length blocks.old.items + 1) }
@@ -135,7 +137,7 @@ pub fn reserve(alloc: Global, blocks: &mut Vec<RBlock>) -> Result<BlockNumber, L
     Ok(number as u32)
 }
 
-/// The code as the block of a number that was reserved.
+/// Makes the code the block of a number that was reserved.
 pub fn fill(blocks: &mut Vec<RBlock>, number: BlockNumber, code: OpenBlock)
     requires { number < length blocks.old.items }
     ensures insts { insts_in blocks.new.items ≤ insts_in blocks.old.items + insts_of (open_code code) }

@@ -1,5 +1,5 @@
-// The code of expressions and conditions, by cases over their kinds. A function that calls itself hands the answers of its parts
-// on to one that reads them, so that it has few ways out.
+//! The code of expressions and conditions, by cases over their kinds. A function that calls itself hands the answers of its parts
+//! on to one that reads them, so that it has few ways out.
 ghost use Rattle.std.specs.Prelude.{◌≡◌, ◌<◌, true, false, IfOk, IfErr, Err};
 ghost use Rattle.rtl.specs.declared.limits.TheConstants.{MAX_REGISTERS};
 ghost use Rattle.words.specs.Words.{wrap};
@@ -31,14 +31,14 @@ use c_typed::TypedExpression;
 use rtl::{BlockNumber, RBlock, Register};
 use std::alloc::Global;
 
-// The word that a constant means.
+/// Returns the word that a constant means.
 fn constant(value: u32) -> u32
     ensures { result ≡ wrap value }
 {
     value
 }
 
-// Whether an expression is `&&`, `||` or `!`, whose value its branches tell.
+/// Reports whether an expression is `&&`, `||` or `!`, whose value its branches tell.
 pub(crate) fn is_logical(e: &TypedExpression) -> bool
     ensures { result ≡ by_branches (typed_expression_of e.now) }
 {
@@ -51,7 +51,7 @@ pub(crate) fn is_logical(e: &TypedExpression) -> bool
     }
 }
 
-/// The value of an expression in a register, which only the last instruction on each way writes.
+/// Emits the value of an expression in a register, which only the last instruction on each way writes.
 #[cycle(expressions)]
 pub fn value_into(
     alloc: Global,
@@ -86,7 +86,7 @@ pub fn value_into(
     }
 }
 
-// The value of an element of an array.
+/// Emits the value of an element of an array.
 #[cycle(expressions)]
 fn element_into(
     aim: Aim,
@@ -102,7 +102,7 @@ fn element_into(
     await_operand(alloc, blocks, index, free, load)
 }
 
-// The value of a prefix operator.
+/// Emits the value of a prefix operator.
 #[cycle(expressions)]
 fn unary_into(
     aim: Aim,
@@ -132,7 +132,7 @@ fn unary_into(
     }
 }
 
-// The value of an operator with two operands.
+/// Emits the value of an operator with two operands.
 #[cycle(expressions)]
 fn binary_into(
     aim: Aim,
@@ -160,7 +160,7 @@ fn binary_into(
     }
 }
 
-// The value of `&&` or `||`, which its branches tell.
+/// Emits the value of `&&` or `||`, which its branches tell.
 #[cycle(expressions)]
 fn told_into(
     aim: Aim,
@@ -176,7 +176,7 @@ fn told_into(
     logical_branches(aim.alloc, blocks, both, left, right, truth, aim.free)
 }
 
-// The value of a conditional expression, each side of which is a block of its own.
+/// Emits the value of a conditional expression, each side of which is a block of its own.
 #[cycle(expressions)]
 fn conditional_into(
     aim: Aim,
@@ -200,7 +200,7 @@ fn conditional_into(
     condition(alloc, blocks, test, likely_first(yes, no), free)
 }
 
-// A value as a block of its own, which goes on at a block that is there.
+/// Emits a value as a block of its own, which goes on at a block that is there.
 #[cycle(expressions)]
 fn value_block(
     alloc: Global,
@@ -216,7 +216,7 @@ fn value_block(
     seal(blocks, code)
 }
 
-/// The value of an operand in its place: no code for a local that is there.
+/// Emits the value of an operand in its place: no code for a local that is there.
 #[cycle(expressions)]
 pub fn operand_into(
     alloc: Global,
@@ -237,7 +237,7 @@ pub fn operand_into(
     value_into(alloc, blocks, e, register, free, Continuation::Made(after))
 }
 
-// The value of an operand in its place, before code that waits for it there, if there is such code.
+/// Emits the value of an operand in its place, before code that waits for it there, if there is such code.
 #[cycle(expressions)]
 fn await_operand(
     alloc: Global,
@@ -255,8 +255,9 @@ fn await_operand(
     operand_into(alloc, blocks, e, value.place.register, free, value.code)
 }
 
-// The same of two operands, the first of which is held while the second is found.
+/// Emits the same of two operands, the first of which is held while the second is found.
 #[cycle(expressions)]
+#[inline(always)]
 fn await_both(
     alloc: Global,
     blocks: &mut Vec<RBlock>,
@@ -284,7 +285,7 @@ fn await_both(
     operand_into(alloc, blocks, left, first.register, free, middle)
 }
 
-// A branch by a value.
+/// Emits a branch by a value.
 #[cycle(expressions)]
 fn test(
     alloc: Global,
@@ -299,7 +300,7 @@ fn test(
     await_operand(alloc, blocks, e, free, test_at(alloc, e, targets, free))
 }
 
-/// The branches of a condition to its targets.
+/// Emits the branches of a condition to its targets.
 #[cycle(expressions)]
 pub fn condition(
     alloc: Global,
@@ -347,7 +348,7 @@ pub fn condition(
     }
 }
 
-// A branch by the contrary of a comparison, with the block `no` first.
+/// Emits a branch by the contrary of a comparison, with the block `no` first.
 #[cycle(expressions)]
 fn contrary_test(
     alloc: Global,
@@ -367,7 +368,7 @@ fn contrary_test(
     await_both(alloc, blocks, left, right, free, values)
 }
 
-// The branches of `&&` or `||`: of the left operand, and in a block of its own of the right one.
+/// Emits the branches of `&&` or `||`: of the left operand, and in a block of its own of the right one.
 #[cycle(expressions)]
 fn logical_branches(
     alloc: Global,
@@ -386,7 +387,7 @@ fn logical_branches(
     condition(alloc, blocks, left, targets.of_left(both, second), free)
 }
 
-// The branches of a conditional expression, each side of which is a block of its own.
+/// Emits the branches of a conditional expression, each side of which is a block of its own.
 #[cycle(expressions)]
 fn sides(
     alloc: Global,
@@ -406,7 +407,7 @@ fn sides(
     condition(alloc, blocks, test, likely_first(yes, no), free)
 }
 
-// The branches of a condition as a block of its own.
+/// Emits the branches of a condition as a block of its own.
 #[cycle(expressions)]
 fn branch_block(
     alloc: Global,
@@ -421,7 +422,7 @@ fn branch_block(
     seal(blocks, code)
 }
 
-/// The values of a list in their places, from the first on. A Limit where there are fewer places than values.
+/// Emits the values of a list in their places, from the first on. A Limit if there are fewer places than values.
 pub fn operands_into(
     alloc: Global,
     blocks: &mut Vec<RBlock>,

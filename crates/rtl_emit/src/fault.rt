@@ -1,4 +1,4 @@
-// Why there is no code.
+//! Why there is no code.
 ghost use Rattle.std.specs.Prelude.{◌≡◌};
 
 use std::alloc::AllocError;

@@ -1,4 +1,4 @@
-// Which operation of RTL computes an operator of C.
+//! Which operation of RTL computes an operator of C.
 ghost use Rattle.std.specs.Prelude.{◌≡◌, true, false, is_some, IfSome};
 ghost use Rattle.rtl_emit.specs.Sizes.{has_contrary, is_logical, is_by_branches};
 ghost use Rattle.c_typed.specs.Values.{sign_of};
@@ -29,14 +29,14 @@ pub(crate) enum Form {
     Plain(Operation),
 }
 
-// The operator at the words as they stand.
+/// Returns the operator at the words as they stand.
 pub(crate) fn straight_op(op: Op) -> Operation
     ensures { result ≡ record { op = op; turned = false } }
 {
     Operation { op, turned: false }
 }
 
-// The operator at the words turned round.
+/// Returns the operator at the words turned round.
 pub(crate) fn turned_op(op: Op) -> Operation
     ensures { result ≡ record { op = op; turned = true } }
 {
@@ -44,7 +44,7 @@ pub(crate) fn turned_op(op: Op) -> Operation
 }
 
 impl Operation {
-    // The instruction that puts the result at two registers into a third.
+    /// Returns the instruction that puts the result at two registers into a third.
     pub(crate) fn instruction(self, to: Register, left: Register, right: Register) -> RInst
         ensures { result ≡ inst_of self to left right }
     {
@@ -56,7 +56,7 @@ impl Operation {
     }
 }
 
-// One operator for words read as signed numbers, another for words as they are.
+/// Returns one operator for words read as signed numbers, another for words as they are.
 fn by_type(integer_type: IntegerType, signed: Op, unsigned: Op) -> Op
     ensures { result ≡ by_sign (sign_of integer_type) signed unsigned }
 {
@@ -66,7 +66,7 @@ fn by_type(integer_type: IntegerType, signed: Op, unsigned: Op) -> Op
     }
 }
 
-// How an operator that computes in a type is computed.
+/// Returns how an operator that computes in a type is computed.
 pub(crate) fn form_of(operator: BinaryOp, integer_type: IntegerType) -> Form
     ensures form { IsForm operator (sign_of integer_type) result }
     ensures branches { is_logical operator ≡ is_by_branches result }
@@ -101,7 +101,7 @@ pub(crate) enum Prefix {
     Combined(Combination),
 }
 
-// How a prefix operator is computed at an operand whose own value may be told by branches.
+/// Returns how a prefix operator is computed at an operand whose own value may be told by branches.
 pub(crate) fn prefix_of(operator: UnaryOp, by_branches: bool) -> Prefix
     ensures { IsPrefix operator by_branches result }
 {
@@ -128,7 +128,7 @@ pub(crate) fn prefix_of(operator: UnaryOp, by_branches: bool) -> Prefix
     }
 }
 
-// The operation that computes the contrary of a comparison; None for other operators.
+/// Returns the operation that computes the contrary of a comparison; None for other operators.
 pub(crate) fn contrary_of(operator: BinaryOp, integer_type: IntegerType) -> Option<Operation>
     ensures is { is_some result ≡ has_contrary operator }
     ensures computes { IfSome result (λ op. ComputesContrary operator (sign_of integer_type) op) }

@@ -1,4 +1,4 @@
-// Registers for the values of operands.
+//! Registers for the values of operands.
 ghost use Rattle.std.specs.Prelude.{◌≡◌, ◌++◌, ◌∷◌, ◌+◌, [], ◌<◌, ◌≤◌, map, List, IfOk, IfErr, OnOk, OnErr};
 ghost use Rattle.c_typed.specs.Shape.{typed_expression_of, typed_expressions_of};
 ghost use Rattle.rtl.specs.declared.limits.TheConstants.{MAX_REGISTERS};
@@ -20,7 +20,7 @@ pub struct Place {
     pub free: Register,
 }
 
-/// The register of a local; a Limit above the last register.
+/// Returns the register of a local; a Limit above the last register.
 pub fn register_of(local: usize) -> Result<Register, LowerFault>
     ensures is { IfOk result (λ r. r ≡ local) }
     ensures within { IfOk result (λ r. r < MAX_REGISTERS) }
@@ -32,7 +32,7 @@ pub fn register_of(local: usize) -> Result<Register, LowerFault>
     Ok(local as u32)
 }
 
-/// A register that is free; a Limit above the last one.
+/// Returns a register that is free; a Limit above the last one.
 pub fn spare_register(free: Register) -> Result<Register, LowerFault>
     ensures is { IfOk result (λ r. r ≡ free) }
     ensures within { IfOk result (λ r. r < MAX_REGISTERS) }
@@ -44,7 +44,7 @@ pub fn spare_register(free: Register) -> Result<Register, LowerFault>
     Ok(free)
 }
 
-// Whether branches join with the value of an expression.
+/// Reports whether branches join with the value of an expression.
 fn is_joined(e: &TypedExpression) -> bool
     ensures { result ≡ is_joined (typed_expression_of e.now) }
 {
@@ -58,8 +58,8 @@ fn is_joined(e: &TypedExpression) -> bool
     }
 }
 
-/// Where the value of an operand is found: a local in its own register, others in the first of two free ones, or in the second if
-/// branches join with the value. A Limit where there is none.
+/// Returns where the value of an operand is found: a local in its own register, others in the first of two free ones, or in the second if
+/// branches join with the value. A Limit if there is none.
 pub fn place_of(e: &TypedExpression, free: Register) -> Result<Place, LowerFault>
     ensures place { IfOk result (λ p. IsPlace (typed_expression_of e.now) free p.register p.free) }
     ensures room { OnOk result (place_registers (typed_expression_of e.now) free ≤ MAX_REGISTERS) }
@@ -81,8 +81,7 @@ pub fn place_of(e: &TypedExpression, free: Register) -> Result<Place, LowerFault
     })
 }
 
-/// Places for the values of a list, behind others, which stay at the front after an Err too. A Limit where the registers
-/// don't suffice.
+/// Adds places for the values of a list after others, which stay at the front after an Err too. A Limit if the registers don't suffice.
 pub fn places_of(
     es: &[TypedExpression],
     free: Register,
@@ -101,7 +100,7 @@ pub fn places_of(
     places_of(rest, first_place.free, places)
 }
 
-// One more place.
+/// Adds one more place.
 fn put_place(places: &mut Vec<Place>, place: Place) -> Result<(), AllocError>
     ensures added { OnOk result (places.new.items ≡ places.old.items ++ place ∷ []) }
     ensures left { OnErr result (places.new.items ≡ places.old.items) }
@@ -110,7 +109,7 @@ fn put_place(places: &mut Vec<Place>, place: Place) -> Result<(), AllocError>
     Ok(())
 }
 
-/// The registers of places; an Err is refused memory.
+/// Returns the registers of places; an Err means out of memory.
 pub fn registers_of(alloc: Global, places: &[Place]) -> Result<Vec<Register>, AllocError>
     ensures { IfOk result (λ rs. rs.items ≡ map (λ p. p.register) places.now) }
 {

@@ -1,4 +1,4 @@
-// The values of constants, locals and global variables, which one or two instructions compute.
+//! The values of constants, locals and global variables, which one or two instructions compute.
 ghost use Rattle.std.specs.Prelude.{◌≡◌, ◌+◌, ◌<◌, ◌^◌, List, IfOk, IfErr};
 ghost use Rattle.c_tokens.specs.declared.token.IntegerType.{IntegerType};
 ghost use Rattle.c_typed.specs.Trees.{constant, local, global};
@@ -22,7 +22,7 @@ pub(crate) struct Aim {
     pub(crate) after: Continuation,
 }
 
-/// The number of a function or a global in RTL; a Limit where it has none.
+/// Returns the number of a function or a global in RTL; a Limit where it has none.
 pub fn number_of(number: usize) -> Result<u32, LowerFault>
     ensures is { IfOk result (λ r. r ≡ number) }
     ensures limit { IfErr result (λ f. f ≡ LowerFault.Limit → 2 ^ 32 < number + 1) }
@@ -33,7 +33,7 @@ pub fn number_of(number: usize) -> Result<u32, LowerFault>
     Ok(number as u32)
 }
 
-// A constant.
+/// Emits a constant.
 pub(crate) fn number_into(aim: Aim, literal: Literal) -> Result<OpenBlock, LowerFault>
     ensures { (bs : List RBlock) → EmitsValue (constant literal) aim.to aim.free (spot aim.after) bs bs result }
 {
@@ -41,7 +41,7 @@ pub(crate) fn number_into(aim: Aim, literal: Literal) -> Result<OpenBlock, Lower
     Ok(from)
 }
 
-// A local.
+/// Emits a local.
 pub(crate) fn local_into(aim: Aim, number: usize) -> Result<OpenBlock, LowerFault>
     ensures { (bs : List RBlock) (k : IntegerType) → EmitsValue (local number k) aim.to aim.free (spot aim.after) bs bs result }
 {
@@ -50,7 +50,7 @@ pub(crate) fn local_into(aim: Aim, number: usize) -> Result<OpenBlock, LowerFaul
     Ok(from)
 }
 
-// A global variable.
+/// Emits a global variable.
 pub(crate) fn global_into(aim: Aim, number: usize) -> Result<OpenBlock, LowerFault>
     ensures { (bs : List RBlock) (k : IntegerType) → EmitsValue (global number k) aim.to aim.free (spot aim.after) bs bs result }
 {

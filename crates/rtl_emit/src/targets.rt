@@ -1,4 +1,4 @@
-// The blocks that a branch leads to.
+//! The blocks that a branch leads to.
 ghost use Rattle.std.specs.Prelude.{◌≡◌, ◌==◌, ◌+◌, ◌<◌, true, not, List, IfOk, IfErr, OnOk, length, if◌then◌else◌};
 ghost use Rattle.rtl.specs.declared.block.RBlock.{RBlock};
 ghost use Rattle.rtl.specs.declared.limits.TheConstants.{MAX_BLOCKS};
@@ -24,7 +24,7 @@ pub struct Targets {
 impl Targets {
     ghost use Rattle.rtl_emit.specs.Emits.{left_targets};
 
-    // Those of the contrary condition.
+    /// Returns the targets of the contrary condition.
     pub(crate) fn of_contrary(self) -> Targets
         ensures { result ≡ record { yes = self.no; no = self.yes; likely = not self.likely } }
     {
@@ -35,7 +35,7 @@ impl Targets {
         }
     }
 
-    // Those of the left operand of `&&` (`both`) or `||`, where the right one is tested in a block of its own.
+    /// Returns the targets of the left operand of `&&` (`both`) or `||`, whose right one is tested in a block of its own.
     pub(crate) fn of_left(self, both: bool, second: BlockNumber) -> Targets
         ensures { result ≡ left_targets both self second }
     {
@@ -55,7 +55,7 @@ impl Targets {
     }
 }
 
-// Targets of which the first is likely.
+/// Returns targets of which the first is likely.
 pub(crate) fn likely_first(yes: BlockNumber, no: BlockNumber) -> Targets
     ensures { result ≡ record { yes = yes; no = no; likely = true } }
 {
@@ -66,7 +66,7 @@ pub(crate) fn likely_first(yes: BlockNumber, no: BlockNumber) -> Targets
     }
 }
 
-// The branch of a condition that is this word.
+/// Returns the branch of a condition that is this word.
 pub(crate) fn branch_by(alloc: Global, word: u32, targets: Targets) -> OpenBlock
     ensures { open_code result ≡ goto (if word == 0 then targets.no else targets.yes) }
 {
@@ -74,7 +74,7 @@ pub(crate) fn branch_by(alloc: Global, word: u32, targets: Targets) -> OpenBlock
     exit_block(alloc, RExit::Goto(target))
 }
 
-// Two blocks that put 1 or 0 into a register and go on.
+/// Adds two blocks that put 1 or 0 into a register and go on.
 pub(crate) fn truth_blocks(
     alloc: Global,
     blocks: &mut Vec<RBlock>,

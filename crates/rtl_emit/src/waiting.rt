@@ -1,4 +1,4 @@
-// Code that waits for the values of operands in their places, from where on it does what they are for.
+//! Code that waits for the values of operands in their places, from where on it does what they are for.
 ghost use Rattle.std.specs.Prelude.{◌≡◌, ◌<◌, ◌≤◌, ◌+◌, max, List, IfOk, IfErr, OnOk};
 ghost use Rattle.c_typed.specs.Shape.{typed_expression_of};
 ghost use Rattle.rtl.specs.Meaning.{Code};
@@ -37,7 +37,7 @@ pub(crate) struct WaitingForTwo {
     pub(crate) code: OpenBlock,
 }
 
-// The load of an element of an array, whose index is an operand.
+/// Emits the load of an element of an array, whose index is an operand.
 pub(crate) fn load_at(
     aim: Aim,
     array: usize,
@@ -56,7 +56,7 @@ pub(crate) fn load_at(
     Ok(Waiting { place, code })
 }
 
-// What an operation gives at a value and the word of a constant.
+/// Emits what an operation gives at a value and the word of a constant.
 pub(crate) fn combination_at(
     with: Combination,
     e: &TypedExpression,
@@ -84,7 +84,7 @@ pub(crate) fn combination_at(
     Ok(Waiting { place, code })
 }
 
-// A branch by a value. Where `likely` is false the block `no` stands first, and the test is the contrary one.
+/// Emits a branch by a value. Where `likely` is false the block `no` stands first, and the test is the contrary one.
 pub(crate) fn test_at(
     alloc: Global,
     e: &TypedExpression,
@@ -122,7 +122,8 @@ pub(crate) fn test_at(
     }
 }
 
-// What an operation gives at two values.
+/// Emits what an operation gives at two values.
+#[inline(always)]
 pub(crate) fn operation_at(
     operation: Operation,
     left: &TypedExpression,
@@ -155,7 +156,7 @@ pub(crate) fn operation_at(
     })
 }
 
-// A branch by the contrary of a comparison, with the block `no` first.
+/// Emits a branch by the contrary of a comparison, with the block `no` first.
 pub(crate) fn contrary_at(
     alloc: Global,
     operation: Operation,

@@ -90,7 +90,7 @@ pub record Exits (bs : List RBlock) (free : ℕ) (e : TypedExpression) (from : S
   pub lands : Lands bs block after
   pub leaves : Leaves bs free e from (λ p. exit p block)
 
--- behind a call: the result is in a free register, and goes to a global variable
+-- after a call: the result is in a free register, and goes to a global variable
 pub record PutsResult (bs : List RBlock) (free g : ℕ) (to : Option ℕ) (b : ℕ) (after : Spot) : Type 0 where
   pub t : ℕ
   pub z : ℕ
@@ -143,7 +143,7 @@ pub record IsTurn (bs : List RBlock) (next : Option ℕ) (turn last : Spot) : Ty
   pub comes : Comes bs turn last
   pub continues : (b : ℕ) → next ≡ Some b → Lands bs b last
 
--- a loop's body, and its last part with the test behind it
+-- a loop's body, and its last part with the test after it
 pub record LoopBlocks (bs : List RBlock) (free : ℕ) (e : TypedExpression) (ForLast : Spot → Spot → Type 0)
     (ForBody : (leave : ℕ) (next : Option ℕ) → Spot → Spot → Type 0) (after : Spot) : Type 0 where
   pub leave : ℕ

@@ -40,7 +40,7 @@ statements_size all free n = record {
   globals = numbers_named_in all;
 }
 
--- code of a statement that goes on behind it alone, wherever `break` and `continue` lead
+-- code of a statement that goes on after it alone, wherever `break` and `continue` lead
 abbrev pub EmitsCode : TypedStatement → (free : ℕ) → Spot → (old new : List RBlock) → Result OpenBlock LowerFault → Type 0
 EmitsCode s free after old new r = Emits (statement_size s free (joint after)) old new
     (λ from. KeepsFit s (statement_registers s free) old new (λ s. IsSoundSpot s after) (λ s. IsSound s (open_code from))

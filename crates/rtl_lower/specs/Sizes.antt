@@ -33,7 +33,7 @@ abbrev mutual
   any_continues no_statements = false
   any_continues (more_statements s rest) = continues s || any_continues rest
 
--- whether code goes on behind it, by the last statement of a block
+-- whether code goes on after it, by the last statement of a block
 abbrev mutual
   pub stays : TypedStatement → Bool
   stays break_loop = false
@@ -46,7 +46,7 @@ abbrev mutual
   last_stays no_statements b = b
   last_stays (more_statements s rest) b = last_stays rest (stays s)
 
--- how many blocks it takes to jump to its code, by how many it takes to jump to what comes behind it
+-- how many blocks it takes to jump to its code, by how many it takes to jump to what comes after it
 abbrev mutual
   pub statement_joint : TypedStatement → ℕ → ℕ
   statement_joint empty n = n
@@ -70,7 +70,7 @@ receiver_registers None free = 0
 receiver_registers (Some (Local x)) free = x + 1
 receiver_registers (Some (Variable g)) free = free + 2
 
--- the blocks beside those that what comes behind it has
+-- the blocks beside those that what comes after it has
 abbrev mutual
   pub statement_blocks : TypedStatement → ℕ → ℕ
   statement_blocks empty n = 0
@@ -95,7 +95,7 @@ abbrev mutual
   statements_blocks no_statements n = 0
   statements_blocks (more_statements s rest) n = statements_blocks rest n + statement_blocks s (statements_joint rest n)
 
--- at most how many instructions; the test of a loop stands before it and behind its last part
+-- at most how many instructions; the test of a loop stands before it and after its last part
 abbrev pub receiver_insts : Option Destination → ℕ
 receiver_insts (Some (Variable g)) = 2
 receiver_insts _ = 0

@@ -1,4 +1,4 @@
-// Where a statement stands.
+//! Where a statement stands.
 ghost use Rattle.std.specs.Prelude.{◌≡◌};
 ghost use Rattle.rtl_lower.specs.Emits.{made_of};
 
@@ -16,7 +16,7 @@ pub(crate) struct Context {
 }
 
 impl Context {
-    // The context of a loop's body.
+    /// Returns the context of a loop's body.
     pub(crate) fn inside_loop(self, leave: BlockNumber, next: Option<BlockNumber>) -> Context
         ensures { result ≡ record { alloc = self.alloc; free = self.free; leave = leave; next = next } }
     {
@@ -29,7 +29,7 @@ impl Context {
     }
 }
 
-// The code as one that other code goes on at.
+/// Returns the code as one that other code goes on at.
 pub(crate) fn continuation_of(
     code: Result<OpenBlock, LowerFault>,
 ) -> Result<Continuation, LowerFault>

@@ -1,4 +1,4 @@
-// A function of a typed program as a function of RTL.
+//! A function of a typed program as a function of RTL.
 ghost use Rattle.std.specs.Prelude.{◌≡◌, ◌≤◌, ◌<◌, ◌+◌, ◌^◌, length, IfOk, IfErr, OnOk};
 ghost use Rattle.c_typed.specs.Shape.{function_of};
 ghost use Rattle.rtl.specs.declared.limits.TheConstants.{MAX_REGISTERS};
@@ -13,7 +13,7 @@ use rtl::{RExit, RFunc, RGlobal};
 use rtl_emit::{Continuation, LowerFault, exit_block, fill, open_block, register_of, reserve};
 use std::alloc::Global;
 
-/// The blocks of a function.
+/// Returns the blocks of a function.
 pub(crate) fn function(alloc: Global, f: &Function) -> Result<RFunc, LowerFault>
     requires plain { IsPlain (function_of f.now) }
     ensures code { IfOk result (λ r. IsCodeOf (function_of f.now) r) }
@@ -38,7 +38,7 @@ pub(crate) fn function(alloc: Global, f: &Function) -> Result<RFunc, LowerFault>
     Ok(RFunc { parameters, blocks })
 }
 
-/// A global of the same width, with as many first values, and the same ones.
+/// Returns a global of the same width, with as many first values, and the same ones.
 pub(crate) fn global(alloc: Global, g: TypedGlobal) -> Result<RGlobal, LowerFault>
     ensures is { IfOk result (λ r. IsGlobalOf g r) }
     ensures limit { IfErr result (λ e. e ≡ LowerFault.Limit → 2 ^ 32 < g.length + 1) }

@@ -1,4 +1,4 @@
-// A typed program as a program of RTL.
+//! A typed program as a program of RTL.
 ghost use Rattle.std.specs.Prelude.{◌≡◌, ◌++◌, ◌∷◌, ◌≤◌, [], All, sum_by, IfOk, IfErr, OnOk};
 ghost use Rattle.c_types.specs.Shape.{program_of};
 ghost use Rattle.c_typed.specs.Shape.{functions_of};
@@ -17,7 +17,7 @@ use rtl::{RFunc, RGlobal, Rtl};
 use rtl_emit::{LowerFault, register_of};
 use std::alloc::{AllocError, Global};
 
-// The blocks of each function.
+/// Returns the blocks of each function.
 fn functions(alloc: Global, all: &[Function]) -> Result<Vec<RFunc>, LowerFault>
     requires plain { All IsPlain (functions_of all.now) }
     ensures codes { IfOk result (λ rs. AreCodesOf (functions_of all.now) rs.items) }
@@ -33,7 +33,7 @@ fn functions(alloc: Global, all: &[Function]) -> Result<Vec<RFunc>, LowerFault>
     Ok(lowered)
 }
 
-// One more function, or global.
+/// Adds one more function, or global.
 fn put<T: Drop>(all: &mut Vec<T>, next: T) -> Result<(), AllocError>
     ensures { OnOk result (all.new.items ≡ all.old.items ++ next ∷ []) }
 {
@@ -41,7 +41,7 @@ fn put<T: Drop>(all: &mut Vec<T>, next: T) -> Result<(), AllocError>
     Ok(())
 }
 
-// Each global.
+/// Returns each global.
 fn globals(alloc: Global, all: &[TypedGlobal]) -> Result<Vec<RGlobal>, LowerFault>
     ensures are { IfOk result (λ rs. AreGlobalsOf all.now rs.items) }
     ensures limit { IfErr result (λ e. e ≡ LowerFault.Limit → words_in all.now ≤ MAX_GLOBAL_WORDS → ⊥) }
@@ -54,11 +54,10 @@ fn globals(alloc: Global, all: &[TypedGlobal]) -> Result<Vec<RGlobal>, LowerFaul
     Ok(lowered)
 }
 
-/// The program of RTL that does what the source does: wherever the source isn't wrong, it comes to the same end and output.
-/// Each of its functions has no more pseudo-registers and instructions than are counted on the typed one, and as many blocks; its
-/// globals are those of the source.
-/// A Limit only where a function would have more than 8,000 pseudo-registers or the program more than 1,048,575 blocks;
-/// NoMemory where memory is refused.
+/// Returns the program of RTL that does what the source does: wherever the source isn't wrong, it comes to the same end and output. Each of
+/// its functions has no more pseudo-registers and instructions than are counted on the typed one, and as many blocks. Its globals are those
+/// of the source. A Limit only where a function would have more than 8,000 pseudo-registers or the program more than 1,048,575 blocks;
+/// NoMemory if memory runs out.
 pub fn lower(alloc: Global, program: &Typed) -> Result<Rtl, LowerFault>
     ensures runs { IfOk result (λ r. KeepsRuns (program_of program.now) r) }
     ensures program { IfOk result IsProgram }

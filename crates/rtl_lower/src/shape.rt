@@ -1,4 +1,4 @@
-// What a statement's shape tells of its code.
+//! What a statement's shape tells of its code.
 ghost use Rattle.std.specs.Prelude.{◌≡◌, ◌&&◌, not};
 ghost use Rattle.c_typed.specs.Shape.{typed_expression_of, statement_of};
 ghost use Rattle.rtl_lower.specs.Sizes.{continues};
@@ -7,7 +7,7 @@ ghost use Rattle.rtl_lower.specs.Sizes as Sizes;
 use c_tree::{BinaryOp, UnaryOp};
 use c_typed::{TypedExpression, TypedStatement};
 
-// Whether a `continue` of this loop may stand in a statement.
+/// Reports whether a `continue` of this loop may stand in a statement.
 pub(crate) fn may_continue(s: &TypedStatement) -> bool
     ensures { result ≡ continues (statement_of s.now) }
 {
@@ -27,7 +27,7 @@ pub(crate) fn may_continue(s: &TypedStatement) -> bool
     }
 }
 
-// Whether a test is one of equality, which seldom holds.
+/// Reports whether a test is one of equality, which seldom holds.
 fn is_equality(e: &TypedExpression) -> bool
     ensures { result ≡ Sizes.is_equality (typed_expression_of e.now) }
 {
@@ -38,7 +38,7 @@ fn is_equality(e: &TypedExpression) -> bool
     }
 }
 
-// Whether code goes on behind a statement.
+/// Reports whether code goes on after a statement.
 fn stays(s: &TypedStatement) -> bool
     ensures { result ≡ Sizes.stays (statement_of s.now) }
 {
@@ -52,7 +52,7 @@ fn stays(s: &TypedStatement) -> bool
     }
 }
 
-// Whether the first side of an `if` is the likely one: code goes on behind it, and the test isn't one of equality.
+/// Reports whether the first side of an `if` is the likely one: code goes on after it, and the test isn't one of equality.
 pub(crate) fn is_likely(test: &TypedExpression, side: &TypedStatement) -> bool
     ensures { result ≡ (Sizes.stays (statement_of side.now) && not (Sizes.is_equality (typed_expression_of test.now))) }
 {

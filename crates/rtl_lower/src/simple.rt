@@ -1,4 +1,4 @@
-// The code of statements that lead only to what comes behind them, and of `return`.
+//! The code of statements that lead only to what comes after them, and of `return`.
 ghost use Rattle.std.specs.Prelude.{◌≡◌};
 ghost use Rattle.c_typed.specs.Shape.{typed_expression_of, typed_expressions_of, maybe_typed_expression_of};
 ghost use Rattle.c_typed.specs.Trees.{assign, store, call, output, return_with};
@@ -14,7 +14,7 @@ use rtl_emit::{
     spare_register, value_into,
 };
 
-// The value of an expression to a local or a global variable.
+/// Emits the value of an expression to a local or a global variable.
 pub(crate) fn assignment(
     context: Context,
     blocks: &mut Vec<RBlock>,
@@ -48,7 +48,7 @@ pub(crate) fn assignment(
     }
 }
 
-// The value of an expression to an element of an array.
+/// Emits the value of an expression to an element of an array.
 pub(crate) fn element_store(
     context: Context,
     blocks: &mut Vec<RBlock>,
@@ -83,7 +83,7 @@ pub(crate) fn element_store(
     )
 }
 
-// The value of an expression to the output.
+/// Emits the value of an expression to the output.
 pub(crate) fn output_code(
     context: Context,
     blocks: &mut Vec<RBlock>,
@@ -105,7 +105,7 @@ pub(crate) struct Receiver {
     pub(crate) block: BlockNumber,
 }
 
-// The result of a call that goes nowhere, to a local, or by way of a free register to a global variable.
+/// Returns where the result of a call goes: nowhere, to a local, or by way of a free register to a global variable.
 fn receiver_of(
     context: Context,
     blocks: &mut Vec<RBlock>,
@@ -143,7 +143,7 @@ fn receiver_of(
     }
 }
 
-// A call of a function.
+/// Emits a call of a function.
 pub(crate) fn call_code(
     context: Context,
     blocks: &mut Vec<RBlock>,
@@ -172,7 +172,7 @@ pub(crate) fn call_code(
     )
 }
 
-// A return with a value, or without.
+/// Emits a return with a value, or without.
 pub(crate) fn return_code(
     context: Context,
     blocks: &mut Vec<RBlock>,

@@ -1,4 +1,4 @@
-// The code of statements, from the last one on.
+//! The code of statements, from the last one on.
 ghost use Rattle.std.specs.Prelude.{◌≡◌, true, is_some};
 ghost use Rattle.c_typed.specs.Shape.{typed_expression_of, statement_of, statements_of};
 ghost use Rattle.c_typed.specs.Trees.{if_else, loop};
@@ -22,7 +22,7 @@ pub(crate) struct Turn {
     pub(crate) after: Continuation,
 }
 
-// The last part as a block of its own, only if there is a `continue`.
+/// Emits the last part as a block of its own, only if there is a `continue`.
 fn turn_to(blocks: &mut Vec<RBlock>, many: bool, last: Continuation) -> Result<Turn, LowerFault>
     ensures { EndsTurn many (spot last) blocks.old.items blocks.new.items result }
 {
@@ -40,7 +40,7 @@ fn turn_to(blocks: &mut Vec<RBlock>, many: bool, last: Continuation) -> Result<T
     }
 }
 
-/// The code of a statement, before what comes behind it.
+/// Emits the code of a statement, before what comes after it.
 #[cycle(statements)]
 pub(crate) fn statement(
     context: Context,
@@ -86,7 +86,7 @@ pub(crate) fn statement(
     }
 }
 
-/// The same of a list of statements.
+/// Emits the same of a list of statements.
 #[cycle(statements)]
 pub(crate) fn statements(
     context: Context,
@@ -106,7 +106,7 @@ pub(crate) fn statements(
     Ok(code)
 }
 
-// A statement as a block of its own, which goes on at a block that is there.
+/// Emits a statement as a block of its own, which goes on at a block that is there.
 #[cycle(statements)]
 fn side_block(
     context: Context,
@@ -121,7 +121,7 @@ fn side_block(
     block_of(blocks, code)
 }
 
-// An `if`, each of whose sides goes on at one block.
+/// Emits an `if`, each of whose sides goes on at one block.
 #[cycle(statements)]
 fn if_statement(
     context: Context,
@@ -147,7 +147,7 @@ fn if_statement(
     condition(context.alloc, blocks, test, targets, context.free)
 }
 
-// The last part of a loop's turn, and the test behind it.
+/// Returns the last part of a loop's turn, and the test after it.
 #[cycle(statements)]
 fn turn_of(
     context: Context,
@@ -165,7 +165,7 @@ fn turn_of(
     turn_to(blocks, many, code)
 }
 
-// A loop, with its test before it and behind its last part.
+/// Emits a loop, with its test before it and after its last part.
 #[cycle(statements)]
 fn loop_statement(
     context: Context,

@@ -1,4 +1,4 @@
-// A program under way, with its calls, its globals and its output.
+//! A program under way, with its calls, its globals and its output.
 ghost use Rattle.std.specs.Prelude.{◌≡◌, ◌∷◌, [], length, nat_lt, IfSome, OnOk, OnErr, None};
 
 use std::alloc::{AllocError, Global};
@@ -17,7 +17,7 @@ pub struct Interpreter<F> {
 impl<F: Drop> Interpreter<F> {
     ghost use Rattle.runs.specs.Calls.{calls_of, callers_of};
 
-    /// A program before its first step: one call runs.
+    /// Returns a program before its first step: one call runs.
     pub fn new(alloc: Global, frame: F, globals: Vec<Vec<u32>>) -> Interpreter<F>
         ensures calls { calls_of result ≡ frame ∷ [] }
         ensures globals { result.globals ≡ globals }
@@ -31,14 +31,14 @@ impl<F: Drop> Interpreter<F> {
         }
     }
 
-    /// Whether fewer calls than `depth` are active, so that one more may begin.
+    /// Reports whether fewer calls than `depth` are active, so that one more may begin.
     pub fn has_room(&self, depth: u32) -> bool
         ensures { result ≡ nat_lt (length (calls_of self.now)) depth }
     {
         self.waiting.len() < depth.saturating_sub(1) as usize
     }
 
-    /// A call begins, and the one that ran waits for it. `Err` only where memory is refused, and then all is as before.
+    /// Begins a call, for which the one that ran waits. `Err` only if memory runs out, and then all is as before.
     pub fn enter(&mut self, frame: F) -> Result<(), AllocError>
         ensures calls { OnOk result (calls_of self.new ≡ frame ∷ calls_of self.old) }
         ensures left { OnErr result (calls_of self.new ≡ calls_of self.old) }
@@ -51,7 +51,7 @@ impl<F: Drop> Interpreter<F> {
         Ok(())
     }
 
-    /// The call that runs is over, and its caller goes on: the frame of the call, or None where no caller waits.
+    /// Ends the call that runs, whose caller goes on, and returns its frame, or None if no caller waits.
     pub fn leave(&mut self) -> Option<F>
         ensures none { result ≡ None → callers_of self.old ≡ [] }
         ensures done { IfSome result (λ done. done ≡ self.old.frame) }

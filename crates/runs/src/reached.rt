@@ -1,4 +1,4 @@
-// What one step of a run comes to.
+//! What one step of a run comes to.
 ghost use Rattle.std.specs.Prelude.{◌≡◌};
 
 use crate::ran::End;
@@ -17,7 +17,7 @@ pub enum Reached {
 impl Reached {
     ghost use Rattle.runs.specs.Steps.{end_of, last_reached};
 
-    /// What the return of the last call comes to: its word ends the program, and without one it has no meaning.
+    /// Returns what the return of the last call comes to: its word ends the program, and without one it has no meaning.
     pub fn of_last(word: Option<u32>) -> Reached
         ensures { result ≡ last_reached word }
     {
@@ -27,7 +27,7 @@ impl Reached {
         }
     }
 
-    /// How the run ended; None where it goes on.
+    /// Returns how the run ended; None if it goes on.
     #[inline]
     pub fn end(self) -> Option<End>
         ensures { result ≡ end_of self }

@@ -1,4 +1,4 @@
-// A run, one step after another.
+//! A run, one step after another.
 ghost use Rattle.std.specs.Prelude.{◌≡◌, ℕ, IfOk};
 ghost use Rattle.runs.specs.Runs.{Outcome, outcome_of};
 ghost use Rattle.runs.specs.Results.{IsRunBy};
@@ -9,7 +9,7 @@ use crate::ran::{End, Ran};
 use crate::reached::Reached;
 use std::alloc::AllocError;
 
-/// What so many steps of a program under way come to. `Err` only where memory is refused.
+/// Returns what so many steps of a program under way come to. `Err` only if memory runs out.
 pub fn run_steps<F: Drop, S: Fn(&mut Interpreter<F>) -> Result<Reached, AllocError> + Drop>(
     mut interpreter: Interpreter<F>,
     steps: u64,

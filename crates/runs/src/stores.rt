@@ -1,11 +1,11 @@
-// What a run keeps: a word for each local or register that is set, and the words of each global.
+//! What a run keeps: a word for each local or register that is set, and the words of each global.
 ghost use Rattle.std.specs.Prelude.{◌≡◌, ◌<◌, length, Option, OnOk, OnErr, None, Some, if◌then◌else◌};
 ghost use Rattle.runs.specs.Stores.{places_with, element_at, arrays_with};
 ghost use Rattle.runs.specs.Kept.{places, arrays};
 
 use std::alloc::AllocError;
 
-/// The word of a local or a register; None where it isn't set.
+/// Returns the word of a local or a register; None if it isn't set.
 #[inline]
 pub fn word_at(words: &[Option<u32>], number: usize) -> Option<u32>
     ensures { result ≡ places words.now number }
@@ -17,7 +17,7 @@ pub fn word_at(words: &[Option<u32>], number: usize) -> Option<u32>
     }
 }
 
-// Places up to a number, the new ones unset.
+/// Makes places up to a number, the new ones unset.
 fn make_room(words: &mut Vec<Option<u32>>, number: usize) -> Result<(), AllocError>
     ensures same { places words.new.items ≡ places words.old.items }
     ensures room { OnOk result (number < length words.new.items) }
@@ -28,7 +28,7 @@ fn make_room(words: &mut Vec<Option<u32>>, number: usize) -> Result<(), AllocErr
     Ok(())
 }
 
-/// A local or a register is set. `Err` only where memory is refused; then all are as they were.
+/// Sets a local or a register. `Err` only if memory runs out; then all are as they were.
 pub fn set_word(words: &mut Vec<Option<u32>>, number: usize, v: u32) -> Result<(), AllocError>
     ensures ok { OnOk result (places words.new.items ≡ places_with (places words.old.items) number (Some v)) }
     ensures err { OnErr result (places words.new.items ≡ places words.old.items) }
@@ -38,7 +38,7 @@ pub fn set_word(words: &mut Vec<Option<u32>>, number: usize, v: u32) -> Result<(
     Ok(())
 }
 
-/// The word of a global at an index; None outside.
+/// Returns the word of a global at an index; None outside.
 #[inline]
 pub fn element(globals: &[Vec<u32>], global: usize, index: usize) -> Option<u32>
     ensures { result ≡ element_at (arrays globals.now) global index }
@@ -52,7 +52,7 @@ pub fn element(globals: &[Vec<u32>], global: usize, index: usize) -> Option<u32>
     None
 }
 
-/// A word of a global is written; false outside, where all stay as they were.
+/// Writes a word of a global; false outside, and then all stay as they were.
 pub fn store(globals: &mut [Vec<u32>], global: usize, index: usize, v: u32) -> bool
     ensures { arrays_with (arrays globals.old) global index v ≡ (if result then Some (arrays globals.new) else None) }
 {

@@ -1,4 +1,4 @@
-// Where functions and globals are in an image.
+//! Where functions and globals are in an image.
 
 use crate::assembler::Label;
 use crate::listing::order_words;
@@ -9,7 +9,7 @@ use mips_isa::{CODE_BASE, DATA_BASE};
 use rtl::RGlobal;
 use std::alloc::{AllocError, Global};
 
-/// The address behind so many words.
+/// Returns the address after so many words.
 fn behind(address: u32, words: usize) -> u32 {
     let words = u32::try_from(words).unwrap_or(u32::MAX);
     address.wrapping_add(words.wrapping_mul(4))
@@ -48,7 +48,7 @@ fn put_globals<'t>(
     Ok(())
 }
 
-/// The labels of a program's functions and globals.
+/// Returns the labels of a program's functions and globals.
 pub(crate) fn labels_of<'t>(
     alloc: Global,
     names: &Names<'t>,

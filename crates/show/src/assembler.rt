@@ -25,7 +25,7 @@ pub struct Label<'a> {
     pub name: &'a str,
 }
 
-/// Where a branch or jump of an address leads, of those that name a place.
+/// Returns where a branch or jump of an address leads, of those that name a place.
 fn target_of(control: &Control, address: u32) -> Option<u32> {
     let slot = address.wrapping_add(4);
     match control {
@@ -36,7 +36,7 @@ fn target_of(control: &Control, address: u32) -> Option<u32> {
     }
 }
 
-/// Which word of the code stands at an address.
+/// Returns which word of the code stands at an address.
 fn word_index(address: u32) -> usize {
     (address.wrapping_sub(CODE_BASE) / 4) as usize
 }
@@ -50,7 +50,7 @@ enum Form {
     Word(u32),
 }
 
-/// Whether a branch or jump leads to no word of the code, which has so many words.
+/// Reports whether a branch or jump leads to no word of the code, which has so many words.
 fn leads_out(control: &Control, address: u32, count: usize) -> bool {
     match target_of(control, address) {
         Some(target) => target < CODE_BASE || word_index(target) >= count,
@@ -73,7 +73,7 @@ fn form_of(word: u32, address: u32, count: usize) -> Form {
     }
 }
 
-/// Which code words a branch or jump leads to.
+/// Returns which code words a branch or jump leads to.
 fn targets(alloc: Global, code: &[u32]) -> Result<Vec<bool>, AllocError> {
     let mut marks = Vec::new(alloc);
     for _ in code {
@@ -92,12 +92,12 @@ fn targets(alloc: Global, code: &[u32]) -> Result<Vec<bool>, AllocError> {
     Ok(marks)
 }
 
-/// Whether the source has a label of its own that may be this name.
+/// Reports whether the source has a label of its own that may be this name.
 fn is_taken(name: &str) -> bool {
     name == "__start" || (name.len() == 9 && name.starts_with("L"))
 }
 
-/// The first name of an address.
+/// Returns the first name of an address.
 fn name_at<'a>(labels: &[Label<'a>], address: u32) -> Option<&'a str> {
     for label in labels {
         if label.address == address && !is_taken(label.name) {
@@ -107,7 +107,7 @@ fn name_at<'a>(labels: &[Label<'a>], address: u32) -> Option<&'a str> {
     None
 }
 
-/// The names of an address, each a global label.
+/// Writes the names of an address, each a global label.
 fn put_names(out: &mut String, labels: &[Label<'_>], address: u32) -> Result<(), AllocError> {
     for label in labels {
         if label.address == address && !is_taken(label.name) {
@@ -117,7 +117,7 @@ fn put_names(out: &mut String, labels: &[Label<'_>], address: u32) -> Result<(),
     Ok(())
 }
 
-/// A word in eight hexadecimal digits.
+/// Writes a word in eight hexadecimal digits.
 fn put_digits(out: &mut String, word: u32) -> Result<(), AllocError> {
     for shift in [28u32, 24, 20, 16, 12, 8, 4, 0] {
         let digit = (word >> shift) % 16;
@@ -132,7 +132,7 @@ fn put_label(out: &mut String, address: u32) -> Result<(), AllocError> {
     out.push_str(":\n")
 }
 
-/// A branch or jump with a label in place of the address.
+/// Writes a branch or jump with a label in place of the address.
 fn put_control(
     alloc: Global,
     out: &mut String,
@@ -159,7 +159,7 @@ fn put_word(out: &mut String, word: u32) -> Result<(), AllocError> {
     put_digits(out, word)
 }
 
-/// An instruction's text. The word 0 is `sll $0,$0,0`, since SPIM on a bare machine knows no `nop`.
+/// Writes an instruction's text. The word 0 is `sll $0,$0,0`, since SPIM on a bare machine knows no `nop`.
 fn put_plain(out: &mut String, plain: Plain) -> Result<(), AllocError> {
     if plain.is_nop() {
         return out.push_str("sll $0,$0,0");
@@ -212,7 +212,7 @@ fn put_code(
     Ok(())
 }
 
-/// Four bytes as a word, the first the highest.
+/// Returns four bytes as a word, the first the highest.
 fn word_of(bytes: &[u8]) -> u32 {
     bytes.iter().fold(
         0u32,
@@ -225,7 +225,7 @@ fn put_byte(out: &mut String, byte: u8) -> Result<(), AllocError> {
     writeln!(out, "    .byte 0x{high:x}{low:x}")
 }
 
-/// The data, four bytes a line, and those behind the last whole word.
+/// Writes the data, four bytes a line, and those after the last whole word.
 fn put_data(out: &mut String, bytes: &[u8], labels: &[Label<'_>]) -> Result<(), AllocError> {
     if bytes.is_empty() {
         return Ok(());
@@ -248,7 +248,7 @@ fn put_data(out: &mut String, bytes: &[u8], labels: &[Label<'_>]) -> Result<(), 
     Ok(())
 }
 
-/// The assembler source of an image, with labels where the image has names: functions at words of the code, globals at words of the
+/// Returns the assembler source of an image, with labels where the image has names: functions at words of the code, globals at words of the
 /// data. A name that is like a label of the source itself (`__start`, `L` and eight digits) is left out.
 pub fn assembler_source(
     alloc: Global,

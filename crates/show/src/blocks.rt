@@ -1,11 +1,11 @@
-// The lines over blocks, and in them.
+//! The lines over blocks, and in them.
 
 use crate::names::Names;
 use crate::numbers::Range;
 use block_text::Writer;
 use mblock::Exit;
 
-/// The name of the function that a call goes to; none where the block is left otherwise.
+/// Returns the name of the function that a call goes to; none if the block is left otherwise.
 pub(crate) fn callee<'t>(names: &Names<'t>, ranges: &[Range], exit: Exit) -> Option<&'t str> {
     let Exit::Call { function, .. } = exit else {
         return None;
@@ -15,7 +15,7 @@ pub(crate) fn callee<'t>(names: &Names<'t>, ranges: &[Range], exit: Exit) -> Opt
     Some(names.function(found.saturating_sub(1)))
 }
 
-/// The line over a block: its number, and the function that it calls.
+/// Writes the line over a block: its number, and the function that it calls.
 pub(crate) fn put_heading(out: &mut Writer, number: usize, called: Option<&str>) {
     out.text("  block ");
     out.put(&number);
@@ -26,7 +26,7 @@ pub(crate) fn put_heading(out: &mut Writer, number: usize, called: Option<&str>)
     }
 }
 
-/// A line of a block, behind a margin.
+/// Writes a line of a block, after a margin.
 pub(crate) fn put_line(out: &mut Writer, line: &str) {
     out.text("    ");
     out.text(line);

@@ -1,4 +1,4 @@
-// Graphs of blocks, for Graphviz.
+//! Graphs of blocks, for Graphviz.
 
 use crate::back_edges::{Edges, back_edges};
 use crate::orders::put_needed;
@@ -16,7 +16,7 @@ enum Way {
     Goes,
 }
 
-/// An edge between blocks. One that goes back is bold, so that loops are seen.
+/// Writes an edge between blocks. One that goes back is bold, so that loops are seen.
 fn put_edge(out: &mut Writer, from: usize, to: usize, way: Way, is_back: bool) {
     out.text("    b");
     out.put(&from);
@@ -41,7 +41,7 @@ fn put_node(out: &mut Writer, number: usize) {
     out.text("\\l");
 }
 
-/// The numbers of the blocks to which an exit leads.
+/// Returns the numbers of the blocks to which an exit leads.
 fn exit_targets(exit: Exit) -> Edges {
     match exit {
         Exit::Goto(next) | Exit::Call { next, .. } | Exit::Out(next) => {
@@ -54,7 +54,7 @@ fn exit_targets(exit: Exit) -> Edges {
     }
 }
 
-/// The places of the blocks to which an exit of RTL leads.
+/// Returns the places of the blocks to which an exit of RTL leads.
 fn rtl_places(exit: &RExit) -> Edges {
     match exit {
         RExit::Goto(next) | RExit::Call(_, _, _, next) | RExit::Out(_, next) => {
@@ -65,7 +65,7 @@ fn rtl_places(exit: &RExit) -> Edges {
     }
 }
 
-/// Their numbers.
+/// Returns their numbers.
 fn rtl_targets(view: &RtlView<'_>, exit: &RExit) -> Edges {
     match exit {
         RExit::Goto(next) | RExit::Call(_, _, _, next) | RExit::Out(_, next) => {
@@ -76,7 +76,7 @@ fn rtl_targets(view: &RtlView<'_>, exit: &RExit) -> Edges {
     }
 }
 
-/// The edges out of a node: two are a branch's.
+/// Writes the edges out of a node: two are a branch's.
 fn put_edges(out: &mut Writer, from: usize, edges: Edges, back: [bool; 2]) {
     match edges {
         [Some(then), Some(other)] => {
@@ -88,17 +88,17 @@ fn put_edges(out: &mut Writer, from: usize, edges: Edges, back: [bool; 2]) {
     }
 }
 
-/// The marks of a block's edges.
+/// Returns the marks of a block's edges.
 fn marks_of(back: &[[bool; 2]], k: usize) -> [bool; 2] {
     back.get(k).copied().unwrap_or([false; 2])
 }
 
-/// The place of a block among a function's, the first of which has this number.
+/// Returns the place of a block among a function's, the first of which has this number.
 fn place_from(first: usize, number: Option<usize>) -> Option<usize> {
     Some(number?.saturating_sub(first))
 }
 
-/// The blocks of a function of the unit, from this number on, and their edges.
+/// Writes the blocks of a function of the unit, from this number on, and their edges.
 pub(crate) fn put_blocks(
     alloc: Global,
     out: &mut Writer,
@@ -121,7 +121,7 @@ pub(crate) fn put_blocks(
     Ok(())
 }
 
-/// The blocks of a function of RTL, and their edges.
+/// Writes the blocks of a function of RTL, and their edges.
 pub(crate) fn put_rtl_blocks(
     alloc: Global,
     out: &mut Writer,

@@ -1,4 +1,4 @@
-// Where the pseudo-registers of a function live.
+//! Where the pseudo-registers of a function live.
 
 use crate::names::Names;
 use block_text::Writer;
@@ -9,7 +9,7 @@ fn put_register(out: &mut Writer, number: u8) {
     out.put(&number);
 }
 
-/// A slot, and the register that holds a copy of its word, if one does.
+/// Writes a slot, and the register that holds a copy of its word, if one does.
 fn put_slot(out: &mut Writer, slot: u32, copies: &[SlotCopy]) {
     out.text("slot ");
     out.put(&slot);
@@ -39,7 +39,7 @@ fn put_saved(out: &mut Writer, saved: &[u8]) {
     }
 }
 
-/// A line for each pseudo-register, and two for the frame.
+/// Writes a line for each pseudo-register, and two for the frame.
 pub(crate) fn put_homes(out: &mut Writer, names: &Names<'_>, function: usize, frame: &Frame) {
     let mut register = 0u32;
     for home in frame.homes.iter() {

@@ -1,4 +1,4 @@
-// The listing of an image, with the functions and the blocks of its code, and the globals of its data.
+//! The listing of an image, with the functions and the blocks of its code, and the globals of its data.
 
 use crate::blocks::{callee, put_heading, put_line};
 use crate::names::Names;
@@ -8,7 +8,7 @@ use mblock::{Exit, Order, Unit};
 use rtl::RGlobal;
 use std::str::Lines;
 
-/// How many words an exit has with its slot.
+/// Returns how many words an exit has with its slot.
 fn exit_words(exit: Exit) -> usize {
     match exit {
         Exit::Goto(_) | Exit::Return | Exit::Halt => 2,
@@ -16,7 +16,7 @@ fn exit_words(exit: Exit) -> usize {
     }
 }
 
-/// How many words of code an order has.
+/// Returns how many words of code an order has.
 pub(crate) fn order_words(order: &Order) -> usize {
     order.insts().len().saturating_add(exit_words(order.exit()))
 }
@@ -34,7 +34,7 @@ pub(crate) struct ListingView<'a> {
     pub(crate) block: Option<usize>,
 }
 
-/// The lines of so many words, shown or left out.
+/// Writes the lines of so many words, shown or left out.
 fn put_words(out: &mut Writer, lines: &mut Lines<'_>, words: usize, is_shown: bool) {
     for _ in 0..words {
         if let Some(line) = lines.next()
@@ -45,7 +45,7 @@ fn put_words(out: &mut Writer, lines: &mut Lines<'_>, words: usize, is_shown: bo
     }
 }
 
-/// The bytes behind the last whole word of data, of which each has a line. The report of a build isn't shown.
+/// Writes the bytes after the last whole word of data, of which each has a line. The report of a build isn't shown.
 fn put_rest(out: &mut Writer, lines: &mut Lines<'_>) {
     for line in lines {
         if !line.starts_with("report") {
@@ -81,7 +81,7 @@ impl<'a> ListingView<'a> {
         }
     }
 
-    /// The lines of data, under the global's name.
+    /// Writes the lines of data, under the global's name.
     fn put_data(&self, out: &mut Writer, lines: &mut Lines<'_>) {
         for (k, global) in self.globals.iter().enumerate() {
             out.text("data ");
@@ -93,7 +93,7 @@ impl<'a> ListingView<'a> {
         put_rest(out, lines);
     }
 
-    /// The whole listing, function by function.
+    /// Writes the whole listing, function by function.
     pub(crate) fn put(&self, out: &mut Writer, orders: &[Order], listing: &str) {
         let mut lines = listing.lines();
         for number in 0..self.ranges.len() {
@@ -105,7 +105,7 @@ impl<'a> ListingView<'a> {
     }
 }
 
-/// The line over a function, by its number among the ranges: 0 is the code that calls main.
+/// Writes the line over a function, by its number among the ranges: 0 is the code that calls main.
 pub(crate) fn put_title(out: &mut Writer, names: &Names<'_>, number: usize) {
     if number == 0 {
         out.text("start\n");

@@ -1,4 +1,4 @@
-// The names of functions, globals and locals, by their numbers.
+//! The names of functions, globals and locals, by their numbers.
 
 use block_text::Writer;
 use c_tokens::{Identifier, MAX_TEXT, Mark, Token, lex};
@@ -12,7 +12,7 @@ pub(crate) struct FunctionNames {
     locals: Vec<Identifier>,
 }
 
-/// The names of a text, as its tokens have them: each stands behind its type.
+/// The names of a text, as its tokens have them: each stands after its type.
 #[derive(Drop)]
 pub(crate) struct Names<'t> {
     text: &'t [u8],
@@ -27,7 +27,7 @@ fn is_type(token: Option<Token>) -> bool {
     )
 }
 
-/// How many brackets are open behind a token.
+/// Returns how many brackets are open after a token.
 fn open_behind(token: Token, open: usize) -> usize {
     match token {
         Token::The(Mark::LeftParen | Mark::LeftBrace) => open.saturating_add(1),
@@ -51,7 +51,7 @@ fn tokens_of(alloc: Global, text: &[u8]) -> Result<Vec<Token>, AllocError> {
 }
 
 impl<'t> Names<'t> {
-    /// The names that a text declares.
+    /// Returns the names that a text declares.
     pub(crate) fn read(alloc: Global, text: &'t [u8]) -> Result<Names<'t>, AllocError> {
         let tokens = tokens_of(alloc, text)?;
         let mut names = Names {
@@ -73,7 +73,7 @@ impl<'t> Names<'t> {
         Ok(names)
     }
 
-    /// A declared name: at file scope a function or a global, else a local of the last function.
+    /// Adds a declared name: at file scope a function or a global, else a local of the last function.
     fn declare(
         &mut self,
         alloc: Global,
@@ -104,7 +104,7 @@ impl<'t> Names<'t> {
         str::from_utf8(bytes).unwrap_or("?")
     }
 
-    /// The name of a function; `?` where there is none of this number.
+    /// Returns the name of a function; `?` where there is none of this number.
     pub(crate) fn function(&self, number: usize) -> &'t str {
         match self.functions.get(number) {
             Some(function) => self.spelling(function.name),
@@ -112,7 +112,7 @@ impl<'t> Names<'t> {
         }
     }
 
-    /// The name of a global.
+    /// Returns the name of a global.
     pub(crate) fn global(&self, number: usize) -> &'t str {
         match self.globals.get(number) {
             Some(name) => self.spelling(*name),
@@ -120,24 +120,24 @@ impl<'t> Names<'t> {
         }
     }
 
-    /// The number of the function of this name.
+    /// Returns the number of the function of this name.
     pub(crate) fn function_named(&self, name: &str) -> Option<usize> {
         (0..self.functions.len()).find(|number| self.function(*number) == name)
     }
 
-    /// The name of a function's local.
+    /// Returns the name of a function's local.
     fn local(&self, function: usize, number: usize) -> Option<&'t str> {
         let name = self.functions.get(function)?.locals.get(number)?;
         Some(self.spelling(*name))
     }
 
-    /// Whether an earlier local of the function has the same name.
+    /// Reports whether an earlier local of the function has the same name.
     fn is_again(&self, function: usize, number: usize, name: &str) -> bool {
         (0..number).any(|other| self.local(function, other) == Some(name))
     }
 
-    /// The pseudo-register of a function: a local by its name, with its number where an earlier one has the name too; any
-    /// other by its number alone.
+    /// Writes the pseudo-register of a function: a local by its name, with its number where an earlier one has the name too; any other by
+    /// its number alone.
     pub(crate) fn put_register(&self, out: &mut Writer, function: usize, register: u32) {
         let number = register as usize;
         let is_named = match self.local(function, number) {

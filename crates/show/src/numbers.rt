@@ -1,4 +1,4 @@
-// Which blocks are whose: those of the unit, and those of RTL with the numbers that they have in the unit.
+//! Which blocks are whose: those of the unit, and those of RTL with the numbers that they have in the unit.
 
 use mblock::Unit;
 use rtl::RFunc;
@@ -16,13 +16,13 @@ impl Range {
         self.from <= number && number < self.to
     }
 
-    /// What a list over all blocks has for these.
+    /// Returns what a list over all blocks has for these.
     pub(crate) fn of<'s, T>(self, all: &'s [T]) -> &'s [T] {
         all.get(self.from..self.to).unwrap_or(&[])
     }
 }
 
-/// Whether a number is the one that is asked for, if one is.
+/// Reports whether a number is the one that is asked for, if one is.
 pub(crate) fn is_wanted(asked: Option<usize>, number: usize) -> bool {
     match asked {
         Some(only) => only == number,
@@ -30,7 +30,7 @@ pub(crate) fn is_wanted(asked: Option<usize>, number: usize) -> bool {
     }
 }
 
-/// The functions of a unit: the code that calls main, and then those of the program in their order.
+/// Returns the functions of a unit: the code that calls main, and then those of the program in their order.
 pub(crate) fn functions_of(alloc: Global, unit: &Unit) -> Result<Vec<Range>, AllocError> {
     let mut ranges = Vec::new(alloc);
     let mut from = 0usize;
@@ -46,7 +46,7 @@ pub(crate) fn functions_of(alloc: Global, unit: &Unit) -> Result<Vec<Range>, All
     Ok(ranges)
 }
 
-/// The blocks of RTL, of one function behind another.
+/// Returns the blocks of RTL, of one function after another.
 pub(crate) fn rtl_blocks_of(alloc: Global, functions: &[RFunc]) -> Result<Vec<Range>, AllocError> {
     let mut ranges = Vec::new(alloc);
     let mut from = 0usize;

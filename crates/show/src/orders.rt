@@ -1,4 +1,4 @@
-// Orders as the scheduler proposes them, and what the validator says of them.
+//! Orders as the scheduler proposes them, and what the validator says of them.
 
 ghost use Rattle.std.specs.Prelude.{All, IfSome};
 ghost use Rattle.term_table.specs.Passes.{IsOf};
@@ -55,12 +55,12 @@ fn put_place(out: &mut Writer, place: Place) {
     }
 }
 
-/// The order that the scheduler gives a block.
+/// Returns the order that the scheduler gives a block.
 pub(crate) fn proposed_order(alloc: Global, block: &Block) -> Result<Order, AllocError> {
     FilledOrder(ListOrder).reorder(alloc, block)
 }
 
-/// The verdict on the order that is proposed for a block, by a table of this size.
+/// Returns the verdict on the order that is proposed for a block, by a table of this size.
 fn verdict_by<'a>(alloc: Global, block: &'a Block, size: Size) -> Result<Verdict<'a>, AllocError> {
     let order = proposed_order(alloc, block)?;
     let Some((table, mut pass)) = open_table(alloc, size) else {
@@ -69,7 +69,7 @@ fn verdict_by<'a>(alloc: Global, block: &'a Block, size: Size) -> Result<Verdict
     Ok(validate(alloc, &table, &mut pass, block, order))
 }
 
-/// The verdict on the order that is proposed for a block.
+/// Returns the verdict on the order that is proposed for a block.
 fn verdict_on<'a>(alloc: Global, block: &'a Block) -> Result<Verdict<'a>, AllocError> {
     match verdict_by(alloc, block, SMALL)? {
         Verdict::Full => verdict_by(alloc, block, LARGE),
@@ -77,7 +77,7 @@ fn verdict_on<'a>(alloc: Global, block: &'a Block) -> Result<Verdict<'a>, AllocE
     }
 }
 
-/// A verdict in the words of `mcc check`; the order that is taken, if it is.
+/// Writes a verdict in the words of `mcc check`, and returns the order that is taken, if it is.
 fn put_verdict(out: &mut Writer, verdict: Verdict<'_>) -> Result<Option<Order>, AllocError> {
     match verdict {
         Verdict::Same(checked) => {
@@ -98,7 +98,7 @@ fn put_verdict(out: &mut Writer, verdict: Verdict<'_>) -> Result<Option<Order>, 
     Ok(None)
 }
 
-/// A block behind a margin, without its Nops: a block has no delays, so they do nothing.
+/// Writes a block after a margin, without its Nops: a block has no delays, so they do nothing.
 pub(crate) fn put_needed(out: &mut Writer, block: &Block, margin: &str, end: &str) {
     for inst in block.insts() {
         if !inst.is_nop() {
@@ -110,7 +110,7 @@ pub(crate) fn put_needed(out: &mut Writer, block: &Block, margin: &str, end: &st
     out.text(end);
 }
 
-/// A block in its plain order, behind a margin.
+/// Writes a block in its plain order, after a margin.
 fn put_plain(
     alloc: Global,
     out: &mut Writer,
@@ -122,7 +122,7 @@ fn put_plain(
     Ok(())
 }
 
-/// The order that was refused, why it is wrong, if that was found, and the plain one, which is taken.
+/// Writes the order that was refused, why it is wrong, if that was found, and the plain one, which is taken.
 fn put_refused(alloc: Global, out: &mut Writer, block: &Block) -> Result<(), AllocError> {
     let refused = proposed_order(alloc, block)?;
     out.text("    proposed:\n");
@@ -132,7 +132,7 @@ fn put_refused(alloc: Global, out: &mut Writer, block: &Block) -> Result<(), All
     put_plain(alloc, out, block, "      ")
 }
 
-/// The verdict on the order that is proposed for a block, and the order that is taken; the one that was refused before it.
+/// Writes the verdict on the order that is proposed for a block, and the order that is taken; the one that was refused before it.
 pub(crate) fn put_settled(
     alloc: Global,
     out: &mut Writer,

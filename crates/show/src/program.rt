@@ -1,4 +1,4 @@
-// The stages of a program, function by function.
+//! The stages of a program, function by function.
 
 ghost use Rattle.std.specs.Prelude.{All, IfOk};
 ghost use Rattle.block_text.specs.Shown.{IsShown};
@@ -34,11 +34,11 @@ pub struct Shown<'a> {
     pub text: &'a [u8],
     pub rtl: &'a Rtl,
     pub unit: &'a Unit,
-    /// The number of the unit's block with which each block of RTL begins, one function behind another.
+    /// The number of the unit's block with which each block of RTL begins, one function after another.
     pub numbers: &'a [BlockNumber],
 }
 
-/// The frames of a program's functions, if their homes are wanted: otherwise none.
+/// Returns the frames of a program's functions, if their homes are wanted: otherwise none.
 fn frames_of(alloc: Global, rtl: &Rtl, wanted: &Wanted) -> Result<Vec<Frame>, AllocError> {
     if wanted.dot || wanted.stage != Some(Stage::Homes) {
         return Ok(Vec::new(alloc));
@@ -47,7 +47,7 @@ fn frames_of(alloc: Global, rtl: &Rtl, wanted: &Wanted) -> Result<Vec<Frame>, Al
     Ok(frames)
 }
 
-/// A program's image, each block in its order; none where memory was refused to one of them, which would keep its own.
+/// Returns a program's image, each block in its order; none if memory ran out to one of them, which would keep its own.
 fn image_of(alloc: Global, scheduled: &Scheduled<'_>) -> Result<Image, ShowFault> {
     if scheduled.report().no_memory > 0 {
         return Err(ShowFault::NoMemory);
@@ -96,7 +96,7 @@ impl<'a> View<'a> {
         self.ranges.get(number).copied().unwrap_or(none)
     }
 
-    /// The function of RTL of this number among the ranges, the first of which is none of the program's.
+    /// Returns the function of RTL of this number among the ranges, the first of which is none of the program's.
     fn function(&self, number: usize) -> Option<&'a RFunc> {
         if number == 0 {
             return None;
@@ -104,7 +104,7 @@ impl<'a> View<'a> {
         self.shown.rtl.functions().get(number - 1)
     }
 
-    /// The numbers of a function's blocks of RTL.
+    /// Returns the numbers of a function's blocks of RTL.
     fn numbers(&self, number: usize) -> &'a [BlockNumber] {
         let none = Range { from: 0, to: 0 };
         let range = self.rtl_ranges.get(number.saturating_sub(1)).copied();
@@ -138,7 +138,7 @@ impl<'a> View<'a> {
         }
     }
 
-    /// A block in one of the stages of blocks.
+    /// Writes a block in one of the stages of blocks.
     fn put_stage(&self, out: &mut Writer, stage: Stage, block: &Block) -> Result<(), AllocError> {
         match stage {
             Stage::Orders => put_settled(self.alloc, out, block),
@@ -168,7 +168,7 @@ impl<'a> View<'a> {
         Ok(())
     }
 
-    /// One stage of a function, but for the listing.
+    /// Writes one stage of a function, but for the listing.
     fn put_function(
         &self,
         out: &mut Writer,
@@ -184,7 +184,7 @@ impl<'a> View<'a> {
         Ok(())
     }
 
-    /// A function's graph, as a cluster.
+    /// Writes a function's graph, as a cluster.
     fn put_graph(&self, out: &mut Writer, is_rtl: bool, number: usize) -> Result<(), AllocError> {
         let name = if number == 0 {
             "start"
@@ -241,7 +241,7 @@ impl<'a> View<'a> {
         Ok(())
     }
 
-    /// What is made of the whole image.
+    /// Writes what is made of the whole image.
     fn put_image(&self, out: &mut Writer, wanted: &Wanted) -> Result<(), ShowFault> {
         let Some(options) = PhaseOpts::new(1, 65536, 1024) else {
             return Ok(());
@@ -267,7 +267,7 @@ impl<'a> View<'a> {
         }
     }
 
-    /// RTL, blocks and orders of a function.
+    /// Writes RTL, blocks and orders of a function.
     fn put_stages(&self, out: &mut Writer, number: usize) -> Result<(), AllocError> {
         for stage in [Stage::Rtl, Stage::Blocks, Stage::Orders] {
             if number > 0 || stage != Stage::Rtl {
@@ -279,7 +279,7 @@ impl<'a> View<'a> {
         Ok(())
     }
 
-    /// All that is asked of a function.
+    /// Writes all that is asked of a function.
     fn put_asked(
         &self,
         out: &mut Writer,
@@ -312,7 +312,7 @@ impl<'a> View<'a> {
         Ok(())
     }
 
-    /// The text of what is asked for.
+    /// Returns the text of what is asked for.
     fn text(&self, wanted: &Wanted) -> Result<String, ShowFault> {
         let mut out = Writer::new(self.alloc);
         match wanted.stage {
@@ -325,7 +325,7 @@ impl<'a> View<'a> {
     }
 }
 
-/// The first function that is shown: the code that calls main has neither RTL nor homes.
+/// Returns the first function that is shown: the code that calls main has neither RTL nor homes.
 fn first_of(wanted: &Wanted) -> usize {
     match wanted.stage {
         Some(Stage::Rtl | Stage::Homes) => 1,
@@ -333,7 +333,7 @@ fn first_of(wanted: &Wanted) -> usize {
     }
 }
 
-/// How long lines are at most: what another program reads isn't cut.
+/// Returns how long lines are at most: what another program reads isn't cut.
 fn width_of(wanted: &Wanted) -> usize {
     match wanted.stage {
         Some(Stage::Asm) => usize::MAX,
@@ -341,7 +341,7 @@ fn width_of(wanted: &Wanted) -> usize {
     }
 }
 
-/// What is asked for of a program: lines of printable ASCII, of at most 120 bytes but for graphs and assembler source.
+/// Returns what is asked for of a program: lines of printable ASCII, of at most 120 bytes but for graphs and assembler source.
 pub fn show(alloc: Global, shown: Shown<'_>, asked: &Asked<'_>) -> Result<Vec<u8>, ShowFault>
     ensures { IfOk result (λ page. All IsShown page.items) }
 {
@@ -353,7 +353,7 @@ pub fn show(alloc: Global, shown: Shown<'_>, asked: &Asked<'_>) -> Result<Vec<u8
     page_in(alloc, text.as_str(), width_of(&wanted))
 }
 
-/// A text as it is shown, in lines of at most so many bytes.
+/// Returns a text as it is shown, in lines of at most so many bytes.
 fn page_in(alloc: Global, text: &str, width: usize) -> Result<Vec<u8>, ShowFault>
     ensures { IfOk result (λ page. All IsShown page.items) }
 {

@@ -1,4 +1,4 @@
-// RTL as text.
+//! RTL as text.
 
 use crate::names::Names;
 use crate::numbers::is_wanted;
@@ -15,7 +15,7 @@ pub(crate) struct RtlView<'a> {
     pub(crate) numbers: &'a [BlockNumber],
 }
 
-/// An operator's sign; `u` behind it where words are read without a sign.
+/// Returns an operator's sign; `u` after it where words are read without a sign.
 fn sign(op: Op) -> &'static str {
     match op {
         Op::Add => " + ",
@@ -45,7 +45,7 @@ impl<'a> RtlView<'a> {
         self.names.put_register(out, self.function, register);
     }
 
-    /// A register that becomes something.
+    /// Writes a register that becomes something.
     fn becomes(&self, out: &mut Writer, register: Register) {
         self.register(out, register);
         out.text(" = ");
@@ -58,7 +58,7 @@ impl<'a> RtlView<'a> {
         }
     }
 
-    /// An element of a global; a variable by its name alone.
+    /// Writes an element of a global; a variable by its name alone.
     fn element(&self, out: &mut Writer, global: u32, index: Register) {
         out.text(self.names.global(global as usize));
         if self.is_array(global) {
@@ -68,7 +68,7 @@ impl<'a> RtlView<'a> {
         }
     }
 
-    /// An instruction.
+    /// Writes an instruction.
     fn inst(&self, out: &mut Writer, inst: RInst) {
         match inst {
             RInst::Const(to, word) => {
@@ -97,7 +97,7 @@ impl<'a> RtlView<'a> {
         }
     }
 
-    /// The number that a block has in all stages.
+    /// Returns the number that a block has in all stages.
     pub(crate) fn number(&self, block: u32) -> usize {
         match self.numbers.get(block as usize) {
             Some(number) => number.number() as usize,
@@ -125,7 +125,7 @@ impl<'a> RtlView<'a> {
         out.text(")");
     }
 
-    /// How a block is left.
+    /// Writes how a block is left.
     fn exit(&self, out: &mut Writer, exit: &RExit) {
         match exit {
             RExit::Goto(block) => self.to(out, "goto ", *block),
@@ -152,7 +152,7 @@ impl<'a> RtlView<'a> {
         }
     }
 
-    /// The lines of a block, each behind a margin and before an end.
+    /// Writes the lines of a block, each after a margin and before an end.
     pub(crate) fn lines(&self, out: &mut Writer, block: &RBlock, margin: &str, end: &str) {
         for inst in block.insts.iter() {
             out.text(margin);
@@ -164,7 +164,7 @@ impl<'a> RtlView<'a> {
         out.text(end);
     }
 
-    /// The blocks of a function, or the one with this number.
+    /// Writes the blocks of a function, or the one with this number.
     pub(crate) fn blocks(&self, out: &mut Writer, blocks: &[RBlock], only: Option<usize>) {
         let mut k = 0u32;
         for block in blocks {

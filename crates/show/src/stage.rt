@@ -1,4 +1,4 @@
-// The stages by their names.
+//! The stages by their names.
 
 /// What is shown of a program.
 #[derive(Clone, Copy, PartialEq, Eq)]
@@ -33,7 +33,7 @@ impl Stage {
         }
     }
 
-    /// The stage of this name.
+    /// Returns the stage of this name.
     pub(crate) fn from_name(name: &str) -> Option<Stage> {
         for stage in [
             Stage::Rtl,

@@ -1,4 +1,4 @@
-// The terms of what a block leaves.
+//! The terms of what a block leaves.
 
 use crate::blocks::put_line;
 use block_text::{ReadFault, Writer, left_lines};
@@ -8,7 +8,7 @@ use std::alloc::{AllocError, Global};
 /// How deep terms are shown.
 const DEPTH: u32 = 8;
 
-/// A line for each place that changes, behind a margin.
+/// Writes a line for each place that changes, after a margin.
 pub(crate) fn put_terms(alloc: Global, out: &mut Writer, block: &Block) -> Result<(), AllocError> {
     match left_lines(alloc, block, DEPTH) {
         Ok(lines) => put_lines(out, lines.as_str()),

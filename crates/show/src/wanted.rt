@@ -1,4 +1,4 @@
-// What is asked for of a program.
+//! What is asked for of a program.
 
 use crate::names::Names;
 use crate::numbers::Range;
@@ -79,7 +79,7 @@ fn function_of(names: &Names<'_>, asked: &Asked<'_>) -> Result<Option<usize>, Sh
     }
 }
 
-/// The blocks of a function, or of all.
+/// Returns the blocks of a function, or of all.
 fn blocks_of(ranges: &[Range], only: Option<usize>) -> Range {
     let none = Range { from: 0, to: 0 };
     match only {
@@ -91,7 +91,7 @@ fn blocks_of(ranges: &[Range], only: Option<usize>) -> Range {
     }
 }
 
-/// The block that is asked for, if it is one of these.
+/// Returns the block that is asked for, if it is one of these.
 fn block_of(asked: &Asked<'_>, blocks: Range) -> Result<Option<usize>, ShowFault> {
     let Some(number) = asked.block else {
         return Ok(None);
@@ -106,7 +106,7 @@ fn block_of(asked: &Asked<'_>, blocks: Range) -> Result<Option<usize>, ShowFault
     })
 }
 
-/// The function that is shown alone: the one that is named, or that of the block.
+/// Returns the function that is shown alone: the one that is named, or that of the block.
 fn shown_alone(ranges: &[Range], only: Option<usize>, block: Option<usize>) -> Option<usize> {
     let Some(block) = block else {
         return only;
@@ -123,7 +123,7 @@ fn shown_alone(ranges: &[Range], only: Option<usize>, block: Option<usize>) -> O
 }
 
 impl Wanted {
-    /// What is asked for, if it is there.
+    /// Returns what is asked for, if it is there.
     pub(crate) fn of(
         names: &Names<'_>,
         ranges: &[Range],
@@ -140,7 +140,7 @@ impl Wanted {
         })
     }
 
-    /// The block of a check text: the one that is named, or the function's first, or the first of all.
+    /// Returns the block of a check text: the one that is named, or the function's first, or the first of all.
     pub(crate) fn checked(&self, ranges: &[Range]) -> usize {
         match self.block {
             Some(block) => block,

@@ -32,7 +32,7 @@ abbrev pub is_sum : Label → Bool
 is_sum (Op op) = is_addition op
 is_sum _ = false
 
--- an address: a base, and how many bytes behind it
+-- an address: a base, and how many bytes after it
 pub record Address : Type 0 where
   pub base : Tree
   pub offset : ℕ
@@ -64,7 +64,7 @@ sum_tree a b (Some c) = tree_plus (address_of a).base (wrap ((address_of a).offs
 unfoldable pub op_tree : Operator → Tree → Tree → Tree
 op_tree op a b = if is_addition op then sum_tree a b (constant_of b) else binary (Op op) a b
 
--- how far an offset is behind another
+-- how far an offset is after another
 abbrev pub distance : ℕ → ℕ → ℕ
 distance a b = (a + 2 ^ 32 - b) % 2 ^ 32
 

@@ -142,7 +142,7 @@ fn register_at(number: u32) -> Option<Origin>
     Some(Origin::Register(r))
 }
 
-/// The word of a label: its kind in the upper 32 bits, its content in the lower.
+/// Returns the word of a label: its kind in the upper 32 bits, its content in the lower.
 pub fn word_of(label: Label) -> u64
     ensures value { result ≡ label_word label }
     ensures range { is_label label ≡ true }
@@ -157,7 +157,7 @@ pub fn word_of(label: Label) -> u64
     }
 }
 
-/// The label that has this word, and None where no label has it.
+/// Returns the label that has this word, and None if no label has it.
 pub fn label_of(word: u64) -> Option<Label>
     ensures value { result ≡ label_with word }
     ensures found { IfSome result (λ l. (is_label l ≡ true) × (label_word l ≡ word)) }

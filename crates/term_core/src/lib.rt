@@ -26,7 +26,8 @@ pub const LAST_WORD: usize = CONTENT_WORDS - 1;
 /// All words of a node: its link, and its content words.
 pub const NODE_WORDS: u64 = 5;
 
-/// Each of these counts is the number that specs/Numbers.antt tells, so a change of one is a change there. A law: it computes nothing.
+/// States that each of these counts is the number that specs/Numbers.antt tells, so a change of one is a change there. A law: it computes
+/// nothing.
 pub fn counts_are_these_numbers()
     ensures { CountsAreTheseNumbers }
 {}
@@ -92,8 +93,7 @@ pub struct Walker {
     pub stage: Stage,
 }
 
-/// What every list of items keeps, for any number of passes and nodes and any function that picks
-/// the chain of a call.
+/// States what every list of items keeps, for any number of passes and nodes and any function that picks the chain of a call.
 ///
 /// `lawful`: the history is legal. What a pass has seen is a legal beginning of it, with each of the pass's own calls once. Two tickets
 /// in it are equal exactly if their trees are. The pass's loads of links are at most the pairs and one. `does`: an item ends a call with

@@ -17,12 +17,12 @@ pub trait Label: Copy {
 
     ghost coding: { Coding Self };
 
-    /// The word of the label.
+    /// Returns the word of the label.
     fn word(self) -> u64
         ensures value { result ≡ coding.word self }
         ensures range { coding.is_label self ≡ true };
 
-    /// The label that has this word, and None where no label has it.
+    /// Returns the label that has this word, and None if no label has it.
     fn of_word(word: u64) -> Option<Self>
         ensures { result ≡ coding.label_with word };
 

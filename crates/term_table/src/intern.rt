@@ -20,7 +20,7 @@ use atomic_table::Seat;
 use term_core::{CONTENT_WORDS, LAST_WORD};
 
 impl Nodes {
-    // Fills a node of one's own that is not linked.
+    /// Fills a node of one's own that is not linked.
     pub(crate) fn write_node<C: Act>(
         &self,
         seat: &mut Seat<(), View>,
@@ -46,7 +46,7 @@ impl Nodes {
         }
     }
 
-    // Compares one content word of a node.
+    /// Compares one content word of a node.
     pub(crate) fn same_word<C: Act>(
         &self,
         seat: &mut Seat<(), View>,
@@ -72,7 +72,7 @@ impl Nodes {
         found == expected
     }
 
-    // Begins an intern: loads the head of its chain.
+    /// Begins an intern: loads the head of its chain.
     pub(crate) fn first_link<C: Act>(&self, seat: &mut Seat<(), View>, chain: u64) -> u64
         requires table { Serves self.now C.shape seat.old }
         requires link { chain < word_count self.now.size }
@@ -85,7 +85,7 @@ impl Nodes {
         self.load::<C>(seat, chain)
     }
 
-    // Loads the next link.
+    /// Loads the next link.
     pub(crate) fn next_link<C: Act>(&self, seat: &mut Seat<(), View>, walk: Walk) -> u64
         requires table { Serves self.now C.shape seat.old }
         requires link { walk.link < word_count self.now.size }
@@ -97,7 +97,7 @@ impl Nodes {
         self.load::<C>(seat, walk.link)
     }
 
-    // Links one's own node, where none was linked; else answers what was.
+    /// Links one's own node, where none was linked; else answers what was.
     pub(crate) fn join<C: Act>(&self, seat: &mut Seat<(), View>, walk: Walk, own: u64) -> u64
         requires table { Serves self.now C.shape seat.old }
         requires link { walk.link < word_count self.now.size }
@@ -112,7 +112,7 @@ impl Nodes {
         self.link::<C>(seat, walk.link, own + 1)
     }
 
-    // Compares the content of a node word by word. Where it differs, the walk goes on at the node's link.
+    /// Compares the content of a node word by word. Where it differs, the walk goes on at the node's link.
     pub(crate) fn same_content<C: Act>(
         &self,
         seat: &mut Seat<(), View>,
@@ -147,7 +147,7 @@ impl Nodes {
         }
     }
 
-    // A whole intern.
+    /// Runs a whole intern.
     pub(crate) fn intern_as<C: Act>(
         &self,
         seat: &mut Seat<(), View>,

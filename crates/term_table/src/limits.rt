@@ -1,4 +1,4 @@
-// The ranges of a table.
+//! The ranges of a table.
 
 ghost use Rattle.term_table.specs.Numbers.{LimitsAreTheseNumbers};
 
@@ -36,7 +36,7 @@ pub(crate) const LARGE_LIMITS: Limits = Limits {
     heads: LARGE_MAX_HEADS,
 };
 
-/// Each limit is the number that specs/Numbers.antt tells, so a change of one is a change there. A law: it computes nothing.
+/// States that each limit is the number that specs/Numbers.antt tells, so a change of one is a change there. A law: it computes nothing.
 pub fn limits_are_these_numbers()
     ensures { LimitsAreTheseNumbers }
 {}

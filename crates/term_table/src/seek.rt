@@ -17,7 +17,7 @@ use atomic_table::Seat;
 use term_core::CONTENT_WORDS;
 
 impl Nodes {
-    // Begins a find: loads the head of its chain.
+    /// Begins a find: loads the head of its chain.
     pub(crate) fn first_seen<C: Act>(&self, seat: &mut Seat<(), View>, chain: u64) -> u64
         requires table { Serves self.now C.shape seat.old }
         requires link { chain < word_count self.now.size }
@@ -30,7 +30,7 @@ impl Nodes {
         self.load::<C>(seat, chain)
     }
 
-    // Loads the next link.
+    /// Loads the next link.
     pub(crate) fn next_seen<C: Act>(&self, seat: &mut Seat<(), View>, walk: Walk) -> u64
         requires table { Serves self.now C.shape seat.old }
         requires link { walk.link < word_count self.now.size }
@@ -42,7 +42,7 @@ impl Nodes {
         self.load::<C>(seat, walk.link)
     }
 
-    // A whole find: the node, if there is one, and how many links were loaded.
+    /// Runs a whole find: returns the node, if there is one, and how many links were loaded.
     pub(crate) fn find_as<C: Act>(
         &self,
         seat: &mut Seat<(), View>,
@@ -78,7 +78,7 @@ impl Nodes {
         }
     }
 
-    // Begins a read: loads the first content word of the node.
+    /// Begins a read: loads the first content word of the node.
     pub(crate) fn first_word<C: Act>(&self, seat: &mut Seat<(), View>, node: u64) -> u64
         requires table { Serves self.now C.shape seat.old }
         requires node { node < node_count self.now.size }
@@ -91,7 +91,7 @@ impl Nodes {
         self.load::<C>(seat, self.content_place(node, 0))
     }
 
-    // Loads the next content word, after those that were read.
+    /// Loads the next content word, after those that were read.
     pub(crate) fn next_word<C: Act>(&self, seat: &mut Seat<(), View>, node: u64, row: &[u64]) -> u64
         requires table { Serves self.now C.shape seat.old }
         requires node { node < node_count self.now.size }
@@ -106,7 +106,7 @@ impl Nodes {
         self.load::<C>(seat, self.content_place(node, row.len() as u64))
     }
 
-    // The four content words of a node.
+    /// Returns the four content words of a node.
     pub(crate) fn read_as<C: Act>(
         &self,
         seat: &mut Seat<(), View>,

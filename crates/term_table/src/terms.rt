@@ -25,12 +25,11 @@ pub struct Node<L> {
 }
 
 impl TermTable {
-    /// The ticket of the term of this label over the children's terms, as many as its arity: the one
-    /// that it has, if it is there, else that of a node that the pass now links. The pass has seen the ticket from then on.
-    /// It links one term at most.
+    /// Returns the ticket of the term of this label over the children's terms, as many as its arity: the one that it has, if it is there,
+    /// else that of a node that the pass now links. The pass has seen the ticket from then on. It links one term at most.
     ///
-    /// `TableFull` exactly where the term is not there and the pass has itself linked as many terms
-    /// as it may; the table is then as before. Either tells how many links the call loaded.
+    /// `TableFull` exactly if the term is not there and the pass has itself linked as many terms as it may. The table is then as before.
+    /// Either tells how many links the call loaded.
     #[inline(always)]
     pub fn intern<L: Label>(
         &self,
@@ -59,8 +58,7 @@ impl TermTable {
         self.intern_word(pass, label.word(), children)
     }
 
-    /// The ticket of the term of this label over the children's terms, None if it is not there. Links
-    /// nothing.
+    /// Returns the ticket of the term of this label over the children's terms, None if it is not there. Links nothing.
     #[inline(always)]
     pub fn find<L: Label>(&self, pass: &mut Pass, label: L, children: &[Ticket]) -> Found
         requires table { IsOf self.now pass.old }
@@ -83,8 +81,7 @@ impl TermTable {
         self.find_word(pass, label.word(), children)
     }
 
-    /// The label of a term that the pass has seen, and the tickets of its children, which it then has
-    /// seen too. Links nothing.
+    /// Returns the label of a term that the pass has seen, and the tickets of its children, which it then has seen too. Links nothing.
     pub fn read<L: Label>(&self, pass: &mut Pass, ticket: Ticket) -> Node<L>
         requires table { IsOf self.now pass.old }
         requires seen { HasSeenTerm L.coding pass.old ticket }
@@ -118,8 +115,7 @@ impl Pass {
     ghost use Rattle.term_table.specs.Trees.{HasLegalHistory};
     ghost use Rattle.term_table.specs.Terms.{HasTerm};
 
-    /// Whether two tickets that the pass has seen have one term over these labels: exactly where the
-    /// tickets are equal.
+    /// Reports whether two tickets that the pass has seen have one term over these labels: exactly if the tickets are equal.
     pub fn same_term<L: Label>(&self, first: Ticket, second: Ticket) -> bool
         ensures legal { HasLegalHistory self.now }
         ensures same { (x y : Tree L) → HasTerm L.coding self.now first x → HasTerm L.coding self.now second y → IsTrue result ↔ (x ≡ y) }
@@ -130,7 +126,7 @@ impl Pass {
     }
 }
 
-/// Of two tickets that a pass has seen, the numbers are equal exactly where their terms over these labels are. A law: it computes
+/// States that of two tickets that a pass has seen, the numbers are equal exactly if their terms over these labels are. A law: it computes
 /// nothing.
 pub fn same_terms_of<L: Label>()
     ensures { (p : PassState) (t u : ℕ) (x y : Tree L) → HasLegalHistory p → HasTerm L.coding p t x → HasTerm L.coding p u y

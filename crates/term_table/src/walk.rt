@@ -19,22 +19,21 @@ use atomic_table::Seat;
 // An odd number near 2^64 divided by the golden ratio: multiples of it lie far apart modulo 2^64.
 const SCATTER: u64 = 11400714819323198485;
 
-// The content word of a child: its ticket and one, or 0.
+/// Returns the content word of a child: its ticket and one, or 0.
 fn kid_at(kids: &[Ticket], i: usize) -> u64
     ensures { result ≡ kid_word kids.now i }
 {
     if i < kids.len() { kids[i].word() } else { 0 }
 }
 
-// One number more in a hash.
+/// Returns one number more in a hash.
 fn mix_in(hash: u64, number: u64) -> u64
     ensures { result ≡ mix hash number }
 {
     hash.wrapping_mul(SCATTER).wrapping_add(number)
 }
 
-// The hash with all but its low eight bits scattered over the heads: numbers in sequence stay in sequence, and strides
-// don't meet.
+/// Returns the hash with all but its low eight bits scattered over the heads: numbers in sequence stay in sequence, and strides don't meet.
 fn scatter_hash(heads: u64, hash: u64) -> u64
     requires { heads ≤ LARGE_MAX_HEADS }
     ensures { result ≡ scattered heads hash }
@@ -42,7 +41,7 @@ fn scatter_hash(heads: u64, hash: u64) -> u64
     (hash / 256).wrapping_mul(SCATTER) / 4294967296 * heads / 4294967296 + hash % 256
 }
 
-// The chain of a term. Where it lies below the heads, as most do, nothing is divided.
+/// Returns the chain of a term. Where it lies below the heads, as most do, nothing is divided.
 fn chain_at(heads: u64, word: u64, kids: &[Ticket]) -> u64
     requires { (0 < heads) × (heads ≤ LARGE_MAX_HEADS) }
     ensures value { result ≡ chain_of heads word kids.now }

@@ -1,4 +1,4 @@
-// What C's operators on `int` and `unsigned int` make of two words (C99 6.5).
+//! What C's operators on `int` and `unsigned int` make of two words (C99 6.5).
 ghost use Rattle.std.specs.Prelude.{◌≡◌, ℕ, Option};
 ghost use Rattle.words.specs.C.{sum_of, difference_of, times_of, negation_of, left_shift_of, right_shift_of, is_below};
 
@@ -7,7 +7,7 @@ use crate::sign::Sign;
 
 /// C's operators on words of the types `int` (signed) and `unsigned int`. None is what C leaves undefined.
 impl Sign {
-    /// `a + b`: None where an `int` can't have the sum; unsigned modulo 2^32.
+    /// Returns `a + b`: None if an `int` can't have the sum; unsigned modulo 2^32.
     pub fn sum(self, a: u32, b: u32) -> Option<u32>
         ensures { result ≡ sum_of self a b }
     {
@@ -20,7 +20,7 @@ impl Sign {
         }
     }
 
-    /// `a - b`: None where an `int` can't have the difference; unsigned modulo 2^32.
+    /// Returns `a - b`: None if an `int` can't have the difference; unsigned modulo 2^32.
     pub fn difference(self, a: u32, b: u32) -> Option<u32>
         ensures { result ≡ difference_of self a b }
     {
@@ -33,7 +33,7 @@ impl Sign {
         }
     }
 
-    /// `a * b`: None where an `int` can't have the product; unsigned modulo 2^32.
+    /// Returns `a * b`: None if an `int` can't have the product; unsigned modulo 2^32.
     pub fn times(self, a: u32, b: u32) -> Option<u32>
         ensures { result ≡ times_of self a b }
     {
@@ -46,7 +46,7 @@ impl Sign {
         }
     }
 
-    /// `-a`: None for the least `int`; unsigned modulo 2^32.
+    /// Returns `-a`: None for the least `int`; unsigned modulo 2^32.
     pub fn negation(self, a: u32) -> Option<u32>
         ensures { result ≡ negation_of self a }
     {
@@ -59,8 +59,8 @@ impl Sign {
         }
     }
 
-    /// `a << amount`: None where the amount, read as a word, is 32 or more, for a negative `int`, and where an `int` can't
-    /// have the result; unsigned modulo 2^32.
+    /// Returns `a << amount`: None if the amount, read as a word, is 32 or more, for a negative `int`, and if an `int` can't have the
+    /// result; unsigned modulo 2^32.
     pub fn left_shift(self, a: u32, amount: u32) -> Option<u32>
         ensures { result ≡ left_shift_of self a amount }
     {
@@ -80,7 +80,7 @@ impl Sign {
         }
     }
 
-    /// `a >> amount`, keeping an `int`'s sign: None where the amount, read as a word, is 32 or more.
+    /// Returns `a >> amount`, keeping an `int`'s sign: None if the amount, read as a word, is 32 or more.
     pub fn right_shift(self, a: u32, amount: u32) -> Option<u32>
         ensures { result ≡ right_shift_of self a amount }
     {
@@ -93,7 +93,7 @@ impl Sign {
         }
     }
 
-    /// Whether `a < b`.
+    /// Reports whether `a < b`.
     pub fn is_below(self, a: u32, b: u32) -> bool
         ensures { result ≡ is_below self a b }
     {

@@ -1,4 +1,4 @@
-// The machine's operators on two words.
+//! The machine's operators on two words.
 ghost use Rattle.std.specs.Prelude.{◌≡◌, ℕ, ◌/◌, ◌%◌, ◌^◌, ◌<◌, Option};
 ghost use Rattle.words.specs.Operators.{value_of, slt, sltu, sra, nor, subu};
 
@@ -68,7 +68,7 @@ pub(crate) fn shift_keeping_sign(a: u32, amount: u32) -> u32
 }
 
 impl Operator {
-    /// The value at two words; None exactly for a division without one.
+    /// Returns the value at two words; None exactly for a division without one.
     #[inline(always)]
     pub fn value(self, a: u32, b: u32) -> Option<u32>
         ensures { result ≡ value_of self a b }

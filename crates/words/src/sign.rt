@@ -1,4 +1,4 @@
-// Signed or unsigned: how products, quotients and comparisons read words.
+//! Signed or unsigned: how products, quotients and comparisons read words.
 ghost use Rattle.std.specs.Prelude.{◌≡◌, ℕ, ◌↔◌, IsTrue, Option, ◌*ℤ◌};
 ghost use Rattle.words.specs.Operators.{has_quotient, quotient_of, remainder_of, product};
 
@@ -16,7 +16,7 @@ fn signed_product(a: i32, b: i32) -> i64
 }
 
 impl Sign {
-    /// Whether the division of `a` by `b` has a value: not by 0, and signed not -2147483648 by -1.
+    /// Reports whether the division of `a` by `b` has a value: not by 0, and signed not -2147483648 by -1.
     pub fn has_quotient(self, a: u32, b: u32) -> bool
         ensures { result ≡ has_quotient self a b }
     {
@@ -26,7 +26,7 @@ impl Sign {
         }
     }
 
-    /// The 64 bits of a product.
+    /// Returns the 64 bits of a product.
     pub fn product(self, a: u32, b: u32) -> u64
         ensures { result ≡ product self a b }
     {
@@ -36,7 +36,7 @@ impl Sign {
         }
     }
 
-    /// The quotient, toward zero, where there is one.
+    /// Returns the quotient, toward zero, if there is one.
     pub fn quotient(self, a: u32, b: u32) -> Option<u32>
         ensures { result ≡ quotient_of self a b }
     {
@@ -49,7 +49,7 @@ impl Sign {
         }
     }
 
-    /// The remainder, with the sign of `a`, where there is one.
+    /// Returns the remainder, with the sign of `a`, if there is one.
     pub fn remainder(self, a: u32, b: u32) -> Option<u32>
         ensures { result ≡ remainder_of self a b }
     {

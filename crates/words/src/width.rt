@@ -1,4 +1,4 @@
-// The two widths that memory is reached by: words and bytes.
+//! The two widths that memory is reached by: words and bytes.
 ghost use Rattle.std.specs.Prelude.{◌≡◌};
 ghost use Rattle.words.specs.Widths.{kept, words_of_elements};
 
@@ -12,7 +12,7 @@ pub enum Width {
 }
 
 impl Width {
-    /// What an element of this width keeps of a word.
+    /// Returns what an element of this width keeps of a word.
     #[inline]
     pub fn kept(self, w: u32) -> u32
         ensures { result ≡ kept self w }
@@ -23,7 +23,7 @@ impl Width {
         }
     }
 
-    /// The words that so many elements take: four bytes are one, and so are those that are left.
+    /// Returns the words that so many elements take: four bytes are one, and so are those that are left.
     pub fn words_of(self, length: u32) -> u32
         ensures { result ≡ words_of_elements self length }
     {
