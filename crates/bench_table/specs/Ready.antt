@@ -9,5 +9,5 @@ pub record IsReady (t : TableState) (w : Worker) : Type 0 where
   pub pass : IsOf t w.pass
   pub count : length w.leaves.items ≡ 1024
   pub terms : w.terms ≤ 1024 * 1024
-  pub last : w.until ≤ w.terms
+  pub last : w.part.until ≤ w.terms
   pub seen : All (HasSeenTerm label_coding w.pass) w.leaves.items

@@ -11,9 +11,10 @@ use std::env;
 
 fn main(rt: HostRuntime) -> anyhow::Result<()> {
     if env::args(&rt)?.len() > 1 {
-        tables::show_figures(&rt)?;
+        tables::show(&rt, tables::MIDDLE)?;
+        tables::show(&rt, tables::LARGE)?;
     } else {
-        tables::show_linked(&rt)?;
+        tables::show(&rt, tables::SMALL)?;
     }
     Ok(())
 }

@@ -7,7 +7,7 @@ ghost use Rattle.std.specs.Prelude.{◌*◌, ◌<◌, ◌≤◌, All, IfSome};
 ghost use Rattle.term_table.specs.Passes.{IsOf};
 ghost use Rattle.bench_table.specs.Ready.{IsReady};
 
-use crate::worker::{Order, Part, Start, Worker};
+use crate::worker::{Part, Start, Worker};
 use std::alloc::Global;
 use std::thread::Threads;
 use std::time::{Clock, Instant};
@@ -16,46 +16,42 @@ use term_table::{Pass, TermTable};
 
 /// Which terms each thread interns: a part of its own, or all of them, every other thread downward.
 #[derive(Clone, Copy)]
-enum Plan {
-    Divided,
-    DividedShuffled,
-    Shared,
-    SharedShuffled,
+struct Plan {
+    title: &'static str,
+    is_shared: bool,
+    is_shuffled: bool,
 }
 
-/// How many terms there are, how many a pass may link, over how many chains, and how many runs are made.
+#[rattlefmt::skip]
+const PLANS: [Plan; 4] = [
+    Plan { title: "terms divided among the threads, in order", is_shared: false, is_shuffled: false },
+    Plan { title: "terms divided among the threads, shuffled", is_shared: false, is_shuffled: true },
+    Plan { title: "all terms by each thread, in order", is_shared: true, is_shuffled: false },
+    Plan { title: "all terms by each thread, shuffled", is_shared: true, is_shuffled: true },
+];
+
+/// How many terms there are, how many a pass may link, over how many chains, how many runs are made, and whether they are timed.
 #[derive(Clone, Copy)]
-struct Setting {
+pub(crate) struct Setting {
     terms: u32,
     nodes: u64,
     chains: u64,
     runs: u32,
+    is_timed: bool,
     ghost few: { terms ≤ 1024 * 1024 },
 }
 
 /// What the gate compares.
-const SMALL: Setting = Setting {
-    terms: 2_000,
-    nodes: 4_096,
-    chains: 65_536,
-    runs: 1,
-};
+#[rattlefmt::skip]
+pub(crate) const SMALL: Setting = Setting { terms: 2_000, nodes: 4_096, chains: 65_536, runs: 1, is_timed: false };
 
 /// As many terms as `TermTable::open` has chains for.
-const MIDDLE: Setting = Setting {
-    terms: 200_000,
-    nodes: 262_144,
-    chains: 65_536,
-    runs: 15,
-};
+#[rattlefmt::skip]
+pub(crate) const MIDDLE: Setting = Setting { terms: 200_000, nodes: 262_144, chains: 65_536, runs: 15, is_timed: true };
 
 /// As many as `TermTable::open_large` is for.
-const LARGE: Setting = Setting {
-    terms: 1_000_000,
-    nodes: 1_048_576,
-    chains: 1_048_576,
-    runs: 5,
-};
+#[rattlefmt::skip]
+pub(crate) const LARGE: Setting = Setting { terms: 1_000_000, nodes: 1_048_576, chains: 1_048_576, runs: 5, is_timed: true };
 
 /// Returns where the part of worker `k` of `count` begins.
 fn cut(terms: u32, k: u32, count: u32) -> u32
@@ -69,25 +65,17 @@ fn cut(terms: u32, k: u32, count: u32) -> u32
 fn part_of(plan: Plan, terms: u32, k: u32, count: u32) -> Part
     requires { 0 < count }
 {
-    let order = match plan {
-        Plan::Divided => Order::Upward,
-        Plan::DividedShuffled => Order::Shuffled,
-        Plan::Shared if k % 2 == 1 => Order::Downward,
-        Plan::Shared => Order::Upward,
-        Plan::SharedShuffled if k % 2 == 1 => Order::ShuffledDownward,
-        Plan::SharedShuffled => Order::Shuffled,
+    let (from, until) = if plan.is_shared {
+        (0, terms)
+    } else {
+        let next = k.saturating_add(1);
+        (cut(terms, k, count), cut(terms, next, count))
     };
-    match plan {
-        Plan::Shared | Plan::SharedShuffled => Part {
-            from: 0,
-            until: terms,
-            order,
-        },
-        _ => Part {
-            from: cut(terms, k, count),
-            until: cut(terms, k.saturating_add(1), count),
-            order,
-        },
+    Part {
+        from,
+        until,
+        is_downward: plan.is_shared && k % 2 == 1,
+        is_shuffled: plan.is_shuffled,
     }
 }
 
@@ -136,7 +124,7 @@ fn staff(
     Some(workers)
 }
 
-/// Has each worker intern its terms in a thread of its own, and returns how long that took in nanoseconds.
+/// Has each worker intern its terms in a thread of its own. Returns the nanoseconds from when the first began to when the last ended.
 fn round<R: Threads + Sync + Clock>(
     rt: &R,
     table: &TermTable,
@@ -166,32 +154,37 @@ fn span(workers: &[Worker]) -> u128 {
     ended.saturating_sub(began)
 }
 
-/// Returns how many interns of the last round were answered with a ticket.
-fn answered(workers: &[Worker]) -> u64 {
-    let mut sum = 0u64;
-    for worker in workers {
-        sum = sum.saturating_add(worker.answered);
-    }
-    sum
-}
-
-/// Returns how many terms the passes linked.
-fn linked(workers: &[Worker]) -> u64 {
-    let mut sum = 0u64;
-    for worker in workers {
-        sum = sum.saturating_add(worker.pass.linked());
-    }
-    sum
-}
-
-/// What a run did: how many terms were linked, how many interns were answered, and how long the two
-/// rounds took, in nanoseconds.
+/// What a run did: how many terms were linked, how many interns were answered, and the nanoseconds of both rounds.
 #[derive(Clone, Copy)]
 struct Figures {
     linked: u64,
     answered: u64,
     first: u128,
     again: u128,
+}
+
+/// Runs two rounds, and returns what the workers did.
+fn two_rounds<R: Threads + Sync + Clock>(
+    rt: &R,
+    table: &TermTable,
+    workers: &mut [Worker],
+) -> io::Result<Figures>
+    requires { All (IsReady table.now) workers.old }
+{
+    let first = round(rt, table, workers)?;
+    let again = round(rt, table, workers)?;
+    let mut linked = 0u64;
+    let mut answered = 0u64;
+    for worker in workers {
+        linked = linked.saturating_add(worker.pass.linked());
+        answered = answered.saturating_add(worker.answered);
+    }
+    Ok(Figures {
+        linked,
+        answered,
+        first,
+        again,
+    })
 }
 
 /// Runs two rounds of `count` workers. None if memory ran out.
@@ -204,31 +197,14 @@ fn run<R: Threads + Sync + Clock>(
 ) -> io::Result<Option<Figures>>
     requires count { 0 < count }
 {
-    let Setting {
-        terms,
-        nodes,
-        chains,
-        ..
-    } = setting;
+    let Setting { nodes, chains, .. } = setting;
     let Ok((table, passes)) = TermTable::open_large(alloc, u64::from(count), nodes, chains) else {
         return Ok(None);
     };
-    let Some(mut workers) = staff(alloc, &table, passes, terms, plan, count) else {
+    let Some(mut workers) = staff(alloc, &table, passes, setting.terms, plan, count) else {
         return Ok(None);
     };
-    let first = round(rt, &table, &mut workers)?;
-    let again = round(rt, &table, &mut workers)?;
-    Ok(Some(Figures {
-        linked: linked(&workers),
-        answered: answered(&workers),
-        first,
-        again,
-    }))
-}
-
-/// Interns a second.
-fn rate(interns: u64, nanoseconds: u128) -> u128 {
-    u128::from(interns) * 1_000_000_000 / nanoseconds.max(1)
+    Ok(Some(two_rounds(rt, &table, &mut workers)?))
 }
 
 /// One plan by so many threads, and the fastest rounds so far.
@@ -252,16 +228,22 @@ fn faster(best: Option<Figures>, now: Figures) -> Figures {
     }
 }
 
-impl Row {
-    fn new(plan: Plan, count: u32) -> Row
-        requires { 0 < count }
-    {
-        Row {
-            plan,
-            count,
-            best: None,
+/// Returns a row for each plan by 1, 2 and 4 threads. None if memory ran out.
+fn rows(alloc: Global) -> Option<Vec<Row>> {
+    let mut rows = Vec::new(alloc);
+    for plan in PLANS {
+        for count in [1, 2, 4] {
+            let row = Row {
+                plan,
+                count,
+                best: None,
+            };
+            if rows.push(row).is_err() {
+                return None;
+            }
         }
     }
+    Some(rows)
 }
 
 /// Runs each row as often as the setting says, in turn: other work on the machine slows all rows alike.
@@ -272,28 +254,27 @@ fn measure<R: Threads + Sync + Clock>(
     setting: Setting,
 ) -> io::Result<()> {
     for _ in 0..setting.runs {
-        for at in 0..rows.len() {
-            let Row {
-                plan,
-                count,
-                best,
-                ..
-            } = rows[at];
-            if let Some(now) = run(rt, alloc, plan, count, setting)? {
-                rows[at].best = Some(faster(best, now));
+        for row in rows.iter_mut() {
+            if let Some(now) = run(rt, alloc, row.plan, row.count, setting)? {
+                row.best = Some(faster(row.best, now));
             }
         }
     }
     Ok(())
 }
 
-fn print_row<R: Print>(rt: &R, row: &Row, figures: bool) -> io::Result<()> {
+/// Returns interns a second.
+fn rate(interns: u64, nanoseconds: u128) -> u128 {
+    u128::from(interns) * 1_000_000_000 / nanoseconds.max(1)
+}
+
+fn print_row<R: Print>(rt: &R, row: &Row, is_timed: bool) -> io::Result<()> {
     let count = row.count;
     let Some(did) = row.best else {
         return println!(rt; "{count} threads: no memory");
     };
     println!(rt; "{count} threads: {} terms linked", did.linked)?;
-    if !figures {
+    if !is_timed {
         return Ok(());
     }
     let first = rate(did.answered, did.first);
@@ -301,63 +282,21 @@ fn print_row<R: Print>(rt: &R, row: &Row, figures: bool) -> io::Result<()> {
     println!(rt; "  {first:>12} a second at first {again:>12} a second again")
 }
 
-/// Prints the rows, three of each plan, each three under their plan's title.
-fn print_rows<R: Print>(rt: &R, rows: &[Row], figures: bool) -> io::Result<()> {
-    for (at, row) in rows.iter().enumerate() {
-        if at % 3 == 0 {
-            println!(rt; "{}:", title(row.plan))?;
-        }
-        print_row(rt, row, figures)?;
-    }
-    Ok(())
-}
-
-/// Measures and prints all plans by 1, 2 and 4 threads.
-fn show<R: Threads + Sync + Clock + Print + AllocGlobal>(
+/// Measures all plans, and prints of each how many terms were linked, which is the same in every run, and perhaps interns a second.
+pub(crate) fn show<R: Threads + Sync + Clock + Print + AllocGlobal>(
     rt: &R,
     setting: Setting,
-    figures: bool,
 ) -> io::Result<()> {
-    let mut rows = [
-        Row::new(Plan::Divided, 1),
-        Row::new(Plan::Divided, 2),
-        Row::new(Plan::Divided, 4),
-        Row::new(Plan::DividedShuffled, 1),
-        Row::new(Plan::DividedShuffled, 2),
-        Row::new(Plan::DividedShuffled, 4),
-        Row::new(Plan::Shared, 1),
-        Row::new(Plan::Shared, 2),
-        Row::new(Plan::Shared, 4),
-        Row::new(Plan::SharedShuffled, 1),
-        Row::new(Plan::SharedShuffled, 2),
-        Row::new(Plan::SharedShuffled, 4),
-    ];
+    let Some(mut rows) = rows(rt.alloc()) else {
+        return println!(rt; "no memory");
+    };
     measure(rt, rt.alloc(), &mut rows, setting)?;
-    print_rows(rt, &rows, figures)
-}
-
-/// Prints how many terms the passes linked together, which is the same in every run.
-pub(crate) fn show_linked<R: Threads + Sync + Clock + Print + AllocGlobal>(
-    rt: &R,
-) -> io::Result<()> {
-    show(rt, SMALL, false)
-}
-
-/// Interns a second, the fastest of some runs, of 200,000 terms and of 1,000,000.
-pub(crate) fn show_figures<R: Threads + Sync + Clock + Print + AllocGlobal>(
-    rt: &R,
-) -> io::Result<()> {
-    println!(rt; "200,000 terms")?;
-    show(rt, MIDDLE, true)?;
-    println!(rt; "1,000,000 terms")?;
-    show(rt, LARGE, true)
-}
-
-fn title(plan: Plan) -> &'static str {
-    match plan {
-        Plan::Divided => "terms divided among the threads, in order",
-        Plan::DividedShuffled => "terms divided among the threads, shuffled",
-        Plan::Shared => "all terms by each thread, in order",
-        Plan::SharedShuffled => "all terms by each thread, shuffled",
+    println!(rt; "{} terms", setting.terms)?;
+    for row in &rows {
+        if row.count == 1 {
+            println!(rt; "{}:", row.plan.title)?;
+        }
+        print_row(rt, row, setting.is_timed)?;
     }
+    Ok(())
 }

@@ -18,15 +18,6 @@ pub const LEAVES: u32 = 1024;
 /// How long a thread is busy before a round begins, in nanoseconds.
 const WARM_UP: u128 = 20_000_000;
 
-/// In which order a worker goes through the terms.
-#[derive(Clone, Copy)]
-pub enum Order {
-    Upward,
-    Downward,
-    Shuffled,
-    ShuffledDownward,
-}
-
 /// Where the workers of a round wait for one another, so that the start of threads isn't measured.
 #[derive(Drop)]
 pub struct Start {
@@ -76,23 +67,22 @@ impl Start {
     }
 }
 
-/// The terms from `from` on and below `until`, as they come in an order.
+/// The terms from `from` on and below `until`, as they come in an order: upward or downward, of the numbers or shuffled.
 #[derive(Clone, Copy)]
 pub struct Part {
     pub from: u32,
     pub until: u32,
-    pub order: Order,
+    pub is_downward: bool,
+    pub is_shuffled: bool,
 }
 
-/// A pass, the tickets of its leaves, how many terms there are and which are its own, and when its last round began and ended.
+/// A pass, the tickets of its leaves, how many terms there are, its own part of them, and when its last round began and ended.
 #[derive(Drop)]
 pub struct Worker {
     pub pass: Pass,
     pub leaves: Vec<Ticket>,
     pub terms: u32,
-    pub from: u32,
-    pub until: u32,
-    pub order: Order,
+    pub part: Part,
     pub answered: u64,
     pub began: u128,
     pub ended: u128,
@@ -121,9 +111,10 @@ impl Worker {
             pass,
             leaves,
             terms,
-            from: part.from,
-            until: part.until.min(terms),
-            order: part.order,
+            part: Part {
+                until: part.until.min(terms),
+                ..part
+            },
             answered: 0,
             began: 0,
             ended: 0,
@@ -143,14 +134,14 @@ impl Worker {
         self.ended = start.nanoseconds(clock);
     }
 
-    /// Interns each of its terms once.
+    /// Interns each of its terms once, and counts the tickets.
     fn intern_terms(&mut self, table: &TermTable)
         requires { IsReady table.now self.old }
         ensures { IsReady table.now self.new }
     {
         let mut answered = 0u64;
-        for i in self.from..self.until {
-            let n = term_at(self.order, self.terms, i);
+        for i in self.part.from..self.part.until {
+            let n = term_at(self.part, self.terms, i);
             if self.intern_pair(table, n) {
                 answered = answered.saturating_add(1);
             }
@@ -163,7 +154,7 @@ impl Worker {
         requires ready { IsReady table.now self.old }
         requires term { n < self.old.terms }
         ensures ready { IsReady table.now self.new }
-        ensures part { (self.new.terms ≡ self.old.terms) × (self.new.until ≡ self.old.until) }
+        ensures part { (self.new.terms ≡ self.old.terms) × (self.new.part ≡ self.old.part) }
     {
         let first = self.leaves[(n / LEAVES) as usize];
         let second = self.leaves[(n % LEAVES) as usize];
@@ -174,23 +165,16 @@ impl Worker {
 }
 
 /// Returns the term that comes at `i` of so many. The multiplier has no divisor in common with 2,000, 200,000 and 1,000,000.
-fn term_at(order: Order, terms: u32, i: u32) -> u32
+fn term_at(part: Part, terms: u32, i: u32) -> u32
     requires { i < terms }
     ensures { result < terms }
 {
-    match order {
-        Order::Upward => i,
-        Order::Downward => terms - 1 - i,
-        Order::Shuffled => shuffled(terms, i),
-        Order::ShuffledDownward => shuffled(terms, terms - 1 - i),
+    let n = if part.is_downward { terms - 1 - i } else { i };
+    if part.is_shuffled {
+        (u64::from(n) * 123_607 % u64::from(terms)) as u32
+    } else {
+        n
     }
-}
-
-fn shuffled(terms: u32, i: u32) -> u32
-    requires { i < terms }
-    ensures { result < terms }
-{
-    (u64::from(i) * 123_607 % u64::from(terms)) as u32
 }
 
 /// Interns one leaf more.
