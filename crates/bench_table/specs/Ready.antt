@@ -1,4 +1,4 @@
--- What a worker needs: its pass is the table's and has seen each leaf, there are enough leaves for the terms, and its part is of them.
+-- What a worker needs: its pass is the table's and has seen each leaf. There are enough leaves for the terms, and its part is of them.
 use Rattle.std.specs.Prelude.{◌≡◌, ◌*◌, ◌≤◌, length, All}
 use Rattle.term_table.specs.Passes.{TableState, IsOf}
 use Rattle.term_table.specs.Terms.{HasSeenTerm}

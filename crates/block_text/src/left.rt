@@ -308,8 +308,8 @@ fn lines_of(alloc: Global, left: &mut Left, depth: u32) -> Result<String, AllocE
     out.end()
 }
 
-/// Returns what a block leaves: a line for each register, HI, LO and memory that changes, its term cut at a depth; one for the exit, one
-/// for the guards.
+/// Returns what a block leaves: a line for each register, HI, LO and memory that changes, its term cut at a depth. The exit has one line,
+/// and so have the guards.
 pub fn left_lines(alloc: Global, block: &Block, depth: u32) -> Result<String, ReadFault> {
     let mut left = left_of(alloc, Code::Block(block))?;
     let lines = lines_of(alloc, &mut left, depth)?;

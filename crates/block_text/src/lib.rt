@@ -1,10 +1,10 @@
-//! Blocks and orders as text: the check text that is read, lines for people, and what a block leaves in each place, read out of the
+//! Blocks and orders as text: the check text that is read, and lines for people. What a block leaves in each place is read out of the
 //! validator's own table.
 //!
 //! Definitions: `specs/Whole.antt`, `specs/Shown.antt`, `specs/Written.antt`, `specs/Readers.antt`.
 //! Contract: `read`, `page_of`, `Writer`
-//! - `read` gives the block and the order exactly if the check text spells them, memory aside, and else the first line that can't be in its
-//!   place.
+//! - `read` gives the block and the order exactly if the check text spells them, memory aside. Else it gives the first line that can't be
+//!   in its place.
 //! - What `page_of` gives is printable ASCII and line ends.
 //! - A `Writer` writes what it is given, or reports refused memory.
 #![tactic(auto)]

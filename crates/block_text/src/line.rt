@@ -99,8 +99,8 @@ fn targets(name: ExitName, text: &[u8]) -> Option<Exit>
     }
 }
 
-/// Returns the exit that the line spells, if it spells one: `goto T`, `beq $s,$t,T,E` (`bne`), `blez $s,T,E` (`bgtz`, `bltz`, `bgez`),
-/// `call F,N`, `return`, `out N` or `halt`, with numbers of blocks below 2^20.
+/// Returns the exit that the line spells, if it spells one. It is `goto T`, `beq $s,$t,T,E` (`bne`), `blez $s,T,E` (`bgtz`, `bltz`,
+/// `bgez`), `call F,N`, `return`, `out N` or `halt`. Numbers of blocks are below 2^20.
 pub fn exit_of(line: &[u8]) -> Option<Exit>
     ensures found { IfSome result (SpellsExit line.now) }
     ensures only { (e : Exit) → SpellsExit line.now e → result ≡ Some e }

@@ -124,8 +124,9 @@ fn step(alloc: Global, place: Stage, line: &[u8]) -> Result<Option<Stage>, Alloc
     }
 }
 
-/// Returns the block and the order that the text, of at most 2^20 bytes, spells: a line `block`, at most 512 instructions, an exit; a line
-/// `order`, at most 2,048 instructions, an exit, and a line `slot I` with an instruction unless the exit is `out` or `halt`.
+/// Returns the block and the order that the text, of at most 2^20 bytes, spells. Its block is a line `block`, at most 512 instructions and
+/// an exit. Its order is a line `order`, at most 2,048 instructions and an exit. A line `slot I` with an instruction follows unless the
+/// exit is `out` or `halt`.
 pub fn read(alloc: Global, text: &[u8]) -> Result<Text, PairFault>
     requires { length text.now ≤ 2 ^ 20 }
     ensures found { IfOk result (λ t. SpellsPair (lines_of text.now) t.block t.order) }

@@ -45,8 +45,8 @@ pub(crate) struct Open {
     pub(crate) waiting: Vec<Ticket>,
 }
 
-/// Reads the terms of what a block or an order leaves. Its roots are, in this order: registers 0 to 31, HI, LO, memory, what the
-/// exit reads, and for each guard its address, or dividend and divisor.
+/// Reads the terms of what a block or an order leaves. Its roots are, in this order, registers 0 to 31, HI, LO, memory and what the exit
+/// reads. Then come the roots of each guard: its address, or dividend and divisor.
 #[derive(Drop)]
 pub struct TermReader {
     open: Open,

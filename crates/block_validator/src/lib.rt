@@ -3,8 +3,8 @@
 //! Definitions: `specs/Same.antt`, `specs/Verdicts.antt`.
 //! Contract: `validate`, `validate_from`, `Checked::order`, `one_verdict`, `checked_orders_mean_their_blocks`
 //! - `validate` and `validate_from` give exactly the verdict: the least broken rule, else the first place that differs, else `same`.
-//! - A `Checked` order means its block: from every start state, it isn't stuck where the block isn't, and leaves the same registers, HI,
-//!   LO, memory and exit.
+//! - A `Checked` order means its block from every start state. It isn't stuck where the block isn't, and leaves the same registers, HI, LO,
+//!   memory and exit.
 //! - `Full` comes only if one of the terms that block and order ask for isn't in the table. The call links no more terms than they may.
 #![tactic(auto)]
 

@@ -55,8 +55,8 @@ impl<'a> Checked<'a> {
         self.block
     }
 
-    /// Returns the order. From every start state of words, and whatever link a call would put in: where the block isn't stuck, the order
-    /// isn't, and leaves equal registers, HI, LO, memory and exit.
+    /// Returns the order. This holds from every start state of words, and whatever link a call would put in. Where the block isn't stuck,
+    /// the order isn't, and leaves equal registers, HI, LO, memory and exit.
     pub fn order(&self) -> &Order
         ensures value { result.now ≡ self.now.order }
         ensures clean { IsClean self.now.order }
@@ -162,8 +162,8 @@ fn verdict_of<'a>(
     }
 }
 
-/// Returns the verdict on an order for a block: the least delay rule that it breaks, else the first place whose terms differ, else that it
-/// means the block.
+/// Returns the verdict on an order for a block. It is the least delay rule that it breaks, else the first place whose terms differ, else
+/// that it means the block.
 ///
 /// Memory is taken before any term is linked: where it is refused or a rule is broken, the pass is as it was. `Full` comes only if the
 /// pass has linked all it may and a term that block or order asks for isn't in the table. Whatever the verdict, the terms that were
@@ -197,7 +197,7 @@ pub fn validate<'a>(
     verdict_of(block, order, compared)
 }
 
-/// Returns the verdict on an order for a block, as `validate` gives it, from a start whose terms the pass knows: they are made once for
+/// Returns the verdict on an order for a block, as `validate` gives it, from a start whose terms the pass knows. These are made once for
 /// many blocks.
 pub fn validate_from<'a>(
     alloc: Global,

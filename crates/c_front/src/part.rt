@@ -1,4 +1,4 @@
-//! What any part of a program is read with: the mark after it, a box for it, the part before it, and its place in a list.
+//! What any part of a program is read with: the mark after it, a box, the part before it, and its place in a list.
 
 ghost use Rattle.std.specs.Prelude.{◌≡◌, IfOk, IfErr, Ok, Err};
 ghost use Rattle.c_front.specs.Ends.{IsEnded, IsJoined, IsPushed, IsUnended, StopsAs};

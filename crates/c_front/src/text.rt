@@ -119,11 +119,11 @@ fn syntactic(alloc: Global, fault: SyntaxFault, text: &[u8]) -> FrontFault
     }
 }
 
-/// Returns the program that a text spells (C99 6.4 to 6.9, in the profile of `specs/Grammar.antt`), or why it is refused: first its length
+/// Returns the program that a text spells (C99 6.4 to 6.9, in the profile of `specs/Grammar.antt`), or why it is refused. First its length
 /// is tested, then its bytes, then its tokens with their constants and sizes, then their order.
 ///
-/// It descends into the text: about 1,400 bytes of stack for each nested statement, of which the sizes allow about
-/// 163,000, and as much to drop the program. Read a hostile text on a thread with 256 MB of stack.
+/// It descends into the text: about 1,400 bytes of stack for each nested statement, and as much to drop the program. The sizes allow about
+/// 163,000 nested statements. Read a hostile text on a thread with 256 MB of stack.
 pub fn read(alloc: Global, text: &[u8]) -> Result<Program, FrontFault>
     ensures ok { IfOk result (λ p. SpellsText text.now (declarations_of p.declarations.items)) }
     ensures text { IfOk result (λ p. p.text.items ≡ text.now) }

@@ -18,8 +18,8 @@ abbrev pub run_behind : TypedProgram → (depth : ℕ) → Option End → Run �
 run_behind p depth None s n = outcome (source_steps p depth n s)
 run_behind p depth (Some end) s n = record { end = end; output = (outcome s).output }
 
--- so many steps were done, at most as many as were asked for: with fewer of them the run would go on, and a run of these and n more is
--- a run of n after these
+-- so many steps were done, at most as many as were asked for. With fewer of them the run would go on, and a run of these and n more is a
+-- run of n after these
 pub record WentOn (p : TypedProgram) (depth asked : ℕ) (old new : Run) (end : Option End) (steps : ℕ) : Type 0 where
   pub within : steps ≤ asked
   pub before : (k : ℕ) → k < steps → (outcome (source_steps p depth k old)).end ≡ More

@@ -20,7 +20,7 @@ pub enum Pending<'a> {
     Turn(&'a TypedStatement, &'a TypedStatement, &'a [TypedStatement]),
 }
 
-/// What a call still has to do: what is left of the list that it is in, and what waits after it, the first one last.
+/// What a call still has to do: what is left of the list that it is in, and what waits after that. The first one to do stands last.
 #[derive(Drop)]
 pub struct Agenda<'a> {
     pub list: &'a [TypedStatement],

@@ -7,8 +7,8 @@ pub fn values_are_words()
     ensures { ValuesAreWords }
 {}
 
-/// States that the elements of a global fit its width, so one of an array of bytes is read as a number from 0 to 255. A law: it computes
-/// nothing.
+/// States that the elements of a global fit its width. So an element of an array of bytes is read as a number from 0 to 255. A law: it
+/// computes nothing.
 pub fn elements_fit_their_widths()
     ensures { ElementsFitTheirWidths }
 {}

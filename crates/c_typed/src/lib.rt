@@ -2,7 +2,7 @@
 //!
 //! Definitions: `specs/Trees.antt`, `specs/Values.antt`, `specs/Meaning.antt`.
 //! Contract: `values_are_words`, `elements_fit_their_widths`, `runs_go_on_from_where_they_are`
-//! - Laws of the meaning of typed programs: each value is a word, an element fits its global, and runs go on from where they are.
+//! - Laws of the meaning of typed programs. Each value is a word, an element fits its global, and runs go on from where they are.
 #![tactic(auto)]
 
 mod laws;

@@ -28,9 +28,9 @@ pub enum Destination {
     Global(usize),
 }
 
-/// A statement whose names are numbers (C99 6.8). `Unset` is a declaration without a first value. `Call` has the place
-/// that its result goes to, if it goes anywhere, the function and the arguments. `Loop` has its test, its last part and
-/// its body: a `while` has an empty last part, and a `for` is the block of its first part and the loop.
+/// A statement whose names are numbers (C99 6.8). `Unset` is a declaration without a first value. `Call` has the place that its result goes
+/// to, if it goes anywhere, the function and the arguments. `Loop` has its test, its last part and its body. A `while` has an empty last
+/// part, and a `for` is the block of its first part and the loop.
 #[derive(Drop, PartialEq)]
 pub enum TypedStatement {
     Empty,
@@ -47,9 +47,9 @@ pub enum TypedStatement {
     Return(Option<TypedExpression>),
 }
 
-/// A function: the type of its result, if it has one, and the numbers of its parameters and of all its locals, parameters first; and its
-/// body. The last statement is the return at the end brace of a function without result, or the `return 0` at that of `main`. Control never
-/// leaves the body otherwise.
+/// A function: the type of its result, if it has one, the numbers of its parameters and of all its locals, and its body. Parameters are the
+/// first locals. The last statement is the return at the end brace of a function without result, or the `return 0` at that of `main`.
+/// Control never leaves the body otherwise.
 #[derive(Drop)]
 pub struct Function {
     pub result: Option<IntegerType>,

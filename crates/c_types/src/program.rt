@@ -243,8 +243,8 @@ fn type_program(alloc: Global, program: &Program) -> Result<Typed, TypeStop>
     Ok(Typed::new(parts.functions, parts.globals, main))
 }
 
-/// Returns the typed program of a program that was read, exactly if it has no fault; else the fault with the least offset, and of these the
-/// least number. If memory runs out that is told in place of any of these, at the text's length.
+/// Returns the typed program of a program that was read, exactly if it has no fault. Else it returns the fault with the least offset, and
+/// of these the least number. If memory runs out that is told in place of any of these, at the text's length.
 pub fn check(alloc: Global, program: &Program) -> Result<Typed, TypeFault>
     ensures ok { IfOk result (λ t. TypesProgram program.now.text.items (declarations_of program.now.declarations.items) (program_of t)) }
     ensures none { IfOk result (λ t. HasNone (FaultyProgram program.now.text.items (declarations_of program.now.declarations.items))) }

@@ -4,9 +4,9 @@ ghost use Rattle.std.specs.Prelude.{◌≡◌};
 use c_typed::{Function, Global};
 use std::marker::Model;
 
-/// A program whose names are numbers: its functions and globals in order, and the number of `main`. Only
-/// `program::check` makes one, of a program without faults. So it is well formed: names stand for what is there, calls
-/// fit their functions, jumps stand in loops, and the sizes are within the limits.
+/// A program whose names are numbers: its functions and globals in order, and the number of `main`. Only `program::check` makes one, of a
+/// program without faults. So it is well formed. Names stand for what is there, calls fit their functions, jumps stand in loops, and the
+/// sizes are within the limits.
 #[derive(Drop)]
 pub struct Typed {
     functions: Vec<Function>,

@@ -16,8 +16,8 @@ use Rattle.check_command.specs.declared.verdicts.CheckAnswer.TheVariants as answ
 use Rattle.check_command.specs.declared.verdicts.CheckFault.{CheckFault}
 use Rattle.check_command.specs.declared.totals.Totals.{Totals}
 
--- what became of one of the files: its text has an answer, with the lines after that, or an answer for whose lines memory was
--- refused, or a fault; or it couldn't be read
+-- what became of one of the files: its text has an answer, with the lines after that, or a fault. Or memory was refused for the lines of
+-- its answer, or it couldn't be read
 pub data CheckedFile : Type 0 where
   Answered : (name text : List ℕ) (answer : CheckAnswer) (more : List ℕ) → CheckedFile
   Unexplained : (name text : List ℕ) (answer : CheckAnswer) → CheckedFile
@@ -137,7 +137,7 @@ abbrev pub first_told : List (List ℕ) → List ℕ
 first_told [] = host_fault_text CannotWrite
 first_told (line ∷ lines) = line
 
--- standard output refused the lines of one of the files, or to send them on: the files up to it were read, and none after it. The first
+-- standard output refused the lines of one of the files, or to send them on. The files up to it were read, and none after it. The first
 -- line that was told is that of the first fault of these files, or of that refusal
 pub data BreaksOff (explain : Bool) (names : List (List ℕ)) (silent refused : Type 0) : List Request → List ℕ → Type 0 where
   breaks : (files : List CheckedFile) (rest : List (List ℕ)) → All (IsRight explain) files → map name_of files ++ rest ≡ names → refused

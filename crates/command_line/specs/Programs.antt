@@ -28,7 +28,7 @@ HasHelp kinds = (kind : ErrorKind) × IsAmong kind kinds × IsHelp kind
 abbrev pub HasMistake : Kinds → Type 0
 HasMistake kinds = (kind : ErrorKind) × IsAmong kind kinds × IsMistake kind
 
--- how a program ends by words that aren't a command: by 0 with the help, by 1 with a fault, or by 2 where they are wrong
+-- how a program ends by words that aren't a command. It is by 0 with the help, by 1 with a fault, or by 2 where they are wrong
 abbrev pub EndsUntaken : Kinds → (status : ℕ) → Type 0
 EndsUntaken kinds status = ((status ≡ 0) × HasHelp kinds) ⊎ (status ≡ 1) ⊎ ((status ≡ 2) × HasMistake kinds)
 

@@ -5,9 +5,9 @@ ghost use Rattle.term_table.specs.Passes.{InRange};
 
 use commands::WordForm;
 
-/// What is asked of a build: the C program of a file, and the file of its image, made for `depth` active calls at most (1 to 4096).
-/// `plain` leaves every block in its own order; else at most `workers` (1 to `MAX_PASSES`) put the blocks in order. Their table has
-/// `nodes` terms for each (1 to `MAX_NODES`) and `heads` chains (1 to `MAX_HEADS`).
+/// What is asked of a build: the C program of a file, and the file of its image. It is made for `depth` active calls at most (1 to 4096).
+/// `plain` leaves every block in its own order; else at most `workers` (1 to `MAX_PASSES`) put the blocks in order. Their table has `nodes`
+/// terms for each (1 to `MAX_NODES`) and `heads` chains (1 to `MAX_HEADS`).
 #[derive(Clone, Copy)]
 pub struct AskedBuild<'a> {
     pub source: &'a str,
@@ -89,7 +89,7 @@ pub enum Command<'a> {
         asm: bool,
     },
     /// What becomes of a C program at one stage (`rtl`, `homes`, `blocks`, `orders`, `check`, `terms`, `listing`, `asm`), or at three if
-    /// none is named; of one function, or of all; of one block, or of all; `dot` asks for graphs.
+    /// none is named. It is of one function or of all, and of one block or of all. `dot` asks for graphs.
     Show {
         source: &'a str,
         stage: Option<&'a str>,

@@ -267,8 +267,8 @@ fn matches_of<'a>(alloc: Global, words: &'a [&'a str]) -> Result<ArgMatches<'a>,
     command.try_get_matches_from(words)
 }
 
-/// Finds what the words ask for; the first is the program's name. An error is clap's, of the first kind of fault that
-/// its grammar has for them: help, wrong words, or out of memory, which is all that it can be where clap takes the words.
+/// Finds what the words ask for; the first is the program's name. An error is clap's, of the first kind of fault that its grammar has for
+/// them: help, wrong words, or out of memory. Where clap takes the words it can only be out of memory.
 pub fn words<'a>(alloc: Global, words: &'a [&'a str]) -> Result<Command<'a>, Error>
     ensures kinds { FailsBy (fault_of mcc_app (map (λ s. s.now) words.entry.now)) result }
     ensures command { IfOk result (IsCommand (map (λ s. s.now) words.entry.now)) }

@@ -1,5 +1,5 @@
--- What a command over one file asks of its files, prints and tells. Its own parts: the answers and the faults that the file's bytes
--- may have, what is printed of an answer, its status, and the line of a fault.
+-- What a command over one file asks of its files, prints and tells. Its own parts are the answers and faults that the bytes may have, what
+-- an answer prints, its status, and a fault's line.
 use Rattle.std.specs.Prelude.{◌≡◌, ℕ, List, [], ◌∷◌, Option}
 use Rattle.std.specs.Io.KnownBytes.{Appends}
 use Rattle.commands.specs.Requests.{LeavesOutput, Request, reading_fault}
@@ -27,8 +27,8 @@ pub record AnswersFile {A : Type 0} (Answers : List ℕ → A → Type 0) (Print
   pub prints : Prints answer printed
   pub ends : status ≡ status_of answer
 
--- the same where it ended by a fault, with the text that was told: of the file or of its bytes, and standard output is as it was; or
--- of what an answer was printed on
+-- the same where it ended by a fault, with the text that was told. The fault is of the file or of its bytes, and standard output is as it
+-- was, or of what an answer was printed on
 pub data StopsFile {A B : Type 0} (Answers : List ℕ → A → Type 0) (Faults : List ℕ → B → Type 0) (line : B → List ℕ)
     (Unprinted : HostFault → Type 0) (file : List ℕ) (silent refused : Type 0) : List Request → List ℕ → Type 0 where
   unread : (fault : FileFault) → silent

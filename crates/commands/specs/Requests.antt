@@ -24,8 +24,8 @@ abbrev pub writing_fault : FileFault → HostFault
 writing_fault file_faults.Failed = host_faults.CannotWrite
 writing_fault file_faults.NoMemory = host_faults.NoMemory
 
--- what a host's parts have of their own: how files answer a request; what standard output holds, and when it sends that on and when it
--- refuses; how standard error takes what it is told
+-- what a host's parts have of their own: how files answer a request, and how standard error takes what it is told. Of standard output it is
+-- what it holds, when it sends that on, and when it refuses
 pub record Relations (F W E : Type 0) : Type 1 where
   pub answers : F → Request → F → Type 0
   pub contents : W → Option (List ℕ)
@@ -47,8 +47,7 @@ relations answers contents sends refuses tells =
 abbrev pub host_of : {F W E : Type 0} → F → W → E → HostState F W E
 host_of files out err = record { files = files; out = out; err = err }
 
--- what a command did: all that it asked of its files, in order, and the bytes that its standard output took, which are as Means
--- says
+-- what a command did: all that it asked of its files, in order, and the bytes that its standard output took. They are as Means says
 pub record Does {F W E : Type 0} (by : Relations F W E) (old new : HostState F W E) (Means : List Request → List ℕ → Type 0) : Type 0 where
   pub requests : List Request
   pub printed : List ℕ
@@ -82,8 +81,8 @@ TellsBeside tells old Remarks new = (told : List (List ℕ)) × FoldsTo tells ol
 abbrev pub IsNothing : List (List ℕ) → Type 0
 IsNothing told = told ≡ []
 
--- what a command did that ended by a fault: all that it asked of its files, and the line that it told, which are as Means says. That
--- also says whether standard output is as it was, or refused what it was asked last
+-- what a command did that ended by a fault: all that it asked of its files, and the line that it told. They are as Means says. That also
+-- says whether standard output is as it was, or refused what it was asked last
 pub record Asks {F W E : Type 0} (by : Relations F W E) (old new : HostState F W E)
     (Means : (silent refused : Type 0) → List Request → List ℕ → Type 0) : Type 0 where
   pub requests : List Request
@@ -92,8 +91,8 @@ pub record Asks {F W E : Type 0} (by : Relations F W E) (old new : HostState F W
   pub told : TellsLine by.tells old.err text new.err
   pub means : Means (new.out ≡ old.out) (WasRefused by.refuses new.out) requests text
 
--- what a command did that memory was refused to once it had begun to print: all that it asked of its files, and the bytes that its
--- standard output took until then, which are as Begins says; and it told fault 30
+-- what a command did that memory was refused to once it had begun to print. It is all that it asked of its files, and the bytes that its
+-- standard output took until then, as Begins says. It told fault 30
 pub record StopsMidway {F W E : Type 0} (by : Relations F W E) (old new : HostState F W E) (Begins : List Request → List ℕ → Type 0) : Type 0 where
   pub requests : List Request
   pub printed : List ℕ
@@ -102,15 +101,15 @@ pub record StopsMidway {F W E : Type 0} (by : Relations F W E) (old new : HostSt
   pub told : TellsLine by.tells old.err (host_fault_text host_faults.NoMemory) new.err
   pub begins : Begins requests printed
 
--- a command: what it asks and prints with an answer, what it asks and tells where it ends by a fault, what it asked and printed where memory
--- was refused once it had begun, and what it tells beside an answer
+-- a command: what it asks and prints with an answer, and what it asks and tells where it ends by a fault. It also says what was asked and
+-- printed where memory was refused once it had begun, and what it tells with an answer
 pub record Meaning : Type 1 where
   pub Answers : (status : ℕ) → List Request → List ℕ → Type 0
   pub Stops : (silent refused : Type 0) → List Request → List ℕ → Type 0
   pub Begins : List Request → List ℕ → Type 0
   pub Remarks : (status : ℕ) → List (List ℕ) → Type 0
 
--- a command did as it means, by its status: 1 is that of a fault, and 2 that of wrong words, where nothing need be sent on
+-- a command did as it means, by its status. Status 1 is that of a fault, and 2 that of wrong words, where nothing need be sent on
 pub record Ran {F W E : Type 0} (by : Relations F W E) (old new : HostState F W E) (m : Meaning) (status : ℕ) : Type 0 where
   pub answered : status ≢ 1 → Does by old new (m.Answers status)
   pub sent : status ≢ 1 → status ≢ 2 → IsSent by.sends new.out

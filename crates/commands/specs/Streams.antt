@@ -22,8 +22,8 @@ pub record IsBeginning {A : Type 0} (Answers : A → Type 0) (Prints : A → Lis
   pub rest : List ℕ
   pub prints : Prints answer (printed ++ rest)
 
--- what it left that broke off: by a fault of the bytes nothing was printed; where memory was refused later standard output took a
--- beginning; or it refused what it was asked last
+-- what it left that broke off. By a fault of the bytes nothing was printed. Where memory was refused later, standard output took a
+-- beginning, or it refused what it was asked last
 abbrev pub BreaksBy : {A B : Type 0} → (Answers : A → Type 0) → (Prints : A → List ℕ → Type 0) → (Faults : B → Type 0)
     → (old new : Option (List ℕ)) → (silent refused : Type 0) → Broken B → Type 0
 BreaksBy Answers Prints Faults old new silent refused (Faulty fault) = Faults fault × silent

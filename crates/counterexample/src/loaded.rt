@@ -42,7 +42,7 @@ fn put_loaded(
     Ok(())
 }
 
-/// Returns the addresses of the words of memory that block and order load from a start, wholly or a byte of them: what these held then, and
+/// Returns the addresses of the words of memory that block and order load from a start, wholly or a byte of them. What these held then, and
 /// the registers, tell what both do.
 pub fn loaded_words(
     alloc: Global,

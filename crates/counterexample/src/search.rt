@@ -54,7 +54,7 @@ fn extreme(word: u32) -> u32 {
     }
 }
 
-/// Returns a word of the kind that a start has: an address near the base, 0 or 1 or an extreme word, one of all these, any word.
+/// Returns a word of the kind that a start has: an address near the base, 0, 1, an extreme word, or any word.
 fn word_of_kind(kind: u32, base: u32, word: u32) -> u32 {
     let near = base.wrapping_add((word >> 8) & 0x7c);
     match (kind, word >> 30) {
@@ -206,8 +206,8 @@ fn start_number(
     Ok(start)
 }
 
-/// Returns how many starts are tried for a block: fewer for a long one, and for one with many accesses, since a byte of memory takes as
-/// long as there are stores.
+/// Returns how many starts are tried for a block: fewer for a long one, and for one with many accesses. A byte of memory takes as long as
+/// there are stores.
 fn starts_for(block: &Block) -> u32 {
     let mut insts: u32 = 1;
     let mut accesses: u32 = 0;
@@ -243,7 +243,7 @@ fn witness_of(
     }
 }
 
-/// Returns one of these starts that refutes that the order means the block; None if from each of them the order does what the block does,
+/// Returns one of these starts that refutes that the order means the block. None if from each of them the order does what the block does,
 /// if that isn't stuck. `Err` only if memory runs out.
 pub fn find_among(
     alloc: Global,

@@ -43,7 +43,7 @@ fn tried(
     Ok(found(&left, &ordered))
 }
 
-/// Reports whether this start and link refute that the order means the block, and by what: from there the block isn't stuck, and the order
+/// Reports whether this start and link refute that the order means the block, and by what. From there the block isn't stuck, and the order
 /// is stuck or leaves another register, HI, LO, byte of memory or exit. None if the block is stuck from there or the order does what the
 /// block does. `Err` only if memory runs out.
 pub fn refute(

@@ -50,8 +50,8 @@ pub record Builds (source image : List ℕ) (depth : ℕ) (plain : Bool) (status
   pub line : printed ≡ built_text plain built
   pub ends : status ≡ 0
 
--- the same where it ended by a fault: IMAGE isn't touched but by the bytes of an image of the text, and nothing is printed before it
--- was written
+-- the same where it ended by a fault. IMAGE isn't touched but by the bytes of an image of the text, and nothing is printed before it was
+-- written
 pub data StopsBuild (source image : List ℕ) (depth : ℕ) (plain : Bool) (silent refused : Type 0) : List Request → List ℕ → Type 0 where
   unread : (fault : FileFault) → silent
       → StopsBuild source image depth plain silent refused (NotRead source fault ∷ []) (host_fault_text (reading_fault fault))

@@ -8,7 +8,7 @@ use Rattle.mips_code.specs.Agreement.{Agrees}
 use Rattle.mips_machine.specs.ImageRuns.{image_run}
 use Rattle.runs.specs.Refines.{Refines, UpTo}
 
--- for every number of steps after which the source isn't wrong there is a number of words after which the machine agrees: it has the same
+-- for every number of steps after which the source isn't wrong there is a number of words after which the machine agrees. It has the same
 -- output, isn't stuck, and has halted with a word exactly where the source is done with it. A word stands for so many steps at most
 abbrev pub Follows : ImageParts → TypedProgram → (depth factor : ℕ) → Type 0
 Follows image program depth factor = Refines (UpTo factor) Agrees (source_run program depth) (image_run image)

@@ -19,8 +19,7 @@ use Rattle.driver.specs.declared.build_command.builds.BuildFault.{BuildFault}
 use Rattle.driver.specs.declared.build_command.builds.BuildFault.TheVariants as faults
 use Rattle.driver.specs.declared.build_command.builds.Limit.TheVariants as limits
 
--- a unit of the program that the text spells: it refines the program, whatever the links of calls, and has no more blocks than are
--- counted
+-- a unit of the program that the text spells. It refines the program, whatever the links of calls, and has no more blocks than are counted
 pub record IsUnitOf (text : List ℕ) (depth : ℕ) (u : UnitParts) : Type 0 where
   pub program : TypedProgram
   pub spelled : SpellsTyped text program

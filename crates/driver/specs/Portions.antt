@@ -15,7 +15,7 @@ abbrev pub behind : {S E : Type 0} → (comes_to : S → ℕ → RunOutcome E) �
 behind comes_to written None s n = comes_to s n
 behind comes_to written (Some end) s n = record { end = end; output = written s }
 
--- so many ran, at most as many as were asked for, and one at least if any was: with fewer of them the run would go on, and a run of these
+-- so many ran, at most as many as were asked for, and one at least if any was. With fewer of them the run would go on, and a run of these
 -- and n more is a run of n after these
 pub record WentOn {S E : Type 0} (comes_to : S → ℕ → RunOutcome E) (written : S → List ℕ) (more : E) (asked : ℕ) (old new : S)
     (end : Option E) (ran : ℕ) : Type 0 where

@@ -69,8 +69,8 @@ IsPage page = All IsShown page.items
 abbrev pub PrintsPage : Vec ℕ Global → List ℕ → Type 0
 PrintsPage page printed = printed ≡ page.items
 
--- what is printed of an image: its listing, or with `--asm` its source, of which no more is said than that it is lines of
--- printable ASCII
+-- what is printed of an image: its listing, or with `--asm` its source. Of the source no more is said than that it is lines of printable
+-- ASCII
 abbrev pub IsImagePage : Bool → List ℕ → Vec ℕ Global → Type 0
 IsImagePage false bytes page = IsListing bytes page.items
 IsImagePage true bytes page = IsOfImage bytes × IsPage page
@@ -174,7 +174,7 @@ IsBegun words requests printed = (command : Command) × IsCommand words command 
 abbrev pub NamesOneFile : List (List ℕ) → Type 0
 NamesOneFile words = (b : AskedBuild) × IsCommand words (Build b) × (b.source.now ≡ b.image.now)
 
--- the program: its words ask for a check of several files, of which one had a fault, and all have their lines, which were sent on
+-- the program: its words ask for a check of several files. One of these had a fault, and all have their lines, which were sent on
 pub record HasFaultyFile {F W E : Type 0} (by : Relations F W E) (old new : HostState F W E) (words : List (List ℕ)) : Type 0 where
   pub files : Vec (Bor (List ℕ)) Global
   pub explain : Bool

@@ -74,7 +74,7 @@ abbrev pub more_text : Counted → (most : ℕ) → List ℕ
 more_text unit most = codes "more: the " ++ (decimal most ++ (codes " " ++ (unit_text unit
     ++ (codes " of --steps are used up" ++ more_hint most))))
 
--- what is told beside a run: its count if asked for, the option that goes on after `more`, and why it is stuck or wrong, in lines of
+-- what is told with a run: its count if asked for, the option that goes on after `more`, and why it is stuck or wrong. All is lines of
 -- printable ASCII
 pub record IsRunRemark (unit : Counted) (most : ℕ) (counts : Bool) (status : ℕ) (told : List (List ℕ)) : Type 0 where
   pub count : ℕ

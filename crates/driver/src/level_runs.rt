@@ -23,8 +23,8 @@ pub fn interp_rtl(alloc: Global, text: &[u8], depth: u32, steps: u64) -> Result<
     }
 }
 
-/// Returns what the blocks of the program that the text spells do within so many items, with a stack for so many calls at once: each in its
-/// own order, and a load shows at once. An item is one instruction or one exit.
+/// Returns what the blocks of the program that the text spells do within so many items, with a stack for so many calls at once. Each runs
+/// in its own order, and a load shows at once. An item is one instruction or one exit.
 pub fn interp_blocks(alloc: Global, text: &[u8], depth: u32, steps: u64) -> Result<Ran, BuildFault>
     requires { 1 ≤ depth }
     ensures ran { IfOk result (λ r. IsBlocksRun text.now depth steps (outcome_of r)) }

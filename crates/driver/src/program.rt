@@ -90,9 +90,9 @@ fn answer_words<T: Threads + Wait + Sync, F: Files, W: Output, E: Complaints>(
     }
 }
 
-/// Does what the words ask for (the first is the program's name), over its files and two writers; a build starts threads. The answer is
-/// the exit status: 0 for `same`, `done`, a build, a listing, stages and help. It is 1 for a fault, 2 for wrong words and a build onto
-/// its source, 4 for `more`, 3 for any other answer; of several check texts the worst.
+/// Does what the words ask for (the first is the program's name), over its files and two writers; a build starts threads. The answer is the
+/// exit status: 0 for `same`, `done`, a build, a listing, stages and help. It is 1 for a fault, 2 for wrong words and a build onto its
+/// source, 4 for `more`, 3 for any other answer. Of several check texts it is the worst.
 pub fn mcc<T: Threads + Wait + Sync, F: Files, W: Output, E: Complaints>(
     rt: &T,
     alloc: Global,

@@ -128,7 +128,7 @@ fn place_line(
     }
 }
 
-/// Returns where and why the program that the text spells ends wrong within so many steps, in lines for people; None if it doesn't, or
+/// Returns where and why the program that the text spells ends wrong within so many steps, in lines for people. None if it doesn't, or
 /// memory was refused. `source` is the text's name.
 pub fn wrong_page(
     alloc: Global,

@@ -1,5 +1,5 @@
-//! Where a statement of a run stands in its text: at the one of its function that is typed like it, and that as many others follow in
-//! their block.
+//! Finds where a statement of a run stands in its text. It is the one of its function that is typed like it, and that as many others follow
+//! in their block.
 
 use c_front::read;
 use c_run::WrongPlace;

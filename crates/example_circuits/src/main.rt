@@ -17,7 +17,8 @@ use std::alloc::Global;
 use std::io;
 use std::thread::Threads;
 
-/// Returns a choice by input 1 of inputs 2 and 3, and the same with the inputs of gates in another order and a double inverse.
+/// Returns a choice by input 1 of inputs 2 and 3. The other circuit is the same with the inputs of gates in another order and a double
+/// inverse.
 fn choices(alloc: Global) -> Option<(Circuit, Circuit)> {
     let inverse = Circuit::inverse(alloc, Input(1))?;
     let one = Circuit::both(alloc, Input(1), Input(2))?;

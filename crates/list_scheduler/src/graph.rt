@@ -22,8 +22,8 @@ type Writers = [Option<usize>; Resources::COUNT];
 // the first where it stands after by way of others.
 const SETS_OF_NODE: usize = 2;
 
-// One set for those that read a register, HI or LO since it was written, one for those that load or store, one for those that store,
-// and one for those that wait for no other.
+// There are sets of those that read a register, HI or LO since it was written, that load or store, and that store. The last has those that
+// wait for no other.
 const OTHER_SETS: usize = Resources::COUNT + 3;
 
 fn behind(k: usize) -> usize {

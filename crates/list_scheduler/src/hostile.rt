@@ -8,9 +8,9 @@ use std::alloc::{AllocError, Global};
 use std::mem::swap;
 use words::Width;
 
-/// A scheduler that changes a block's plain order, in a way that few blocks stand. It's for those who test a validator, or
-/// what takes orders from one: whatever is proposed, a block may get no order that doesn't mean it. Where a block has nothing
-/// to change in this way, the plain order is proposed.
+/// A scheduler that changes a block's plain order, in a way that few blocks stand. It's for those who test a validator, or what takes
+/// orders from one. Whatever is proposed, a block may get no order that doesn't mean it. Where a block has nothing to change in this way,
+/// the plain order is proposed.
 #[derive(Clone, Copy, Debug, PartialEq, Eq)]
 pub enum Hostile {
     /// The last instruction that isn't a Nop is left out.

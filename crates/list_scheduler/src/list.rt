@@ -35,8 +35,8 @@ impl Reorder for ListOrder {
     }
 }
 
-/// Returns the best of those that wait for no other and may stand at this word: the one with the longest way to the end, of two the earlier
-/// one.
+/// Returns the best of those that wait for no other and may stand at this word. It is the one with the longest way to the end, of two the
+/// earlier one.
 fn best(graph: &Graph, word: u32) -> Option<usize> {
     let mut best = None;
     let mut height = 0;

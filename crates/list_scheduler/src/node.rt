@@ -58,8 +58,7 @@ fn stores(access: Option<Access>) -> bool {
     }
 }
 
-/// The words from an instruction to the next at least, from a load to who touches its register, and from a move of HI or LO to a
-/// product.
+/// The least words from an instruction to the next, from a load to a use, and from `mfhi` or `mflo` to a product.
 const NEXT: u32 = 1;
 
 const AFTER_LOAD: u32 = 2;

@@ -97,8 +97,8 @@ fn move_to_slot(alloc: Global, order: &Order, k: usize) -> Result<Option<Order>,
     })
 }
 
-/// Returns the order with an instruction in its slot in place of a Nop: the last one that nothing after it depends on, and without which in
-/// its place no delay rule is broken. The order as it was, where it has no such instruction. An Err means out of memory.
+/// Returns the order with an instruction in its slot in place of a Nop. It is the last one that nothing after it depends on, and without
+/// which in its place no delay rule is broken. The order as it was, where it has no such instruction. An Err means out of memory.
 pub fn fill(alloc: Global, _block: &Block, order: Order) -> Result<Order, AllocError> {
     let is_free = match order.slot() {
         Some(inst) => inst.is_nop(),

@@ -1,7 +1,7 @@
--- What an order does, word by word. In order: its instructions, a word each, a loaded register showing one word
--- later (`words_from`); the exit word, which reads its operands, puts in its link and settles where the run goes
--- (`exit_word`, `departure_of`); the slot (`slot_word`); then what is pending shows (`effect_at_end`). Out and Halt have no slot and are
--- two words: the first puts a number into register 2, the second calls the system (`system_call`).
+-- What an order does, word by word. Its instructions come first, a word each, and a loaded register shows one word later (`words_from`).
+-- Then comes the exit word, which reads its operands, puts in its link and settles where the run goes (`exit_word`, `departure_of`). After
+-- the slot (`slot_word`) what is pending shows (`effect_at_end`). Out and Halt have no slot and are two words: the first puts a number into
+-- register 2, the second calls the system (`system_call`).
 use Rattle.std.specs.Prelude.{ℕ, pos, Bool, ◌||◌, List, map, Option, Some, None, if◌then◌else◌}
 use Rattle.words.specs.declared.operator.Operator.TheVariants.{Addu}
 use Rattle.mips_isa.specs.declared.inst.Plain.{Plain}

@@ -40,8 +40,8 @@ fn plain_slot(exit: &Exit) -> Option<Plain>
     }
 }
 
-/// Returns the plain order of a block: its instructions in place, a Nop after each load and two after each move from HI or LO, and a Nop in
-/// the slot. It is clean and means the block (`each_plain_order_means_its_block`).
+/// Returns the plain order of a block: its instructions in place, and a Nop in the slot. A Nop stands after each load, and two after each
+/// move from HI or LO. It is clean and means the block (`each_plain_order_means_its_block`).
 pub fn plain(alloc: Global, block: &Block) -> Result<Order, AllocError>
     ensures order { IfOk result (λ o. o ≡ plain_order_of block.now) }
     ensures limit { length block.now.insts ≤ BLOCK_INSTS }

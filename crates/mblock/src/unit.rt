@@ -116,9 +116,9 @@ fn are_owners(blocks: &[Block], owner: &[BlockNumber]) -> bool
 }
 
 impl Unit {
-    /// Returns a unit of these parts, if they make one: there are blocks, and at most 1,048,576 of them; each has an owner, which is itself
-    /// or the owner of the block before it; each block that an exit names exists, and a branch's are of its own function; and there are at
-    /// most 1,048,576 bytes of data.
+    /// Returns a unit of these parts, if they make one. There are 1 to 1,048,576 blocks. Each has an owner, which is itself or the owner of
+    /// the block before it. Each block that an exit names exists, and a branch's are of its own function. There are at most 1,048,576 bytes
+    /// of data.
     pub fn new(blocks: Vec<Block>, owner: Vec<BlockNumber>, globals: Vec<u8>) -> Option<Unit>
         ensures { SomeIff result (IsUnit (unit_parts blocks.items owner.items globals.items))
             (unit_parts blocks.items owner.items globals.items) }

@@ -28,7 +28,7 @@ pub(crate) struct Host<'a, T, F, W, E> {
 /// The bytes of a block that glibc asks the system for apart from its heap. From one of 32 MiB with its head it learns nothing.
 const APART: usize = 31 << 20;
 
-/// Has the allocator reuse the memory of large lists: glibc takes from its heap what is smaller than a block that it gave back to the
+/// Has the allocator reuse the memory of large lists. From its heap, glibc takes what is smaller than a block that it gave back to the
 /// system (`M_MMAP_THRESHOLD` of mallopt(3)). Nothing changes if the block is refused.
 fn reuse_large_memory(alloc: Global) {
     let _block: Result<Vec<u8>, _> = Vec::with_capacity(alloc, APART);

@@ -23,7 +23,8 @@ pub(crate) fn longest_text<R: HostFiles>(rt: &R, words: &[&str]) -> usize {
     longest
 }
 
-/// Returns the length of the text of this name, at most `LONGEST_TEXT`, which is also that of a stream; 0 if there is no such file.
+/// Returns the length of the text of this name, at most `LONGEST_TEXT`, which is also the length of a stream. It is 0 if there is no such
+/// file.
 fn length_of<R: HostFiles>(rt: &R, name: &str) -> usize {
     match rt.metadata(name) {
         Ok(found) if found.is_file() => found.len().min(LONGEST_TEXT as u64) as usize,
@@ -32,8 +33,8 @@ fn length_of<R: HostFiles>(rt: &R, name: &str) -> usize {
     }
 }
 
-/// Returns how much stack a command asks for whose text has at most so many bytes, in bytes of address space: memory is had as
-/// the stack grows.
+/// Returns how much stack a command asks for whose text has at most so many bytes. It is bytes of address space: memory is had as the stack
+/// grows.
 pub(crate) fn stack_for(longest: usize) -> usize {
     MOST.min(LEAST + FOR_A_BYTE * longest.min(LONGEST_TEXT))
 }

@@ -32,7 +32,7 @@ abbrev pub pending_in : ℕ → ℕ → Pending
 pending_in zero word = Nothing
 pending_in (suc r) word = Loaded (suc r) word
 
--- `from` words and `most` more, as far as words are counted, or up to the first at `stop` after `from` of them; or all up to the one
+-- `from` words and `most` more, as far as words are counted, or up to the first at `stop` after `from` of them. Or it is all up to the one
 -- that ends the run
 abbrev pub IsFar : Code → (from most stop words : ℕ) → Machine → Type 0
 IsFar code from most stop words m =

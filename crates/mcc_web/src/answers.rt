@@ -235,8 +235,8 @@ fn name_of(bytes: &[u8]) -> Option<&str> {
     }
 }
 
-/// The stage of this name, or RTL, blocks and orders where there is none, of the function of this name or of all: what
-/// `mcc show program.c --stage STAGE --function NAME` prints or tells, and its status.
+/// The stage of this name, or RTL, blocks and orders where there is none, of the function of this name or of all. It is what `mcc show
+/// program.c --stage STAGE --function NAME` prints, and its status.
 #[unsafe(no_mangle)]
 pub extern "C" fn mcc_web_show(
     alloc: Global,

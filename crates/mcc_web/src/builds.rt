@@ -79,8 +79,8 @@ pub(crate) fn give_build_fault(
     told.give(out, status)
 }
 
-/// The image of the C program that the text spells: the line that `mcc build program.c IMAGE` prints, or `mcc build --plain`,
-/// and after it the bytes of IMAGE, or what it tells; and its status.
+/// The image of the C program that the text spells. First comes the line that `mcc build program.c IMAGE` prints, or `mcc build --plain`,
+/// and after it the bytes of IMAGE, or the fault. Its status comes too.
 #[unsafe(no_mangle)]
 pub extern "C" fn mcc_web_build(
     alloc: Global,

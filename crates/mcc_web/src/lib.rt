@@ -1,4 +1,4 @@
-//! The commands of mcc for a host without files and threads, as a page in a browser: bytes in, bytes out, one export at a time.
+//! The commands of mcc for a host without files and threads, as a page in a browser. Each export takes bytes and gives bytes.
 //!
 //! Definitions: `specs/Answers.antt`, `specs/Orders.antt`, `specs/Machines.antt`.
 //! Contract: `mcc_web_check`, `mcc_web_interp`, `mcc_web_wrong`, `mcc_web_build`, `mcc_web_run`, `mcc_web_list`, `mcc_web_explain`,

@@ -120,9 +120,9 @@ fn view_of(machine: &Machine<'_>, words: u64, address: u32) -> View
     }
 }
 
-/// Shows the machine of an image after `from` words, or after at most `most` more, up to the first at the address
-/// `stop`; or before the word that ends its run. The memory is that from `address` on. The answer is a status: 1 where the
-/// bytes are no image, or memory was refused; the view is as it was then.
+/// Shows the machine of an image after `from` words, or after at most `most` more, up to the first at the address `stop`. A run that ends
+/// before is shown before its last word. The memory is that from `address` on. The answer is a status: 1 where the bytes are no image, or
+/// memory was refused; the view is as it was then.
 #[unsafe(no_mangle)]
 pub extern "C" fn mcc_web_machine(
     alloc: Global,

@@ -77,8 +77,8 @@ fn print_pairs<W: Write>(
     Ok(())
 }
 
-/// The blocks of the program that the text spells, each with the order that it has in the image of `mcc_web_build`; or what
-/// `mcc build program.c IMAGE` tells, and its status.
+/// The blocks of the program that the text spells, each with the order that it has in the image of `mcc_web_build`. Else it is the fault of
+/// `mcc build program.c IMAGE`, and its status.
 #[unsafe(no_mangle)]
 pub extern "C" fn mcc_web_orders(
     alloc: Global,

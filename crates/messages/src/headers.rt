@@ -99,7 +99,7 @@ fn is_behind_cast(source: &Source<'_>, k: usize) -> bool {
         && !is_declared_somewhere(source, source.spelling(name))
 }
 
-/// Returns what to write in place of a type of these headers, or of a cast to one, if a token or the one before names it.
+/// Returns what to write in place of a type of these headers, or of a cast to one. A token or the one before has to name it.
 pub(crate) fn type_hint(source: &Source<'_>, k: usize) -> Option<&'static str> {
     if is_behind_cast(source, k) {
         return Some(NO_CASTS);

@@ -4,8 +4,8 @@ use crate::said::Said;
 use crate::source::{Source, TYPES, before, behind};
 use c_tokens::{Mark, Token};
 
-/// Reports whether a function's head stands at a token that can't stand: it is the `(` of `type name (`, or the `void` that such a head
-/// begins with.
+/// Reports whether a function's head stands at a token that can't stand. The token is the `(` of `type name (`, or the `void` that such a
+/// head begins with.
 fn is_at_head(source: &Source<'_>, k: usize) -> bool {
     let name = if source.is(k, Mark::Void) {
         behind(k, 1)

@@ -183,7 +183,7 @@ impl<'t> Source<'t> {
         matches!(self.token(k), Some(Token::Name(_)))
     }
 
-    /// Reports whether a token is a name that is declared here: in a text that spells a program each such name, and no other, stands after
+    /// Reports whether a token is a name that is declared here. In a text that spells a program each such name, and no other, stands after
     /// its type.
     pub(crate) fn is_declared(&self, k: usize) -> bool {
         self.is_name(k) && self.is_one(before(k, 1), TYPES)

@@ -235,7 +235,7 @@ turned_less_of LeS d q known = immediate_of LtS d q known
 turned_less_of LeU d q known = immediate_of LtU d q known
 turned_less_of _ d q known = None
 
--- an operator into register d: with a word on the right or on the left, with a word on the left of a test that is then turned, or on two
+-- an operator into register d. Its right or left operand is a word, or the left operand of a test that is then turned. Else it is on two
 -- registers. The left operand goes through register t, the right one through the second scratch register
 abbrev pub code_by_less : Op → (t d : ℕ) → (less : Option Plain) → Source → Source → List Plain
 code_by_less op t d None x y = fetch t x ++ (fetch SCRATCH_2 y ++ operation op d (operand_register t x) (operand_register SCRATCH_2 y))
@@ -259,7 +259,7 @@ fetch_if fetches t x = if fetches then fetch t x else []
 abbrev pub selection_code : (t : ℕ) → Selection → Source → Source → List Plain
 selection_code t s x y = fetch_if s.fetches_left t x ++ (fetch_if s.fetches_right SCRATCH_2 y ++ one_or_two s.first s.second)
 
--- a product by one more or one less than a power of 2, and by no power itself: the other operand is shifted, and then added to that or
+-- a product by one more or one less than a power of 2, and by no power itself. The other operand is shifted, and then added to that or
 -- taken from it, modulo 2^32
 abbrev pub multiple : ℕ → Option ShiftedSum
 multiple c =

@@ -49,9 +49,9 @@ locations_of copies homes x = location_at copies (slice_get homes x)
 abbrev pub locations : Frame → Locations
 locations f = locations_of f.copies.items f.homes.items
 
--- the inner temporary of a location: the register in which the left operand is fetched of what goes there, and in which that is computed
--- if it goes to a slot. It is the first and the third scratch register in turn, so that code for one location needn't wait for that of the one before. The first one also has
--- the bases of elements, so the first temporary, which is 8, has 3
+-- the inner temporary of a location. The left operand of what goes there is fetched in this register, and what goes to a slot is computed
+-- in it. It is the first and the third scratch register in turn, so that code for one location needn't wait for that of the one before. The
+-- first one also has the bases of elements, so the first temporary, which is 8, has 3
 abbrev pub inner_of : Option Location → ℕ
 inner_of None = SCRATCH_1
 inner_of (Some (Held r)) = SCRATCH_3 - 2 * (r % 2)

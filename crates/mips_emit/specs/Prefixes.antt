@@ -24,8 +24,8 @@ pub record Emission : Type 0 where
 abbrev pub emission : Facts → List Plain → Emission
 emission facts code = record { facts = facts; code = code }
 
--- memory is refused at one of these instructions: after the code of those before it is a beginning of its own, and what is known is
--- what was known before it
+-- memory is refused at one of these instructions. After the code of those before it is a beginning of its own, and what is known is what
+-- was known before it
 abbrev pub StopsAmong : Context → Asked → List RInst → (was now : Emission) → Type 0
 StopsAmong c asked [] was now = ⊥
 StopsAmong c asked (i ∷ is) was now =

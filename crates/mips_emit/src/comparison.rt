@@ -54,8 +54,8 @@ pub enum Asked {
     Returned(Register),
 }
 
-/// An operator whose result nothing but the branch or return after it takes, so that it is in no home: the words of its operands
-/// that are known, and the operands.
+/// An operator whose result nothing but the branch or return after it takes, so that it is in no home. It has the operands, and the words
+/// of these that are known.
 #[derive(Clone, Copy)]
 pub struct Comparison {
     pub result: Register,

@@ -26,8 +26,8 @@ pub struct Fact {
     pub word: Option<u32>,
 }
 
-/// What an exit can use of the last instruction: the pseudo-register whose word is still in its inner temporary, and a
-/// comparison that is one with the branch.
+/// What an exit can use of the last instruction. It is the pseudo-register whose word is still in its inner temporary, and a comparison
+/// that is one with the branch.
 #[derive(Clone, Copy)]
 pub struct Last {
     pub fresh: Option<Register>,
@@ -41,8 +41,8 @@ pub struct Kept {
     pub index: Offset,
 }
 
-/// What is known within a block: words of pseudo-registers, the newest last, and by the numbers of registers the words that
-/// these should hold but don't yet. Then the base that is kept, and a register that is the sum of another one and a word.
+/// What is known within a block: words of pseudo-registers, the newest last. By the numbers of registers there are the words that these
+/// should hold but don't yet. Then the base that is kept, and a register that is the sum of another one and a word.
 #[derive(Drop)]
 pub struct Knowledge {
     pub known: Vec<Fact>,
@@ -372,7 +372,8 @@ pub(crate) fn fresh_of(frame: &Frame, inst: &RInst) -> Option<Register>
     }
 }
 
-/// Returns what an exit can use of an instruction: the comparison that is one with it, or the word that is still in an inner temporary.
+/// Returns what an exit can use of an instruction. It is the comparison that is one with it, or the word that is still in an inner
+/// temporary.
 pub(crate) fn last_with(comparison: &Option<Comparison>, fresh: Option<Register>) -> Last
     ensures { result ≡ last_with comparison.now fresh }
 {

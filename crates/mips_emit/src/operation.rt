@@ -136,8 +136,8 @@ fn first_of(op: Op, rd: Reg, rs: Reg, rt: Reg) -> Plain
     }
 }
 
-/// Returns the second one, where it takes two: the result of a product or division, a test that the second operand isn't less than the
-/// first, and a test of equality, by the difference.
+/// Returns the second instruction, where the operator takes two. It gives the result of a product or division, or a test of order turned,
+/// or a test of equality by the difference.
 fn second_of(op: Op, rd: Reg) -> Option<Plain>
     ensures { (a b : ℕ) → drop 1 (operation op rd a b) ≡ as_list result }
 {
@@ -284,7 +284,7 @@ fn by_word(left: bool, first: Plain, second: Option<Plain>) -> Selection
     }
 }
 
-/// Returns an operator by a word in its instruction if it can be: one on the right, one on the left, or one on the left of a test that is
+/// Returns an operator by a word in its instruction if it can be. The word is on the right, on the left, or on the left of a test that is
 /// then turned.
 fn select(op: Op, inner: NonzeroReg, rd: Reg, x: &Operand, y: &Operand) -> Selection
     ensures { selection_code inner result x.now.source y.now.source

@@ -27,8 +27,8 @@ blocks_reach (b ∷ bs) x = max (exit_reach b.exit x) (blocks_reach bs x)
 abbrev pub register_of : (arguments : ℕ) → Option ℕ
 register_of q = if nat_lt 0 q && nat_lt q 5 then Some (FIRST_ARGUMENT - 1 + q) else None
 
--- the register in which a pseudo-register of a function with n parameters is best: a parameter where it comes, but not if it is
--- an argument after; others where the last argument is passed that they are
+-- the register in which a pseudo-register of a function with n parameters is best. A parameter is best where it comes, but not if it is an
+-- argument after. Others are best where the last argument is passed that they are
 abbrev pub preference : (n : ℕ) → List RBlock → ℕ → Option ℕ
 preference n bs x =
     if nat_lt x n

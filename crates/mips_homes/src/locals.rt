@@ -8,8 +8,8 @@ ghost use Rattle.mips_homes.specs.Walks.{sight_at, is_read_first, is_unwritten, 
 use rtl::{RBlock, RExit, RInst, Register};
 use std::alloc::{AllocError, Global};
 
-/// What a walk over blocks has seen of a pseudo-register: whether a block read it before it wrote it, and the number of the
-/// last block that wrote it, from 1 on.
+/// What a walk over blocks has seen of a pseudo-register. It is whether a block read it before it wrote it, and the number of the last
+/// block that wrote it, from 1 on.
 #[derive(Clone, Copy)]
 pub(crate) struct Sight {
     pub read_first: bool,

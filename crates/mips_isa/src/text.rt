@@ -253,8 +253,8 @@ impl fmt::Debug for Plain {
     }
 }
 
-/// A branch, a jump or a call to the system at an address, as a listing shows it: Kane's text, with the target as an
-/// address in hexadecimal.
+/// A branch, a jump or a call to the system at an address, as a listing shows it. It is Kane's text, with the target as an address in
+/// hexadecimal.
 #[derive(Clone, Copy)]
 pub struct ListedControl {
     pub control: Control,

@@ -1,5 +1,5 @@
--- The blocks for a whole program, as a function of the program and its frames: two blocks for start and end, then those of
--- each function, one function after another.
+-- The blocks for a whole program, as a function of the program and its frames. Two blocks for start and end come first, then those of each
+-- function.
 use Rattle.std.specs.Prelude.{ℕ, suc, ◌+◌, List, [], ◌∷◌, ◌++◌, map, replicate, slice_index, if◌then◌else◌}
 use Rattle.mblock.specs.declared.limits.TheConstants.{BLOCK_INSTS}
 use Rattle.mblock.specs.Parts.{BlockParts}
@@ -133,7 +133,7 @@ unit_for h =
     unit_parts (split_blocks (program_blocks h)) (split_owners (program_blocks h) (owners_for (h.rtl.now).functions))
     (data_bytes (h.rtl.now).globals)
 
--- the number of the unit's block with which each block of the program begins, one function after another: that of the first
+-- the number of the unit's block with which each block of the program begins, one function after another. It is the number of the first
 -- piece where it was cut
 abbrev pub block_numbers : Homed → List ℕ
 block_numbers h = map (first_piece_of BLOCK_INSTS (program_blocks h)) (numbers_from 2 (h.rtl.now).functions)

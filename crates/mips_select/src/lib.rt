@@ -2,7 +2,7 @@
 //!
 //! Definitions: `specs/Laws.antt`, `specs/Limits.antt`, `specs/Whole.antt`, `specs/Split.antt`, `specs/SplitLaws.antt`.
 //! Contract: `select`, `select_numbered`, `each_unit_keeps_runs`, `each_unit_is_counted`, `each_split_unit_comes_to`
-//! - If the program isn't wrong after n steps, its unit has the same end and output after no fewer, whatever the links of calls are.
+//! - If the program isn't wrong after n steps, its unit has the same end and output after no fewer, whatever the links of calls.
 //! - The data are the globals' bytes. Ok comes only if frames and stack fit. Limit: they don't, or there would be too many blocks.
 //! - A unit has no more blocks than the counts of functions, blocks and instructions allow. Blocks are cut at 512 instructions exactly as
 //!   defined, and the unit does what the long blocks do.

@@ -122,9 +122,9 @@ pub(crate) fn unit_of(alloc: Global, homed: &Homed, long: LongUnit) -> Result<Un
     split_unit(alloc, blocks, owners.as_slice(), bytes)
 }
 
-/// Makes the unit of a program, whose stack holds `depth` activations: wherever the program isn't wrong, the unit comes to the same
-/// end and output. Its data are the globals' bytes, each global at a multiple of 4. Limit if a frame would have more than 32,000
-/// bytes, `depth` of the largest ones more than 16 MiB, or the unit more than 1,048,576 blocks.
+/// Makes the unit of a program, whose stack holds `depth` activations: wherever the program isn't wrong, the unit comes to the same end and
+/// output. Its data are the globals' bytes, each global at a multiple of 4. Limit if a frame would have more than 32,000 bytes, or `depth`
+/// of the largest ones more than 16 MiB. So is a unit of more than 1,048,576 blocks.
 pub fn select(alloc: Global, rtl: &Rtl, depth: u32) -> Result<Unit, SelectFault>
     ensures runs { IfOk result (λ u. KeepsRuns rtl.now depth u) }
     ensures unit { IfOk result (λ u. IsSelected rtl.now u) }

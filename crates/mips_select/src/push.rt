@@ -1,4 +1,4 @@
-//! One more item of a list: its contract tells the whole list, where a `push` in the midst of a longer body leaves a goal at each place.
+//! One more item of a list. The contract says the whole list, where a `push` in the midst of a longer body leaves a goal at each place.
 
 ghost use Rattle.std.specs.Prelude.{◌≡◌, ◌++◌, ◌∷◌, [], OnOk};
 

@@ -24,8 +24,8 @@ pub record Code : Type 0 where
 abbrev pub code_of : RBlock → Code
 code_of b = record { insts = b.insts.items; exit = b.exit }
 
--- an activation of a function, which runs or waits: its blocks, its pseudo-registers, what is left of its block, and where
--- its result goes, if anywhere
+-- an activation of a function, which runs or waits: its blocks, its pseudo-registers and what is left of its block. Its result may go to
+-- one of its caller's
 pub record Frame : Type 0 where
   pub blocks : List RBlock
   pub registers : Places

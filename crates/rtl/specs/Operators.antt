@@ -1,5 +1,5 @@
--- What an operator makes of two words: the machine's operators (Kane, MIPS RISC Architecture), with divisions and tests as
--- C has them (C99 6.5.5, 6.5.8, 6.5.9).
+-- What an operator makes of two words. The operators are the machine's (Kane, MIPS RISC Architecture), with divisions and tests as C has
+-- them (C99 6.5.5, 6.5.8, 6.5.9).
 use Rattle.std.specs.Prelude.{ℕ, ◌*◌, Bool, not, ◌==◌, Option, Some, if◌then◌else◌, bit_and, bit_or, bit_xor}
 use Rattle.words.specs.declared.sign.Sign.TheVariants.{Signed, Unsigned}
 use Rattle.words.specs.Words.{wrap}

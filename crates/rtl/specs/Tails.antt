@@ -1,6 +1,6 @@
--- Tail duplication (Muchnick, Advanced Compiler Design and Implementation, 18.4): a block that goes to a short one ends with that one's
--- code in place of the goto. The goto was a step, and so is what stands in its place: a constant for a register that the copy sets to a
--- constant before it reads it. So each run takes as many steps as before, and the constant costs nothing where it is deferred.
+-- Tail duplication (Muchnick, Advanced Compiler Design and Implementation, 18.4). A block that goes to a short one ends with that one's
+-- code in place of the goto. The goto was a step, and so is what stands in its place. It is a constant for a register that the copy sets to
+-- a constant before it reads it. So each run takes as many steps as before, and the constant costs nothing where it is deferred.
 use Rattle.std.specs.Prelude.{◌≡◌, ℕ, suc, ◌+◌, Bool, true, false, ◌&&◌, ◌||◌, List, [], ◌∷◌, ◌++◌, length, nat_eq, nat_le, Option, Some, None}
 use Rattle.std.specs.Prelude.{slice_get, get_or, ◌<◌, if◌then◌else◌}
 use Rattle.rtl.specs.declared.instruction.RInst.{RInst}

@@ -16,8 +16,8 @@ pub struct RFunc {
     pub blocks: Vec<RBlock>,
 }
 
-/// A global array, or a variable as an array of length 1: its length in elements and their first values, of which an
-/// array of bytes has the low eight bits.
+/// A global array, or a variable as an array of length 1. It has its length in elements and their first values. An array of bytes has the
+/// low eight bits of these.
 #[derive(Drop)]
 pub struct RGlobal {
     pub width: Width,

@@ -16,8 +16,8 @@ use crate::stores::{constant, kept_by, register};
 use runs::{Reached, element, set_word, store};
 use std::alloc::{AllocError, Global};
 
-/// An activation that runs or waits: the blocks of its function, its registers, what is left of its block, and where its
-/// result goes, if anywhere.
+/// An activation that runs or waits: the blocks of its function, its registers and what is left of its block. Its result may go to a
+/// register of its caller's.
 #[derive(Drop)]
 pub struct Frame<'a> {
     pub blocks: &'a [RBlock],

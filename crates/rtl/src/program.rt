@@ -213,10 +213,10 @@ fn is_program(functions: &[RFunc], globals: &[RGlobal], main: FunctionNumber) ->
 }
 
 impl Rtl {
-    /// Returns a program of these parts, if they make one: each function, block and global that is named exists; a function has a block and
-    /// at most four parameters; a call has as many arguments as parameters, and `main` has none; pseudo-registers are below 8,000; a global
-    /// has at least one element and as many first values; and there are at most 1,048,575 blocks and 262,144 words of globals, where four
-    /// bytes or less are a word.
+    /// Returns a program of these parts, if they make one. Each function, block and global that is named exists. A function has a block and
+    /// at most four parameters. A call has as many arguments as parameters, and `main` has none. Pseudo-registers are below 8,000. A global
+    /// has at least one element and as many first values. There are at most 1,048,575 blocks and 262,144 words of globals, where four bytes
+    /// or less are a word.
     pub fn new(functions: Vec<RFunc>, globals: Vec<RGlobal>, main: FunctionNumber) -> Option<Rtl>
         ensures { SomeIff result (IsProgram (program_of functions.items globals.items main))
             (program_of functions.items globals.items main) }
@@ -232,9 +232,9 @@ impl Rtl {
         }
     }
 
-    /// Returns the same program, where each block that goes to a short one before it ends with that one's code: at most eight instructions,
-    /// of which at most four aren't constants. A block that nothing goes to then is empty. Each run has the same steps. An Err means out of
-    /// memory.
+    /// Returns the same program, where each block that goes to a short one before it ends with that one's code. It has at most eight
+    /// instructions, of which at most four aren't constants. A block that nothing goes to then is empty. Each run has the same steps. An
+    /// Err means out of memory.
     pub fn with_tails(self, alloc: Global) -> Result<Rtl, AllocError>
         ensures tails { IfOk result (λ p. IsTailed self p) }
         ensures runs { IfOk result (λ p. RunsAlike self p) }

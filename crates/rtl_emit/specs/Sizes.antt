@@ -1,5 +1,5 @@
--- How many blocks the code of an expression takes, at most how many instructions, and how many pseudo-registers: one more than
--- the greatest number that it takes, 0 where it takes none. A local is the register of its number; `free` is the first register that is free.
+-- How many blocks the code of an expression takes, at most how many instructions, and how many pseudo-registers. Their number is one more
+-- than the greatest that it takes, 0 where it takes none. A local is the register of its number; `free` is the first register that is free.
 use Rattle.std.specs.Prelude.{ℕ, ◌+◌, ◌-◌, ◌^◌, ◌<◌, max, Bool, true, false, not, List, [], ◌∷◌, if◌then◌else◌}
 use Rattle.c_tree.specs.declared.tree.BinaryOp.{BinaryOp}
 use Rattle.c_tree.specs.declared.tree.BinaryOp.TheVariants as B
@@ -96,7 +96,7 @@ is_joined (conditional k c a b) = true
 is_joined _ = false
 
 -- a local is read in its own register. Another operand has the first of two that are free, or the second where branches join with its
--- value: so the first is seldom read by another block
+-- value. So the first is seldom read by another block
 abbrev pub place_registers : TypedExpression → (free : ℕ) → ℕ
 place_registers (local x k) free = x + 1
 place_registers e free = if is_joined e then free + 2 else free + 1

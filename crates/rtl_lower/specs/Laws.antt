@@ -11,8 +11,8 @@ use Rattle.rtl_lower.specs.Coded.{ArePairs}
 use Rattle.rtl_emit.specs.Blocks.{insts_in}
 use Rattle.rtl_lower.specs.Sizes.{function_registers, function_blocks, function_insts}
 
--- for every bound on active calls and on steps at which the source isn't wrong, RTL has the same end and output at some bound on steps
--- that is no less
+-- take any bound on active calls and on steps at which the source isn't wrong. RTL has the same end and output at some bound on steps that
+-- is no less
 abbrev pub KeepsRuns : TypedProgram → Program → Type 0
 KeepsRuns p r = (depth : ℕ) → 1 ≤ depth → Refines AtLeast Same (source_run p depth) (rtl_run r depth)
 

@@ -1,5 +1,5 @@
--- How many blocks the code of a statement, a function and a program takes, at most how many instructions, and how many
--- pseudo-registers: one more than the greatest number that it takes. `free` is the number of the function's locals, the first register that is free.
+-- How many blocks the code of a statement, a function and a program takes, at most how many instructions, and how many pseudo-registers.
+-- Their number is one more than the greatest that it takes. `free` is the number of the function's locals, the first register that is free.
 use Rattle.std.specs.Prelude.{◌≡◌, ℕ, ◌+◌, ◌<◌, ◌^◌, max, Bool, true, false, ◌||◌, ◌&&◌, not, ◌≤◌, All, sum_by, List, Option, Some, None}
 use Rattle.std.specs.Prelude.{if◌then◌else◌}
 use Rattle.c_typed.specs.declared.tree.Destination.{Destination}

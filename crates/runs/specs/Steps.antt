@@ -35,7 +35,7 @@ after_step Reach.Going s out = s
 after_step (Reach.Ended w) s out = Ended w out
 after_step Reach.Failed s out = Failed out
 
--- what a run comes to by a step that has come to this: the rest of it, where it goes on, and else the end with this output
+-- what a run comes to by a step that has come to this. It is the rest of it, where it goes on, and else the end with this output
 abbrev pub outcome_after : Reached → Outcome → List ℕ → Outcome
 outcome_after Reach.Going rest out = rest
 outcome_after (Reach.Ended w) rest out = record { end = Done w; output = out }

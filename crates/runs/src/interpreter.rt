@@ -4,8 +4,8 @@ ghost use Rattle.std.specs.Prelude.{◌≡◌, ◌∷◌, [], length, nat_lt, If
 use std::alloc::{AllocError, Global};
 use std::mem;
 
-/// A program under way: the call that runs, those that wait for it, the latest one last, the words of the globals, and the
-/// output so far. Each level has frames of its own kind.
+/// A program under way: the call that runs, the calls that wait, the latest one last, the words of globals, and the output so far. Each
+/// level has frames of its own kind.
 #[derive(Drop)]
 pub struct Interpreter<F> {
     pub frame: F,

@@ -49,7 +49,7 @@ pub record AreDone (proposes : Proposals) (blocks : List BlockParts) (p : Progre
   pub serve : (i : ℕ) (b : BlockParts) (o : OrderParts) → slice_get blocks i ≡ Some b → slice_get p.orders.items i ≡ Some o → Serves b o
   pub sum : total (counts_of p.report) ≡ length p.orders.items
 
--- the verdicts of a batch: each that stands in the list is one for the block whose number is that of its place after the first
+-- the verdicts of a batch. Each that is in the list is one for the block whose number is that of its place after the first
 abbrev pub AreRightFrom : Proposals → List BlockParts → ℕ → List (Option Verdict) → Type 0
 AreRightFrom proposes blocks first verdicts = EachPlace (λ i v. IsRightFor proposes blocks (first + i) v) verdicts
 

@@ -10,14 +10,14 @@ use mblock::Block;
 use mips_isa::Plain;
 use term_table::MAX_HEADS;
 
-// A batch for one worker has at most so many terms, if it has more than one block, and a batch for several twice as many: their
-// threads are started for each batch.
+// A batch for one worker has at most so many terms, if it has more than one block. A batch for several has twice as many: their threads are
+// started for each batch.
 const BATCH_TERMS: u64 = 16_384;
 
 // The terms of a start, and some that many blocks have.
 const START_TERMS: u64 = 64;
 
-/// Returns how many terms a block and an order of it are likely to have at most, beside those of a start and of other blocks. About each
+/// Returns how many terms a block and an order of it are likely to have at most, besides those of a start and other blocks. About each
 /// second instruction has a result that no other has, and a Nop has none. A load may need the memory after half the stores again.
 fn terms_of(block: &Block) -> u64 {
     let mut terms: u64 = 2;

@@ -3,8 +3,8 @@ ghost use Rattle.sched_phase.specs.Outcomes.{OneOutcome};
 
 use list_scheduler::Reorder;
 
-/// States that if a scheduler may propose one order for a block, phases over one unit that decided each block have the same orders and
-/// counts, by any workers and batches. A law: it computes nothing.
+/// States that phases over one unit that decided each block have the same orders and counts, by any workers and batches. The scheduler may
+/// propose one order for a block. A law: it computes nothing.
 pub fn one_outcome<R: Reorder>(reorder: &R)
     ensures { OneOutcome (R.proposes reorder.now) }
 {

@@ -20,10 +20,10 @@ use std::thread::Threads;
 use steal_pool::{Gate, run};
 use term_table::Pass;
 
-/// Gives each block of a unit an order: the one that the scheduler proposes, if the validator finds that it means its block, else the plain
-/// one. The options' workers do so at once, over one table for each batch of blocks. The gate is told of each block's number just before
-/// its work begins. A block whose scheduler or validator was refused memory is counted as that, one that no worker came to as missed. An
-/// Err means out of memory.
+/// Gives each block of a unit an order. It is the one that the scheduler proposes, if the validator finds that it means its block, else the
+/// plain one. The options' workers do so at once, over one table for each batch of blocks. The gate is told of each block's number just
+/// before its work begins. A block whose scheduler or validator was refused memory is counted as that, one that no worker came to as
+/// missed. An Err means out of memory.
 pub fn schedule_all<'a, T: Threads + Wait + Sync, R: Reorder + Sync, G: Gate + Sync>(
     rt: &T,
     alloc: Global,

@@ -33,8 +33,8 @@ fn checked_order<'a>(block: &Block, checked: Checked<'a>) -> Order
     checked.into_order()
 }
 
-/// Returns the order that a verdict gives its block, which is counted: the one that was proposed, where it means the block, else the plain
-/// one. None stands for a block that was missed. An Err means out of memory.
+/// Returns the order that a verdict gives its block, and counts it. It is the one that was proposed, where it means the block, else the
+/// plain one. None stands for a block that was missed. An Err means out of memory.
 fn order_by_verdict<'a, R: Reorder>(
     alloc: Global,
     reorder: &R,

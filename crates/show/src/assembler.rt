@@ -248,8 +248,8 @@ fn put_data(out: &mut String, bytes: &[u8], labels: &[Label<'_>]) -> Result<(), 
     Ok(())
 }
 
-/// Returns the assembler source of an image, with labels where the image has names: functions at words of the code, globals at words of the
-/// data. A name that is like a label of the source itself (`__start`, `L` and eight digits) is left out.
+/// Returns the assembler source of an image, with labels where the image has names. Functions are at words of the code, globals at words of
+/// the data. A name that is like a label of the source itself (`__start`, `L` and eight digits) is left out.
 pub fn assembler_source(
     alloc: Global,
     image: &Image,

@@ -1,4 +1,4 @@
-//! The edges of a graph that go back: to a node on the way from the first node, by a walk in depth (so a loop is entered at its head).
+//! The edges of a graph that go back to a node on the way from the first node, by a depth-first walk. So a loop is entered at its head.
 
 use std::alloc::{AllocError, Global};
 

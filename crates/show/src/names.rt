@@ -136,7 +136,7 @@ impl<'t> Names<'t> {
         (0..number).any(|other| self.local(function, other) == Some(name))
     }
 
-    /// Writes the pseudo-register of a function: a local by its name, with its number where an earlier one has the name too; any other by
+    /// Writes the pseudo-register of a function. A local has its name, with its number where an earlier one has the name too, and any other
     /// its number alone.
     pub(crate) fn put_register(&self, out: &mut Writer, function: usize, register: u32) {
         let number = register as usize;

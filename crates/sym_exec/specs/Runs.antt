@@ -6,7 +6,7 @@ use Rattle.term_table.specs.Trees.{HasLegalHistory}
 use Rattle.sym_exec.specs.Asked.{LacksOne}
 use Rattle.sym_exec.specs.Standing.{AfterInterns}
 
--- it links no more terms than it may, and has no answer only if the pass has linked all it may and lacks one of the trees asked for
+-- it links no more terms than it may. It has no answer only if the pass has linked all it may and lacks one of the trees asked for
 pub record Runs {A E : Type 0} (asked : List Tree) (growth : ℕ) (t : TableState) (p : PassState) (result : Result A E) (q : PassState) : Type 0 where
   pub absent : OnErr result (LacksOne q asked)
   pub grows : linked q ≤ linked p + growth

@@ -5,7 +5,8 @@
 //! - `run_block`, `run_order` and `run_both` give the tickets of the trees of a block, of an order and of both.
 //! - `run_both_from` does so from the terms of the start, which `start_places` makes once for many blocks.
 //! - Memory is taken before any term is linked. Where it is refused, the pass is as it was.
-//! - Else their only error is `TableFull`, if the pass has linked all it may and one of the trees that the code asks for isn't in the table.
+//! - Else their only error is `TableFull`. Then the pass has linked all it may, and one of the trees that the code asks for isn't in the
+//!   table.
 //! - They link no more terms than the actions may, which is at most quadratic in their number.
 #![tactic(auto)]
 

@@ -18,8 +18,8 @@ impl RunLists {
     ghost use Rattle.mblock.specs.declared.limits.TheConstants.{ORDER_INSTS};
     ghost use Rattle.sym_exec.specs.Stores.{IsRoomFor};
 
-    /// Returns empty lists with memory for a guard and a store of each instruction and of a slot, and for the terms of the memories before,
-    /// between and after these stores.
+    /// Returns empty lists with memory for a guard and a store of each instruction and of a slot. There is also memory for the terms of the
+    /// memories before, between and after these stores.
     pub(crate) fn new(alloc: Global, insts: &[Plain]) -> Result<RunLists, AllocError>
         requires { length insts.now ≤ ORDER_INSTS }
         ensures { IfOk result (IsRoomFor (length insts.now)) }

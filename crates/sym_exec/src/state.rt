@@ -4,8 +4,7 @@ use mips_isa::{PairTest, ZeroTest};
 use term_table::Ticket;
 use words::{Sign, Width};
 
-/// What the code relies on, by the terms' tickets: that an address is that of a word or a byte that is mapped, or that a
-/// division has a value.
+/// What the code relies on, by the terms' tickets. Either an address is that of a word or a byte that is mapped, or a division has a value.
 #[derive(Clone, Copy, PartialEq, Eq)]
 pub enum Guard {
     Address {

@@ -1,6 +1,6 @@
 //! The stores that a run's memory is made of. They are kept in the order of the term of memory. So a load finds the memory that it sees,
-//! and a store its place, by one walk from the last store inward. Terms of memory are made where a load or the end of the run needs them:
-//! a store that goes inside others makes none of theirs again.
+//! and a store its place, by one walk from the last store inward. Terms of memory are made where a load or the end of the run needs them. A
+//! store that goes inside others makes none of theirs again.
 ghost use Rattle.std.specs.Prelude.{◌≡◌, ℕ, ◌<◌, ◌≤◌, ◌+◌, ◌&&◌, [], IfOk, OnErr, length, take, drop, vec_len};
 ghost use Rattle.sym_terms.specs.declared.label.Label.TheVariants.{Load, Store};
 ghost use Rattle.sym_terms.specs.Trees.{Tree, binary, ternary};
@@ -29,8 +29,8 @@ pub(crate) struct Stored {
     pub(crate) width: Width,
 }
 
-/// The stores of a run, innermost first, and the terms of memory that were needed so far: the first is the memory at the
-/// start, each further one that after one store more.
+/// The stores of a run, innermost first, and the terms of memory that were needed so far. The first is the memory at the start, each
+/// further one the memory after one store more.
 #[derive(Drop)]
 pub(crate) struct StoreChain {
     pub(crate) stores: Vec<Stored>,

@@ -7,8 +7,7 @@ ghost use Rattle.sym_terms.specs.Labels.{is_label, is_origin};
 use mips_isa::NonzeroReg;
 use words::{Operator, Width};
 
-/// Where a value that is there at the start of a block comes from: a register 1 to 31, HI, LO, or the link that a call leaves in register
-/// 31.
+/// Where a value comes from that is there at the start of a block: a register 1 to 31, HI, LO, or a call's link.
 #[derive(Clone, Copy, Debug, PartialEq, Eq)]
 pub enum Origin {
     Register(NonzeroReg),

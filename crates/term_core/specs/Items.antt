@@ -50,7 +50,7 @@ pub record EndsCall (h h' : List Entry) (c : Option Call) (b v : Walker) : Type 
   pub seen : v.seen ≡ h'
   pub idle : v.stage ≡ Idle
 
--- What an item does to the pass that it names: its number stays, and what it had seen stays the beginning of what it has seen. Its call
+-- What an item does to the pass that it names. Its number stays, and what it had seen stays the beginning of what it has seen. Its call
 -- goes on or ends, and its probes grow by the loads of a link. `b` is the pass after it has begun what the item chose
 pub record Does (h h' : List Entry) (b v : Walker) : Type 0 where
   pub by : v.by ≡ b.by

@@ -95,15 +95,15 @@ pub struct Walker {
 
 /// States what every list of items keeps, for any number of passes and nodes and any function that picks the chain of a call.
 ///
-/// `lawful`: the history is legal. What a pass has seen is a legal beginning of it, with each of the pass's own calls once. Two tickets
-/// in it are equal exactly if their trees are. The pass's loads of links are at most the pairs and one. `does`: an item ends a call with
-/// exactly one entry, of this call and its answer, which its pass has then seen; or it goes on and says nothing; what was seen stays its
+/// `lawful`: the history is legal. What a pass has seen is a legal beginning of it, with each of the pass's own calls once. Two tickets in
+/// it are equal exactly if their trees are. The pass's loads of links are at most the pairs and one. `does`: an item ends a call with
+/// exactly one entry, of this call and its answer, which its pass has then seen. Or it goes on and says nothing. What was seen stays its
 /// beginning, and the probes grow by one exactly at the load of a link. `others`: no other pass changes. `agree`: of what two passes have
 /// seen, one is the beginning of the other. `words`: a word that an item changes is a link, from none to the pass's own node. Or it is a
-/// content word of the pass's next node, which isn't linked yet. `links`, `content`: so a link that names a node names it for ever, and
-/// the content of a linked node never changes, whatever items follow. `places`: a load of a link and an exchange are at the head of a
-/// chain or at the link of a linked node. A load of content is at a content word of a linked node, a store at one of the pass's next
-/// node, which isn't linked.
+/// content word of the pass's next node, which isn't linked yet. `links`, `content`: so a link that names a node names it for ever, and the
+/// content of a linked node never changes, whatever items follow. `places`: a load of a link and an exchange are at the head of a chain or
+/// at the link of a linked node. A load of content is at a content word of a linked node, a store at one of the pass's next node, which
+/// isn't linked.
 pub fn any_schedule()
     ensures lawful { (shape : Shape) (items : List Item) → IsShape shape → Lawful shape (world_of shape items) }
     ensures does { EachItemDoes }

@@ -1,4 +1,4 @@
--- Labels that are told by a kind and a content, as most enums are: the kind is the upper 8 bits of the word, the content the lower 56.
+-- Labels that a kind and a content identify, as most enums are. The kind is the upper 8 bits of the word, the content the lower 56.
 use Rattle.std.specs.Prelude.{◌≡◌, ℕ, ◌+◌, ◌*◌, ◌/◌, ◌%◌, ◌^◌, ◌<◌, ◌≤◌, Bool, true, Option, Some}
 use Rattle.term_labels.specs.Codings.{Coding}
 

@@ -10,7 +10,7 @@ mod parts;
 
 pub use parts::{parts_of, word_of};
 
-/// A type of labels: each has a word of 64 bits, which no other has, and an arity, the number of children that it stands over.
+/// A type of labels. Each label has a word of 64 bits, which no other has, and an arity, the number of its children.
 pub trait Label: Copy {
     ghost use Rattle.std.specs.Prelude.{◌≡◌, true};
     ghost use Rattle.term_labels.specs.Codings.{Coding, IsCoding};

@@ -1,4 +1,4 @@
--- What the crates above say of a pass: that it has gone on, that it has learned what another knew, and that its history is legal.
+-- What the crates above say of a pass. It has gone on, it has learned what another knew, and its history is legal.
 use Rattle.term_core.specs.Terms.{StartsWith, IsLegal}
 use Rattle.term_table.specs.Passes.{PassState, IsSamePass}
 

@@ -3,8 +3,8 @@ use crate::view::View;
 use atomic_table::Seat;
 use std::marker::Model;
 
-/// What a pass of a table had seen when the note was written, for another pass of that table: it may cross threads while both run. It
-/// has no bytes.
+/// What a pass of a table had seen when the note was written, for another pass of that table. It may cross threads while both run. It has
+/// no bytes.
 #[derive(Drop)]
 pub struct Note {
     pub(crate) seat: Seat<(), View>,

@@ -25,8 +25,8 @@ pub struct Node<L> {
 }
 
 impl TermTable {
-    /// Returns the ticket of the term of this label over the children's terms, as many as its arity: the one that it has, if it is there,
-    /// else that of a node that the pass now links. The pass has seen the ticket from then on. It links one term at most.
+    /// Returns the ticket of the term of this label over the children's terms, as many as its arity. It is the one that it has, if it is
+    /// there, else that of a node that the pass now links. The pass has seen the ticket from then on. It links one term at most.
     ///
     /// `TableFull` exactly if the term is not there and the pass has itself linked as many terms as it may. The table is then as before.
     /// Either tells how many links the call loaded.

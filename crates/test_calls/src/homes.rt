@@ -83,8 +83,8 @@ const PLACED: &[Row] = &[
     // Neither a call's result nor what is set before it is local.
     ((1, &[(&[Move(2, 0)], Call(0, &[], Some(1), 1)), (&[Bin(Op::Add, 1, 1, 2)], Return(Some(1)))]), &[Reg(4), Reg(16), Reg(17)], &[16, 17],
         0),
-    // Parameters that are passed on in another order: 1 may stay where it comes, since what is moved before it is no later
-    // argument; 0 would be overwritten by 1.
+    // Parameters that are passed on in another order. Parameter 1 may stay where it comes, since what is moved before it is no later
+    // argument. Parameter 0 would be overwritten by 1.
     ((2, &[(&[], Call(1, &[1, 0], None, 1)), (&[], Return(None))]), &[Reg(8), Reg(5)], &[], 0),
     // Two words that are computed for a call, where the parameters have the registers; the result is printed at once.
     ((2, &[(&[Bin(Op::Add, 2, 0, 1), Bin(Op::Sub, 3, 0, 1)], Call(1, &[2, 3], Some(4), 1)), (&[], Out(4, 2)), (&[], Return(None))]),

@@ -80,7 +80,8 @@ fn is_awaited(alloc: Global, text: &Text, order: Order, said: Said) -> Option<bo
     Some(is_same && is_said(&verdict, said))
 }
 
-/// Reports whether the order of the text is proposed for its block, and the validator says that of it; or whether none is, as it should be.
+/// Reports whether the order of the text is proposed for its block, and the validator says that of it. Or none is proposed, as it should
+/// be.
 fn is_proposed(alloc: Global, by: By, text: &str, said: Said) -> Option<bool> {
     let pair = text_of(alloc, text)?;
     match proposed(alloc, by, &pair.block) {

@@ -126,7 +126,7 @@ fn meets<R: Threads + Wait + Sync>(rt: &R, alloc: Global, other: usize, n: usize
     Some(are_done && !gate.is_late())
 }
 
-/// Of two tasks that wait for each other, one has to be done beside the other; of three, the third is stolen from a worker that waits.
+/// Of two tasks that wait for each other, one has to be done while the other waits. Of three, the third is stolen from a worker that waits.
 #[test]
 fn tasks_that_meet_are_done_at_once(rt: HostRuntime) {
     for &(other, n) in [(1, 2), (2, 3)].as_slice() {

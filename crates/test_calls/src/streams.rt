@@ -83,8 +83,8 @@ fn image_of<T: Threads + Wait + Sync>(threads: &T, alloc: Global) -> (Vec<u8>, V
     (file.written, built.out)
 }
 
-/// Reports whether `mcc`, with these words over these bytes, tells that it can't write to a closed standard output, having written a file
-/// so many times.
+/// Reports whether `mcc`, with these words over these bytes, says that it can't write to a closed standard output. It has written a file so
+/// many times.
 fn tells_shut_out<T: Threads + Wait + Sync>(
     threads: &T,
     alloc: Global,

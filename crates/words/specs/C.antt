@@ -1,5 +1,5 @@
--- What the operators of C make of two words (C99 6.5.3.3, 6.5.5 to 6.5.8): by sign of the type that they compute in, and
--- none where C leaves the result undefined.
+-- What the operators of C make of two words (C99 6.5.3.3, 6.5.5 to 6.5.8), by the sign of the type that they compute in. There is none
+-- where C leaves the result undefined.
 use Rattle.std.specs.Prelude.{ℕ, ◌*◌, ◌^◌, ℤ, pos, negsuc, ◌+ℤ◌, ◌-ℤ◌, ◌*ℤ◌, neg_ℤ, Bool, ◌&&◌, nat_lt, int_lt, Option, Some, None}
 use Rattle.std.specs.Prelude.{if◌then◌else◌}
 use Rattle.words.specs.declared.sign.Sign.{Sign}

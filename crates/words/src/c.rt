@@ -59,8 +59,8 @@ impl Sign {
         }
     }
 
-    /// Returns `a << amount`: None if the amount, read as a word, is 32 or more, for a negative `int`, and if an `int` can't have the
-    /// result; unsigned modulo 2^32.
+    /// Returns `a << amount`. None if the amount, read as a word, is 32 or more, for a negative `int`, and if an `int` can't have the
+    /// result. Unsigned results are modulo 2^32.
     pub fn left_shift(self, a: u32, amount: u32) -> Option<u32>
         ensures { result ≡ left_shift_of self a amount }
     {

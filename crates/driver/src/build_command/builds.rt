@@ -87,7 +87,7 @@ pub fn typed_of(alloc: Global, text: &[u8]) -> Result<Typed, SourceFault>
     Ok(typed)
 }
 
-/// Returns the RTL of a program, whatever text spells it: that of its lowering, with a copy of each short block that a block goes to.
+/// Returns the RTL of a program, whatever text spells it. It is what lowering gives, with a copy of each short block that a block goes to.
 pub(crate) fn rtl_of_typed(alloc: Global, typed: &Typed) -> Result<Rtl, BuildFault>
     ensures rtl { IfOk result (IsLowered (program_of typed.now)) }
     ensures fault { IfErr result (λ f. (text : List ℕ) (depth : ℕ) → SpellsTyped text (program_of typed.now) → IsBuildFault text depth f) }

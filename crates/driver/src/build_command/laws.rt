@@ -3,8 +3,8 @@ ghost use Rattle.driver.specs.OneBuild.{OneBuild};
 
 use list_scheduler::Reorder;
 
-/// States that if a scheduler may propose one order for a block, builds of one unit that decided each block make the same image, by any
-/// number of workers. A law: it computes nothing.
+/// States that builds of one unit that decided each block make the same image, by any number of workers. The scheduler may propose one
+/// order for a block. A law: it computes nothing.
 pub fn one_build<R: Reorder>(reorder: &R)
     ensures { OneBuild (R.proposes reorder.now) }
 {

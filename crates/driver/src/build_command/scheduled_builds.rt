@@ -70,7 +70,7 @@ pub(crate) fn scheduled_of<T: Threads + Wait + Sync, R: Reorder + Sync, G: Gate 
     write(alloc, scheduled)
 }
 
-/// Returns the image of the program that the text spells: each block has the order that the scheduler proposes, where it means the block,
+/// Returns the image of the program that the text spells. Each block has the order that the scheduler proposes, where it means the block,
 /// else its own. The phase's workers do the blocks at once, over one table, in whatever schedule of threads. The gate is told of each block
 /// before its work. Descends into the text as `build_plain` does.
 pub fn build<T: Threads + Wait + Sync, R: Reorder + Sync, G: Gate + Sync>(

@@ -80,7 +80,7 @@ fn tell_hinted<'a, E: Complaints>(
     tell_file(alloc, err, &fault, &about)
 }
 
-/// Tells the line of an image's fault, and below it the file and what is wrong with it; of a source how its image is made.
+/// Prints the line of an image's fault, and below it the file and what is wrong with it. For a source it says how its image is made.
 pub fn tell_image<E: Complaints>(
     alloc: Global,
     err: &mut E,
