@@ -1,4 +1,4 @@
--- The listing of an image has a line for each code word, for each whole word of data and for each byte after these. The last line has the
+-- The listing of an image: a line for each code word, for each whole word of data and for each byte after these. The last line has the
 -- counts.
 use Rattle.std.specs.Prelude.{ℕ, ◌+◌, ◌*◌, ◌/◌, List, [], ◌∷◌, ◌++◌, length, drop, Option, Some, None, codes}
 use Rattle.mips_isa.specs.declared.inst.Inst.{Inst}
