@@ -1,5 +1,5 @@
 //! Lines of instructions and exits.
-ghost use Rattle.std.specs.Prelude.{◌≡◌, ℕ, ◌++◌, ◌∷◌, ◌<◌, ◌^◌, codes, decimal, IfSome, Some};
+ghost use Rattle.std.specs.Prelude.{◌≡◌, ℕ, ◌++◌, ◌∷◌, ◌<◌, ◌^◌, decimal, IfSome, Some};
 ghost use Rattle.mips_isa.specs.declared.inst.Plain.{Plain};
 ghost use Rattle.mblock.specs.declared.exit.Exit.{Exit};
 ghost use Rattle.mblock.specs.declared.exit.Exit.TheVariants as exits;

@@ -1,5 +1,5 @@
 //! The whole text, line by line.
-ghost use Rattle.std.specs.Prelude.{◌≡◌, ℕ, ◌≤◌, ◌^◌, length, IfOk, IfErr, IfSome, OnOk, MatchResult, Some, true};
+ghost use Rattle.std.specs.Prelude.{◌≡◌, ◌≤◌, ◌^◌, length, IfOk, IfErr, IfSome, MatchResult, Some, true};
 ghost use Rattle.mips_isa.specs.declared.inst.Plain.{Plain};
 ghost use Rattle.mblock.specs.declared.limits.TheConstants.{BLOCK_INSTS, ORDER_INSTS};
 ghost use Rattle.mblock.specs.Parts.{BlockParts, OrderParts};

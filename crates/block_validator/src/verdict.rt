@@ -1,6 +1,5 @@
 //! The verdict on an order for a block, and the orders that were checked.
 ghost use Rattle.std.specs.Prelude.{◌≡◌, ◌≤◌, ◌+◌, ◌++◌, IfOk, OnErr, MatchOption};
-ghost use Rattle.mblock.specs.Parts.{BlockParts, OrderParts};
 ghost use Rattle.mblock.specs.Clean.{IsClean};
 ghost use Rattle.mblock.specs.BlockMeaning.{exit_shape};
 ghost use Rattle.term_table.specs.Passes.{IsOf, linked};

@@ -1,7 +1,7 @@
 //! Declarations at file scope: variables, arrays and functions (C99 6.7, 6.9).
 ghost use Rattle.std.specs.Prelude.{◌≡◌, ◌<◌, length, IfOk, IfErr, List};
 ghost use Rattle.c_front.specs.Grammar.{Spells, initial, parameters, function_rest, after_global, a_declaration};
-ghost use Rattle.c_tree.specs.Shape.{items_of, declaration_of, declarations_of};
+ghost use Rattle.c_tree.specs.Shape.{declaration_of, declarations_of};
 ghost use Rattle.c_front.specs.Parsing.{IsRead, IsStuck, IsParameterRead, IsParameterStuck, IsTailRead, IsProgramStuck, IsLengthRead};
 ghost use Rattle.c_front.specs.Parsing.{IsLengthStuck};
 ghost use Rattle.c_front.specs.Parsing.{IsBytesRead, IsBytesStuck};

@@ -1,5 +1,5 @@
 //! Expressions, level by level of precedence (C99 6.5).
-ghost use Rattle.std.specs.Prelude.{◌≡◌, ◌<◌, length, IfOk, IfErr, IfSome, IfNone, Some};
+ghost use Rattle.std.specs.Prelude.{◌<◌, length, IfOk, IfErr, IfSome, IfNone, Some};
 ghost use Rattle.c_front.specs.Grammar.{an_expression, operands, unary_expressions, above, Level, Operator, Prefix, first, value};
 ghost use Rattle.c_front.specs.Grammar.{arguments};
 ghost use Rattle.c_front.specs.Choosing.{EndsOperands};

@@ -1,5 +1,5 @@
 //! Statements (C99 6.8), and the simple statements of this subset.
-ghost use Rattle.std.specs.Prelude.{◌≡◌, ◌∷◌, ◌<◌, ◌≤◌, ◌↔◌, length, IfOk, IfErr, IfSome, IfNone, IsTrue};
+ghost use Rattle.std.specs.Prelude.{◌∷◌, ◌<◌, ◌≤◌, ◌↔◌, length, IfOk, IfErr, IfSome, IfNone, IsTrue};
 ghost use Rattle.c_front.specs.Grammar.{first, a_statement, an_item, items, simple, a_type, declared, maybe_simple, maybe_expression};
 ghost use Rattle.c_front.specs.Choosing.{EndsItems};
 ghost use Rattle.c_tree.specs.Shape.{expression_of, value_tree, maybe_value_tree, simple_of, maybe_simple_of, maybe_expression_of};

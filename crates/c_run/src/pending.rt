@@ -1,5 +1,5 @@
 //! What an active call still has to do.
-ghost use Rattle.std.specs.Prelude.{◌≡◌, ℕ, [], ◌∷◌, OnOk, IfOk, None, length, ◌+◌, ◌≤◌};
+ghost use Rattle.std.specs.Prelude.{◌≡◌, [], ◌∷◌, OnOk, IfOk, None, length, ◌+◌, ◌≤◌};
 ghost use Rattle.runs.specs.Stores.{places_with};
 ghost use Rattle.c_typed.specs.Meaning.{before, before_all, next_point, Going, Next};
 ghost use Rattle.c_typed.specs.Shape.{statement_of, statements_of};

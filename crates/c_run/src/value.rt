@@ -1,10 +1,10 @@
 //! Values of typed expressions (C99 6.5).
-ghost use Rattle.std.specs.Prelude.{◌≡◌, ℕ, Option, Some, IfOk, map};
+ghost use Rattle.std.specs.Prelude.{◌≡◌, Option, Some, IfOk, map};
 ghost use Rattle.std.specs.Option.{option_map};
 ghost use Rattle.c_typed.specs.Shape.{typed_expression_of, typed_expressions_of};
 ghost use Rattle.words.specs.Words.{wrap};
 ghost use Rattle.runs.specs.Kept.{places, arrays};
-ghost use Rattle.c_typed.specs.Values.{sign_of, truth, unary_of, binary_of, value_of, values_of};
+ghost use Rattle.c_typed.specs.Values.{sign_of, unary_of, binary_of, value_of, values_of};
 
 use c_tokens::IntegerType;
 use c_tree::{BinaryOp, UnaryOp};

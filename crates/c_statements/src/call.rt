@@ -1,5 +1,5 @@
 //! What a called name stands for.
-ghost use Rattle.std.specs.Prelude.{◌≡◌, IfOk, IfErr, IfSome, IfNone, Some};
+ghost use Rattle.std.specs.Prelude.{IfSome, IfNone, Some};
 ghost use Rattle.c_statements.specs.Calls.{Signs, IsNoFunction, IsTarget};
 ghost use Rattle.c_statements.specs.Faults.{Answers};
 ghost use Rattle.c_statements.specs.Shape.{environment_of};

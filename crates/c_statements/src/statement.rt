@@ -9,7 +9,7 @@ ghost use Rattle.c_statements.specs.Faults.{Answers, HasNone, StopsAtFirst};
 ghost use Rattle.c_statements.specs.Shape.{environment_of, scopes_of};
 ghost use Rattle.c_statements.specs.Contexts.{Typing, text_of};
 ghost use Rattle.c_statements.specs.Names as Names;
-ghost use Rattle.c_statements.specs.Names.{environment_in, with_local, behind, behind_item, behind_items};
+ghost use Rattle.c_statements.specs.Names.{environment_in, with_local, behind_item, behind_items};
 ghost use Rattle.c_typed.specs.Shape.{maybe_typed_expression_of, statement_of as typed_of, statements_of};
 ghost use Rattle.c_statements.specs.Statements.{FaultyMaybe, FaultyReturn, FaultyJump, FaultyDeclarator, FaultyLocal, FaultyStatement};
 ghost use Rattle.c_statements.specs.Statements.{FaultyItems};

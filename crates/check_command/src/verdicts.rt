@@ -1,5 +1,5 @@
 //! The verdict of a check text, or its fault.
-ghost use Rattle.std.specs.Prelude.{◌≡◌, ℕ, ◌≤◌, ◌^◌, length, IfOk, IfErr, IfSome, MatchResult, All};
+ghost use Rattle.std.specs.Prelude.{◌≡◌, ◌≤◌, ◌^◌, length, IfOk, IfErr, IfSome, MatchResult, All};
 ghost use Rattle.mblock.specs.Parts.{BlockParts, OrderParts};
 ghost use Rattle.block_text.specs.Lines.{lines_of};
 ghost use Rattle.block_text.specs.Whole.{SpellsPair};

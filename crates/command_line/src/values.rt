@@ -1,6 +1,6 @@
 //! The values of a command, out of the matches of its words.
 
-ghost use Rattle.std.specs.Prelude.{◌≡◌, ℕ, ◌≤◌, true, Some, IfOk, IfErr, IfNone, IfSome, map, codes};
+ghost use Rattle.std.specs.Prelude.{◌≡◌, true, Some, IfOk, IfErr, IfNone, IfSome, map, codes};
 ghost use Rattle.clap.specs.declared.error.ErrorKind.TheVariants.{OutOfMemory};
 ghost use Rattle.clap.specs.Words.{FailsBy, HasMatchesOf, fault_of, first_of, found_of, kind_of, one_of, rows_of, subcommand_rows_of, takes};
 ghost use Rattle.commands.specs.declared.numbers.WordForm.TheVariants.{Unsigned};

@@ -1,6 +1,6 @@
 //! What is said of a fault below its line: what is wrong, and what to write in its place.
 
-ghost use Rattle.std.specs.Prelude.{◌≡◌, ◌≤◌, All, IfOk, IfSome};
+ghost use Rattle.std.specs.Prelude.{◌≡◌, All, IfOk, IfSome};
 ghost use Rattle.commands.specs.Texts.{IsPrintable, IsPrintableExplanation, shown_byte};
 
 use std::alloc::{AllocError, Global};

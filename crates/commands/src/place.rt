@@ -1,7 +1,7 @@
 //! Where a fault lies in its file, as editors and readers want it. Below the line `FILE:LINE:COLUMN: error: MESSAGE` is the line of the
 //! text around the place with a caret, and a line with a hint.
 
-ghost use Rattle.std.specs.Prelude.{◌≡◌, ◌<◌, ◌^◌, ◌≤◌, length, ◌++◌, All, IfOk, IfSome, OnOk, Some, codes, decimal};
+ghost use Rattle.std.specs.Prelude.{◌≡◌, ◌<◌, ◌^◌, ◌≤◌, length, ◌++◌, All, IfOk, IfSome, Some, codes, decimal};
 ghost use Rattle.commands.specs.Requests.{TellsBeside, TellsLine};
 ghost use Rattle.commands.specs.Texts.{IsShown};
 

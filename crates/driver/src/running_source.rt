@@ -1,6 +1,5 @@
 //! A C program under way, as what runs in portions.
 
-ghost use Rattle.std.specs.Prelude.{◌≡◌, ◌∷◌, ◌++◌, [], IfOk, OnErr, OnOk};
 ghost use Rattle.runs.specs.Runs.{outcome};
 ghost use Rattle.c_run.specs.Portions.{state_of};
 ghost use Rattle.driver.specs.Interps.{comes_to};

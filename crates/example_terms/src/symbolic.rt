@@ -1,5 +1,5 @@
 //! Blocks to tickets: a block is run on terms.
-ghost use Rattle.std.specs.Prelude.{◌≡◌, ◌<◌, ◌≤◌, ◌++◌, [], ◌∷◌, List, length, map, slice_index, IfOk, IfSome};
+ghost use Rattle.std.specs.Prelude.{◌≡◌, ◌<◌, ◌++◌, [], ◌∷◌, List, length, slice_index, IfOk, IfSome};
 ghost use Rattle.term_table.specs.Passes.{IsOf};
 ghost use Rattle.term_table.specs.Trees.{Extends};
 ghost use Rattle.term_table.specs.Terms.{HasSeenTerm, HasSeenTerms};

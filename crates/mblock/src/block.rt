@@ -1,5 +1,5 @@
 //! Blocks: at most 512 instructions, and an exit.
-ghost use Rattle.std.specs.Prelude.{◌≡◌, ℕ, List, ◌≤◌, length};
+ghost use Rattle.std.specs.Prelude.{◌≡◌, ◌≤◌, length};
 ghost use Rattle.std.specs.Option.{SomeIff};
 
 use crate::exit::Exit;

@@ -1,10 +1,10 @@
 //! The delay rules U1 to U4 of an order.
-ghost use Rattle.std.specs.Prelude.{◌≡◌, ℕ, ◌+◌, ◌<◌, ◌≤◌, ◌↔◌, IsTrue, Bool, List, Option, slice_get, length, MatchResult};
+ghost use Rattle.std.specs.Prelude.{◌≡◌, ◌+◌, ◌<◌, ◌≤◌, ◌↔◌, IsTrue, Option, slice_get, length, MatchResult};
 ghost use Rattle.mips_isa.specs.declared.inst.Plain.{Plain};
-ghost use Rattle.mips_isa.specs.Actions.{action_of, touches};
+ghost use Rattle.mips_isa.specs.Actions.{touches};
 ghost use Rattle.mblock.specs.declared.limits.TheConstants.{ORDER_INSTS};
 ghost use Rattle.mblock.specs.OrderMeaning.{exit_touches};
-ghost use Rattle.mblock.specs.Clean.{kinds_of, kinds, IsApart, IsBehind, HasQuietSlot, HasQuietEnd, IsClean, FitsSlot, BreaksFirst};
+ghost use Rattle.mblock.specs.Clean.{kinds_of, IsApart, IsBehind, HasQuietSlot, HasQuietEnd, IsClean, FitsSlot, BreaksFirst};
 ghost use Rattle.mblock.specs.Clean.{slot_words};
 ghost use Rattle.mblock.specs.CleanTests.{loads_named, is_product_word, conflict_of, early_at};
 

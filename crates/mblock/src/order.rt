@@ -1,5 +1,5 @@
 //! Orders: the words that may stand for a block.
-ghost use Rattle.std.specs.Prelude.{◌≡◌, ℕ, List, ◌≤◌, length, is_some};
+ghost use Rattle.std.specs.Prelude.{◌≡◌, ◌≤◌, length, is_some};
 ghost use Rattle.std.specs.Option.{SomeIff};
 ghost use Rattle.mblock.specs.Slots.{is_slotted};
 

@@ -1,5 +1,5 @@
 //! Units: the blocks of a whole program with their owners and data.
-ghost use Rattle.std.specs.Prelude.{◌≡◌, ℕ, ◌<◌, ◌≤◌, ◌↔◌, IsTrue, List, Option, Some, length, slice_get, slice_index};
+ghost use Rattle.std.specs.Prelude.{◌≡◌, ◌<◌, ◌↔◌, IsTrue, Option, Some, length, slice_get, slice_index};
 ghost use Rattle.std.specs.Option.{SomeIff};
 ghost use Rattle.mblock.specs.Units.{GoesBelow, BranchesWithin, Continues, AreLinked, AreOwners, IsUnit, unit_parts};
 

@@ -1,6 +1,6 @@
 //! The image of a unit.
 
-ghost use Rattle.std.specs.Prelude.{◌≡◌, ℕ, ◌*◌, ◌<◌, IfOk, OnOk, IfErr, length, slice_index};
+ghost use Rattle.std.specs.Prelude.{◌≡◌, ◌*◌, ◌<◌, IfOk, OnOk, IfErr, length, slice_index};
 ghost use Rattle.mips_asm.specs.declared.limits.TheConstants.{FUNCTION_WORDS};
 ghost use Rattle.mblock.specs.Orders.{AreOrders};
 ghost use Rattle.image.specs.Images.{IsImage, FitsVersion, Second};

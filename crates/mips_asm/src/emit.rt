@@ -1,6 +1,6 @@
 //! The words of orders, in the order of the layout.
 
-ghost use Rattle.std.specs.Prelude.{◌≡◌, ℕ, ◌+◌, ◌*◌, ◌<◌, ◌≤◌, ◌++◌, ◌∷◌, [], ℤ, pos, All, length, map, slice_index, FitsSigned, Err, OnOk};
+ghost use Rattle.std.specs.Prelude.{◌≡◌, ◌+◌, ◌*◌, ◌<◌, ◌≤◌, ◌++◌, ◌∷◌, [], All, length, map, slice_index, FitsSigned, Err, OnOk};
 ghost use Rattle.std.specs.Prelude.{IfOk};
 ghost use Rattle.std.specs.Int.{w16};
 ghost use Rattle.mips_isa.specs.declared.inst.Inst.TheVariants as insts;

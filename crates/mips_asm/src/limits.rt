@@ -1,6 +1,6 @@
 //! The sizes of laid out code, and whether each function is within its limit.
 
-ghost use Rattle.std.specs.Prelude.{◌≡◌, ℕ, ◌*◌, ◌<◌, ◌≤◌, ◌↔◌, ◌==◌, cond, false, IsTrue, length, slice_index};
+ghost use Rattle.std.specs.Prelude.{◌≡◌, ◌*◌, ◌<◌, ◌≤◌, ◌↔◌, ◌==◌, cond, false, IsTrue, length, slice_index};
 ghost use Rattle.mips_asm.specs.declared.limits.TheConstants.{FUNCTION_WORDS};
 ghost use Rattle.mips_asm.specs.Functions.{AreFunctions};
 ghost use Rattle.mips_asm.specs.Limits.{FunctionsFit};

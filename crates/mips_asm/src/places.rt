@@ -1,6 +1,6 @@
 //! Where orders stand, in words.
 
-ghost use Rattle.std.specs.Prelude.{◌≡◌, ℕ, ◌*◌, ◌≤◌, IfOk, length};
+ghost use Rattle.std.specs.Prelude.{◌≡◌, ◌*◌, ◌≤◌, IfOk, length};
 ghost use Rattle.mblock.specs.declared.limits.TheConstants.{UNIT_BLOCKS};
 ghost use Rattle.mips_asm.specs.Layout.{exit_size, place, size};
 ghost use Rattle.mips_asm.specs.Emitted.{places_from};

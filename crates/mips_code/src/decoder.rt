@@ -1,10 +1,10 @@
 //! From a word to the instruction that has it.
 
-ghost use Rattle.std.specs.Prelude.{◌≡◌, ℕ, ◌+◌, ◌*◌, ◌/◌, ◌%◌, ◌^◌, ◌<◌, ◌↔◌, IsTrue, IfSome, Option, Some};
+ghost use Rattle.std.specs.Prelude.{◌≡◌, ◌*◌, ◌/◌, ◌%◌, ◌^◌, ◌<◌, ◌↔◌, IsTrue, IfSome, Option, Some};
 ghost use Rattle.std.specs.Int.{w16, cast_signed};
 ghost use Rattle.mips_isa.specs.declared.inst.Plain.TheVariants.{Store};
 ghost use Rattle.mips_isa.specs.declared.inst.Inst.{Inst as AnInst};
-ghost use Rattle.mips_isa.specs.Ranges.{IsPlain, IsControl, IsInst};
+ghost use Rattle.mips_isa.specs.Ranges.{IsInst};
 ghost use Rattle.mips_code.specs.Words.{inst_word};
 ghost use Rattle.mips_code.specs.Candidates.{shift_at, shift_by_at, alu_at, move_at, multiply_at, divide_at, imm_at, logic_at, pair_at};
 ghost use Rattle.mips_code.specs.Candidates.{jump_at, zero_at, computing_of, moving_of, special_of, arithmetic_of, loading_of, memory_of};

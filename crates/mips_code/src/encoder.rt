@@ -1,8 +1,8 @@
 //! From an instruction to its word.
 
-ghost use Rattle.std.specs.Prelude.{◌≡◌, ℕ, ◌+◌, ◌*◌, ◌/◌, ◌%◌, ◌^◌, ◌<◌};
+ghost use Rattle.std.specs.Prelude.{◌≡◌, ◌+◌, ◌<◌};
 ghost use Rattle.mips_isa.specs.Ranges.{IsPlain, IsControl, IsInst};
-ghost use Rattle.mips_code.specs.Words.{register_word, immediate_word, jump_word, inst_word, word_of_plain, word_of_control, half};
+ghost use Rattle.mips_code.specs.Words.{register_word, immediate_word, jump_word, inst_word, word_of_plain, word_of_control};
 ghost use Rattle.mips_code.specs.Words.{shift_code, shift_by_code, alu_code, move_code, multiply_code, divide_code, imm_code, logic_code};
 ghost use Rattle.mips_code.specs.Words.{load_code, store_code, pair_code, jump_code, zero_code, zero_field};
 

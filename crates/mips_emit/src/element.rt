@@ -2,10 +2,10 @@
 
 #![tactic(auto, using(crate::proofs::Prefixes::prefix_behind, crate::proofs::Prefixes::prefix_among, crate::proofs::Prefixes::emits_behind))]
 
-ghost use Rattle.std.specs.Prelude.{◌≡◌, ◌≤◌, ◌<◌, ◌++◌, ◌∷◌, [], ◌&&◌, nat_eq};
+ghost use Rattle.std.specs.Prelude.{◌≡◌, ◌≤◌, ◌<◌, ◌&&◌, nat_eq};
 ghost use Rattle.mblock.specs.declared.limits.TheConstants.{UNIT_BYTES};
 ghost use Rattle.mips_emit.specs.Locations.{FitsSource};
-ghost use Rattle.mips_emit.specs.Elements.{width_bytes, element_place, address_of_place, direct, IsNear, near, page, low, scaled};
+ghost use Rattle.mips_emit.specs.Elements.{width_bytes, address_of_place, direct, IsNear, near, page, low, scaled};
 ghost use Rattle.mips_emit.specs.Elements.{scaled_register};
 ghost use Rattle.mips_emit.specs.declared.element.Reach.TheVariants.{ByScratch};
 ghost use Rattle.mips_emit.specs.Elements.{base_sum, base_code, base_offset, base_word, element_base, element_offset, IsInReach};

@@ -2,7 +2,7 @@
 
 #![tactic(auto, using(crate::proofs::Prefixes::prefix_behind, crate::proofs::Prefixes::prefix_among, crate::proofs::Prefixes::emits_behind))]
 
-ghost use Rattle.std.specs.Prelude.{◌≡◌, ◌%◌, ◌++◌, ◌∷◌, []};
+ghost use Rattle.std.specs.Prelude.{◌≡◌, ◌%◌};
 ghost use Rattle.mips_emit.specs.Locations.{FitsSource};
 ghost use Rattle.mips_emit.specs.Code.{multiple, multiple_of, multiple_code, exponent};
 ghost use Rattle.mips_emit.specs.Prefixes.{Emits};

@@ -1,6 +1,6 @@
 //! A home for each pseudo-register.
 
-ghost use Rattle.std.specs.Prelude.{◌≡◌, ℕ, ◌≤◌, ◌^◌, length, IfOk, Some};
+ghost use Rattle.std.specs.Prelude.{◌≡◌, ◌≤◌, ◌^◌, length, IfOk, Some};
 ghost use Rattle.mips_homes.specs.Choice.{IsChoice, AreChoices};
 ghost use Rattle.mips_homes.specs.HomedRun.{remembering_run, homed_run};
 ghost use Rattle.mips_homes.specs.Laws.{KeepsRtlRuns};

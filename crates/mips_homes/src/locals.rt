@@ -1,9 +1,9 @@
 //! Which pseudo-registers are local to blocks.
 
-ghost use Rattle.std.specs.Prelude.{◌≡◌, ◌<◌, ◌≤◌, ◌||◌, ◌∷◌, [], ℕ, not, length, if◌then◌else◌, IfOk, OnOk};
+ghost use Rattle.std.specs.Prelude.{◌≡◌, ◌<◌, ◌||◌, ◌∷◌, [], ℕ, not, length, if◌then◌else◌, IfOk, OnOk};
 ghost use Rattle.mips_homes.specs.HomedRun.{is_in};
 ghost use Rattle.mips_homes.specs.Locals.{inst_reads, inst_writes, exit_reads, block_reads_first, goes_to, some_go_to, is_local};
-ghost use Rattle.mips_homes.specs.Walks.{sight_at, is_read_first, is_unwritten, IsUpTo, Sees};
+ghost use Rattle.mips_homes.specs.Walks.{sight_at, is_read_first, IsUpTo, Sees};
 
 use rtl::{RBlock, RExit, RInst, Register};
 use std::alloc::{AllocError, Global};

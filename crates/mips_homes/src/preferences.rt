@@ -1,6 +1,6 @@
 //! In which registers pseudo-registers are best, since arguments and parameters are passed there.
 
-ghost use Rattle.std.specs.Prelude.{◌≡◌, ℕ, List, max, nat_eq, nat_lt, if◌then◌else◌, length, slice_index, IfOk, OnOk};
+ghost use Rattle.std.specs.Prelude.{◌≡◌, ℕ, List, max, nat_eq, if◌then◌else◌, slice_index, IfOk, OnOk};
 ghost use Rattle.rtl.specs.declared.block.RBlock.{RBlock};
 ghost use Rattle.mips_homes.specs.Preferences.{reach_from, exit_reach, blocks_reach, register_of, preference};
 

@@ -1,10 +1,10 @@
 //! What each instruction does, one of eight kinds of action.
-ghost use Rattle.std.specs.Prelude.{◌≡◌, ℕ, ◌*◌, ◌^◌, ◌<◌, ◌||◌, ◌&&◌, ◌==◌};
+ghost use Rattle.std.specs.Prelude.{◌≡◌, ◌*◌, ◌<◌, ◌||◌, ◌==◌};
 ghost use Rattle.mips_isa.specs.declared.action.Operand.TheVariants.{Fixed, Held};
 ghost use Rattle.mips_isa.specs.declared.action.Action.TheVariants.{Computes};
 ghost use Rattle.mips_isa.specs.Actions.{action_of, sign_extension, shift_operator, alu_operator, imm_operator, logic_operator};
 ghost use Rattle.mips_isa.specs.Actions.{product_high, product_low, quotient_operator, remainder_operator, operand_touches, touches, reads};
-ghost use Rattle.mips_isa.specs.Actions.{writes, loads, is_load, is_move, is_product};
+ghost use Rattle.mips_isa.specs.Actions.{writes, is_load, is_move, is_product};
 
 use crate::inst::{AluOp, HiLo, ImmOp, LogicOp, Plain, ShiftOp};
 use crate::reg::{NonzeroReg, Reg};

@@ -1,6 +1,6 @@
 //! Where branches and jumps lead, seen from the word after them.
 
-ghost use Rattle.std.specs.Prelude.{◌≡◌, ℕ, ◌<◌, ◌^◌};
+ghost use Rattle.std.specs.Prelude.{◌≡◌};
 ghost use Rattle.mips_isa.specs.Controls.{branch_target, jump_target};
 
 use crate::reg::JumpTarget;

@@ -1,6 +1,6 @@
 //! Data and stack, kept as words.
 ghost use Rattle.std.specs.Prelude.{IfOk, ◌≡◌, ℕ, ◌<◌, ◌≤◌, ◌+◌, ◌-◌, ◌/◌, ◌^◌, slice_index, true, []};
-ghost use Rattle.std.specs.Prelude.{length, vec_len, vec_capacity, if◌then◌else◌, ◌==◌};
+ghost use Rattle.std.specs.Prelude.{length, vec_capacity, if◌then◌else◌, ◌==◌};
 ghost use Rattle.mips_isa.specs.MemoryMap.{stack_base, stack_end};
 ghost use Rattle.mips_isa.specs.States.{is_open, byte_of, load_at, store_at};
 ghost use Rattle.mips_isa.specs.Starting.{words_mapped, first_bytes};

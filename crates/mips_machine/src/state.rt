@@ -1,5 +1,5 @@
 //! What actions do to registers, HI, LO and memory, and the load under way.
-ghost use Rattle.std.specs.Prelude.{◌≡◌, ◌≤◌, ℕ, None, true, length, slice_index, IfOk, IfErr};
+ghost use Rattle.std.specs.Prelude.{◌≡◌, ◌≤◌, None, true, length, slice_index, IfOk, IfErr};
 ghost use Rattle.words.specs.Operators.{op_value, has_quotient};
 ghost use Rattle.mips_isa.specs.MemoryMap.{stack_end};
 ghost use Rattle.mips_isa.specs.Starting.{start_state};

@@ -1,8 +1,8 @@
 //! The run of a unit's blocks, item by item: an item is one instruction or one exit, and a load shows at once.
-ghost use Rattle.std.specs.Prelude.{◌≡◌, ◌∷◌, ℕ, suc, true, false, IfOk, map, slice_get};
+ghost use Rattle.std.specs.Prelude.{◌≡◌, ◌∷◌, true, false, IfOk, slice_get};
 ghost use Rattle.runs.specs.Runs.{outcome_of};
 ghost use Rattle.mips_isa.specs.Starting.{start_state};
-ghost use Rattle.mips_isa.specs.Actions.{action_of, is_safe, state_after};
+ghost use Rattle.mips_isa.specs.Actions.{is_safe, state_after};
 ghost use Rattle.mblock.specs.UnitRuns.{Next, item, unit_run, return_block_of, outcome_at_block, outcome_at_return, outcome_of_departure};
 ghost use Rattle.mblock.specs.declared.exit.Exit.TheVariants.{Out};
 ghost use Rattle.mblock.specs.BlockMeaning.{exit_effect};

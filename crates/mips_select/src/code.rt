@@ -1,12 +1,12 @@
 //! The blocks for the blocks of a function.
 
 ghost use Rattle.std.specs.Prelude.{◌≡◌, ◌+◌, ◌≤◌, ◌++◌, [], length, IfOk, OnOk, slice_index};
-ghost use Rattle.mblock.specs.declared.limits.TheConstants.{UNIT_BLOCKS, UNIT_BYTES};
+ghost use Rattle.mblock.specs.declared.limits.TheConstants.{UNIT_BLOCKS};
 ghost use Rattle.mips_emit.specs.Frames.{IsReachable};
 ghost use Rattle.mips_emit.specs.Locations.{locations};
 ghost use Rattle.mips_select.specs.Heads.{heads_in, count};
 ghost use Rattle.mips_select.specs.Code.{result_code, head_code, own_block, after_block};
-ghost use Rattle.mips_select.specs.Emittable.{IsEmittable, AreInside};
+ghost use Rattle.mips_select.specs.Emittable.{IsEmittable};
 ghost use Rattle.mips_select.specs.Plans.{linking_of, planning_of};
 ghost use Rattle.mips_select.specs.Whole.{behind, blocks_for};
 

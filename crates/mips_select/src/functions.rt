@@ -1,13 +1,13 @@
 //! The blocks for whole functions, one function after another.
 
 ghost use Rattle.std.specs.Prelude.{◌≡◌, ◌+◌, ◌≤◌, ◌++◌, ◌∷◌, [], length, OnOk};
-ghost use Rattle.mblock.specs.declared.limits.TheConstants.{UNIT_BLOCKS, UNIT_BYTES};
+ghost use Rattle.mblock.specs.declared.limits.TheConstants.{UNIT_BLOCKS};
 ghost use Rattle.mips_emit.specs.Frames.{IsReachable};
 ghost use Rattle.mips_select.specs.Heads.{heads_in, namings_of, AreNamed};
 ghost use Rattle.mips_select.specs.Plans.{linking_of, planning_of};
 ghost use Rattle.mips_select.specs.Code.{start_block, end_block};
 ghost use Rattle.mips_select.specs.declared.heads.Head.TheVariants.{Bare};
-ghost use Rattle.mips_select.specs.Emittable.{AreEmittable, AreInside, AreReachable, IsFunctionEmittable, AreFunctionsEmittable};
+ghost use Rattle.mips_select.specs.Emittable.{AreEmittable, AreReachable, IsFunctionEmittable, AreFunctionsEmittable};
 ghost use Rattle.mips_select.specs.Whole.{size_of_blocks, blocks_from, lead_blocks, function_size, functions_size, function_blocks};
 ghost use Rattle.mips_select.specs.Whole.{functions_blocks};
 

@@ -1,11 +1,11 @@
 //! The data of a program: where its globals begin, and their bytes.
 
-ghost use Rattle.std.specs.Prelude.{◌≡◌, ◌*◌, ◌≤◌, ◌++◌, ◌∷◌, [], All, IfOk, OnOk, map, sum_by};
+ghost use Rattle.std.specs.Prelude.{◌≡◌, ◌*◌, ◌≤◌, ◌++◌, IfOk, OnOk, map, sum_by};
 ghost use Rattle.words.specs.Words.{wrap};
 ghost use Rattle.words.specs.Widths.{kept};
 ghost use Rattle.rtl.specs.declared.limits.TheConstants.{MAX_GLOBAL_WORDS};
 ghost use Rattle.rtl.specs.Meaning.{first_values};
-ghost use Rattle.rtl.specs.Programs.{IsGlobal, word_count};
+ghost use Rattle.rtl.specs.Programs.{word_count};
 ghost use Rattle.mips_select.specs.Data.{element_bytes, elements_bytes, gap_behind, zeros, global_bytes, padded_bytes, bare_bytes};
 ghost use Rattle.mips_select.specs.Data.{data_bytes, starts_from};
 

@@ -1,8 +1,8 @@
 //! Long blocks to pieces.
 
-ghost use Rattle.std.specs.Prelude.{◌≡◌, ◌↔◌, ℕ, suc, ◌+◌, ◌-◌, ◌/◌, ◌^◌, ◌<◌, ◌≤◌, ◌++◌, ◌∷◌, [], length, IfOk, OnOk, IfErr, IsTrue};
+ghost use Rattle.std.specs.Prelude.{◌≡◌, ◌↔◌, ℕ, ◌+◌, ◌-◌, ◌/◌, ◌^◌, ◌<◌, ◌≤◌, ◌++◌, ◌∷◌, [], length, IfOk, OnOk, IfErr, IsTrue};
 ghost use Rattle.std.specs.Prelude.{slice_index};
-ghost use Rattle.mips_select.specs.Split.{renumbered_exit, more_pieces, piece, pieces, count_of, total, firsts, split_from, owners_from};
+ghost use Rattle.mips_select.specs.Split.{renumbered_exit, more_pieces, piece, pieces, total, firsts, split_from, owners_from};
 ghost use Rattle.mips_select.specs.Split.{split_blocks, split_owners};
 ghost use Rattle.mips_isa.specs.States.{State};
 ghost use Rattle.runs.specs.Runs.{Outcome};

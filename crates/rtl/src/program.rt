@@ -1,5 +1,5 @@
 //! Programs of RTL, and which parts make one.
-ghost use Rattle.std.specs.Prelude.{◌≡◌, ℕ, ◌<◌, ◌≤◌, ◌↔◌, IsTrue, IfOk, All, length, sum_by};
+ghost use Rattle.std.specs.Prelude.{◌≡◌, ◌<◌, ◌≤◌, ◌↔◌, IsTrue, IfOk, All, length, sum_by};
 ghost use Rattle.std.specs.Option.{SomeIff};
 ghost use Rattle.rtl.specs.Programs.{IsRegister, IsMaybeRegister, IsInst, IsCallee, IsExit, IsBlock, IsFunction, IsGlobal, IsProgram};
 ghost use Rattle.rtl.specs.Programs.{program_of};

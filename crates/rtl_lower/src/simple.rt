@@ -1,5 +1,4 @@
 //! The code of statements that lead only to what comes after them, and of `return`.
-ghost use Rattle.std.specs.Prelude.{◌≡◌};
 ghost use Rattle.c_typed.specs.Shape.{typed_expression_of, typed_expressions_of, maybe_typed_expression_of};
 ghost use Rattle.c_typed.specs.Trees.{assign, store, call, output, return_with};
 ghost use Rattle.rtl_emit.specs.Blocks.{Spot, spot};

@@ -2,7 +2,7 @@
 //!
 //! A batch's table has room for the terms that its blocks are likely to have. No contract rests on that, since a block that finds the table
 //! full is judged again over tables of its own.
-ghost use Rattle.std.specs.Prelude.{◌≡◌, ◌<◌, ◌≤◌, length};
+ghost use Rattle.std.specs.Prelude.{◌<◌, ◌≤◌, length};
 ghost use Rattle.term_table.specs.declared.limits.TheConstants.{MAX_HEADS, MAX_NODES, MAX_PASSES};
 
 use crate::options::PhaseOpts;

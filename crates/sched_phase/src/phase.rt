@@ -1,5 +1,5 @@
 //! All blocks of a unit, a batch after another, each by workers that share a table, or one after another.
-ghost use Rattle.std.specs.Prelude.{◌≡◌, ℕ, ◌+◌, ◌<◌, ◌≤◌, IfOk, OnOk, IfSome, length};
+ghost use Rattle.std.specs.Prelude.{◌≡◌, ◌+◌, ◌<◌, ◌≤◌, IfOk, OnOk, IfSome, length};
 ghost use Rattle.image.specs.Images.{total};
 ghost use Rattle.sched_phase.specs.Phases.{IsPhase, IsRightFor};
 ghost use Rattle.sched_phase.specs.Settling.{AreDone, AreRightFrom, ServesTerms};

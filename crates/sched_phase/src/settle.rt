@@ -1,5 +1,5 @@
 //! From verdicts to one order for each block.
-ghost use Rattle.std.specs.Prelude.{◌≡◌, ℕ, ◌+◌, ◌<◌, Some, IfOk, OnOk, IfSome, is_some, true, length, slice_get};
+ghost use Rattle.std.specs.Prelude.{◌≡◌, ◌+◌, ◌<◌, Some, IfOk, OnOk, IfSome, is_some, true, length, slice_get};
 ghost use Rattle.mblock.specs.declared.limits.TheConstants.{UNIT_BLOCKS};
 ghost use Rattle.image.specs.Images.{total};
 ghost use Rattle.image.specs.Views.{counts_of};

@@ -1,6 +1,5 @@
 //! The work on one block: an order is proposed and checked.
-ghost use Rattle.std.specs.Prelude.{◌≡◌, ◌+◌, ℕ, Some, slice_get};
-ghost use Rattle.term_table.specs.Passes.{PassState};
+ghost use Rattle.std.specs.Prelude.{◌+◌, Some};
 ghost use Rattle.sched_phase.specs.Phases.{Fits, IsRightFor};
 ghost use Rattle.sched_phase.specs.Settling.{ServesTerms};
 

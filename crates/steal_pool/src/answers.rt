@@ -1,5 +1,5 @@
 //! The answers of tasks, each at the place of its number.
-ghost use Rattle.std.specs.Prelude.{◌≡◌, ◌≤◌, ℕ, All, None, vec_len};
+ghost use Rattle.std.specs.Prelude.{◌≡◌, ◌≤◌, All, None, vec_len};
 ghost use Rattle.steal_pool.specs.Places.{EachPlace};
 
 use crate::job::Job;

@@ -1,5 +1,5 @@
 //! The deques at the start.
-ghost use Rattle.std.specs.Prelude.{◌≡◌, ◌+◌, ◌%◌, ◌<◌, ◌≤◌, [], ◌∷◌, All, IfOk, OnOk, true, map, length, ℕ, Some, slice_get, vec_len};
+ghost use Rattle.std.specs.Prelude.{◌≡◌, ◌+◌, ◌%◌, ◌<◌, ◌≤◌, [], ◌∷◌, IfOk, OnOk, true, map, vec_len};
 ghost use Rattle.crossbeam_deque.specs.Handles.{view, worker_view, worker_flavor, worker_deque, stealer_deque};
 ghost use Rattle.term_table.specs.declared.limits.TheConstants.{MAX_PASSES};
 ghost use Rattle.steal_pool.specs.Rule.{maker, shared, after_putting, KeptByPutting, KeptBySharing};

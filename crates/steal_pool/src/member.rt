@@ -1,8 +1,8 @@
 //! A member takes the tasks of its own deque, and then steals from the others in turn.
-ghost use Rattle.std.specs.Prelude.{◌≡◌, ◌<◌, ℕ, List, [], ◌∷◌, All, map, MatchOption, Some, slice_get, slice_set, ⊤};
+ghost use Rattle.std.specs.Prelude.{◌≡◌, ◌<◌, ℕ, List, All, map, MatchOption, Some, ⊤};
 ghost use Rattle.crossbeam_deque.specs.Handles.{view, stealer_deque};
 ghost use Rattle.steal_pool.specs.declared.view.View.{View};
-ghost use Rattle.steal_pool.specs.Rule.{after_taking, KeptByTaking, Notes};
+ghost use Rattle.steal_pool.specs.Rule.{KeptByTaking, Notes};
 ghost use Rattle.steal_pool.specs.Victims.{IsVictim, TookOne};
 ghost use Rattle.steal_pool.specs.Members.{IsMember, deques_of, views_of};
 ghost use Rattle.steal_pool.specs.Rounds.{GoesRound, FoundEmpty};

@@ -1,5 +1,5 @@
 //! Workers that steal: a task whose worker couldn't start is done by another.
-ghost use Rattle.std.specs.Prelude.{◌≡◌, ◌<◌, ◌≤◌, ℕ, All, None, vec_len, []};
+ghost use Rattle.std.specs.Prelude.{◌<◌, ◌≤◌, All, vec_len};
 ghost use Rattle.term_table.specs.declared.limits.TheConstants.{MAX_PASSES};
 ghost use Rattle.steal_pool.specs.Places.{EachPlace};
 ghost use Rattle.steal_pool.specs.Members.{IsMember};

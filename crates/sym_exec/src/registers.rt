@@ -1,12 +1,12 @@
 //! The terms of registers, HI and LO, and what one action does to them, done to their tickets.
-ghost use Rattle.std.specs.Prelude.{◌≡◌, ℕ, ◌<◌, ◌+◌, ◌∷◌, [], OnOk, OnErr, IfOk, slice_index, vec_len};
+ghost use Rattle.std.specs.Prelude.{◌≡◌, ◌<◌, ◌+◌, ◌∷◌, [], OnOk, OnErr, IfOk, slice_index, vec_len};
 ghost use Rattle.mips_isa.specs.declared.action.Action.TheVariants.{Computes, Loads, Stores};
 ghost use Rattle.mips_isa.specs.States.{put};
 ghost use Rattle.sym_terms.specs.Labels.{label_arity};
 ghost use Rattle.sym_terms.specs.Trees.{Tree, leaf};
 ghost use Rattle.sym_exec.specs.MipsTerms.{HasSeen, HasTree, Lacks};
 ghost use Rattle.sym_exec.specs.Asked.{asked_by, LacksOne};
-ghost use Rattle.sym_exec.specs.Symbolic.{TreeState, register_tree, operand_tree, address_tree, trees_after};
+ghost use Rattle.sym_exec.specs.Symbolic.{TreeState, operand_tree, address_tree, trees_after};
 ghost use Rattle.sym_exec.specs.Standing.{Known, Hold, with_reg, with_halves};
 ghost use Rattle.sym_exec.specs.Interners.{Interns};
 
@@ -36,7 +36,7 @@ pub(crate) struct TermRegisters {
 }
 
 impl TermRegisters {
-    ghost use Rattle.std.specs.Prelude.{◌≡◌, ℕ, ◌<◌, ◌≤◌, ◌+◌, ◌∷◌, [], OnOk, OnErr, IfOk, slice_index, length, vec_len, vec_capacity};
+    ghost use Rattle.std.specs.Prelude.{◌≡◌, ◌<◌, ◌≤◌, ◌+◌, ◌∷◌, [], OnOk, OnErr, IfOk, slice_index, length, vec_len, vec_capacity};
     ghost use Rattle.sym_exec.specs.MipsTerms.{HasTree, Lacks};
     ghost use Rattle.sym_exec.specs.Asked.{asked_by, LacksOne};
     ghost use Rattle.sym_exec.specs.Standing.{Known, Hold, IsAddress, with_reg, with_halves};

@@ -1,6 +1,5 @@
 //! Blocks and orders, instruction by instruction.
-ghost use Rattle.std.specs.Prelude.{◌≡◌, ℕ, ◌+◌, ◌<◌, ◌≤◌, OnOk, OnErr, IfOk, ◌++◌, map, length, vec_len};
-ghost use Rattle.mips_isa.specs.declared.action.Action.{Action as AnAction};
+ghost use Rattle.std.specs.Prelude.{◌≡◌, ◌+◌, ◌<◌, ◌≤◌, OnOk, OnErr, IfOk, ◌++◌, map, length, vec_len};
 ghost use Rattle.mips_isa.specs.Actions.{action_of};
 ghost use Rattle.mblock.specs.BlockMeaning.{exit_shape};
 ghost use Rattle.mblock.specs.Clean.{slot_actions};
@@ -12,7 +11,7 @@ ghost use Rattle.term_table.specs.Trees.{HasLegalHistory};
 ghost use Rattle.sym_exec.specs.MipsTerms.{HasTree, Lacks};
 ghost use Rattle.sym_exec.specs.Asked.{asked_by, asked_by_all, asked_first, asked_by_shape, code_asked};
 ghost use Rattle.sym_exec.specs.Asked.{block_asked, order_asked, LacksOne};
-ghost use Rattle.sym_exec.specs.Symbolic.{TreeState, GuardTree, start_trees, trees_after, all_trees, exit_trees, exit_operands, code_trees};
+ghost use Rattle.sym_exec.specs.Symbolic.{TreeState, start_trees, trees_after, all_trees, exit_trees, exit_operands, code_trees};
 ghost use Rattle.sym_exec.specs.Symbolic.{block_trees, order_trees};
 ghost use Rattle.sym_exec.specs.Standing.{Known, Hold, LeavesBy, StandsFor};
 ghost use Rattle.sym_exec.specs.Interners.{Interns};

@@ -1,7 +1,7 @@
 //! The stores that a run's memory is made of. They are kept in the order of the term of memory. So a load finds the memory that it sees,
 //! and a store its place, by one walk from the last store inward. Terms of memory are made where a load or the end of the run needs them. A
 //! store that goes inside others makes none of theirs again.
-ghost use Rattle.std.specs.Prelude.{◌≡◌, ℕ, ◌<◌, ◌≤◌, ◌+◌, ◌&&◌, [], IfOk, OnErr, length, take, drop, vec_len};
+ghost use Rattle.std.specs.Prelude.{◌≡◌, ◌<◌, ◌≤◌, ◌+◌, ◌&&◌, IfOk, OnErr, length, take, drop, vec_len};
 ghost use Rattle.sym_terms.specs.declared.label.Label.TheVariants.{Load, Store};
 ghost use Rattle.sym_terms.specs.Trees.{Tree, binary, ternary};
 ghost use Rattle.sym_terms.specs.NormalForms.{address_of, are_disjoint, load_tree, store_tree};
@@ -112,7 +112,7 @@ fn stores_inside(stores: &[Stored], width: Width, at: &TermAddress) -> usize
 }
 
 impl StoreChain {
-    ghost use Rattle.std.specs.Prelude.{◌≡◌, ℕ, ◌<◌, ◌≤◌, ◌+◌, IfOk, OnErr, take, vec_len, vec_capacity};
+    ghost use Rattle.std.specs.Prelude.{◌≡◌, ◌<◌, ◌≤◌, ◌+◌, IfOk, OnErr, take, vec_len, vec_capacity};
     ghost use Rattle.sym_terms.specs.Trees.{Tree};
     ghost use Rattle.sym_terms.specs.NormalForms.{address_of, load_tree, store_tree};
     ghost use Rattle.term_table.specs.Passes.{PassState, linked};

@@ -1,5 +1,5 @@
 //! Labels, and the 64-bit word of each.
-ghost use Rattle.std.specs.Prelude.{◌≡◌, ◌⊎◌, ℕ, ◌<◌, IfSome, Some, true};
+ghost use Rattle.std.specs.Prelude.{◌≡◌, ◌⊎◌, ◌<◌, IfSome, Some, true};
 ghost use Rattle.sym_terms.specs.declared.label.Label.{Label};
 ghost use Rattle.sym_terms.specs.Labels.{operator_code, operator_at, origin_code, origin_at, width_code, width_at, label_word, label_with};
 ghost use Rattle.sym_terms.specs.Labels.{is_label, is_origin};

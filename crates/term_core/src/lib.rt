@@ -6,7 +6,7 @@
 //! - Each step is of one of four kinds, on a word that this kind may touch.
 #![tactic(auto)]
 
-ghost use Rattle.std.specs.Prelude.{◌≡◌, ℕ, List};
+ghost use Rattle.std.specs.Prelude.{List};
 ghost use Rattle.term_core.specs.World.{Shape, Item, IsShape, world_of};
 ghost use Rattle.term_core.specs.Law.{Lawful};
 ghost use Rattle.term_core.specs.Numbers.{CountsAreTheseNumbers};

@@ -7,7 +7,6 @@
 //! - Equal tickets mean the same. Where values separate terms, tickets that mean the same are equal.
 #![tactic(auto)]
 
-ghost use Rattle.std.specs.Prelude.{◌≡◌};
 ghost use Rattle.term_labels.specs.Codings.{IsCoding};
 ghost use Rattle.term_values.specs.Meanings.{Algebra, MeaningLasts, LabelsMakeMeanings, EqualTicketsMeanTheSame, ValuesSeparateTerms};
 ghost use Rattle.term_values.specs.Meanings.{MeaningsHaveOneTicket};

@@ -1,6 +1,6 @@
 //! What the workers of a pool do with one table.
-ghost use Rattle.std.specs.Prelude.{◌≡◌, ◌*◌, ◌%◌, ◌^◌, ℕ};
-ghost use Rattle.term_table.specs.Passes.{PassState, IsOf};
+ghost use Rattle.std.specs.Prelude.{◌≡◌, ◌*◌, ◌%◌, ◌^◌};
+ghost use Rattle.term_table.specs.Passes.{IsOf};
 
 use std::alloc::Global;
 use std::sync::Wait;

@@ -1,5 +1,5 @@
 //! What C's operators on `int` and `unsigned int` make of two words (C99 6.5).
-ghost use Rattle.std.specs.Prelude.{◌≡◌, ℕ, Option};
+ghost use Rattle.std.specs.Prelude.{◌≡◌, Option};
 ghost use Rattle.words.specs.C.{sum_of, difference_of, times_of, negation_of, left_shift_of, right_shift_of, is_below};
 
 use crate::operator::shift_keeping_sign;

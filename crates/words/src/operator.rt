@@ -1,6 +1,6 @@
 //! The machine's operators on two words.
-ghost use Rattle.std.specs.Prelude.{◌≡◌, ℕ, ◌/◌, ◌%◌, ◌^◌, ◌<◌, Option};
-ghost use Rattle.words.specs.Operators.{value_of, slt, sltu, sra, nor, subu};
+ghost use Rattle.std.specs.Prelude.{◌≡◌, ◌%◌, ◌^◌, ◌<◌, Option};
+ghost use Rattle.words.specs.Operators.{value_of, slt, sltu, sra};
 
 use crate::sign::Sign;
 

@@ -1,5 +1,5 @@
 //! Signed or unsigned: how products, quotients and comparisons read words.
-ghost use Rattle.std.specs.Prelude.{◌≡◌, ℕ, ◌↔◌, IsTrue, Option, ◌*ℤ◌};
+ghost use Rattle.std.specs.Prelude.{◌≡◌, Option, ◌*ℤ◌};
 ghost use Rattle.words.specs.Operators.{has_quotient, quotient_of, remainder_of, product};
 
 /// How words are read: as two's complement (MULT, DIV) or as they are (MULTU, DIVU).

@@ -1,6 +1,5 @@
 //! The machine, as what runs in portions.
 
-ghost use Rattle.std.specs.Prelude.{◌≡◌, ◌∷◌, ◌++◌, [], IfOk, OnErr, OnOk};
 ghost use Rattle.driver.specs.ImageRuns.{comes_to};
 ghost use Rattle.driver.specs.RunTexts.{ending_text};
 ghost use Rattle.mips_machine.specs.Views.{machine_of};
