@@ -5,3 +5,4 @@ pub mod Hosts
 pub mod OneFile
 pub mod WrongWords
 pub mod Streams
+pub mod Unique

@@ -2,6 +2,8 @@
 //! text around the place with a caret, and a line with a hint.
 
 ghost use Rattle.std.specs.Prelude.{◌≡◌, ◌<◌, ◌^◌, ◌≤◌, length, ◌++◌, All, IfOk, IfSome, Some, codes, decimal};
+ghost use Rattle.std.proofs.Props.{props};
+ghost use Rattle.commands.specs.Unique.{IsShown-prop};
 ghost use Rattle.commands.specs.Requests.{TellsBeside, TellsLine};
 ghost use Rattle.commands.specs.Texts.{IsShown};
 
@@ -109,18 +111,17 @@ fn window(start: usize, end: usize, at: usize) -> (usize, usize) {
     (from, from.saturating_add(SHOWN).min(end))
 }
 
-/// Lines as they are written. Where memory was refused once, nothing more is written, and `end` says so: what writes has no
-/// result at each step.
+/// Lines as they are written, of bytes that steer no terminal. Where memory was refused once, nothing more is written, and `end` says
+/// so: what writes has no result at each step.
 #[derive(Drop)]
 struct Lines {
     bytes: Vec<u8>,
     is_refused: bool,
+    ghost shown: { All IsShown bytes.items } by { Prim.hlevel (IsShown-prop, props) },
 }
 
 impl Lines {
-    fn new(alloc: Global) -> Lines
-        ensures { All IsShown result.bytes.items }
-    {
+    fn new(alloc: Global) -> Lines {
         Lines {
             bytes: Vec::new(alloc),
             is_refused: false,
@@ -129,30 +130,25 @@ impl Lines {
 
     fn push(&mut self, byte: u8)
         requires { IsShown byte }
-        ensures { All IsShown self.old.bytes.items → All IsShown self.new.bytes.items }
     {
         if !self.is_refused {
             self.is_refused = self.bytes.push(byte).is_err();
         }
     }
 
-    fn add(&mut self, bytes: &[u8], way: Way)
-        ensures { All IsShown self.old.bytes.items → All IsShown self.new.bytes.items }
-    {
+    fn add(&mut self, bytes: &[u8], way: Way) {
         for byte in bytes {
             self.push(shown_byte(*byte, way));
         }
     }
 
-    fn end_line(&mut self)
-        ensures { All IsShown self.old.bytes.items → All IsShown self.new.bytes.items }
-    {
+    fn end_line(&mut self) {
         self.push(b'\n');
     }
 
     /// Returns what was written, unless memory was refused.
     fn end(self) -> Result<Vec<u8>, AllocError>
-        ensures { All IsShown self.bytes.items → IfOk result (λ lines. All IsShown lines.items) }
+        ensures { IfOk result (λ lines. All IsShown lines.items) }
     {
         if self.is_refused {
             return Err(AllocError);
@@ -168,9 +164,7 @@ fn dots(is_cut: bool) -> &'static [u8] {
 
 /// Adds at most 160 bytes of the line in which the offset lies, and below it a line with a caret under the offset. Nothing at the text's
 /// end.
-fn add_place(lines: &mut Lines, text: &[u8], at: usize)
-    ensures { All IsShown lines.old.bytes.items → All IsShown lines.new.bytes.items }
-{
+fn add_place(lines: &mut Lines, text: &[u8], at: usize) {
     if at >= text.len() {
         return;
     }
@@ -200,9 +194,7 @@ pub struct Place<'a> {
 }
 
 /// Adds the message, if there is one.
-fn add_message(lines: &mut Lines, about: Option<&Explanation>)
-    ensures { All IsShown lines.old.bytes.items → All IsShown lines.new.bytes.items }
-{
+fn add_message(lines: &mut Lines, about: Option<&Explanation>) {
     if let Some(about) = about {
         lines.add(b" error: ", Way::Words);
         lines.add(about.message.as_slice(), Way::Words);
@@ -210,9 +202,7 @@ fn add_message(lines: &mut Lines, about: Option<&Explanation>)
 }
 
 /// Adds the hint, if there is one.
-fn add_hint(lines: &mut Lines, about: Option<&Explanation>)
-    ensures { All IsShown lines.old.bytes.items → All IsShown lines.new.bytes.items }
-{
+fn add_hint(lines: &mut Lines, about: Option<&Explanation>) {
     if let Some(about) = about
         && let Some(hint) = &about.hint
     {
@@ -223,9 +213,7 @@ fn add_hint(lines: &mut Lines, about: Option<&Explanation>)
 }
 
 /// Adds what else is wrong, if something is.
-fn add_more(lines: &mut Lines, about: Option<&Explanation>)
-    ensures { All IsShown lines.old.bytes.items → All IsShown lines.new.bytes.items }
-{
+fn add_more(lines: &mut Lines, about: Option<&Explanation>) {
     if let Some(about) = about
         && let Some(more) = &about.more
     {
@@ -235,9 +223,7 @@ fn add_more(lines: &mut Lines, about: Option<&Explanation>)
 }
 
 /// Adds a text as a hint, if there is one.
-fn add_hint_text(lines: &mut Lines, hint: Option<&str>)
-    ensures { All IsShown lines.old.bytes.items → All IsShown lines.new.bytes.items }
-{
+fn add_hint_text(lines: &mut Lines, hint: Option<&str>) {
     if let Some(hint) = hint {
         lines.add(b"hint: ", Way::Words);
         lines.add(hint.as_bytes(), Way::Words);
