@@ -92,10 +92,13 @@ fn missing_of_expression(
             Some(_) => None,
             None => Some(Reason::Unset),
         },
-        TypedExpression::Element(_, array, index) => match value(index, locals, globals) {
-            Some(at) => missing_of_element(globals, *array, at, index.integer_type()),
-            None => missing_of_expression(index, locals, globals),
-        },
+        TypedExpression::Element(_, parts) => {
+            let (array, index) = &**parts;
+            match value(index, locals, globals) {
+                Some(at) => missing_of_element(globals, *array, at, index.integer_type()),
+                None => missing_of_expression(index, locals, globals),
+            }
+        }
         TypedExpression::Unary(operator, integer_type, part) => {
             let Some(operand) = value(part, locals, globals) else {
                 return missing_of_expression(part, locals, globals);

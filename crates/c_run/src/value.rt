@@ -84,7 +84,7 @@ fn operand(e: &TypedExpression, locals: &[Option<u32>], globals: &[Vec<u32>]) ->
 {
     match e {
         TypedExpression::Constant(literal) => Some(constant(literal.value)),
-        TypedExpression::Local(number, _) => word_at(locals, *number),
+        TypedExpression::Local(_, number) => word_at(locals, *number),
         _ => value(e, locals, globals),
     }
 }
@@ -100,9 +100,10 @@ pub(crate) fn value(
 {
     match e {
         TypedExpression::Constant(literal) => Some(constant(literal.value)),
-        TypedExpression::Local(number, _) => word_at(locals, *number),
-        TypedExpression::Global(number, _) => element(globals, *number, 0),
-        TypedExpression::Element(_, number, index) => {
+        TypedExpression::Local(_, number) => word_at(locals, *number),
+        TypedExpression::Global(_, number) => element(globals, *number, 0),
+        TypedExpression::Element(_, parts) => {
+            let (number, index) = &**parts;
             let index = operand(index, locals, globals)?;
             element(globals, *number, index as usize)
         }

@@ -59,8 +59,8 @@ fn variable(
 {
     let named = declared_name(program, scopes, name)?;
     match named {
-        Named::Local(number, integer_type) => Ok(TypedExpression::Local(number, integer_type)),
-        Named::Global(number, integer_type) => Ok(TypedExpression::Global(number, integer_type)),
+        Named::Local(number, integer_type) => Ok(TypedExpression::Local(integer_type, number)),
+        Named::Global(number, integer_type) => Ok(TypedExpression::Global(integer_type, number)),
         _ => Err(misuse(TypeFaultKind::Kind, name)),
     }
 }

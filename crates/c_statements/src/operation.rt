@@ -54,7 +54,7 @@ pub fn element(
     ensures err { IfErr result (StopsTwo array index) }
 {
     let ((number, integer_type), index) = both(array, index)?;
-    Ok(TypedExpression::Element(integer_type, number, Box::new(alloc, index)?))
+    Ok(TypedExpression::Element(integer_type, Box::new(alloc, (number, index))?))
 }
 
 /// Returns a prefix operator with its operand.

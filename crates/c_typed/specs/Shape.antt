@@ -12,9 +12,9 @@ use Rattle.c_typed.specs.Trees.{if_else, loop, break_loop, continue_loop, return
 
 abbrev pub typed_expression_of : TypedExpression → Trees.TypedExpression
 typed_expression_of (Constant c) = constant c
-typed_expression_of (Local n k) = local n k
-typed_expression_of (Global n k) = global n k
-typed_expression_of (Element' k n p e) = element n k (typed_expression_of e)
+typed_expression_of (Local k n) = local n k
+typed_expression_of (Global k n) = global n k
+typed_expression_of (Element' k p n e) = element n k (typed_expression_of e)
 typed_expression_of (Unary' o k p e) = unary o k (typed_expression_of e)
 typed_expression_of (Binary' o k p l r) = binary o k (typed_expression_of l) (typed_expression_of r)
 typed_expression_of (Conditional' k p c a b) = conditional k (typed_expression_of c) (typed_expression_of a) (typed_expression_of b)

@@ -9,13 +9,13 @@ use words::Width;
 
 /// A typed expression. A local, a global variable and an array stand as their numbers. An operator keeps the type that
 /// it computes in: for a comparison that is the operands' common type. (rattle 13f keeps fields in their order: a type stands before a
-/// number, and a node has 24 bytes.)
+/// number, and a node has 16 bytes.)
 #[derive(Drop, PartialEq)]
 pub enum TypedExpression {
     Constant(Literal),
-    Local(usize, IntegerType),
-    Global(usize, IntegerType),
-    Element(IntegerType, usize, Box<TypedExpression>),
+    Local(IntegerType, usize),
+    Global(IntegerType, usize),
+    Element(IntegerType, Box<(usize, TypedExpression)>),
     Unary(UnaryOp, IntegerType, Box<TypedExpression>),
     Binary(BinaryOp, IntegerType, Box<(TypedExpression, TypedExpression)>),
     Conditional(IntegerType, Box<(TypedExpression, TypedExpression, TypedExpression)>),
@@ -74,9 +74,9 @@ impl TypedExpression {
     {
         match self {
             TypedExpression::Constant(literal) => literal.integer_type,
-            TypedExpression::Local(_, integer_type) => *integer_type,
-            TypedExpression::Global(_, integer_type) => *integer_type,
-            TypedExpression::Element(integer_type, _, _) => *integer_type,
+            TypedExpression::Local(integer_type, _) => *integer_type,
+            TypedExpression::Global(integer_type, _) => *integer_type,
+            TypedExpression::Element(integer_type, _) => *integer_type,
             TypedExpression::Unary(_, integer_type, _) => *integer_type,
             TypedExpression::Binary(operator, integer_type, _) => match operator {
                 BinaryOp::Less
@@ -93,3 +93,5 @@ impl TypedExpression {
         }
     }
 }
+
+const _: () = prove!(size_of::<TypedExpression>() == 16);

@@ -325,15 +325,16 @@ impl<'a, 't> Walk<'a, 't> {
     ) -> Result<Option<u32>, AllocError> {
         match (e, typed) {
             (Expression::Constant(literal), _) => Ok(Some(literal.value)),
-            (Expression::Name(name), TypedExpression::Local(k, _)) => {
+            (Expression::Name(name), TypedExpression::Local(_, k)) => {
                 if is_live {
                     self.read(*k, *name);
                 }
                 Ok(None)
             }
-            (Expression::Index(parts), TypedExpression::Element(_, k, part)) => {
+            (Expression::Index(parts), TypedExpression::Element(_, typed)) => {
                 let (name, index) = &**parts;
-                self.element(*name, *k, index, part, is_live)?;
+                let (k, typed) = &**typed;
+                self.element(*name, *k, index, typed, is_live)?;
                 Ok(None)
             }
             (Expression::Unary(operator, part), TypedExpression::Unary(_, integer_type, typed)) => {

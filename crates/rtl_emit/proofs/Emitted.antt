@@ -47,8 +47,9 @@ pub at_equal : {bs : List RBlock} {b : ℕ} {c c' : Code} → c ≡ c' → At bs
 at_equal {bs} {b} e a = subst (λ c. At bs b c) e a
 
 -- an expression whose operator and parts are these
-pub element_is : {e : TypedExpression} (a : ℕ) (k : IntegerType) (i i' : TypedExpression) → e ≡ element a k i → i' ≡ i → e ≡ element a k i'
-element_is a k i i' is ii = is ∙ ap (element a k) (sym ii)
+pub element_is : {e : TypedExpression} (k : IntegerType) (p q : ℕ × Tree.TypedExpression) → e ≡ element p.0 k (typed_expression_of p.1) → q ≡ p
+    → e ≡ element q.0 k (typed_expression_of q.1)
+element_is k p q is iq = is ∙ ap (λ (p : ℕ × Tree.TypedExpression). element p.0 k (typed_expression_of p.1)) (sym iq)
 
 pub unary_is : {e : TypedExpression} (o o' : UnaryOp) (k : IntegerType) (a a' : TypedExpression) → e ≡ unary o k a → o ≡ o' → a' ≡ a → e ≡ unary o' k a'
 unary_is o o' k a a' is io ia = is ∙ ap (λ o. unary o k a) io ∙ ap (λ a. unary o' k a) (sym ia)

@@ -18,9 +18,9 @@ weight (binary o k l r) = weight l + weight r + 9
 weight (conditional k c a b) = weight c + weight a + weight b + 9
 
 -- the weight of an expression by those of its parts, as they are found
-pub element_weight : {e : TypedExpression} {x : ℕ} {k : IntegerType} {i i' : Tree.TypedExpression} → e ≡ element x k (typed_expression_of i) → i' ≡ i
-    → weight e ≡ weight (typed_expression_of i') + 9
-element_weight is ii = ap weight is ∙ ap (λ i. weight (typed_expression_of i) + 9) (sym ii)
+pub element_weight : {e : TypedExpression} {k : IntegerType} {p q : ℕ × Tree.TypedExpression} → e ≡ element p.0 k (typed_expression_of p.1) → q ≡ p
+    → weight e ≡ weight (typed_expression_of q.1) + 9
+element_weight is iq = ap weight is ∙ ap (λ (p : ℕ × Tree.TypedExpression). weight (typed_expression_of p.1) + 9) (sym iq)
 
 pub unary_weight : {e : TypedExpression} {o : UnaryOp} {k : IntegerType} {a a' : Tree.TypedExpression} → e ≡ unary o k (typed_expression_of a) → a' ≡ a
     → weight e ≡ weight (typed_expression_of a') + 9

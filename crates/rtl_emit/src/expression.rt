@@ -71,9 +71,12 @@ pub fn value_into(
     };
     match e {
         TypedExpression::Constant(literal) => number_into(aim, *literal),
-        TypedExpression::Local(number, _) => local_into(aim, *number),
-        TypedExpression::Global(number, _) => global_into(aim, *number),
-        TypedExpression::Element(_, number, index) => element_into(aim, blocks, *number, index),
+        TypedExpression::Local(_, number) => local_into(aim, *number),
+        TypedExpression::Global(_, number) => global_into(aim, *number),
+        TypedExpression::Element(_, parts) => {
+            let (number, index) = &**parts;
+            element_into(aim, blocks, *number, index)
+        }
         TypedExpression::Unary(operator, _, part) => unary_into(aim, blocks, *operator, part),
         TypedExpression::Binary(operator, integer_type, operands) => {
             let (left, right) = &**operands;
@@ -229,7 +232,7 @@ pub fn operand_into(
     requires within { register < MAX_REGISTERS }
     ensures { EmitsOperand (typed_expression_of e.now) register free after blocks.old.items blocks.new.items result }
 {
-    if let TypedExpression::Local(number, _) = e {
+    if let TypedExpression::Local(_, number) = e {
         if *number == register as usize {
             return Ok(after);
         }

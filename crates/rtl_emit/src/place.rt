@@ -65,7 +65,7 @@ pub fn place_of(e: &TypedExpression, free: Register) -> Result<Place, LowerFault
     ensures room { OnOk result (place_registers (typed_expression_of e.now) free ≤ MAX_REGISTERS) }
     ensures limit { IfErr result (λ f. f ≡ LowerFault.Limit → MAX_REGISTERS < place_registers (typed_expression_of e.now) free) }
 {
-    if let TypedExpression::Local(number, _) = e {
+    if let TypedExpression::Local(_, number) = e {
         let register = register_of(*number)?;
         return Ok(Place { register, free });
     }

@@ -28,7 +28,7 @@ value_into-returns-in-Global t c =
 pub value_into-returns-in-Element : goal.value_into-returns-in-Element
 value_into-returns-in-Element t c =
     value_along _ _ _ _ c.args.to c.args.free (spot c.args.after) _
-    (element_is _ _ _ _ (ap typed_expression_of c.in-Element.is) (ap typed_expression_of c.deref.ensures)) (c.element_into.ensures _)
+    (element_is _ _ _ (ap typed_expression_of c.in-Element.is) c.deref.ensures) (c.element_into.ensures _)
 
 pub value_into-returns-in-Unary : goal.value_into-returns-in-Unary
 value_into-returns-in-Unary t c =
