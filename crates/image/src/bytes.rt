@@ -1,5 +1,6 @@
 //! The bytes of images, written and read.
-ghost use Rattle.std.specs.Prelude.{◌≡◌, ◌+◌, ◌*◌, ◌≤◌, ◌^◌, ◌++◌, None, length, OnOk, IfOk, IfErr, MatchResult};
+ghost use Rattle.std.specs.Prelude.{◌≡◌, ℕ, ◌+◌, ◌*◌, ◌≤◌, ◌^◌, ◌++◌, None, length, OnOk, IfOk, IfErr, MatchResult};
+ghost use Rattle.std.specs.Int.{w32, to_be_bytes};
 ghost use Rattle.image.specs.Images.{ImageParts, IsImage, EachImageHasItsBytes, head_of, image_bytes, words_bytes, word_at_byte, words_of};
 ghost use Rattle.image.specs.Images.{counts_at, total, first_version_fault, second_version_fault, image_fault, is_entry, has_sizes};
 ghost use Rattle.image.specs.Images.{parts_behind, parts_of, IsImageFault};
@@ -15,11 +16,24 @@ use std::alloc::{AllocError, Global};
 /// The four bytes `MCCI`.
 const MAGIC: u32 = 0x4d43_4349;
 
+/// Puts the four bytes of a word after others.
+fn put_word(out: &mut Vec<u8>, word: u32) -> Result<(), AllocError>
+    ensures { OnOk result (out.new.items ≡ out.old.items ++ to_be_bytes w32 word) }
+{
+    let [first, second, third, last] = word.to_be_bytes();
+    out.reserve(4)?;
+    out.push_reserved(first);
+    out.push_reserved(second);
+    out.push_reserved(third);
+    out.push_reserved(last);
+    Ok(())
+}
+
 fn put_words(out: &mut Vec<u8>, words: &[u32]) -> Result<(), AllocError>
     ensures { OnOk result (out.new.items ≡ out.old.items ++ words_bytes words.now) }
 {
     for word in words {
-        out.extend_from_slice(&word.to_be_bytes())?;
+        put_word(out, *word)?;
     }
     Ok(())
 }
