@@ -1,5 +1,5 @@
 //! A whole text: its bytes, its tokens, its program, or the fault that comes first.
-ghost use Rattle.std.specs.Prelude.{◌≡◌, ◌≢◌, ◌≤◌, ℕ, List, true, length, IfOk, IfErr, IfSome, IfNone};
+ghost use Rattle.std.specs.Prelude.{◌≡◌, ◌≢◌, ◌≤◌, ℕ, List, length, IfOk, IfErr, IfSome, IfNone};
 ghost use Rattle.c_tree.specs.Shape.{declarations_of};
 ghost use Rattle.c_front.specs.Texts.{SpellsText, IsTextFault, is_text, AllText, place_or, refusal_kind};
 ghost use Rattle.c_tree.specs.Tree.{Declaration};
@@ -20,17 +20,6 @@ fn is_text(byte: u8) -> bool
     (b' ' <= byte && byte <= b'~') || byte == b'\t' || byte == b'\n' || byte == b'\r'
 }
 
-/// Reports whether a text may have each of its bytes. The loop has no early end, so many bytes are tested at once.
-fn is_all_text(text: &[u8]) -> bool
-    ensures { result ≡ true → AllText text.now }
-{
-    let mut is_all = true;
-    for byte in text {
-        is_all = is_all & is_text(*byte);
-    }
-    is_all
-}
-
 /// Returns what is wrong with the size or the bytes of a text.
 fn unreadable(text: &[u8]) -> Option<FrontFault>
     ensures short { IfNone result (length text.now ≤ MAX_TEXT) }
@@ -42,9 +31,6 @@ fn unreadable(text: &[u8]) -> Option<FrontFault>
             kind: FrontFaultKind::Size,
             at: MAX_TEXT,
         });
-    }
-    if is_all_text(text) {
-        return None;
     }
     for at in 0..text.len() {
         if !is_text(text[at]) {
