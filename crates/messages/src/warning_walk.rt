@@ -315,8 +315,10 @@ impl<'a, 't> Walk<'a, 't> {
         Ok(folded_binary(operation.operator, operation.integer_type, left, right))
     }
 
-    /// Walks through an expression that can be reached or can't; its value where it is a constant.
+    /// Walks through an expression that can be reached or can't; its value where it is a constant. Most are a constant or a local, for
+    /// which nothing is called.
     #[cycle(expressions)]
+    #[inline(always)]
     fn expression(
         &mut self,
         e: &Expression,
@@ -331,6 +333,19 @@ impl<'a, 't> Walk<'a, 't> {
                 }
                 Ok(None)
             }
+            _ => self.compound(e, typed, is_live),
+        }
+    }
+
+    /// Walks through an expression that has parts.
+    #[cycle(expressions)]
+    fn compound(
+        &mut self,
+        e: &Expression,
+        typed: &TypedExpression,
+        is_live: bool,
+    ) -> Result<Option<u32>, AllocError> {
+        match (e, typed) {
             (Expression::Index(parts), TypedExpression::Element(_, typed)) => {
                 let (name, index) = &**parts;
                 let (k, typed) = &**typed;
@@ -354,6 +369,9 @@ impl<'a, 't> Walk<'a, 't> {
                 let left = self.expression(left, one, is_live)?;
                 let place = self.between(*operator, left, is_live);
                 let right = self.expression(right, other, place.1)?;
+                if left.is_none() && right.is_none() {
+                    return Ok(None);
+                }
                 let operation = Operation {
                     operator: *operator,
                     integer_type: *integer_type,
