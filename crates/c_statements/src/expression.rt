@@ -81,7 +81,27 @@ pub fn array(
     }
 }
 
+/// Returns the same as `expression`, without a call for a constant and a variable.
+#[cycle(expressions)]
+#[inline(always)]
+fn operand(
+    alloc: Global,
+    program: &Program,
+    scopes: &Scopes,
+    e: &Expression,
+) -> Result<TypedExpression, TypeStop>
+    ensures { Answers (λ t. Types (environment_of program.now scopes.now) (expression_of e.now) (typed_expression_of t))
+        (Faulty (environment_of program.now scopes.now) (expression_of e.now)) result }
+{
+    match e {
+        Expression::Constant(literal) => Ok(TypedExpression::Constant(*literal)),
+        Expression::Name(name) => variable(program, scopes, *name),
+        _ => expression(alloc, program, scopes, e),
+    }
+}
+
 /// Returns the typed tree of an expression under the names in sight, or its first fault.
+#[cycle(expressions)]
 pub fn expression(
     alloc: Global,
     program: &Program,
@@ -96,23 +116,23 @@ pub fn expression(
         Expression::Name(name) => variable(program, scopes, *name),
         Expression::Index(parts) => {
             let (name, inner) = &**parts;
-            let index = expression(alloc, program, scopes, inner);
+            let index = operand(alloc, program, scopes, inner);
             element(alloc, array(program, scopes, *name), index)
         }
         Expression::Unary(operator, inner) => {
-            unary(alloc, *operator, expression(alloc, program, scopes, inner))
+            unary(alloc, *operator, operand(alloc, program, scopes, inner))
         }
         Expression::Binary(operator, operands) => {
             let (first, second) = &**operands;
-            let left = expression(alloc, program, scopes, first);
-            let right = expression(alloc, program, scopes, second);
+            let left = operand(alloc, program, scopes, first);
+            let right = operand(alloc, program, scopes, second);
             binary(alloc, *operator, left, right)
         }
         Expression::Conditional(parts) => {
             let (test, first, second) = &**parts;
-            let test = expression(alloc, program, scopes, test);
-            let yes = expression(alloc, program, scopes, first);
-            let no = expression(alloc, program, scopes, second);
+            let test = operand(alloc, program, scopes, test);
+            let yes = operand(alloc, program, scopes, first);
+            let no = operand(alloc, program, scopes, second);
             conditional(alloc, test, yes, no)
         }
     }
