@@ -82,7 +82,7 @@ fn note_exit(table: &mut Vec<Naming>, exit: &RExit)
 fn none_named(alloc: Global, blocks: &[RBlock]) -> Result<Vec<Naming>, AllocError>
     ensures { IfOk result (λ t. t.items ≡ unnamed blocks.now) }
 {
-    let mut table = Vec::new(alloc);
+    let mut table = Vec::with_capacity(alloc, blocks.len())?;
     for _b in blocks {
         table.push(Naming::Unnamed)?;
     }

@@ -62,7 +62,7 @@ pub(crate) fn number_blocks(
     requires { first + size_of_blocks (heads_in table.now) blocks.now ≤ UNIT_BLOCKS }
     ensures { IfOk result (λ ns. ns.items ≡ numbers (heads_in table.now) first blocks.now) }
 {
-    let mut ns = Vec::new(alloc);
+    let mut ns = Vec::with_capacity(alloc, blocks.len())?;
     let mut k = first;
     for block in blocks {
         push(&mut ns, number(k))?;

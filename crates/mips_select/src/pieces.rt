@@ -44,7 +44,7 @@ pub(crate) fn first_pieces(
     ensures few { IfOk result (λ _. total BLOCK_INSTS long.now ≤ UNIT_BLOCKS) }
     ensures limit { IfErr result (λ e. e ≡ SelectFault.Limit → UNIT_BLOCKS < total BLOCK_INSTS long.now) }
 {
-    let mut numbers = Vec::new(alloc);
+    let mut numbers = Vec::with_capacity(alloc, long.len())?;
     let mut k: usize = 0;
     for block in long {
         let more = count_more(block);
@@ -167,7 +167,7 @@ fn pieces_of(
     requires { total BLOCK_INSTS long.items ≤ UNIT_BLOCKS }
     ensures { IfOk result (λ blocks. blocks.items ≡ split_from BLOCK_INSTS (λ n. slice_index numbers.now n) 0 long.items) }
 {
-    let mut out = Vec::new(alloc);
+    let mut out = Vec::with_capacity(alloc, long.len())?;
     for block in long {
         let exit = renumber(numbers, block.exit());
         push_block(alloc, &mut out, block, exit)?;
@@ -185,7 +185,7 @@ fn owners_of(
     requires { length owner.now ≡ length long.now }
     ensures { IfOk result (λ os. os.items ≡ owners_from BLOCK_INSTS (λ n. slice_index numbers.now n) long.now owner.now) }
 {
-    let mut owners = Vec::new(alloc);
+    let mut owners = Vec::with_capacity(alloc, long.len())?;
     for i in 0..long.len() {
         let first = number_at(numbers, owner[i]);
         push_copies(&mut owners, first, 1 + count_more(&long[i]))?;

@@ -24,12 +24,14 @@ use mips_homes::{Homed, place};
 use rtl::Rtl;
 use std::alloc::{AllocError, Global};
 
-/// Emits the blocks for a program, of any length. Its functions begin at `entries`, and `namings` says how their blocks are named.
+/// Emits the blocks for a program, of any length: `count` of them. Its functions begin at `entries`, and `namings` says
+/// how their blocks are named.
 fn emit_program(
     alloc: Global,
     homed: &Homed,
     entries: &[BlockNumber],
     namings: &[Vec<Naming>],
+    count: usize,
 ) -> Result<Vec<LongBlock>, AllocError>
     requires choices { ArePlaced homed.now }
     requires frames { AreReachable homed.now.frames.items }
@@ -49,7 +51,7 @@ fn emit_program(
         starts,
         entries,
     };
-    let mut out = Vec::new(alloc);
+    let mut out = Vec::with_capacity(alloc, count)?;
     emit_start(alloc, &mut out, number_at(entries, homed.rtl.main()))?;
     emit_end(alloc, &mut out)?;
     emit_functions(&mut out, &linkage, namings, functions, frames)?;
@@ -95,7 +97,8 @@ pub(crate) fn long_unit(alloc: Global, homed: &Homed) -> Result<LongUnit, Select
 {
     let numbers = number_functions(alloc, homed.rtl.functions())?;
     let entries = numbers.entries.as_slice();
-    let blocks = emit_program(alloc, homed, entries, numbers.namings.as_slice())?;
+    let count = numbers.owners.len();
+    let blocks = emit_program(alloc, homed, entries, numbers.namings.as_slice(), count)?;
     let Numbers {
         owners,
         namings,

@@ -20,5 +20,5 @@ pub returns : goal.returns
 returns c =
     program_made c.args.homed.now _ _ _ _ _ _ _ _ _ _ _ c.requires.entries (c.as_slice-starts.ensures.value
     ∙ c.in_ok-table.ensures) c.globals-globals.ensures.value c.functions-functions.ensures.value c.as_slice-frames.ensures.value
-    c.main.ensures.value c.number_at.ensures c.new-out.ensures.items c.in_ok-emit_start.ensures c.in_ok-emit_end.ensures
+    c.main.ensures.value c.number_at.ensures c.in_ok-out.ensures.items c.in_ok-emit_start.ensures c.in_ok-emit_end.ensures
     c.in_ok-emit_functions.ensures
