@@ -221,6 +221,7 @@ fn value_block(
 
 /// Emits the value of an operand in its place: no code for a local that is there.
 #[cycle(expressions)]
+#[inline(always)]
 pub fn operand_into(
     alloc: Global,
     blocks: &mut Vec<RBlock>,
@@ -237,7 +238,18 @@ pub fn operand_into(
             return Ok(after);
         }
     }
-    value_into(alloc, blocks, e, register, free, Continuation::Made(after))
+    let after = Continuation::Made(after);
+    // most operands are a local or a constant, for which nothing is called
+    if let TypedExpression::Constant(literal) = e {
+        let aim = Aim {
+            alloc,
+            to: register,
+            free,
+            after,
+        };
+        return number_into(aim, *literal);
+    }
+    value_into(alloc, blocks, e, register, free, after)
 }
 
 /// Emits the value of an operand in its place, before code that waits for it there, if there is such code.

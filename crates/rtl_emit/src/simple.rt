@@ -34,6 +34,7 @@ pub fn number_of(number: usize) -> Result<u32, LowerFault>
 }
 
 /// Emits a constant.
+#[inline(always)]
 pub(crate) fn number_into(aim: Aim, literal: Literal) -> Result<OpenBlock, LowerFault>
     ensures { (bs : List RBlock) → EmitsValue (constant literal) aim.to aim.free (spot aim.after) bs bs result }
 {

@@ -1,7 +1,7 @@
 use Rattle.std.proofs.Common.{ap, arith, refl, rules, sym}
 use Rattle.c_typed.specs.Shape.{typed_expression_of}
 use Rattle.c_typed.specs.Trees.{binary}
-use Rattle.rtl_emit.specs.Blocks.{spot}
+use Rattle.rtl_emit.specs.Blocks.{Line, open_code, spot}
 use Rattle.rtl_emit.specs.Emits.{value_size, condition_size}
 use Rattle.rtl_emit.proofs.Emitted.{element_is, unary_is, binary_is, conditional_is}
 use Rattle.rtl_emit.proofs.Emitting.{value_along, branch_along, element_emits, prefix_emits, identity_emits, not_emits, not_stops, told_emits, told_stops}
@@ -131,6 +131,10 @@ value_block-returns t c =
     let made = c.seal.ensures in
     block_emits _ _ _ (value_size (typed_expression_of c.args.e.now) c.args.free 0) _ _ _ c.in_ok-code.code _ c.in_ok-code.ensures
     (λ s named h. (h.0, (named, h.1))) made.grows made.count made.insts made.limit made.sound made.at
+
+pub operand_into-returns-in-Constant : goal.operand_into-returns-in-Constant
+operand_into-returns-in-Constant t c = operand_emits _ _ _ _ _ c.args.after _
+    (value_along _ _ _ _ c.args.register c.args.free (Line (open_code c.args.after)) _ (ap typed_expression_of c.in-Constant.is) (c.number_into.ensures _))
 
 pub operand_into-returns : goal.operand_into-returns
 operand_into-returns t c = operand_emits _ _ _ _ _ c.args.after _ c.value_into.ensures
