@@ -60,6 +60,20 @@ fn operation_words(operator: BinaryOp, right: u32) -> &'static str {
     }
 }
 
+/// Returns why an operator between two words of a type has no value.
+fn operation_line(
+    alloc: Global,
+    operator: BinaryOp,
+    integer_type: IntegerType,
+    left: u32,
+    right: u32,
+) -> Result<String, AllocError> {
+    let (sign, words) = (sign_of(operator), operation_words(operator, right));
+    let (left, right) = (read_as(integer_type, left), read_as(integer_type, right));
+    format!(in alloc; "wrong: {left} {sign} {right} {words}\n")
+}
+
+/// Returns why a run is wrong, and a hint where there is one.
 fn wrong_lines(alloc: Global, why: Reason, depth: u32) -> Result<String, AllocError> {
     match why {
         Reason::Unset => String::from_str(
@@ -88,11 +102,7 @@ fn wrong_lines(alloc: Global, why: Reason, depth: u32) -> Result<String, AllocEr
             integer_type,
             left,
             right,
-        } => {
-            let (sign, words) = (sign_of(operator), operation_words(operator, right));
-            let (left, right) = (read_as(integer_type, left), read_as(integer_type, right));
-            format!(in alloc; "wrong: {left} {sign} {right} {words}\n")
-        }
+        } => operation_line(alloc, operator, integer_type, left, right),
         Reason::TooDeep => format!(in alloc;
             "wrong: more than {depth} calls are active at once\nhint: --depth N lets N be active, 4096 at most\n"
         ),

@@ -24,7 +24,7 @@ use std::error::Error;
 use std::{fmt, str};
 
 /// Why nothing of a text is shown.
-#[derive(Clone, Copy, Debug, PartialEq, Eq)]
+#[derive(Clone, Copy, Debug)]
 pub enum StagesFault {
     /// A build of the text ends by this fault.
     Build(BuildFault),
@@ -168,15 +168,11 @@ fn block_lines(
         Some(name) => format!(in alloc; "the function '{name}'")?,
         None => String::from_str(alloc, "the program")?,
     };
-    let whose = whose.as_str();
-    match asked.block {
-        Some(number) => format!(in alloc;
-            "error: {whose} has no block {number}\nhint: it has {first} to {last}\n"
-        ),
-        None => format!(in alloc;
-            "error: {whose} has no block of this number\nhint: it has {first} to {last}\n"
-        ),
-    }
+    let which = match asked.block {
+        Some(number) => format!(in alloc; "{number}")?,
+        None => String::from_str(alloc, "of this number")?,
+    };
+    format!(in alloc; "error: {whose} has no block {which}\nhint: it has {first} to {last}\n")
 }
 
 /// Tells the line of a fault, and lines below it, if there are some.

@@ -10,7 +10,7 @@ use runs::Ran;
 use std::alloc::Global;
 
 /// Why a text has no run.
-#[derive(Clone, Copy, Debug, PartialEq, Eq)]
+#[derive(Clone, Copy, Debug)]
 pub enum InterpFault {
     /// The text spells no program, or a declaration or a use of a name is wrong (faults 1 to 20, and 30).
     Source(SourceFault),

@@ -55,17 +55,15 @@ fn place_of(
     if count == 1 { at } else { None }
 }
 
-/// Finds a place of a program's run in its text.
-pub(crate) fn place_in_text<'t>(
+/// Finds a place of a program's run in the tree that its text spells.
+fn place_in_tree<'t>(
     alloc: Global,
     text: &'t [u8],
+    program: &Program,
     typed: &Typed,
     place: WrongPlace<'_>,
 ) -> Option<NamedPlace<'t>> {
-    let Ok(program) = read(alloc, text) else {
-        return None;
-    };
-    let function = function_of(&program, place.function)?;
+    let function = function_of(program, place.function)?;
     let rest = text.get(function.name.at as usize..)?;
     let name = rest.get(..function.name.length as usize)?;
     let body = &typed.functions().get(place.function)?.body;
@@ -80,4 +78,17 @@ pub(crate) fn place_in_text<'t>(
             None => None,
         },
     })
+}
+
+/// Finds a place of a program's run in its text.
+pub(crate) fn place_in_text<'t>(
+    alloc: Global,
+    text: &'t [u8],
+    typed: &Typed,
+    place: WrongPlace<'_>,
+) -> Option<NamedPlace<'t>> {
+    match read(alloc, text) {
+        Ok(program) => place_in_tree(alloc, text, &program, typed, place),
+        Err(_) => None,
+    }
 }

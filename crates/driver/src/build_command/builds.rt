@@ -35,7 +35,7 @@ pub enum Limit {
 }
 
 /// Why a text has no image.
-#[derive(Clone, Copy, Debug, PartialEq, Eq)]
+#[derive(Clone, Copy, Debug)]
 pub enum BuildFault {
     /// The text spells no program, or a declaration or a use of a name is wrong (faults 1 to 20, and 30).
     Source(SourceFault),
@@ -56,7 +56,7 @@ impl From<SourceFault> for BuildFault {
 }
 
 /// An image's bytes, how many blocks of it had which verdict, and how many there are.
-#[derive(Debug, Drop)]
+#[derive(Drop)]
 pub struct Built {
     pub image: Vec<u8>,
     pub report: Counts,

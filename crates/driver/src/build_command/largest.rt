@@ -59,13 +59,18 @@ fn name_of(alloc: Global, text: &[u8], number: usize) -> Result<Option<String>, 
     Ok(None)
 }
 
+/// Finds the number of the function of a text that has most words of code, and how many; None if memory runs out to it.
+fn largest_of(alloc: Global, text: &[u8]) -> Option<(usize, usize)> {
+    let unit = unit_of(alloc, text, 1).ok()?;
+    let scheduled = schedule_plain(alloc, &unit).ok()?;
+    Some(most_words(unit.owner(), scheduled.orders()))
+}
+
 /// Returns the line that names the function of a text with most words of code; None if memory runs out to it.
 pub(crate) fn largest_line(alloc: Global, text: &[u8]) -> Option<Vec<u8>>
     ensures { IfSome result (λ line. All IsShown line.items) }
 {
-    let unit = unit_of(alloc, text, 1).ok()?;
-    let scheduled = schedule_plain(alloc, &unit).ok()?;
-    let (number, words) = most_words(unit.owner(), scheduled.orders());
+    let (number, words) = largest_of(alloc, text)?;
     let name = name_of(alloc, text, number).ok()??;
     let line = format!(in alloc;
         "the largest function, '{name}', has {words} words in plain order"

@@ -1,44 +1,15 @@
 //! Why an image's run is stuck, in lines for people.
 
-ghost use Rattle.std.specs.Prelude.{All, IfOk, IfSome};
+ghost use Rattle.std.specs.Prelude.{All, IfSome};
 ghost use Rattle.driver.specs.RunCommand.{IsShown};
 ghost use Rattle.commands.specs.Requests.{TellsBeside};
 
-use commands::{Complaints, printable_byte};
+use crate::reasons::page;
+use commands::Complaints;
 use image::{Image, read_image};
 use mips_asm::list;
 use mips_isa::{CODE_BASE, Rule};
 use std::alloc::{AllocError, Global};
-
-/// Returns the byte itself if it is printable or a line's end, else `?`.
-fn shown_byte(byte: u8) -> u8
-    ensures { IsShown result }
-{
-    match byte {
-        b'\n' => b'\n',
-        _ => printable_byte(byte),
-    }
-}
-
-fn shown_bytes(alloc: Global, text: &[u8]) -> Result<Vec<u8>, AllocError>
-    ensures { IfOk result (λ bytes. All IsShown bytes.items) }
-{
-    let mut bytes = Vec::new(alloc);
-    for byte in text {
-        bytes.push(shown_byte(*byte))?;
-    }
-    Ok(bytes)
-}
-
-/// Returns lines as they may be told; None if memory was refused to them.
-fn page(alloc: Global, lines: Result<String, AllocError>) -> Option<Vec<u8>>
-    ensures { IfSome result (λ page. All IsShown page.items) }
-{
-    match lines {
-        Ok(lines) => shown_bytes(alloc, lines.as_bytes()).ok(),
-        Err(_) => None,
-    }
-}
 
 /// Tells the lines, if there are some.
 pub fn tell_page<E: Complaints>(err: &mut E, page: Option<Vec<u8>>)
