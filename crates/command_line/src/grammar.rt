@@ -152,11 +152,7 @@ fn text_command<'a, C: CommandBuilder<'a>>(alloc: Global) -> Result<C, AllocErro
         "A C compiler for MIPS I, its checks, a C interpreter and a machine",
         Page::Whole,
     );
-    with_commands(
-        alloc,
-        command.require_subcommand().set_version(VERSION),
-        TEXTS,
-    )
+    with_commands(alloc, command.as_program(VERSION), TEXTS)
 }
 
 /// Returns `mcc` with all its commands.

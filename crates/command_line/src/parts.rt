@@ -61,13 +61,9 @@ pub(crate) trait CommandBuilder<'a>: Sized + Drop {
         ensures app { IfOk result (λ c. app c ≡ with_rule (app self) (rule_for part.now)) }
         ensures local { has_globals self ≡ false → IfOk result (λ c. has_globals c ≡ false) };
 
-    /// Makes a subcommand mandatory.
-    fn require_subcommand(self) -> Self
-        ensures { app result ≡ with_required_subcommand (app self) };
-
-    /// Adds the option `--version`, which prints this.
-    fn set_version(self, version: &'a str) -> Self
-        ensures { app result ≡ with_version (app self) };
+    /// Makes a subcommand mandatory, and adds the option `--version`, which prints this.
+    fn as_program(self, version: &'a str) -> Self
+        ensures { app result ≡ with_version (with_required_subcommand (app self)) };
 
     /// Adds a subcommand.
     fn over(self, command: Self) -> Result<Self, AllocError>
@@ -90,12 +86,8 @@ impl<'a> CommandBuilder<'a> for CommandLine<'a> {
         self.arg(argument(alloc, part))
     }
 
-    fn require_subcommand(self) -> Self {
-        self.subcommand_required(true)
-    }
-
-    fn set_version(self, version: &'a str) -> Self {
-        self.version(version)
+    fn as_program(self, version: &'a str) -> Self {
+        self.subcommand_required(true).version(version)
     }
 
     fn over(self, command: Self) -> Result<Self, AllocError> {

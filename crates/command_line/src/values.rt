@@ -233,20 +233,14 @@ fn entered_show<'a>(values: &ArgMatches<'a>) -> Option<Command<'a>>
 fn command_named<'a>(alloc: Global, name: &str, values: &ArgMatches<'a>) -> Option<Command<'a>>
     ensures { IfSome result (HasValues name.now (rows_of (found_of values.now))) }
 {
-    if name == "check" {
-        entered_check(alloc, values)
-    } else if name == "interp" {
-        entered_interp(values)
-    } else if name == "build" {
-        entered_build(values)
-    } else if name == "run" {
-        entered_run(values)
-    } else if name == "list" {
-        entered_list(values)
-    } else if name == "show" {
-        entered_show(values)
-    } else {
-        None
+    match name {
+        "check" => entered_check(alloc, values),
+        "interp" => entered_interp(values),
+        "build" => entered_build(values),
+        "run" => entered_run(values),
+        "list" => entered_list(values),
+        "show" => entered_show(values),
+        _ => None,
     }
 }
 
