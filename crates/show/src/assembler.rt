@@ -2,11 +2,12 @@
 ghost use Rattle.std.specs.Prelude.{All, IfOk};
 ghost use Rattle.block_text.specs.Shown.{IsShown};
 
-use block_text::page_of;
+use block_text::{Writer, page_of};
 use image::Image;
 use mips_code::decode;
 use mips_isa::{
-    CODE_BASE, Control, DATA_BASE, Inst, ListedControl, Plain, branch_target, jump_target,
+    ByteDigits, CODE_BASE, Control, DATA_BASE, Inst, ListedControl, Plain, WordDigits,
+    branch_target, jump_target,
 };
 use std::alloc::{AllocError, Global};
 
@@ -108,98 +109,107 @@ fn name_at<'a>(labels: &[Label<'a>], address: u32) -> Option<&'a str> {
 }
 
 /// Writes the names of an address, each a global label.
-fn put_names(out: &mut String, labels: &[Label<'_>], address: u32) -> Result<(), AllocError> {
+fn put_names(out: &mut Writer, labels: &[Label<'_>], address: u32) {
     for label in labels {
         if label.address == address && !is_taken(label.name) {
-            writeln!(out, ".globl {}\n{}:", label.name, label.name)?;
+            out.text(".globl ");
+            out.text(label.name);
+            out.text("\n");
+            out.text(label.name);
+            out.text(":\n");
         }
     }
-    Ok(())
 }
 
-/// Writes a word in eight hexadecimal digits.
-fn put_digits(out: &mut String, word: u32) -> Result<(), AllocError> {
-    for shift in [28u32, 24, 20, 16, 12, 8, 4, 0] {
-        let digit = (word >> shift) % 16;
-        write!(out, "{digit:x}")?;
-    }
-    Ok(())
-}
-
-fn put_label(out: &mut String, address: u32) -> Result<(), AllocError> {
-    out.push_str("L")?;
-    put_digits(out, address)?;
-    out.push_str(":\n")
+/// Writes the label that the source itself has for an address.
+fn put_label(out: &mut Writer, address: u32) {
+    out.text("L");
+    out.put(&WordDigits(address));
 }
 
 /// Writes a branch or jump with a label in place of the address.
 fn put_control(
     alloc: Global,
-    out: &mut String,
+    out: &mut Writer,
     control: Control,
     address: u32,
     labels: &[Label<'_>],
 ) -> Result<(), AllocError> {
     let text = format!(in alloc; "{}", ListedControl { control, address })?;
-    let Some((before, digits)) = text.split_once("0x") else {
-        return out.push_str(text.as_str());
-    };
-    out.push_str(before)?;
     if let Some(target) = target_of(&control, address)
-        && let Some(name) = name_at(labels, target)
+        && let Some((before, _)) = text.split_once("0x")
     {
-        return out.push_str(name);
+        out.text(before);
+        match name_at(labels, target) {
+            Some(name) => out.text(name),
+            None => put_label(out, target),
+        }
+    } else {
+        out.text(text.as_str());
     }
-    out.push_str("L")?;
-    out.push_str(digits)
+    Ok(())
 }
 
-fn put_word(out: &mut String, word: u32) -> Result<(), AllocError> {
-    out.push_str(".word 0x")?;
-    put_digits(out, word)
+fn put_word(out: &mut Writer, word: u32) {
+    out.text(".word 0x");
+    out.put(&WordDigits(word));
 }
 
 /// Writes an instruction's text. The word 0 is `sll $0,$0,0`, since SPIM on a bare machine knows no `nop`.
-fn put_plain(out: &mut String, plain: Plain) -> Result<(), AllocError> {
+fn put_plain(out: &mut Writer, plain: Plain) {
     if plain.is_nop() {
-        return out.push_str("sll $0,$0,0");
+        out.text("sll $0,$0,0");
+    } else {
+        out.put(&plain);
     }
-    write!(out, "{plain}")
 }
 
 fn put_form(
     alloc: Global,
-    out: &mut String,
+    out: &mut Writer,
     form: Form,
     address: u32,
     labels: &[Label<'_>],
 ) -> Result<(), AllocError> {
-    out.push_str("    ")?;
+    out.text("    ");
     match form {
-        Form::Plain(plain) => put_plain(out, plain)?,
+        Form::Plain(plain) => put_plain(out, plain),
         Form::Control(control) => put_control(alloc, out, control, address, labels)?,
-        Form::Word(word) => put_word(out, word)?,
+        Form::Word(word) => put_word(out, word),
     }
-    out.push_str("\n")
+    out.text("\n");
+    Ok(())
+}
+
+/// Writes the labels of an address of the code.
+fn put_labels(
+    out: &mut Writer,
+    image: &Image,
+    labels: &[Label<'_>],
+    address: u32,
+    is_target: bool,
+) {
+    if address == image.entry() {
+        out.text("__start:\n");
+    }
+    put_names(out, labels, address);
+    if is_target && name_at(labels, address).is_none() {
+        put_label(out, address);
+        out.text(":\n");
+    }
 }
 
 fn put_code(
     alloc: Global,
-    out: &mut String,
+    out: &mut Writer,
     image: &Image,
     labels: &[Label<'_>],
 ) -> Result<(), AllocError> {
     let code = image.code();
     let marks = targets(alloc, code)?;
     let mut address = CODE_BASE;
-    for (k, word) in code.iter().enumerate() {
-        if address == image.entry() {
-            out.push_str("__start:\n")?;
-        }
-        put_names(out, labels, address)?;
-        if marks.get(k).copied() == Some(true) && name_at(labels, address).is_none() {
-            put_label(out, address)?;
-        }
+    for (word, is_target) in code.iter().zip(marks.iter()) {
+        put_labels(out, image, labels, address, *is_target);
         put_form(
             alloc,
             out,
@@ -220,31 +230,45 @@ fn word_of(bytes: &[u8]) -> u32 {
     )
 }
 
-fn put_byte(out: &mut String, byte: u8) -> Result<(), AllocError> {
-    let (high, low) = (byte / 16, byte % 16);
-    writeln!(out, "    .byte 0x{high:x}{low:x}")
+/// Writes four bytes as a word, and fewer each alone.
+fn put_bytes(out: &mut Writer, bytes: &[u8]) {
+    if bytes.len() == 4 {
+        out.text("    ");
+        put_word(out, word_of(bytes));
+        out.text("\n");
+    } else {
+        for byte in bytes {
+            out.text("    .byte 0x");
+            out.put(&ByteDigits(*byte));
+            out.text("\n");
+        }
+    }
 }
 
 /// Writes the data, four bytes a line, and those after the last whole word.
-fn put_data(out: &mut String, bytes: &[u8], labels: &[Label<'_>]) -> Result<(), AllocError> {
+fn put_data(out: &mut Writer, bytes: &[u8], labels: &[Label<'_>]) {
     if bytes.is_empty() {
-        return Ok(());
+        return;
     }
-    out.push_str(".data\n")?;
+    out.text(".data\n");
     let mut address = DATA_BASE;
     for part in bytes.chunks(4) {
-        put_names(out, labels, address)?;
+        put_names(out, labels, address);
+        put_bytes(out, part);
         address = address.wrapping_add(4);
-        if part.len() == 4 {
-            out.push_str("    ")?;
-            put_word(out, word_of(part))?;
-            out.push_str("\n")?;
-        } else {
-            for byte in part {
-                put_byte(out, *byte)?;
-            }
-        }
     }
+}
+
+/// Writes the assembler source of an image.
+pub(crate) fn put_source(
+    alloc: Global,
+    out: &mut Writer,
+    image: &Image,
+    labels: &[Label<'_>],
+) -> Result<(), AllocError> {
+    out.text(HEAD);
+    put_code(alloc, out, image, labels)?;
+    put_data(out, image.bytes(), labels);
     Ok(())
 }
 
@@ -257,8 +281,8 @@ pub fn assembler_source(
 ) -> Result<Vec<u8>, AllocError>
     ensures { IfOk result (λ page. All IsShown page.items) }
 {
-    let mut out = String::from_str(alloc, HEAD)?;
-    put_code(alloc, &mut out, image, labels)?;
-    put_data(&mut out, image.bytes(), labels)?;
-    page_of(alloc, out.as_bytes(), usize::MAX)
+    let mut out = Writer::new(alloc);
+    put_source(alloc, &mut out, image, labels)?;
+    let text = out.end()?;
+    page_of(alloc, text.as_bytes(), usize::MAX)
 }

@@ -4,7 +4,7 @@ ghost use Rattle.std.specs.Prelude.{All, IfOk};
 ghost use Rattle.block_text.specs.Shown.{IsShown};
 
 use crate::asm::labels_of;
-use crate::assembler::assembler_source;
+use crate::assembler::put_source;
 use crate::blocks::{callee, put_heading};
 use crate::check::put_check;
 use crate::dot::{put_blocks, put_rtl_blocks};
@@ -26,7 +26,6 @@ use mips_homes::{Frame, Homed, place};
 use rtl::{RFunc, Rtl};
 use sched_phase::{PhaseOpts, Scheduled, schedule_one};
 use std::alloc::{AllocError, Global};
-use std::str;
 
 /// A program at its stages, with the text that it is of.
 #[derive(Clone, Copy)]
@@ -236,8 +235,7 @@ impl<'a> View<'a> {
             scheduled.orders(),
             self.shown.rtl.globals(),
         )?;
-        let page = assembler_source(self.alloc, &image, labels.as_slice())?;
-        out.text(str::from_utf8(page.as_slice()).unwrap_or(""));
+        put_source(self.alloc, out, &image, labels.as_slice())?;
         Ok(())
     }
 
