@@ -1,5 +1,5 @@
 //! What instructions do with memory.
-use crate::node::Node;
+use crate::node::Facts;
 use mips_isa::{Plain, Reg};
 use words::Width;
 
@@ -18,7 +18,7 @@ pub struct Access {
 
 /// Returns the load or store of an instruction, if it is one.
 pub fn access_of(inst: &Plain) -> Option<Access> {
-    Node::of(inst).access
+    Facts::of(inst).access
 }
 
 fn bytes(width: Width) -> u32 {
@@ -34,8 +34,29 @@ impl Access {
         if !self.stores && !other.stores {
             return true;
         }
+        self.base == other.base && !self.overlaps(other)
+    }
+
+    /// Reports whether the bytes of two accesses over one word meet.
+    pub fn overlaps(&self, other: &Access) -> bool {
         let up = other.offset.wrapping_sub(self.offset);
         let down = self.offset.wrapping_sub(other.offset);
-        self.base == other.base && up >= bytes(self.width) && down >= bytes(other.width)
+        up < bytes(self.width) || down < bytes(other.width)
+    }
+
+    /// Reports whether all bytes of another access over the same word are among its bytes.
+    pub fn covers(&self, other: &Access) -> bool {
+        let up = other.offset.wrapping_sub(self.offset);
+        up.saturating_add(bytes(other.width)) <= bytes(self.width)
+    }
+
+    /// Reports whether it loads or stores a word that isn't at a multiple of four bytes after its base.
+    pub fn is_shifted(&self) -> bool {
+        bytes(self.width) > 1 && self.offset % 4 != 0
+    }
+
+    /// Reports whether a load loads what a store over the same base stores in part.
+    pub fn meets(&self, store: &Access) -> bool {
+        store.base == self.base && self.overlaps(store)
     }
 }

@@ -1,319 +1,209 @@
-//! What has to stay before what in a block.
-use crate::access::Access;
-use crate::node::Node;
+//! What has to stay before what in a block. The graph is made from the last instruction on, so a node's height is known when it is linked.
+use crate::link::Link;
+use crate::memory::{Accesses, mark_fixed};
+use crate::node::{Facts, Kept, NEXT, Node, PRODUCT_AFTER_MOVE};
 use crate::resources::Resources;
-use crate::sets::{Sets, number, split, split_last};
 use mblock::Exit;
 use std::alloc::{AllocError, Global};
+use std::ops::Range;
 
-/// The instructions of a block, and sets of them by their numbers.
+/// The instructions of a block, and which of them wait for which.
 #[derive(Drop)]
 pub struct Graph {
-    /// The instructions.
+    /// The instructions, the last one first.
     pub nodes: Vec<Node>,
-    // By the numbers that the functions below give.
-    sets: Sets,
+    // The numbers of those that wait for a node, for one node after another. One may be left out that waits by way of others.
+    waiting: Vec<u32>,
+    // The height, so far, of the node that is linked.
+    height: u32,
 }
 
-// The last instruction that wrote each register, HI and LO.
-type Writers = [Option<usize>; Resources::COUNT];
-
-// An instruction has two sets: those that stand after it, and the loads and stores that stand before it. One may be left out of
-// the first where it stands after by way of others.
-const SETS_OF_NODE: usize = 2;
-
-// There are sets of those that read a register, HI or LO since it was written, that load or store, and that store. The last has those that
-// wait for no other.
-const OTHER_SETS: usize = Resources::COUNT + 3;
-
-fn behind(k: usize) -> usize {
-    k.wrapping_mul(SETS_OF_NODE)
+/// Who uses each register, HI and LO next: the first writer, and the readers before it, each by its number and which of its reads it is.
+#[derive(Drop)]
+struct Users {
+    writers: [Link; Resources::COUNT],
+    readers: [Link; Resources::COUNT],
 }
 
-fn before(k: usize) -> usize {
-    behind(k).wrapping_add(1)
+impl Users {
+    fn none() -> Users {
+        Users {
+            writers: [Link::NONE; Resources::COUNT],
+            readers: [Link::NONE; Resources::COUNT],
+        }
+    }
+
+    fn writer(&self, resource: usize) -> Option<u32> {
+        self.writers.get(resource)?.number()
+    }
+
+    fn readers(&self, resource: usize) -> Link {
+        self.readers.get(resource).copied().unwrap_or(Link::NONE)
+    }
+
+    /// Notes that an instruction writes a register.
+    fn write(&mut self, resource: usize, k: u32) {
+        if let Some(writer) = self.writers.get_mut(resource) {
+            *writer = Link::to(k);
+        }
+        if let Some(readers) = self.readers.get_mut(resource) {
+            *readers = Link::NONE;
+        }
+    }
+
+    /// Notes that an instruction reads a register, and returns the next reader.
+    fn read(&mut self, resource: usize, k: u32, which: u32) -> Link {
+        let Some(readers) = self.readers.get_mut(resource) else {
+            return Link::NONE;
+        };
+        let next = *readers;
+        *readers = Link::to(k.wrapping_mul(2).wrapping_add(which));
+        next
+    }
 }
 
 impl Graph {
-    fn readers(&self, resource: usize) -> usize {
-        behind(self.nodes.len()).wrapping_add(resource)
+    /// Returns how many nodes there are.
+    pub fn count(&self) -> u32 {
+        u32::try_from(self.nodes.len()).unwrap_or(u32::MAX)
     }
 
-    fn accesses(&self) -> usize {
-        self.readers(Resources::COUNT)
-    }
-
-    fn stores(&self) -> usize {
-        self.accesses().wrapping_add(1)
-    }
-
-    fn free(&self) -> usize {
-        self.stores().wrapping_add(1)
-    }
-
-    /// Returns how many words a set has.
-    pub fn width(&self) -> usize {
-        self.sets.width()
-    }
-
-    /// Returns a word of the set of those that stand after a node.
-    pub fn word_behind(&self, k: usize, w: usize) -> u64 {
-        self.sets.word(behind(k), w)
-    }
-
-    /// Returns a word of the set of those that wait for no other.
-    pub fn free_word(&self, w: usize) -> u64 {
-        self.sets.word(self.free(), w)
-    }
-
-    /// Adds a node that waits for no other.
-    pub fn insert_free(&mut self, k: usize) {
-        let free = self.free();
-        let _ = self.sets.insert(free, k);
-    }
-
-    /// Removes a node that is in its place.
-    pub fn remove_free(&mut self, k: usize) {
-        let free = self.free();
-        self.sets.remove(free, k);
-    }
-
-    /// Puts a node after another.
-    fn stand_behind(&mut self, k: usize, first: usize) {
-        if self.sets.insert(behind(first), k) {
-            if let Some(node) = self.nodes.get_mut(k) {
-                node.waits_for = node.waits_for.saturating_add(1);
-            }
-        }
-    }
-
-    /// Puts it after the last writer of each register that it touches.
-    fn link_behind_writers(&mut self, k: usize, touched: Resources, writers: &Writers) {
-        let mut left = touched;
-        for _ in 0..Resources::COUNT {
-            let Some((resource, others)) = left.split() else {
-                break;
-            };
-            if let Some(writer) = writers.get(resource).copied().flatten() {
-                self.stand_behind(k, writer);
-            }
-            left = others;
-        }
-    }
-
-    /// Puts it after the readers of each register that it writes.
-    fn link_behind_readers(&mut self, k: usize, written: Resources) {
-        let mut left = written;
-        for _ in 0..Resources::COUNT {
-            let Some((resource, others)) = left.split() else {
-                break;
-            };
-            let readers = self.readers(resource);
-            for w in 0..self.width() {
-                let word = self.sets.word(readers, w);
-                self.link_behind_word(k, w, word);
-            }
-            left = others;
-        }
-    }
-
-    /// Puts it after the nodes of a word of a set.
-    fn link_behind_word(&mut self, k: usize, w: usize, word: u64) {
-        let mut left = word;
-        for _ in 0..64 {
-            let Some((bit, others)) = split(left) else {
-                break;
-            };
-            self.stand_behind(k, number(w, bit));
-            left = others;
-        }
-    }
-
-    /// Notes what it reads and writes; what it writes counts as written by it alone.
-    fn use_resources(
-        &mut self,
-        k: usize,
-        reads: Resources,
-        writes: Resources,
-        writers: &mut Writers,
-    ) {
-        let mut left = reads.difference(writes);
-        for _ in 0..Resources::COUNT {
-            let Some((resource, others)) = left.split() else {
-                break;
-            };
-            let readers = self.readers(resource);
-            let _ = self.sets.insert(readers, k);
-            left = others;
-        }
-        let mut left = writes;
-        for _ in 0..Resources::COUNT {
-            let Some((resource, others)) = left.split() else {
-                break;
-            };
-            if let Some(writer) = writers.get_mut(resource) {
-                *writer = Some(k);
-            }
-            let readers = self.readers(resource);
-            self.sets.clear(readers);
-            left = others;
-        }
-    }
-
-    /// Puts it after all that it has to stand after, as those before it are.
-    fn link(&mut self, k: usize, writers: &mut Writers) {
-        let Some(node) = self.nodes.get(k) else {
-            return;
+    /// Returns the places of those that wait for a node.
+    pub fn waiting_range(&self, k: u32, node: &Node) -> Range<usize> {
+        let before = match k.checked_sub(1) {
+            Some(before) => self.nodes.get(before as usize),
+            None => None,
         };
-        let (reads, writes, access) = (node.reads, node.writes, node.access);
-        self.link_behind_writers(k, reads.union(writes), writers);
-        self.link_behind_readers(k, writes);
-        if let Some(access) = access {
-            self.link_behind_accesses(k, access, writers);
-        }
-        self.use_resources(k, reads, writes, writers);
+        let begin = match before {
+            Some(before) => before.waiting_end,
+            None => 0,
+        };
+        begin as usize..node.waiting_end as usize
     }
 
-    /// Returns the words from a node to the end, those after it having theirs.
-    fn height_of(&self, k: usize, node: &Node, touched: Resources) -> u32 {
-        let mut height = node.words_to_exit(touched);
-        for w in 0..self.width() {
-            let mut left = self.word_behind(k, w);
-            for _ in 0..64 {
-                let Some((bit, others)) = split(left) else {
-                    break;
-                };
-                if let Some(next) = self.nodes.get(number(w, bit)) {
-                    height = height.max(next.height.saturating_add(node.words_to(next)));
-                }
-                left = others;
-            }
-        }
-        height
+    /// Returns the number of one that waits.
+    pub fn waiting_at(&self, i: usize) -> Option<u32> {
+        self.waiting.get(i).copied()
     }
 
-    /// Sets the height of each node, from the last one on, and returns which nodes wait for no other.
-    fn finish(&mut self, exit: &Exit) {
-        let touched = Resources::touched_at_exit(exit);
-        for k in (0..self.nodes.len()).rev() {
-            let Some(node) = self.nodes.get(k) else {
+    /// Puts the node that is linked before a later one, at least so many words.
+    pub(crate) fn put_before(&mut self, later: u32, words: u32) -> Result<(), AllocError> {
+        if let Some(node) = self.nodes.get_mut(later as usize) {
+            node.waits_for = node.waits_for.saturating_add(1);
+            self.height = self.height.max(node.height.saturating_add(words));
+        }
+        self.waiting.push(later)?;
+        Ok(())
+    }
+
+    /// Puts it before the readers of a list.
+    fn put_before_readers(&mut self, first: Link, words: u32) -> Result<(), AllocError> {
+        let mut at = first;
+        for _ in 0..self.nodes.len() {
+            let Some(read) = at.number() else {
                 break;
             };
-            let height = self.height_of(k, node, touched);
-            if node.waits_for == 0 {
-                self.insert_free(k);
-            }
-            if let Some(node) = self.nodes.get_mut(k) {
-                node.height = height;
-            }
+            let reader = read / 2;
+            self.put_before(reader, words)?;
+            at = match self.nodes.get(reader as usize) {
+                Some(node) => node.readers[(read % 2) as usize],
+                None => Link::NONE,
+            };
         }
+        Ok(())
+    }
+
+    /// Puts it before those that use what it writes, and notes that it does.
+    fn link_writes(&mut self, k: u32, facts: &Facts, users: &mut Users) -> Result<(), AllocError> {
+        let words = facts.words_to_user();
+        let mut left = facts.writes;
+        for _ in 0..Resources::COUNT {
+            let Some((resource, others)) = left.split() else {
+                break;
+            };
+            if let Some(writer) = users.writer(resource) {
+                self.put_before(writer, words)?;
+            }
+            self.put_before_readers(users.readers(resource), words)?;
+            users.write(resource, k);
+            left = others;
+        }
+        Ok(())
+    }
+
+    /// Puts it before those that write what it reads, and notes that it does.
+    fn link_reads(&mut self, k: u32, facts: &Facts, users: &mut Users) -> Result<(), AllocError> {
+        let words = if facts.moves() {
+            PRODUCT_AFTER_MOVE
+        } else {
+            NEXT
+        };
+        let mut left = facts.reads.difference(facts.writes);
+        for which in 0..2 {
+            let Some((resource, others)) = left.split() else {
+                break;
+            };
+            if let Some(writer) = users.writer(resource) {
+                self.put_before(writer, words)?;
+            }
+            let next = users.read(resource, k, which);
+            if let Some(node) = self.nodes.get_mut(k as usize) {
+                node.readers[which as usize] = next;
+            }
+            left = others;
+        }
+        Ok(())
+    }
+
+    /// Puts a node before all that have to stay after it, which are linked already.
+    fn link(
+        &mut self,
+        k: u32,
+        touched: Resources,
+        users: &mut Users,
+        accesses: &mut Accesses,
+    ) -> Result<(), AllocError> {
+        let Some(node) = self.nodes.get(k as usize) else {
+            return Ok(());
+        };
+        let (facts, is_fixed) = (node.facts, node.is_fixed);
+        self.height = facts.words_to_exit(touched);
+        self.link_writes(k, &facts, users)?;
+        self.link_reads(k, &facts, users)?;
+        accesses.forget_bases(facts.writes);
+        if let Some(access) = facts.access {
+            accesses.link(self, k, &access, is_fixed)?;
+        }
+        let end = u32::try_from(self.waiting.len()).unwrap_or(u32::MAX);
+        if let Some(node) = self.nodes.get_mut(k as usize) {
+            node.height = self.height;
+            node.waiting_end = end;
+        }
+        Ok(())
     }
 
     /// Returns the graph of a block's instructions.
-    pub fn of(alloc: Global, nodes: Vec<Node>, exit: &Exit) -> Result<Graph, AllocError> {
-        let count = nodes.len();
-        let sets = Sets::new(alloc, behind(count).wrapping_add(OTHER_SETS), count)?;
-        let mut graph = Graph { nodes, sets };
-        let mut writers = [None; Resources::COUNT];
-        for k in 0..count {
-            graph.link(k, &mut writers);
+    pub fn of(alloc: Global, kept: Kept, exit: &Exit) -> Result<Graph, AllocError> {
+        let Kept {
+            mut nodes,
+            has_accesses,
+            has_late_load,
+        } = kept;
+        if has_late_load {
+            mark_fixed(nodes.as_mut_slice());
         }
-        graph.finish(exit);
+        let mut accesses = Accesses::new(alloc, nodes.len(), has_accesses)?;
+        let waiting = Vec::with_capacity(alloc, nodes.len().saturating_mul(2))?;
+        let mut graph = Graph {
+            nodes,
+            waiting,
+            height: NEXT,
+        };
+        let touched = Resources::touched_at_exit(exit);
+        let mut users = Users::none();
+        for k in 0..graph.count() {
+            graph.link(k, touched, &mut users, &mut accesses)?;
+        }
         Ok(graph)
-    }
-}
-
-// Loads and stores, and which have to stay in their order.
-impl Graph {
-    /// Reports whether a load or store comes before another whose base was written since.
-    fn loses_base(first: usize, base_written: Option<usize>) -> bool {
-        match base_written {
-            Some(written) => written >= first,
-            None => false,
-        }
-    }
-
-    /// Reports whether a load or store has to stay before one that comes next. Where the base of that one was written since, nothing is
-    /// known of where the two are.
-    fn stays_before(
-        &self,
-        first: usize,
-        later: &Access,
-        meets_store: bool,
-        base_written: Option<usize>,
-    ) -> bool {
-        let Some(node) = self.nodes.get(first) else {
-            return false;
-        };
-        let Some(earlier) = node.access else {
-            return false;
-        };
-        if (meets_store && earlier.stores) || (node.meets_store && later.stores) {
-            return true;
-        }
-        Graph::loses_base(first, base_written) || !earlier.passes(later)
-    }
-
-    /// Reports whether a load that comes next loads what a store may have stored that came since its base was written.
-    fn meets_store(&self, load: &Access, base_written: Option<usize>) -> bool {
-        if load.stores {
-            return false;
-        }
-        for w in (0..self.width()).rev() {
-            let mut left = self.sets.word(self.stores(), w);
-            for _ in 0..64 {
-                let Some((bit, others)) = split_last(left) else {
-                    break;
-                };
-                let first = number(w, bit);
-                if Graph::loses_base(first, base_written) {
-                    return false;
-                }
-                if let Some(node) = self.nodes.get(first) {
-                    if node.is_met_by(load) {
-                        return true;
-                    }
-                }
-                left = others;
-            }
-        }
-        false
-    }
-
-    /// Puts it after the accesses that it has to stay after.
-    fn link_behind_accesses(&mut self, k: usize, access: Access, writers: &Writers) {
-        let base = access.base.index() as usize;
-        let base_written = writers.get(base).copied().flatten();
-        let meets_store = self.meets_store(&access, base_written);
-        // A load stays behind stores alone.
-        let earlier = if access.stores {
-            self.accesses()
-        } else {
-            self.stores()
-        };
-        for w in (0..self.width()).rev() {
-            let mut left = self.sets.word(earlier, w);
-            for _ in 0..64 {
-                let Some((bit, others)) = split_last(left & !self.sets.word(before(k), w)) else {
-                    break;
-                };
-                let first = number(w, bit);
-                if self.stays_before(first, &access, meets_store, base_written) {
-                    self.stand_behind(k, first);
-                    let _ = self.sets.insert(before(k), first);
-                    self.sets.insert_all(before(k), before(first));
-                }
-                left = others;
-            }
-        }
-        let accesses = self.accesses();
-        let _ = self.sets.insert(accesses, k);
-        if access.stores {
-            let stores = self.stores();
-            let _ = self.sets.insert(stores, k);
-        }
-        if let Some(node) = self.nodes.get_mut(k) {
-            node.meets_store = meets_store;
-        }
     }
 }

@@ -11,10 +11,14 @@
 #![tactic(auto)]
 
 mod access;
+mod delays;
 mod filled;
+mod free;
 mod graph;
 mod hostile;
+mod link;
 mod list;
+mod memory;
 mod node;
 mod reorder;
 mod resources;

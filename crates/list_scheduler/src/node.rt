@@ -1,105 +1,92 @@
 //! What a scheduler asks of an instruction, looked up once.
 use crate::access::Access;
+use crate::link::Link;
 use crate::resources::Resources;
-use mips_isa::{Action, Plain};
+use mips_isa::{HiLo, NonzeroReg, Plain, Reg};
 use std::alloc::{AllocError, Global};
+use words::Width;
 
-/// Returns what an action reads and writes, and what it does with memory.
-fn facts_of(action: &Action) -> (Resources, Resources, Option<Access>) {
-    match *action {
-        Action::Computes { d, a, b, .. } => {
-            let reads = Resources::of(a).union(Resources::of_operand(b));
-            (reads, Resources::of(d), None)
-        }
-        Action::Sets { d, .. } => (Resources::NONE, Resources::of(d), None),
-        Action::Loads {
-            width,
-            d,
-            base,
-            offset,
-        } => {
-            let access = Access {
-                base,
-                offset,
-                width,
-                stores: false,
-            };
-            (Resources::of(base), Resources::of(d.reg()), Some(access))
-        }
-        Action::Stores {
-            width,
-            r,
-            base,
-            offset,
-        } => {
-            let access = Access {
-                base,
-                offset,
-                width,
-                stores: true,
-            };
-            let reads = Resources::of(r).union(Resources::of(base));
-            (reads, Resources::NONE, Some(access))
-        }
-        Action::Multiplies { a, b, .. } | Action::Divides { a, b, .. } => {
-            let reads = Resources::of(a).union(Resources::of(b));
-            (reads, Resources::PRODUCT, None)
-        }
-        Action::MovesHigh { d } => (Resources::HIGH, Resources::of(d), None),
-        Action::MovesLow { d } => (Resources::LOW, Resources::of(d), None),
-    }
-}
-
-/// Reports whether it is a store.
-fn stores(access: Option<Access>) -> bool {
-    match access {
-        Some(access) => access.stores,
-        None => false,
-    }
-}
-
-/// The least words from an instruction to the next, from a load to a use, and from `mfhi` or `mflo` to a product.
-const NEXT: u32 = 1;
-
-const AFTER_LOAD: u32 = 2;
-
-const PRODUCT_AFTER_MOVE: u32 = 3;
-
-/// An instruction of a block, and where it may stand.
+/// What an instruction reads and writes, and what it does with memory.
 #[derive(Clone, Copy)]
-pub struct Node {
-    /// The instruction.
-    pub inst: Plain,
+pub struct Facts {
     /// What it reads.
     pub reads: Resources,
     /// What it writes.
     pub writes: Resources,
     /// What it does with memory.
     pub access: Option<Access>,
-    /// Whether it loads what an earlier store of the block, over the same base, stores in part. Its value is a load from all
-    /// that was stored before, so it keeps its place among the stores.
-    pub meets_store: bool,
-    /// How many that are not in their places yet have to stand before it.
-    pub waits_for: u32,
-    /// The first word at which it may stand, for the sake of those that are in their places.
-    pub earliest: u32,
-    /// The words from it to the end of the block, at least.
-    pub height: u32,
 }
 
-impl Node {
-    /// Returns an instruction that waits for no other.
-    pub fn of(inst: &Plain) -> Node {
-        let (reads, writes, access) = facts_of(&inst.action());
-        Node {
-            inst: *inst,
-            reads,
-            writes,
-            access,
-            meets_store: false,
-            waits_for: 0,
-            earliest: 0,
-            height: NEXT,
+/// Returns the facts of an instruction that leaves memory alone.
+fn apart_from_memory(reads: Resources, writes: Resources) -> Facts {
+    Facts {
+        reads,
+        writes,
+        access: None,
+    }
+}
+
+fn facts_of_load(width: Width, rt: NonzeroReg, base: Reg, offset: i16) -> Facts {
+    Facts {
+        reads: Resources::of(base),
+        writes: Resources::of(rt.reg()),
+        access: Some(Access {
+            base,
+            offset: i32::from(offset).cast_unsigned(),
+            width,
+            stores: false,
+        }),
+    }
+}
+
+fn facts_of_store(width: Width, rt: Reg, base: Reg, offset: i16) -> Facts {
+    Facts {
+        reads: Resources::of(rt).union(Resources::of(base)),
+        writes: Resources::NONE,
+        access: Some(Access {
+            base,
+            offset: i32::from(offset).cast_unsigned(),
+            width,
+            stores: true,
+        }),
+    }
+}
+
+impl Facts {
+    /// Returns the facts of an instruction.
+    pub fn of(inst: &Plain) -> Facts {
+        match *inst {
+            Plain::Shift { rd, rt, .. } => apart_from_memory(Resources::of(rt), Resources::of(rd)),
+            Plain::ShiftBy { rd, rt, rs, .. } | Plain::Alu { rd, rs, rt, .. } => {
+                apart_from_memory(
+                    Resources::of(rs).union(Resources::of(rt)),
+                    Resources::of(rd),
+                )
+            }
+            Plain::Imm { rt, rs, .. } | Plain::Logic { rt, rs, .. } => {
+                apart_from_memory(Resources::of(rs), Resources::of(rt))
+            }
+            Plain::LoadUpper { rt, .. } => apart_from_memory(Resources::NONE, Resources::of(rt)),
+            Plain::MoveFrom { place, rd } => match place {
+                HiLo::Hi => apart_from_memory(Resources::HIGH, Resources::of(rd)),
+                HiLo::Lo => apart_from_memory(Resources::LOW, Resources::of(rd)),
+            },
+            Plain::Multiply { rs, rt, .. } | Plain::Divide { rs, rt, .. } => {
+                let reads = Resources::of(rs).union(Resources::of(rt));
+                apart_from_memory(reads, Resources::PRODUCT)
+            }
+            Plain::Load {
+                width,
+                rt,
+                base,
+                offset,
+            } => facts_of_load(width, rt, base, offset),
+            Plain::Store {
+                width,
+                rt,
+                base,
+                offset,
+            } => facts_of_store(width, rt, base, offset),
         }
     }
 
@@ -116,32 +103,28 @@ impl Node {
         }
     }
 
+    /// Reports whether it stores.
+    pub fn stores(&self) -> bool {
+        match self.access {
+            Some(access) => access.stores,
+            None => false,
+        }
+    }
+
     /// Reports whether it moves HI or LO to a register.
     pub fn moves(&self) -> bool {
         self.reads.meets(Resources::PRODUCT)
     }
 
-    /// Reports whether it stores, over the same base, what a load loads in part.
-    pub fn is_met_by(&self, load: &Access) -> bool {
-        match self.access {
-            Some(store) => store.stores && store.base == load.base && !store.passes(load),
-            None => false,
-        }
+    /// Returns what it may not do just after a load of these, or soon after a move of HI or LO: it reads or writes a register, or makes a
+    /// product.
+    pub fn delayed(&self) -> Resources {
+        self.reads.difference(Resources::PRODUCT).union(self.writes)
     }
 
-    /// Returns how many words after it one may stand at least that has to stand after it.
-    pub fn words_to(&self, behind: &Node) -> u32 {
-        if self.loads() && self.writes.meets(behind.touched()) {
-            AFTER_LOAD
-        } else if self
-            .reads
-            .intersection(Resources::PRODUCT)
-            .meets(behind.writes)
-        {
-            PRODUCT_AFTER_MOVE
-        } else {
-            NEXT
-        }
+    /// Returns the words from it to an instruction that touches what it writes.
+    pub fn words_to_user(&self) -> u32 {
+        if self.loads() { AFTER_LOAD } else { NEXT }
     }
 
     /// Returns the words from it to the end of the block, where none stands after it. A load whose register the exit's first word touches
@@ -155,19 +138,85 @@ impl Node {
     }
 }
 
-/// Returns the instructions of a block without those whose results it overwrites before they are read, in their order.
-pub fn keep_needed(alloc: Global, insts: &[Plain]) -> Result<Vec<Node>, AllocError> {
-    let mut kept = Vec::with_capacity(alloc, insts.len())?;
-    let mut wanted = Resources::ALL;
-    for inst in insts.iter().rev() {
-        let node = Node::of(inst);
-        // (rattle 13f: a node is passed on where the types of its parts are named)
-        let access: Option<Access> = node.access;
-        if stores(access) || node.writes.meets(wanted) {
-            wanted = wanted.difference(node.writes).union(node.reads);
-            kept.push(node)?;
+/// The words from an instruction to the next at least, from a load to who touches its register, and from a move of HI or LO to a
+/// product.
+pub const NEXT: u32 = 1;
+
+pub const AFTER_LOAD: u32 = 2;
+
+pub const PRODUCT_AFTER_MOVE: u32 = 3;
+
+/// An instruction of a block, and how it is tied to the others.
+#[derive(Clone, Copy)]
+pub struct Node {
+    /// The instruction.
+    pub inst: Plain,
+    /// What it reads, writes and does with memory.
+    pub facts: Facts,
+    /// Whether it loads what an earlier store of the block, over the same base, stores in part. Its value is a load from all
+    /// that was stored before, so it keeps its place among the stores.
+    pub is_fixed: bool,
+    /// How many that are not in their places yet have to stand before it; one may count twice.
+    pub waits_for: u32,
+    /// The words from it to the end of the block, at least.
+    pub height: u32,
+    /// Where those that wait for it end, in the list of them all.
+    pub waiting_end: u32,
+    /// The next reader of each of the registers that it reads.
+    pub readers: [Link; 2],
+    /// The next access of its kind in its bucket.
+    pub bucket: Link,
+}
+
+impl Node {
+    /// Returns an instruction that waits for no other.
+    pub fn new(inst: Plain, facts: Facts) -> Node {
+        Node {
+            inst,
+            facts,
+            is_fixed: false,
+            waits_for: 0,
+            height: NEXT,
+            waiting_end: 0,
+            readers: [Link::NONE; 2],
+            bucket: Link::NONE,
         }
     }
-    kept.reverse();
-    Ok(kept)
+}
+
+/// The instructions of a block that are needed, and what is known of them together.
+#[derive(Drop)]
+pub struct Kept {
+    /// The instructions, the last one first.
+    pub nodes: Vec<Node>,
+    /// Whether there is more than one load or store.
+    pub has_accesses: bool,
+    /// Whether a load comes after a store.
+    pub has_late_load: bool,
+}
+
+/// Returns the instructions of a block without those whose results it overwrites before they are read.
+pub fn keep_needed(alloc: Global, insts: &[Plain]) -> Result<Kept, AllocError> {
+    let mut nodes = Vec::with_capacity(alloc, insts.len())?;
+    let mut wanted = Resources::ALL;
+    let (mut has_access, mut has_accesses) = (false, false);
+    let (mut has_load, mut has_late_load) = (false, false);
+    for inst in insts.iter().rev() {
+        let facts = Facts::of(inst);
+        let stores = facts.stores();
+        if stores || facts.writes.meets(wanted) {
+            wanted = wanted.difference(facts.writes).union(facts.reads);
+            let accesses = facts.access.is_some();
+            has_accesses |= accesses && has_access;
+            has_access |= accesses;
+            has_late_load |= stores && has_load;
+            has_load |= accesses && !stores;
+            nodes.push(Node::new(*inst, facts))?;
+        }
+    }
+    Ok(Kept {
+        nodes,
+        has_accesses,
+        has_late_load,
+    })
 }

@@ -1,5 +1,5 @@
 //! What instructions read and write.
-use crate::node::Node;
+use crate::node::Facts;
 use mblock::Exit;
 use mips_isa::{Operand, Plain, Reg};
 
@@ -97,12 +97,12 @@ impl Resources {
 
     /// Returns what an instruction reads.
     pub fn read_by(inst: &Plain) -> Resources {
-        Node::of(inst).reads
+        Facts::of(inst).reads
     }
 
     /// Returns what an instruction writes.
     pub fn written_by(inst: &Plain) -> Resources {
-        Node::of(inst).writes
+        Facts::of(inst).writes
     }
 
     /// Returns what an exit reads before its slot runs.

@@ -13,10 +13,9 @@ impl Sets {
     /// Returns so many empty sets.
     pub fn new(alloc: Global, sets: usize, numbers: usize) -> Result<Sets, AllocError> {
         let width = numbers.div_ceil(64);
-        Ok(Sets {
-            words: vec![in alloc; 0u64; sets.saturating_mul(width)]?,
-            width,
-        })
+        let mut words = Vec::new(alloc);
+        words.resize(sets.saturating_mul(width), 0)?;
+        Ok(Sets { words, width })
     }
 
     /// Returns how many words a set has.
@@ -35,21 +34,15 @@ impl Sets {
         self.words.get_mut(at)
     }
 
-    /// Puts a number into a set, and answers whether it wasn't there.
-    pub fn insert(&mut self, set: usize, number: usize) -> bool {
-        let Some(word) = self.word_mut(set, number / 64) else {
-            return false;
-        };
-        let bit = 1 << (number % 64);
-        let is_new = *word & bit == 0;
-        *word |= bit;
-        is_new
+    /// Reports whether a number is in a set.
+    pub fn contains(&self, set: usize, number: usize) -> bool {
+        self.word(set, number / 64) & (1 << (number % 64)) != 0
     }
 
-    /// Takes a number out of a set.
-    pub fn remove(&mut self, set: usize, number: usize) {
+    /// Puts a number into a set.
+    pub fn insert(&mut self, set: usize, number: usize) {
         if let Some(word) = self.word_mut(set, number / 64) {
-            *word &= !(1 << (number % 64));
+            *word |= 1 << (number % 64);
         }
     }
 
@@ -78,19 +71,10 @@ pub fn number(w: usize, bit: usize) -> usize {
     w.wrapping_mul(64).wrapping_add(bit)
 }
 
-/// Returns the least bit of a word, and the others.
-pub fn split(word: u64) -> Option<(usize, u64)> {
+/// Returns the greatest bit of a word.
+pub fn last_bit(word: u64) -> Option<usize> {
     if word == 0 {
         return None;
     }
-    Some((word.trailing_zeros() as usize, word & (word - 1)))
-}
-
-/// Returns the greatest bit of a word, and the others.
-pub fn split_last(word: u64) -> Option<(usize, u64)> {
-    if word == 0 {
-        return None;
-    }
-    let bit = 63 - word.leading_zeros() as usize;
-    Some((bit, word & !(1 << bit)))
+    Some(63 - word.leading_zeros() as usize)
 }

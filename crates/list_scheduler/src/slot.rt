@@ -1,100 +1,161 @@
 //! One slot is filled.
 use crate::access::Access;
-use crate::node::Node;
+use crate::node::Facts;
 use crate::resources::Resources;
-use mblock::{Block, Order, clean};
+use mblock::{Block, Order};
 use mips_isa::Plain;
 use std::alloc::{AllocError, Global};
 
 // What an instruction has to pass on its way to the slot: the exit's first word, and the instructions after it.
 #[derive(Drop)]
-struct Passed {
+struct Passed<'a> {
     reads: Resources,
     writes: Resources,
-    accesses: Vec<Access>,
-    // Whether a load is among them that has to keep its place among the stores.
+    insts: &'a [Plain],
+    // How many instructions there were where the loads were looked at, from the last on.
+    looked: usize,
+    // Whether one of these loads has to keep its place among the stores.
     has_fixed_load: bool,
 }
 
-impl Passed {
-    fn exit_of(alloc: Global, order: &Order) -> Passed {
+impl<'a> Passed<'a> {
+    fn exit_of(order: &'a Order) -> Passed<'a> {
         let exit = order.exit();
+        let insts = order.insts();
         Passed {
             reads: Resources::read_by_exit(&exit),
             writes: Resources::written_by_exit(&exit),
-            accesses: Vec::new(alloc),
+            insts,
+            looked: insts.len(),
             has_fixed_load: false,
         }
     }
 
-    /// Reports whether it may run after all of these. A load or a move of HI or LO may not stand in a slot, and a Nop needn't.
-    fn lets(&self, node: &Node) -> bool {
-        let may_fill = !node.loads() && !node.moves() && !node.inst.is_nop();
-        let is_apart = !node.touched().meets(self.writes) && !node.writes.meets(self.reads);
-        may_fill && is_apart && self.lets_access(node)
+    /// Reports whether instruction k may run after all of these. A load or a move of HI or LO may not stand in a slot, and a Nop needn't.
+    fn lets(&mut self, k: usize, inst: &Plain, facts: &Facts) -> bool {
+        let may_fill = !facts.loads() && !facts.moves() && !inst.is_nop();
+        let is_apart = !facts.touched().meets(self.writes) && !facts.writes.meets(self.reads);
+        may_fill && is_apart && self.lets_access(k, facts.access)
     }
 
     /// Reports the same for the sake of memory alone: a store passes what is over its base, which none of these writes, with other bytes.
-    fn lets_access(&self, node: &Node) -> bool {
-        let Some(store) = node.access else {
+    fn lets_access(&mut self, k: usize, access: Option<Access>) -> bool {
+        let Some(store) = access else {
             return true;
         };
-        for access in &self.accesses {
-            if !store.passes(access) {
-                return false;
+        let passed = self.insts.get(k.saturating_add(1)..).unwrap_or_default();
+        for inst in passed {
+            if let Some(access) = Facts::of(inst).access {
+                if !store.passes(&access) {
+                    return false;
+                }
             }
         }
+        self.look_at_loads(k);
         !self.has_fixed_load
     }
 
-    /// Takes one more instruction, and those before it.
-    fn take(&mut self, node: &Node, before: &[Plain]) -> Result<(), AllocError> {
-        self.reads = self.reads.union(node.reads);
-        self.writes = self.writes.union(node.writes);
-        if let Some(access) = node.access {
-            self.has_fixed_load = self.has_fixed_load || meets_store(&access, before);
-            self.accesses.push(access)?;
+    /// Looks at the loads after instruction k, if it wasn't done.
+    fn look_at_loads(&mut self, k: usize) {
+        for i in (k..self.looked).rev() {
+            if self.has_fixed_load {
+                break;
+            }
+            self.has_fixed_load = is_fixed_load(self.insts, i);
         }
-        Ok(())
+        self.looked = k;
+    }
+
+    /// Takes one more instruction.
+    fn take(&mut self, facts: &Facts) {
+        self.reads = self.reads.union(facts.reads);
+        self.writes = self.writes.union(facts.writes);
     }
 }
 
-/// Reports whether it loads what a store over the same register may have stored.
-fn meets_store(load: &Access, before: &[Plain]) -> bool {
-    if load.stores {
+/// Reports whether instruction k loads what a store over the same register may have stored before.
+fn is_fixed_load(insts: &[Plain], k: usize) -> bool {
+    let Some(inst) = insts.get(k) else {
         return false;
+    };
+    match Facts::of(inst).access {
+        Some(load) if !load.stores => meets_store(&load, insts.get(..k).unwrap_or_default()),
+        _ => false,
     }
+}
+
+/// Reports whether a load loads what a store over the same register may have stored.
+fn meets_store(load: &Access, before: &[Plain]) -> bool {
     for inst in before {
         if let Plain::Store { .. } = *inst {
-            if Node::of(inst).is_met_by(load) {
-                return true;
+            match Facts::of(inst).access {
+                Some(store) if load.meets(&store) => return true,
+                _ => {}
             }
         }
     }
     false
 }
 
-/// Returns the order with its instruction k in the slot, if that makes an order that breaks no delay rule.
-fn move_to_slot(alloc: Global, order: &Order, k: usize) -> Result<Option<Order>, AllocError> {
-    let mut insts = Vec::with_capacity(alloc, order.insts().len())?;
-    let mut slot = None;
-    for (i, inst) in order.insts().iter().enumerate() {
-        if i == k {
-            slot = Some(*inst);
-        } else {
-            insts.push(*inst)?;
-        }
+/// Reports whether an instruction makes a product.
+fn is_product(inst: Option<&Plain>) -> bool {
+    match inst {
+        Some(inst) => inst.action().is_product(),
+        None => false,
     }
-    Ok(match Order::new(insts, order.exit(), slot) {
-        Some(filled) => {
-            if clean(&filled).is_ok() {
-                Some(filled)
-            } else {
-                None
-            }
-        }
+}
+
+/// Reports whether an instruction moves HI or LO to a register.
+fn is_move(inst: Option<&Plain>) -> bool {
+    match inst {
+        Some(inst) => inst.action().is_move(),
+        None => false,
+    }
+}
+
+/// Reports whether an order keeps the delay rules without instruction k, if it keeps them with it: the words that come nearer to one another
+/// are those around it.
+fn may_leave(order: &Order, k: usize) -> bool {
+    let insts = order.insts();
+    let (one, two) = (k.checked_sub(1), k.checked_sub(2));
+    let before = match one {
+        Some(one) => insts.get(one),
         None => None,
-    })
+    };
+    let Some(last) = before else {
+        return true;
+    };
+    let after = insts.get(k.saturating_add(1));
+    let touched = match after {
+        Some(next) => Facts::of(next).touched(),
+        None => Resources::touched_at_exit(&order.exit()),
+    };
+    let facts = Facts::of(last);
+    if facts.loads() && facts.writes.meets(touched) {
+        return false;
+    }
+    if facts.moves() && is_product(insts.get(k.saturating_add(2))) {
+        return false;
+    }
+    match two {
+        Some(two) => !(is_product(after) && is_move(insts.get(two))),
+        None => true,
+    }
+}
+
+/// Returns the order with its instruction k in the slot, if it keeps the delay rules without it in its place.
+fn move_to_slot(alloc: Global, order: &Order, k: usize) -> Result<Option<Order>, AllocError> {
+    let insts = order.insts();
+    let Some(slot) = insts.get(k) else {
+        return Ok(None);
+    };
+    if !may_leave(order, k) {
+        return Ok(None);
+    }
+    let mut left = Vec::with_capacity(alloc, insts.len())?;
+    left.extend_from_slice(insts.get(..k).unwrap_or_default())?;
+    left.extend_from_slice(insts.get(k.saturating_add(1)..).unwrap_or_default())?;
+    Ok(Order::new(left, order.exit(), Some(*slot)))
 }
 
 /// Returns the order with an instruction in its slot in place of a Nop. It is the last one that nothing after it depends on, and without
@@ -107,18 +168,26 @@ pub fn fill(alloc: Global, _block: &Block, order: Order) -> Result<Order, AllocE
     if !is_free {
         return Ok(order);
     }
-    let mut passed = Passed::exit_of(alloc, &order);
+    match filled(alloc, &order)? {
+        Some(filled) => Ok(filled),
+        None => Ok(order),
+    }
+}
+
+/// Returns the order with an instruction in its slot, if there is one that may stand there.
+fn filled(alloc: Global, order: &Order) -> Result<Option<Order>, AllocError> {
+    let mut passed = Passed::exit_of(order);
     for k in (0..order.insts().len()).rev() {
         let Some(inst) = order.insts().get(k) else {
-            return Ok(order);
+            return Ok(None);
         };
-        let node = Node::of(inst);
-        if passed.lets(&node) {
-            if let Some(filled) = move_to_slot(alloc, &order, k)? {
-                return Ok(filled);
+        let facts = Facts::of(inst);
+        if passed.lets(k, inst, &facts) {
+            if let Some(filled) = move_to_slot(alloc, order, k)? {
+                return Ok(Some(filled));
             }
         }
-        passed.take(&node, order.insts().get(..k).unwrap_or_default())?;
+        passed.take(&facts);
     }
-    Ok(order)
+    Ok(None)
 }
