@@ -1,5 +1,5 @@
 //! The bytes of images, written and read.
-ghost use Rattle.std.specs.Prelude.{◌≡◌, ℕ, ◌+◌, ◌*◌, ◌≤◌, ◌^◌, ◌++◌, None, length, OnOk, IfOk, IfErr, MatchResult};
+ghost use Rattle.std.specs.Prelude.{◌≡◌, ◌+◌, ◌*◌, ◌≤◌, ◌^◌, ◌++◌, None, length, OnOk, IfOk, IfErr, MatchResult};
 ghost use Rattle.std.specs.Int.{w32, to_be_bytes};
 ghost use Rattle.image.specs.Images.{ImageParts, IsImage, EachImageHasItsBytes, head_of, image_bytes, words_bytes, word_at_byte, words_of};
 ghost use Rattle.image.specs.Images.{counts_at, total, first_version_fault, second_version_fault, image_fault, is_entry, has_sizes};
