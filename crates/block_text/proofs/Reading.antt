@@ -16,9 +16,6 @@ pub record Reading (text rest : List ℕ) (count : ℕ) (p : StageParts) : Type 
   pub stood : Stood p seen
   pub only : (q : StageParts) → Runs AtBlock seen q → q ≡ p
 
-pub reading_start : (text : List ℕ) → Reading text text 0 AtBlock
-reading_start text = record { seen = []; whole = refl; counted = refl; stood = refl; only = λ q r. sym r }
-
 pub reading_step : (text rest after l : List ℕ) (n : ℕ) (p q : StageParts) → Reading text rest n p → lines_of rest ≡ l ∷ lines_of after
     → LeadsTo p l (Some q) → Reading text after (n + 1) q
 reading_step text rest after l n p q r e s = record {
@@ -78,9 +75,6 @@ all_seen text n p r = r.whole ∙ append-nil r.seen
 pub is_done : (text : List ℕ) (n : ℕ) (p : StageParts) (b : BlockParts) (o : OrderParts) → Reading text [] n p → SpellsPair (lines_of text) b o → Done b o ≡ p
 is_done text n p b o r s =
     r.only (Done b o) (spelled_runs r.seen b o (subst (λ (xs : List (List ℕ)). SpellsPair xs b o) (all_seen text n p r) s))
-
-pub ends_done : (text : List ℕ) (n : ℕ) (b : BlockParts) (o : OrderParts) → Reading text [] n (Done b o) → SpellsPair (lines_of text) b o
-ends_done text n b o r = subst (λ (xs : List (List ℕ)). SpellsPair xs b o) (sym (all_seen text n (Done b o) r)) r.stood
 
 pub ends_early : (text : List ℕ) (n : ℕ) (p : StageParts) → Reading text [] n p → ((b : BlockParts) (o : OrderParts) → Done b o ≡ p → ⊥)
     → FailsAt (lines_of text) n

@@ -103,13 +103,6 @@ both-err : {A B : Type 0} (p q : Faults) (a : Result A TypeStop) (b : Result B T
 both-err p q a b (Ok r) n h m l e = tt
 both-err p q a b (Err s) n h m l e = both-stop p q a b s n h m l e
 
--- the same of three parts, the last two put together first
-pub three-stop : {A B C : Type 0} (p q r : Faults) (a : Result A TypeStop) (b : Result B TypeStop) (c : Result C TypeStop)
-    (d : Result (B × C) TypeStop) (s : TypeStop) → IfOk a (λ x. HasNone p) → IfErr a (StopsAtFirst p)
-    → IfOk b (λ x. HasNone q) → IfErr b (StopsAtFirst q) → IfOk c (λ x. HasNone r) → IfErr c (StopsAtFirst r)
-    → IfOk d (λ x. (b ≡ Ok x.0) × (c ≡ Ok x.1)) → IfErr d (StopsBoth b c) → StopsBoth a d s → StopsAtFirst (Both p (Both q r)) s
-three-stop p q r a b c d s n h m l o i e f g = both-stop p (Both q r) a d s n h (both-ok q r b c d m o e) (both-err q r b c d m l o i f) g
-
 -- two sets with the same members
 pub record Same (p q : Faults) : Type 0 where
   pub to : (k : TypeFaultKind) (at : ℕ) → p k at → q k at

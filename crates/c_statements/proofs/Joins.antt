@@ -127,22 +127,6 @@ memory-both (Err (Fault f)) (Err (Fault g)) (inr e) = cc
 memory-both (Err (Fault f)) (Err NoMemory) (inr e) = refl
 memory-both (Err NoMemory) (Err t) h = refl
 
-no-answer : {A : Type 0} (b : Result A TypeStop) (y : A) → b ≡ Ok y → b ≡ Err NoMemory → ⊥
-no-answer b y e f = let g = sym e ∙ f in cc
-
-pub second-lasts : {A B D : Type 0} (a : Result A TypeStop) (b : Result B TypeStop) (E : A → B → D → Type 0) (r : Result D TypeStop)
-    → IfOk r (MadeOfTwo a b E) → IfErr r (StopsTwo a b) → (r ≡ Err NoMemory → ⊥) → b ≡ Err NoMemory → ⊥
-second-lasts a b E (Ok d) o e n f = no-answer b o.1 o.3 f
-second-lasts a b E (Err s) o (inl e) n f = n (ap Err e)
-second-lasts a b E (Err s) o (inr e) n f = n (ap Err (memory-right a b s f e))
-
-pub parts-last : {A B C D : Type 0} (a : Result A TypeStop) (b : Result B TypeStop) (c : Result C TypeStop) (E : A → B → C → D → Type 0) (r : Result D TypeStop)
-    → IfOk r (MadeOfThree a b c E) → IfErr r (StopsTwo a (both_of b c)) → (r ≡ Err NoMemory → ⊥) → (b ≡ Err NoMemory) ⊎ (c ≡ Err NoMemory) → ⊥
-parts-last a b c E (Ok d) o e n (inl f) = no-answer b o.1 o.4 f
-parts-last a b c E (Ok d) o e n (inr f) = no-answer c o.2 o.5 f
-parts-last a b c E (Err s) o (inl e) n f = n (ap Err e)
-parts-last a b c E (Err s) o (inr e) n f = n (ap Err (memory-right a (both_of b c) s (memory-both b c f) e))
-
 -- a block of two statements
 pub block-of-two : (v : Vec TypedStatement Global) (first second : TypedStatement) → v.items ≡ first ∷ second ∷ []
     → statement_of (Block v) ≡ block (more_statements (statement_of first) (more_statements (statement_of second) no_statements))

@@ -14,9 +14,6 @@ use Rattle.c_statements.specs.Names.{Environment, spelling_in}
 use Rattle.c_statements.specs.Names.{Scopes, environment_in, within, with_local, behind}
 use Rattle.c_statements.specs.Uses.{as_value, with_index, as_call, Misused, Faulty}
 
-abbrev pub NoFault : Faults
-NoFault k at = ⊥
-
 -- the one fault of this kind at this place
 abbrev pub OneFault : TypeFaultKind → ℕ → Faults
 OneFault k at j n = (j ≡ k) × (n ≡ at)

@@ -21,9 +21,3 @@ pub kinds_of : {T : Type 0} (a b : App) (ws : List Text) (r : Result T Error) �
     → (is_simple_and_free a ≡ true → FailsBy (fault_of a ws) r) → FailsBy (fault_of b ws) r
 kinds_of a b ws r e simple h =
     subst (λ (x : App). FailsBy (fault_of x ws) r) e (h (subst (λ (x : App). is_simple_and_free x ≡ true) (sym e) simple))
-
--- the subcommand that was found is the one that the words ask for
-pub subcommand_moves : (a b : App) (ws : List Text) (m : ArgMatches) (r : Option (Text × List Row)) → a ≡ b → is_simple b ≡ true
-    → HasMatchesOf a ws m → subcommand_rows_of m ≡ r → subcommand_of b ws ≡ r
-subcommand_moves a b ws m r e simple has found =
-    sym ((subst (λ (x : App). HasMatchesOf x ws m) e has) simple).1 ∙ found

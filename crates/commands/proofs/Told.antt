@@ -47,7 +47,3 @@ module _ {E : Type 0} (tells : E → List ℕ → E → Type 0) where
       let on = lines_on a.0 q r lines last (All-tail (All IsShown) line lines shown) end a.2 b in
       let first = below p a.0 line (All-head (All IsShown) line lines shown) a.1 in
       (first.0 ++ on.0, folds_on tells p a.0 r first.0 on.0 first.1 on.1, All-append (All IsShown) first.0 on.0 first.2 on.2)
-
-  -- where nothing was told all is as it was
-  pub nothing_told : (p q : E) → TellsBeside tells p IsNothing q → q ≡ p
-  nothing_told p q told = sym (subst (λ (pieces : List (List ℕ)). FoldsTo tells p pieces q) told.2 told.1)

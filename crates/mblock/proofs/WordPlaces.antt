@@ -39,31 +39,6 @@ kind_beyond insts slot k h =
     let at : k ≡ length insts + suc (suc (k - length insts - 2)) = omega (arith, h) in
     kind_past insts (slot_words slot) k (suc (suc (k - length insts - 2))) at ∙ slot_last slot (k - length insts - 2)
 
--- no product stands there but an instruction or the slot
-pub past_at : (insts : List Plain) (slot : Option Plain) (k : ℕ) → length insts ≤ k → (k ≡ length insts + 1 → ⊥)
-    → is_product_word (slice_get (kinds_of insts (slot_words slot)) k) ≡ false
-past_at insts slot k h apart = go (k - length insts) refl
-  where
-    go : (j : ℕ) → k - length insts ≡ j → is_product_word (slice_get (kinds_of insts (slot_words slot)) k) ≡ false
-    go zero e = let at : k ≡ length insts + 0 = omega (arith, h, e) in ap is_product_word (kind_past insts (slot_words slot) k 0 at)
-    go (suc zero) e = absurd (apart (omega (arith, h, e)))
-    go (suc (suc j)) e = let at : length insts + 2 ≤ k = omega (arith, h, e) in ap is_product_word (kind_beyond insts slot k at)
-
--- the test of two instructions that were read, and of the last one
-pub conflict_at : (insts : List Plain) (k : ℕ) (a b : Plain) → k + 1 < length insts → a ≡ get_or insts k a → b ≡ get_or insts (k + 1) b
-    → loads_named (action_of a) (touches (action_of b)) ≡ conflict_of (slice_get insts k) (slice_get insts (k + 1))
-conflict_at insts k a b lt ea eb =
-    let below : k < length insts = omega (arith, lt) in
-    ap₂ conflict_of (sym (slice_get_read insts (length insts) k a refl below ea)) (sym (slice_get_read insts (length insts) (k + 1) b refl lt eb))
-
-pub no_conflict : (insts : List Plain) (k : ℕ) → length insts ≤ k + 1 → false ≡ conflict_of (slice_get insts k) (slice_get insts (k + 1))
-no_conflict insts k le = go (slice_get insts k) (slice_get insts (k + 1)) (slice_get_past insts (k + 1) le)
-  where
-    go : (x y : Option Plain) → y ≡ None → false ≡ conflict_of x y
-    go None y e = refl
-    go (Some a) None e = refl
-    go (Some a) (Some b) e = absurd (none-some b (sym e))
-
 -- the first delay rule by its test
 pub apart_is : (insts : List Plain) → ((k : ℕ) → k < length insts → conflict_of (slice_get insts k) (slice_get insts (k + 1)) ≡ false) → IsApart insts
 apart_is insts h i r a b ea eb l =
@@ -100,34 +75,6 @@ early_second words k m p q em ep eq tm tp =
 pub early_never : (words : List (Option Action)) (k : ℕ) (m : Bool) → m ≡ is_move_word (slice_get words k) → m ≡ false → m ≡ early_at words k
 early_never words k m em fm =
     fm ∙ sym (ap (λ x. x && (is_product_word (slice_get words (k + 1)) || is_product_word (slice_get words (k + 2)))) (sym em ∙ fm))
-
--- the second delay rule by its test
-pub behind_not : (words : List (Option Action)) (k : ℕ) → early_at words k ≡ true → IsBehind words → ⊥
-behind_not words k e behind = moves (slice_get words k) refl parts.0
-  where
-    parts : (is_move_word (slice_get words k) ≡ true) × ((is_product_word (slice_get words (k + 1)) || is_product_word (slice_get words (k + 2))) ≡ true)
-    parts = and_parts _ _ e
-
-    product : (a : Action) → slice_get words k ≡ Some (Some a) → is_move a ≡ true → (w : Option (Option Action)) (m : ℕ)
-        → slice_get words m ≡ w → is_product_word w ≡ true → ((b : Action) → slice_get words m ≡ Some (Some b) → is_product b ≡ false) → ⊥
-    product a ea ma None m ew h quiet = true≢false (sym h)
-    product a ea ma (Some None) m ew h quiet = true≢false (sym h)
-    product a ea ma (Some (Some b)) m ew h quiet = true≢false (sym h ∙ quiet b ew)
-
-    moves : (w : Option (Option Action)) → slice_get words k ≡ w → is_move_word w ≡ true → ⊥
-    moves None ew h = true≢false (sym h)
-    moves (Some None) ew h = true≢false (sym h)
-    moves (Some (Some a)) ew h = either (or_cases _ _ parts.1)
-      where
-        one : suc k ≡ k + 1
-        one = omega arith
-
-        two : suc (suc k) ≡ k + 2
-        two = omega arith
-
-        either : (is_product_word (slice_get words (k + 1)) ≡ true) ⊎ (is_product_word (slice_get words (k + 2)) ≡ true) → ⊥
-        either (inl p) = product a ew h (slice_get words (k + 1)) (k + 1) refl p (λ b eb. behind k a b ew h (inl (ap (slice_get words) one ∙ eb)))
-        either (inr p) = product a ew h (slice_get words (k + 2)) (k + 2) refl p (λ b eb. behind k a b ew h (inr (ap (slice_get words) two ∙ eb)))
 
 pub behind_is : (insts : List Plain) (slot : Option Plain)
     → ((k : ℕ) → k < length insts → early_at (kinds_of insts (slot_words slot)) k ≡ false) → IsBehind (kinds_of insts (slot_words slot))

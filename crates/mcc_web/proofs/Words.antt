@@ -23,11 +23,6 @@ ends (endings.Halt w) m h = refl
 ends (endings.Stuck r) m h = refl
 ends endings.More m h = absurd (h refl)
 
--- a step that ends the run
-pub none_behind : (code : Code) (m m' : Machine) (end : Ending) → (end ≡ endings.More → ⊥) → step_of (code m.pc) m ≡ stepped_of (Some end) m'
-    → m' ≡ m → one_more code (Some m') ≡ None
-none_behind code m m' end h step same = ap (λ (x : Machine). one_more code (Some x)) same ∙ ap going step ∙ ends end m' h
-
 pub none_of : {A : Type 0} → (o : Option A) → is_some o ≡ false → o ≡ None
 none_of None e = refl
 none_of (Some x) e = search e

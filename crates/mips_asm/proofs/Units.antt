@@ -119,9 +119,6 @@ unit_orders u orders is h = record {
     block_at : (k : ℕ) (o : OrderParts) → slice_get orders k ≡ Some o → (b : BlockParts) × (slice_get u.blocks k ≡ Some b)
     block_at k o e = there_is u.blocks k (let lt = slice_get_within orders k o e in omega (arith, h.long))
 
-pub owner_length : (u : UnitParts) (orders : List OrderParts) → IsUnit u → AreOrders u.blocks orders → length u.owner ≡ length orders
-owner_length u orders is h = is.owners.lengths ∙ sym h.long
-
 -- ---- images
 
 insts_length : (start : ℕ → ℕ) (os : List OrderParts) (here : ℕ) → ((k : ℕ) (o : OrderParts) → slice_get os k ≡ Some o → FitsSlot o)

@@ -6,18 +6,6 @@ use Rattle.mips_emit.specs.declared.limits.TheConstants.{KEPT_FACTS}
 use Rattle.mips_emit.specs.declared.facts.Fact.{Fact}
 use Rattle.mips_emit.specs.Locations.{known_of, newest, with_fact}
 
-take_twice : (k : ℕ) (facts : List Fact) → take k (take (suc k) facts) ≡ take k facts
-take_twice zero facts = refl
-take_twice (suc k) [] = refl
-take_twice (suc k) (f ∷ facts) = ap (λ l. f ∷ l) (take_twice k facts)
-
--- one more fact
-pub newest_more : (facts : List Fact) (x : ℕ) (o : Option ℕ) (all : List Fact) → all ≡ facts ++ (let f : Fact = record { register = x; word = o } in f) ∷ []
-    → newest all ≡ with_fact x o (newest facts)
-newest_more facts x o all is =
-    let f : Fact = record { register = x; word = o } in
-    ap newest is ∙ ap (take KEPT_FACTS) (reverse-append facts (f ∷ [])) ∙ ap (λ l. f ∷ l) (sym (take_twice 15 (reverse facts)))
-
 -- all of them are looked at, or the newest
 pub newest_last : (facts : List Fact) (forgotten : ℕ) → forgotten ≡ length facts - KEPT_FACTS
     → take (length facts - forgotten) (reverse (take (length facts) facts)) ≡ newest facts

@@ -50,8 +50,3 @@ block_counted us vs ws is insts names same a b = adds_then us vs ws (insts_names
 
 pub call_counted : (us vs ws xs ys zs : List ℕ) → xs ≡ ys → Adds us vs xs → Adds vs ws zs → Adds us ws (ys ++ zs)
 call_counted us vs ws xs ys zs same a b = adds_then us vs ws ys zs (subst (λ l. Adds us vs l) same a) b
-
--- from counts of 0
-pub counted_from : (n : ℕ) (zs us names : List ℕ) → length zs ≡ n → ((y : ℕ) → get_or zs y 0 ≡ 0) → Adds zs us names
-    → (length us ≡ bound n names) × ((x : ℕ) → get_or us x 0 ≡ occurrences names x)
-counted_from n zs us names long none a = (a.long ∙ ap (λ k. bound k names) long, λ x. (let p = a.by x in let q = none x in omega (arith, p, q)))

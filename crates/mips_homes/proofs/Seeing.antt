@@ -125,17 +125,6 @@ pub record AreSeenTo (i : ℕ) (now : List Sight) (left bs : List RBlock) : Type
   pub first : (x : ℕ) → (not (is_read_first now x) && none_reads_first true left x) ≡ is_local bs x
   pub late : (x : ℕ) → (sight_at now x).written_in ≤ i
 
-pub are_seen_start : (bs : List RBlock) (i : ℕ) → i ≡ (if some_go_to bs 0 then 0 else 1) → AreSeenTo i [] (drop i bs) bs
-are_seen_start bs i e = record { first = λ x. by x (some_go_to bs 0) refl e; late = λ x. omega arith }
-  where
-    past : (bs : List RBlock) (x : ℕ) → none_reads_first true (drop 1 bs) x ≡ none_reads_first false bs x
-    past [] x = refl
-    past (b ∷ bs) x = refl
-
-    by : (x : ℕ) (c : Bool) → some_go_to bs 0 ≡ c → i ≡ (if c then 0 else 1) → none_reads_first true (drop i bs) x ≡ none_reads_first (some_go_to bs 0) bs x
-    by x true c e = ap (λ n. none_reads_first true (drop n bs) x) e ∙ ap (λ b. none_reads_first b bs x) (sym c)
-    by x false c e = ap (λ n. none_reads_first true (drop n bs) x) e ∙ past bs x ∙ ap (λ b. none_reads_first b bs x) (sym c)
-
 pub are_seen_step : (bs : List RBlock) (i : ℕ) (b : RBlock) (s t : List Sight) → i < length bs → b ≡ get_or bs i b
     → ((x : ℕ) → is_read_first t x ≡ (is_read_first s x || block_reads_first b x)) → IsUpTo (i + 1) t → AreSeenTo i s (drop i bs) bs
     → AreSeenTo (i + 1) t (drop (i + 1) bs) bs

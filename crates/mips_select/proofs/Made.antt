@@ -54,12 +54,6 @@ block_step place b bs bs' out out' all count exit old left exit_is old_is made c
           ∙ before,
     )
 
--- as few pieces as were counted
-pub few_pieces : (place : ℕ → ℕ) (long blocks : List BlockParts) → blocks ≡ split_from 512 place 0 long → total 512 long ≤ 1048576 → length blocks ≤ 1048576
-few_pieces place long blocks made few =
-    let count : length blocks ≡ total 512 long = ap length made ∙ length-split_from 512 place 0 long in
-    omega (arith, few, count)
-
 -- the owner of one more block's pieces
 pub owner_step : (place : ℕ → ℕ) (i o first more : ℕ) (long : List BlockParts) (owner : List ℕ) (b : BlockParts) (out out' all : List ℕ)
     → i < length long → length owner ≡ length long → b ≡ get_or long i b → o ≡ get_or owner i o

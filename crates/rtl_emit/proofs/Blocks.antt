@@ -100,17 +100,3 @@ split4 bs a b c d e g1 g2 g3 g4 h =
     let s = split2 bs a b e g1 (grows_then b c e g2 (grows_then c d e g3 g4)) h in
     let t = split3 bs b c d e g2 g3 g4 s.1 in
     (s.0, t.0, t.1, t.2)
-
-pub split5 : (bs a b c d e f : List RBlock) → Grows a b → Grows b c → Grows c d → Grows d e → Grows e f → Has bs a f
-    → Has bs a b × Has bs b c × Has bs c d × Has bs d e × Has bs e f
-split5 bs a b c d e f g1 g2 g3 g4 g5 h =
-    let s = split2 bs a b f g1 (grows_then b c f g2 (grows_then c d f g3 (grows_then d e f g4 g5))) h in
-    let t = split4 bs b c d e f g2 g3 g4 g5 s.1 in
-    (s.0, t.0, t.1, t.2, t.3)
-
-pub split6 : (bs a b c d e f i : List RBlock) → Grows a b → Grows b c → Grows c d → Grows d e → Grows e f → Grows f i → Has bs a i
-    → Has bs a b × Has bs b c × Has bs c d × Has bs d e × Has bs e f × Has bs f i
-split6 bs a b c d e f i g1 g2 g3 g4 g5 g6 h =
-    let s = split2 bs a b i g1 (grows_then b c i g2 (grows_then c d i g3 (grows_then d e i g4 (grows_then e f i g5 g6)))) h in
-    let t = split5 bs b c d e f i g2 g3 g4 g5 g6 s.1 in
-    (s.0, t.0, t.1, t.2, t.3, t.4)

@@ -103,12 +103,6 @@ plain_decides bs e p yes_block no_block free next from pl f = record {
       record { regs = t.regs; moves = moves_after t.goes (moves_one (branch w bs p yes_block no_block t.regs v t.value)); kept = t.kept };
 }
 
-pub identity_decides : (bs : List RBlock) (k : IntegerType) (a : TypedExpression) (yes_block no_block free : ℕ) (from : Code)
-    → Decides bs a free yes_block no_block from → Decides bs (unary U.Identity k a) free yes_block no_block from
-identity_decides bs k a yes_block no_block free from da = record {
-  by = λ w l r v h e.
-      let c = chained (value_of a l w.globals) (λ x. Some x) v e in
-      da.by w l r v h (c.is ∙ c.then_is);
 }
 
 pub not_decides : (bs : List RBlock) (k : IntegerType) (a : TypedExpression) (yes_block no_block free : ℕ) (from : Code)

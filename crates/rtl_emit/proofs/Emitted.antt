@@ -40,9 +40,6 @@ pub finds_to : {bs : List RBlock} {e : TypedExpression} {free p : ℕ} {from to 
     → Fetches bs e free p from to'
 finds_to {bs} {e} {free} {p} {from} is ev = subst (λ c. Fetches bs e free p from c) is ev
 
-pub place_along : {e e' : TypedExpression} {free p next : ℕ} → e ≡ e' → IsPlace e' free p next → IsPlace e free p next
-place_along {e} {e'} {free} {p} {next} is pl = subst (λ e. IsPlace e free p next) (sym is) pl
-
 pub at_equal : {bs : List RBlock} {b : ℕ} {c c' : Code} → c ≡ c' → At bs b c → At bs b c'
 at_equal {bs} {b} e a = subst (λ c. At bs b c) e a
 

@@ -114,12 +114,3 @@ pub not_different : (s : Sign) → ComputesContrary B.NotEqual s (straight_op O.
 not_different s = record { both = λ l r. refl; by = λ x y. (not (x == y), refl, not_not (x == y)) }
 
 -- prefix operators
-
-pub negates : ComputesPrefix U.Negate (record { operation = turned_op O.Sub; word = 0 })
-negates = record { by = λ s x v wx is. negation-is s x v wx is }
-
-pub complements : ComputesPrefix U.Complement (record { operation = straight_op O.Xor; word = 2 ^ 32 - 1 })
-complements = record { by = λ s x v wx is. complement-is x wx ∙ is }
-
-pub nots : ComputesPrefix U.Not (record { operation = straight_op O.Eq; word = 0 })
-nots = record { by = λ s x v wx is. is }

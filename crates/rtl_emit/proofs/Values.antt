@@ -94,10 +94,6 @@ local_value bs x k d free after = record {
       yields_one w bs free d r _ _ v (with_some (r x) v w.output (λ v. at w bs (places_with r d (Some v)) after) (h.by x v e).1);
 }
 
--- an operand that is there, and one whose code puts it there
-pub fetched_local : (bs : List RBlock) (x : ℕ) (k : IntegerType) (free : ℕ) (after : Code) → Fetches bs (local x k) free x after after
-fetched_local bs x k free after = record {
-  by = λ w l r v h e. record { regs = r; goes = goes_nowhere w.program w.depth _; value = (h.by x v e).1; kept = λ x k ne. refl };
 }
 
 pub fetched : (bs : List RBlock) (e : TypedExpression) (free p : ℕ) (from to : Code) → Evaluates bs e free p from to → Fetches bs e free p from to

@@ -289,10 +289,6 @@ is_program p rs gs main well room codes globals sum em =
 
 -- statements
 
-pub fits_along : (p : TypedProgram) (n : ℕ) (gives inside : Bool) {t t' : TypedStatement} → t ≡ t' → FitsStatement p n gives inside t'
-    → FitsStatement p n gives inside t
-fits_along p n gives inside e f = subst (λ t. FitsStatement p n gives inside t) (sym e) f
-
 pub within_filled : {old new : List RBlock} {b : ℕ} {c : Code} {n : ℕ} → Fills old new b c → length new ≤ n → length old ≤ n
 within_filled f le = let l = f.same_length in omega (arith, l, le)
 

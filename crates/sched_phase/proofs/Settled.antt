@@ -9,11 +9,6 @@ use Rattle.image.specs.Images.{CountsOf}
 use Rattle.sched_phase.specs.Phases.{Proposals, Kind, Counts, Suits, AreSettled, count_of}
 use Rattle.sched_phase.specs.Settling.{AddsOne, Serves}
 
--- the element of a list at the place that a loop has come to, by another name of the list and of the place
-pub item_next : {X : Type 0} (xs ys : List X) (i n : ℕ) (x : X) → xs ≡ ys → n ≡ i → i < length xs → x ≡ get_or xs i x → slice_get ys n ≡ Some x
-item_next xs ys i n x all at lt is =
-    subst (λ (l : List _). slice_get l n ≡ Some x) all (subst (λ (k : ℕ). slice_get xs k ≡ Some x) (sym at) (slice_get-get_or xs i x lt ∙ ap Some (sym is)))
-
 snoc_last : {X : Type 0} (xs : List X) (x : X) → slice_get (xs ++ x ∷ []) (length xs) ≡ Some x
 snoc_last [] x = refl
 snoc_last (y ∷ ys) x = snoc_last ys x

@@ -189,10 +189,6 @@ pub ok_always : {X E : Type 0} {A : Type 0} (r : Result X E) → A → OnOk r A
 ok_always (Ok x) h = h
 ok_always (Err e) h = tt
 
-pub if_ok : {X E : Type 0} {P Q : X → Type 0} (r : Result X E) → IfOk r P → ((x : X) → P x → Q x) → IfOk r Q
-if_ok (Ok x) h f = f x h
-if_ok (Err e) h f = h
-
 all_on : {p q : PassState} → Later p q → (ts : List ℕ) (xs : List Tree) → AllHave p ts xs → AllHave q ts xs
 all_on {p} {q} e [] [] h = h
 all_on {p} {q} e [] (x ∷ xs) h = h
@@ -214,13 +210,6 @@ pub length_set : (xs : List ℕ) (k v : ℕ) → length (slice_set xs k v) ≡ l
 length_set [] k v = refl
 length_set (x ∷ xs) zero v = refl
 length_set (x ∷ xs) (suc k) v = ap suc (length_set xs k v)
-
-pub set_place : (P : ℕ → Type 0) (xs : List ℕ) (k v q : ℕ) → k < length xs → P v → P (slice_index xs q) → P (slice_index (slice_set xs k v) q)
-set_place P xs k v q lt new old = go (q == k) refl
-  where
-    go : (b : Bool) → (q == k) ≡ b → P (slice_index (slice_set xs k v) q)
-    go true e = subst P (sym (ap (slice_index (slice_set xs k v)) (eqb-true q k e) ∙ get_or-set_same xs k v 0 lt)) new
-    go false e = subst P (sym (get_or-set_other xs k q v 0 (λ same. true≢false (sym (eq-eqb q k same) ∙ e)))) old
 
 -- the registers' start terms, one more
 pub set_tree : (p : PassState) (xs : List ℕ) (k v q : ℕ) → k < length xs → 1 ≤ k → HasTree p v (leaf (Init (Register k))) → q < k + 1
