@@ -8,9 +8,8 @@ ghost use Rattle.words.specs.Words.{wrap};
 ghost use Rattle.rtl.specs.Programs.{IsInst};
 ghost use Rattle.mips_emit.specs.declared.location.Location.TheVariants.{Held};
 ghost use Rattle.mips_emit.specs.Frames.{IsReachable};
-ghost use Rattle.mips_emit.specs.declared.comparison.Asked.TheVariants.{Nothing};
-ghost use Rattle.mips_emit.specs.Locations.{facts_of, inner_of, locations, word_source, operand, known_after, FitsSource};
-ghost use Rattle.mips_emit.specs.Comparisons.{FitsComparison, next_code, last_after, no_last, code_of_insts};
+ghost use Rattle.mips_emit.specs.Locations.{facts_of, fresh_of, inner_of, learned, locations, word_source, operand, known_after, FitsSource};
+ghost use Rattle.mips_emit.specs.Comparisons.{FitsComparison, comparison_of, next_code, last_with, last_after, no_last, code_of_insts};
 ghost use Rattle.mips_emit.specs.Elements.{AreStarts, IsInReach, width_of};
 ghost use Rattle.mips_emit.specs.Code.{context_of, const_code, put_at, into, finish, op_code, holds_base, reach_with, load_code, store_code, inst_code};
 ghost use Rattle.mips_emit.specs.Locations.{index_register};
@@ -292,11 +291,28 @@ fn emit_next(
     }
 }
 
-/// Returns what the exit asks for, if the exit comes next.
-fn asked_if(is_last: bool, asked: Asked) -> Asked
-    ensures { result ≡ (if is_last then asked else Nothing) }
+/// Emits the instruction before an exit that goes by the pseudo-register asked for, learns what is known after it, and returns what is left
+/// for the exit.
+fn emit_last(
+    code: &mut Vec<Plain>,
+    facts: &mut Knowledge,
+    setting: &Setting<'_>,
+    asked: Asked,
+    inst: &RInst,
+) -> Result<Last, AllocError>
+    requires named { IsInst (length setting.now.starts.now) inst.now }
+    ensures code { Emits result code.old.items (next_code (context_of setting.now) (facts_of facts.old)
+        (comparison_of (locations setting.now.frame.now) (facts_of facts.old) asked inst.now) inst.now) code.new.items }
+    ensures last { IfOk result (λ l. l ≡ last_with (comparison_of (locations setting.now.frame.now) (facts_of facts.old) asked inst.now)
+        (fresh_of (locations setting.now.frame.now) inst.now)) }
+    ensures known { OnOk result (facts_of facts.new ≡ learned (locations setting.now.frame.now) inst.now (facts_of facts.old)) }
+    ensures kept { OnErr result (facts_of facts.new ≡ facts_of facts.old) }
 {
-    if is_last { asked } else { Asked::Nothing }
+    let comparison = comparison_of(facts, setting.frame, asked, inst);
+    let fresh = fresh_of(setting.frame, inst);
+    emit_next(code, setting, facts, &comparison, inst)?;
+    learn(facts, setting.frame, inst)?;
+    Ok(last_with(&comparison, fresh))
 }
 
 /// Emits several instructions, learns what is known after them, and returns what is left for an exit that goes by the pseudo-register asked
@@ -317,16 +333,15 @@ pub fn emit_insts(
     ensures left { OnErr result (StopsAmong (context_of setting.now) asked insts.now
         (emission (facts_of facts.old) code.old.items) (emission (facts_of facts.new) code.new.items)) }
 {
-    let mut last = Last::NONE;
     let mut left = insts.len();
     for inst in insts {
         left -= 1;
-        let asks = asked_if(left == 0, asked);
-        let comparison = comparison_of(facts, setting.frame, asks, inst);
-        let fresh = fresh_of(setting.frame, inst);
-        emit_next(code, setting, facts, &comparison, inst)?;
-        last = last_with(&comparison, fresh);
+        if left == 0 {
+            let last = emit_last(code, facts, setting, asked, inst)?;
+            return Ok(last);
+        }
+        emit_inst(code, setting, facts, inst)?;
         learn(facts, setting.frame, inst)?;
     }
-    Ok(last)
+    Ok(Last::NONE)
 }

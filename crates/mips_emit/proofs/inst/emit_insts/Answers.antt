@@ -1,48 +1,31 @@
-use Rattle.mips_emit.proofs.Emitted.{insts_step}
-use Rattle.std.proofs.Common.{List, [], ◌++◌, refl, sym, ap, ◌∙◌, arith}
+use Rattle.mips_emit.proofs.Emitted.{insts_more, next_asks, none_asked}
+use Rattle.std.proofs.Common.{List, [], ◌++◌, None, refl, sym, ap, ◌∙◌, arith}
 use Rattle.std.proofs.lemmas.List.{append-nil, at_drop_all}
 use Rattle.rtl.specs.declared.instruction.RInst.{RInst}
+use Rattle.mips_emit.specs.declared.comparison.Asked.TheVariants.{Nothing}
 use Rattle.mips_emit.specs.Locations.{facts_of, locations, known_after}
 use Rattle.mips_emit.specs.Code.{context_of}
-use Rattle.mips_emit.specs.Comparisons.{insts_code, last_after}
-use Rattle.mips_emit.proofs.Prefixes.{stops_here, stops_later, at_err, prefix_all}
+use Rattle.mips_emit.specs.Comparisons.{insts_code, last_after, no_last}
+use Rattle.mips_emit.proofs.Prefixes.{stops_later}
 use Rattle.mips_emit.proofs.inst.emit_insts.Goals as goal
 
 pub loop-inst-preserved : goal.loop-inst-preserved
 loop-inst-preserved c =
-    let z = insts_step (context_of c.args.setting.now) c.args.asked c.asked_if-asks.result c.loop-inst.inst-index c.loop-inst.left c.args.insts.now _
-    c.comparison_of-comparison.result c.fresh_of-fresh.result _ _ _ _ _ _ _ _ _
-    c.loop-inst-test.true c.asked_if-asks.ensures c.comparison_of-comparison.ensures.value c.fresh_of-fresh.ensures c.in_ok-emit_next.ensures
-    c.in_ok-learn.ensures.is c.last_with-last.ensures
-    (c.loop-inst.invariant.0, c.loop-inst.invariant.1, c.loop-inst.invariant.2, c.loop-inst.invariant.3) in (
+    let context = context_of c.args.setting.now in
+    let i = c.loop-inst.inst-index in
+    let left = c.loop-inst.left in
+    let more = c.if-left-eq0.false in
+    let was = c.loop-inst.invariant in
+    let z = insts_more context c.args.asked i left c.args.insts.now _ _ _ _ _ _ _ _ c.loop-inst-test.true more c.in_ok-emit_inst.ensures
+    c.in_ok-learn.ensures.is (was.0, was.1, was.2, was.3) in (
       z.0,
       z.1,
       z.2,
       z.3,
-      λ final now s. c.loop-inst.invariant.4 final now
-          (stops_later (context_of c.args.setting.now) c.args.asked c.asked_if-asks.result c.args.insts.now c.loop-inst.inst-index c.loop-inst.left _
-          c.comparison_of-comparison.result _ final _ now c.loop-inst-test.true c.loop-inst.invariant.0 c.asked_if-asks.ensures
-          c.comparison_of-comparison.ensures.value _ _ c.in_ok-learn.ensures.is c.in_ok-emit_next.ensures s),
+      λ final now s. was.4 final now
+          (stops_later context c.args.asked Nothing c.args.insts.now i left _ None _ final _ now c.loop-inst-test.true was.0
+          (next_asks c.args.asked left more) (none_asked context.at (facts_of c.loop-inst.facts) _) _ _ c.in_ok-learn.ensures.is c.in_ok-emit_inst.ensures s),
     )
-
-pub returns-in_err-emit_next-clause-left : goal.returns-in_err-emit_next-clause-left
-returns-in_err-emit_next-clause-left c =
-    let facts = facts_of c.loop-inst.facts in
-    let was = c.loop-inst.code.items in
-    let now = c.emit_next.new.code.items in
-    at_err c.from_residual.result (c.loop-inst.invariant.4 facts now (stops_here (context_of c.args.setting.now) c.args.asked c.asked_if-asks.result c.args.insts.now c.loop-inst.inst-index c.loop-inst.left _
-    c.comparison_of-comparison.result facts facts was now c.loop-inst-test.true c.loop-inst.invariant.0 c.asked_if-asks.ensures
-    c.comparison_of-comparison.ensures.value refl c.in_err-emit_next.ensures))
-
-pub returns-in_err-learn-clause-left : goal.returns-in_err-learn-clause-left
-returns-in_err-learn-clause-left c =
-    let facts = facts_of c.loop-inst.facts in
-    let final = facts_of c.learn.new.facts in
-    let was = c.loop-inst.code.items in
-    let now = c.emit_next.new.code.items in
-    at_err c.from_residual-in_err-learn.result (c.loop-inst.invariant.4 final now (stops_here (context_of c.args.setting.now) c.args.asked c.asked_if-asks.result c.args.insts.now c.loop-inst.inst-index c.loop-inst.left _
-    c.comparison_of-comparison.result facts final was now c.loop-inst-test.true c.loop-inst.invariant.0 c.asked_if-asks.ensures
-    c.comparison_of-comparison.ensures.value c.in_err-learn.ensures.kept (prefix_all was now _ c.in_ok-emit_next.ensures)))
 
 pub loop-inst-init : goal.loop-inst-init
 loop-inst-init c = (omega arith, refl, refl, refl, λ final now s. s)
@@ -56,7 +39,7 @@ returns-clause-code c =
 pub returns-clause-last : goal.returns-clause-last
 returns-clause-last c =
     let at = locations c.args.setting.now.frame.now in
-    sym (at_drop_all (λ is. last_after at c.args.asked (facts_of c.loop-inst.facts) is c.loop-inst.last) c.args.insts.now c.loop-inst.inst-index
+    sym (at_drop_all (λ is. last_after at c.args.asked (facts_of c.loop-inst.facts) is no_last) c.args.insts.now c.loop-inst.inst-index
     c.loop-inst-test.false) ∙ c.loop-inst.invariant.3
 
 pub returns-clause-known : goal.returns-clause-known

@@ -12,7 +12,7 @@ invariant-loop-inst l =
     × (l.code.items ++ insts_code (context_of l.setting) l.asked (facts_of l.facts) (drop l.inst-index l.insts) []
     ≡ l.fn.code.items ++ insts_code (context_of l.setting) l.asked (facts_of l.fn.facts) l.insts [])
     × (known_after (locations l.setting.frame.now) (drop l.inst-index l.insts) (facts_of l.facts) ≡ known_after (locations l.setting.frame.now) l.insts (facts_of l.fn.facts))
-    × (last_after (locations l.setting.frame.now) l.asked (facts_of l.facts) (drop l.inst-index l.insts) l.last
+    × (last_after (locations l.setting.frame.now) l.asked (facts_of l.facts) (drop l.inst-index l.insts) no_last
     ≡ last_after (locations l.setting.frame.now) l.asked (facts_of l.fn.facts) l.insts no_last)
     × ((final : Facts) (now : List Plain)
     → StopsAmong (context_of l.setting) l.asked (drop l.inst-index l.insts) (emission (facts_of l.facts) l.code.items) (emission final now)
