@@ -315,10 +315,29 @@ impl<'a, 't> Walk<'a, 't> {
         Ok(folded_binary(operation.operator, operation.integer_type, left, right))
     }
 
-    /// Walks through an expression that can be reached or can't; its value where it is a constant. Most are a constant or a local, for
-    /// which nothing is called.
+    /// Does the same as `expression`, without a call for a constant or a local.
     #[cycle(expressions)]
     #[inline(always)]
+    fn operand(
+        &mut self,
+        e: &Expression,
+        typed: &TypedExpression,
+        is_live: bool,
+    ) -> Result<Option<u32>, AllocError> {
+        match (e, typed) {
+            (Expression::Constant(literal), _) => Ok(Some(literal.value)),
+            (Expression::Name(name), TypedExpression::Local(_, k)) => {
+                if is_live {
+                    self.read(*k, *name);
+                }
+                Ok(None)
+            }
+            _ => self.expression(e, typed, is_live),
+        }
+    }
+
+    /// Walks through an expression that can be reached or can't; its value where it is a constant.
+    #[cycle(expressions)]
     fn expression(
         &mut self,
         e: &Expression,
@@ -333,19 +352,6 @@ impl<'a, 't> Walk<'a, 't> {
                 }
                 Ok(None)
             }
-            _ => self.compound(e, typed, is_live),
-        }
-    }
-
-    /// Walks through an expression that has parts.
-    #[cycle(expressions)]
-    fn compound(
-        &mut self,
-        e: &Expression,
-        typed: &TypedExpression,
-        is_live: bool,
-    ) -> Result<Option<u32>, AllocError> {
-        match (e, typed) {
             (Expression::Index(parts), TypedExpression::Element(_, typed)) => {
                 let (name, index) = &**parts;
                 let (k, typed) = &**typed;
@@ -354,7 +360,7 @@ impl<'a, 't> Walk<'a, 't> {
             }
             (Expression::Unary(operator, part), TypedExpression::Unary(_, integer_type, typed)) => {
                 self.next_sign(prefix_mark(*operator));
-                let value = self.expression(part, typed, is_live)?;
+                let value = self.operand(part, typed, is_live)?;
                 Ok(folded_unary(*operator, *integer_type, value))
             }
             (
@@ -366,9 +372,9 @@ impl<'a, 't> Walk<'a, 't> {
                 if is_relation(*operator) && is_comparison(left) {
                     self.chains.compare();
                 }
-                let left = self.expression(left, one, is_live)?;
+                let left = self.operand(left, one, is_live)?;
                 let place = self.between(*operator, left, is_live);
-                let right = self.expression(right, other, place.1)?;
+                let right = self.operand(right, other, place.1)?;
                 if left.is_none() && right.is_none() {
                     return Ok(None);
                 }
@@ -382,9 +388,9 @@ impl<'a, 't> Walk<'a, 't> {
             (Expression::Conditional(parts), TypedExpression::Conditional(_, typed)) => {
                 let (test, first, second) = &**parts;
                 let (what, one, other) = &**typed;
-                let what = outcomes(self.expression(test, what, is_live)?);
-                let first = self.expression(first, one, is_live && what.0)?;
-                let second = self.expression(second, other, is_live && what.1)?;
+                let what = outcomes(self.operand(test, what, is_live)?);
+                let first = self.operand(first, one, is_live && what.0)?;
+                let second = self.operand(second, other, is_live && what.1)?;
                 Ok(chosen(what, first, second))
             }
             _ => Ok(None),
@@ -401,7 +407,7 @@ impl<'a, 't> Walk<'a, 't> {
         typed: &TypedExpression,
         is_live: bool,
     ) -> Result<(), AllocError> {
-        match self.expression(index, typed, is_live)? {
+        match self.operand(index, typed, is_live)? {
             Some(value) if is_live => self.index(name, array, typed, value),
             _ => Ok(()),
         }
