@@ -11,7 +11,9 @@ ghost use Rattle.driver.specs.BuildTexts.{build_fault_text};
 ghost use Rattle.driver.specs.BuildFaults.{IsBuildFault};
 ghost use Rattle.driver.specs.BuildCommand.{IsBuiltAs, apart_meaning, build_meaning, built_text};
 
-use crate::build_command::builds::{BuildFault, Built, Limit, front_of, plain_of, unit_of_typed};
+use crate::build_command::builds::{
+    BuildFault, Built, Limit, Orders, front_of, plain_of, unit_of_typed,
+};
 use crate::build_command::largest::largest_line;
 use crate::build_command::places::source_place;
 use crate::build_command::scheduled_builds::{phase_of, scheduled_of, workers_for};
@@ -115,7 +117,7 @@ fn built_as_asked<T: Threads + Wait + Sync>(
     let unit = unit_of_typed(alloc, typed, asked.depth)?;
     // the program ends soon, and nothing would use the memory of the blocks
     if asked.plain {
-        let built = plain_of(alloc, &unit);
+        let built = plain_of(alloc, &unit, Orders::Left);
         forget(unit);
         built
     } else {

@@ -7,7 +7,7 @@ ghost use Rattle.driver.specs.Follows.{FollowsText};
 ghost use Rattle.driver.specs.BuildFaults.{IsBuildFault};
 ghost use Rattle.driver.specs.SourceFaults.{IsSourceFault};
 ghost use Rattle.driver.specs.Stages.{IsLowered};
-ghost use Rattle.driver.specs.Halves.{IsUnitOf, IsUnwrittenOf, IsWrittenOf};
+ghost use Rattle.driver.specs.Halves.{IsUnitOf, IsUnwritten, IsUnwrittenOf, IsWritten, IsWrittenOf};
 
 use c_front::read;
 use c_tree::Program;
@@ -21,6 +21,7 @@ use rtl::Rtl;
 use rtl_lower::{LowerFault, lower};
 use sched_phase::{Scheduled, schedule_plain};
 use std::alloc::{AllocError, Global};
+use std::mem::forget;
 
 /// Which limit a program exceeds that has no fault.
 #[derive(Clone, Copy, Debug, PartialEq, Eq)]
@@ -130,19 +131,22 @@ pub fn unit_of(alloc: Global, text: &[u8], depth: u32) -> Result<Unit, BuildFaul
     unit_of_typed(alloc, &typed, depth)
 }
 
-/// Writes the bytes of a scheduled unit's image, with its counts, unless memory was refused to the schedule.
-pub(crate) fn write(
-    alloc: Global,
-    scheduled: Result<Scheduled<'_>, AllocError>,
-) -> Result<Built, BuildFault>
-    ensures written { IfOk result (IsWrittenOf scheduled.entry) }
-    ensures fault { IfErr result (IsUnwrittenOf scheduled.entry) }
+/// What becomes of a unit's orders once they are written.
+#[derive(Clone, Copy)]
+pub(crate) enum Orders {
+    /// Their memory is free again.
+    Freed,
+    /// They stay to the end of the program, since to let go of each takes longer than new memory does.
+    Left,
+}
+
+/// Writes the bytes of a scheduled unit's image, with its counts.
+fn written(alloc: Global, scheduled: &Scheduled<'_>) -> Result<Built, BuildFault>
+    ensures written { IfOk result (IsWritten scheduled.now) }
+    ensures fault { IfErr result (IsUnwritten scheduled.now) }
 {
-    let Ok(scheduled) = scheduled else {
-        return Err(BuildFault::NoMemory);
-    };
     let report = scheduled.report();
-    let image = match assemble(alloc, &scheduled) {
+    let image = match assemble(alloc, scheduled) {
         Ok(image) => image,
         Err(AsmFault::Limit) => return Err(BuildFault::Limit(Limit::Assembly)),
         Err(AsmFault::NoMemory) => return Err(BuildFault::NoMemory),
@@ -157,14 +161,34 @@ pub(crate) fn write(
     })
 }
 
+/// Writes the bytes of a scheduled unit's image, with its counts, unless memory was refused to the schedule.
+pub(crate) fn write(
+    alloc: Global,
+    scheduled: Result<Scheduled<'_>, AllocError>,
+    orders: Orders,
+) -> Result<Built, BuildFault>
+    ensures written { IfOk result (IsWrittenOf scheduled.entry) }
+    ensures fault { IfErr result (IsUnwrittenOf scheduled.entry) }
+{
+    let Ok(scheduled) = scheduled else {
+        return Err(BuildFault::NoMemory);
+    };
+    let built = written(alloc, &scheduled);
+    match orders {
+        Orders::Freed => drop(scheduled),
+        Orders::Left => forget(scheduled),
+    }
+    built
+}
+
 /// Returns the image of a unit, every block in its plain order.
-pub(crate) fn plain_of(alloc: Global, unit: &Unit) -> Result<Built, BuildFault>
+pub(crate) fn plain_of(alloc: Global, unit: &Unit, orders: Orders) -> Result<Built, BuildFault>
     ensures follows { IfOk result (λ b. (text : List ℕ) (depth : ℕ) → IsUnitOf text depth unit.now → FollowsText text depth 1 b.image.items) }
     ensures scheduled { IfOk result (IsScheduledBuild IsPlain) }
     ensures fault { IfErr result (λ f. (text : List ℕ) (depth : ℕ) → IsUnitOf text depth unit.now → IsBuildFault text depth f) }
 {
     let scheduled = schedule_plain(alloc, unit);
-    write(alloc, scheduled)
+    write(alloc, scheduled, orders)
 }
 
 /// Returns the image of the program that the text spells, every block in its plain order. It descends into the text: run it on a thread
@@ -176,5 +200,5 @@ pub fn build_plain(alloc: Global, text: &[u8], depth: u32) -> Result<Built, Buil
     ensures fault { IfErr result (IsBuildFault text.now depth) }
 {
     let unit = unit_of(alloc, text, depth)?;
-    plain_of(alloc, &unit)
+    plain_of(alloc, &unit, Orders::Freed)
 }

@@ -8,7 +8,7 @@ ghost use Rattle.driver.specs.BuildFaults.{IsBuildFault};
 ghost use Rattle.driver.specs.Halves.{IsUnitOf};
 ghost use Rattle.term_table.specs.Passes.{InRange};
 
-use crate::build_command::builds::{BuildFault, Built, unit_of, write};
+use crate::build_command::builds::{BuildFault, Built, Orders, unit_of, write};
 use list_scheduler::Reorder;
 use mblock::Unit;
 use sched_phase::{PhaseOpts, schedule_all, schedule_one};
@@ -67,7 +67,7 @@ pub(crate) fn scheduled_of<T: Threads + Wait + Sync, R: Reorder + Sync, G: Gate 
     ensures fault { IfErr result (λ f. (text : List ℕ) (depth : ℕ) → IsUnitOf text depth unit.now → IsBuildFault text depth f) }
 {
     let scheduled = schedule_all(rt, alloc, unit, phase, reorder, gate);
-    write(alloc, scheduled)
+    write(alloc, scheduled, Orders::Freed)
 }
 
 /// Returns the image of the program that the text spells. Each block has the order that the scheduler proposes, where it means the block,
@@ -104,5 +104,5 @@ pub fn build_one<R: Reorder>(
 {
     let unit = unit_of(alloc, text, options.depth)?;
     let scheduled = schedule_one(alloc, &unit, options.phase, reorder);
-    write(alloc, scheduled)
+    write(alloc, scheduled, Orders::Freed)
 }
