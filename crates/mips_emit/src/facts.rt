@@ -13,7 +13,7 @@ ghost use Rattle.mips_emit.specs.Locations.{locations, operand, last_operand, Fi
 use crate::comparison::Comparison;
 use crate::limits::KEPT_FACTS;
 use crate::location::{Location, Source, inner_of, locate, source_of, word_source};
-use crate::offset::{Offset, addend, index_with, offset_past, sum_offset, touches};
+use crate::offset::{Offset, addend, index_with, pass_offset, sum_offset, touches};
 use mips_homes::{Frame, is_callee_saved};
 use mips_isa::NonzeroReg;
 use rtl::{GlobalNumber, Op, RInst, Register};
@@ -181,27 +181,30 @@ fn put_fact(facts: &mut Vec<Fact>, register: Register, word: Option<u32>) -> Res
     Ok(())
 }
 
-/// Returns the base that is kept past a write of a register.
-fn kept_without(r: NonzeroReg, kept: Option<Kept>) -> Option<Kept>
-    ensures { result ≡ kept_without r kept }
+/// Forgets the base that is kept, if a register is written that its index names.
+fn forget_kept(kept: &mut Option<Kept>, r: NonzeroReg)
+    ensures { kept.new ≡ kept_without r kept.old }
 {
-    match kept {
-        None => None,
-        Some(k) => if touches(&k.index, r) { None } else { Some(k) },
+    let is_touched = match kept {
+        None => false,
+        Some(k) => touches(&k.index, r),
+    };
+    if is_touched {
+        *kept = None;
     }
 }
 
-/// Returns the base that is kept past a write.
-fn kept_past(place: &Option<Location>, kept: Option<Kept>) -> Option<Kept>
-    ensures { result ≡ kept_past place.now kept }
+/// Forgets the base that is kept, if a location is written that its index names.
+fn pass_kept(kept: &mut Option<Kept>, place: &Option<Location>)
+    ensures { kept.new ≡ kept_past place.now kept.old }
 {
     match place {
-        None => kept,
+        None => {}
         // (rattle 13f: a nested pattern through another crate's type ends in "a bug in rattle": CONTRIBUTING.md)
         Some(location) => match location {
-            Location::Held(r) => kept_without(*r, kept),
-            Location::InSlot(_) => kept,
-            Location::Copied(r, _) => kept_without(*r, kept),
+            Location::Held(r) => forget_kept(kept, *r),
+            Location::InSlot(_) => {}
+            Location::Copied(r, _) => forget_kept(kept, *r),
         },
     }
 }
@@ -270,13 +273,12 @@ fn sum_at(
     }
 }
 
-/// Returns the newer of two offsets.
-fn or_offset(new: Option<Offset>, old: Option<Offset>) -> Option<Offset>
-    ensures { result ≡ or_offset new old }
+/// Puts a new offset in the place of an old one, if there is a new one.
+fn put_offset(offset: &mut Option<Offset>, new: Option<Offset>)
+    ensures { offset.new ≡ or_offset new offset.old }
 {
-    match new {
-        None => old,
-        Some(o) => Some(o),
+    if let Some(new) = new {
+        *offset = Some(new);
     }
 }
 
@@ -292,32 +294,34 @@ pub(crate) fn learn(facts: &mut Knowledge, frame: &Frame, inst: &RInst) -> Resul
             let place = locate(frame, *d);
             put_fact(&mut facts.known, *d, Some(*word))?;
             defer(&mut facts.deferred, &place, *word);
-            facts.kept = kept_past(&place, facts.kept);
-            facts.offset = offset_past(&place, &facts.offset);
+            pass_kept(&mut facts.kept, &place);
+            pass_offset(&mut facts.offset, &place);
         }
         RInst::Move(d, a) => {
             let place = locate(frame, *d);
             let word = known_word(facts, *a);
             put_fact(&mut facts.known, *d, word)?;
             clear_deferred(&mut facts.deferred, &place);
-            facts.kept = kept_past(&place, facts.kept);
-            facts.offset = offset_past(&place, &facts.offset);
+            pass_kept(&mut facts.kept, &place);
+            pass_offset(&mut facts.offset, &place);
         }
         RInst::Bin(op, d, a, b) => {
             let place = locate(frame, *d);
             let sum = sum_at(facts, frame, *op, &place, *a, *b);
             put_fact(&mut facts.known, *d, None)?;
             clear_deferred(&mut facts.deferred, &place);
-            facts.kept = kept_past(&place, facts.kept);
-            facts.offset = or_offset(sum, offset_past(&place, &facts.offset));
+            pass_kept(&mut facts.kept, &place);
+            pass_offset(&mut facts.offset, &place);
+            put_offset(&mut facts.offset, sum);
         }
         RInst::Load(d, a, i) => {
             let place = locate(frame, *d);
             let kept = kept_at(facts, frame, *a, *i);
             put_fact(&mut facts.known, *d, None)?;
             clear_deferred(&mut facts.deferred, &place);
-            facts.kept = kept_past(&place, kept);
-            facts.offset = offset_past(&place, &facts.offset);
+            facts.kept = kept;
+            pass_kept(&mut facts.kept, &place);
+            pass_offset(&mut facts.offset, &place);
         }
         RInst::Store(a, i, _) => facts.kept = kept_at(facts, frame, *a, *i),
     }

@@ -103,27 +103,30 @@ pub(crate) fn touches(offset: &Offset, r: NonzeroReg) -> bool
     offset.register == r || offset.base == r
 }
 
-/// Returns what is left of an offset when a register is written.
-fn offset_without(r: NonzeroReg, offset: &Option<Offset>) -> Option<Offset>
-    ensures { result ≡ offset_without r offset.now }
+/// Forgets an offset, if a register is written that it has to do with.
+fn forget_offset(offset: &mut Option<Offset>, r: NonzeroReg)
+    ensures { offset.new ≡ offset_without r offset.old }
 {
-    match offset {
-        None => None,
-        Some(o) => { if touches(o, r) { None } else { Some(*o) } }
+    let is_touched = match offset {
+        None => false,
+        Some(o) => touches(o, r),
+    };
+    if is_touched {
+        *offset = None;
     }
 }
 
-/// Returns what is left of an offset past a write.
-pub(crate) fn offset_past(place: &Option<Location>, offset: &Option<Offset>) -> Option<Offset>
-    ensures { result ≡ offset_past place.now offset.now }
+/// Forgets an offset, if a location is written that it has to do with.
+pub(crate) fn pass_offset(offset: &mut Option<Offset>, place: &Option<Location>)
+    ensures { offset.new ≡ offset_past place.now offset.old }
 {
     match place {
-        None => *offset,
+        None => {}
         // (rattle 13f: a nested pattern through another crate's type ends in "a bug in rattle": CONTRIBUTING.md)
         Some(location) => match location {
-            Location::Held(r) => offset_without(*r, offset),
-            Location::InSlot(_) => *offset,
-            Location::Copied(r, _) => offset_without(*r, offset),
+            Location::Held(r) => forget_offset(offset, *r),
+            Location::InSlot(_) => {}
+            Location::Copied(r, _) => forget_offset(offset, *r),
         },
     }
 }
