@@ -199,6 +199,25 @@ fn spelled_pair(alloc: Global, text: &[u8]) -> Result<Option<Text>, AllocError> 
     }
 }
 
+/// Writes what is said of a verdict on block and order.
+fn put_said(
+    alloc: Global,
+    out: &mut Writer,
+    answer: &CheckAnswer,
+    text: &Text,
+) -> Result<(), AllocError> {
+    match answer {
+        CheckAnswer::Same => {}
+        CheckAnswer::Full => out.text("the table has no room for more than 16384 terms\n"),
+        CheckAnswer::Unclean(rule) => put_unclean(out, *rule, &text.order),
+        CheckAnswer::Differs(place) => {
+            put_differing(alloc, out, place, text)?;
+            put_found(alloc, out, &text.block, &text.order)?;
+        }
+    }
+    Ok(())
+}
+
 /// Returns what is said of a verdict on the text's block and order: printable lines, and none of `same`.
 pub(crate) fn explanation_lines(
     alloc: Global,
@@ -209,15 +228,7 @@ pub(crate) fn explanation_lines(
 {
     let mut out = Writer::new(alloc);
     if let Some(spelled) = spelled_pair(alloc, text)? {
-        match answer {
-            CheckAnswer::Same => {}
-            CheckAnswer::Full => out.text("the table has no room for more than 16384 terms\n"),
-            CheckAnswer::Unclean(rule) => put_unclean(&mut out, *rule, &spelled.order),
-            CheckAnswer::Differs(place) => {
-                put_differing(alloc, &mut out, place, &spelled)?;
-                put_found(alloc, &mut out, &spelled.block, &spelled.order)?;
-            }
-        }
+        put_said(alloc, &mut out, answer, &spelled)?;
     }
     page_of(alloc, out.end()?.as_bytes(), WIDTH)
 }

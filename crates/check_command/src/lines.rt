@@ -204,15 +204,23 @@ fn explain_instruction(alloc: Global, line: &[u8]) -> Result<Explanation, AllocE
             Some("write one space behind the mnemonic"),
         );
     }
-    let Some((_, operands, range)) = instruction(word).or(exit(word)) else {
-        return explain_unknown(alloc, word);
-    };
+    match instruction(word).or(exit(word)) {
+        Some(form) => explain_operands(alloc, line, form),
+        None => explain_unknown(alloc, word),
+    }
+}
+
+/// Returns what is said of a line whose mnemonic has this form.
+fn explain_operands(alloc: Global, line: &[u8], form: Form) -> Result<Explanation, AllocError>
+    ensures { IfOk result IsPrintableExplanation }
+{
     if line.starts_with(b"lw $0,") || line.starts_with(b"lbu $0,") {
         return Explanation::new(alloc, "register 0 can't be loaded", None);
     }
-    let word = shown_word(word);
-    let message = format!(in alloc; "expected {word}{operands}")?;
-    match hint_of_operands(alloc, word.as_bytes(), line)? {
+    let (word, operands, range) = form;
+    let name = shown_word(word);
+    let message = format!(in alloc; "expected {name}{operands}")?;
+    match hint_of_operands(alloc, word, line)? {
         Some(hint) => Explanation::new(alloc, message.as_str(), Some(hint.as_str())),
         None => Explanation::new(alloc, message.as_str(), Some(range)),
     }

@@ -98,7 +98,7 @@ fn operands_of<'t>(alloc: Global, line: &'t [u8]) -> Result<Vec<&'t [u8]>, Alloc
     for (k, byte) in line.iter().enumerate() {
         if *byte == b' ' && start == line.len() {
             start = k.saturating_add(1);
-        } else if b",()".contains(byte) {
+        } else if matches!(byte, b',' | b'(' | b')') {
             operands.push(line.get(start..k).unwrap_or(b""))?;
             start = k.saturating_add(1);
         }
@@ -110,13 +110,39 @@ fn operands_of<'t>(alloc: Global, line: &'t [u8]) -> Result<Vec<&'t [u8]>, Alloc
 /// Returns the instruction that takes the number that stands in place of a third register.
 fn with_number(word: &[u8], operands: &[&[u8]]) -> Option<&'static str> {
     let [_, _, last] = operands else { return None };
-    let number: i32 = str::from_utf8(*last).ok()?.parse().ok()?;
+    let Ok(number) = str::from_utf8(*last).unwrap_or("").parse::<i32>() else {
+        return None;
+    };
     for (name, other, least, greatest) in WITH_NUMBER {
         if *name == word && *least <= number && number <= *greatest {
             return Some(*other);
         }
     }
     None
+}
+
+/// Returns the first of the hints about these operands.
+fn first_hint(alloc: Global, operands: &[&[u8]]) -> Result<Option<String>, AllocError> {
+    for operand in operands {
+        if let Some(hint) = hint_of_operand(alloc, *operand)? {
+            return Ok(Some(hint));
+        }
+    }
+    Ok(None)
+}
+
+/// Returns the hint to write the instruction that takes the number, where one stands in place of a third register.
+fn number_hint(
+    alloc: Global,
+    word: &[u8],
+    line: &[u8],
+    operands: &[&[u8]],
+) -> Result<Option<String>, AllocError> {
+    let Some(other) = with_number(word, operands) else {
+        return Ok(None);
+    };
+    let rest = str::from_utf8(line.get(word.len()..).unwrap_or(b"")).unwrap_or("");
+    Ok(Some(format!(in alloc; "write {other}{rest}")?))
 }
 
 /// Returns what to write in place of a line with this mnemonic, where one of its operands is an assembler's.
@@ -126,14 +152,8 @@ pub(crate) fn hint_of_operands(
     line: &[u8],
 ) -> Result<Option<String>, AllocError> {
     let operands = operands_of(alloc, line)?;
-    for operand in operands.as_slice() {
-        if let Some(hint) = hint_of_operand(alloc, *operand)? {
-            return Ok(Some(hint));
-        }
+    match first_hint(alloc, operands.as_slice())? {
+        Some(hint) => Ok(Some(hint)),
+        None => number_hint(alloc, word, line, operands.as_slice()),
     }
-    let Some(other) = with_number(word, operands.as_slice()) else {
-        return Ok(None);
-    };
-    let rest = str::from_utf8(line.get(word.len()..).unwrap_or(b"")).unwrap_or("");
-    Ok(Some(format!(in alloc; "write {other}{rest}")?))
 }
