@@ -210,10 +210,10 @@ impl<'a> View<'a> {
         &self,
         out: &mut Writer,
         scheduled: &Scheduled<'_>,
+        image: &Image,
         only: Option<usize>,
-    ) -> Result<(), ShowFault> {
-        let image = image_of(self.alloc, scheduled)?;
-        let listing = list(self.alloc, &image)?;
+    ) -> Result<(), AllocError> {
+        let listing = list(self.alloc, image)?;
         let view = ListingView {
             names: &self.names,
             unit: self.shown.unit,
@@ -226,8 +226,12 @@ impl<'a> View<'a> {
         Ok(())
     }
 
-    fn put_asm(&self, out: &mut Writer, scheduled: &Scheduled<'_>) -> Result<(), ShowFault> {
-        let image = image_of(self.alloc, scheduled)?;
+    fn put_asm(
+        &self,
+        out: &mut Writer,
+        scheduled: &Scheduled<'_>,
+        image: &Image,
+    ) -> Result<(), AllocError> {
         let labels = labels_of(
             self.alloc,
             &self.names,
@@ -235,8 +239,7 @@ impl<'a> View<'a> {
             scheduled.orders(),
             self.shown.rtl.globals(),
         )?;
-        put_source(self.alloc, out, &image, labels.as_slice())?;
-        Ok(())
+        put_source(self.alloc, out, image, labels.as_slice())
     }
 
     /// Writes what is made of the whole image.
@@ -246,11 +249,13 @@ impl<'a> View<'a> {
         };
         let scheduler = FilledOrder(ListOrder);
         let scheduled = schedule_one(self.alloc, self.shown.unit, options, &scheduler)?;
+        let image = image_of(self.alloc, &scheduled)?;
         if wanted.stage == Some(Stage::Asm) {
-            self.put_asm(out, &scheduled)
+            self.put_asm(out, &scheduled, &image)?;
         } else {
-            self.put_listing(out, &scheduled, wanted.only)
+            self.put_listing(out, &scheduled, &image, wanted.only)?;
         }
+        Ok(())
     }
 
     fn put_check(&self, out: &mut Writer, wanted: &Wanted) -> Result<(), AllocError> {
