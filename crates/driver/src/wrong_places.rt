@@ -55,6 +55,13 @@ fn place_of(
     if count == 1 { at } else { None }
 }
 
+/// Returns the name of a function in its text.
+fn name_in<'t>(text: &'t [u8], function: &FunctionDefinition) -> &'t str {
+    let start = function.name.at as usize;
+    let end = start.saturating_add(function.name.length as usize);
+    str::from_utf8(text.get(start..end).unwrap_or(b"?")).unwrap_or("?")
+}
+
 /// Finds a place of a program's run in the tree that its text spells.
 fn place_in_tree<'t>(
     alloc: Global,
@@ -64,15 +71,13 @@ fn place_in_tree<'t>(
     place: WrongPlace<'_>,
 ) -> Option<NamedPlace<'t>> {
     let function = function_of(program, place.function)?;
-    let rest = text.get(function.name.at as usize..)?;
-    let name = rest.get(..function.name.length as usize)?;
     let body = &typed.functions().get(place.function)?.body;
     let at = match place.statement {
         Some(wanted) => place_of(alloc, function, body, wanted, place.left),
         None => Some(function.name.at as usize),
     };
     Some(NamedPlace {
-        function: str::from_utf8(name).unwrap_or("?"),
+        function: name_in(text, function),
         spot: match at {
             Some(at) => Some(spot_of(text, at)),
             None => None,

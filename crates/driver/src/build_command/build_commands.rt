@@ -172,16 +172,17 @@ fn build_apart<T: Threads + Wait + Sync, F: Files, W: Output, E: Complaints>(
         Ok(text) => text,
         Err(fault) => return tell_unread(alloc, host.err, asked.source, fault),
     };
-    let (built, warnings) = match built_with_warnings(rt, alloc, text.as_slice(), asked) {
+    let both = match built_with_warnings(rt, alloc, text.as_slice(), asked) {
         Ok(both) => both,
         Err(fault) => return tell_build(alloc, host.err, asked.source, text.as_slice(), fault),
     };
+    let (built, warnings) = (&both.0, both.1.as_slice());
     if let Err(fault) = write_file(asked.image, built.image.as_slice(), host.files) {
         return tell_unwritten(alloc, host.err, asked.image, fault);
     }
-    match print_built(host.out, asked.plain, &built) {
+    match print_built(host.out, asked.plain, built) {
         Ok(()) => {
-            tell_warnings(host.err, warnings.as_slice());
+            tell_warnings(host.err, warnings);
             0
         }
         Err(_) => tell_unprinted(host.err, HostFault::CannotWrite),
