@@ -1,5 +1,5 @@
 -- Frames and blocks by the counts of the typed program.
-use Rattle.std.proofs.Common.{◌≡◌, ℕ, suc, ◌+◌, ◌*◌, ◌≤◌, inl, inr, Bool, true, false, List, [], ◌∷◌, ◌++◌, Option, Some, None, length, length-append, refl, sym, ap, ◌∙◌, subst, arith, true≢false}
+use Rattle.std.proofs.Common.{◌≡◌, ℕ, suc, ◌+◌, ◌*◌, ◌≤◌, inl, inr, Bool, true, false, List, [], ◌∷◌, ◌++◌, Some, length, length-append, refl, sym, ap, ◌∙◌, subst, arith}
 use Rattle.std.specs.Prelude.{◌&&◌, nat_le, if◌then◌else◌}
 use Rattle.std.proofs.lemmas.Bool.{leb-true}
 use Rattle.std.proofs.lemmas.Option.{none-some}
@@ -17,7 +17,6 @@ use Rattle.mblock.specs.Units.{UnitParts}
 use Rattle.rtl_emit.specs.Blocks as Emitted
 use Rattle.rtl_lower.specs.Laws.{AreOfSizes, KeepsRuns as Lowers}
 use Rattle.rtl.specs.Meaning.{Code, code_of}
-use Rattle.rtl.specs.Names.{how_many}
 use Rattle.rtl.specs.Tails.{AreTailed, is_reached, shortest, empty_code, AreKept, AreMade, HaveTails, IsTailed, RunsAlike, is_short, again, operations}
 use Rattle.rtl.proofs.Names.{no_more_names}
 use Rattle.rtl.proofs.Copies.{Copy, copy_of_code, as_many, program_fits}
