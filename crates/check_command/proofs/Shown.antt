@@ -1,5 +1,5 @@
 -- The line of a fault of a check text steers no terminal.
-use Rattle.std.proofs.Common.{◌≡◌, ◌==◌, ◌<◌, ◌≤◌, ◌^◌, ◌+◌, ℕ, List, [], ◌∷◌, Bool, true, false, All, if◌then◌else◌, codes, decimal, length, refl, arith, inl, inr}
+use Rattle.std.proofs.Common.{◌==◌, ◌≤◌, ◌+◌, ℕ, List, [], ◌∷◌, Bool, true, false, All, if◌then◌else◌, codes, decimal, length, refl, arith, inl, inr}
 use Rattle.std.specs.List.{onto_first}
 use Rattle.std.proofs.lemmas.List.Elements.{All-append}
 use Rattle.block_text.specs.Lines.{lines_of}
