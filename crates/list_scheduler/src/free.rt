@@ -2,31 +2,40 @@
 use crate::graph::Graph;
 use crate::node::Node;
 use crate::resources::Resources;
-use std::alloc::{AllocError, Global};
+use std::alloc::AllocError;
 
-/// An instruction that waits for no other: the longer its way to the end the greater, of two with ways of one length the earlier one.
+/// An instruction: the longer its way to the end the greater, of two with ways of one length the earlier one.
 #[derive(Clone, Copy, PartialEq, Eq, PartialOrd, Ord)]
 struct Rank {
     height: u32,
     number: u32,
 }
 
-/// Those that wait for no other, the best one last.
+/// Those that wait for no other, the best one last. They lie in the memory of the graph, from this place on.
 #[derive(Drop)]
 pub struct Free {
-    ranks: Vec<Rank>,
+    from: usize,
+}
+
+/// Returns the rank of a node.
+fn rank_of(graph: &Graph, number: u32) -> Rank {
+    let height = match graph.nodes.get(number as usize) {
+        Some(node) => node.height,
+        None => 0,
+    };
+    Rank { height, number }
 }
 
 impl Free {
     /// Returns those of a graph.
-    pub fn of(alloc: Global, graph: &Graph) -> Result<Free, AllocError> {
-        let mut free = Free {
-            ranks: Vec::with_capacity(alloc, graph.nodes.len())?,
+    pub fn of(graph: &mut Graph) -> Result<Free, AllocError> {
+        let free = Free {
+            from: graph.lists.len(),
         };
         for k in 0..graph.count() {
             if let Some(node) = graph.nodes.get(k as usize) {
                 if node.waits_for == 0 {
-                    free.insert(k, node.height)?;
+                    free.insert(graph, k)?;
                 }
             }
         }
@@ -34,39 +43,38 @@ impl Free {
     }
 
     /// Returns the place of a rank.
-    fn place_of(&self, rank: Rank) -> usize {
-        let (mut low, mut high) = (0, self.ranks.len());
+    fn place_of(&self, graph: &Graph, rank: Rank) -> usize {
+        let (mut low, mut high) = (self.from, graph.lists.len());
         for _ in 0..64 {
             if low >= high {
                 break;
             }
             let middle = low.midpoint(high);
-            match self.ranks.get(middle) {
-                Some(it) if *it < rank => low = middle.saturating_add(1),
+            match graph.lists.get(middle) {
+                Some(it) if rank_of(graph, *it) < rank => low = middle.saturating_add(1),
                 _ => high = middle,
             }
         }
         low
     }
 
-    fn insert(&mut self, number: u32, height: u32) -> Result<(), AllocError> {
-        let rank = Rank { height, number };
-        let place = self.place_of(rank);
-        if place > self.ranks.len() {
+    fn insert(&self, graph: &mut Graph, number: u32) -> Result<(), AllocError> {
+        let place = self.place_of(graph, rank_of(graph, number));
+        if place > graph.lists.len() {
             return Ok(());
         }
-        match self.ranks.insert(place, rank) {
+        match graph.lists.insert(place, number) {
             Ok(()) => Ok(()),
             Err(_) => Err(AllocError),
         }
     }
 
     /// Reports whether nothing delays the one at a place.
-    fn may_come(&self, graph: &Graph, place: usize, delayed: Resources) -> bool {
-        let Some(rank) = self.ranks.get(place) else {
+    fn may_come(graph: &Graph, place: usize, delayed: Resources) -> bool {
+        let Some(number) = graph.lists.get(place) else {
             return false;
         };
-        match graph.nodes.get(rank.number as usize) {
+        match graph.nodes.get(*number as usize) {
             Some(node) => !node.facts.delayed().meets(delayed),
             None => false,
         }
@@ -74,8 +82,8 @@ impl Free {
 
     /// Returns the place of the best one that nothing delays.
     fn best(&self, graph: &Graph, delayed: Resources) -> Option<usize> {
-        for place in (0..self.ranks.len()).rev() {
-            if self.may_come(graph, place, delayed) {
+        for place in (self.from..graph.lists.len()).rev() {
+            if Free::may_come(graph, place, delayed) {
                 return Some(place);
             }
         }
@@ -83,23 +91,18 @@ impl Free {
     }
 
     /// Takes out the best one that nothing delays.
-    pub fn take_best(&mut self, graph: &Graph, delayed: Resources) -> Option<u32> {
+    pub fn take_best(&self, graph: &mut Graph, delayed: Resources) -> Option<u32> {
         let place = self.best(graph, delayed)?;
-        if place >= self.ranks.len() {
+        if place >= graph.lists.len() {
             return None;
         }
-        Some(self.ranks.remove(place).number)
+        Some(graph.lists.remove(place))
     }
 
     /// Adds those that waited for an instruction alone, which stands now.
-    pub fn release_all(
-        &mut self,
-        graph: &mut Graph,
-        k: u32,
-        node: &Node,
-    ) -> Result<(), AllocError> {
+    pub fn release_all(&self, graph: &mut Graph, k: u32, node: &Node) -> Result<(), AllocError> {
         for i in graph.waiting_range(k, node) {
-            let Some(later) = graph.waiting_at(i) else {
+            let Some(later) = graph.lists.get(i).copied() else {
                 break;
             };
             self.release(graph, later)?;
@@ -107,14 +110,13 @@ impl Free {
         Ok(())
     }
 
-    fn release(&mut self, graph: &mut Graph, k: u32) -> Result<(), AllocError> {
+    fn release(&self, graph: &mut Graph, k: u32) -> Result<(), AllocError> {
         let Some(node) = graph.nodes.get_mut(k as usize) else {
             return Ok(());
         };
         node.waits_for = node.waits_for.saturating_sub(1);
         if node.waits_for == 0 {
-            let height = node.height;
-            return self.insert(k, height);
+            return self.insert(graph, k);
         }
         Ok(())
     }

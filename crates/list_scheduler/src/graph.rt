@@ -12,8 +12,9 @@ use std::ops::Range;
 pub struct Graph {
     /// The instructions, the last one first.
     pub nodes: Vec<Node>,
-    // The numbers of those that wait for a node, for one node after another. One may be left out that waits by way of others.
-    waiting: Vec<u32>,
+    /// The numbers of those that wait for a node, for one node after another, and then of those that may come next. One may be left out
+    /// that waits by way of others.
+    pub(crate) lists: Vec<u32>,
     // The height, so far, of the node that is linked.
     height: u32,
 }
@@ -81,18 +82,13 @@ impl Graph {
         begin as usize..node.waiting_end as usize
     }
 
-    /// Returns the number of one that waits.
-    pub fn waiting_at(&self, i: usize) -> Option<u32> {
-        self.waiting.get(i).copied()
-    }
-
     /// Puts the node that is linked before a later one, at least so many words.
     pub(crate) fn put_before(&mut self, later: u32, words: u32) -> Result<(), AllocError> {
         if let Some(node) = self.nodes.get_mut(later as usize) {
             node.waits_for = node.waits_for.saturating_add(1);
             self.height = self.height.max(node.height.saturating_add(words));
         }
-        self.waiting.push(later)?;
+        self.lists.push(later)?;
         Ok(())
     }
 
@@ -174,7 +170,7 @@ impl Graph {
         if let Some(access) = facts.access {
             accesses.link(self, k, &access, is_fixed)?;
         }
-        let end = u32::try_from(self.waiting.len()).unwrap_or(u32::MAX);
+        let end = u32::try_from(self.lists.len()).unwrap_or(u32::MAX);
         if let Some(node) = self.nodes.get_mut(k as usize) {
             node.height = self.height;
             node.waiting_end = end;
@@ -193,10 +189,10 @@ impl Graph {
             mark_fixed(nodes.as_mut_slice());
         }
         let mut accesses = Accesses::new(alloc, nodes.len(), has_accesses)?;
-        let waiting = Vec::with_capacity(alloc, nodes.len().saturating_mul(2))?;
+        let lists = Vec::with_capacity(alloc, nodes.len().saturating_mul(3))?;
         let mut graph = Graph {
             nodes,
-            waiting,
+            lists,
             height: NEXT,
         };
         let touched = Resources::touched_at_exit(exit);

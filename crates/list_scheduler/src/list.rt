@@ -52,7 +52,7 @@ fn finish(list: &mut Vec<Plain>, exit: &Exit) -> Result<(), AllocError> {
 }
 
 /// Lists the instructions of the graph word by word, one more than an order may have at most.
-fn list_words(graph: &mut Graph, free: &mut Free, list: &mut Vec<Plain>) -> Result<(), AllocError> {
+fn list_words(graph: &mut Graph, free: &Free, list: &mut Vec<Plain>) -> Result<(), AllocError> {
     let mut left = graph.nodes.len();
     let mut delays = Delays::none();
     for _ in 0..=ORDER_INSTS {
@@ -79,8 +79,8 @@ fn list_words(graph: &mut Graph, free: &mut Free, list: &mut Vec<Plain>) -> Resu
 /// Lists the instructions, and a Nop after them if the exit has to wait.
 fn list_nodes(alloc: Global, mut graph: Graph, exit: &Exit) -> Result<Vec<Plain>, AllocError> {
     let mut list = Vec::with_capacity(alloc, graph.nodes.len().saturating_add(1))?;
-    let mut free = Free::of(alloc, &graph)?;
-    list_words(&mut graph, &mut free, &mut list)?;
+    let free = Free::of(&mut graph)?;
+    list_words(&mut graph, &free, &mut list)?;
     finish(&mut list, exit)?;
     Ok(list)
 }
