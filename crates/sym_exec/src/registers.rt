@@ -13,7 +13,7 @@ ghost use Rattle.sym_exec.specs.Interners.{Interns};
 use crate::address::{Reached, address_at, reach};
 use crate::interner::Interner;
 use crate::stores::{StoreChain, Stored};
-use crate::terms::op_term;
+use crate::terms::{fixed_term, op_term};
 use mips_isa::{NonzeroReg, Operand, Reg};
 use sym_terms::Label;
 use term_table::{TableFull, Ticket};
@@ -40,7 +40,7 @@ impl TermRegisters {
     ghost use Rattle.sym_exec.specs.MipsTerms.{HasTree, Lacks};
     ghost use Rattle.sym_exec.specs.Asked.{asked_by, LacksOne};
     ghost use Rattle.sym_exec.specs.Standing.{Known, Hold, IsAddress, with_reg, with_halves};
-    ghost use Rattle.sym_terms.specs.NormalForms.{address_of};
+    ghost use Rattle.sym_terms.specs.NormalForms.{address_of, op_tree};
     ghost use Rattle.term_table.specs.Trees.{HasLegalHistory};
     ghost use Rattle.sym_exec.specs.Interners.{Interns};
     ghost use Rattle.sym_exec.specs.Growth.{operand_growth, op_growth};
@@ -66,22 +66,6 @@ impl TermRegisters {
         }
     }
 
-    fn operand(&self, terms: &mut Interner, operand: &Operand) -> Result<Ticket, TableFull>
-        requires { Known terms.old.pass.now self.now }
-        ensures seen { IfOk result (λ x. HasSeen terms.new.pass.now x) }
-        ensures tree { (t : TreeState) → Hold terms.old.pass.now self.now t
-            → IfOk result (λ x. HasTree terms.new.pass.now x (operand_tree t operand.now)) }
-        ensures absent { (t : TreeState) → Hold terms.old.pass.now self.now t
-            → OnErr result (Lacks terms.new.pass.now (operand_tree t operand.now)) }
-        ensures pass { Interns terms.old result terms.new }
-        ensures grows { linked terms.new.pass.now ≤ linked terms.old.pass.now + operand_growth operand.now }
-    {
-        match *operand {
-            Operand::Held(r) => Ok(self.get(r)),
-            Operand::Fixed(word) => terms.leaf(Label::Const(word)),
-        }
-    }
-
     fn address(&self, terms: &mut Interner, base: Reg, offset: u32) -> Result<Reached, TableFull>
         requires { Known terms.old.pass.now self.now }
         ensures legal { HasLegalHistory terms.new.pass.now }
@@ -96,6 +80,29 @@ impl TermRegisters {
     {
         let from = address_at(terms, self.get(base));
         reach(terms, from.base, from.offset.wrapping_add(offset))
+    }
+
+    /// Returns the term of an operator's value at a register and an operand.
+    fn value(
+        &self,
+        terms: &mut Interner,
+        op: Operator,
+        a: Reg,
+        b: &Operand,
+    ) -> Result<Ticket, TableFull>
+        requires { Known terms.old.pass.now self.now }
+        ensures seen { IfOk result (λ x. HasSeen terms.new.pass.now x) }
+        ensures tree { (t : TreeState) → Hold terms.old.pass.now self.now t
+            → IfOk result (λ x. HasTree terms.new.pass.now x (op_tree op (register_tree t a) (operand_tree t b.now))) }
+        ensures absent { (t : TreeState) → Hold terms.old.pass.now self.now t
+            → OnErr result (LacksOne terms.new.pass.now (operand_tree t b.now ∷ op_tree op (register_tree t a) (operand_tree t b.now) ∷ [])) }
+        ensures pass { Interns terms.old result terms.new }
+        ensures grows { linked terms.new.pass.now ≤ linked terms.old.pass.now + (operand_growth b.now + op_growth op) }
+    {
+        match *b {
+            Operand::Held(r) => op_term(terms, op, self.get(a), self.get(r)),
+            Operand::Fixed(word) => fixed_term(terms, op, self.get(a), word),
+        }
     }
 
     pub(crate) fn computes(
@@ -119,8 +126,7 @@ impl TermRegisters {
         if d.index() == 0 {
             return Ok(());
         }
-        let y = self.operand(terms, b)?;
-        let value = op_term(terms, op, self.get(a), y)?;
+        let value = self.value(terms, op, a, b)?;
         self.set(d, value);
         Ok(())
     }

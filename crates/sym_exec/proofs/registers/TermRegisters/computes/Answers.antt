@@ -15,32 +15,21 @@ returns-then-index-eq0-clause-hold c = λ t h.
 pub returns-then-index-eq0-clause-pass : goal.returns-then-index-eq0-clause-pass
 returns-then-index-eq0-clause-pass c = interns_by (goes_none c.args.terms.now) tt
 
-pub op_term-requires-clause-a : goal.op_term-requires-clause-a
-op_term-requires-clause-a c = still_seen c.in_ok-y.ensures.pass.later.extends c.get.result (get_seen c.requires c.get.ensures.value c.get.ensures.range)
-
 pub returns-clause-known : goal.returns-clause-known
 returns-clause-known c =
-    known_put c.args.d c.in_ok-value.value
-    (known_on (later_more c.in_ok-y.ensures.pass.later c.in_ok-value.ensures.pass.later) c.requires) c.in_ok-value.ensures.seen
+    known_put c.args.d c.in_ok-value.value (known_on c.in_ok-value.ensures.pass.later c.requires) c.in_ok-value.ensures.seen
     c.set.ensures.value c.set.ensures.range c.set.ensures.count
 
 pub returns-clause-hold : goal.returns-clause-hold
 returns-clause-hold c = λ t h.
-    hold_put {t = t} (hold_on (later_more c.in_ok-y.ensures.pass.later c.in_ok-value.ensures.pass.later) h)
-    (c.in_ok-value.ensures.tree _ _
-    (still_tree c.in_ok-y.ensures.pass.later.extends (get_tree {t = t} h c.get.ensures.value c.get.ensures.range)) (c.in_ok-y.ensures.tree t h))
+    hold_put {t = t} (hold_on c.in_ok-value.ensures.pass.later h) (c.in_ok-value.ensures.tree t h)
     c.set.ensures.value c.set.ensures.range c.set.ensures.count
 
 pub returns-clause-pass : goal.returns-clause-pass
-returns-clause-pass c = interns_by (goes_more (goes_on c.in_ok-y.ensures.pass) (goes_on c.in_ok-value.ensures.pass)) tt
+returns-clause-pass c = interns_by (goes_on c.in_ok-value.ensures.pass) tt
 
 pub returns-in_err-value-clause-pass : goal.returns-in_err-value-clause-pass
-returns-in_err-value-clause-pass c = interns_by (goes_more (goes_on c.in_ok-y.ensures.pass) (goes_on c.in_err-value.ensures.pass)) (search rules)
-
-pub returns-in_err-y-clause-absent : goal.returns-in_err-y-clause-absent
-returns-in_err-y-clause-absent c = λ t h. err_always _ (lacks_here (c.in_err-y.ensures.absent t h))
+returns-in_err-value-clause-pass c = interns_by (goes_on c.in_err-value.ensures.pass) (search rules)
 
 pub returns-in_err-value-clause-absent : goal.returns-in_err-value-clause-absent
-returns-in_err-value-clause-absent c = λ t h.
-    err_always _ (lacks_next (operand_tree t c.args.b.now) (lacks_here (c.in_err-value.ensures.absent _ _
-    (still_tree c.in_ok-y.ensures.pass.later.extends (get_tree {t = t} h c.get.ensures.value c.get.ensures.range)) (c.in_ok-y.ensures.tree t h))))
+returns-in_err-value-clause-absent c = λ t h. err_always _ (c.in_err-value.ensures.absent t h)
