@@ -10,9 +10,11 @@ use mblock::Block;
 use mips_isa::Plain;
 use term_table::MAX_HEADS;
 
-// A batch for one worker has at most so many terms, if it has more than one block. A batch for several has twice as many: their threads are
-// started for each batch.
-const BATCH_TERMS: u64 = 16_384;
+// A batch for one worker has at most so many terms, if it has more than one block: its table stays in the cache.
+const BATCH_TERMS: u64 = 8_192;
+
+// A batch for several workers has at most so many: their threads are started for each batch.
+const SHARED_BATCH_TERMS: u64 = 65_536;
 
 // The terms of a start, and some that many blocks have.
 const START_TERMS: u64 = 64;
@@ -48,7 +50,7 @@ pub(crate) fn batch_from(blocks: &[Block], first: usize, workers: u64) -> (usize
     ensures { (first < result.0) × (result.0 ≤ length blocks.now) }
 {
     let most = if workers > 1 {
-        2 * BATCH_TERMS
+        SHARED_BATCH_TERMS
     } else {
         BATCH_TERMS
     };

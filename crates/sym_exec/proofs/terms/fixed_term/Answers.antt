@@ -15,7 +15,7 @@ returns-then-is_addition-clause-tree c = λ x h.
     let k = const_tree c.args.word in
     let adds = sym c.is_addition.ensures ∙ c.if-is_addition.true in
     subst (λ b. IfOk c.constant_sum_term.result (λ t. HasTree c.constant_sum_term.new.terms.pass.now t
-        (cond b (sum_tree x k (Some c.args.word)) (binary (Op c.args.op) x k)))) (sym adds) (c.constant_sum_term.ensures.tree x k h)
+    (cond b (sum_tree x k (Some c.args.word)) (binary (Op c.args.op) x k)))) (sym adds) (c.constant_sum_term.ensures.tree x k h)
 
 pub returns-then-is_addition-clause-absent : goal.returns-then-is_addition-clause-absent
 unfolding op_tree
@@ -23,7 +23,7 @@ returns-then-is_addition-clause-absent c = λ x h.
     let k = const_tree c.args.word in
     let adds = sym c.is_addition.ensures ∙ c.if-is_addition.true in
     subst (λ b. OnErr c.constant_sum_term.result (LacksOne c.constant_sum_term.new.terms.pass.now
-        (k ∷ cond b (sum_tree x k (Some c.args.word)) (binary (Op c.args.op) x k) ∷ []))) (sym adds)
+    (k ∷ cond b (sum_tree x k (Some c.args.word)) (binary (Op c.args.op) x k) ∷ []))) (sym adds)
     (on_err c.constant_sum_term.result (c.constant_sum_term.ensures.absent x k h) (λ l. lacks_next k (lacks_here l)))
 
 pub returns-in_err-constant-clause-absent : goal.returns-in_err-constant-clause-absent
@@ -38,7 +38,7 @@ returns-clause-tree c = λ x h.
     let k = const_tree c.args.word in
     let not = sym c.is_addition.ensures ∙ c.if-is_addition.false in
     subst (λ b. IfOk c.binary.result (λ t. HasTree c.binary.new.self.pass.now t
-        (cond b (sum_tree x k (Some c.args.word)) (binary (Op c.args.op) x k)))) (sym not)
+    (cond b (sum_tree x k (Some c.args.word)) (binary (Op c.args.op) x k)))) (sym not)
     (c.binary.ensures.tree x k (still_tree c.in_ok-constant.ensures.pass.later.extends h) c.in_ok-constant.ensures.tree)
 
 pub returns-clause-absent : goal.returns-clause-absent
@@ -47,6 +47,6 @@ returns-clause-absent c = λ x h.
     let k = const_tree c.args.word in
     let not = sym c.is_addition.ensures ∙ c.if-is_addition.false in
     subst (λ b. OnErr c.binary.result (LacksOne c.binary.new.self.pass.now
-        (k ∷ cond b (sum_tree x k (Some c.args.word)) (binary (Op c.args.op) x k) ∷ []))) (sym not)
+    (k ∷ cond b (sum_tree x k (Some c.args.word)) (binary (Op c.args.op) x k) ∷ []))) (sym not)
     (on_err c.binary.result (c.binary.ensures.absent x k (still_tree c.in_ok-constant.ensures.pass.later.extends h) c.in_ok-constant.ensures.tree)
     (λ l. lacks_next k (lacks_here l)))
