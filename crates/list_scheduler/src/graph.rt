@@ -19,7 +19,8 @@ pub struct Graph {
     height: u32,
 }
 
-/// Who uses each register, HI and LO next: the first writer, and the readers before it, each by its number and which of its reads it is.
+/// The next uses of each register, HI and LO: the first writer, and the readers before it. A reader has its number and which of its reads
+/// it is.
 #[derive(Drop)]
 struct Users {
     writers: [Link; Resources::COUNT],

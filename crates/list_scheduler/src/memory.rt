@@ -154,8 +154,8 @@ pub struct Accesses {
     buckets: Buckets,
 }
 
-// The sets: all, those that store, the loads that keep their places, for each base those over it whose base isn't written before, and
-// for each load or store those that stay after it.
+// The sets: all, those that store, and the loads that keep their places. Then come, for each base, the accesses over it since it was
+// written, and for each access the ones that stay after it.
 const ALL: usize = 0;
 
 const STORES: usize = 1;

@@ -116,8 +116,8 @@ impl Facts {
         self.reads.meets(Resources::PRODUCT)
     }
 
-    /// Returns what it may not do just after a load of these, or soon after a move of HI or LO: it reads or writes a register, or makes a
-    /// product.
+    /// Returns what the instruction may not touch just after a load, or soon after a move of HI or LO. It is what it reads or writes, or
+    /// makes a product of.
     pub fn delayed(&self) -> Resources {
         self.reads.difference(Resources::PRODUCT).union(self.writes)
     }
@@ -138,8 +138,7 @@ impl Facts {
     }
 }
 
-/// The words from an instruction to the next at least, from a load to who touches its register, and from a move of HI or LO to a
-/// product.
+/// The least words from an instruction to the next, from a load to a use, and from `mfhi` or `mflo` to a product.
 pub const NEXT: u32 = 1;
 
 pub const AFTER_LOAD: u32 = 2;

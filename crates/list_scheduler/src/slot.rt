@@ -113,8 +113,8 @@ fn is_move(inst: Option<&Plain>) -> bool {
     }
 }
 
-/// Reports whether an order keeps the delay rules without instruction k, if it keeps them with it: the words that come nearer to one another
-/// are those around it.
+/// Reports whether an order keeps the delay rules without instruction k, if it keeps them with it. Only the words around k come nearer to
+/// one another.
 fn may_leave(order: &Order, k: usize) -> bool {
     let insts = order.insts();
     let (one, two) = (k.checked_sub(1), k.checked_sub(2));

@@ -2,7 +2,7 @@
 
 #![tactic(auto, using(crate::proofs::Prefixes::prefix_behind, crate::proofs::Prefixes::prefix_among, crate::proofs::Prefixes::emits_behind))]
 
-ghost use Rattle.std.specs.Prelude.{◌≡◌, ◌<◌, ◌≤◌, ◌++◌, All, length, slice_index, if◌then◌else◌, OnOk, OnErr, IfOk, Some, None};
+ghost use Rattle.std.specs.Prelude.{◌≡◌, ◌<◌, ◌≤◌, ◌++◌, All, length, slice_index, OnOk, OnErr, IfOk, Some, None};
 ghost use Rattle.mblock.specs.declared.limits.TheConstants.{UNIT_BYTES};
 ghost use Rattle.words.specs.Words.{wrap};
 ghost use Rattle.rtl.specs.Programs.{IsInst};
@@ -291,7 +291,7 @@ fn emit_next(
     }
 }
 
-/// Emits the instruction before an exit that goes by the pseudo-register asked for, learns what is known after it, and returns what is left
+/// Emits the instruction before an exit that goes by the pseudo-register asked for, and learns what is known after it. Returns what is left
 /// for the exit.
 fn emit_last(
     code: &mut Vec<Plain>,
