@@ -60,7 +60,8 @@ impl Free {
 
     fn insert(&self, graph: &mut Graph, number: u32) -> Result<(), AllocError> {
         let place = self.place_of(graph, rank_of(graph, number));
-        if place > graph.lists.len() {
+        if place >= graph.lists.len() {
+            graph.lists.push(number)?;
             return Ok(());
         }
         match graph.lists.insert(place, number) {
@@ -93,8 +94,8 @@ impl Free {
     /// Takes out the best one that nothing delays.
     pub fn take_best(&self, graph: &mut Graph, delayed: Resources) -> Option<u32> {
         let place = self.best(graph, delayed)?;
-        if place >= graph.lists.len() {
-            return None;
+        if place.saturating_add(1) >= graph.lists.len() {
+            return graph.lists.pop();
         }
         Some(graph.lists.remove(place))
     }
