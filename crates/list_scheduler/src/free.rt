@@ -58,6 +58,7 @@ impl Free {
         low
     }
 
+    /// Adds one at its place.
     fn insert(&self, graph: &mut Graph, number: u32) -> Result<(), AllocError> {
         let place = self.place_of(graph, rank_of(graph, number));
         if place >= graph.lists.len() {
@@ -111,6 +112,7 @@ impl Free {
         Ok(())
     }
 
+    /// Counts that one waits for an instruction less, and adds it if it waits for no other.
     fn release(&self, graph: &mut Graph, k: u32) -> Result<(), AllocError> {
         let Some(node) = graph.nodes.get_mut(k as usize) else {
             return Ok(());

@@ -28,6 +28,7 @@ struct Users {
 }
 
 impl Users {
+    /// Returns the users at the end of a block: none.
     fn none() -> Users {
         Users {
             writers: [Link::NONE; Resources::COUNT],
@@ -35,10 +36,12 @@ impl Users {
         }
     }
 
+    /// Returns the first writer of a register.
     fn writer(&self, resource: usize) -> Option<u32> {
         self.writers.get(resource)?.number()
     }
 
+    /// Returns the first reader of a register.
     fn readers(&self, resource: usize) -> Link {
         self.readers.get(resource).copied().unwrap_or(Link::NONE)
     }

@@ -28,6 +28,7 @@ fn bucket_of(word: u32) -> usize {
 }
 
 impl Buckets {
+    /// Returns empty lists.
     fn none() -> Buckets {
         Buckets {
             firsts: [Link::NONE; BUCKETS],
@@ -35,6 +36,7 @@ impl Buckets {
         }
     }
 
+    /// Returns the nearest store of a bucket.
     fn first(&self, bucket: usize) -> Link {
         self.firsts.get(bucket).copied().unwrap_or(Link::NONE)
     }
@@ -166,16 +168,18 @@ const FELLOWS: usize = 3;
 
 const AFTER: usize = FELLOWS + 32;
 
+/// Returns the set of those over a base whose word they share.
 fn fellows(base: Reg) -> usize {
     FELLOWS + base.index() as usize
 }
 
+/// Returns the set of those that stay after an access.
 fn after(k: usize) -> usize {
     AFTER.wrapping_add(k)
 }
 
 impl Accesses {
-    /// Returns the accesses after the last of so many instructions: none. Without memory for sets none will have to keep its place.
+    /// Returns the accesses after the last of so many instructions: none. A block with one access alone needs no sets.
     pub fn new(alloc: Global, count: usize, has_accesses: bool) -> Result<Accesses, AllocError> {
         let sets = if has_accesses { after(count) } else { 0 };
         Ok(Accesses {
@@ -208,6 +212,7 @@ impl Accesses {
         }
     }
 
+    /// Puts an access before a later one, and all that stay after that one.
     fn put_before(&mut self, graph: &mut Graph, k: usize, later: u32) -> Result<(), AllocError> {
         self.sets.insert(after(k), later as usize);
         self.sets.insert_all(after(k), after(later as usize));

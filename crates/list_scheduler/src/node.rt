@@ -26,6 +26,7 @@ fn apart_from_memory(reads: Resources, writes: Resources) -> Facts {
     }
 }
 
+/// Returns the facts of a load.
 fn facts_of_load(width: Width, rt: NonzeroReg, base: Reg, offset: i16) -> Facts {
     Facts {
         reads: Resources::of(base),
@@ -39,6 +40,7 @@ fn facts_of_load(width: Width, rt: NonzeroReg, base: Reg, offset: i16) -> Facts 
     }
 }
 
+/// Returns the facts of a store.
 fn facts_of_store(width: Width, rt: Reg, base: Reg, offset: i16) -> Facts {
     Facts {
         reads: Resources::of(rt).union(Resources::of(base)),
