@@ -103,8 +103,6 @@ plain_decides bs e p yes_block no_block free next from pl f = record {
       record { regs = t.regs; moves = moves_after t.goes (moves_one (branch w bs p yes_block no_block t.regs v t.value)); kept = t.kept };
 }
 
-}
-
 pub not_decides : (bs : List RBlock) (k : IntegerType) (a : TypedExpression) (yes_block no_block free : ℕ) (from : Code)
     → Decides bs a free no_block yes_block from → Decides bs (unary U.Not k a) free yes_block no_block from
 not_decides bs k a yes_block no_block free from da = record {

@@ -94,8 +94,6 @@ local_value bs x k d free after = record {
       yields_one w bs free d r _ _ v (with_some (r x) v w.output (λ v. at w bs (places_with r d (Some v)) after) (h.by x v e).1);
 }
 
-}
-
 pub fetched : (bs : List RBlock) (e : TypedExpression) (free p : ℕ) (from to : Code) → Evaluates bs e free p from to → Fetches bs e free p from to
 fetched bs e free p from to ev = record {
   by = λ w l r v h is.

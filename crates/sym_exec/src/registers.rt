@@ -6,7 +6,7 @@ ghost use Rattle.sym_terms.specs.Labels.{label_arity};
 ghost use Rattle.sym_terms.specs.Trees.{Tree, leaf};
 ghost use Rattle.sym_exec.specs.MipsTerms.{HasSeen, HasTree, Lacks};
 ghost use Rattle.sym_exec.specs.Asked.{asked_by, LacksOne};
-ghost use Rattle.sym_exec.specs.Symbolic.{TreeState, operand_tree, address_tree, trees_after};
+ghost use Rattle.sym_exec.specs.Symbolic.{TreeState, register_tree, operand_tree, address_tree, trees_after};
 ghost use Rattle.sym_exec.specs.Standing.{Known, Hold, with_reg, with_halves};
 ghost use Rattle.sym_exec.specs.Interners.{Interns};
 

@@ -1,7 +1,6 @@
 //! Units to images, and images run. The expected words are those that GNU as gives the same program (-mips1 -EB, code at 0x00400000). The
 //! texts are objdump's, with registers by number.
 
-
 use block_text::{exit_of, plain_of};
 use image::{Counts, Image, NO_COUNTS, read_image, write_image};
 use mblock::{Block, BlockNumber, Unit, plain_orders};
