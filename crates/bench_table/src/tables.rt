@@ -53,23 +53,21 @@ pub(crate) const MIDDLE: Setting = Setting { terms: 200_000, nodes: 262_144, cha
 #[rattlefmt::skip]
 pub(crate) const LARGE: Setting = Setting { terms: 1_000_000, nodes: 1_048_576, chains: 1_048_576, runs: 5, is_timed: true };
 
+/// How many threads there are, one case after another.
+const COUNTS: [u32; 3] = [1, 2, 4];
+
 /// Returns where the part of worker `k` of `count` begins.
-fn cut(terms: u32, k: u32, count: u32) -> u32
-    requires { 0 < count }
-{
-    let at = u64::from(terms) * u64::from(k) / u64::from(count);
+fn cut(terms: u32, k: u32, count: u32) -> u32 {
+    let at = u64::from(terms) * u64::from(k) / u64::from(count.max(1));
     at.min(u64::from(terms)) as u32
 }
 
 /// Returns the part of worker `k` of `count`.
-fn part_of(plan: Plan, terms: u32, k: u32, count: u32) -> Part
-    requires { 0 < count }
-{
+fn part_of(plan: Plan, terms: u32, k: u32, count: u32) -> Part {
     let (from, until) = if plan.is_shared {
         (0, terms)
     } else {
-        let next = k.saturating_add(1);
-        (cut(terms, k, count), cut(terms, next, count))
+        (cut(terms, k, count), cut(terms, k.saturating_add(1), count))
     };
     Part {
         from,
@@ -79,47 +77,26 @@ fn part_of(plan: Plan, terms: u32, k: u32, count: u32) -> Part
     }
 }
 
-/// Hires one more worker, for the last pass that is left.
-fn hire(
-    alloc: Global,
-    table: &TermTable,
-    passes: &mut Vec<Pass>,
-    workers: &mut Vec<Worker>,
-    terms: u32,
-    part: Part,
-) -> Option<()>
-    requires passes { All (IsOf table.now) passes.old.items }
-    requires workers { All (IsReady table.now) workers.old.items }
-    requires terms { terms ≤ 1024 * 1024 }
-    ensures passes { All (IsOf table.now) passes.new.items }
-    ensures workers { All (IsReady table.now) workers.new.items }
-{
-    let pass = passes.pop()?;
-    let worker = Worker::new(alloc, table, pass, terms, part)?;
-    if workers.push(worker).is_err() {
-        return None;
-    }
-    Some(())
-}
-
 /// Returns workers for the passes, which have interned their leaves.
 fn staff(
     alloc: Global,
     table: &TermTable,
-    mut passes: Vec<Pass>,
+    passes: Vec<Pass>,
     terms: u32,
     plan: Plan,
     count: u32,
 ) -> Option<Vec<Worker>>
     requires passes { All (IsOf table.now) passes.items }
     requires terms { terms ≤ 1024 * 1024 }
-    requires count { 0 < count }
     ensures { IfSome result (λ w. All (IsReady table.now) w.items) }
 {
     let mut workers = Vec::new(alloc);
-    for k in 0..count {
+    let mut k = 0u32;
+    for pass in passes {
         let part = part_of(plan, terms, k, count);
-        hire(alloc, table, &mut passes, &mut workers, terms, part)?;
+        let worker = Worker::new(alloc, table, pass, terms, part)?;
+        workers.push(worker).ok()?;
+        k = k.saturating_add(1);
     }
     Some(workers)
 }
@@ -194,9 +171,7 @@ fn run<R: Threads + Sync + Clock>(
     plan: Plan,
     count: u32,
     setting: Setting,
-) -> io::Result<Option<Figures>>
-    requires count { 0 < count }
-{
+) -> io::Result<Option<Figures>> {
     let Setting { nodes, chains, .. } = setting;
     let Ok((table, passes)) = TermTable::open_large(alloc, u64::from(count), nodes, chains) else {
         return Ok(None);
@@ -207,60 +182,32 @@ fn run<R: Threads + Sync + Clock>(
     Ok(Some(two_rounds(rt, &table, &mut workers)?))
 }
 
-/// One plan by so many threads, and the fastest rounds so far.
-#[derive(Clone, Copy)]
-struct Row {
-    plan: Plan,
-    count: u32,
-    best: Option<Figures>,
-    ghost some: { 0 < count },
-}
-
 /// Returns the fastest of both.
 fn faster(best: Option<Figures>, now: Figures) -> Figures {
-    match best {
-        None => now,
-        Some(before) => Figures {
-            first: now.first.min(before.first),
-            again: now.again.min(before.again),
-            ..now
-        },
+    let before = best.unwrap_or(now);
+    Figures {
+        first: now.first.min(before.first),
+        again: now.again.min(before.again),
+        ..now
     }
 }
 
-/// Returns a row for each plan by 1, 2 and 4 threads. None if memory ran out.
-fn rows(alloc: Global) -> Option<Vec<Row>> {
-    let mut rows = Vec::new(alloc);
-    for plan in PLANS {
-        for count in [1, 2, 4] {
-            let row = Row {
-                plan,
-                count,
-                best: None,
-            };
-            if rows.push(row).is_err() {
-                return None;
-            }
-        }
-    }
-    Some(rows)
-}
+/// The fastest rounds of each plan by each number of threads.
+type Best = [[Option<Figures>; 3]; 4];
 
-/// Runs each row as often as the setting says, in turn: other work on the machine slows all rows alike.
-fn measure<R: Threads + Sync + Clock>(
-    rt: &R,
-    alloc: Global,
-    rows: &mut [Row],
-    setting: Setting,
-) -> io::Result<()> {
+/// Runs each plan as often as the setting says, in turn: other work on the machine slows all alike.
+fn measure<R: Threads + Sync + Clock>(rt: &R, alloc: Global, setting: Setting) -> io::Result<Best> {
+    let mut best = [[None; 3]; 4];
     for _ in 0..setting.runs {
-        for row in rows.iter_mut() {
-            if let Some(now) = run(rt, alloc, row.plan, row.count, setting)? {
-                row.best = Some(faster(row.best, now));
+        for p in 0..4 {
+            for c in 0..3 {
+                if let Some(now) = run(rt, alloc, PLANS[p], COUNTS[c], setting)? {
+                    best[p][c] = Some(faster(best[p][c], now));
+                }
             }
         }
     }
-    Ok(())
+    Ok(best)
 }
 
 /// Returns interns a second.
@@ -268,9 +215,13 @@ fn rate(interns: u64, nanoseconds: u128) -> u128 {
     u128::from(interns) * 1_000_000_000 / nanoseconds.max(1)
 }
 
-fn print_row<R: Print>(rt: &R, row: &Row, is_timed: bool) -> io::Result<()> {
-    let count = row.count;
-    let Some(did) = row.best else {
+fn print_row<R: Print>(
+    rt: &R,
+    count: u32,
+    best: Option<Figures>,
+    is_timed: bool,
+) -> io::Result<()> {
+    let Some(did) = best else {
         return println!(rt; "{count} threads: no memory");
     };
     println!(rt; "{count} threads: {} terms linked", did.linked)?;
@@ -287,16 +238,13 @@ pub(crate) fn show<R: Threads + Sync + Clock + Print + AllocGlobal>(
     rt: &R,
     setting: Setting,
 ) -> io::Result<()> {
-    let Some(mut rows) = rows(rt.alloc()) else {
-        return println!(rt; "no memory");
-    };
-    measure(rt, rt.alloc(), &mut rows, setting)?;
+    let best = measure(rt, rt.alloc(), setting)?;
     println!(rt; "{} terms", setting.terms)?;
-    for row in &rows {
-        if row.count == 1 {
-            println!(rt; "{}:", row.plan.title)?;
+    for p in 0..4 {
+        println!(rt; "{}:", PLANS[p].title)?;
+        for c in 0..3 {
+            print_row(rt, COUNTS[c], best[p][c], setting.is_timed)?;
         }
-        print_row(rt, row, setting.is_timed)?;
     }
     Ok(())
 }

@@ -60,10 +60,9 @@ impl Start {
 
     /// Returns nanoseconds by the clock, 0 if it fails.
     fn nanoseconds(&self, clock: &impl Clock) -> u128 {
-        match self.clock_start.elapsed(clock) {
-            Ok(time) => time.as_nanos(),
-            Err(_) => 0,
-        }
+        self.clock_start
+            .elapsed(clock)
+            .map_or(0, |time| time.as_nanos())
     }
 }
 
