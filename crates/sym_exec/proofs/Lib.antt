@@ -7,4 +7,5 @@ pub mod MipsTerms
 pub mod Parts
 pub mod Asked
 mod Growth
+mod Shared
 pub mod Starts

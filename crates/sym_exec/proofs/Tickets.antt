@@ -1,7 +1,7 @@
 -- Tickets go on standing for their trees, also after a write.
 use Rattle.std.proofs.Common.{◌≡◌, ◌≢◌, ℕ, zero, suc, ◌+◌, ◌<◌, ◌≤◌, ◌==◌, Bool, true, false, cond, ◌&&◌, List, [], ◌∷◌, ◌++◌, length}
 use Rattle.std.proofs.Common.{slice_index_or, slice_set, Contains, refl, sym, ap, ap₂, ◌∙◌, subst, true≢false, eq-eqb, eqb-true, arith}
-use Rattle.std.specs.Prelude.{slice_index, OnOk, OnErr, IfOk, Result, Ok, Err}
+use Rattle.std.specs.Prelude.{slice_index, OnOk, OnErr, Result, Ok, Err}
 use Rattle.std.proofs.lemmas.List.{get_or-set_same, get_or-set_other}
 use Rattle.sym_terms.specs.NormalForms.{const_tree}
 use Rattle.mips_isa.proofs.Registers.{put_lost, read-put}

@@ -16,8 +16,8 @@ use Rattle.sym_exec.specs.declared.stores.StoreChain.{StoreChain}
 use Rattle.sym_exec.specs.Symbolic.{TreeState, GuardTree, start_trees, trees_after, all_trees}
 use Rattle.sym_exec.specs.Standing.{Later, Hold, IsGuard, GuardsStand}
 use Rattle.sym_exec.specs.Stores.{MakeMemory, AreMemories, HasRoom, HasStoreRoom, IsChain, IsEmpty, Tracks}
-use Rattle.sym_exec.proofs.Tickets.{guards_on, guards_more, guards_none}
-use Rattle.sym_exec.proofs.Chains.{memory-on, memories-start}
+use Rattle.sym_exec.proofs.Tickets.{hold_on, guards_on, guards_more, guards_none}
+use Rattle.sym_exec.proofs.Chains.{chain-on, memory-on, memories-start}
 
 -- registers, HI or LO changed
 pub tracks_on : {p q : PassState} {r s : TermRegisters} {l : RunLists} {t u : TreeState} → Later p q → Tracks p r l t → Hold q s u → t.memory ≡ u.memory
@@ -27,6 +27,27 @@ tracks_on {p} {q} {r} {s} {l} {t} {u} e h hold memory guards = record {
   memory = memory-on l.chain.stores.items u.memory e (subst (MakeMemory p l.chain.stores.items) memory h.memory);
   guards = guards_on e (subst (GuardsStand p l.guards.items) guards h.guards);
 }
+
+-- copies of the lists track the same
+pub tracks_copied : {p q : PassState} {r : TermRegisters} {l m : RunLists} {t : TreeState} → Later p q → Tracks p r l t → m.guards.items ≡ l.guards.items
+    → m.chain.stores.items ≡ l.chain.stores.items → Tracks q r m t
+tracks_copied {p} {q} {r} {l} {m} {t} e h guards stores = record {
+  hold = hold_on e h.hold;
+  memory = subst (λ xs. MakeMemory q xs t.memory) (sym stores) (memory-on l.chain.stores.items t.memory e h.memory);
+  guards = subst (λ gs. GuardsStand q gs t.guards) (sym guards) (guards_on e h.guards);
+}
+
+pub chain_copied : {p q : PassState} {c d : StoreChain} → Later p q → IsChain p c → d.stores.items ≡ c.stores.items → d.memories.items ≡ c.memories.items
+    → IsChain q d
+chain_copied {p} {q} {c} {d} e h stores memories =
+    let was = chain-on e h in record {
+      memory = was.memory;
+      made = subst (λ xs. MakeMemory q xs was.memory) (sym stores) was.made;
+      memories = subst (λ ms. AreMemories q ms d.stores.items) (sym memories) (subst (AreMemories q c.memories.items) (sym stores) was.memories);
+      some = subst (λ ms. 0 < length ms) (sym memories) was.some;
+      fit = subst (λ ms. length ms ≤ length d.stores.items + 1) (sym memories)
+          (subst (λ xs. length c.memories.items ≤ length xs + 1) (sym stores) was.fit);
+    }
 
 -- and there is a guard more
 pub tracks_guard : {p q : PassState} {r s : TermRegisters} {l m : RunLists} {t u : TreeState} (g : Guard) (x : GuardTree) → Later p q → Tracks p r l t → Hold q s u

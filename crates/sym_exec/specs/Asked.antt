@@ -47,12 +47,14 @@ asked_by_shape (Prints n) = const_tree 1 ∷ []
 asked_by_shape Halts = const_tree 10 ∷ []
 asked_by_shape _ = []
 
+-- what code asks for that has come as far as some trees
+abbrev pub asked_from : TreeState → List Action → Exit → List Action → List Tree
+asked_from t acts exit slots =
+    let after = exit_trees exit (all_trees acts t) in
+    asked_by_all acts t ++ (asked_by_shape (exit_shape exit) ++ (asked_by_all slots after ++ (all_trees slots after).memory ∷ []))
+
 abbrev pub code_asked : List Action → Exit → List Action → List Tree
-code_asked acts exit slots =
-    let before = all_trees acts start_trees in
-    let after = exit_trees exit before in
-    asked_first
-    ++ (asked_by_all acts start_trees ++ (asked_by_shape (exit_shape exit) ++ (asked_by_all slots after ++ (all_trees slots after).memory ∷ [])))
+code_asked acts exit slots = asked_first ++ asked_from start_trees acts exit slots
 
 abbrev pub block_asked : BlockParts → List Tree
 block_asked b = code_asked (map action_of b.insts) b.exit []

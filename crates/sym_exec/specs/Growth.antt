@@ -53,11 +53,15 @@ growth_by_shape (Prints n) = 1
 growth_by_shape Halts = 1
 growth_by_shape _ = 0
 
--- at the start the terms of 32 registers, HI, LO and memory; at the end the memory after each store
+-- what code may link that has made so many stores: at the end the memory after each store
+abbrev pub growth_from : ℕ → List Action → Exit → List Action → ℕ
+growth_from stores acts exit slots =
+    let before = all_stores acts stores in
+    growth_by_all acts stores + growth_by_shape (exit_shape exit) + growth_by_all slots before + all_stores slots before
+
+-- at the start the terms of 32 registers, HI, LO and memory
 abbrev pub code_growth : List Action → Exit → List Action → ℕ
-code_growth acts exit slots =
-    let before = all_stores acts 0 in
-    35 + growth_by_all acts 0 + growth_by_shape (exit_shape exit) + growth_by_all slots before + all_stores slots before
+code_growth acts exit slots = 35 + growth_from 0 acts exit slots
 
 abbrev pub block_growth : BlockParts → ℕ
 block_growth b = code_growth (map action_of b.insts) b.exit []

@@ -106,12 +106,16 @@ pub record CodeTrees : Type 0 where
   pub shape : Shape
   pub operands : List Tree
 
-abbrev pub code_trees : List Action → Exit → List Action → CodeTrees
-code_trees acts exit slots = record {
-  trees = all_trees slots (exit_trees exit (all_trees acts start_trees));
+-- what code leaves that has come as far as some trees
+abbrev pub trees_from : TreeState → List Action → Exit → List Action → CodeTrees
+trees_from t acts exit slots = record {
+  trees = all_trees slots (exit_trees exit (all_trees acts t));
   shape = exit_shape exit;
-  operands = exit_operands exit (all_trees acts start_trees);
+  operands = exit_operands exit (all_trees acts t);
 }
+
+abbrev pub code_trees : List Action → Exit → List Action → CodeTrees
+code_trees acts exit slots = trees_from start_trees acts exit slots
 
 abbrev pub block_trees : BlockParts → CodeTrees
 block_trees b = code_trees (map action_of b.insts) b.exit []

@@ -1,5 +1,5 @@
 //! Blocks and orders, instruction by instruction.
-ghost use Rattle.std.specs.Prelude.{◌≡◌, ◌+◌, ◌<◌, ◌≤◌, OnOk, OnErr, IfOk, ◌++◌, map, length, vec_len};
+ghost use Rattle.std.specs.Prelude.{◌≡◌, ◌+◌, ◌<◌, ◌≤◌, OnOk, OnErr, IfOk, ◌++◌, map, length, take, vec_len, vec_capacity};
 ghost use Rattle.mips_isa.specs.Actions.{action_of};
 ghost use Rattle.mblock.specs.BlockMeaning.{exit_shape};
 ghost use Rattle.mblock.specs.Clean.{slot_actions};
@@ -9,16 +9,16 @@ ghost use Rattle.sym_terms.specs.Trees.{leaf};
 ghost use Rattle.term_table.specs.Passes.{PassState, IsOf, linked};
 ghost use Rattle.term_table.specs.Trees.{HasLegalHistory};
 ghost use Rattle.sym_exec.specs.MipsTerms.{HasTree, Lacks};
-ghost use Rattle.sym_exec.specs.Asked.{asked_by, asked_by_all, asked_first, asked_by_shape, code_asked};
+ghost use Rattle.sym_exec.specs.Asked.{asked_by, asked_by_all, asked_first, asked_by_shape, asked_from, code_asked};
 ghost use Rattle.sym_exec.specs.Asked.{block_asked, order_asked, LacksOne};
-ghost use Rattle.sym_exec.specs.Symbolic.{TreeState, start_trees, trees_after, all_trees, exit_trees, exit_operands, code_trees};
+ghost use Rattle.sym_exec.specs.Symbolic.{TreeState, start_trees, trees_after, all_trees, exit_trees, exit_operands, trees_from, code_trees};
 ghost use Rattle.sym_exec.specs.Symbolic.{block_trees, order_trees};
 ghost use Rattle.sym_exec.specs.Standing.{Known, Hold, LeavesBy, StandsFor};
 ghost use Rattle.sym_exec.specs.Interners.{Interns};
-ghost use Rattle.sym_exec.specs.Growth.{growth_by, growth_by_all, growth_by_shape, stores_after, all_stores, code_growth};
+ghost use Rattle.sym_exec.specs.Growth.{growth_by, growth_by_all, growth_by_shape, stores_after, all_stores, growth_from, code_growth};
 ghost use Rattle.sym_exec.specs.Growth.{block_growth, order_growth, GrowthHasBound};
 ghost use Rattle.sym_exec.specs.Stores.{IsChain, HasRoom, IsEmpty, IsRoomFor, Tracks, spare};
-ghost use Rattle.sym_exec.specs.Starts.{IsStart, registers_of};
+ghost use Rattle.sym_exec.specs.Starts.{IsStart};
 ghost use Rattle.sym_exec.specs.Runs.{Runs};
 
 use crate::interner::Interner;
@@ -70,7 +70,8 @@ fn step(
     ensures grows { linked terms.new.pass.now ≤ linked terms.old.pass.now + growth_by action.now (vec_len lists.old.chain.stores) }
     ensures stores { OnOk result (vec_len lists.new.chain.stores ≡ stores_after action.now (vec_len lists.old.chain.stores)) }
     ensures room { OnOk result (HasRoom lists.new) }
-    ensures spare { OnOk result (spare lists.old ≤ spare lists.new + 1) }
+    ensures guards { OnOk result (vec_len lists.new.guards ≤ vec_len lists.old.guards + 1) }
+    ensures capacity { OnOk result (vec_capacity lists.new.guards ≡ vec_capacity lists.old.guards) }
 {
     match *action {
         Action::Computes { d, op, a, b } => { registers.computes(terms, d, op, a, &b) }
@@ -156,7 +157,8 @@ fn steps(
     ensures grows { linked terms.new.pass.now ≤ linked terms.old.pass.now + growth_by_all (map action_of insts.now) (vec_len lists.old.chain.stores) }
     ensures stores { OnOk result (vec_len lists.new.chain.stores ≡ all_stores (map action_of insts.now) (vec_len lists.old.chain.stores)) }
     ensures room { OnOk result (HasRoom lists.new) }
-    ensures spare { OnOk result (spare lists.old ≤ spare lists.new + length insts.now) }
+    ensures guards { OnOk result (vec_len lists.new.guards ≤ vec_len lists.old.guards + length insts.now) }
+    ensures capacity { OnOk result (vec_capacity lists.new.guards ≡ vec_capacity lists.old.guards) }
 {
     for inst in insts {
         step(terms, registers, lists, &inst.action())?;
@@ -217,17 +219,23 @@ fn start(terms: &mut Interner) -> Result<TermPlaces, TableFull>
     })
 }
 
-/// Begins the chain of stores with the memory at the start.
-fn begin(start: &TermPlaces, lists: &mut RunLists)
+/// Begins the chain of stores with the memory at the start, and returns what the registers hold.
+fn begin(start: &TermPlaces, lists: &mut RunLists) -> TermRegisters
     requires room { HasRoom lists.old }
     requires empty { IsEmpty lists.old }
+    ensures known { (p : PassState) → IsStart p start.now → Known p result }
     ensures chain { (p : PassState) → IsStart p start.now → IsChain p lists.new.chain }
-    ensures tracks { (p : PassState) → IsStart p start.now → Tracks p (registers_of start.now) lists.new start_trees }
+    ensures tracks { (p : PassState) → IsStart p start.now → Tracks p result lists.new start_trees }
     ensures room { HasRoom lists.new }
-    ensures spare { spare lists.new ≡ spare lists.old }
+    ensures guards { lists.new.guards ≡ lists.old.guards }
     ensures stores { vec_len lists.new.chain.stores ≡ 0 }
 {
     lists.chain.memories.push_reserved(start.memory);
+    TermRegisters {
+        regs: start.regs,
+        hi: start.hi,
+        lo: start.lo,
+    }
 }
 
 /// Returns the exit, with the tickets of what it reads.
@@ -323,6 +331,45 @@ fn run_slot(
     }
 }
 
+/// Returns what code leaves that has come as far as some trees, by its last instructions.
+fn finish(
+    terms: &mut Interner,
+    mut registers: TermRegisters,
+    mut lists: RunLists,
+    insts: &[Plain],
+    exit: &Exit,
+    slot: &Option<Plain>,
+) -> Result<SymState, TableFull>
+    requires known { Known terms.old.pass.now registers }
+    requires chain { IsChain terms.old.pass.now lists.chain }
+    requires room { HasRoom lists }
+    requires few { length insts.now < spare lists }
+    ensures trees { (t : TreeState) → Tracks terms.old.pass.now registers lists t → IfOk result (λ s. StandsFor terms.new.pass.now
+        s.places s.exit s.guards.items (trees_from t (map action_of insts.now) exit.now (slot_actions slot.now))) }
+    ensures absent { (t : TreeState) → Tracks terms.old.pass.now registers lists t
+        → OnErr result (LacksOne terms.new.pass.now (asked_from t (map action_of insts.now) exit.now (slot_actions slot.now))) }
+    ensures pass { Interns terms.old result terms.new }
+    ensures grows { linked terms.new.pass.now ≤ linked terms.old.pass.now
+        + growth_from (vec_len lists.chain.stores) (map action_of insts.now) exit.now (slot_actions slot.now) }
+{
+    steps(terms, &mut registers, &mut lists, insts)?;
+    let left = leave(&registers, exit);
+    put_own(terms, &mut registers, exit)?;
+    run_slot(terms, &mut registers, &mut lists, slot)?;
+    let memory = lists.chain.memory_term(terms)?;
+    let TermRegisters { regs, hi, lo } = registers;
+    Ok(SymState {
+        places: TermPlaces {
+            regs,
+            hi,
+            lo,
+            memory,
+        },
+        exit: left,
+        guards: lists.guards,
+    })
+}
+
 /// Returns what code leaves from the start on.
 fn run_from(
     terms: &mut Interner,
@@ -340,28 +387,8 @@ fn run_from(
     ensures pass { Interns terms.old result terms.new }
     ensures grows { linked terms.new.pass.now + 35 ≤ linked terms.old.pass.now + code_growth (map action_of insts.now) exit.now (slot_actions slot.now) }
 {
-    begin(start, &mut lists);
-    let mut registers = TermRegisters {
-        regs: start.regs,
-        hi: start.hi,
-        lo: start.lo,
-    };
-    steps(terms, &mut registers, &mut lists, insts)?;
-    let left = leave(&registers, exit);
-    put_own(terms, &mut registers, exit)?;
-    run_slot(terms, &mut registers, &mut lists, slot)?;
-    let memory = lists.chain.memory_term(terms)?;
-    let TermRegisters { regs, hi, lo } = registers;
-    Ok(SymState {
-        places: TermPlaces {
-            regs,
-            hi,
-            lo,
-            memory,
-        },
-        exit: left,
-        guards: lists.guards,
-    })
+    let registers = begin(start, &mut lists);
+    finish(terms, registers, lists, insts, exit, slot)
 }
 
 /// Returns what code leaves.
@@ -428,48 +455,21 @@ pub fn run_order(
     ))
 }
 
-/// Returns what a block leaves from the start on.
-fn run_block_from(
-    terms: &mut Interner,
-    start: &TermPlaces,
-    block: &Block,
-    lists: RunLists,
-) -> Result<SymState, TableFull>
-    requires start { IsStart terms.old.pass.now start.now }
-    requires room { IsRoomFor (length block.now.insts) lists }
-    ensures trees { IfOk result (λ s. StandsFor terms.new.pass.now s.places s.exit s.guards.items (block_trees block.now)) }
-    ensures absent { OnErr result (LacksOne terms.new.pass.now (block_asked block.now)) }
-    ensures pass { Interns terms.old result terms.new }
-    ensures grows { linked terms.new.pass.now + 35 ≤ linked terms.old.pass.now + block_growth block.now }
+/// Returns how many instructions two lists have in common, from the first on.
+fn shared_count(insts: &[Plain], others: &[Plain]) -> usize
+    ensures within { (result ≤ length insts.now) × (result ≤ length others.now) }
+    ensures same { take result insts.now ≡ take result others.now }
 {
-    run_from(terms, start, block.insts(), &block.exit(), &None, lists)
+    let most = insts.len().min(others.len());
+    for k in 0..most {
+        if insts[k] != others[k] {
+            return k;
+        }
+    }
+    most
 }
 
-/// Returns what an order leaves from the start on.
-fn run_order_from(
-    terms: &mut Interner,
-    start: &TermPlaces,
-    order: &Order,
-    lists: RunLists,
-) -> Result<SymState, TableFull>
-    requires start { IsStart terms.old.pass.now start.now }
-    requires room { IsRoomFor (length order.now.insts) lists }
-    ensures trees { IfOk result (λ s. StandsFor terms.new.pass.now s.places s.exit s.guards.items (order_trees order.now)) }
-    ensures absent { OnErr result (LacksOne terms.new.pass.now (order_asked order.now)) }
-    ensures pass { Interns terms.old result terms.new }
-    ensures grows { linked terms.new.pass.now + 35 ≤ linked terms.old.pass.now + order_growth order.now }
-{
-    run_from(
-        terms,
-        start,
-        order.insts(),
-        &order.exit(),
-        &order.slot(),
-        lists,
-    )
-}
-
-/// Returns what a block and an order leave from the start on.
+/// Returns what a block and an order leave from the start on. The instructions that they begin with both are run once.
 fn run_pair_from(
     terms: &mut Interner,
     start: &TermPlaces,
@@ -486,8 +486,23 @@ fn run_pair_from(
     ensures pass { Interns terms.old result terms.new }
     ensures grows { linked terms.new.pass.now + 35 ≤ linked terms.old.pass.now + (block_growth block.now + order_growth order.now) }
 {
-    let first = run_block_from(terms, start, block, lists.0)?;
-    let second = run_order_from(terms, start, order, lists.1)?;
+    let (mut block_lists, mut order_lists) = lists;
+    let mut registers = begin(start, &mut block_lists);
+    let (ours, theirs) = (block.insts(), order.insts());
+    let shared = shared_count(ours, theirs);
+    let (both, insts) = ours.split_at(shared);
+    let (_, others) = theirs.split_at(shared);
+    steps(terms, &mut registers, &mut block_lists, both)?;
+    order_lists.copy_from(&block_lists);
+    let first = finish(terms, registers, block_lists, insts, &block.exit(), &None)?;
+    let second = finish(
+        terms,
+        registers,
+        order_lists,
+        others,
+        &order.exit(),
+        &order.slot(),
+    )?;
     Ok((first, second))
 }
 
