@@ -1,11 +1,11 @@
 -- The words of an order by their places, and the tests of two delay rules there.
 use Rattle.std.proofs.Common.{◌≡◌, ℕ, zero, suc, ◌+◌, ◌-◌, ◌<◌, ◌≤◌, ◌⊎◌, inl, inr, Bool, true, false, ◌&&◌, ◌||◌, ◌==◌, List, [], ◌∷◌}
 use Rattle.std.proofs.Common.{length, slice_get, get_or, Option, Some, None, refl, sym, ap, ap₂, ◌∙◌, subst, true≢false, ⊎_elim, not, IsTrue, arith}
-use Rattle.std.proofs.lemmas.Bool.{and_parts, cases_lt, or_cases, or_parts}
-use Rattle.std.proofs.lemmas.Option.{same_Some, none-some, slice_get_within, slice_get_past, slice_get_read}
+use Rattle.std.proofs.lemmas.Bool.{cases_lt, or_parts}
+use Rattle.std.proofs.lemmas.Option.{same_Some, none-some, slice_get_within, slice_get_read}
 use Rattle.mips_isa.specs.declared.inst.Plain.{Plain}
 use Rattle.mips_isa.specs.declared.action.Action.{Action}
-use Rattle.mips_isa.specs.Actions.{action_of, is_product, is_move, touches, loads}
+use Rattle.mips_isa.specs.Actions.{action_of, is_product, touches, loads}
 use Rattle.mblock.specs.declared.exit.Exit.{Exit}
 use Rattle.mblock.specs.Clean.{kinds_of, slot_words, IsApart, IsBehind, HasQuietEnd}
 use Rattle.mblock.specs.CleanTests.{is_product_word, is_move_word, loads_named, conflict_of, early_at}

@@ -11,37 +11,7 @@ ghost use Rattle.mblock.specs.CleanTests.{loads_named, is_product_word, conflict
 use crate::exit::Exit;
 use crate::order::Order;
 use crate::unclean::Unclean;
-use mips_isa::{Action, Plain, Reg};
-
-/// Reports whether the exit's first word reads or writes the register.
-fn exit_names(exit: &Exit, r: Reg) -> bool
-    ensures { result ≡ exit_touches exit.now r }
-{
-    let q = r.index();
-    match *exit {
-        Exit::Goto(_) => false,
-        Exit::BranchPair {
-            test: _,
-            rs,
-            rt,
-            then: _,
-            other: _,
-        } => rs.index() == q || rt.index() == q,
-        Exit::BranchZero {
-            test: _,
-            rs,
-            then: _,
-            other: _,
-        } => rs.index() == q,
-        Exit::Call {
-            function: _,
-            next: _,
-        } => q == 31,
-        Exit::Return => q == 31,
-        Exit::Out(_) => q == 2 || q == 0,
-        Exit::Halt => q == 2 || q == 0,
-    }
-}
+use mips_isa::{Action, Plain};
 
 /// Reports whether the first action loads a register that the second reads or writes.
 fn loads_for(a: &Action, b: &Action) -> bool
@@ -58,7 +28,7 @@ fn loads_for_exit(a: &Action, exit: &Exit) -> bool
     ensures { result ≡ loads_named a.now (exit_touches exit.now) }
 {
     match *a {
-        Action::Loads { d, .. } => exit_names(exit, d.reg()),
+        Action::Loads { d, .. } => exit.touches(d.reg()),
         _ => false,
     }
 }

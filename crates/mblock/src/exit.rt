@@ -1,5 +1,6 @@
 //! How blocks are left.
 ghost use Rattle.std.specs.Prelude.{◌≡◌};
+ghost use Rattle.mblock.specs.OrderMeaning.{exit_touches};
 ghost use Rattle.mblock.specs.Slots.{is_slotted};
 
 use crate::number::BlockNumber;
@@ -47,6 +48,19 @@ impl Exit {
             Exit::Out(_) => false,
             Exit::Halt => false,
             _ => true,
+        }
+    }
+    /// Reports whether the exit's first word reads or writes a register.
+    pub fn touches(&self, r: Reg) -> bool
+        ensures { result ≡ exit_touches self.now r }
+    {
+        let q = r.index();
+        match *self {
+            Exit::Goto(_) => false,
+            Exit::BranchPair { rs, rt, .. } => rs.index() == q || rt.index() == q,
+            Exit::BranchZero { rs, .. } => rs.index() == q,
+            Exit::Call { .. } | Exit::Return => q == 31,
+            Exit::Out(_) | Exit::Halt => q == 2 || q == 0,
         }
     }
 }
