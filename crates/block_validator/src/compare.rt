@@ -32,12 +32,14 @@ fn has_guard(guards: &[Guard], guard: &Guard) -> bool
     false
 }
 
-/// Reports whether each of the second's guards is one of the first's.
+/// Reports whether each of the second's guards is one of the first's. Most stand near their places there, so it looks from these on first.
 fn has_guards(a: &[Guard], b: &[Guard]) -> bool
     ensures { IsTrue result ↔ ((g : AGuard) → Contains b.now g → Contains a.now g) }
 {
-    for guard in b {
-        if !has_guard(a, guard) {
+    for k in 0..b.len() {
+        let (before, from) = a.split_at(k.min(a.len()));
+        let guard = &b[k];
+        if !has_guard(from, guard) && !has_guard(before, guard) {
             return false;
         }
     }
