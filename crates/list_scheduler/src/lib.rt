@@ -24,6 +24,7 @@ mod reorder;
 mod resources;
 mod sets;
 mod slot;
+mod standing;
 
 pub use access::{Access, access_of};
 pub use filled::FilledOrder;

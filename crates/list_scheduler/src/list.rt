@@ -7,6 +7,7 @@ use crate::graph::Graph;
 use crate::node::{Facts, keep_needed};
 use crate::reorder::Reorder;
 use crate::resources::Resources;
+use crate::standing::list_standing;
 use mblock::{Block, Exit, ORDER_INSTS, Order, plain};
 use mips_isa::Plain;
 use std::alloc::{AllocError, Global};
@@ -21,9 +22,7 @@ impl Reorder for ListOrder {
 
     fn reorder(&self, alloc: Global, block: &Block) -> Result<Order, AllocError> {
         let exit = block.exit();
-        let kept = keep_needed(alloc, block.insts())?;
-        let graph = Graph::of(alloc, kept, &exit)?;
-        let list = list_nodes(alloc, graph, &exit)?;
+        let list = list_insts(alloc, block.insts(), &exit)?;
         let slot = if exit.has_slot() {
             Some(Plain::nop())
         } else {
@@ -76,11 +75,21 @@ fn list_words(graph: &mut Graph, free: &Free, list: &mut Vec<Plain>) -> Result<(
     Ok(())
 }
 
-/// Lists the instructions, and a Nop after them if the exit has to wait.
-fn list_nodes(alloc: Global, mut graph: Graph, exit: &Exit) -> Result<Vec<Plain>, AllocError> {
-    let mut list = Vec::with_capacity(alloc, graph.nodes.len().saturating_add(1))?;
-    let free = Free::of(&mut graph)?;
-    list_words(&mut graph, &free, &mut list)?;
-    finish(&mut list, exit)?;
+/// Lists the instructions of the graph, and a Nop after them if the exit has to wait.
+fn list_nodes(graph: &mut Graph, exit: &Exit, list: &mut Vec<Plain>) -> Result<(), AllocError> {
+    let free = Free::of(graph)?;
+    list_words(graph, &free, list)?;
+    finish(list, exit)
+}
+
+/// Lists the instructions of a block that are needed: as they stand, if that is the order, else by their graph.
+fn list_insts(alloc: Global, insts: &[Plain], exit: &Exit) -> Result<Vec<Plain>, AllocError> {
+    let mut list = Vec::with_capacity(alloc, insts.len().saturating_add(1))?;
+    if list_standing(insts, exit, &mut list)? {
+        return Ok(list);
+    }
+    list.clear();
+    let mut graph = Graph::of(alloc, keep_needed(alloc, insts)?, exit)?;
+    list_nodes(&mut graph, exit, &mut list)?;
     Ok(list)
 }

@@ -118,6 +118,16 @@ impl Facts {
         self.reads.meets(Resources::PRODUCT)
     }
 
+    /// Reports whether the instruction stores, or writes what is read after it before it is overwritten.
+    pub fn are_needed(&self, wanted: Resources) -> bool {
+        self.stores() || self.writes.meets(wanted)
+    }
+
+    /// Returns what is read, before it is overwritten, from an instruction on that is needed.
+    pub fn wanted_before(&self, wanted: Resources) -> Resources {
+        wanted.difference(self.writes).union(self.reads)
+    }
+
     /// Returns what the instruction may not touch just after a load, or soon after a move of HI or LO. It is what it reads or writes, or
     /// makes a product of.
     pub fn delayed(&self) -> Resources {
@@ -204,9 +214,9 @@ pub fn keep_needed(alloc: Global, insts: &[Plain]) -> Result<Kept, AllocError> {
     let (mut has_load, mut has_late_load) = (false, false);
     for inst in insts.iter().rev() {
         let facts = Facts::of(inst);
-        let stores = facts.stores();
-        if stores || facts.writes.meets(wanted) {
-            wanted = wanted.difference(facts.writes).union(facts.reads);
+        if facts.are_needed(wanted) {
+            wanted = facts.wanted_before(wanted);
+            let stores = facts.stores();
             let accesses = facts.access.is_some();
             has_accesses |= accesses && has_access;
             has_access |= accesses;

@@ -1,0 +1,159 @@
+//! Blocks whose instructions stand as the list scheduler would list them: each one's way to the end is as long as that of the next one, or
+//! longer, and none has to wait for the word before it. These need no graph.
+use crate::access::Access;
+use crate::node::Facts;
+use crate::resources::Resources;
+use mblock::Exit;
+use mips_isa::Plain;
+use std::alloc::AllocError;
+
+/// What instructions of one height read and write.
+#[derive(Clone, Copy)]
+struct Level {
+    touched: Resources,
+    written: Resources,
+}
+
+impl Level {
+    /// The level of no instruction.
+    const EMPTY: Level = Level {
+        touched: Resources::NONE,
+        written: Resources::NONE,
+    };
+
+    /// Reports whether an instruction has to stay before one of these.
+    fn is_behind(&self, facts: &Facts) -> bool {
+        facts.writes.meets(self.touched) || facts.reads.meets(self.written)
+    }
+}
+
+/// The needed instructions from one on, as far as they stand so.
+#[derive(Drop)]
+struct Standing {
+    // What the exit's first word touches.
+    at_exit: Resources,
+    // What the first of them touches, or the exit's first word.
+    next: Resources,
+    // Those of the first one's height, and of heights that are one and two words less.
+    top: Level,
+    second: Level,
+    third: Level,
+    // Whether no instruction is lower than the first of them.
+    is_lowest: bool,
+    has_access: bool,
+    has_store: bool,
+    has_product: bool,
+}
+
+impl Standing {
+    /// Returns the instructions behind the last one: none.
+    fn before_exit(exit: &Exit) -> Standing {
+        let at_exit = Resources::touched_at_exit(exit);
+        Standing {
+            at_exit,
+            next: at_exit,
+            top: Level::EMPTY,
+            second: Level::EMPTY,
+            third: Level::EMPTY,
+            is_lowest: true,
+            has_access: false,
+            has_store: false,
+            has_product: false,
+        }
+    }
+
+    /// Reports whether one that stands before them delays none of them, nor the exit.
+    fn is_prompt(&self, facts: &Facts) -> bool {
+        if facts.loads() {
+            return !facts.writes.meets(self.next.union(self.at_exit));
+        }
+        !(facts.moves() && self.has_product)
+    }
+
+    /// Reports whether a load or store may be exchanged with each of them, as two loads may.
+    fn may_pass(&self, access: &Access) -> bool {
+        !self.has_access || !(access.stores || self.has_store)
+    }
+
+    /// Returns how many words higher than the first of them one is that stands before them; None for one that is lower.
+    fn rise_to(&self, facts: &Facts) -> Option<u32> {
+        let (above, level) = if facts.loads() {
+            if facts.writes.meets(self.top.touched) {
+                return Some(2);
+            }
+            let above = facts.writes.meets(self.second.touched) || self.top.is_behind(facts);
+            (above, facts.writes.meets(self.third.touched))
+        } else {
+            (self.top.is_behind(facts), false)
+        };
+        if above {
+            return Some(1);
+        }
+        if self.is_lowest || level || self.second.is_behind(facts) {
+            return Some(0);
+        }
+        None
+    }
+
+    /// Makes room for the levels of so many words more.
+    fn rise(&mut self, words: u32) {
+        if words == 0 {
+            return;
+        }
+        self.third = if words == 1 { self.second } else { self.top };
+        self.second = if words == 1 { self.top } else { Level::EMPTY };
+        self.top = Level::EMPTY;
+        self.is_lowest = false;
+    }
+
+    /// Adds the one that stands before them, at the first one's height.
+    fn add(&mut self, facts: &Facts) {
+        self.next = facts.touched();
+        self.top.touched = self.top.touched.union(self.next);
+        self.top.written = self.top.written.union(facts.writes);
+        self.has_product |= facts.writes.meets(Resources::PRODUCT);
+        if let Some(access) = facts.access {
+            self.has_access = true;
+            self.has_store |= access.stores;
+        }
+    }
+
+    /// Adds the one that stands before them, if it is listed first of all; reports whether it is.
+    fn takes(&mut self, facts: &Facts) -> bool {
+        let may_pass = match &facts.access {
+            Some(access) => self.may_pass(access),
+            None => true,
+        };
+        if !may_pass || !self.is_prompt(facts) {
+            return false;
+        }
+        let Some(words) = self.rise_to(facts) else {
+            return false;
+        };
+        self.rise(words);
+        self.add(facts);
+        true
+    }
+}
+
+/// Lists the needed instructions of a block as they stand, if that is how the list scheduler lists them; reports whether it is.
+pub fn list_standing(
+    insts: &[Plain],
+    exit: &Exit,
+    list: &mut Vec<Plain>,
+) -> Result<bool, AllocError> {
+    let mut standing = Standing::before_exit(exit);
+    let mut wanted = Resources::ALL;
+    for inst in insts.iter().rev() {
+        let facts = Facts::of(inst);
+        if facts.are_needed(wanted) {
+            if !standing.takes(&facts) {
+                return Ok(false);
+            }
+            wanted = facts.wanted_before(wanted);
+            list.push(*inst)?;
+        }
+    }
+    list.reverse();
+    Ok(true)
+}
