@@ -113,6 +113,23 @@ impl Graph {
         Ok(())
     }
 
+    /// Puts it before the next readers of a register, or before the next writer, which waits for those.
+    fn put_before_users(
+        &mut self,
+        users: &Users,
+        resource: usize,
+        words: u32,
+    ) -> Result<(), AllocError> {
+        let readers = users.readers(resource);
+        if readers.number().is_some() {
+            return self.put_before_readers(readers, words);
+        }
+        match users.writer(resource) {
+            Some(writer) => self.put_before(writer, words),
+            None => Ok(()),
+        }
+    }
+
     /// Puts it before those that use what it writes, and notes that it does.
     fn link_writes(&mut self, k: u32, facts: &Facts, users: &mut Users) -> Result<(), AllocError> {
         let words = facts.words_to_user();
@@ -121,10 +138,7 @@ impl Graph {
             let Some((resource, others)) = left.split() else {
                 break;
             };
-            if let Some(writer) = users.writer(resource) {
-                self.put_before(writer, words)?;
-            }
-            self.put_before_readers(users.readers(resource), words)?;
+            self.put_before_users(users, resource, words)?;
             users.write(resource, k);
             left = others;
         }
