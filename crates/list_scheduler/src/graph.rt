@@ -175,7 +175,7 @@ impl Graph {
         k: u32,
         touched: Resources,
         users: &mut Users,
-        accesses: &mut Accesses,
+        accesses: &mut Option<Accesses>,
     ) -> Result<(), AllocError> {
         let Some(node) = self.nodes.get(k as usize) else {
             return Ok(());
@@ -184,9 +184,8 @@ impl Graph {
         self.height = facts.words_to_exit(touched);
         self.link_writes(k, &facts, users)?;
         self.link_reads(k, &facts, users)?;
-        accesses.forget_bases(facts.writes);
-        if let Some(access) = facts.access {
-            accesses.link(self, k, &access, is_fixed)?;
+        if let Some(accesses) = accesses {
+            accesses.link(self, k, &facts, is_fixed)?;
         }
         let end = u32::try_from(self.lists.len()).unwrap_or(u32::MAX);
         if let Some(node) = self.nodes.get_mut(k as usize) {
@@ -200,13 +199,17 @@ impl Graph {
     pub fn of(alloc: Global, kept: Kept, exit: &Exit) -> Result<Graph, AllocError> {
         let Kept {
             mut nodes,
-            has_accesses,
+            has_ties,
             has_late_load,
         } = kept;
         if has_late_load {
             mark_fixed(nodes.as_mut_slice());
         }
-        let mut accesses = Accesses::new(alloc, nodes.len(), has_accesses)?;
+        let mut accesses = if has_ties {
+            Some(Accesses::new(alloc, nodes.len())?)
+        } else {
+            None
+        };
         let lists = Vec::with_capacity(alloc, nodes.len().saturating_mul(3))?;
         let mut graph = Graph {
             nodes,

@@ -2,7 +2,7 @@
 use crate::access::Access;
 use crate::graph::Graph;
 use crate::link::Link;
-use crate::node::{NEXT, Node};
+use crate::node::{Facts, NEXT, Node};
 use crate::resources::Resources;
 use crate::sets::{Sets, last_bit, number};
 use mips_isa::Reg;
@@ -179,18 +179,17 @@ fn after(k: usize) -> usize {
 }
 
 impl Accesses {
-    /// Returns the accesses after the last of so many instructions: none. A block with one access alone needs no sets.
-    pub fn new(alloc: Global, count: usize, has_accesses: bool) -> Result<Accesses, AllocError> {
-        let sets = if has_accesses { after(count) } else { 0 };
+    /// Returns the accesses after the last of so many instructions: none.
+    pub fn new(alloc: Global, count: usize) -> Result<Accesses, AllocError> {
         Ok(Accesses {
-            sets: Sets::new(alloc, sets, count)?,
+            sets: Sets::new(alloc, after(count), count)?,
             bases: Resources::NONE,
             buckets: Buckets::none(),
         })
     }
 
     /// Notes that these registers are written: nothing is known of accesses over them any more.
-    pub fn forget_bases(&mut self, written: Resources) {
+    fn forget_bases(&mut self, written: Resources) {
         let Some((base, _)) = written.intersection(self.bases).split() else {
             return;
         };
@@ -288,7 +287,7 @@ impl Accesses {
     }
 
     /// Puts an access before those that have to stay after it, and adds it.
-    pub fn link(
+    fn link_access(
         &mut self,
         graph: &mut Graph,
         k: u32,
@@ -305,5 +304,20 @@ impl Accesses {
         }
         self.add(graph, k, access, is_fixed);
         Ok(())
+    }
+
+    /// Notes what an instruction writes, and puts its load or store before those that have to stay after it.
+    pub fn link(
+        &mut self,
+        graph: &mut Graph,
+        k: u32,
+        facts: &Facts,
+        is_fixed: bool,
+    ) -> Result<(), AllocError> {
+        self.forget_bases(facts.writes);
+        match &facts.access {
+            Some(access) => self.link_access(graph, k, access, is_fixed),
+            None => Ok(()),
+        }
     }
 }

@@ -200,8 +200,8 @@ impl Node {
 pub struct Kept {
     /// The instructions, the last one first.
     pub nodes: Vec<Node>,
-    /// Whether there is more than one load or store.
-    pub has_accesses: bool,
+    /// Whether there is a store, and another store or a load.
+    pub has_ties: bool,
     /// Whether a load comes after a store.
     pub has_late_load: bool,
 }
@@ -210,24 +210,24 @@ pub struct Kept {
 pub fn keep_needed(alloc: Global, insts: &[Plain]) -> Result<Kept, AllocError> {
     let mut nodes = Vec::with_capacity(alloc, insts.len())?;
     let mut wanted = Resources::ALL;
-    let (mut has_access, mut has_accesses) = (false, false);
     let (mut has_load, mut has_late_load) = (false, false);
+    let (mut has_store, mut has_ties) = (false, false);
     for inst in insts.iter().rev() {
         let facts = Facts::of(inst);
         if facts.are_needed(wanted) {
             wanted = facts.wanted_before(wanted);
-            let stores = facts.stores();
-            let accesses = facts.access.is_some();
-            has_accesses |= accesses && has_access;
-            has_access |= accesses;
-            has_late_load |= stores && has_load;
-            has_load |= accesses && !stores;
+            if let Some(access) = &facts.access {
+                has_ties |= has_store || (access.stores && has_load);
+                has_late_load |= access.stores && has_load;
+                has_store |= access.stores;
+                has_load |= !access.stores;
+            }
             nodes.push(Node::new(*inst, facts))?;
         }
     }
     Ok(Kept {
         nodes,
-        has_accesses,
+        has_ties,
         has_late_load,
     })
 }
