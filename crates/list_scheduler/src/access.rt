@@ -1,5 +1,4 @@
 //! What instructions do with memory.
-use crate::node::Facts;
 use mips_isa::{Plain, Reg};
 use words::Width;
 
@@ -16,9 +15,33 @@ pub struct Access {
     pub stores: bool,
 }
 
+/// Returns a load or store; the offset's sign is extended.
+fn access_at(width: Width, base: Reg, offset: i16, stores: bool) -> Access {
+    Access {
+        base,
+        offset: i32::from(offset).cast_unsigned(),
+        width,
+        stores,
+    }
+}
+
 /// Returns the load or store of an instruction, if it is one.
 pub fn access_of(inst: &Plain) -> Option<Access> {
-    Facts::of(inst).access
+    match *inst {
+        Plain::Load {
+            width,
+            base,
+            offset,
+            ..
+        } => Some(access_at(width, base, offset, false)),
+        Plain::Store {
+            width,
+            base,
+            offset,
+            ..
+        } => Some(access_at(width, base, offset, true)),
+        _ => None,
+    }
 }
 
 fn bytes(width: Width) -> u32 {

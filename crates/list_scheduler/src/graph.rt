@@ -180,12 +180,12 @@ impl Graph {
         let Some(node) = self.nodes.get(k as usize) else {
             return Ok(());
         };
-        let (facts, is_fixed) = (node.facts, node.is_fixed);
+        let facts = node.facts;
         self.height = facts.words_to_exit(touched);
         self.link_writes(k, &facts, users)?;
         self.link_reads(k, &facts, users)?;
         if let Some(accesses) = accesses {
-            accesses.link(self, k, &facts, is_fixed)?;
+            accesses.link(self, k, &facts)?;
         }
         let end = u32::try_from(self.lists.len()).unwrap_or(u32::MAX);
         if let Some(node) = self.nodes.get_mut(k as usize) {

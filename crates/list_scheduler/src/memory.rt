@@ -1,8 +1,8 @@
 //! Which loads and stores have to stay in their order.
-use crate::access::Access;
+use crate::access::{Access, access_of};
 use crate::graph::Graph;
 use crate::link::Link;
-use crate::node::{Facts, NEXT, Node};
+use crate::node::{Facts, Memory, NEXT, Node};
 use crate::resources::Resources;
 use crate::sets::{Sets, last_bit, number};
 use mips_isa::Reg;
@@ -67,7 +67,7 @@ impl Buckets {
 fn store_at(nodes: &[Node], at: Link) -> Option<(u32, Access, Link)> {
     let k = at.number()?;
     let node = nodes.get(k as usize)?;
-    let access = node.facts.access?;
+    let access = access_of(&node.inst)?;
     Some((k, access, node.bucket))
 }
 
@@ -111,7 +111,7 @@ pub fn mark_fixed(nodes: &mut [Node]) {
         let Some(node) = nodes.get(k as usize) else {
             break;
         };
-        let (writes, access) = (node.facts.writes, node.facts.access);
+        let (writes, access) = (node.facts.writes, access_of(&node.inst));
         if let Some(access) = access {
             mark(nodes, &mut buckets, k, &access, &writers);
         }
@@ -307,16 +307,17 @@ impl Accesses {
     }
 
     /// Notes what an instruction writes, and puts its load or store before those that have to stay after it.
-    pub fn link(
-        &mut self,
-        graph: &mut Graph,
-        k: u32,
-        facts: &Facts,
-        is_fixed: bool,
-    ) -> Result<(), AllocError> {
+    pub fn link(&mut self, graph: &mut Graph, k: u32, facts: &Facts) -> Result<(), AllocError> {
         self.forget_bases(facts.writes);
-        match &facts.access {
-            Some(access) => self.link_access(graph, k, access, is_fixed),
+        if facts.memory == Memory::Apart {
+            return Ok(());
+        }
+        let Some(node) = graph.nodes.get(k as usize) else {
+            return Ok(());
+        };
+        let is_fixed = node.is_fixed;
+        match access_of(&node.inst) {
+            Some(access) => self.link_access(graph, k, &access, is_fixed),
             None => Ok(()),
         }
     }

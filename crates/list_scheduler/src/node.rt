@@ -1,10 +1,16 @@
 //! What a scheduler asks of an instruction, looked up once.
-use crate::access::Access;
 use crate::link::Link;
 use crate::resources::Resources;
-use mips_isa::{HiLo, NonzeroReg, Plain, Reg};
+use mips_isa::{HiLo, Plain};
 use std::alloc::{AllocError, Global};
-use words::Width;
+
+/// What an instruction does with memory.
+#[derive(Clone, Copy, PartialEq, Eq)]
+pub enum Memory {
+    Apart,
+    Loads,
+    Stores,
+}
 
 /// What an instruction reads and writes, and what it does with memory.
 #[derive(Clone, Copy)]
@@ -14,7 +20,7 @@ pub struct Facts {
     /// What it writes.
     pub writes: Resources,
     /// What it does with memory.
-    pub access: Option<Access>,
+    pub memory: Memory,
 }
 
 /// Returns the facts of an instruction that leaves memory alone.
@@ -22,35 +28,7 @@ fn apart_from_memory(reads: Resources, writes: Resources) -> Facts {
     Facts {
         reads,
         writes,
-        access: None,
-    }
-}
-
-/// Returns the facts of a load.
-fn facts_of_load(width: Width, rt: NonzeroReg, base: Reg, offset: i16) -> Facts {
-    Facts {
-        reads: Resources::of(base),
-        writes: Resources::of(rt.reg()),
-        access: Some(Access {
-            base,
-            offset: i32::from(offset).cast_unsigned(),
-            width,
-            stores: false,
-        }),
-    }
-}
-
-/// Returns the facts of a store.
-fn facts_of_store(width: Width, rt: Reg, base: Reg, offset: i16) -> Facts {
-    Facts {
-        reads: Resources::of(rt).union(Resources::of(base)),
-        writes: Resources::NONE,
-        access: Some(Access {
-            base,
-            offset: i32::from(offset).cast_unsigned(),
-            width,
-            stores: true,
-        }),
+        memory: Memory::Apart,
     }
 }
 
@@ -77,18 +55,16 @@ impl Facts {
                 let reads = Resources::of(rs).union(Resources::of(rt));
                 apart_from_memory(reads, Resources::PRODUCT)
             }
-            Plain::Load {
-                width,
-                rt,
-                base,
-                offset,
-            } => facts_of_load(width, rt, base, offset),
-            Plain::Store {
-                width,
-                rt,
-                base,
-                offset,
-            } => facts_of_store(width, rt, base, offset),
+            Plain::Load { rt, base, .. } => Facts {
+                reads: Resources::of(base),
+                writes: Resources::of(rt.reg()),
+                memory: Memory::Loads,
+            },
+            Plain::Store { rt, base, .. } => Facts {
+                reads: Resources::of(rt).union(Resources::of(base)),
+                writes: Resources::NONE,
+                memory: Memory::Stores,
+            },
         }
     }
 
@@ -99,18 +75,12 @@ impl Facts {
 
     /// Reports whether it loads a register.
     pub fn loads(&self) -> bool {
-        match self.access {
-            Some(access) => !access.stores,
-            None => false,
-        }
+        self.memory == Memory::Loads
     }
 
     /// Reports whether it stores.
     pub fn stores(&self) -> bool {
-        match self.access {
-            Some(access) => access.stores,
-            None => false,
-        }
+        self.memory == Memory::Stores
     }
 
     /// Reports whether it moves HI or LO to a register.
@@ -216,11 +186,17 @@ pub fn keep_needed(alloc: Global, insts: &[Plain]) -> Result<Kept, AllocError> {
         let facts = Facts::of(inst);
         if facts.are_needed(wanted) {
             wanted = facts.wanted_before(wanted);
-            if let Some(access) = &facts.access {
-                has_ties |= has_store || (access.stores && has_load);
-                has_late_load |= access.stores && has_load;
-                has_store |= access.stores;
-                has_load |= !access.stores;
+            match facts.memory {
+                Memory::Apart => {}
+                Memory::Loads => {
+                    has_ties |= has_store;
+                    has_load = true;
+                }
+                Memory::Stores => {
+                    has_ties |= has_store || has_load;
+                    has_late_load |= has_load;
+                    has_store = true;
+                }
             }
             nodes.push(Node::new(*inst, facts))?;
         }

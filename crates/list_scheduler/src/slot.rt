@@ -1,5 +1,5 @@
 //! One slot is filled.
-use crate::access::Access;
+use crate::access::{Access, access_of};
 use crate::node::Facts;
 use crate::resources::Resources;
 use mblock::{Block, Order};
@@ -35,17 +35,17 @@ impl<'a> Passed<'a> {
     fn lets(&mut self, k: usize, inst: &Plain, facts: &Facts) -> bool {
         let may_fill = !facts.loads() && !facts.moves() && !inst.is_nop();
         let is_apart = !facts.touched().meets(self.writes) && !facts.writes.meets(self.reads);
-        may_fill && is_apart && self.lets_access(k, facts.access)
+        may_fill && is_apart && (!facts.stores() || self.lets_store(k, inst))
     }
 
     /// Reports the same for the sake of memory alone: a store passes what is over its base, which none of these writes, with other bytes.
-    fn lets_access(&mut self, k: usize, access: Option<Access>) -> bool {
-        let Some(store) = access else {
+    fn lets_store(&mut self, k: usize, inst: &Plain) -> bool {
+        let Some(store) = access_of(inst) else {
             return true;
         };
         let passed = self.insts.get(k.saturating_add(1)..).unwrap_or_default();
         for inst in passed {
-            if let Some(access) = Facts::of(inst).access {
+            if let Some(access) = access_of(inst) {
                 if !store.passes(&access) {
                     return false;
                 }
@@ -78,7 +78,7 @@ fn is_fixed_load(insts: &[Plain], k: usize) -> bool {
     let Some(inst) = insts.get(k) else {
         return false;
     };
-    match Facts::of(inst).access {
+    match access_of(inst) {
         Some(load) if !load.stores => meets_store(&load, insts.get(..k).unwrap_or_default()),
         _ => false,
     }
@@ -87,11 +87,9 @@ fn is_fixed_load(insts: &[Plain], k: usize) -> bool {
 /// Reports whether a load loads what a store over the same register may have stored.
 fn meets_store(load: &Access, before: &[Plain]) -> bool {
     for inst in before {
-        if let Plain::Store { .. } = *inst {
-            match Facts::of(inst).access {
-                Some(store) if load.meets(&store) => return true,
-                _ => {}
-            }
+        match access_of(inst) {
+            Some(store) if store.stores && load.meets(&store) => return true,
+            _ => {}
         }
     }
     false

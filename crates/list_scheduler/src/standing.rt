@@ -1,7 +1,6 @@
 //! Blocks whose instructions stand as the list scheduler would list them: each one's way to the end is as long as that of the next one, or
 //! longer, and none has to wait for the word before it. These need no graph.
-use crate::access::Access;
-use crate::node::Facts;
+use crate::node::{Facts, Memory};
 use crate::resources::Resources;
 use mblock::Exit;
 use mips_isa::Plain;
@@ -40,7 +39,7 @@ struct Standing {
     third: Level,
     // Whether no instruction is lower than the first of them.
     is_lowest: bool,
-    has_access: bool,
+    has_load: bool,
     has_store: bool,
     has_product: bool,
 }
@@ -56,7 +55,7 @@ impl Standing {
             second: Level::EMPTY,
             third: Level::EMPTY,
             is_lowest: true,
-            has_access: false,
+            has_load: false,
             has_store: false,
             has_product: false,
         }
@@ -70,9 +69,13 @@ impl Standing {
         !(facts.moves() && self.has_product)
     }
 
-    /// Reports whether a load or store may be exchanged with each of them, as two loads may.
-    fn may_pass(&self, access: &Access) -> bool {
-        !self.has_access || !(access.stores || self.has_store)
+    /// Reports whether it needn't stay before one of them for the sake of memory.
+    fn may_pass(&self, memory: Memory) -> bool {
+        match memory {
+            Memory::Apart => true,
+            Memory::Loads => !self.has_store,
+            Memory::Stores => !self.has_store && !self.has_load,
+        }
     }
 
     /// Returns how many words higher than the first of them one is that stands before them; None for one that is lower.
@@ -112,19 +115,13 @@ impl Standing {
         self.top.touched = self.top.touched.union(self.next);
         self.top.written = self.top.written.union(facts.writes);
         self.has_product |= facts.writes.meets(Resources::PRODUCT);
-        if let Some(access) = facts.access {
-            self.has_access = true;
-            self.has_store |= access.stores;
-        }
+        self.has_load |= facts.loads();
+        self.has_store |= facts.stores();
     }
 
     /// Adds the one that stands before them, if it is listed first of all; reports whether it is.
     fn takes(&mut self, facts: &Facts) -> bool {
-        let may_pass = match &facts.access {
-            Some(access) => self.may_pass(access),
-            None => true,
-        };
-        if !may_pass || !self.is_prompt(facts) {
+        if !self.may_pass(facts.memory) || !self.is_prompt(facts) {
             return false;
         }
         let Some(words) = self.rise_to(facts) else {
