@@ -4,26 +4,23 @@ use crate::node::Node;
 use crate::resources::Resources;
 use std::alloc::AllocError;
 
-/// An instruction: the longer its way to the end the greater, of two with ways of one length the earlier one.
-#[derive(Clone, Copy, PartialEq, Eq, PartialOrd, Ord)]
-struct Rank {
-    height: u32,
-    number: u32,
+// A rank's low bits are the number of an instruction: a block has fewer than 1,024 of them.
+const NUMBER_BITS: u32 = 10;
+
+/// Returns the rank of a node: the longer its way to the end the greater, of two with ways of one length that of the earlier one.
+fn rank_of(node: &Node, number: u32) -> u32 {
+    (node.height << NUMBER_BITS) | number
 }
 
-/// Those that wait for no other, the best one last. They lie in the memory of the graph, from this place on.
+/// Returns the number of the node of a rank.
+fn number_of(rank: u32) -> u32 {
+    rank % (1 << NUMBER_BITS)
+}
+
+/// The ranks of those that wait for no other, the best one last. They lie in the memory of the graph, from this place on.
 #[derive(Drop)]
 pub struct Free {
     from: usize,
-}
-
-/// Returns the rank of a node.
-fn rank_of(graph: &Graph, number: u32) -> Rank {
-    let height = match graph.nodes.get(number as usize) {
-        Some(node) => node.height,
-        None => 0,
-    };
-    Rank { height, number }
 }
 
 impl Free {
@@ -35,7 +32,8 @@ impl Free {
         for k in 0..graph.count() {
             if let Some(node) = graph.nodes.get(k as usize) {
                 if node.waits_for == 0 {
-                    free.insert(graph, k)?;
+                    let rank = rank_of(node, k);
+                    free.insert(graph, rank)?;
                 }
             }
         }
@@ -43,7 +41,7 @@ impl Free {
     }
 
     /// Returns the place of a rank.
-    fn place_of(&self, graph: &Graph, rank: Rank) -> usize {
+    fn place_of(&self, graph: &Graph, rank: u32) -> usize {
         let (mut low, mut high) = (self.from, graph.lists.len());
         for _ in 0..64 {
             if low >= high {
@@ -51,7 +49,7 @@ impl Free {
             }
             let middle = low.midpoint(high);
             match graph.lists.get(middle) {
-                Some(it) if rank_of(graph, *it) < rank => low = middle.saturating_add(1),
+                Some(it) if *it < rank => low = middle.saturating_add(1),
                 _ => high = middle,
             }
         }
@@ -59,13 +57,13 @@ impl Free {
     }
 
     /// Adds one at its place.
-    fn insert(&self, graph: &mut Graph, number: u32) -> Result<(), AllocError> {
-        let place = self.place_of(graph, rank_of(graph, number));
+    fn insert(&self, graph: &mut Graph, rank: u32) -> Result<(), AllocError> {
+        let place = self.place_of(graph, rank);
         if place >= graph.lists.len() {
-            graph.lists.push(number)?;
+            graph.lists.push(rank)?;
             return Ok(());
         }
-        match graph.lists.insert(place, number) {
+        match graph.lists.insert(place, rank) {
             Ok(()) => Ok(()),
             Err(_) => Err(AllocError),
         }
@@ -73,10 +71,13 @@ impl Free {
 
     /// Reports whether nothing delays the one at a place.
     fn may_come(graph: &Graph, place: usize, delayed: Resources) -> bool {
-        let Some(number) = graph.lists.get(place) else {
+        if delayed.is_empty() {
+            return true;
+        }
+        let Some(rank) = graph.lists.get(place) else {
             return false;
         };
-        match graph.nodes.get(*number as usize) {
+        match graph.nodes.get(number_of(*rank) as usize) {
             Some(node) => !node.facts.delayed().meets(delayed),
             None => false,
         }
@@ -95,10 +96,12 @@ impl Free {
     /// Takes out the best one that nothing delays.
     pub fn take_best(&self, graph: &mut Graph, delayed: Resources) -> Option<u32> {
         let place = self.best(graph, delayed)?;
-        if place.saturating_add(1) >= graph.lists.len() {
-            return graph.lists.pop();
-        }
-        Some(graph.lists.remove(place))
+        let rank = if place.saturating_add(1) >= graph.lists.len() {
+            graph.lists.pop()?
+        } else {
+            graph.lists.remove(place)
+        };
+        Some(number_of(rank))
     }
 
     /// Adds those that waited for an instruction alone, which stands now.
@@ -119,7 +122,8 @@ impl Free {
         };
         node.waits_for = node.waits_for.saturating_sub(1);
         if node.waits_for == 0 {
-            return self.insert(graph, k);
+            let rank = rank_of(node, k);
+            return self.insert(graph, rank);
         }
         Ok(())
     }

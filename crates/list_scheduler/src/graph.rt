@@ -12,8 +12,8 @@ use std::ops::Range;
 pub struct Graph {
     /// The instructions, the last one first.
     pub nodes: Vec<Node>,
-    /// The numbers of those that wait for a node, for one node after another, and then of those that may come next. One may be left out
-    /// that waits by way of others.
+    /// The numbers of those that wait for a node, for one node after another, and then the ranks of those that may come next. One may be left
+    /// out that waits by way of others.
     pub(crate) lists: Vec<u32>,
     // The height, so far, of the node that is linked.
     height: u32,
