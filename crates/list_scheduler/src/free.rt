@@ -105,8 +105,8 @@ impl Free {
     }
 
     /// Adds those that waited for an instruction alone, which stands now.
-    pub fn release_all(&self, graph: &mut Graph, k: u32, node: &Node) -> Result<(), AllocError> {
-        for i in graph.waiting_range(k, node) {
+    pub fn release_all(&self, graph: &mut Graph, node: &Node) -> Result<(), AllocError> {
+        for i in node.waiting_range() {
             let Some(later) = graph.lists.get(i).copied() else {
                 break;
             };

@@ -5,7 +5,6 @@ use crate::node::{Facts, Kept, NEXT, Node, PRODUCT_AFTER_MOVE};
 use crate::resources::Resources;
 use mblock::Exit;
 use std::alloc::{AllocError, Global};
-use std::ops::Range;
 
 /// The instructions of a block, and which of them wait for which.
 #[derive(Drop)]
@@ -56,13 +55,13 @@ impl Users {
         }
     }
 
-    /// Notes that an instruction reads a register, and returns the next reader.
-    fn read(&mut self, resource: usize, k: u32, which: u32) -> Link {
+    /// Notes that a register is read, and returns the next reader.
+    fn read(&mut self, resource: usize, reader: u32) -> Link {
         let Some(readers) = self.readers.get_mut(resource) else {
             return Link::NONE;
         };
         let next = *readers;
-        *readers = Link::to(k.wrapping_mul(2).wrapping_add(which));
+        *readers = Link::to(reader);
         next
     }
 }
@@ -73,24 +72,15 @@ impl Graph {
         u32::try_from(self.nodes.len()).unwrap_or(u32::MAX)
     }
 
-    /// Returns the places of those that wait for a node.
-    pub fn waiting_range(&self, k: u32, node: &Node) -> Range<usize> {
-        let before = match k.checked_sub(1) {
-            Some(before) => self.nodes.get(before as usize),
-            None => None,
-        };
-        let begin = match before {
-            Some(before) => before.waiting_end,
-            None => 0,
-        };
-        begin as usize..node.waiting_end as usize
+    /// Returns where the lists end.
+    fn place(&self) -> u32 {
+        u32::try_from(self.lists.len()).unwrap_or(u32::MAX)
     }
 
     /// Puts the node that is linked before a later one, at least so many words.
     pub(crate) fn put_before(&mut self, later: u32, words: u32) -> Result<(), AllocError> {
         if let Some(node) = self.nodes.get_mut(later as usize) {
-            node.waits_for = node.waits_for.saturating_add(1);
-            self.height = self.height.max(node.height.saturating_add(words));
+            self.height = self.height.max(node.follow(words));
         }
         self.lists.push(later)?;
         Ok(())
@@ -104,11 +94,12 @@ impl Graph {
                 break;
             };
             let reader = read / 2;
-            self.put_before(reader, words)?;
-            at = match self.nodes.get(reader as usize) {
-                Some(node) => node.readers[(read % 2) as usize],
-                None => Link::NONE,
+            let Some(node) = self.nodes.get_mut(reader as usize) else {
+                break;
             };
+            self.height = self.height.max(node.follow(words));
+            at = node.readers[(read % 2) as usize];
+            self.lists.push(reader)?;
         }
         Ok(())
     }
@@ -145,28 +136,42 @@ impl Graph {
         Ok(())
     }
 
-    /// Puts it before those that write what it reads, and notes that it does.
-    fn link_reads(&mut self, k: u32, facts: &Facts, users: &mut Users) -> Result<(), AllocError> {
+    /// Puts it before the writer of what it reads, and notes that it does; returns the next reader.
+    fn link_read(
+        &mut self,
+        reader: u32,
+        resource: usize,
+        words: u32,
+        users: &mut Users,
+    ) -> Result<Link, AllocError> {
+        if let Some(writer) = users.writer(resource) {
+            self.put_before(writer, words)?;
+        }
+        Ok(users.read(resource, reader))
+    }
+
+    /// Does so for all that it reads; returns the next reader of each.
+    fn link_reads(
+        &mut self,
+        k: u32,
+        facts: &Facts,
+        users: &mut Users,
+    ) -> Result<[Link; 2], AllocError> {
         let words = if facts.moves() {
             PRODUCT_AFTER_MOVE
         } else {
             NEXT
         };
-        let mut left = facts.reads.difference(facts.writes);
-        for which in 0..2 {
-            let Some((resource, others)) = left.split() else {
-                break;
-            };
-            if let Some(writer) = users.writer(resource) {
-                self.put_before(writer, words)?;
-            }
-            let next = users.read(resource, k, which);
-            if let Some(node) = self.nodes.get_mut(k as usize) {
-                node.readers[which as usize] = next;
-            }
-            left = others;
-        }
-        Ok(())
+        let reader = k.wrapping_mul(2);
+        let Some((resource, others)) = facts.reads.difference(facts.writes).split() else {
+            return Ok([Link::NONE; 2]);
+        };
+        let first = self.link_read(reader, resource, words, users)?;
+        let Some((resource, _)) = others.split() else {
+            return Ok([first, Link::NONE]);
+        };
+        let second = self.link_read(reader.wrapping_add(1), resource, words, users)?;
+        Ok([first, second])
     }
 
     /// Puts a node before all that have to stay after it, which are linked already.
@@ -181,16 +186,18 @@ impl Graph {
             return Ok(());
         };
         let facts = node.facts;
+        let begin = self.place();
         self.height = facts.words_to_exit(touched);
         self.link_writes(k, &facts, users)?;
-        self.link_reads(k, &facts, users)?;
+        let readers = self.link_reads(k, &facts, users)?;
         if let Some(accesses) = accesses {
             accesses.link(self, k, &facts)?;
         }
-        let end = u32::try_from(self.lists.len()).unwrap_or(u32::MAX);
+        let end = self.place();
         if let Some(node) = self.nodes.get_mut(k as usize) {
             node.height = self.height;
-            node.waiting_end = end;
+            node.waiting = (begin, end);
+            node.readers = readers;
         }
         Ok(())
     }

@@ -14,7 +14,7 @@ impl Link {
     /// Returns the link to a number.
     pub fn to(number: u32) -> Link {
         Link {
-            word: number.saturating_add(1),
+            word: number.wrapping_add(1),
         }
     }
 

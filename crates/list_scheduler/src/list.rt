@@ -69,7 +69,7 @@ fn list_words(graph: &mut Graph, free: &Free, list: &mut Vec<Plain>) -> Result<(
         };
         list.push(node.inst)?;
         delays.start(&node.facts);
-        free.release_all(graph, k, &node)?;
+        free.release_all(graph, &node)?;
         left = left.saturating_sub(1);
     }
     Ok(())

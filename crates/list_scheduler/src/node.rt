@@ -3,6 +3,7 @@ use crate::link::Link;
 use crate::resources::Resources;
 use mips_isa::{HiLo, Plain};
 use std::alloc::{AllocError, Global};
+use std::ops::Range;
 
 /// What an instruction does with memory.
 #[derive(Clone, Copy, PartialEq, Eq)]
@@ -141,8 +142,8 @@ pub struct Node {
     pub waits_for: u32,
     /// The words from it to the end of the block, at least.
     pub height: u32,
-    /// Where those that wait for it end, in the list of them all.
-    pub waiting_end: u32,
+    /// Where those that wait for it begin and end, in the list of them all.
+    pub waiting: (u32, u32),
     /// The next reader of each of the registers that it reads.
     pub readers: [Link; 2],
     /// The next access of its kind in its bucket.
@@ -158,10 +159,21 @@ impl Node {
             is_fixed: false,
             waits_for: 0,
             height: NEXT,
-            waiting_end: 0,
+            waiting: (0, 0),
             readers: [Link::NONE; 2],
             bucket: Link::NONE,
         }
+    }
+
+    /// Returns the places of those that wait for it.
+    pub fn waiting_range(&self) -> Range<usize> {
+        self.waiting.0 as usize..self.waiting.1 as usize
+    }
+
+    /// Counts one more before it; returns the height of one that is so many words before it.
+    pub fn follow(&mut self, words: u32) -> u32 {
+        self.waits_for = self.waits_for.wrapping_add(1);
+        self.height.wrapping_add(words)
     }
 }
 
