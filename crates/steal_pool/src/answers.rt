@@ -25,6 +25,8 @@ pub(crate) fn nones<O: Drop>(alloc: Global, n: usize) -> Vec<Option<O>>
     ensures none { All (λ x. x ≡ None) result.items }
 {
     let mut all = Vec::new(alloc);
+    // room for all, if it may be had at once
+    let _ = all.reserve(n);
     for _ in 0..n {
         if all.push(None).is_err() {
             break;
