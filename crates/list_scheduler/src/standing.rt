@@ -20,9 +20,9 @@ impl Level {
         written: Resources::NONE,
     };
 
-    /// Reports whether an instruction has to stay before one of these.
-    fn is_behind(&self, facts: &Facts) -> bool {
-        facts.writes.meets(self.touched) || facts.reads.meets(self.written)
+    /// Reports whether these read or write what an instruction writes.
+    fn uses(&self, facts: &Facts) -> bool {
+        facts.writes.meets(self.touched)
     }
 }
 
@@ -80,22 +80,25 @@ impl Standing {
 
     /// Returns how many words higher than the first of them one is that stands before them; None for one that is lower.
     fn rise_to(&self, facts: &Facts) -> Option<u32> {
-        let (above, level) = if facts.loads() {
-            if facts.writes.meets(self.top.touched) {
-                return Some(2);
-            }
-            let above = facts.writes.meets(self.second.touched) || self.top.is_behind(facts);
-            (above, facts.writes.meets(self.third.touched))
+        // a load stands two words before who uses it, the others one
+        let (two, one, level) = if facts.loads() {
+            (
+                self.top.uses(facts),
+                self.second.uses(facts),
+                self.third.uses(facts),
+            )
         } else {
-            (self.top.is_behind(facts), false)
+            (false, self.top.uses(facts), self.second.uses(facts))
         };
-        if above {
-            return Some(1);
+        if two {
+            Some(2)
+        } else if one || facts.reads.meets(self.top.written) {
+            Some(1)
+        } else if level || self.is_lowest || facts.reads.meets(self.second.written) {
+            Some(0)
+        } else {
+            None
         }
-        if self.is_lowest || level || self.second.is_behind(facts) {
-            return Some(0);
-        }
-        None
     }
 
     /// Makes room for the levels of so many words more.
