@@ -59,6 +59,14 @@ impl Order {
         self.insts.as_slice()
     }
 
+    /// Returns the instructions alone.
+    pub fn into_insts(self) -> Vec<Plain>
+        ensures { result.items ≡ self.insts }
+    {
+        let Order { insts, .. } = self;
+        insts
+    }
+
     /// Returns how it is left.
     pub fn exit(&self) -> Exit
         ensures { result ≡ self.now.exit }
