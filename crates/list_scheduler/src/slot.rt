@@ -1,8 +1,10 @@
 //! One slot is filled.
+ghost use Rattle.std.specs.Prelude.{◌<◌, IfSome, length};
+
 use crate::access::{Access, access_of};
 use crate::node::Facts;
 use crate::resources::Resources;
-use mblock::{Block, Order};
+use mblock::{Block, Order, plain};
 use mips_isa::Plain;
 use std::alloc::{AllocError, Global};
 
@@ -141,24 +143,22 @@ fn may_leave(order: &Order, k: usize) -> bool {
     }
 }
 
-/// Returns the order with its instruction k in the slot, if it keeps the delay rules without it in its place.
-fn move_to_slot(alloc: Global, order: &Order, k: usize) -> Result<Option<Order>, AllocError> {
-    let insts = order.insts();
-    let Some(slot) = insts.get(k) else {
-        return Ok(None);
-    };
-    if !may_leave(order, k) {
-        return Ok(None);
+/// Returns the order with its instruction k in the slot.
+fn move_to_slot(alloc: Global, block: &Block, order: Order, k: usize) -> Result<Order, AllocError>
+    requires { k < length order.insts }
+{
+    let exit = order.exit();
+    let mut insts = order.into_insts();
+    let slot = insts.remove(k);
+    match Order::new(insts, exit, Some(slot)) {
+        Some(filled) => Ok(filled),
+        None => plain(alloc, block),
     }
-    let mut left = Vec::with_capacity(alloc, insts.len())?;
-    left.extend_from_slice(insts.get(..k).unwrap_or_default())?;
-    left.extend_from_slice(insts.get(k.saturating_add(1)..).unwrap_or_default())?;
-    Ok(Order::new(left, order.exit(), Some(*slot)))
 }
 
 /// Returns the order with an instruction in its slot in place of a Nop. It is the last one that nothing after it depends on, and without
 /// which in its place no delay rule is broken. The order as it was, where it has no such instruction. An Err means out of memory.
-pub fn fill(alloc: Global, _block: &Block, order: Order) -> Result<Order, AllocError> {
+pub fn fill(alloc: Global, block: &Block, order: Order) -> Result<Order, AllocError> {
     let is_free = match order.slot() {
         Some(inst) => inst.is_nop(),
         None => false,
@@ -166,26 +166,25 @@ pub fn fill(alloc: Global, _block: &Block, order: Order) -> Result<Order, AllocE
     if !is_free {
         return Ok(order);
     }
-    match filled(alloc, &order)? {
-        Some(filled) => Ok(filled),
+    match last_movable(&order) {
+        Some(k) => move_to_slot(alloc, block, order, k),
         None => Ok(order),
     }
 }
 
-/// Returns the order with an instruction in its slot, if there is one that may stand there.
-fn filled(alloc: Global, order: &Order) -> Result<Option<Order>, AllocError> {
+/// Returns the number of the instruction that may stand in the slot.
+fn last_movable(order: &Order) -> Option<usize>
+    ensures { IfSome result (λ k. k < length order.now.insts) }
+{
+    let insts = order.insts();
     let mut passed = Passed::exit_of(order);
-    for k in (0..order.insts().len()).rev() {
-        let Some(inst) = order.insts().get(k) else {
-            return Ok(None);
-        };
+    for k in (0..insts.len()).rev() {
+        let inst = &insts[k];
         let facts = Facts::of(inst);
-        if passed.lets(k, inst, &facts) {
-            if let Some(filled) = move_to_slot(alloc, order, k)? {
-                return Ok(Some(filled));
-            }
+        if passed.lets(k, inst, &facts) && may_leave(order, k) {
+            return Some(k);
         }
         passed.take(&facts);
     }
-    Ok(None)
+    None
 }
