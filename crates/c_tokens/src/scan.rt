@@ -68,19 +68,15 @@ pub fn blank_length(text: &[u8]) -> usize
     ensures fits { result ≤ length text.now }
 {
     let mut n: usize = 0;
-    let mut rest = text;
-    'blanks: loop {
-        match split(rest) {
-            None => return n,
-            Some((byte, next)) => {
-                if !is_space(byte) {
-                    return n;
-                }
-                n += 1;
-                rest = next;
-            }
+    'blanks: while n < text.len() {
+        let byte = text[n];
+        // few texts have other control characters, so this test tells most bytes that begin a token
+        if byte > b' ' || !is_space(byte) {
+            return n;
         }
+        n += 1;
     }
+    n
 }
 
 /// Returns the length of the longest word at the front.
@@ -89,19 +85,13 @@ pub fn word_length(text: &[u8]) -> usize
     ensures fits { result ≤ length text.now }
 {
     let mut n: usize = 0;
-    let mut rest = text;
-    'word: loop {
-        match split(rest) {
-            None => return n,
-            Some((byte, next)) => {
-                if !is_word(byte) {
-                    return n;
-                }
-                n += 1;
-                rest = next;
-            }
+    'word: while n < text.len() {
+        if !is_word(text[n]) {
+            return n;
         }
+        n += 1;
     }
+    n
 }
 
 /// Returns the length of the run that a number begins: letters, digits, `_`, `.`, and a sign after an exponent's letter.

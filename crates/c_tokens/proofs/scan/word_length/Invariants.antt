@@ -1,9 +1,9 @@
-use Rattle.std.proofs.Common.{length}
+use Rattle.std.proofs.Common.{length, drop, ◌-◌}
 use Rattle.c_tokens.proofs.Scanning.{Words}
 use Rattle.c_tokens.proofs.scan.word_length.Given as goal
 
 abbrev pub invariant-word : goal.invariant-word
-invariant-word l = Words l.fn.text l.rest l.n
+invariant-word l = Words l.text (drop l.n l.text) l.n
 
 abbrev pub decreases-word : goal.decreases-word
-decreases-word l = length l.rest
+decreases-word l = length l.text - l.n
