@@ -67,6 +67,10 @@ nests (The Else) = true
 nests (The For) = true
 nests _ = false
 
+-- it ends no run, opens or closes no brace, and is neither `else` nor `for`
+abbrev pub is_plain : Token → Bool
+is_plain t = if ends_run t then false else (if nests t then false else true)
+
 -- how many tokens stand after the last `;`, `{` or `}`
 abbrev pub run_of : List Token → ℕ
 run_of [] = 0
@@ -81,6 +85,10 @@ open_of (t ∷ before) = if opens t then suc (open_of before) else (if closes t 
 abbrev pub nests_of : List Token → ℕ
 nests_of [] = 0
 nests_of (t ∷ before) = (if nests t then 1 else 0) + (if nat_eq (open_of before) 0 then 0 else nests_of before)
+
+-- how many of them count for the next token: none where no brace is open
+abbrev pub carried_of : List Token → ℕ
+carried_of before = if nat_eq (open_of before) 0 then 0 else nests_of before
 
 abbrev pub is_oversize : List Token → Bool
 is_oversize tokens = nat_lt MAX_RUN (run_of tokens) || nat_lt MAX_OPEN (open_of tokens) || nat_lt MAX_NESTED (nests_of tokens)
@@ -124,7 +132,7 @@ IsLexFault text NoMemory = Unit {0}
 pub record Counts (sizes : Sizes) (before : List Token) : Type 0 where
   pub run : sizes.run ≡ run_of before
   pub open_braces : sizes.open ≡ open_of before
-  pub nested : sizes.nested ≡ nests_of before
+  pub nested : sizes.nested ≡ carried_of before
 
 pub record Within (sizes : Sizes) : Type 0 where
   pub run : sizes.run ≤ MAX_RUN

@@ -1,8 +1,9 @@
 //! The sizes that a list of tokens keeps within.
 ghost use Rattle.c_tokens.specs.Numbers.{LimitsAreTheseNumbers};
-ghost use Rattle.std.specs.Prelude.{◌≡◌, ◌+◌, ◌-◌, ◌≤◌, suc, IfSome, IfNone, if◌then◌else◌};
-ghost use Rattle.c_tokens.specs.declared.sizes.TheConstants.{MAX_RUN, MAX_OPEN, MAX_NESTED};
-ghost use Rattle.c_tokens.specs.Texts.{Within, Counted, Oversize, ends_run, opens, closes, nests};
+ghost use Rattle.std.specs.Prelude.{◌≡◌, ◌≤◌, nat_eq, true, IfSome, IfNone, if◌then◌else◌};
+ghost use Rattle.c_tokens.specs.declared.token.Token.TheVariants.{The};
+ghost use Rattle.c_tokens.specs.declared.token.Mark.TheVariants.{LeftBrace, RightBrace};
+ghost use Rattle.c_tokens.specs.Texts.{Within, Counted, Oversize, nests, is_plain};
 
 use crate::token::{Mark, Token};
 
@@ -18,7 +19,8 @@ pub const MAX_OPEN: usize = 128;
 /// The most tokens `else` and `for` since no brace was open.
 pub const MAX_NESTED: usize = 512;
 
-/// How many tokens there are since the last `;`, `{` or `}`, open braces, and tokens `else` and `for` since no brace was open.
+/// How many tokens there are since the last `;`, `{` or `}`, open braces, and tokens `else` and `for` since no brace was open: 0 where
+/// none is.
 #[derive(Clone, Copy)]
 pub struct Sizes {
     pub run: usize,
@@ -26,38 +28,76 @@ pub struct Sizes {
     pub nested: usize,
 }
 
-/// Returns how many tokens stand after the last `;`, `{` or `}` once this one stands there.
-fn run_after(run: usize, token: &Token) -> usize
-    requires { run ≤ MAX_RUN }
-    ensures { result ≡ (if ends_run token.now then 0 else suc run) }
+/// Returns how many `else` and `for` count for the next token, when `nested` of them stand since no brace was open.
+fn carried(braces: usize, nested: usize) -> usize
+    ensures { result ≡ (if nat_eq braces 0 then 0 else nested) }
 {
-    match token {
-        Token::The(Mark::Semicolon | Mark::LeftBrace | Mark::RightBrace) => 0,
-        _ => run + 1,
+    if braces == 0 { 0 } else { nested }
+}
+
+/// Returns the counts after `{`, or None if it goes past a size.
+fn opened(sizes: Sizes) -> Option<Sizes>
+    requires { Within sizes }
+    ensures none { IfNone result (Oversize sizes (The LeftBrace)) }
+    ensures some { IfSome result (λ new. Counted sizes (The LeftBrace) new) }
+{
+    let open = sizes.open + 1;
+    if open > MAX_OPEN {
+        return None;
+    }
+    Some(Sizes {
+        run: 0,
+        open,
+        nested: sizes.nested,
+    })
+}
+
+/// Returns the counts after `}`.
+fn closed(sizes: Sizes) -> Sizes
+    requires { Within sizes }
+    ensures { Counted sizes (The RightBrace) result }
+{
+    let open = sizes.open.saturating_sub(1);
+    Sizes {
+        run: 0,
+        open,
+        nested: carried(open, sizes.nested),
     }
 }
 
-/// Returns how many braces are open after the token.
-fn open_after(braces: usize, token: &Token) -> usize
-    requires { braces ≤ MAX_OPEN }
-    ensures { result ≡ (if opens token.now then suc braces else (if closes token.now then braces - 1 else braces)) }
+/// Returns the counts after `else` or `for`, or None if it goes past a size.
+fn nested(sizes: Sizes) -> Option<Sizes>
+    requires { Within sizes }
+    ensures none { (t : Token) → nests t ≡ true → IfNone result (Oversize sizes t) }
+    ensures some { (t : Token) → nests t ≡ true → IfSome result (λ new. Counted sizes t new) }
 {
-    match token {
-        Token::The(Mark::LeftBrace) => braces + 1,
-        Token::The(Mark::RightBrace) => braces.saturating_sub(1),
-        _ => braces,
+    let run = sizes.run + 1;
+    let nested = sizes.nested + 1;
+    if run > MAX_RUN || nested > MAX_NESTED {
+        return None;
     }
+    Some(Sizes {
+        run,
+        open: sizes.open,
+        nested: carried(sizes.open, nested),
+    })
 }
 
-/// Returns how many `else` and `for` stand since no brace was open, with this token, after `nested` of them.
-fn nested_after(nested: usize, token: &Token) -> usize
-    requires { nested ≤ MAX_NESTED }
-    ensures { result ≡ (if nests token.now then 1 else 0) + nested }
+/// Returns the counts after a token that only makes the run longer, or None if it goes past a size.
+fn longer(sizes: Sizes) -> Option<Sizes>
+    requires { Within sizes }
+    ensures none { (t : Token) → is_plain t ≡ true → IfNone result (Oversize sizes t) }
+    ensures some { (t : Token) → is_plain t ≡ true → IfSome result (λ new. Counted sizes t new) }
 {
-    match token {
-        Token::The(Mark::Else | Mark::For) => nested + 1,
-        _ => nested,
+    let run = sizes.run + 1;
+    if run > MAX_RUN {
+        return None;
     }
+    Some(Sizes {
+        run,
+        open: sizes.open,
+        nested: sizes.nested,
+    })
 }
 
 /// Returns the counts after one more token, or None if it goes past a size.
@@ -66,16 +106,17 @@ pub fn count(sizes: Sizes, token: &Token) -> Option<Sizes>
     ensures none { IfNone result (Oversize sizes token.now) }
     ensures some { IfSome result (λ new. Counted sizes token.now new) }
 {
-    let nested = if sizes.open == 0 { 0 } else { sizes.nested };
-    let new = Sizes {
-        run: run_after(sizes.run, token),
-        open: open_after(sizes.open, token),
-        nested: nested_after(nested, token),
-    };
-    if new.run > MAX_RUN || new.open > MAX_OPEN || new.nested > MAX_NESTED {
-        return None;
+    match token {
+        Token::The(Mark::Semicolon) => Some(Sizes {
+            run: 0,
+            open: sizes.open,
+            nested: sizes.nested,
+        }),
+        Token::The(Mark::LeftBrace) => opened(sizes),
+        Token::The(Mark::RightBrace) => Some(closed(sizes)),
+        Token::The(Mark::Else | Mark::For) => nested(sizes),
+        _ => longer(sizes),
     }
-    Some(new)
 }
 
 /// States that each limit is the number that specs/Numbers.antt tells, so a change of one is a change there. A law: it computes nothing.
