@@ -100,21 +100,20 @@ pub fn run_length(text: &[u8]) -> usize
     ensures fits { result ≤ length text.now }
 {
     let mut n: usize = 0;
-    let mut rest = text;
     let mut after_exponent = false;
-    'run: loop {
-        match split(rest) {
-            None => return n,
-            Some((byte, next)) => {
-                if !goes_on(after_exponent, byte) {
-                    return n;
-                }
-                n += 1;
-                rest = next;
-                after_exponent = is_exponent(byte);
-            }
+    'run: while n < text.len() {
+        let byte = text[n];
+        // most bytes of numbers are digits
+        if is_digit(byte) {
+            after_exponent = false;
+        } else if goes_on(after_exponent, byte) {
+            after_exponent = is_exponent(byte);
+        } else {
+            return n;
         }
+        n += 1;
     }
+    n
 }
 
 /// Reports whether the two bytes stand at the front.
