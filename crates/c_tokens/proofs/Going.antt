@@ -1,5 +1,6 @@
 -- A place in a text that was reached token by token.
-use Rattle.std.proofs.Common.{◌≡◌, ◌≤◌, ◌+◌, ◌-◌, ℕ, suc, List, ◌++◌, ◌∷◌, [], length, drop, Bool, true, false, if◌then◌else◌, refl, subst, sym, arith, length-drop, append_assoc, append-nil}
+use Rattle.std.proofs.Common.{◌≡◌, ◌≤◌, ◌+◌, ◌-◌, ℕ, suc, List, ◌++◌, ◌∷◌, [], length, drop, Bool, true, false, if◌then◌else◌, refl, subst, sym, ap, ◌∙◌, arith, length-drop, append_assoc, append-nil}
+use Rattle.std.proofs.lemmas.List.{drop-drop}
 use Rattle.c_tokens.specs.Lexing.{is_space}
 use Rattle.c_tokens.specs.Fronts.{blank_length}
 use Rattle.c_tokens.proofs.Marks.{blank-step}
@@ -100,9 +101,15 @@ goes-blanks text (b ∷ bs) at tokens sizes g = go (λ d. goes-blanks text bs (a
     go more false h = let P : ℕ → Type 0 = λ x. LexGoes text (b ∷ bs) x tokens sizes in let e : at ≡ at + 0 = omega arith in subst P e g
 
 -- behind the blanks, as the code cuts them off
-pub goes-behind : (text rest front : List ℕ) (at n : ℕ) (tokens : List Token) (sizes : Sizes) → LexGoes text rest at tokens sizes
-    → n ≡ blank_length rest → front ≡ drop n rest → LexGoes text front (at + n) tokens sizes
-goes-behind text rest front at n tokens sizes g e f =
+pub goes-behind : (text front : List ℕ) (at place : ℕ) (tokens : List Token) (sizes : Sizes) → LexGoes text (drop at text) at tokens sizes
+    → place ≡ at + blank_length (drop at text) → front ≡ drop place text → LexGoes text front place tokens sizes
+goes-behind text front at place tokens sizes g e f =
+    let n = blank_length (drop at text) in
     let P : List ℕ → Type 0 = λ x. LexGoes text x (at + n) tokens sizes in
-    let Q : ℕ → Type 0 = λ x. LexGoes text (drop x rest) (at + x) tokens sizes in
-    subst P (sym f) (subst Q (sym e) (goes-blanks text rest at tokens sizes g))
+    let Q : ℕ → Type 0 = λ x. LexGoes text (drop x text) x tokens sizes in
+    let R : List ℕ → Type 0 = λ x. LexGoes text x place tokens sizes in
+    subst R (sym f) (subst Q (sym e) (subst P (drop-drop n at text) (goes-blanks text (drop at text) at tokens sizes g)))
+
+-- what is left after the next bytes
+pub left-after : (text front : List ℕ) (place n : ℕ) → front ≡ drop place text → drop (place + n) text ≡ drop n front
+left-after text front place n f = sym (drop-drop n place text) ∙ ap (drop n) (sym f)

@@ -12,7 +12,7 @@ use crate::constants::constant;
 use crate::fault::{LexFault, Refusal};
 use crate::keywords::word;
 use crate::scan::{
-    after, begins, blank_length, comment_length, escape_at, is_digit, is_letter, is_space,
+    after, after_blanks, begins, comment_length, escape_at, is_digit, is_letter, is_space,
     line_length, split,
 };
 use crate::sign::{sign, single};
@@ -180,7 +180,6 @@ pub fn tokens(alloc: Global, text: &[u8]) -> Result<Vec<Token>, LexFault>
 {
     // a token has a byte at least, so the list never grows; pages that no token reaches are never had
     let mut tokens = Vec::with_capacity(alloc, text.len())?;
-    let mut rest = text;
     let mut at: usize = 0;
     let mut sizes = Sizes {
         run: 0,
@@ -188,21 +187,15 @@ pub fn tokens(alloc: Global, text: &[u8]) -> Result<Vec<Token>, LexFault>
         nested: 0,
     };
     'lexemes: loop {
-        let blanks = blank_length(rest);
-        let front = after(rest, blanks);
-        let place = at + blanks;
-        match next_step(place as u32, front) {
+        let place = after_blanks(text, at);
+        match next_step(place as u32, after(text, place)) {
             Step::Done => return Ok(tokens),
-            Step::Skip(n) => {
-                rest = after(front, n);
-                at = place + n;
-            }
+            Step::Skip(n) => at = place + n,
             Step::Take(token, n) => match count(sizes, &token) {
                 None => return Err(LexFault::Refused(Refusal::BadSize, place)),
                 Some(new) => {
                     tokens.push_reserved(token);
                     sizes = new;
-                    rest = after(front, n);
                     at = place + n;
                 }
             },

@@ -1,5 +1,5 @@
 //! Classes of bytes, and how far a run of one class goes.
-ghost use Rattle.std.specs.Prelude.{◌≡◌, ◌∷◌, [], false, ◌<◌, ◌≤◌, length, drop, IfNone, IfSome};
+ghost use Rattle.std.specs.Prelude.{◌≡◌, ◌+◌, ◌∷◌, [], false, ◌<◌, ◌≤◌, length, drop, IfNone, IfSome};
 ghost use Rattle.c_tokens.specs.Lexing.{goes_on, is_word, is_exponent, is_space, is_letter, is_digit, comment_length, escape_at, is_front};
 ghost use Rattle.c_tokens.specs.Fronts.{blank_length, word_length, run_length, line_length};
 
@@ -62,29 +62,31 @@ pub fn after(text: &[u8], n: usize) -> &[u8]
     &text[n..]
 }
 
-/// Returns how many blanks stand at the front.
-pub fn blank_length(text: &[u8]) -> usize
-    ensures same { result ≡ blank_length text.now }
+/// Returns where the blanks end that stand at a place.
+pub fn after_blanks(text: &[u8], at: usize) -> usize
+    requires { at ≤ length text.now }
+    ensures same { result ≡ at + blank_length (drop at text.now) }
     ensures fits { result ≤ length text.now }
 {
-    let mut n: usize = 0;
-    'blanks: while n < text.len() {
-        let byte = text[n];
-        // few texts have other control characters, so this test tells most bytes that begin a token
+    let mut place = at;
+    'blanks: while place < text.len() {
+        let byte = text[place];
+        // few texts have other control characters, so the first test tells most bytes that begin a token
         if byte > b' ' || !is_space(byte) {
-            return n;
+            return place;
         }
-        n += 1;
+        place += 1;
     }
-    n
+    place
 }
 
-/// Returns the length of the longest word at the front.
+/// Returns the length of the longest word at the front, where one stands.
 pub fn word_length(text: &[u8]) -> usize
+    requires { 0 < word_length text.now }
     ensures same { result ≡ word_length text.now }
     ensures fits { result ≤ length text.now }
 {
-    let mut n: usize = 0;
+    let mut n: usize = 1;
     'word: while n < text.len() {
         if !is_word(text[n]) {
             return n;
