@@ -26,6 +26,12 @@ space-letter b h k = grind (arith, nat_tests)
 pub space-digit : (b : ℕ) → is_space b ≡ true → is_digit b ≡ true → ⊥
 space-digit b h k = grind (arith, nat_tests)
 
+pub letter-no-space : (b : ℕ) → is_letter b ≡ true → is_space b ≡ false
+letter-no-space b h = grind (arith, nat_tests)
+
+pub digit-no-space : (b : ℕ) → is_digit b ≡ true → is_space b ≡ false
+digit-no-space b h = grind (arith, nat_tests)
+
 pub letter-digit : (b : ℕ) → is_letter b ≡ true → is_digit b ≡ true → ⊥
 letter-digit b h k = grind (arith, nat_tests)
 

@@ -1,18 +1,17 @@
 -- A mark that is found from the first bytes is what stands at the front, and so is a name.
-use Rattle.std.proofs.Common.{◌≡◌, ℕ, List, [], ◌∷◌, Bool, true, false, Option, Some, None, refl, sym, ap, ◌∙◌, if◌then◌else◌, nat_eq, ◌&&◌, codes, subst, take}
-use Rattle.std.specs.Prelude.{IfSome}
+use Rattle.std.proofs.Common.{◌≡◌, ℕ, List, [], ◌∷◌, Bool, true, false, Option, Some, None, refl, sym, ap, ◌∙◌, if◌then◌else◌, nat_eq, ◌&&◌, codes, subst}
 use Rattle.c_tokens.specs.declared.token.Mark.{Mark}
-use Rattle.c_tokens.specs.declared.token.Token.TheVariants.{The, Name}
+use Rattle.c_tokens.specs.declared.token.Token.TheVariants.{The}
 use Rattle.c_tokens.specs.declared.lexer.Lexeme.{Lexeme}
-use Rattle.c_tokens.specs.declared.lexer.Lexeme.TheVariants.{Sign, Separator, Word}
+use Rattle.c_tokens.specs.declared.lexer.Lexeme.TheVariants.{Sign, Separator}
 use Rattle.c_tokens.specs.declared.lexer.Step.TheVariants.{Skip, Take}
-use Rattle.c_tokens.specs.Lexing.{is_space, is_letter, is_digit, is_front, signs, word_lexeme, keywords}
-use Rattle.c_tokens.specs.Fronts.{longest, longer, sign_lexeme, word_length, lexeme_of}
+use Rattle.c_tokens.specs.Lexing.{is_space, is_letter, is_digit, is_front, signs}
+use Rattle.c_tokens.specs.Fronts.{longest, longer, sign_lexeme, lexeme_of}
 use Rattle.c_tokens.specs.Pieces.{IsNext}
 use Rattle.c_tokens.specs.Texts.{IsStep}
 use Rattle.c_tokens.proofs.Beginning.{differs}
-use Rattle.c_tokens.proofs.Finding.{begins_well, all_begin, table-begins, space-letter}
-use Rattle.c_tokens.proofs.Fronts.{sign-front, space-front, word-front}
+use Rattle.c_tokens.proofs.Finding.{begins_well, all_begin, table-begins}
+use Rattle.c_tokens.proofs.Fronts.{sign-front, space-front}
 use Rattle.c_tokens.proofs.Pieces.{found}
 
 -- classes of bytes with which no spelling of the table begins
@@ -72,38 +71,21 @@ not-there c w b bs mark h = go (c b) refl
     go true k = let e : sign_lexeme (longest signs (b ∷ bs)) ≡ sign_lexeme None = ap sign_lexeme (no-spelling c w signs b bs table-begins k) in cc
     go false k = k
 
-mark-there : (text bs : List ℕ) (b : ℕ) (mark : Mark) → text ≡ b ∷ bs → (b ≡ 47 → ⊥) → sign_lexeme (longest signs text) ≡ Sign mark 1
+pub mark-there : (text : List ℕ) (mark : Mark) → sign_lexeme (longest signs text) ≡ Sign mark 1 → is_front (47 ∷ []) text ≡ false
     → lexeme_of text ≡ Sign mark 1
-mark-there text bs b mark e ne h =
-    let k : sign_lexeme (longest signs (b ∷ bs)) ≡ Sign mark 1 = ap (λ (x : List ℕ). sign_lexeme (longest signs x)) (sym e) ∙ h in
-    let d : nat_eq 47 b ≡ false = differs b 47 ne in
-    sign-front text bs b e (not-there is_space no-space b bs mark k) (not-there is_letter no-letter b bs mark k) (not-there is_digit no-digit b bs mark k)
-    (ap (is_front (codes "/*")) e ∙ ap (λ (x : Bool). x && is_front (42 ∷ []) bs) d)
-    (ap (is_front (codes "//")) e ∙ ap (λ (x : Bool). x && is_front (47 ∷ []) bs) d) ∙ h
-
-pub marks-there : (r : Option Mark) (text bs : List ℕ) (b : ℕ) → text ≡ b ∷ bs → (b ≡ 47 → ⊥)
-    → IfSome r (λ mark. sign_lexeme (longest signs text) ≡ Sign mark 1) → IfSome r (λ mark. lexeme_of text ≡ Sign mark 1)
-marks-there None text bs b e ne h = tt
-marks-there (Some mark) text bs b e ne h = mark-there text bs b mark e ne h
+mark-there [] mark h f = cc
+mark-there (b ∷ bs) mark h f =
+    sign-front (b ∷ bs) bs b refl (not-there is_space no-space b bs mark h) (not-there is_letter no-letter b bs mark h)
+    (not-there is_digit no-digit b bs mark h) (apart (nat_eq 47 b) (is_front (42 ∷ []) bs) f) (apart (nat_eq 47 b) (is_front (47 ∷ []) bs) f) ∙ h
+  where
+    apart : (x y : Bool) → x && true ≡ false → x && y ≡ false
+    apart false y e = refl
+    apart true y e = cc
 
 pub mark-step : (at : ℕ) (text : List ℕ) (mark : Mark) → lexeme_of text ≡ Sign mark 1 → IsStep at text (Take (The mark) 1)
 mark-step at text mark h =
     let P : Lexeme → Type 0 = λ x. IsNext text x in
     record { lexeme = Sign mark 1; next = subst P h (found text); step = refl }
-
-pub name-step : (at n : ℕ) (text : List ℕ) → lexeme_of text ≡ Word n → IsStep at text (Take (Name (record { at = at; length = n })) n)
-name-step at n text h =
-    let P : Lexeme → Type 0 = λ x. IsNext text x in
-    record { lexeme = Word n; next = subst P h (found text); step = refl }
-
--- a word that is no keyword
-pub name-there : (text bs : List ℕ) (b n : ℕ) → text ≡ b ∷ bs → is_letter b ≡ true → Word n ≡ word_lexeme keywords (take (word_length text) text)
-    → lexeme_of text ≡ Word n
-name-there text bs b n e h k = word-front text bs b e (no-blank (is_space b) refl) h ∙ sym k
-  where
-    no-blank : (x : Bool) → is_space b ≡ x → is_space b ≡ false
-    no-blank true f = absurd (space-letter b f h)
-    no-blank false f = f
 
 pub blank-step : (at b : ℕ) (bs : List ℕ) → is_space b ≡ true → IsStep at (b ∷ bs) (Skip 1)
 blank-step at b bs h =

@@ -1,8 +1,7 @@
 //! A text piece by piece: its tokens with their places, or the first refusal (C99 6.4).
-ghost use Rattle.std.specs.Prelude.{◌≡◌, ◌+◌, ◌<◌, ◌≤◌, ◌^◌, [], length, IfOk, IfErr, IfSome, List, ℕ};
-ghost use Rattle.c_tokens.specs.Lexing.{comment_length};
+ghost use Rattle.std.specs.Prelude.{◌≡◌, ◌∷◌, ◌+◌, ◌<◌, ◌≤◌, ◌^◌, [], false, length, IfOk, IfErr, List, ℕ};
+ghost use Rattle.c_tokens.specs.Lexing.{comment_length, is_letter, is_digit};
 ghost use Rattle.c_tokens.specs.Fronts.{lexeme_of, comment_lexeme, line_lexeme, line_length};
-ghost use Rattle.c_tokens.specs.declared.lexer.Lexeme.TheVariants.{Sign, Word};
 ghost use Rattle.c_tokens.specs.declared.token.Token.{Token};
 ghost use Rattle.c_tokens.specs.declared.sizes.TheConstants.{MAX_TEXT};
 ghost use Rattle.c_tokens.specs.declared.fault.Refusal.{Refusal};
@@ -70,23 +69,18 @@ fn line(rest: &[u8]) -> Lexeme
     }
 }
 
-/// Returns what stands at the front.
-fn next(text: &[u8]) -> Lexeme
-    requires { length text.now < 2 ^ 32 }
+/// Returns what stands at the front where neither a word nor a number does: white space, a comment, an operator or a bracket.
+#[inline(never)]
+fn other(first: u8, rest: &[u8], text: &[u8]) -> Lexeme
+    requires narrow { length text.now < 2 ^ 32 }
+    requires front { text.now ≡ first ∷ rest.now }
+    requires letter { is_letter first ≡ false }
+    requires digit { is_digit first ≡ false }
     ensures same { result ≡ lexeme_of text.now }
     ensures fits { Fits result (length text.now) }
 {
-    let Some((byte, rest)) = split(text) else {
-        return Lexeme::End;
-    };
-    if is_space(byte) {
+    if is_space(first) {
         return Lexeme::Separator(1);
-    }
-    if is_letter(byte) {
-        return word(text);
-    }
-    if is_digit(byte) {
-        return constant(text);
     }
     if begins(text, b'/', b'*') {
         return comment(after(rest, 1));
@@ -95,6 +89,24 @@ fn next(text: &[u8]) -> Lexeme
         return line(after(rest, 1));
     }
     sign(text)
+}
+
+/// Returns what stands at the front.
+fn next(text: &[u8]) -> Lexeme
+    requires { length text.now < 2 ^ 32 }
+    ensures same { result ≡ lexeme_of text.now }
+    ensures fits { Fits result (length text.now) }
+{
+    let Some((first, rest)) = split(text) else {
+        return Lexeme::End;
+    };
+    if is_letter(first) {
+        return word(text);
+    }
+    if is_digit(first) {
+        return constant(text);
+    }
+    other(first, rest, text)
 }
 
 fn step_at(at: u32, lexeme: Lexeme) -> Step
@@ -116,37 +128,7 @@ fn step_at(at: u32, lexeme: Lexeme) -> Step
     }
 }
 
-/// Returns the mark at the front, if one or two bytes tell which it is. Most tokens are such marks.
-fn mark_at(text: &[u8]) -> Option<Mark>
-    ensures same { IfSome result (λ mark. lexeme_of text.now ≡ Sign mark 1) }
-    ensures fits { IfSome result (λ mark. 0 < length text.now) }
-{
-    let (first, _) = split(text)?;
-    if first == b'/' {
-        return None;
-    }
-    single(text)
-}
-
-/// Returns the length of the name at the front, or 0 if none stands there.
-fn name_length(text: &[u8]) -> usize
-    ensures same { 0 < result → lexeme_of text.now ≡ Word result }
-    ensures fits { result ≤ length text.now }
-{
-    let Some((first, _)) = split(text) else {
-        return 0;
-    };
-    if !is_letter(first) {
-        return 0;
-    }
-    match word(text) {
-        Lexeme::Word(length) => length,
-        _ => 0,
-    }
-}
-
 /// Returns the step at a place where any piece may stand.
-#[inline(never)]
 fn any_step(at: u32, text: &[u8]) -> Step
     requires { length text.now < 2 ^ 32 }
     ensures found { IsStep at text.now result }
@@ -155,21 +137,16 @@ fn any_step(at: u32, text: &[u8]) -> Step
     step_at(at, next(text))
 }
 
-/// Returns the step at a place.
+/// Returns the step at a place. Most tokens are marks that one or two bytes tell.
 fn next_step(at: u32, text: &[u8]) -> Step
     requires { length text.now < 2 ^ 32 }
     ensures found { IsStep at text.now result }
     ensures fits { StepFits result (length text.now) }
 {
-    if let Some(mark) = mark_at(text) {
-        return Step::Take(Token::The(mark), 1);
+    match single(text) {
+        Some(mark) => Step::Take(Token::The(mark), 1),
+        None => any_step(at, text),
     }
-    let n = name_length(text);
-    if n == 0 {
-        return any_step(at, text);
-    }
-    let length = n as u32;
-    Step::Take(Token::Name(Identifier { at, length }), n)
 }
 
 /// Returns the tokens of a text.

@@ -71,8 +71,8 @@ pub fn after_blanks(text: &[u8], at: usize) -> usize
     let mut place = at;
     'blanks: while place < text.len() {
         let byte = text[place];
-        // few texts have other control characters, so the first test tells most bytes that begin a token
-        if byte > b' ' || !is_space(byte) {
+        // few texts have other control characters, so the first two tests tell most bytes
+        if byte > b' ' || (byte != b' ' && !is_space(byte)) {
             return place;
         }
         place += 1;

@@ -1,5 +1,5 @@
 //! Operators and punctuators: the longest one at the front of a text (C99 6.4.6).
-ghost use Rattle.std.specs.Prelude.{◌≡◌, ◌<◌, false, length, map, IfSome};
+ghost use Rattle.std.specs.Prelude.{◌≡◌, ◌<◌, ◌∷◌, [], false, length, map, IfSome};
 ghost use Rattle.c_tokens.specs.Lexing.{is_front, signs};
 ghost use Rattle.c_tokens.specs.Fronts.{beginning, longest, longer, sign_lexeme, is_second, may_continue};
 ghost use Rattle.c_tokens.specs.Spellings.{bytes_of, entry_of, maybe_entry_of};
@@ -40,9 +40,10 @@ fn is_second(byte: u8) -> bool
     )
 }
 
-/// Returns the mark of the byte at the front, if it is known that no longer spelling stands there.
+/// Returns the mark of the byte at the front, if it is known that no longer spelling stands there, and no comment.
 pub fn single(text: &[u8]) -> Option<Mark>
     ensures same { IfSome result (λ mark. sign_lexeme (longest signs text.now) ≡ Sign mark 1) }
+    ensures apart { IfSome result (λ mark. is_front (47 ∷ []) text.now ≡ false) }
     ensures fits { IfSome result (λ mark. 0 < length text.now) }
 {
     let (first, rest) = split(text)?;
@@ -61,7 +62,6 @@ pub fn single(text: &[u8]) -> Option<Mark>
         b'+' => alone(Mark::Plus, rest),
         b'-' => alone(Mark::Minus, rest),
         b'*' => alone(Mark::Star, rest),
-        b'/' => alone(Mark::Slash, rest),
         b'%' => alone(Mark::Percent, rest),
         b'<' => alone(Mark::LessSign, rest),
         b'>' => alone(Mark::GreaterSign, rest),

@@ -1,31 +1,12 @@
-use Rattle.std.proofs.Common.{sym, ◌∙◌, ap, List, ℕ}
-use Rattle.c_tokens.specs.Lexing.{comment_length}
-use Rattle.c_tokens.specs.Fronts.{comment_lexeme, line_lexeme, line_length}
-use Rattle.c_tokens.proofs.Fronts.{space-front, word-front, constant-front, comment-front, line-front, sign-front}
+use Rattle.std.proofs.Common.{sym, ◌∙◌}
+use Rattle.c_tokens.proofs.Fronts.{word-front, constant-front}
+use Rattle.c_tokens.proofs.Finding.{letter-no-space, digit-no-space}
 use Rattle.c_tokens.proofs.lexer.next.Goals as goal
 
-pub returns-then-is_space-clause-same : goal.returns-then-is_space-clause-same
-returns-then-is_space-clause-same c = sym (space-front _ _ _ c.in-Some.ensures.some (sym c.if-is_space.ensures))
-
 pub returns-then-is_letter-clause-same : goal.returns-then-is_letter-clause-same
-returns-then-is_letter-clause-same c = c.word.ensures.same ∙ sym (word-front _ _ _ c.in-Some.ensures.some (sym c.if-is_space.ensures)
-    (sym c.if-is_letter.ensures))
+returns-then-is_letter-clause-same c = c.word.ensures.same ∙ sym (word-front _ _ _ c.in-Some.ensures.some
+    (letter-no-space c.in-Some.first (sym c.if-is_letter.ensures)) (sym c.if-is_letter.ensures))
 
 pub returns-then-is_digit-clause-same : goal.returns-then-is_digit-clause-same
-returns-then-is_digit-clause-same c = c.constant.ensures.same ∙ sym (constant-front _ _ _ c.in-Some.ensures.some (sym c.if-is_space.ensures)
-    (sym c.if-is_letter.ensures) (sym c.if-is_digit.ensures))
-
-pub returns-then-begins-clause-same : goal.returns-then-begins-clause-same
-returns-then-begins-clause-same c = c.comment.ensures.same ∙ ap (λ (x : List ℕ). comment_lexeme (comment_length x) x) c.after.ensures ∙
-    sym (comment-front _ _ _ c.in-Some.ensures.some (sym c.if-is_space.ensures) (sym c.if-is_letter.ensures) (sym c.if-is_digit.ensures)
-    (sym c.if-begins.ensures))
-
-pub returns-then-begins-2-clause-same : goal.returns-then-begins-2-clause-same
-returns-then-begins-2-clause-same c = c.line.ensures.same ∙ ap (λ (x : List ℕ). line_lexeme (line_length x) x) c.after-then-begins-2.ensures ∙
-    sym (line-front _ _ _ c.in-Some.ensures.some (sym c.if-is_space.ensures) (sym c.if-is_letter.ensures) (sym c.if-is_digit.ensures) (sym c.if-begins.ensures)
-    (sym c.if-begins-2.ensures))
-
-pub returns-clause-same : goal.returns-clause-same
-returns-clause-same c = c.sign.ensures.same ∙
-    sym (sign-front _ _ _ c.in-Some.ensures.some (sym c.if-is_space.ensures) (sym c.if-is_letter.ensures) (sym c.if-is_digit.ensures) (sym c.if-begins.ensures)
-    (sym c.if-begins-2.ensures))
+returns-then-is_digit-clause-same c = c.constant.ensures.same ∙ sym (constant-front _ _ _ c.in-Some.ensures.some
+    (digit-no-space c.in-Some.first (sym c.if-is_digit.ensures)) (sym c.if-is_letter.ensures) (sym c.if-is_digit.ensures))

@@ -44,9 +44,6 @@ returns-in-45-clause-same c = alone-there _ _ _ _ 45 _ c.in_ok-first.ensures.som
 pub returns-in-42-clause-same : goal.returns-in-42-clause-same
 returns-in-42-clause-same c = alone-there _ _ _ _ 42 _ c.in_ok-first.ensures.some c.in-42.is c.alone-in-42.ensures refl
 
-pub returns-in-47-clause-same : goal.returns-in-47-clause-same
-returns-in-47-clause-same c = alone-there _ _ _ _ 47 _ c.in_ok-first.ensures.some c.in-47.is c.alone-in-47.ensures refl
-
 pub returns-in-37-clause-same : goal.returns-in-37-clause-same
 returns-in-37-clause-same c = alone-there _ _ _ _ 37 _ c.in_ok-first.ensures.some c.in-37.is c.alone-in-37.ensures refl
 
