@@ -4,6 +4,7 @@ pub mod Going
 pub mod Fronts
 pub mod Limits
 pub mod Shapes
+pub mod Decimals
 pub mod Finding
 pub mod Numbers
 pub mod Pieces

@@ -1,5 +1,5 @@
 -- How the front of a text is cut: the words of the private functions, which find the longest piece.
-use Rattle.std.specs.Prelude.{◌+◌, ℕ, suc, List, [], ◌∷◌, length, drop, take, Bool, true, false, nat_eq, nat_lt, if◌then◌else◌, ◌||◌, Option}
+use Rattle.std.specs.Prelude.{◌≡◌, ◌≤◌, ◌+◌, ℕ, suc, List, [], ◌∷◌, length, drop, take, Bool, true, false, nat_eq, nat_lt, if◌then◌else◌, ◌||◌, Option}
 use Rattle.std.specs.Prelude.{Some, None, codes}
 use Rattle.c_tokens.specs.declared.token.Mark.{Mark}
 use Rattle.c_tokens.specs.declared.lexer.Lexeme.{Lexeme}
@@ -7,7 +7,7 @@ use Rattle.c_tokens.specs.declared.lexer.Lexeme.TheVariants.{End, Separator, Sig
 use Rattle.c_tokens.specs.Lexing.{is_space, is_letter, is_digit, is_word, is_exponent, goes_on, is_front, comment_length, escape_at, signs}
 use Rattle.c_tokens.specs.Lexing.{keywords}
 use Rattle.c_tokens.specs.Lexing.{word_lexeme}
-use Rattle.c_tokens.specs.Digits.{constant_lexeme}
+use Rattle.c_tokens.specs.Digits.{constant_lexeme, digits_of, is_suffix, last_or}
 
 abbrev pub blank_length : List ℕ → ℕ
 blank_length [] = 0
@@ -85,3 +85,12 @@ word_at b bs = if is_letter b then word_lexeme keywords (take (word_length (b �
 abbrev pub lexeme_of : List ℕ → Lexeme
 lexeme_of [] = End
 lexeme_of (b ∷ bs) = if is_space b then Separator 1 else word_at b bs
+
+-- the first `n` bytes of a text are decimal digits that spell `v`; so much is left to a run, a number and the last byte that go on behind them
+pub record SpellsSoFar (text : List ℕ) (n v : ℕ) : Type 0 where
+  pub within : n ≤ length text
+  pub run : run_length false text ≡ n + run_length false (drop n text)
+  pub number : (m : ℕ) → digits_of 10 0 (take (n + m) text) ≡ digits_of 10 v (take m (drop n text))
+  pub last : ℕ
+  pub plain : is_suffix last ≡ false
+  pub ends : (m : ℕ) → last_or 0 (take (n + m) text) ≡ last_or last (take m (drop n text))

@@ -1,12 +1,12 @@
 //! Constants, their value and their type (C99 6.4.4.1).
-ghost use Rattle.std.specs.Prelude.{◌≡◌, ◌<◌, ◌≤◌, ◌^◌, length, take, false};
+ghost use Rattle.std.specs.Prelude.{◌≡◌, ◌<◌, ◌≤◌, ◌^◌, length, take, false, IfSome};
 ghost use Rattle.c_tokens.specs.Digits.{constant_type, constant_lexeme, digit_of, digits_of, up_to, is_suffix, plain_of, digits_in};
 ghost use Rattle.c_tokens.specs.Digits.{last_or, greatest_of};
-ghost use Rattle.c_tokens.specs.Fronts.{run_length};
+ghost use Rattle.c_tokens.specs.Fronts.{run_length, SpellsSoFar};
 ghost use Rattle.c_tokens.specs.Texts.{Fits};
 
 use crate::lexer::Lexeme;
-use crate::scan::{is_digit, run_length, split};
+use crate::scan::{is_digit, run_ends, run_length, split};
 use crate::token::{IntegerType, Literal};
 
 /// Returns a constant.
@@ -15,7 +15,54 @@ pub fn constant(text: &[u8]) -> Lexeme
     ensures same { result ≡ constant_lexeme (take (run_length false text.now) text.now) }
     ensures fits { Fits result (length text.now) }
 {
-    constant_of(&text[..run_length(text)])
+    match decimal(text) {
+        Some(lexeme) => lexeme,
+        None => constant_of(&text[..run_length(text)]),
+    }
+}
+
+/// Returns the constant of at most nine decimal digits that stands at the front, if it is known to be one. Most constants are such.
+fn decimal(text: &[u8]) -> Option<Lexeme>
+    ensures same { IfSome result (λ lexeme. lexeme ≡ constant_lexeme (take (run_length false text.now) text.now)) }
+    ensures fits { IfSome result (λ lexeme. Fits lexeme (length text.now)) }
+{
+    let (value, n) = first_digits(text);
+    if n == 0 || text[0] == b'0' {
+        return None;
+    }
+    let (integer_type, end) = if n < text.len() && is_suffix(text[n]) {
+        (IntegerType::UnsignedInt, n + 1)
+    } else {
+        (IntegerType::SignedInt, n)
+    };
+    if !run_ends(text, end) {
+        return None;
+    }
+    Some(Lexeme::Numeral(
+        Literal {
+            value,
+            integer_type,
+        },
+        end,
+    ))
+}
+
+/// Returns the number that the first digits spell, as far as it is below 10^9, and how many digits that are.
+fn first_digits(text: &[u8]) -> (u32, usize)
+    ensures spells { SpellsSoFar text.now result.1 result.0 }
+    ensures low { result.0 < 10 ^ 9 }
+{
+    let mut value: u32 = 0;
+    let mut n: usize = 0;
+    'digits: while n < text.len() {
+        let byte = text[n];
+        if value >= 100_000_000 || !is_digit(byte) {
+            return (value, n);
+        }
+        value = value * 10 + (byte - b'0') as u32;
+        n += 1;
+    }
+    (value, n)
 }
 
 /// Returns the constant that a run is.

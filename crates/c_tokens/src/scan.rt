@@ -1,5 +1,5 @@
 //! Classes of bytes, and how far a run of one class goes.
-ghost use Rattle.std.specs.Prelude.{◌≡◌, ◌+◌, ◌∷◌, [], false, ◌<◌, ◌≤◌, length, drop, IfNone, IfSome};
+ghost use Rattle.std.specs.Prelude.{◌≡◌, ◌+◌, ◌∷◌, [], true, false, ◌<◌, ◌≤◌, length, drop, IfNone, IfSome};
 ghost use Rattle.c_tokens.specs.Lexing.{goes_on, is_word, is_exponent, is_space, is_letter, is_digit, comment_length, escape_at, is_front};
 ghost use Rattle.c_tokens.specs.Fronts.{blank_length, word_length, run_length, line_length};
 
@@ -116,6 +116,14 @@ pub fn run_length(text: &[u8]) -> usize
         n += 1;
     }
     n
+}
+
+/// Reports whether a number's run ends at a place where none of its letters is an exponent's.
+pub fn run_ends(text: &[u8], at: usize) -> bool
+    requires { at ≤ length text.now }
+    ensures { result ≡ true → run_length false (drop at text.now) ≡ 0 }
+{
+    at == text.len() || !goes_on(false, text[at])
 }
 
 /// Reports whether the two bytes stand at the front.
