@@ -17,7 +17,8 @@ use std::alloc::{AllocError, AllocFailed, Global};
 fn is_text(byte: u8) -> bool
     ensures { result ≡ is_text byte }
 {
-    (b' ' <= byte && byte <= b'~') || byte == b'\t' || byte == b'\n' || byte == b'\r'
+    // (one comparison tells the bytes from b' ' to b'~', which most are)
+    byte.wrapping_sub(b' ') <= b'~' - b' ' || matches!(byte, b'\t' | b'\n' | b'\r')
 }
 
 /// Returns what is wrong with the size or the bytes of a text.
