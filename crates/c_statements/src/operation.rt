@@ -81,9 +81,10 @@ pub fn binary(
     ensures ok { IfOk result (MadeOfTwo left right (IsBinary operator)) }
     ensures err { IfErr result (StopsTwo left right) }
 {
-    let (left, right) = both(left, right)?;
+    let operands = Box::new(alloc, both(left, right)?)?;
+    let (left, right) = &*operands;
     let integer_type = operation(operator, left.integer_type(), right.integer_type());
-    Ok(TypedExpression::Binary(operator, integer_type, Box::new(alloc, (left, right))?))
+    Ok(TypedExpression::Binary(operator, integer_type, operands))
 }
 
 /// Returns a choice between two values by a test, in the common type of the values.
