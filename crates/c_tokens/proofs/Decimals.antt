@@ -13,18 +13,6 @@ use Rattle.c_tokens.specs.Fronts.{run_length, SpellsSoFar}
 use Rattle.c_tokens.proofs.Finding.{digit-goes}
 use Rattle.c_tokens.proofs.Limits.{constant-some}
 
-pub spells-first : (text : List ℕ) → SpellsSoFar text 0 0
-spells-first text =
-    let start : (m : ℕ) → 0 + m ≡ m = λ m. omega arith in
-    record {
-      within = omega arith;
-      run = omega arith;
-      number = λ m. ap (λ (k : ℕ). digits_of 10 0 (take k text)) (start m);
-      last = 0;
-      plain = refl;
-      ends = λ m. ap (λ (k : ℕ). last_or 0 (take k text)) (start m);
-    }
-
 no-exponent : (b : ℕ) → is_digit b ≡ true → is_exponent b ≡ false
 no-exponent b h = grind (arith, nat_tests)
 

@@ -21,20 +21,6 @@ pub record LexGoes (text rest : List ℕ) (at : ℕ) (tokens : List Token) (size
   pub stops : (r : Refusal) (k : ℕ) → LexStops at rest before r k → LexStops 0 text [] r k
   pub place : at + length rest ≡ length text
 
-pub goes-first : (text : List ℕ) (tokens : List Token) (sizes : Sizes) → tokens ≡ [] → sizes.run ≡ 0 → sizes.open ≡ 0
-    → sizes.nested ≡ 0 → LexGoes text text 0 tokens sizes
-goes-first text tokens sizes p a b c =
-    let P : List Token → Type 0 = λ x. (ts : List Token) (ks : List ℕ) → Lexes 0 text [] ts ks → Lexes 0 text [] (x ++ ts) ks in
-    record {
-      before = [];
-      places = [];
-      counts = record { run = a; open_braces = b; nested = c };
-      within = record { run = omega (arith, a); open_braces = omega (arith, b); nested = omega (arith, c) };
-      lexes = subst P (sym p) (λ ts ks d. d);
-      stops = λ r k d. d;
-      place = omega arith;
-    }
-
 pub goes-end : (text rest : List ℕ) (at : ℕ) (tokens : List Token) (sizes : Sizes) → LexGoes text rest at tokens sizes
     → IsStep at rest Done → (places : List ℕ) × Lexes 0 text [] tokens places
 goes-end text rest at tokens sizes g e =

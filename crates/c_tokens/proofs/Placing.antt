@@ -1,5 +1,5 @@
 -- The places of a text's tokens, token by token.
-use Rattle.std.proofs.Common.{◌≡◌, ◌≤◌, ◌+◌, ℕ, List, ◌++◌, ◌∷◌, [], length, drop, refl, subst, sym, ap, ◌∙◌, arith, append_assoc, append-nil}
+use Rattle.std.proofs.Common.{◌≡◌, ◌≤◌, ◌+◌, ℕ, List, ◌++◌, ◌∷◌, [], length, drop, refl, subst, sym, ap, ◌∙◌, append_assoc, append-nil}
 use Rattle.c_tokens.specs.declared.token.Token.{Token}
 use Rattle.c_tokens.specs.declared.lexer.Step.TheVariants.{Done, Skip, Take, Stop}
 use Rattle.c_tokens.specs.declared.fault.Refusal.{Refusal}
@@ -44,17 +44,6 @@ pub record IsPlacedSoFar (text rest : List ℕ) (at : ℕ) (places there : List 
 pub record PlacesGo (text rest : List ℕ) (at : ℕ) (places : List ℕ) : Type 0 where
   pub placed : (tokens : List Token) (there : List ℕ) → Lexes 0 text [] tokens there → IsPlacedSoFar text rest at places there
   pub place : at + length rest ≡ length text
-
-pub places-first : (text places : List ℕ) → places ≡ [] → PlacesGo text text 0 places
-places-first text places p =
-    record {
-      placed = λ tokens there d. record {
-        more = there;
-        whole = ap (λ (x : List ℕ). x ++ there) (sym p);
-        on = record { before = []; tokens = tokens; lexes = d };
-      };
-      place = omega arith;
-    }
 
 pub places-end : (text rest : List ℕ) (at : ℕ) (places : List ℕ) → PlacesGo text rest at places → IsStep at rest Done → ArePlaces text places
 places-end text rest at places g e = λ tokens there d.
