@@ -1,5 +1,5 @@
 //! The names in sight, scope by scope (C99 6.2.1).
-ghost use Rattle.std.specs.Prelude.{◌≡◌, OnOk, OnErr, is_some};
+ghost use Rattle.std.specs.Prelude.{◌≡◌, OnOk, OnErr, IfNone, IfSome, None, Some, is_some};
 ghost use Rattle.c_statements.specs.Shape.{bindings_of, scopes_of};
 ghost use Rattle.c_statements.specs.Names.{Scopes, named_in, environment_in, with_spelling, no_scopes, within};
 ghost use Rattle.c_statements.specs.Names.{outside, with_declared, with_local, without_locals, spelling_in};
@@ -23,16 +23,14 @@ pub struct Scopes<'a> {
 }
 
 /// Returns what a spelling stands for in a scope, if it is declared there. In a scope without names nothing is looked up.
-fn named_at(scope: &Scope<'_>, spelling: &[u8]) -> Option<Named>
-    ensures { result ≡ bindings_of scope.now spelling.now }
+fn named_at<'s>(scope: &'s Scope<'_>, spelling: &[u8]) -> Option<&'s Named>
+    ensures none { IfNone result (bindings_of scope.now spelling.now ≡ None) }
+    ensures some { IfSome result (λ named. bindings_of scope.now spelling.now ≡ Some named.now) }
 {
     if scope.is_empty() {
         return None;
     }
-    match scope.get(spelling) {
-        Some(named) => Some(*named),
-        None => None,
-    }
+    scope.get(spelling)
 }
 
 impl<'a> Scopes<'a> {
@@ -62,11 +60,11 @@ impl<'a> Scopes<'a> {
         ensures { result ≡ named_in (scopes_of self.now) spelling.now }
     {
         if let Some(named) = named_at(&self.inner, spelling) {
-            return Some(named);
+            return Some(*named);
         }
         for i in (0..self.around.len()).rev() {
             if let Some(named) = named_at(&self.around[i], spelling) {
-                return Some(named);
+                return Some(*named);
             }
         }
         None
