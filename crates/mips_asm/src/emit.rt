@@ -16,9 +16,17 @@ use crate::fault::AsmFault;
 use crate::limits::{CODE_WORDS, functions_fit};
 use crate::places::{places, size, total};
 use mblock::{BlockNumber, Exit, Order};
-use mips_code::encode;
+use mips_code::{encode, encode_plain};
 use mips_isa::{CODE_BASE, Control, ImmOp, Inst, JumpOp, JumpTarget, Plain, Reg};
 use std::alloc::{AllocError, Global};
+
+fn put_plain(code: &mut Vec<u32>, plain: Plain) -> Result<(), AllocError>
+    ensures word { OnOk result (code.new.items ≡ code.old.items ++ map inst_word (insts.Plain plain ∷ [])) }
+    ensures fit { Fit (insts.Plain plain ∷ []) }
+{
+    code.push(encode_plain(plain))?;
+    Ok(())
+}
 
 fn put(code: &mut Vec<u32>, inst: Inst) -> Result<(), AllocError>
     ensures word { OnOk result (code.new.items ≡ code.old.items ++ map inst_word (inst ∷ [])) }
@@ -44,7 +52,7 @@ fn put_hop(code: &mut Vec<u32>, place: u32) -> Result<(), AllocError>
     ensures fit { OnOk result (Fit (hop place)) }
 {
     put(code, jump_to(place))?;
-    put(code, Inst::Plain(Plain::nop()))
+    put_plain(code, Plain::nop())
 }
 
 fn put_slot(code: &mut Vec<u32>, slot: Option<Plain>) -> Result<(), AllocError>
@@ -53,7 +61,7 @@ fn put_slot(code: &mut Vec<u32>, slot: Option<Plain>) -> Result<(), AllocError>
 {
     match slot {
         None => Ok(()),
-        Some(plain) => put(code, Inst::Plain(plain)),
+        Some(plain) => put_plain(code, plain),
     }
 }
 
@@ -184,7 +192,7 @@ fn put_insts(code: &mut Vec<u32>, plain: &[Plain]) -> Result<(), AllocError>
     ensures fit { OnOk result (Fit (map insts.Plain plain.now)) }
 {
     for inst in plain {
-        put(code, Inst::Plain(*inst))?;
+        put_plain(code, *inst)?;
     }
     Ok(())
 }
