@@ -1,10 +1,10 @@
 -- The newest facts, in lists that end with them.
-use Rattle.std.proofs.Common.{◌≡◌, ℕ, zero, suc, ◌+◌, ◌-◌, ◌<◌, ◌≤◌, List, [], ◌∷◌, ◌++◌, take, get_or, length, Option, refl, sym, ap, ◌∙◌, arith, nat_eq}
+use Rattle.std.proofs.Common.{◌≡◌, ℕ, zero, suc, ◌+◌, ◌-◌, ◌<◌, ◌≤◌, List, [], ◌∷◌, ◌++◌, take, get_or, length, refl, sym, ap, ◌∙◌, arith, nat_eq}
 use Rattle.std.specs.Prelude.{reverse, if◌then◌else◌}
 use Rattle.std.proofs.lemmas.List.{reverse-append, length-reverse, take_more, take_all}
 use Rattle.mips_emit.specs.declared.limits.TheConstants.{KEPT_FACTS}
 use Rattle.mips_emit.specs.declared.facts.Fact.{Fact}
-use Rattle.mips_emit.specs.Locations.{known_of, newest, with_fact}
+use Rattle.mips_emit.specs.Locations.{known_of, newest}
 
 -- all of them are looked at, or the newest
 pub newest_last : (facts : List Fact) (forgotten : ℕ) → forgotten ≡ length facts - KEPT_FACTS

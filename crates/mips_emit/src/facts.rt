@@ -114,14 +114,14 @@ fn deferred_in(table: &[Option<u32>], r: NonzeroReg) -> Option<u32>
 }
 
 /// Returns the word that a location should hold but doesn't yet.
-fn deferred_at(table: &[Option<u32>], place: Option<Location>) -> Option<u32>
-    ensures { result ≡ deferred_at (word_in table.now) place }
+fn deferred_at(table: &[Option<u32>], place: &Option<Location>) -> Option<u32>
+    ensures { result ≡ deferred_at (word_in table.now) place.now }
 {
     match place {
         None => None,
         // (rattle 13f: a nested pattern through another crate's type ends in "a bug in rattle": CONTRIBUTING.md)
         Some(location) => match location {
-            Location::Held(r) => deferred_in(table, r),
+            Location::Held(r) => deferred_in(table, *r),
             Location::InSlot(_) => None,
             Location::Copied(_, _) => None,
         },
@@ -340,9 +340,10 @@ pub(crate) fn operand_by(
     ensures value { result ≡ operand (locations frame.now) (facts_of facts.now) x }
     ensures fits { FitsSource result }
 {
-    match deferred_at(&facts.deferred, locate(frame, x)) {
+    let place = locate(frame, x);
+    match deferred_at(&facts.deferred, &place) {
         Some(word) => word_source(word),
-        None => source_of(known, locate(frame, x)),
+        None => source_of(known, &place),
     }
 }
 
@@ -408,7 +409,7 @@ pub fn last_operand(
         None => operand(facts, frame, x),
         Some(y) => {
             if y == x {
-                Source::From(Location::Held(inner_of(locate(frame, x))))
+                Source::From(Location::Held(inner_of(&locate(frame, x))))
             } else {
                 operand(facts, frame, x)
             }

@@ -8,7 +8,7 @@ ghost use Rattle.words.specs.Words.{wrap};
 ghost use Rattle.rtl.specs.Programs.{IsInst};
 ghost use Rattle.mips_emit.specs.declared.location.Location.TheVariants.{Held};
 ghost use Rattle.mips_emit.specs.Frames.{IsReachable};
-ghost use Rattle.mips_emit.specs.Locations.{facts_of, fresh_of, inner_of, learned, locations, word_source, operand, known_after, FitsSource};
+ghost use Rattle.mips_emit.specs.Locations.{facts_of, fresh_of, inner_of, learned, locations, word_source, operand, known_after, FitsPlace, FitsSource};
 ghost use Rattle.mips_emit.specs.Comparisons.{FitsComparison, comparison_of, next_code, last_with, last_after, no_last, code_of_insts};
 ghost use Rattle.mips_emit.specs.Elements.{AreStarts, IsInReach, width_of};
 ghost use Rattle.mips_emit.specs.Code.{context_of, const_code, put_at, into, finish, op_code, holds_base, reach_with, load_code, store_code, inst_code};
@@ -65,13 +65,14 @@ fn emit_const(
     requires { IsReachable frame.now }
     ensures { Emits result code.old.items (const_code (locations frame.now d) (wrap word)) code.new.items }
 {
-    match locate(frame, d) {
+    let place = locate(frame, d);
+    match &place {
         None => Ok(()),
         // (rattle 13f: a nested pattern through another crate's type ends in "a bug in rattle": CONTRIBUTING.md)
         Some(location) => match location {
-            Location::Held(r) => emit_held(code, r, word),
-            Location::InSlot(_) => emit_put(code, Some(location), &word_source(word)),
-            Location::Copied(_, _) => emit_put(code, Some(location), &word_source(word)),
+            Location::Held(r) => emit_held(code, *r, word),
+            Location::InSlot(_) => emit_put(code, &place, &word_source(word)),
+            Location::Copied(_, _) => emit_put(code, &place, &word_source(word)),
         },
     }
 }
@@ -89,53 +90,49 @@ fn emit_move(
         (put_at (locations frame.now d) (operand (locations frame.now) (facts_of facts.now) a))
         code.new.items }
 {
-    emit_put(code, locate(frame, d), &operand(facts, frame, a))
+    emit_put(code, &locate(frame, d), &operand(facts, frame, a))
 }
 
-/// Emits an operator on two operands, into a pseudo-register.
+/// Emits an operator on two operands, into a location.
 fn emit_op_into(
     code: &mut Vec<Plain>,
-    frame: &Frame,
     op: Op,
-    d: Register,
+    place: &Option<Location>,
     x: &Operand,
     y: &Operand,
 ) -> Result<(), AllocError>
-    requires frame { IsReachable frame.now }
+    requires place { FitsPlace place.now }
     requires left { FitsSource x.now.source }
     requires right { FitsSource y.now.source }
-    ensures { Emits result code.old.items (op_code op (inner_of (locations frame.now d)) (into (locations frame.now d))
-        x.now y.now ++ finish (locations frame.now d)) code.new.items }
+    ensures { Emits result code.old.items (op_code op (inner_of place.now) (into place.now) x.now y.now ++ finish place.now) code.new.items }
 {
-    let inner = inner_of(locate(frame, d));
-    let rd = into_of(locate(frame, d)).reg();
-    emit_op(code, op, inner, rd, x, y)?;
-    emit_finish(code, locate(frame, d))
+    let rd = into_of(place).reg();
+    emit_op(code, op, inner_of(place), rd, x, y)?;
+    emit_finish(code, place)
 }
 
-/// Emits an element into a pseudo-register.
+/// Emits an element into a location.
 fn emit_load(
     code: &mut Vec<Plain>,
-    frame: &Frame,
     element: &Element,
     x: &Source,
-    d: Register,
+    place: &Option<Location>,
 ) -> Result<(), AllocError>
-    requires frame { IsReachable frame.now }
+    requires place { FitsPlace place.now }
     requires few { element.now.start ≤ UNIT_BYTES }
     requires near { IsInReach element.now.by }
     requires fits { FitsSource x.now }
     ensures { Emits result code.old.items
-        (load_code (locations frame.now d) element.now.width element.now.start element.now.by x.now)
+        (load_code place.now element.now.width element.now.start element.now.by x.now)
         code.new.items }
 {
-    let rt = into_of(locate(frame, d));
+    let rt = into_of(place);
     emit_element(code, element.width, element.start, &element.by, x)?;
     emit_one(
         code,
         element_load(element.width, rt, element.start, &element.by),
     )?;
-    emit_finish(code, locate(frame, d))
+    emit_finish(code, place)
 }
 
 /// Emits an operand into an element.
@@ -253,13 +250,13 @@ fn emit_inst(
         RInst::Bin(op, d, a, b) => {
             let x = operand_with(facts, frame, *a);
             let y = operand_with(facts, frame, *b);
-            emit_op_into(code, frame, *op, *d, &x, &y)
+            emit_op_into(code, *op, &locate(frame, *d), &x, &y)
         }
         RInst::Load(d, a, i) => {
             let known = known_word(facts, *i);
             let x = operand_by(facts, frame, *i, known);
             let element = element_at(setting, facts, *a, known, &x);
-            emit_load(code, frame, &element, &x, *d)
+            emit_load(code, &element, &x, &locate(frame, *d))
         }
         RInst::Store(a, i, b) => {
             let known = known_word(facts, *i);

@@ -98,58 +98,58 @@ pub(crate) fn locate(frame: &Frame, x: Register) -> Option<Location>
 }
 
 /// Returns the inner temporary of a location: the first or the third scratch register, in turn.
-pub(crate) fn inner_of(place: Option<Location>) -> NonzeroReg
-    ensures { result ≡ inner_of place }
+pub(crate) fn inner_of(place: &Option<Location>) -> NonzeroReg
+    ensures { result ≡ inner_of place.now }
 {
     match place {
         None => register(SCRATCH_1),
         // (rattle 13f: a nested pattern through another crate's type ends in "a bug in rattle": CONTRIBUTING.md)
         Some(location) => match location {
             Location::Held(r) => register(SCRATCH_3 - 2 * (r.index() % 2)),
-            Location::InSlot(k) => register(SCRATCH_1 + 2 * (k % 2) as u8),
+            Location::InSlot(k) => register(SCRATCH_1 + 2 * (*k % 2) as u8),
             Location::Copied(r, _) => register(SCRATCH_3 - 2 * (r.index() % 2)),
         },
     }
 }
 
 /// Returns a word that is known, or the register that holds it besides.
-fn known_source(word: u32, place: Option<Location>) -> Source
-    requires { FitsPlace place }
-    ensures value { result ≡ known_source word place }
+fn known_source(word: u32, place: &Option<Location>) -> Source
+    requires { FitsPlace place.now }
+    ensures value { result ≡ known_source word place.now }
     ensures fits { FitsSource result }
 {
     match place {
         None => Source::Word(word),
         // (rattle 13f: a nested pattern through another crate's type ends in "a bug in rattle": CONTRIBUTING.md)
         Some(location) => match location {
-            Location::Held(_) => Source::From(location),
+            Location::Held(_) => Source::From(*location),
             Location::InSlot(_) => Source::Word(word),
-            Location::Copied(r, _) => Source::From(Location::Held(r)),
+            Location::Copied(r, _) => Source::From(Location::Held(*r)),
         },
     }
 }
 
 /// Returns what an operand is of which no word is known.
-fn unknown_source(place: Option<Location>) -> Source
-    requires { FitsPlace place }
-    ensures value { result ≡ source None place }
+fn unknown_source(place: &Option<Location>) -> Source
+    requires { FitsPlace place.now }
+    ensures value { result ≡ source None place.now }
     ensures fits { FitsSource result }
 {
     match place {
         None => Source::Zero,
         // (rattle 13f: a nested pattern through another crate's type ends in "a bug in rattle": CONTRIBUTING.md)
         Some(location) => match location {
-            Location::Held(_) => Source::From(location),
-            Location::InSlot(_) => Source::From(location),
-            Location::Copied(r, _) => Source::From(Location::Held(r)),
+            Location::Held(_) => Source::From(*location),
+            Location::InSlot(_) => Source::From(*location),
+            Location::Copied(r, _) => Source::From(Location::Held(*r)),
         },
     }
 }
 
 /// Returns what an operand is, from the word that it is known to hold and where it is.
-pub(crate) fn source_of(known: Option<u32>, place: Option<Location>) -> Source
-    requires { FitsPlace place }
-    ensures value { result ≡ source known place }
+pub(crate) fn source_of(known: Option<u32>, place: &Option<Location>) -> Source
+    requires { FitsPlace place.now }
+    ensures value { result ≡ source known place.now }
     ensures fits { FitsSource result }
 {
     match known {

@@ -86,32 +86,32 @@ fn stays(t: NonzeroReg, x: &Source) -> bool
 }
 
 /// Returns the register into which a result is computed.
-pub(crate) fn into_of(place: Option<Location>) -> NonzeroReg
-    ensures { result ≡ into place }
+pub(crate) fn into_of(place: &Option<Location>) -> NonzeroReg
+    ensures { result ≡ into place.now }
 {
     match place {
-        None => inner_of(None),
+        None => inner_of(place),
         // (rattle 13f: a nested pattern through another crate's type ends in "a bug in rattle": CONTRIBUTING.md)
         Some(location) => match location {
-            Location::Held(r) => r,
-            Location::InSlot(_) => inner_of(Some(location)),
-            Location::Copied(r, _) => r,
+            Location::Held(r) => *r,
+            Location::InSlot(_) => inner_of(place),
+            Location::Copied(r, _) => *r,
         },
     }
 }
 
 /// Emits what stands after a result.
-pub(crate) fn emit_finish(code: &mut Vec<Plain>, place: Option<Location>) -> Result<(), AllocError>
-    requires { FitsPlace place }
-    ensures { Emits result code.old.items (finish place) code.new.items }
+pub(crate) fn emit_finish(code: &mut Vec<Plain>, place: &Option<Location>) -> Result<(), AllocError>
+    requires { FitsPlace place.now }
+    ensures { Emits result code.old.items (finish place.now) code.new.items }
 {
     match place {
         None => Ok(()),
         // (rattle 13f: a nested pattern through another crate's type ends in "a bug in rattle": CONTRIBUTING.md)
         Some(location) => match location {
             Location::Held(_) => Ok(()),
-            Location::InSlot(k) => emit_store_word(code, inner_of(Some(location)).reg(), 4 * k),
-            Location::Copied(r, k) => emit_store_word(code, r.reg(), 4 * k),
+            Location::InSlot(k) => emit_store_word(code, inner_of(place).reg(), 4 * *k),
+            Location::Copied(r, k) => emit_store_word(code, r.reg(), 4 * *k),
         },
     }
 }
@@ -119,26 +119,26 @@ pub(crate) fn emit_finish(code: &mut Vec<Plain>, place: Option<Location>) -> Res
 /// Emits an operand into a location; an Err means out of memory.
 pub(crate) fn emit_put(
     code: &mut Vec<Plain>,
-    place: Option<Location>,
+    place: &Option<Location>,
     x: &Source,
 ) -> Result<(), AllocError>
-    requires place { FitsPlace place }
+    requires place { FitsPlace place.now }
     requires source { FitsSource x.now }
-    ensures { Emits result code.old.items (put_at place x.now) code.new.items }
+    ensures { Emits result code.old.items (put_at place.now x.now) code.new.items }
 {
     match place {
         None => Ok(()),
         // (rattle 13f: a nested pattern through another crate's type ends in "a bug in rattle": CONTRIBUTING.md)
         Some(location) => match location {
-            Location::Held(r) => emit_bring(code, r, x),
+            Location::Held(r) => emit_bring(code, *r, x),
             Location::InSlot(k) => {
-                let inner = inner_of(Some(location));
+                let inner = inner_of(place);
                 emit_fetch(code, inner, x)?;
-                emit_store_word(code, operand_register(inner, x), 4 * k)
+                emit_store_word(code, operand_register(inner, x), 4 * *k)
             }
             Location::Copied(r, k) => {
-                emit_bring(code, r, x)?;
-                emit_store_word(code, r.reg(), 4 * k)
+                emit_bring(code, *r, x)?;
+                emit_store_word(code, r.reg(), 4 * *k)
             }
         },
     }

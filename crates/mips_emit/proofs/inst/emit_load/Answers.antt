@@ -1,13 +1,9 @@
-use Rattle.std.proofs.Common.{ap, ◌∙◌}
-use Rattle.mips_emit.specs.Code.{into, finish}
 use Rattle.mips_emit.proofs.Prefixes.{prefix_before, prefix_behind, at_prefix, in_two, emits_behind}
 use Rattle.mips_emit.proofs.inst.emit_load.Goals as goal
 
 pub returns : goal.returns
 returns c =
-    let rt = c.into_of-rt.ensures ∙ ap into c.locate.ensures.value in
-    let behind = ap finish c.locate-2.ensures.value in
-    rw (← rt, ← behind, ← c.element_load.ensures) (emits_behind c.emit_finish.result _ _ _ _ _
+    rw (← c.into_of-rt.ensures, ← c.element_load.ensures) (emits_behind c.emit_finish.result _ _ _ _ _
     (in_two _ _ _ _ _ c.in_ok-emit_element.ensures c.in_ok-emit_one.ensures) c.emit_finish.ensures)
 
 pub returns-in_err-emit_element : goal.returns-in_err-emit_element
@@ -17,7 +13,6 @@ returns-in_err-emit_element c =
 
 pub returns-in_err-emit_one : goal.returns-in_err-emit_one
 returns-in_err-emit_one c =
-    let rt = c.into_of-rt.ensures ∙ ap into c.locate.ensures.value in
     let from = c.from_residual-in_err-emit_one in
-    rw (← rt, ← c.element_load.ensures) (at_prefix from.result _ _ _ from.ensures.0
+    rw (← c.into_of-rt.ensures, ← c.element_load.ensures) (at_prefix from.result _ _ _ from.ensures.0
     (prefix_before _ _ _ _ (prefix_behind _ _ _ _ _ c.in_ok-emit_element.ensures c.in_err-emit_one.ensures)))
