@@ -33,8 +33,7 @@ use Rattle.rtl.specs.Operators.{truth_word, op_result}
 use Rattle.rtl.proofs.Computing.{complement-is}
 use Rattle.std.proofs.Common.{◌++◌, take, drop}
 use Rattle.std.proofs.lemmas.List.{take-append-drop}
-use Rattle.mips_emit.specs.declared.operation.Operand.{Operand}
-use Rattle.mips_emit.specs.Code.{fetch, operand_register, one_or_two, as_list, code_by_less, code_by_left, code_by_right, code_by_word, immediate_of, turned_immediate_of}
+use Rattle.mips_emit.specs.Code.{one_or_two, as_list}
 use Rattle.mips_emit.specs.Code.{is_small, half, operation, opposite, next_word, exponent, is_power, immediate, is_symmetric, turned_less_of}
 use Rattle.mips_emit.proofs.Runs.{RunsTo, runs_then}
 use Rattle.mips_emit.proofs.View.{set, IsTarget, put_here, put_other, read_register, alu_runs, imm_runs}
@@ -529,14 +528,3 @@ less_gives LtU s d q v w u i known ok left lv lw said is e = absurd (none-some i
 pub one_or_two_are : (i : Plain) (s : Option Plain) (l : List Plain) → take 1 l ≡ i ∷ [] → drop 1 l ≡ as_list s → one_or_two i s ≡ l
 one_or_two_are i None l first rest = ap₂ (λ a b. a ++ b) (sym first) (sym rest) ∙ take-append-drop 1 l
 one_or_two_are i (Some j) l first rest = ap₂ (λ a b. a ++ b) (sym first) (sym rest) ∙ take-append-drop 1 l
-
--- an operator on two registers, as it is selected
-pub both_fetched : (op : Op) (t d : ℕ) (x y : Operand) (i : Plain) (s : Option Plain) → immediate_of op d (operand_register t x.source) y.known ≡ None
-    → turned_immediate_of op d (operand_register 2 y.source) x.known ≡ None → turned_less_of op d (operand_register 2 y.source) x.known ≡ None
-    → take 1 (operation op d (operand_register t x.source) (operand_register 2 y.source)) ≡ i ∷ []
-    → drop 1 (operation op d (operand_register t x.source) (operand_register 2 y.source)) ≡ as_list s
-    → fetch t x.source ++ (fetch 2 y.source ++ one_or_two i s) ≡ code_by_word op t d x y
-both_fetched op t d x y i s no_right no_left no_less first rest =
-    ap (λ l. fetch t x.source ++ (fetch 2 y.source ++ l)) (one_or_two_are i s _ first rest)
-    ∙ sym (ap (λ o. code_by_right op t d o x y) no_right ∙ ap (λ o. code_by_left op t d o x y) no_left
-    ∙ ap (λ o. code_by_less op t d o x.source y.source) no_less)

@@ -28,7 +28,6 @@ use Rattle.mips_emit.specs.declared.location.Location.TheVariants.{Held, InSlot,
 use Rattle.mips_emit.specs.declared.location.Source.{Source}
 use Rattle.mips_emit.specs.declared.product.ShiftedSum.{ShiftedSum}
 use Rattle.mips_emit.specs.declared.operation.Operand.{Operand}
-use Rattle.mips_emit.specs.declared.operation.Selection.{Selection}
 use Rattle.mips_emit.specs.declared.location.Source.TheVariants.{Zero, Word, From}
 use Rattle.mips_emit.specs.declared.element.Reach.{Reach}
 use Rattle.mips_emit.specs.declared.element.Reach.TheVariants.{ByPointer, ByScratch, ByKept, ByNew}
@@ -251,13 +250,6 @@ code_by_right op t d (Some i) x y = fetch t x.source ++ i ∷ []
 
 abbrev pub code_by_word : Op → (t d : ℕ) → (x y : Operand) → List Plain
 code_by_word op t d x y = code_by_right op t d (immediate_of op d (operand_register t x.source) y.known) x y
-
--- the instructions of an operator that are selected: whether each operand is fetched, and one or two after
-abbrev pub fetch_if : Bool → ℕ → Source → List Plain
-fetch_if fetches t x = if fetches then fetch t x else []
-
-abbrev pub selection_code : (t : ℕ) → Selection → Source → Source → List Plain
-selection_code t s x y = fetch_if s.fetches_left t x ++ (fetch_if s.fetches_right SCRATCH_2 y ++ one_or_two s.first s.second)
 
 -- a product by one more or one less than a power of 2, and by no power itself. The other operand is shifted, and then added to that or
 -- taken from it, modulo 2^32

@@ -9,11 +9,11 @@ ghost use Rattle.mips_isa.specs.declared.inst.Plain.TheVariants.{Shift, ShiftBy,
 ghost use Rattle.mips_emit.specs.Frames.{IsReachable};
 ghost use Rattle.mips_emit.specs.Locations.{FitsSource, facts_of, locations};
 ghost use Rattle.mips_emit.specs.Code.{is_small, half, fetch, as_list, operation, is_power, immediate, immediate_of, is_symmetric};
-ghost use Rattle.mips_emit.specs.Code.{one_or_two, turned_immediate_of, fetch_if, selection_code};
-ghost use Rattle.mips_emit.specs.Code.{operand_with, turned_less_of, code_by_word, op_code};
+ghost use Rattle.mips_emit.specs.Code.{turned_immediate_of, turned_less_of, code_by_less, code_by_right, code_by_word};
+ghost use Rattle.mips_emit.specs.Code.{operand_with, op_code};
 ghost use Rattle.mips_emit.specs.Prefixes.{Emits};
 
-use crate::constant::{emit_one_or_two, half, is_small};
+use crate::constant::{emit_one, emit_one_or_two, half, is_small};
 use crate::facts::{Knowledge, known_word, operand_by};
 use crate::location::{Source, register};
 use crate::product::{emit_multiple, multiple_of};
@@ -263,84 +263,84 @@ pub(crate) fn operand_with(facts: &Knowledge, frame: &Frame, x: Register) -> Ope
     }
 }
 
-/// Says how an operator is done: whether each operand is fetched, and the one or two instructions after that.
-#[derive(Clone, Copy)]
-struct Selection {
-    fetches_left: bool,
-    fetches_right: bool,
-    first: Plain,
-    second: Option<Plain>,
-}
-
-/// Returns instructions for one operand, the left one or the right one, after which a second may stand.
-fn by_word(left: bool, first: Plain, second: Option<Plain>) -> Selection
-    ensures { (t : ℕ) (x y : Source) → selection_code t result x y ≡ (if left then fetch t x else fetch 2 y) ++ one_or_two first second }
-{
-    Selection {
-        fetches_left: left,
-        fetches_right: !left,
-        first,
-        second,
-    }
-}
-
-/// Returns an operator by a word in its instruction if it can be. The word is on the right, on the left, or on the left of a test that is
-/// then turned.
-fn select(op: Op, inner: NonzeroReg, rd: Reg, x: &Operand, y: &Operand) -> Selection
-    ensures { selection_code inner result x.now.source y.now.source
-        ≡ code_by_word op inner rd x.now y.now }
-{
-    let rs = operand_register(inner, &x.source);
-    let rt = operand_register(register(SCRATCH_2), &y.source);
-    if let Some(first) = immediate_of(op, rd, rs, y.known) {
-        return by_word(true, first, None);
-    }
-    if let Some(first) = turned_immediate_of(op, rd, rt, x.known) {
-        return by_word(false, first, None);
-    }
-    match turned_less_of(op, rd, rt, x.known) {
-        Some(first) => by_word(false, first, Some(opposite_truth(rd))),
-        None => Selection {
-            fetches_left: true,
-            fetches_right: true,
-            first: first_of(op, rd, rs, rt),
-            second: second_of(op, rd),
-        },
-    }
-}
-
-/// Emits an operand where it is fetched.
-fn emit_fetch_if(
+/// Emits an instruction, after the operand that it fetches.
+fn emit_after(
     code: &mut Vec<Plain>,
-    fetches: bool,
     t: NonzeroReg,
     x: &Source,
+    inst: Plain,
 ) -> Result<(), AllocError>
     requires { FitsSource x.now }
-    ensures { Emits result code.old.items (fetch_if fetches t x.now) code.new.items }
+    ensures { Emits result code.old.items (fetch t x.now ++ inst ∷ []) code.new.items }
 {
-    if fetches {
-        emit_fetch(code, t, x)
-    } else {
-        Ok(())
-    }
+    emit_fetch(code, t, x)?;
+    emit_one(code, inst)
 }
 
-/// Emits the instructions of an operator, after the operands that they fetch.
-fn emit_selection(
+/// Emits an operator on two registers, after the operands that they fetch.
+fn emit_both(
     code: &mut Vec<Plain>,
+    op: Op,
     inner: NonzeroReg,
-    selection: &Selection,
+    rd: Reg,
     x: &Source,
     y: &Source,
 ) -> Result<(), AllocError>
     requires left { FitsSource x.now }
     requires right { FitsSource y.now }
-    ensures { Emits result code.old.items (selection_code inner selection.now x.now y.now) code.new.items }
+    ensures { Emits result code.old.items (code_by_less op inner rd None x.now y.now) code.new.items }
 {
-    emit_fetch_if(code, selection.fetches_left, inner, x)?;
-    emit_fetch_if(code, selection.fetches_right, register(SCRATCH_2), y)?;
-    emit_one_or_two(code, selection.first, selection.second)
+    let rs = operand_register(inner, x);
+    let rt = operand_register(register(SCRATCH_2), y);
+    emit_fetch(code, inner, x)?;
+    emit_fetch(code, register(SCRATCH_2), y)?;
+    emit_one_or_two(code, first_of(op, rd, rs, rt), second_of(op, rd))
+}
+
+/// Emits an operator by a word on its left, or on the left of a test that is then turned, if it can be.
+fn emit_by_left(
+    code: &mut Vec<Plain>,
+    op: Op,
+    inner: NonzeroReg,
+    rd: Reg,
+    x: &Operand,
+    y: &Operand,
+) -> Result<(), AllocError>
+    requires left { FitsSource x.now.source }
+    requires right { FitsSource y.now.source }
+    ensures { Emits result code.old.items (code_by_right op inner rd None x.now y.now) code.new.items }
+{
+    let rt = operand_register(register(SCRATCH_2), &y.source);
+    if let Some(first) = turned_immediate_of(op, rd, rt, x.known) {
+        return emit_after(code, register(SCRATCH_2), &y.source, first);
+    }
+    match turned_less_of(op, rd, rt, x.known) {
+        Some(first) => {
+            emit_fetch(code, register(SCRATCH_2), &y.source)?;
+            emit_one_or_two(code, first, Some(opposite_truth(rd)))
+        }
+        None => emit_both(code, op, inner, rd, &x.source, &y.source),
+    }
+}
+
+/// Emits an operator by a word on its right if it can be, else by one on its left or on two registers.
+fn emit_by_word(
+    code: &mut Vec<Plain>,
+    op: Op,
+    inner: NonzeroReg,
+    rd: Reg,
+    x: &Operand,
+    y: &Operand,
+) -> Result<(), AllocError>
+    requires left { FitsSource x.now.source }
+    requires right { FitsSource y.now.source }
+    ensures { Emits result code.old.items (code_by_word op inner rd x.now y.now) code.new.items }
+{
+    let rs = operand_register(inner, &x.source);
+    match immediate_of(op, rd, rs, y.known) {
+        Some(first) => emit_after(code, inner, &x.source, first),
+        None => emit_by_left(code, op, inner, rd, x, y),
+    }
 }
 
 /// Emits an operator into a register, the left operand by way of the inner temporary; an Err means out of memory.
@@ -362,6 +362,5 @@ pub(crate) fn emit_op(
     if let Some(m) = multiple_of(op, x.known) {
         return emit_multiple(code, inner, rd, m, &y.source);
     }
-    let selection = select(op, inner, rd, x, y);
-    emit_selection(code, inner, &selection, &x.source, &y.source)
+    emit_by_word(code, op, inner, rd, x, y)
 }

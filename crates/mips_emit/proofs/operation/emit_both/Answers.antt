@@ -1,0 +1,18 @@
+use Rattle.std.proofs.Common.{List, ◌++◌, take, sym, subst, ap, ap₂, ◌∙◌}
+use Rattle.mips_isa.specs.declared.inst.Plain.{Plain}
+use Rattle.mips_emit.specs.Code.{fetch, operand_register, operation}
+use Rattle.mips_emit.specs.Prefixes.{Emits}
+use Rattle.mips_emit.proofs.Operations.{one_or_two_are}
+use Rattle.mips_emit.proofs.Prefixes.{emits_behind}
+use Rattle.mips_emit.proofs.operation.emit_both.Goals as goal
+
+pub returns : goal.returns
+returns c =
+    let x = c.args.x.now in
+    let y = c.args.y.now in
+    let rt = c.operand_register-rt.ensures ∙ ap (λ t. operand_register t y) c.register.ensures in
+    let first = sym (ap₂ (λ a b. take 1 (operation c.args.op c.args.rd a b)) c.operand_register-rs.ensures rt) ∙ c.first_of.ensures in
+    let both = one_or_two_are c.first_of.result c.second_of.result _ first (c.second_of.ensures (operand_register c.args.inner x) (operand_register 2 y)) in
+    subst (λ (l : List Plain). Emits c.emit_one_or_two.result c.args.code.now.items (fetch c.args.inner x ++ (fetch 2 y ++ l)) c.emit_one_or_two.new.code.items) both
+    (rw (← c.register-2.ensures) (emits_behind c.emit_one_or_two.result _ _ _ _ _ c.in_ok-emit_fetch.ensures
+    (emits_behind c.emit_one_or_two.result _ _ _ _ _ c.in_ok-emit_fetch-2.ensures c.emit_one_or_two.ensures)))
