@@ -20,6 +20,7 @@ use mips_code::{encode, encode_plain};
 use mips_isa::{CODE_BASE, Control, ImmOp, Inst, JumpOp, JumpTarget, Plain, Reg};
 use std::alloc::{AllocError, Global};
 
+#[inline(always)]
 fn put_plain(code: &mut Vec<u32>, plain: Plain) -> Result<(), AllocError>
     ensures word { OnOk result (code.new.items ≡ code.old.items ++ map inst_word (insts.Plain plain ∷ [])) }
     ensures fit { Fit (insts.Plain plain ∷ []) }

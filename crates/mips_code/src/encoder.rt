@@ -180,6 +180,7 @@ fn jump_form(op: u8, target: JumpTarget) -> u32
 }
 
 /// Returns the word of an instruction that neither branches nor jumps nor calls the system.
+#[inline(always)]
 pub fn encode_plain(plain: Plain) -> u32
     ensures value { result ≡ word_of_plain plain }
     ensures range { IsPlain plain }
