@@ -60,6 +60,7 @@ fn is_joined(e: &TypedExpression) -> bool
 
 /// Returns where the value of an operand is found. A local is in its own register, others in the first of two free ones, or in the second
 /// if branches join with the value. A Limit if there is none.
+#[inline(always)]
 pub fn place_of(e: &TypedExpression, free: Register) -> Result<Place, LowerFault>
     ensures place { IfOk result (λ p. IsPlace (typed_expression_of e.now) free p.register p.free) }
     ensures room { OnOk result (place_registers (typed_expression_of e.now) free ≤ MAX_REGISTERS) }
