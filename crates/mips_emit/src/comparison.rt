@@ -5,12 +5,13 @@
 ghost use Rattle.std.specs.Prelude.{◌≡◌, ◌++◌, ◌∷◌, [], Some};
 ghost use Rattle.mblock.specs.declared.exit.Exit.TheVariants.{BranchPair, BranchZero};
 ghost use Rattle.rtl.specs.declared.operator.Op.TheVariants.{LtS, LeS};
+ghost use Rattle.mips_homes.specs.declared.convention.TheConstants.{SCRATCH_1};
 ghost use Rattle.mips_emit.specs.Frames.{IsReachable};
 ghost use Rattle.mips_emit.specs.Locations.{facts_of, locations, FitsSource};
 ghost use Rattle.mips_emit.specs.Comparisons.{is_known_zero, is_immediate, opposite_if, form_of, opposite_op, known_truth, form_with};
 ghost use Rattle.mips_emit.specs.Comparisons.{comparison_code, comparison_exit, is_asked, form_for, is_caller_saved, is_result, returned};
 ghost use Rattle.mips_emit.specs.Comparisons.{operator_comparison, comparison_of, FitsComparison, tested};
-ghost use Rattle.mips_emit.specs.Code.{fetch, nop};
+ghost use Rattle.mips_emit.specs.Code.{fetch, nop, op_code};
 ghost use Rattle.mips_emit.specs.Prefixes.{Emits};
 
 use crate::constant::emit_one;
@@ -178,25 +179,39 @@ fn emit_tested(code: &mut Vec<Plain>, x: &Source) -> Result<(), AllocError>
     emit_one(code, Plain::nop())
 }
 
+/// Emits the operator of a comparison, whose left operand goes through the first scratch register.
+fn emit_compared(
+    code: &mut Vec<Plain>,
+    op: Op,
+    rd: Reg,
+    x: &Operand,
+    y: &Operand,
+) -> Result<(), AllocError>
+    requires left { FitsSource x.now.source }
+    requires right { FitsSource y.now.source }
+    ensures { Emits result code.old.items (op_code op SCRATCH_1 rd x.now y.now) code.new.items }
+{
+    emit_op(code, op, register(SCRATCH_1), rd, x, y)
+}
+
 /// Emits what stands before the branch; an Err means out of memory.
 pub(crate) fn emit_comparison(code: &mut Vec<Plain>, m: &Comparison) -> Result<(), AllocError>
     requires left { FitsSource m.now.left.source }
     requires right { FitsSource m.now.right.source }
     ensures { Emits result code.old.items (comparison_code m.now) code.new.items }
 {
-    let inner = register(SCRATCH_1);
     let rd = register(SCRATCH_3).reg();
     match m.form {
         Form::Known(_) => emit_one(code, Plain::nop()),
         Form::OnPair(_) => {
-            emit_fetch(code, inner, &m.left.source)?;
+            emit_fetch(code, register(SCRATCH_1), &m.left.source)?;
             emit_tested(code, &m.right.source)
         }
         Form::OnLeft(_) => emit_tested(code, &m.left.source),
         Form::OnRight(_) => emit_tested(code, &m.right.source),
-        Form::ByResult => emit_op(code, m.op, inner, rd, &m.left, &m.right),
-        Form::ByOpposite => emit_op(code, opposite_op(m.op), inner, rd, &m.right, &m.left),
-        Form::InResult => emit_op(code, m.op, inner, Reg::RESULT, &m.left, &m.right),
+        Form::ByResult => emit_compared(code, m.op, rd, &m.left, &m.right),
+        Form::ByOpposite => emit_compared(code, opposite_op(m.op), rd, &m.right, &m.left),
+        Form::InResult => emit_compared(code, m.op, Reg::RESULT, &m.left, &m.right),
     }
 }
 

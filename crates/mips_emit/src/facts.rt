@@ -329,6 +329,7 @@ pub(crate) fn learn(facts: &mut Knowledge, frame: &Frame, inst: &RInst) -> Resul
 }
 
 /// Returns a pseudo-register as an operand, from the word that it is known to hold.
+#[inline(always)]
 pub(crate) fn operand_by(
     facts: &Knowledge,
     frame: &Frame,

@@ -344,6 +344,7 @@ fn emit_by_word(
 }
 
 /// Emits an operator into a register, the left operand by way of the inner temporary; an Err means out of memory.
+#[inline(always)]
 pub(crate) fn emit_op(
     code: &mut Vec<Plain>,
     op: Op,

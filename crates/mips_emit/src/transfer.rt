@@ -101,6 +101,7 @@ pub(crate) fn into_of(place: &Option<Location>) -> NonzeroReg
 }
 
 /// Emits what stands after a result.
+#[inline(always)]
 pub(crate) fn emit_finish(code: &mut Vec<Plain>, place: &Option<Location>) -> Result<(), AllocError>
     requires { FitsPlace place.now }
     ensures { Emits result code.old.items (finish place.now) code.new.items }
