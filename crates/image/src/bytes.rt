@@ -1,5 +1,6 @@
 //! The bytes of images, written and read.
-ghost use Rattle.std.specs.Prelude.{◌≡◌, ◌+◌, ◌*◌, ◌≤◌, ◌^◌, ◌++◌, None, length, OnOk, IfOk, IfErr, MatchResult};
+ghost use Rattle.std.specs.Prelude.{◌≡◌, ◌+◌, ◌*◌, ◌≤◌, ◌^◌, ◌++◌, None, length, vec_len, vec_capacity, OnOk, IfOk, IfErr, MatchResult};
+ghost use Rattle.image.specs.declared.limits.TheConstants.{CODE_WORDS};
 ghost use Rattle.std.specs.Int.{w32, to_be_bytes};
 ghost use Rattle.image.specs.Images.{ImageParts, IsImage, EachImageHasItsBytes, head_of, image_bytes, words_bytes, word_at_byte, words_of};
 ghost use Rattle.image.specs.Images.{counts_at, total, first_version_fault, second_version_fault, image_fault, is_entry, has_sizes};
@@ -16,24 +17,27 @@ use std::alloc::{AllocError, Global};
 /// The four bytes `MCCI`.
 const MAGIC: u32 = 0x4d43_4349;
 
-/// Puts the four bytes of a word after others.
-fn put_word(out: &mut Vec<u8>, word: u32) -> Result<(), AllocError>
-    ensures { OnOk result (out.new.items ≡ out.old.items ++ to_be_bytes w32 word) }
+/// Puts the four bytes of a word after others, where there is room for them.
+fn put_word(out: &mut Vec<u8>, word: u32)
+    requires { vec_len out.old + 4 ≤ vec_capacity out.old }
+    ensures bytes { out.new.items ≡ out.old.items ++ to_be_bytes w32 word }
+    ensures len { vec_len out.new ≡ vec_len out.old + 4 }
+    ensures capacity { vec_capacity out.new ≡ vec_capacity out.old }
 {
     let [first, second, third, last] = word.to_be_bytes();
-    out.reserve(4)?;
     out.push_reserved(first);
     out.push_reserved(second);
     out.push_reserved(third);
     out.push_reserved(last);
-    Ok(())
 }
 
 fn put_words(out: &mut Vec<u8>, words: &[u32]) -> Result<(), AllocError>
+    requires { length words.now ≤ CODE_WORDS }
     ensures { OnOk result (out.new.items ≡ out.old.items ++ words_bytes words.now) }
 {
+    out.reserve(4 * words.len())?;
     for word in words {
-        put_word(out, *word)?;
+        put_word(out, *word);
     }
     Ok(())
 }
