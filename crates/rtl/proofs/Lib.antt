@@ -1,6 +1,7 @@
 pub mod Calls
 pub mod Computing
 pub mod Keeping
+pub mod Kept
 pub mod Lookups
 pub mod Loops
 pub mod Results

@@ -221,21 +221,14 @@ fn with_reached(alloc: Global, mut blocks: Vec<RBlock>) -> Result<Vec<RBlock>, A
     ensures { IfOk result (λ bs. AreKept (is_reached blocks.items) 0 blocks.items bs.items) }
 {
     let marks = reached_blocks(alloc, blocks.as_slice())?;
-    let mut kept = Vec::with_capacity(alloc, blocks.len())?;
-    while let Some(block) = blocks.pop() {
-        let number = blocks.len();
-        let next = if number == 0 || marks[number] {
-            block
-        } else {
-            RBlock {
-                insts: Vec::new(alloc),
-                exit: shortest(&block.exit),
-            }
-        };
-        kept.push(next)?;
+    for number in (1..blocks.len()).rev() {
+        if !marks[number] {
+            let exit = shortest(&blocks[number].exit);
+            let insts = Vec::new(alloc);
+            blocks[number] = RBlock { insts, exit };
+        }
     }
-    kept.reverse();
-    Ok(kept)
+    Ok(blocks)
 }
 
 /// Returns a function whose blocks have their tails, without those that nothing goes to then.
