@@ -63,12 +63,8 @@ fn see_read(sights: &mut Vec<Sight>, k: usize, x: Register) -> Result<(), AllocE
     ensures { OnOk result (Sees k sights.old.items sights.new.items (x ∷ []) []) }
 {
     make_room(sights, x)?;
-    let sight = sights[x as usize];
-    if sight.written_in != k {
-        sights[x as usize] = Sight {
-            read_first: true,
-            written_in: sight.written_in,
-        };
+    if sights[x as usize].written_in != k {
+        sights[x as usize].read_first = true;
     }
     Ok(())
 }
@@ -78,11 +74,7 @@ fn see_write(sights: &mut Vec<Sight>, k: usize, x: Register) -> Result<(), Alloc
     ensures { OnOk result (Sees k sights.old.items sights.new.items [] (x ∷ [])) }
 {
     make_room(sights, x)?;
-    let sight = sights[x as usize];
-    sights[x as usize] = Sight {
-        read_first: sight.read_first,
-        written_in: k,
-    };
+    sights[x as usize].written_in = k;
     Ok(())
 }
 
