@@ -86,7 +86,8 @@ abbrev pub lexeme_of : List ℕ → Lexeme
 lexeme_of [] = End
 lexeme_of (b ∷ bs) = if is_space b then Separator 1 else word_at b bs
 
--- the first `n` bytes of a text are decimal digits that spell `v`; so much is left to a run, a number and the last byte that go on behind them
+-- the first `n` bytes of a text are decimal digits that spell `v`. So much is left to a run, a number and the last byte that go on
+-- behind them
 pub record SpellsSoFar (text : List ℕ) (n v : ℕ) : Type 0 where
   pub within : n ≤ length text
   pub run : run_length false text ≡ n + run_length false (drop n text)

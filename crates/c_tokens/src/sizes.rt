@@ -1,6 +1,6 @@
 //! The sizes that a list of tokens keeps within.
 ghost use Rattle.c_tokens.specs.Numbers.{LimitsAreTheseNumbers};
-ghost use Rattle.std.specs.Prelude.{◌≡◌, ◌≤◌, nat_eq, true, IfSome, IfNone, if◌then◌else◌};
+ghost use Rattle.std.specs.Prelude.{◌≡◌, nat_eq, true, IfSome, IfNone, if◌then◌else◌};
 ghost use Rattle.c_tokens.specs.declared.token.Token.TheVariants.{The};
 ghost use Rattle.c_tokens.specs.declared.token.Mark.TheVariants.{LeftBrace, RightBrace};
 ghost use Rattle.c_tokens.specs.Texts.{Within, Counted, Oversize, nests, is_plain};
@@ -19,8 +19,8 @@ pub const MAX_OPEN: usize = 128;
 /// The most tokens `else` and `for` since no brace was open.
 pub const MAX_NESTED: usize = 512;
 
-/// How many tokens there are since the last `;`, `{` or `}`, open braces, and tokens `else` and `for` since no brace was open: 0 where
-/// none is.
+/// How many tokens there are since the last `;`, `{` or `}`, open braces, and tokens `else` and `for` since no brace was open. Where none
+/// is open, the last is 0.
 #[derive(Clone, Copy)]
 pub struct Sizes {
     pub run: usize,

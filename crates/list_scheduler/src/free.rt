@@ -7,7 +7,8 @@ use std::alloc::AllocError;
 // A rank's low bits are the number of an instruction: a block has fewer than 1,024 of them.
 const NUMBER_BITS: u32 = 10;
 
-/// Returns the rank of a node: the longer its way to the end the greater, of two with ways of one length that of the earlier one.
+/// Returns the rank of a node. The longer its way to the end the greater, and of two with ways of one length the earlier one has the
+/// greater rank.
 fn rank_of(node: &Node, number: u32) -> u32 {
     (node.height << NUMBER_BITS) | number
 }
