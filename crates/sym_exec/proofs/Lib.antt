@@ -8,4 +8,5 @@ pub mod Parts
 pub mod Asked
 mod Growth
 mod Shared
+mod Nops
 pub mod Starts

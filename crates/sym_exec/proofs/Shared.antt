@@ -1,5 +1,5 @@
 -- Code in two parts: the second goes on from what the first leaves.
-use Rattle.std.proofs.Common.{◌≡◌, ◌∙◌, ℕ, ◌+◌, List, [], ◌∷◌, ◌++◌, take, map, refl, sym, ap, ap₂, arith}
+use Rattle.std.proofs.Common.{◌≡◌, ◌∙◌, ℕ, ◌+◌, List, [], ◌∷◌, ◌++◌, map, refl, sym, ap, ap₂, arith}
 use Rattle.std.proofs.lemmas.List.{append_assoc, map-append}
 use Rattle.mips_isa.specs.declared.inst.Plain.{Plain}
 use Rattle.mips_isa.specs.declared.action.Action.{Action}
@@ -65,8 +65,3 @@ module _ (insts both rest : List Plain) (exit : Exit) (slots : List Action) (is 
       let grown = ap (λ acts. growth_by_all acts n) actions ∙ growth_append (map action_of both) (map action_of rest) n in
       let last = ap end stores in
       omega (arith, grown, last)
-
--- two lists with one beginning
-pub one_beginning : (insts others front front' back : List Plain) (k : ℕ) → take k insts ≡ take k others → front ≡ take k insts → front' ≡ take k others
-    → others ≡ front' ++ back → others ≡ front ++ back
-one_beginning insts others front front' back k same ours theirs whole = whole ∙ ap (λ xs. xs ++ back) (theirs ∙ (sym same ∙ sym ours))

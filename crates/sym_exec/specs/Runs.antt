@@ -1,5 +1,7 @@
--- What a run leaves of a pass.
-use Rattle.std.specs.Prelude.{ℕ, ◌+◌, ◌≤◌, List, Result, OnErr}
+-- What a run leaves of a pass, and what of code it does anything for.
+use Rattle.std.specs.Prelude.{ℕ, ◌+◌, ◌≤◌, List, filter, not, Result, OnErr}
+use Rattle.mips_isa.specs.declared.inst.Plain.{Plain}
+use Rattle.mips_isa.specs.Texts.{is_nop}
 use Rattle.sym_terms.specs.Trees.{Tree}
 use Rattle.term_table.specs.Passes.{TableState, PassState, linked}
 use Rattle.term_table.specs.Trees.{HasLegalHistory}
@@ -12,3 +14,7 @@ pub record Runs {A E : Type 0} (asked : List Tree) (growth : ℕ) (t : TableStat
   pub grows : linked q ≤ linked p + growth
   pub legal : HasLegalHistory q
   pub pass : AfterInterns t p result q
+
+-- instructions without Nops
+abbrev pub needed : List Plain → List Plain
+needed = filter (λ x. not (is_nop x))

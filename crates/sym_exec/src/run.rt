@@ -19,7 +19,7 @@ ghost use Rattle.sym_exec.specs.Growth.{growth_by, growth_by_all, growth_by_shap
 ghost use Rattle.sym_exec.specs.Growth.{block_growth, order_growth, GrowthHasBound};
 ghost use Rattle.sym_exec.specs.Stores.{IsChain, HasRoom, IsEmpty, IsRoomFor, Tracks, spare};
 ghost use Rattle.sym_exec.specs.Starts.{IsStart};
-ghost use Rattle.sym_exec.specs.Runs.{Runs};
+ghost use Rattle.sym_exec.specs.Runs.{Runs, needed};
 
 use crate::interner::Interner;
 use crate::registers::{Access, TermRegisters};
@@ -157,10 +157,13 @@ fn steps(
     ensures grows { linked terms.new.pass.now ≤ linked terms.old.pass.now + growth_by_all (map action_of insts.now) (vec_len lists.old.chain.stores) }
     ensures stores { OnOk result (vec_len lists.new.chain.stores ≡ all_stores (map action_of insts.now) (vec_len lists.old.chain.stores)) }
     ensures room { OnOk result (HasRoom lists.new) }
-    ensures guards { OnOk result (vec_len lists.new.guards ≤ vec_len lists.old.guards + length insts.now) }
+    ensures guards { OnOk result (vec_len lists.new.guards ≤ vec_len lists.old.guards + length (needed insts.now)) }
     ensures capacity { OnOk result (vec_capacity lists.new.guards ≡ vec_capacity lists.old.guards) }
 {
     for inst in insts {
+        if inst.is_nop() {
+            continue;
+        }
         step(terms, registers, lists, &inst.action())?;
     }
     Ok(())
@@ -455,18 +458,25 @@ pub fn run_order(
     ))
 }
 
-/// Returns how many instructions two lists have in common, from the first on.
-fn shared_count(insts: &[Plain], others: &[Plain]) -> usize
-    ensures within { (result ≤ length insts.now) × (result ≤ length others.now) }
-    ensures same { take result insts.now ≡ take result others.now }
+/// Returns how many instructions of two lists are the same, from the first on, where Nops don't count.
+fn shared_counts(insts: &[Plain], others: &[Plain]) -> (usize, usize)
+    ensures within { (result.0 ≤ length insts.now) × (result.1 ≤ length others.now) }
+    ensures same { needed (take result.0 insts.now) ≡ needed (take result.1 others.now) }
 {
-    let most = insts.len().min(others.len());
-    for k in 0..most {
-        if insts[k] != others[k] {
-            return k;
+    let (mut i, mut j) = (0, 0);
+    'walk: while i < insts.len() && j < others.len() {
+        if insts[i].is_nop() {
+            i += 1;
+        } else if others[j].is_nop() {
+            j += 1;
+        } else if insts[i] == others[j] {
+            i += 1;
+            j += 1;
+        } else {
+            break 'walk;
         }
     }
-    most
+    (i, j)
 }
 
 /// Returns what a block and an order leave from the start on. The instructions that they begin with both are run once.
@@ -489,9 +499,9 @@ fn run_pair_from(
     let (mut block_lists, mut order_lists) = lists;
     let mut registers = begin(start, &mut block_lists);
     let (ours, theirs) = (block.insts(), order.insts());
-    let shared = shared_count(ours, theirs);
-    let (both, insts) = ours.split_at(shared);
-    let (_, others) = theirs.split_at(shared);
+    let shared = shared_counts(ours, theirs);
+    let (both, insts) = ours.split_at(shared.0);
+    let (_, others) = theirs.split_at(shared.1);
     steps(terms, &mut registers, &mut block_lists, both)?;
     order_lists.copy_from(&block_lists);
     let first = finish(terms, registers, block_lists, insts, &block.exit(), &None)?;

@@ -1,9 +1,10 @@
-use Rattle.std.proofs.Common.{map, refl, rules}
+use Rattle.std.proofs.Common.{map, refl, rules, arith}
 use Rattle.mips_isa.specs.Actions.{action_of}
 use Rattle.mblock.specs.BlockMeaning.{exit_shape}
 use Rattle.sym_exec.specs.Symbolic.{all_trees, exit_trees, exit_operands}
 use Rattle.sym_exec.proofs.Chains.{chain-on}
 use Rattle.sym_exec.proofs.Tickets.{later_more, goes_on, goes_more, interns_by, hold_on, guards_on, leaves_on, stands_with}
+use Rattle.sym_exec.proofs.Nops.{needed_few}
 use Rattle.sym_exec.proofs.Tracking.{tracks_on}
 use Rattle.sym_exec.specs.Asked.{asked_by_all, asked_by_shape}
 use Rattle.mblock.specs.Clean.{slot_actions}
@@ -83,3 +84,8 @@ returns-in_err-memory-clause-absent c = λ s h.
     err_always _ (lacks_right (asked_by_all (map action_of c.args.insts.now) s)
     (lacks_right (asked_by_shape (exit_shape c.args.exit.now)) (lacks_right (asked_by_all (slot_actions c.args.slot.now) u)
     (lacks_here (c.in_err-memory.ensures.absent _ last.memory)))))
+
+pub run_slot-requires-clause-few : goal.run_slot-requires-clause-few
+run_slot-requires-clause-few c =
+    let few = needed_few c.args.insts.now in
+    omega (arith, c.in_ok-steps.ensures.guards, c.in_ok-steps.ensures.capacity, few, c.requires.few)

@@ -1,4 +1,4 @@
-use Rattle.std.proofs.Common.{◌∙◌, [], map, sym, ap, ap₂, subst, arith}
+use Rattle.std.proofs.Common.{◌∙◌, [], map, sym, ap, ap₂, subst, length, vec_len, vec_capacity, arith}
 use Rattle.mips_isa.specs.Actions.{action_of}
 use Rattle.mblock.specs.Clean.{slot_actions}
 use Rattle.sym_exec.specs.Asked.{LacksOne, asked_by_all, asked_first, asked_from, block_asked, order_asked}
@@ -6,7 +6,10 @@ use Rattle.sym_exec.specs.Growth.{growth_by_all, all_stores, growth_from}
 use Rattle.sym_exec.specs.Symbolic.{start_trees, all_trees, trees_from}
 use Rattle.sym_exec.specs.Standing.{StandsFor}
 use Rattle.sym_exec.proofs.Asked.{err_always, lacks_left, lacks_right}
-use Rattle.sym_exec.proofs.Shared.{trees_in_parts, asked_in_parts, growth_in_parts, one_beginning}
+use Rattle.sym_exec.specs.Runs.{needed}
+use Rattle.sym_exec.specs.Stores.{Tracks}
+use Rattle.sym_exec.proofs.Nops.{same_trees, same_stores, needed_few}
+use Rattle.sym_exec.proofs.Shared.{trees_in_parts, asked_in_parts, growth_in_parts}
 use Rattle.sym_exec.proofs.Tickets.{known_on, stands_for_on}
 use Rattle.sym_exec.proofs.Tracking.{tracks_copied, chain_copied}
 use Rattle.sym_exec.proofs.run.run_pair_from.Goals as goal
@@ -72,14 +75,15 @@ finish-requires-2-clause-chain c =
 pub returns-in_err-second-clause-absent : goal.returns-in_err-second-clause-absent
 returns-in_err-second-clause-absent c =
     let order = c.args.order.now in
-    let front = c.split_at.result.0.now in
+    let front = c.split_at-2.result.0.now in
     let back = c.split_at-2.result.1.now in
-    let whole = one_beginning c.insts-ours.result.now c.insts-theirs.result.now front c.split_at-2.result.0.now back c.shared_count-shared.result
-    c.shared_count-shared.ensures.same c.split_at.ensures.front c.split_at-2.ensures.front c.split_at-2.ensures.by_index.0 in
-    let begins = sym c.insts-theirs.ensures.value ∙ whole in
+    let begins = sym c.insts-theirs.ensures.value ∙ c.split_at-2.ensures.by_index.0 in
+    let alike = ap needed c.split_at.ensures.front ∙ (c.shared_counts-shared.ensures.same ∙ sym (ap needed c.split_at-2.ensures.front)) in
     let begun = c.begin-registers.ensures.tracks _ c.requires.start in
     let shared = c.in_ok-steps.ensures.tracks start_trees begun in
-    let copied = tracks_copied c.in_ok-first.ensures.pass.later shared c.copy_from.ensures.guards c.copy_from.ensures.stores in
+    let reached = same_trees c.split_at.result.0.now front alike start_trees in
+    let copied = subst (Tracks c.finish.new.terms.pass.now c.steps.new.registers c.copy_from.new.self) reached
+    (tracks_copied c.in_ok-first.ensures.pass.later shared c.copy_from.ensures.guards c.copy_from.ensures.stores) in
     let p = c.finish-2.new.terms.pass.now in
     let u = all_trees (map action_of front) start_trees in
     let lacks = lacks_right (asked_by_all (map action_of front) start_trees)
@@ -96,17 +100,16 @@ returns-in_err-second-clause-grows c =
     let rest = c.split_at.result.1.now in
     let is = sym c.insts-ours.ensures.value ∙ c.split_at.ensures.by_index.0 in
     let order = c.args.order.now in
-    let front = both in
+    let front = c.split_at-2.result.0.now in
     let back = c.split_at-2.result.1.now in
-    let whole = one_beginning c.insts-ours.result.now c.insts-theirs.result.now front c.split_at-2.result.0.now back c.shared_count-shared.result
-    c.shared_count-shared.ensures.same c.split_at.ensures.front c.split_at-2.ensures.front c.split_at-2.ensures.by_index.0 in
-    let begins = sym c.insts-theirs.ensures.value ∙ whole in
+    let begins = sym c.insts-theirs.ensures.value ∙ c.split_at-2.ensures.by_index.0 in
+    let alike = ap needed c.split_at.ensures.front ∙ (c.shared_counts-shared.ensures.same ∙ sym (ap needed c.split_at-2.ensures.front)) in
     let none = c.begin-registers.ensures.stores in
     let first = ap (growth_by_all (map action_of both)) none in
     let made = c.in_ok-steps.ensures.stores ∙ ap (all_stores (map action_of both)) none in
     let left = ap₂ (λ n exit. growth_from n (map action_of rest) exit []) made c.exit.ensures in
     let all = growth_in_parts block.insts both rest block.exit [] is 0 in
-    let copies = c.copy_from.ensures.stores_count ∙ made in
+    let copies = c.copy_from.ensures.stores_count ∙ (made ∙ same_stores both front alike 0) in
     let also = ap₂ (λ n exit. growth_from n (map action_of back) exit (slot_actions c.slot.result)) copies c.exit-2.ensures in
     let filled = ap (λ slot. growth_from (all_stores (map action_of front) 0) (map action_of back) order.exit (slot_actions slot)) c.slot.ensures.value in
     let parts = growth_in_parts order.insts front back order.exit (slot_actions order.slot) begins 0 in
@@ -131,14 +134,15 @@ returns-clause-block c =
 pub returns-clause-order : goal.returns-clause-order
 returns-clause-order c =
     let order = c.args.order.now in
-    let front = c.split_at.result.0.now in
+    let front = c.split_at-2.result.0.now in
     let back = c.split_at-2.result.1.now in
-    let whole = one_beginning c.insts-ours.result.now c.insts-theirs.result.now front c.split_at-2.result.0.now back c.shared_count-shared.result
-    c.shared_count-shared.ensures.same c.split_at.ensures.front c.split_at-2.ensures.front c.split_at-2.ensures.by_index.0 in
-    let begins = sym c.insts-theirs.ensures.value ∙ whole in
+    let begins = sym c.insts-theirs.ensures.value ∙ c.split_at-2.ensures.by_index.0 in
+    let alike = ap needed c.split_at.ensures.front ∙ (c.shared_counts-shared.ensures.same ∙ sym (ap needed c.split_at-2.ensures.front)) in
     let begun = c.begin-registers.ensures.tracks _ c.requires.start in
     let shared = c.in_ok-steps.ensures.tracks start_trees begun in
-    let copied = tracks_copied c.in_ok-first.ensures.pass.later shared c.copy_from.ensures.guards c.copy_from.ensures.stores in
+    let reached = same_trees c.split_at.result.0.now front alike start_trees in
+    let copied = subst (Tracks c.finish.new.terms.pass.now c.steps.new.registers c.copy_from.new.self) reached
+    (tracks_copied c.in_ok-first.ensures.pass.later shared c.copy_from.ensures.guards c.copy_from.ensures.stores) in
     let second = c.in_ok-second.second in
     let p = c.finish-2.new.terms.pass.now in
     let u = all_trees (map action_of front) start_trees in
@@ -156,18 +160,67 @@ returns-clause-grows c =
     let rest = c.split_at.result.1.now in
     let is = sym c.insts-ours.ensures.value ∙ c.split_at.ensures.by_index.0 in
     let order = c.args.order.now in
-    let front = both in
+    let front = c.split_at-2.result.0.now in
     let back = c.split_at-2.result.1.now in
-    let whole = one_beginning c.insts-ours.result.now c.insts-theirs.result.now front c.split_at-2.result.0.now back c.shared_count-shared.result
-    c.shared_count-shared.ensures.same c.split_at.ensures.front c.split_at-2.ensures.front c.split_at-2.ensures.by_index.0 in
-    let begins = sym c.insts-theirs.ensures.value ∙ whole in
+    let begins = sym c.insts-theirs.ensures.value ∙ c.split_at-2.ensures.by_index.0 in
+    let alike = ap needed c.split_at.ensures.front ∙ (c.shared_counts-shared.ensures.same ∙ sym (ap needed c.split_at-2.ensures.front)) in
     let none = c.begin-registers.ensures.stores in
     let first = ap (growth_by_all (map action_of both)) none in
     let made = c.in_ok-steps.ensures.stores ∙ ap (all_stores (map action_of both)) none in
     let left = ap₂ (λ n exit. growth_from n (map action_of rest) exit []) made c.exit.ensures in
     let all = growth_in_parts block.insts both rest block.exit [] is 0 in
-    let copies = c.copy_from.ensures.stores_count ∙ made in
+    let copies = c.copy_from.ensures.stores_count ∙ (made ∙ same_stores both front alike 0) in
     let also = ap₂ (λ n exit. growth_from n (map action_of back) exit (slot_actions c.slot.result)) copies c.exit-2.ensures in
     let filled = ap (λ slot. growth_from (all_stores (map action_of front) 0) (map action_of back) order.exit (slot_actions slot)) c.slot.ensures.value in
     let parts = growth_in_parts order.insts front back order.exit (slot_actions order.slot) begins 0 in
     omega (arith, c.in_ok-steps.ensures.grows, c.in_ok-first.ensures.grows, c.in_ok-second.ensures.grows, first, left, all, also, filled, parts)
+
+pub copy_from-requires-clause-guards : goal.copy_from-requires-clause-guards
+copy_from-requires-clause-guards c =
+    let none = ap vec_len c.begin-registers.ensures.guards in
+    let empty = ap length c.requires.block_room.empty.guards in
+    let alike = ap length (ap needed c.split_at.ensures.front ∙ (c.shared_counts-shared.ensures.same ∙ sym (ap needed c.split_at-2.ensures.front))) in
+    let few = needed_few c.split_at-2.result.0.now in
+    let whole = ap length c.insts-theirs.ensures.value in
+    omega (arith, c.in_ok-steps.ensures.guards, none, empty, alike, few, c.split_at-2.ensures.front_len, c.split_at-2.ensures.back_len, whole, c.requires.order_room.few)
+
+pub finish-requires-clause-few : goal.finish-requires-clause-few
+finish-requires-clause-few c =
+    let none = ap vec_len c.begin-registers.ensures.guards in
+    let room = ap vec_capacity c.begin-registers.ensures.guards in
+    let few = needed_few c.split_at.result.0.now in
+    let whole = ap length c.insts-ours.ensures.value in
+    omega (
+      arith,
+      c.in_ok-steps.ensures.guards,
+      c.in_ok-steps.ensures.capacity,
+      none,
+      room,
+      few,
+      c.split_at.ensures.front_len,
+      c.split_at.ensures.back_len,
+      whole,
+      c.requires.block_room.few,
+    )
+
+pub finish-requires-2-clause-few : goal.finish-requires-2-clause-few
+finish-requires-2-clause-few c =
+    let none = ap vec_len c.begin-registers.ensures.guards in
+    let empty = ap length c.requires.block_room.empty.guards in
+    let alike = ap length (ap needed c.split_at.ensures.front ∙ (c.shared_counts-shared.ensures.same ∙ sym (ap needed c.split_at-2.ensures.front))) in
+    let few = needed_few c.split_at-2.result.0.now in
+    let whole = ap length c.insts-theirs.ensures.value in
+    omega (
+      arith,
+      c.copy_from.ensures.count,
+      c.copy_from.ensures.capacity,
+      c.in_ok-steps.ensures.guards,
+      none,
+      empty,
+      alike,
+      few,
+      c.split_at-2.ensures.front_len,
+      c.split_at-2.ensures.back_len,
+      whole,
+      c.requires.order_room.few,
+    )

@@ -1,4 +1,4 @@
-use Rattle.std.proofs.Common.{◌≡◌, ◌+◌, ◌≤◌, map, drop, vec_len, vec_capacity}
+use Rattle.std.proofs.Common.{◌≡◌, ◌+◌, ◌≤◌, map, take, drop, length, vec_len, vec_capacity}
 use Rattle.mips_isa.specs.Actions.{action_of}
 use Rattle.sym_exec.specs.Symbolic.{TreeState, all_trees}
 use Rattle.sym_exec.specs.Standing.{Known}
@@ -6,6 +6,7 @@ use Rattle.sym_exec.specs.Asked.{asked_by_all, LacksOne}
 use Rattle.sym_exec.specs.Growth.{growth_by_all, all_stores}
 use Rattle.term_table.specs.Passes.{PassState, linked}
 use Rattle.sym_exec.specs.Interners.{GoesOn}
+use Rattle.sym_exec.specs.Runs.{needed}
 use Rattle.sym_exec.specs.Stores.{IsChain, HasRoom, Tracks}
 use Rattle.sym_exec.proofs.run.steps.Given as goal
 
@@ -19,7 +20,7 @@ invariant-loop-inst l = record {
       ≡ all_stores (map action_of l.insts) (vec_len l.fn.lists.chain.stores);
   chain : IsChain l.terms.pass.now l.lists.chain;
   room : HasRoom l.lists;
-  guards : vec_len l.lists.guards ≤ vec_len l.fn.lists.guards + l.inst-index;
+  guards : vec_len l.lists.guards ≤ vec_len l.fn.lists.guards + length (needed (take l.inst-index l.insts));
   capacity : vec_capacity l.lists.guards ≡ vec_capacity l.fn.lists.guards;
   tracks : (t : TreeState) → Tracks l.fn.terms.pass.now l.fn.registers l.fn.lists t
       → (u : TreeState) × Tracks l.terms.pass.now l.registers l.lists u

@@ -1,0 +1,99 @@
+-- A Nop changes nothing, so code leaves what it leaves without its Nops.
+use Rattle.std.proofs.Common.{◌≡◌, ◌∙◌, ℕ, zero, suc, ◌+◌, ◌<◌, ◌≤◌, ◌==◌, ◌&&◌, Bool, true, false, cond, not, List, [], ◌∷◌, ◌++◌, length, take, map, get_or, refl, sym, ap, true≢false, eqb-true, arith}
+use Rattle.std.proofs.Math.Seq.{take-suc}
+use Rattle.std.proofs.lemmas.List.{append-nil}
+use Rattle.std.proofs.lemmas.List.Elements.{filter-append}
+use Rattle.mips_isa.specs.declared.inst.Plain.{Plain}
+use Rattle.mips_isa.specs.declared.inst.Plain.TheVariants.{Shift, ShiftBy, Alu, Imm, Logic, LoadUpper, MoveFrom, Multiply, Divide, Load, Store}
+use Rattle.mips_isa.specs.declared.inst.ShiftOp.TheVariants.{Sll, Srl, Sra}
+use Rattle.mips_isa.specs.Actions.{nop, action_of}
+use Rattle.mips_isa.specs.Texts.{is_nop}
+use Rattle.sym_exec.specs.Symbolic.{TreeState, trees_after, all_trees}
+use Rattle.sym_exec.specs.Growth.{stores_after, all_stores}
+use Rattle.sym_exec.specs.Runs.{needed}
+
+both : (a b : Bool) → (a && b) ≡ true → (a ≡ true) × (b ≡ true)
+both true true is = (refl, refl)
+both true false is = absurd (true≢false (sym is))
+both false b is = absurd (true≢false (sym is))
+
+pub nop_is : (x : Plain) → is_nop x ≡ true → x ≡ nop
+nop_is (Shift Sll rd rt amount) is =
+    let first = both (rd == 0) ((rt == 0) && (amount == 0)) is in
+    let rest = both (rt == 0) (amount == 0) first.1 in
+    ap (λ d. Shift Sll d rt amount) (eqb-true rd 0 first.0) ∙ (ap (λ s. Shift Sll 0 s amount) (eqb-true rt 0 rest.0)
+    ∙ ap (Shift Sll 0 0) (eqb-true amount 0 rest.1))
+nop_is (Shift Srl rd rt amount) is = absurd (true≢false (sym is))
+nop_is (Shift Sra rd rt amount) is = absurd (true≢false (sym is))
+nop_is (ShiftBy op rd rt rs) is = absurd (true≢false (sym is))
+nop_is (Alu op rd rs rt) is = absurd (true≢false (sym is))
+nop_is (Imm op rt rs imm) is = absurd (true≢false (sym is))
+nop_is (Logic op rt rs imm) is = absurd (true≢false (sym is))
+nop_is (LoadUpper rt imm) is = absurd (true≢false (sym is))
+nop_is (MoveFrom place rd) is = absurd (true≢false (sym is))
+nop_is (Multiply sign rs rt) is = absurd (true≢false (sym is))
+nop_is (Divide sign rs rt) is = absurd (true≢false (sym is))
+nop_is (Load w rt base offset) is = absurd (true≢false (sym is))
+nop_is (Store w rt base offset) is = absurd (true≢false (sym is))
+
+-- so it leaves trees and stores as they are
+pub nop_keeps : (x : Plain) → is_nop x ≡ true → (t : TreeState) → trees_after (action_of x) t ≡ t
+nop_keeps x is t = ap (λ y. trees_after (action_of y) t) (nop_is x is)
+
+trees_needed : (xs : List Plain) (t : TreeState) → all_trees (map action_of xs) t ≡ all_trees (map action_of (needed xs)) t
+trees_needed [] t = refl
+trees_needed (x ∷ xs) t = go (is_nop x) refl (trees_needed xs)
+  where
+    go : (b : Bool) → is_nop x ≡ b → ((u : TreeState) → all_trees (map action_of xs) u ≡ all_trees (map action_of (needed xs)) u)
+        → all_trees (map action_of xs) (trees_after (action_of x) t) ≡ all_trees (map action_of (cond (not b) (x ∷ needed xs) (needed xs))) t
+    go true is rest = ap (all_trees (map action_of xs)) (nop_keeps x is t) ∙ rest t
+    go false is rest = rest (trees_after (action_of x) t)
+
+stores_needed : (xs : List Plain) (n : ℕ) → all_stores (map action_of xs) n ≡ all_stores (map action_of (needed xs)) n
+stores_needed [] n = refl
+stores_needed (x ∷ xs) n = go (is_nop x) refl (stores_needed xs)
+  where
+    go : (b : Bool) → is_nop x ≡ b → ((k : ℕ) → all_stores (map action_of xs) k ≡ all_stores (map action_of (needed xs)) k)
+        → all_stores (map action_of (x ∷ xs)) n ≡ all_stores (map action_of (cond (not b) (x ∷ needed xs) (needed xs))) n
+    go true is rest = ap (λ y. all_stores (map action_of (y ∷ xs)) n) (nop_is x is) ∙ rest n
+    go false is rest = rest (stores_after (action_of x) n)
+
+-- code with one beginning but for Nops has come equally far
+pub same_trees : (xs ys : List Plain) → needed xs ≡ needed ys → (t : TreeState) → all_trees (map action_of xs) t ≡ all_trees (map action_of ys) t
+same_trees xs ys is t = trees_needed xs t ∙ (ap (λ zs. all_trees (map action_of zs) t) is ∙ sym (trees_needed ys t))
+
+pub same_stores : (xs ys : List Plain) → needed xs ≡ needed ys → (n : ℕ) → all_stores (map action_of xs) n ≡ all_stores (map action_of ys) n
+same_stores xs ys is n = stores_needed xs n ∙ (ap (λ zs. all_stores (map action_of zs) n) is ∙ sym (stores_needed ys n))
+
+-- one instruction more
+pub needed_step : (xs : List Plain) (k : ℕ) (x : Plain) → k < length xs → x ≡ get_or xs k x
+    → needed (take (k + 1) xs) ≡ needed (take k xs) ++ needed (x ∷ [])
+needed_step xs k x low is =
+    let next : k + 1 ≡ suc k = omega arith in
+    let grown = take-suc xs k x low ∙ ap (λ y. take k xs ++ y ∷ []) (sym is) in
+    ap (λ n. needed (take n xs)) next ∙ (ap needed grown ∙ filter-append (λ y. not (is_nop y)) (take k xs) (x ∷ []))
+
+pub needed_nop : (xs : List Plain) (k : ℕ) (x : Plain) → k < length xs → x ≡ get_or xs k x → is_nop x ≡ true → needed (take (k + 1) xs) ≡ needed (take k xs)
+needed_nop xs k x low is nop =
+    needed_step xs k x low is ∙ (ap (λ b. needed (take k xs) ++ cond (not b) (x ∷ []) []) nop ∙ append-nil (needed (take k xs)))
+
+pub needed_more : (xs : List Plain) (k : ℕ) (x : Plain) → k < length xs → x ≡ get_or xs k x → is_nop x ≡ false
+    → needed (take (k + 1) xs) ≡ needed (take k xs) ++ x ∷ []
+needed_more xs k x low is needed_one = needed_step xs k x low is ∙ ap (λ b. needed (take k xs) ++ cond (not b) (x ∷ []) []) needed_one
+
+pub needed_within : (xs : List Plain) (k : ℕ) → length (needed (take k xs)) ≤ k
+needed_within xs zero = omega arith
+needed_within [] (suc k) = omega arith
+needed_within (x ∷ xs) (suc k) = go (is_nop x) (needed_within xs k)
+  where
+    go : (b : Bool) → length (needed (take k xs)) ≤ k → length (cond (not b) (x ∷ needed (take k xs)) (needed (take k xs))) ≤ suc k
+    go true rest = omega (arith, rest)
+    go false rest = omega (arith, rest)
+
+pub needed_few : (xs : List Plain) → length (needed xs) ≤ length xs
+needed_few [] = omega arith
+needed_few (x ∷ xs) = go (is_nop x) (needed_few xs)
+  where
+    go : (b : Bool) → length (needed xs) ≤ length xs → length (cond (not b) (x ∷ needed xs) (needed xs)) ≤ suc (length xs)
+    go true rest = omega (arith, rest)
+    go false rest = omega (arith, rest)
