@@ -232,6 +232,28 @@ impl Rtl {
         }
     }
 
+    /// Returns a program of these parts, if they make one. They do exactly if they have no more blocks than a program may have, so
+    /// instructions aren't tested.
+    pub fn if_blocks_fit(
+        functions: Vec<RFunc>,
+        globals: Vec<RGlobal>,
+        main: FunctionNumber,
+    ) -> Option<Rtl>
+        requires { sum_by block_count functions.items ≤ MAX_BLOCKS → IsProgram (program_of functions.items globals.items main) }
+        ensures { SomeIff result (IsProgram (program_of functions.items globals.items main))
+            (program_of functions.items globals.items main) }
+    {
+        if blocks_fit(functions.as_slice()) {
+            Some(Rtl {
+                functions,
+                globals,
+                main,
+            })
+        } else {
+            None
+        }
+    }
+
     /// Returns the same program, where each block that goes to a short one before it ends with that one's code. It has at most eight
     /// instructions, of which at most four aren't constants. A block that nothing goes to then is empty. Each run has the same steps. An
     /// Err means out of memory.

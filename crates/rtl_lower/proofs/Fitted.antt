@@ -19,7 +19,7 @@ use Rattle.c_typed.specs.Trees.{conditional, empty, block, unset, assign, store,
 use Rattle.c_typed.specs.Trees.{no_statements, more_statements}
 use Rattle.c_typed.specs.WellFormed.{FitsExpression, FitsAll, FitsMaybe, FitsPlace, FitsTarget, FitsStatement, FitsStatements}
 use Rattle.c_typed.specs.WellFormed.{FitsFunction, IsWellFormed, words_in}
-use Rattle.rtl.specs.declared.limits.TheConstants.{MAX_REGISTERS}
+use Rattle.rtl.specs.declared.limits.TheConstants.{MAX_BLOCKS, MAX_REGISTERS}
 use Rattle.rtl.specs.Programs.{Program, IsProgram, block_count}
 use Rattle.rtl.specs.declared.block.RFunc.{RFunc}
 use Rattle.rtl_emit.specs.Sizes.{globals_named, globals_named_in, Beyond}
@@ -103,12 +103,17 @@ all_taken (x ∷ xs) zero le = absurd (omega arith)
 all_taken (x ∷ xs) (suc n) le = ap (λ l. x ∷ l) (all_taken xs n (omega arith))
 
 -- functions whose blocks fit together
+pub room_of : (fs : List TypedFunction) (rs : List RFunc) → sum_by block_count rs ≤ MAX_BLOCKS
+    → sum_by block_count rs ≡ sum_by function_blocks fs → All (λ f. function_registers f ≤ MAX_REGISTERS) fs → HaveRoom fs
+room_of fs rs h sum each = record { registers = each; blocks = omega (arith, h, sum) }
+
+-- the same of those of a program
 pub have_room : (p : Program) (fs : List TypedFunction) (rs : List RFunc) → IsProgram p → p.functions ≡ rs
     → sum_by block_count rs ≡ sum_by function_blocks fs → All (λ f. function_registers f ≤ MAX_REGISTERS) fs → HaveRoom fs
-have_room p fs rs is e sum each = record {
-  registers = each;
-  blocks = let h = is.blocks_fit in let q = ap (sum_by block_count) e in omega (arith, h, q, sum);
-}
+have_room p fs rs is e sum each =
+    let h = is.blocks_fit in
+    let q = ap (sum_by block_count) e in
+    room_of fs rs (omega (arith, h, q)) sum each
 
 -- what a well-formed program keeps
 

@@ -69,7 +69,7 @@ pub fn lower(alloc: Global, program: &Typed) -> Result<Rtl, LowerFault>
     let functions = functions(alloc, program.functions())?;
     let globals = globals(alloc, program.globals())?;
     let main = register_of(program.main())?;
-    let Some(lowered) = Rtl::new(functions, globals, main) else {
+    let Some(lowered) = Rtl::if_blocks_fit(functions, globals, main) else {
         return Err(LowerFault::Limit);
     };
     Ok(lowered)

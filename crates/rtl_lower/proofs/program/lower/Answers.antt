@@ -7,7 +7,7 @@ use Rattle.rtl.specs.Programs.{IsProgram, Program}
 use Rattle.rtl_lower.specs.Coded.{AreGlobalsOf}
 use Rattle.rtl_lower.specs.Sizes.{IsPlain, HaveRoom}
 use Rattle.rtl_lower.proofs.Functions.{program_made}
-use Rattle.rtl_lower.proofs.Fitted.{have_room, plain_functions}
+use Rattle.rtl_lower.proofs.Fitted.{have_room, plain_functions, room_of}
 use Rattle.rtl_lower.proofs.Sound.{parts_program, sizes_are}
 use Rattle.rtl_lower.proofs.program.lower.Goals as goal
 
@@ -45,3 +45,11 @@ returns-in_default-clause-limit c = λ e room.
     c.in_default.ensures (parts_program c.args.program.now c.functions.result.now c.globals.result.now c.in_ok-functions.functions.items
     c.in_ok-globals.globals.items c.in_ok-main.main (c.in_ok-main.ensures.is ∙ c.main.ensures.value) c.functions.ensures.value c.globals.ensures
     c.in_ok-functions.ensures.codes c.in_ok-globals.ensures.are c.in_ok-functions.ensures.count c.functions.ensures.fits room)
+
+pub if_blocks_fit-requires : goal.if_blocks_fit-requires
+if_blocks_fit-requires c = λ fit.
+    parts_program c.args.program.now c.functions.result.now c.globals.result.now c.in_ok-functions.functions.items
+    c.in_ok-globals.globals.items c.in_ok-main.main (c.in_ok-main.ensures.is ∙ c.main.ensures.value) c.functions.ensures.value c.globals.ensures
+    c.in_ok-functions.ensures.codes c.in_ok-globals.ensures.are c.in_ok-functions.ensures.count c.functions.ensures.fits
+    (subst (λ l. HaveRoom (functions_of l)) c.functions.ensures.value
+    (room_of _ c.in_ok-functions.functions.items fit c.in_ok-functions.ensures.count c.in_ok-functions.ensures.room))
