@@ -24,7 +24,8 @@ pub(crate) fn function(alloc: Global, f: &Function) -> Result<RFunc, LowerFault>
 {
     let free = register_of(f.locals)?;
     let parameters = register_of(f.parameters)?;
-    let mut blocks = Vec::new(alloc);
+    // most functions have fewer blocks than statements, so the list seldom grows
+    let mut blocks = Vec::with_capacity(alloc, f.body.len())?;
     let entry = reserve(alloc, &mut blocks)?;
     let end = Continuation::Made(exit_block(alloc, RExit::Return(None)));
     let context = Context {

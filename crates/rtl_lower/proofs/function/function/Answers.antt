@@ -16,10 +16,10 @@ use Rattle.rtl_lower.proofs.function.function.Goals as goal
 pub returns-clause-code : goal.returns-clause-code
 returns-clause-code c =
     function_code _ _ _ _ _ _ _ _ _ _ _ c.in_ok-free.ensures.is c.in_ok-parameters.ensures.is (ap statements_of c.as_slice.ensures.value)
-    c.new-blocks.ensures.items
+    c.in_ok-blocks.ensures.items
     c.in_ok-entry.ensures.reserves c.in_ok-code.ensures.does c.open_block.ensures c.fill.ensures.fills c.in_ok-code.ensures.count
     (let entry = c.in_ok-entry.ensures.insts in
-    let none = ap insts_in c.new-blocks.ensures.items in
+    let none = ap insts_in c.in_ok-blocks.ensures.items in
     let body = c.in_ok-code.ensures.sound.2 in
     let filled = ap insts_of c.open_block.ensures in
     let line = line_insts (spot c.in_ok-code.code) in
@@ -29,7 +29,7 @@ returns-clause-code c =
     (λ p s su fits le.
     let n = within_filled c.fill.ensures.fills le in
     let some = some_within c.in_ok-entry.ensures.reserves (within c.in_ok-code.ensures.grows n) in
-    let g = c.in_ok-entry.ensures.sound s (subst (λ l. AreSound s l) (sym c.new-blocks.ensures.items) tt) in
+    let g = c.in_ok-entry.ensures.sound s (subst (λ l. AreSound s l) (sym c.in_ok-blocks.ensures.items) tt) in
     let body = subst (λ (b : TypedStatements). FitsStatements p c.args.f.now.locals (is_some c.args.f.now.result) false b)
     (sym (ap statements_of c.as_slice.ensures.value))
     fits.body in
