@@ -1,5 +1,5 @@
 //! A whole text: its bytes, its tokens, its program, or the fault that comes first.
-ghost use Rattle.std.specs.Prelude.{◌≡◌, ◌≢◌, ◌≤◌, ℕ, List, length, IfOk, IfErr, IfSome, IfNone};
+ghost use Rattle.std.specs.Prelude.{◌≡◌, ◌≢◌, ◌≤◌, ℕ, List, true, length, IfOk, IfErr, IfSome, IfNone};
 ghost use Rattle.c_tree.specs.Shape.{declarations_of};
 ghost use Rattle.c_front.specs.Texts.{SpellsText, IsTextFault, is_text, AllText, place_or, refusal_kind};
 ghost use Rattle.c_tree.specs.Tree.{Declaration};
@@ -17,8 +17,19 @@ use std::alloc::{AllocError, AllocFailed, Global};
 fn is_text(byte: u8) -> bool
     ensures { result ≡ is_text byte }
 {
-    // (one comparison tells the bytes from b' ' to b'~', which most are)
-    byte.wrapping_sub(b' ') <= b'~' - b' ' || matches!(byte, b'\t' | b'\n' | b'\r')
+    // (one comparison tells the bytes from b' ' to b'~', and without branches many bytes are tested at once)
+    (byte.wrapping_sub(b' ') <= b'~' - b' ') | (byte == b'\t') | (byte == b'\n') | (byte == b'\r')
+}
+
+/// Reports whether a text may have each of its bytes. The loop goes through all of them, so that it takes many at once.
+fn all_text(text: &[u8]) -> bool
+    ensures { result ≡ true → AllText text.now }
+{
+    let mut good = true;
+    'bytes: for at in 0..text.len() {
+        good = good & is_text(text[at]);
+    }
+    good
 }
 
 /// Returns what is wrong with the size or the bytes of a text.
@@ -32,6 +43,9 @@ fn unreadable(text: &[u8]) -> Option<FrontFault>
             kind: FrontFaultKind::Size,
             at: MAX_TEXT,
         });
+    }
+    if all_text(text) {
+        return None;
     }
     for at in 0..text.len() {
         if !is_text(text[at]) {
