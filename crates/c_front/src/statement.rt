@@ -265,8 +265,8 @@ pub fn items<'a>(alloc: Global, tokens: &'a [Token]) -> Parsed<'a, Vec<Item>>
     ensures shorter { IfOk result (λ r. length r.1.now ≤ length tokens.now) }
     ensures err { IfErr result (IsStuck items tokens.now) }
 {
-    // most blocks have few items, and room for more would stay empty
-    let Ok(mut all) = Vec::with_capacity(alloc, 1) else {
+    // most blocks have one item or two, and room for more would stay empty
+    let Ok(mut all) = Vec::with_capacity(alloc, 2) else {
         return Err(ParseStop::NoMemory);
     };
     let mut rest = tokens;
