@@ -1,7 +1,7 @@
 //! The delay rules U1 to U4 of an order.
 ghost use Rattle.std.specs.Prelude.{◌≡◌, ◌+◌, ◌<◌, ◌≤◌, ◌↔◌, IsTrue, Option, slice_get, length, MatchResult};
 ghost use Rattle.mips_isa.specs.declared.inst.Plain.{Plain};
-ghost use Rattle.mips_isa.specs.Actions.{touches};
+ghost use Rattle.mips_isa.specs.Actions.{action_of, touches};
 ghost use Rattle.mblock.specs.declared.limits.TheConstants.{ORDER_INSTS};
 ghost use Rattle.mblock.specs.OrderMeaning.{exit_touches};
 ghost use Rattle.mblock.specs.Clean.{kinds_of, IsApart, IsBehind, HasQuietSlot, HasQuietEnd, IsClean, FitsSlot, BreaksFirst};
@@ -13,12 +13,12 @@ use crate::order::Order;
 use crate::unclean::Unclean;
 use mips_isa::{Action, Plain};
 
-/// Reports whether the first action loads a register that the second reads or writes.
-fn loads_for(a: &Action, b: &Action) -> bool
-    ensures { result ≡ loads_named a.now (touches b.now) }
+/// Reports whether the first instruction loads a register that the second reads or writes. It asks about the second only after a load.
+fn loads_for(a: &Plain, b: &Plain) -> bool
+    ensures { result ≡ loads_named (action_of a.now) (touches (action_of b.now)) }
 {
-    match *a {
-        Action::Loads { d, .. } => b.touches(d.reg()),
+    match a.action() {
+        Action::Loads { d, .. } => b.action().touches(d.reg()),
         _ => false,
     }
 }
@@ -38,7 +38,7 @@ fn is_conflict_at(insts: &[Plain], k: usize) -> bool
     requires { k ≤ ORDER_INSTS }
     ensures { result ≡ conflict_of (slice_get insts.now k) (slice_get insts.now (k + 1)) }
 {
-    k + 1 < insts.len() && loads_for(&insts[k].action(), &insts[k + 1].action())
+    k + 1 < insts.len() && loads_for(&insts[k], &insts[k + 1])
 }
 
 fn is_apart(insts: &[Plain]) -> bool
