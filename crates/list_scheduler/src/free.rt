@@ -7,6 +7,9 @@ use std::alloc::AllocError;
 // A rank's low bits are the number of an instruction: a block has fewer than 1,024 of them.
 const NUMBER_BITS: u32 = 10;
 
+// How many of the best ranks make way for another one before its place is looked up.
+const NEAR: usize = 8;
+
 /// Returns the rank of a node. The longer its way to the end the greater, and of two with ways of one length the earlier one has the
 /// greater rank.
 fn rank_of(node: &Node, number: u32) -> u32 {
@@ -16,6 +19,24 @@ fn rank_of(node: &Node, number: u32) -> u32 {
 /// Returns the number of the node of a rank.
 fn number_of(rank: u32) -> u32 {
     rank % (1 << NUMBER_BITS)
+}
+
+/// Puts a rank, which comes from this place on, among the others, which end at its place now.
+fn sink(lists: &mut [u32], rank: u32, near: usize, end: usize) {
+    let mut place = end;
+    for at in (near..end).rev() {
+        let better = match lists.get(at) {
+            Some(it) if *it > rank => *it,
+            _ => break,
+        };
+        if let Some(above) = lists.get_mut(place) {
+            *above = better;
+        }
+        place = at;
+    }
+    if let Some(it) = lists.get_mut(place) {
+        *it = rank;
+    }
 }
 
 /// The ranks of those that wait for no other, the best one last. They lie in the memory of the graph, from this place on.
@@ -41,15 +62,15 @@ impl Free {
         Ok(free)
     }
 
-    /// Returns the place of a rank.
-    fn place_of(&self, graph: &Graph, rank: u32) -> usize {
-        let (mut low, mut high) = (self.from, graph.lists.len());
+    /// Returns the place of a rank, which is before this one.
+    fn place_of(&self, lists: &[u32], rank: u32, before: usize) -> usize {
+        let (mut low, mut high) = (self.from, before);
         for _ in 0..64 {
             if low >= high {
                 break;
             }
-            let middle = low.midpoint(high);
-            match graph.lists.get(middle) {
+            let middle = low.wrapping_add(high.wrapping_sub(low) / 2);
+            match lists.get(middle) {
                 Some(it) if *it < rank => low = middle.saturating_add(1),
                 _ => high = middle,
             }
@@ -57,16 +78,23 @@ impl Free {
         low
     }
 
-    /// Adds one at its place.
+    /// Adds one at its place. Most come among the best few, so these make way for it one by one.
     fn insert(&self, graph: &mut Graph, rank: u32) -> Result<(), AllocError> {
-        let place = self.place_of(graph, rank);
-        if place >= graph.lists.len() {
-            graph.lists.push(rank)?;
-            return Ok(());
-        }
-        match graph.lists.insert(place, rank) {
-            Ok(()) => Ok(()),
-            Err(_) => Err(AllocError),
+        let end = graph.lists.len();
+        let near = end.saturating_sub(NEAR).max(self.from);
+        match graph.lists.get(near) {
+            Some(it) if *it > rank && near > self.from => {
+                let place = self.place_of(graph.lists.as_slice(), rank, near);
+                match graph.lists.insert(place.min(end), rank) {
+                    Ok(()) => Ok(()),
+                    Err(_) => Err(AllocError),
+                }
+            }
+            _ => {
+                graph.lists.push(rank)?;
+                sink(graph.lists.as_mut_slice(), rank, near, end);
+                Ok(())
+            }
         }
     }
 
