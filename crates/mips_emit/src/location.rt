@@ -72,16 +72,16 @@ fn in_frame(copies: &[SlotCopy], k: u32) -> Location
 }
 
 /// Returns a home as a location.
-fn location_of(home: Home, copies: &[SlotCopy], slots: u32) -> Location
-    requires few { 4 * slots ≤ FRAME_BYTES }
-    requires home { IsHome slots home }
-    requires range { (k r : ℕ) → copy_of copies.now k ≡ Some r → (FIRST_TEMPORARY ≤ r) × (r < GLOBAL_POINTER) }
-    ensures value { result ≡ location_of copies.now home }
+fn location_of(home: Home, frame: &Frame) -> Location
+    requires few { 4 * frame.now.slots ≤ FRAME_BYTES }
+    requires home { IsHome frame.now.slots home }
+    requires range { (k r : ℕ) → copy_of frame.now.copies.items k ≡ Some r → (FIRST_TEMPORARY ≤ r) × (r < GLOBAL_POINTER) }
+    ensures value { result ≡ location_of frame.now.copies.items home }
     ensures fits { FitsLocation result }
 {
     match home {
         Home::Reg(r) => Location::Held(register(r)),
-        Home::Slot(k) => in_frame(copies, k),
+        Home::Slot(k) => in_frame(frame.copies.as_slice(), k),
     }
 }
 
@@ -92,7 +92,7 @@ pub(crate) fn locate(frame: &Frame, x: Register) -> Option<Location>
     ensures fits { FitsPlace result }
 {
     match frame.homes.get(x as usize) {
-        Some(home) => Some(location_of(*home, frame.copies.as_slice(), frame.slots)),
+        Some(home) => Some(location_of(*home, frame)),
         None => None,
     }
 }
