@@ -284,6 +284,7 @@ fn put_offset(offset: &mut Option<Offset>, new: Option<Offset>)
 
 /// Learns what is known after an instruction; an Err means out of memory, and leaves what was known. An Err means out of memory, and leaves
 /// what was known.
+#[inline(always)]
 pub(crate) fn learn(facts: &mut Knowledge, frame: &Frame, inst: &RInst) -> Result<(), AllocError>
     requires frame { IsReachable frame.now }
     ensures kept { OnErr result (facts_of facts.new ≡ facts_of facts.old) }

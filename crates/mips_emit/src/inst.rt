@@ -232,6 +232,7 @@ fn element_at(
 }
 
 /// Emits one instruction.
+#[inline(always)]
 fn emit_inst(
     code: &mut Vec<Plain>,
     setting: &Setting<'_>,

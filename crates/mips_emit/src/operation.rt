@@ -251,6 +251,7 @@ pub struct Operand {
 }
 
 /// Returns a pseudo-register as an operand, with what is known of it.
+#[inline(always)]
 pub(crate) fn operand_with(facts: &Knowledge, frame: &Frame, x: Register) -> Operand
     requires { IsReachable frame.now }
     ensures value { result ≡ operand_with (locations frame.now) (facts_of facts.now) x }
