@@ -7,3 +7,4 @@ pub mod Starts
 pub mod Rounds
 pub mod Places
 pub mod Laws
+pub mod Threads

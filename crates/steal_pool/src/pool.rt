@@ -1,8 +1,11 @@
 //! Workers that steal: a task whose worker couldn't start is done by another.
+ghost use denote.Param.Send.{IsSync, IsSend};
 ghost use Rattle.std.specs.Prelude.{◌<◌, ◌≤◌, All, vec_len};
+ghost use Rattle.std.specs.Fork.{AcceptsEach};
 ghost use Rattle.term_table.specs.declared.limits.TheConstants.{MAX_PASSES};
 ghost use Rattle.steal_pool.specs.Places.{EachPlace};
 ghost use Rattle.steal_pool.specs.Members.{IsMember};
+ghost use Rattle.steal_pool.specs.Threads.{LeavesEach};
 
 use crate::answers::{nones, put_done};
 use crate::job::{Gate, Job};
@@ -11,8 +14,7 @@ use crate::start::members;
 use crate::unmarked::Unmarked;
 use std::alloc::Global;
 use std::sync::Wait;
-use std::thread;
-use std::thread::Threads;
+use std::thread::{Threads, for_each_mut, join_mut};
 use term_table::Pass;
 
 // One worker: its place among the deques, its pass of the table, and what it has answered.
@@ -48,7 +50,7 @@ pub fn run<R: Threads + Wait + Sync, J: Job + Sync, G: Gate + Sync>(
         return all;
     };
     let mut stations = stations::<J>(alloc, passes, members, job);
-    do_all(rt, count, job, gate, stations.as_mut_slice());
+    do_all(rt, job, gate, stations.as_mut_slice());
     for station in stations {
         put_done(job, &mut all, station.done);
     }
@@ -82,25 +84,50 @@ fn stations<J: Job>(
 /// Runs each station in a thread of its own, if one can be made.
 fn do_all<R: Threads + Wait + Sync, J: Job + Sync, G: Gate + Sync>(
     rt: &R,
-    count: usize,
     job: &J,
     gate: &G,
     stations: &mut [Station<J::Out>],
 )
-    requires some { 0 < count }
     requires ready { All (λ s. IsMember s.member × J.suits job.now s.pass × All (λ d. J.right job.now d.0 d.1) s.done.items) stations.old }
     ensures { All (λ s. All (λ d. J.right job.now d.0 d.1) s.done.items) stations.new }
 {
-    thread::for_each_mut(
-        rt,
-        stations,
-        count,
-        &|_w, station: &mut Station<J::Out>|
-            requires { IsMember station.now.member × J.suits job.now station.now.pass
-                × All (λ d. J.right job.now d.0 d.1) station.now.done.items }
-            ensures { All (λ d. J.right job.entry.now d.0 d.1) station.exit.now.done.items }
-        { work(rt, job, gate, station) },
-    );
+    let run_one = |_w: usize, station: &mut Station<J::Out>|
+        requires { IsMember station.now.member × J.suits job.now station.now.pass
+            × All (λ d. J.right job.now d.0 d.1) station.now.done.items }
+        ensures { All (λ d. J.right job.entry.now d.0 d.1) station.exit.now.done.items }
+    { work(rt, job, gate, station) };
+    if stations.len() < 2 {
+        for_each_mut(rt, stations, 1, &run_one);
+        return;
+    }
+    let (first, others) = stations.split_at_mut(1);
+    for_first_and_others(rt, &run_one, first, others);
+}
+
+/// Calls `f` at each value, each call in a thread of its own, the last one in this thread. This thread begins the thread of the first value,
+/// and those of two others. `for_each_mut` alone has a new thread begin one of four. Linux often puts that on the processor of the thread
+/// that began it, where it waits for some milliseconds.
+fn for_first_and_others<R: Threads + Sync, T: Send, F: Fn(usize, &mut T) + Sync>(
+    rt: &R,
+    f: &F,
+    first: &mut [T],
+    others: &mut [T],
+)
+    requires first { AcceptsEach F.Fn f.now first.old }
+    requires others { AcceptsEach F.Fn f.now others.old }
+    ensures first { LeavesEach F.Fn f.now first.old first.new }
+    ensures others { LeavesEach F.Fn f.now others.old others.new }
+{
+    let count = others.len().max(1);
+    let mut one = ||
+        requires { IsSync R.row × IsSync F.row × IsSend T.row × AcceptsEach F.Fn f.now first.now }
+        ensures { LeavesEach F.Fn f.entry.now first.entry.now first.exit.now }
+    { for_each_mut(rt, first, 1, f) };
+    let mut rest = ||
+        requires { IsSync R.row × IsSync F.row × IsSend T.row × (0 < count) × AcceptsEach F.Fn f.now others.now }
+        ensures { LeavesEach F.Fn f.entry.now others.entry.now others.exit.now }
+    { for_each_mut(rt, others, count, f) };
+    join_mut(rt, &mut one, &mut rest);
 }
 
 /// Takes tasks until each deque was found empty.
