@@ -1,5 +1,5 @@
 //! Blocks and orders as text: the check text that is read, and lines for people. What a block leaves in each place is read out of the
-//! validator's own table.
+//! validator's own table. A wrong order has a start that refutes it.
 //!
 //! Definitions: `specs/Whole.antt`, `specs/Shown.antt`, `specs/Written.antt`, `specs/Readers.antt`.
 //! Contract: `read`, `page_of`, `Writer`
@@ -23,6 +23,7 @@ mod spelled;
 mod stage;
 mod terms;
 mod text;
+mod witness;
 mod writer;
 
 pub use fault::PairFault;
@@ -33,4 +34,5 @@ pub use names::ExitName;
 pub use page::{WIDTH, page_of};
 pub use reader::{Text, read};
 pub use terms::{Left, ReadFault, Room, TermReader, table_of};
+pub use witness::put_found;
 pub use writer::Writer;

@@ -1,6 +1,6 @@
 //! A start that refutes an order, as lines.
 
-use block_text::Writer;
+use crate::writer::Writer;
 use counterexample::{
     Departs, Difference, Left, Start, Witness, find_start, loaded_words, run_block, run_order,
 };

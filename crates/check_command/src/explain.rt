@@ -4,10 +4,9 @@ ghost use Rattle.std.specs.Prelude.{All, IfOk};
 ghost use Rattle.block_text.specs.Shown.{IsShown};
 
 use crate::verdicts::{CheckAnswer, LONGEST};
-use crate::witness::put_found;
 use block_text::{
     ExitLine, PairFault, ReadFault, Text, WIDTH, Writer, block_place_text, order_place_text,
-    page_of, put_insts, read,
+    page_of, put_found, put_insts, read,
 };
 use block_validator::Place;
 use mblock::{Block, Exit, Order, Unclean};

@@ -21,10 +21,8 @@ mod several;
 mod texts;
 mod totals;
 mod verdicts;
-mod witness;
 
 pub use command::{AnswerPrinter, answer_check, check_file, print_answer, status_of, tell_check};
 pub use explained::{ExplainedAnswer, print_explained};
 pub use several::check_files;
 pub use verdicts::{CheckAnswer, CheckFault, LONGEST, check};
-pub use witness::put_found;

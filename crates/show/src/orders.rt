@@ -3,9 +3,8 @@
 ghost use Rattle.std.specs.Prelude.{All, IfSome};
 ghost use Rattle.term_table.specs.Passes.{IsOf};
 
-use block_text::{ExitLine, Writer, put_insts, put_order};
+use block_text::{ExitLine, Writer, put_found, put_insts, put_order};
 use block_validator::{Place, Verdict, validate};
-use check_command::put_found;
 use list_scheduler::{FilledOrder, ListOrder, Reorder};
 use mblock::{Block, Order, plain};
 use std::alloc::{AllocError, Global};
