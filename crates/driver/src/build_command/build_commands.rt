@@ -123,7 +123,8 @@ fn built_as_asked<T: Threads + Wait + Sync>(
     } else {
         let workers = workers_for(unit.blocks().len(), asked.workers);
         let phase = phase_of(workers, asked.nodes, asked.heads);
-        let built = scheduled_of(rt, alloc, &unit, phase, &FilledOrder(ListOrder), &Open);
+        let reorder = FilledOrder(ListOrder);
+        let built = scheduled_of(rt, alloc, &unit, phase, &reorder, &Open, Orders::Left);
         forget(unit);
         built
     }

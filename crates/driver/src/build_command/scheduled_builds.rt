@@ -60,6 +60,7 @@ pub(crate) fn scheduled_of<T: Threads + Wait + Sync, R: Reorder + Sync, G: Gate 
     phase: PhaseOpts,
     reorder: &R,
     gate: &G,
+    orders: Orders,
 ) -> Result<Built, BuildFault>
     ensures follows { IfOk result (λ b. (text : List ℕ) (depth : ℕ) → IsUnitOf text depth unit.now
         → FollowsText text depth (BLOCK_INSTS + 1) b.image.items) }
@@ -67,7 +68,7 @@ pub(crate) fn scheduled_of<T: Threads + Wait + Sync, R: Reorder + Sync, G: Gate 
     ensures fault { IfErr result (λ f. (text : List ℕ) (depth : ℕ) → IsUnitOf text depth unit.now → IsBuildFault text depth f) }
 {
     let scheduled = schedule_all(rt, alloc, unit, phase, reorder, gate);
-    write(alloc, scheduled, Orders::Freed)
+    write(alloc, scheduled, orders)
 }
 
 /// Returns the image of the program that the text spells. Each block has the order that the scheduler proposes, where it means the block,
@@ -87,7 +88,15 @@ pub fn build<T: Threads + Wait + Sync, R: Reorder + Sync, G: Gate + Sync>(
     ensures fault { IfErr result (IsBuildFault text.now options.now.depth) }
 {
     let unit = unit_of(alloc, text, options.depth)?;
-    scheduled_of(rt, alloc, &unit, options.phase, reorder, gate)
+    scheduled_of(
+        rt,
+        alloc,
+        &unit,
+        options.phase,
+        reorder,
+        gate,
+        Orders::Freed,
+    )
 }
 
 /// Returns the same by one worker without threads; no block is missed.
