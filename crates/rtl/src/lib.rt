@@ -1,8 +1,8 @@
 //! RTL, the intermediate language: functions of blocks over pseudo-registers. The idea of three-address code is CompCert's.
 //!
 //! Definitions: `specs/Programs.antt`, `specs/Meaning.antt`, `specs/Tails.antt`, `specs/Laws.antt`.
-//! Contract: `Rtl::new`, `run`, `Rtl::with_tails`, `values_are_words`, `operators_compute_as_c`
-//! - `Rtl::new` is Some exactly on programs, and `run` is exactly what n steps lead to.
+//! Contract: `Rtl::new`, `Rtl::if_blocks_fit`, `run`, `Rtl::with_tails`, `values_are_words`, `operators_compute_as_c`
+//! - `Rtl::new` and `Rtl::if_blocks_fit` are Some exactly on programs, and `run` is exactly what n steps lead to.
 //! - With tails a program has the same outcome after each number of steps.
 //! - Where C's operators give a value, RTL's give the same.
 #![tactic(auto)]
