@@ -11,7 +11,7 @@ ghost use Rattle.mips_select.specs.Whole.{numbers_in, numbers_from};
 
 use crate::fault::SelectFault;
 use crate::heads::{Naming, all_namings, count_of, lead_in};
-use crate::push::push;
+use crate::push::{list_for, push};
 use mblock::{BlockNumber, UNIT_BLOCKS};
 use rtl::{RBlock, RFunc};
 use std::alloc::{AllocError, Global};
@@ -103,15 +103,28 @@ pub(crate) struct Numbers {
     pub(crate) owners: Vec<BlockNumber>,
 }
 
-/// Returns those of no functions: the two blocks for start and end.
-fn first_numbers(alloc: Global) -> Result<Numbers, AllocError>
+/// Returns for how many blocks of some functions there is room at once, as many as may stand for them.
+fn room_for(functions: &[RFunc]) -> usize {
+    let mut count: usize = 2;
+    for func in functions {
+        let blocks = func.blocks.len();
+        count = count
+            .saturating_add(blocks)
+            .saturating_add(blocks)
+            .saturating_add(1);
+    }
+    count
+}
+
+/// Returns those of no functions: the two blocks for start and end. There is room for those of some functions.
+fn first_numbers(alloc: Global, functions: &[RFunc]) -> Result<Numbers, AllocError>
     ensures namings { IfOk result (λ n. n.namings.items ≡ []) }
     ensures entries { IfOk result (λ n. n.entries.items ≡ []) }
     ensures owners { IfOk result (λ n. n.owners.items ≡ 0 ∷ 0 ∷ []) }
 {
-    let namings = Vec::new(alloc);
-    let entries = Vec::new(alloc);
-    let mut owners = Vec::new(alloc);
+    let namings = list_for(alloc, functions.len());
+    let entries = list_for(alloc, functions.len());
+    let mut owners = list_for(alloc, room_for(functions));
     push_copies(&mut owners, number(0), 2)?;
     Ok(Numbers {
         namings,
@@ -145,7 +158,7 @@ pub(crate) fn number_functions(alloc: Global, functions: &[RFunc]) -> Result<Num
     ensures few { IfOk result (λ _. 2 + functions_size functions.now ≤ UNIT_BLOCKS) }
     ensures limit { IfErr result (λ e. e ≡ SelectFault.Limit → UNIT_BLOCKS < 2 + functions_size functions.now) }
 {
-    let mut numbers = first_numbers(alloc)?;
+    let mut numbers = first_numbers(alloc, functions)?;
     let mut k: usize = 2;
     for func in functions {
         let table = all_namings(alloc, func.blocks.as_slice())?;
@@ -190,7 +203,7 @@ pub(crate) fn number_each(
     requires number { 2 + functions_size functions.now ≤ UNIT_BLOCKS }
     ensures { IfOk result (λ ns. ns.items ≡ numbers_from 2 functions.now) }
 {
-    let mut numbers = Vec::new(alloc);
+    let mut numbers = list_for(alloc, room_for(functions));
     let mut k: usize = 2;
     for i in 0..functions.len() {
         let func = &functions[i];
