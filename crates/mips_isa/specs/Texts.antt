@@ -22,6 +22,8 @@ use Rattle.mips_isa.specs.declared.rule.Rule.TheVariants.{M1, M2, M3, M4, M5, M6
 use Rattle.mips_isa.specs.Controls.{branch_target, jump_target}
 use Rattle.mips_isa.specs.declared.text.Mnemonic.{Mnemonic}
 use Rattle.mips_isa.specs.declared.text.Mnemonic.TheVariants as mnemonics
+use Rattle.mips_isa.specs.declared.text.Operand.{Operand}
+use Rattle.mips_isa.specs.declared.text.Operand.TheVariants as operands
 
 abbrev pub register_text : ℕ → List ℕ
 register_text r = codes "$" ++ decimal r
@@ -148,6 +150,14 @@ control_operands (BranchZero test rs offset) slot = codes " "
 control_operands (JumpTo op target) slot = codes " " ++ target_text (jump_target slot target)
 control_operands (JumpRegister rs) slot = codes " " ++ register_text rs
 control_operands SystemCall slot = []
+
+-- the last operand of either
+abbrev pub operand_text : Operand → List ℕ
+operand_text (operands.Register r) = register_text r
+operand_text (operands.Signed n) = signed_decimal n
+operand_text (operands.Unsigned n) = decimal n
+operand_text (operands.Address base offset) = address_text base offset
+operand_text (operands.Target address) = target_text address
 
 -- the word at an address
 abbrev pub control_text : Control → (address : ℕ) → List ℕ

@@ -1,10 +1,10 @@
 //! The texts of instructions.
 
-ghost use Rattle.std.specs.Prelude.{◌≡◌, ◌++◌, IfSome, Some, codes};
+ghost use Rattle.std.specs.Prelude.{◌≡◌, ◌++◌, Some, codes};
 ghost use Rattle.std.specs.Fmt.{DisplaysOnOk, WritesOnOk};
 ghost use Rattle.mips_isa.specs.Actions.{nop};
-ghost use Rattle.mips_isa.specs.Texts.{address_text, is_nop, mnemonic_of, mnemonic_text, operands_text, instruction_text, register_text};
-ghost use Rattle.mips_isa.specs.Texts.{control_name, control_operands, control_text, target_text};
+ghost use Rattle.mips_isa.specs.Texts.{is_nop, mnemonic_of, mnemonic_text, operand_text, operands_text, instruction_text, register_text};
+ghost use Rattle.mips_isa.specs.Texts.{control_name, control_operands, control_text};
 
 use crate::digits::WordDigits;
 use crate::inst::{
@@ -146,59 +146,53 @@ impl fmt::Display for NonzeroReg {
     }
 }
 
-// `offset($base)`
+/// The last operand of an instruction's text.
 #[derive(Clone, Copy)]
-struct Address(Reg, i16);
+pub(crate) enum Operand {
+    Register(Reg),
+    Signed(i16),
+    Unsigned(u32),
+    Address(Reg, i16),
+    Target(u32),
+}
 
-impl fmt::Display for Address {
-    ghost output = { λ a. Some (address_text a.0 a.1) };
+impl fmt::Display for Operand {
+    ghost output = { λ o. Some (operand_text o) };
 
     fn fmt<W: fmt::Write>(&self, f: &mut fmt::Formatter<W>) -> fmt::Result {
-        let base = self.0;
-        let offset = self.1;
-        write!(f, "{offset}({base})")
+        match self {
+            Operand::Register(reg) => fmt::Display::fmt(reg, f),
+            Operand::Signed(number) => fmt::Display::fmt(number, f),
+            Operand::Unsigned(number) => fmt::Display::fmt(number, f),
+            Operand::Address(base, offset) => write!(f, "{offset}({base})"),
+            Operand::Target(address) => {
+                let digits = WordDigits(*address);
+                write!(f, "0x{digits}")
+            }
+        }
     }
 }
 
-// Where a branch or jump leads: `0x` and eight hexadecimal digits.
-#[derive(Clone, Copy)]
-struct Target(u32);
-
-impl fmt::Display for Target {
-    ghost output = { λ t. Some (target_text t.0) };
-
-    fn fmt<W: fmt::Write>(&self, f: &mut fmt::Formatter<W>) -> fmt::Result {
-        let digits = WordDigits(self.0);
-        write!(f, "0x{digits}")
-    }
-}
-
-fn write_one<W: fmt::Write, L: fmt::Display>(last: &L, f: &mut fmt::Formatter<W>) -> fmt::Result
-    ensures { IfSome (L.output last.now)
-        (λ text. WritesOnOk W.write_str_gives f.old result (codes " " ++ text) f.new) }
+fn write_one<W: fmt::Write>(last: Operand, f: &mut fmt::Formatter<W>) -> fmt::Result
+    ensures { WritesOnOk W.write_str_gives f.old result (codes " " ++ operand_text last) f.new }
 {
     write!(f, " {last}")
 }
 
-fn write_pair<W: fmt::Write, L: fmt::Display>(
-    a: Reg,
-    last: &L,
-    f: &mut fmt::Formatter<W>,
-) -> fmt::Result
-    ensures { IfSome (L.output last.now)
-        (λ text. WritesOnOk W.write_str_gives f.old result (codes " " ++ (register_text a ++ (codes "," ++ text))) f.new) }
+fn write_pair<W: fmt::Write>(a: Reg, last: Operand, f: &mut fmt::Formatter<W>) -> fmt::Result
+    ensures { WritesOnOk W.write_str_gives f.old result (codes " " ++ (register_text a ++ (codes "," ++ operand_text last))) f.new }
 {
     write!(f, " {a},{last}")
 }
 
-fn write_triple<W: fmt::Write, L: fmt::Display>(
+fn write_triple<W: fmt::Write>(
     a: Reg,
     b: Reg,
-    last: &L,
+    last: Operand,
     f: &mut fmt::Formatter<W>,
 ) -> fmt::Result
-    ensures { IfSome (L.output last.now) (λ text. WritesOnOk W.write_str_gives f.old result
-        (codes " " ++ (register_text a ++ (codes "," ++ (register_text b ++ (codes "," ++ text))))) f.new) }
+    ensures { WritesOnOk W.write_str_gives f.old result
+        (codes " " ++ (register_text a ++ (codes "," ++ (register_text b ++ (codes "," ++ operand_text last))))) f.new }
 {
     write!(f, " {a},{b},{last}")
 }
@@ -206,28 +200,32 @@ fn write_triple<W: fmt::Write, L: fmt::Display>(
 fn write_operands<W: fmt::Write>(inst: &Plain, f: &mut fmt::Formatter<W>) -> fmt::Result
     ensures { DisplaysOnOk W.write_str_gives f.old result (Some (codes " " ++ operands_text inst.now)) f.new }
 {
-    match inst {
-        Plain::Shift { rd, rt, amount, .. } => write_triple(*rd, *rt, &amount.bits(), f),
-        Plain::ShiftBy { rd, rt, rs, .. } => write_triple(*rd, *rt, rs, f),
-        Plain::Alu { rd, rs, rt, .. } => write_triple(*rd, *rs, rt, f),
-        Plain::Imm { rt, rs, imm, .. } => write_triple(*rt, *rs, imm, f),
-        Plain::Logic { rt, rs, imm, .. } => write_triple(*rt, *rs, imm, f),
-        Plain::LoadUpper { rt, imm } => write_pair(*rt, imm, f),
-        Plain::MoveFrom { rd, .. } => write_one(rd, f),
-        Plain::Multiply { rs, rt, .. } => write_pair(*rs, rt, f),
-        Plain::Divide { rs, rt, .. } => write_pair(*rs, rt, f),
+    match *inst {
+        Plain::Shift { rd, rt, amount, .. } => {
+            write_triple(rd, rt, Operand::Unsigned(u32::from(amount.bits())), f)
+        }
+        Plain::ShiftBy { rd, rt, rs, .. } => write_triple(rd, rt, Operand::Register(rs), f),
+        Plain::Alu { rd, rs, rt, .. } => write_triple(rd, rs, Operand::Register(rt), f),
+        Plain::Imm { rt, rs, imm, .. } => write_triple(rt, rs, Operand::Signed(imm), f),
+        Plain::Logic { rt, rs, imm, .. } => {
+            write_triple(rt, rs, Operand::Unsigned(u32::from(imm)), f)
+        }
+        Plain::LoadUpper { rt, imm } => write_pair(rt, Operand::Unsigned(u32::from(imm)), f),
+        Plain::MoveFrom { rd, .. } => write_one(Operand::Register(rd), f),
+        Plain::Multiply { rs, rt, .. } => write_pair(rs, Operand::Register(rt), f),
+        Plain::Divide { rs, rt, .. } => write_pair(rs, Operand::Register(rt), f),
         Plain::Load {
             rt,
             base,
             offset,
             ..
-        } => write_pair(rt.reg(), &Address(*base, *offset), f),
+        } => write_pair(rt.reg(), Operand::Address(base, offset), f),
         Plain::Store {
             rt,
             base,
             offset,
             ..
-        } => write_pair(*rt, &Address(*base, *offset), f),
+        } => write_pair(rt, Operand::Address(base, offset), f),
     }
 }
 
@@ -293,13 +291,13 @@ fn write_control_operands<W: fmt::Write>(
 {
     match *control {
         Control::BranchPair { rs, rt, offset, .. } => {
-            write_triple(rs, rt, &Target(branch_target(slot, offset)), f)
+            write_triple(rs, rt, Operand::Target(branch_target(slot, offset)), f)
         }
         Control::BranchZero { rs, offset, .. } => {
-            write_pair(rs, &Target(branch_target(slot, offset)), f)
+            write_pair(rs, Operand::Target(branch_target(slot, offset)), f)
         }
-        Control::JumpTo { target, .. } => write_one(&Target(jump_target(slot, target)), f),
-        Control::JumpRegister { rs } => write_one(&rs, f),
+        Control::JumpTo { target, .. } => write_one(Operand::Target(jump_target(slot, target)), f),
+        Control::JumpRegister { rs } => write_one(Operand::Register(rs), f),
         Control::SystemCall => Ok(()),
     }
 }
