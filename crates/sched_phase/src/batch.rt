@@ -10,41 +10,86 @@ use mblock::Block;
 use mips_isa::Plain;
 use term_table::MAX_HEADS;
 
-// A batch for one worker has at most so many terms, if it has more than one block: its table stays in the cache.
+// A batch for one worker has blocks of at most so many terms, if it has more than one: its table stays in the cache.
 const BATCH_TERMS: u64 = 8_192;
 
-// A batch for several workers has at most so many: their threads are started for each batch.
-const SHARED_BATCH_TERMS: u64 = 65_536;
+// A batch for several workers has blocks of at most so many: their threads are started for each batch.
+const SHARED_BATCH_TERMS: u64 = 49_152;
 
 // The terms of a start, and some that many blocks have.
 const START_TERMS: u64 = 64;
 
-/// Returns how many terms a block and an order of it are likely to have at most, besides those of a start and other blocks. About each
-/// second instruction has a result that no other has, and a Nop has none. A load may need the memory after half the stores again.
-fn terms_of(block: &Block) -> u64 {
-    let mut terms: u64 = 2;
+// Of the results of instructions, so many are taken to be all distinct, and of those beyond them three quarters.
+const DISTINCT_RESULTS: u64 = 2_048;
+
+// The most instructions of a short block.
+const SHORT_BLOCK: usize = 64;
+
+/// Returns how many memories these instructions may need: a load may need the one after each store before it.
+fn memories_of(insts: &[Plain]) -> u64 {
+    let mut memories: u64 = 0;
     let mut stores: u64 = 0;
-    for inst in block.insts() {
+    for inst in insts {
         match *inst {
-            Plain::Load { .. } => terms = terms.saturating_add(stores / 2),
+            Plain::Load { .. } => memories = memories.saturating_add(stores),
             Plain::Store { .. } => stores = stores.saturating_add(1),
             _ => {}
         }
-        if !inst.is_nop() {
-            terms = terms.saturating_add(1);
+    }
+    memories
+}
+
+/// How many terms blocks and orders of them are likely to have, besides those of a start: results of instructions, and memories.
+#[derive(Clone, Copy)]
+struct Terms {
+    results: u64,
+    memories: u64,
+}
+
+impl Terms {
+    /// Returns those of a block. Only a long one is read, since a short one has few memories.
+    fn of(block: &Block) -> Terms {
+        let insts = block.insts();
+        Terms {
+            results: insts.len() as u64,
+            memories: if insts.len() > SHORT_BLOCK {
+                memories_of(insts)
+            } else {
+                0
+            },
         }
     }
-    terms
+
+    fn plus(self, other: Terms) -> Terms {
+        Terms {
+            results: self.results.saturating_add(other.results),
+            memories: self.memories.saturating_add(other.memories),
+        }
+    }
+
+    fn all(self) -> u64 {
+        self.results.saturating_add(self.memories)
+    }
+
+    /// Returns how many of these are likely to be distinct, and those of a start.
+    fn distinct(self) -> u64 {
+        let results = self.results - self.results.saturating_sub(DISTINCT_RESULTS) / 4;
+        results
+            .saturating_add(self.memories)
+            .saturating_add(START_TERMS)
+    }
 }
 
 /// Returns how many terms a block may have by itself: four times as many.
 pub(crate) fn terms_alone(block: &Block) -> u64 {
-    terms_of(block)
+    let insts = block.insts();
+    (insts.len() as u64)
+        .saturating_add(memories_of(insts))
         .saturating_mul(4)
         .saturating_add(START_TERMS)
 }
 
-/// Returns the end of the batch that begins at a block, and how many terms its blocks are likely to have.
+/// Returns the end of the batch that begins at a block, and how many distinct terms its blocks are likely to have.
 pub(crate) fn batch_from(blocks: &[Block], first: usize, workers: u64) -> (usize, u64)
     requires { first < length blocks.now }
     ensures { (first < result.0) × (result.0 ≤ length blocks.now) }
@@ -54,15 +99,15 @@ pub(crate) fn batch_from(blocks: &[Block], first: usize, workers: u64) -> (usize
     } else {
         BATCH_TERMS
     };
-    let mut terms = START_TERMS.saturating_add(terms_of(&blocks[first]));
+    let mut terms = Terms::of(&blocks[first]);
     for end in first + 1..blocks.len() {
-        let more = terms.saturating_add(terms_of(&blocks[end]));
-        if more > most {
-            return (end, terms);
+        let more = terms.plus(Terms::of(&blocks[end]));
+        if more.all() > most {
+            return (end, terms.distinct());
         }
         terms = more;
     }
-    (blocks.len(), terms)
+    (blocks.len(), terms.distinct())
 }
 
 /// Returns how many workers a batch of so many blocks has.
