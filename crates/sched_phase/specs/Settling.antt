@@ -1,5 +1,6 @@
 -- One more block and its order.
-use Rattle.std.specs.Prelude.{◌≡◌, ℕ, ◌+◌, ◌≤◌, List, Option, Some, None, IfSome, length, slice_get}
+use Rattle.std.specs.Prelude.{◌≡◌, ℕ, ◌+◌, ◌≤◌, List, Option, Some, None, IfSome, Vec, length, slice_get}
+use Rattle.std.specs.declared.alloc.Global.{Global}
 use Rattle.mblock.specs.declared.limits.TheConstants.{BLOCK_INSTS}
 use Rattle.mblock.specs.Parts.{BlockParts, OrderParts}
 use Rattle.mblock.specs.Clean.{FitsSlot}
@@ -10,7 +11,6 @@ use Rattle.image.specs.Images.{total}
 use Rattle.image.specs.Views.{counts_of}
 use Rattle.block_validator.specs.declared.verdict.Verdict.{Verdict}
 use Rattle.block_validator.specs.declared.verdict.Verdict.TheVariants as verdicts
-use Rattle.steal_pool.specs.Places.{EachPlace}
 use Rattle.term_table.specs.Passes.{TableState, PassState, IsOf}
 use Rattle.sym_exec.specs.declared.state.TermPlaces.{TermPlaces}
 use Rattle.sym_exec.specs.Starts.{IsStart}
@@ -49,9 +49,13 @@ pub record AreDone (proposes : Proposals) (blocks : List BlockParts) (p : Progre
   pub serve : (i : ℕ) (b : BlockParts) (o : OrderParts) → slice_get blocks i ≡ Some b → slice_get p.orders.items i ≡ Some o → Serves b o
   pub sum : total (counts_of p.report) ≡ length p.orders.items
 
--- the verdicts of a batch. Each that is in the list is one for the block whose number is that of its place after the first
-abbrev pub AreRightFrom : Proposals → List BlockParts → ℕ → List (Option Verdict) → Type 0
-AreRightFrom proposes blocks first verdicts = EachPlace (λ i v. IsRightFor proposes blocks (first + i) v) verdicts
+-- verdicts for blocks one after another, from the one of this number on
+abbrev pub AreRightFrom : Proposals → List BlockParts → ℕ → List Verdict → Type 0
+AreRightFrom proposes blocks first verdicts = (k : ℕ) (v : Verdict) → slice_get verdicts k ≡ Some v → IsRightFor proposes blocks (first + k) v
+
+-- a run of blocks, by the number of its first one and the verdicts, if there is one
+abbrev pub IsRightRun : Proposals → List BlockParts → Option (ℕ × Vec Verdict Global) → Type 0
+IsRightRun proposes blocks run = IfSome run (λ r. AreRightFrom proposes blocks r.0 r.1.items)
 
 -- the pass is the table's, and knows the terms of the start, if they are there
 abbrev pub Knows : TableState → Option TermPlaces → PassState → Type 0

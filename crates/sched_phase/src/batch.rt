@@ -1,4 +1,4 @@
-//! The batches in which a phase goes through the blocks of a unit, and the sizes of the tables that they need.
+//! The batches in which a phase goes through the blocks of a unit, the runs of blocks in them, and the sizes of the tables that they need.
 //!
 //! A batch's table has room for the terms that its blocks are likely to have. No contract rests on that, since a block that finds the table
 //! full is judged again over tables of its own.
@@ -8,7 +8,7 @@ ghost use Rattle.term_table.specs.declared.limits.TheConstants.{MAX_HEADS, MAX_N
 use crate::options::PhaseOpts;
 use mblock::Block;
 use mips_isa::Plain;
-use term_table::MAX_HEADS;
+use term_table::{MAX_HEADS, MAX_PASSES};
 
 // A batch for one worker has blocks of at most so many terms, if it has more than one: its table stays in the cache.
 const BATCH_TERMS: u64 = 8_192;
@@ -24,6 +24,9 @@ const DISTINCT_RESULTS: u64 = 2_048;
 
 // The most instructions of a short block.
 const SHORT_BLOCK: usize = 64;
+
+// A worker takes at most so many blocks at once, and no more than let each of `MAX_PASSES` workers take some.
+const RUN_BLOCKS: usize = 16;
 
 /// Returns how many memories these instructions may need: a load may need the one after each store before it.
 fn memories_of(insts: &[Plain]) -> u64 {
@@ -108,6 +111,13 @@ pub(crate) fn batch_from(blocks: &[Block], first: usize, workers: u64) -> (usize
         terms = more;
     }
     (blocks.len(), terms.distinct())
+}
+
+/// Returns how many of so many blocks a worker takes at once.
+pub(crate) fn run_length(blocks: usize) -> usize
+    ensures { 0 < result }
+{
+    (blocks / MAX_PASSES as usize).max(1).min(RUN_BLOCKS)
 }
 
 /// Returns how many workers a batch of so many blocks has.

@@ -1,23 +1,22 @@
 //! All blocks of a unit, a batch after another, each by workers that share a table, or one after another.
-ghost use Rattle.std.specs.Prelude.{◌≡◌, ◌+◌, ◌<◌, ◌≤◌, IfOk, OnOk, IfSome, length};
+ghost use Rattle.std.specs.Prelude.{◌≡◌, ◌+◌, ◌<◌, ◌≤◌, All, IfOk, OnOk, length};
 ghost use Rattle.image.specs.Images.{total};
-ghost use Rattle.sched_phase.specs.Phases.{IsPhase, IsRightFor};
-ghost use Rattle.sched_phase.specs.Settling.{AreDone, AreRightFrom, ServesTerms};
+ghost use Rattle.sched_phase.specs.Phases.{IsPhase};
+ghost use Rattle.sched_phase.specs.Settling.{AreDone, AreRightFrom, IsRightRun, ServesTerms};
 
-use crate::batch::{batch_from, workers_for};
+use crate::batch::{batch_from, run_length, workers_for};
 use crate::options::PhaseOpts;
 use crate::scheduled::Scheduled;
 use crate::settle::Progress;
 use crate::terms::{BatchTerms, open_terms};
-use crate::work::{BatchGate, BlockJob, last_verdict};
+use crate::work::{BlockJob, RunVerdicts, last_verdict};
 use block_validator::Verdict;
 use list_scheduler::Reorder;
 use mblock::Unit;
 use std::alloc::{AllocError, Global};
-use std::mem;
 use std::sync::Wait;
 use std::thread::Threads;
-use steal_pool::{Gate, run};
+use steal_pool::{Gate, Open, run};
 use term_table::Pass;
 
 /// Gives each block of a unit an order. It is the one that the scheduler proposes, if the validator finds that it means its block, else the
@@ -63,64 +62,94 @@ fn schedule_batch<T: Threads + Wait + Sync, R: Reorder + Sync, G: Gate + Sync>(
     let first = progress.orders.len();
     let (end, terms) = batch_from(unit.blocks(), first, options.workers());
     let count = end - first;
+    let length = run_length(count);
     let (terms, passes) = open_terms(alloc, workers_for(options, count), options, terms)?;
     let job = BlockJob {
         alloc,
         unit,
         first,
+        end,
+        length,
         options,
         terms: &terms,
         reorder,
+        gate,
     };
-    let gate = BatchGate { first, gate };
-    let verdicts = run(rt, alloc, count, passes, &job, &gate);
-    settle_batch(alloc, reorder, unit, count, verdicts, progress)
+    let runs = run(rt, alloc, count.div_ceil(length), passes, &job, &Open);
+    settle_batch(alloc, reorder, unit, end, runs, progress)
 }
 
-/// Gives each of the next blocks an order by the verdict at its place.
+/// Gives each block before `end` an order by its verdict.
 fn settle_batch<'a, R: Reorder>(
     alloc: Global,
     reorder: &R,
     unit: &Unit,
-    count: usize,
-    mut verdicts: Vec<Option<Verdict<'a>>>,
+    end: usize,
+    runs: Vec<Option<RunVerdicts<'a>>>,
     progress: &mut Progress,
 ) -> Result<(), AllocError>
-    requires room { length progress.old.orders.items + count ≤ length unit.now.blocks }
-    requires right { AreRightFrom (R.proposes reorder.now) unit.now.blocks (length progress.old.orders.items) verdicts.items }
+    requires end { (length progress.old.orders.items ≤ end) × (end ≤ length unit.now.blocks) }
+    requires right { All (IsRightRun (R.proposes reorder.now) unit.now.blocks) runs.items }
     requires done { AreDone (R.proposes reorder.now) unit.now.blocks progress.old }
-    ensures more { OnOk result (length progress.new.orders.items ≡ length progress.old.orders.items + count) }
+    ensures more { OnOk result (length progress.new.orders.items ≡ end) }
     ensures done { OnOk result (AreDone (R.proposes reorder.now) unit.now.blocks progress.new) }
 {
-    let first = progress.orders.len();
+    for run in runs {
+        let Some((start, verdicts)) = run else {
+            continue;
+        };
+        if progress.orders.len() <= start && start < end {
+            settle_missed(alloc, reorder, unit, start, progress)?;
+            settle_run(alloc, reorder, unit, end, verdicts, progress)?;
+        }
+    }
+    settle_missed(alloc, reorder, unit, end, progress)
+}
+
+/// Gives the next blocks an order by a verdict each, but none from `end` on.
+fn settle_run<'a, R: Reorder>(
+    alloc: Global,
+    reorder: &R,
+    unit: &Unit,
+    end: usize,
+    verdicts: Vec<Verdict<'a>>,
+    progress: &mut Progress,
+) -> Result<(), AllocError>
+    requires end { (length progress.old.orders.items ≤ end) × (end ≤ length unit.now.blocks) }
+    requires right { AreRightFrom (R.proposes reorder.now) unit.now.blocks (length progress.old.orders.items) verdicts.items }
+    requires done { AreDone (R.proposes reorder.now) unit.now.blocks progress.old }
+    ensures within { OnOk result (length progress.new.orders.items ≤ end) }
+    ensures done { OnOk result (AreDone (R.proposes reorder.now) unit.now.blocks progress.new) }
+{
     let blocks = unit.blocks();
-    for i in 0..count {
-        let verdict = verdict_at(reorder, unit, first, &mut verdicts, i);
-        progress.settle(alloc, reorder, unit, &blocks[first + i], verdict)?;
+    for verdict in verdicts {
+        let next = progress.orders.len();
+        if next == end {
+            break;
+        }
+        progress.settle(alloc, reorder, unit, &blocks[next], Some(verdict))?;
     }
     Ok(())
 }
 
-/// Takes out the verdict at a place of a batch; None if there is none.
-fn verdict_at<'a, R: Reorder>(
+/// Gives each block before `end` its plain order, as one that was missed.
+fn settle_missed<R: Reorder>(
+    alloc: Global,
     reorder: &R,
     unit: &Unit,
-    first: usize,
-    verdicts: &mut Vec<Option<Verdict<'a>>>,
-    i: usize,
-) -> Option<Verdict<'a>>
-    requires { AreRightFrom (R.proposes reorder.now) unit.now.blocks first verdicts.old.items }
-    ensures rest { AreRightFrom (R.proposes reorder.now) unit.now.blocks first verdicts.new.items }
-    ensures right { IfSome result (IsRightFor (R.proposes reorder.now) unit.now.blocks (first + i)) }
+    end: usize,
+    progress: &mut Progress,
+) -> Result<(), AllocError>
+    requires end { (length progress.old.orders.items ≤ end) × (end ≤ length unit.now.blocks) }
+    requires done { AreDone (R.proposes reorder.now) unit.now.blocks progress.old }
+    ensures more { OnOk result (length progress.new.orders.items ≡ end) }
+    ensures done { OnOk result (AreDone (R.proposes reorder.now) unit.now.blocks progress.new) }
 {
-    let _ = reorder;
-    let _ = unit;
-    let _ = first;
-    if i < verdicts.len() {
-        mem::replace(&mut verdicts[i], None)
-    } else {
-        None
+    let blocks = unit.blocks();
+    for number in progress.orders.len()..end {
+        progress.settle(alloc, reorder, unit, &blocks[number], None)?;
     }
+    Ok(())
 }
 
 /// Returns the same by one worker without threads, whose tables have room for one: no block is missed.

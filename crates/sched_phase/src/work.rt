@@ -1,7 +1,6 @@
-//! The work on one block: an order is proposed and checked.
-ghost use Rattle.std.specs.Prelude.{◌+◌, Some};
-ghost use Rattle.sched_phase.specs.Phases.{Fits, IsRightFor};
-ghost use Rattle.sched_phase.specs.Settling.{ServesTerms};
+//! The work on blocks: for each an order is proposed and checked.
+ghost use Rattle.sched_phase.specs.Phases.{Fits};
+ghost use Rattle.sched_phase.specs.Settling.{AreRightFrom, ServesTerms};
 
 use crate::batch::terms_alone;
 use crate::options::PhaseOpts;
@@ -13,54 +12,54 @@ use std::alloc::Global;
 use steal_pool::{Gate, Job};
 use term_table::{MAX_NODES, Pass};
 
-/// A batch: the blocks of a unit from one number on, the terms that the workers share, and who proposes orders.
+/// A batch: the blocks of a unit from `first` to before `end`, which workers take in runs of `length`, the terms that they share, who
+/// proposes orders, and who is told of each block.
 #[derive(Drop)]
-pub(crate) struct BlockJob<'a, 't, R> {
+pub(crate) struct BlockJob<'a, 't, R, G> {
     pub(crate) alloc: Global,
     pub(crate) unit: &'a Unit,
     pub(crate) first: usize,
+    pub(crate) end: usize,
+    pub(crate) length: usize,
     pub(crate) options: PhaseOpts,
     pub(crate) terms: &'t BatchTerms,
     pub(crate) reorder: &'t R,
+    pub(crate) gate: &'t G,
 }
 
-impl<'a, 't, R: Reorder + Sync> Job for BlockJob<'a, 't, R> {
-    type Out = Verdict<'a>;
+/// The number of the first block of a run, and the verdicts of its blocks in order. The last blocks have none if memory was refused.
+pub(crate) type RunVerdicts<'a> = (usize, Vec<Verdict<'a>>);
 
-    ghost right = { λ job i out. IsRightFor (R.proposes job.reorder.now) job.unit.now.blocks (job.first + i) out };
+impl<'a, 't, R: Reorder + Sync, G: Gate + Sync> Job for BlockJob<'a, 't, R, G> {
+    type Out = RunVerdicts<'a>;
+
+    ghost right = { λ job i run. AreRightFrom (R.proposes job.reorder.now) job.unit.now.blocks run.0 run.1.items };
 
     ghost suits = { λ job pass. ServesTerms job.terms.now pass };
 
-    fn work(&self, i: usize, pass: &mut Pass) -> Verdict<'a> {
-        let Some(number) = self.first.checked_add(i) else {
-            return Verdict::NoMemory;
-        };
-        let Some(block) = self.unit.blocks().get(number) else {
-            return Verdict::NoMemory;
-        };
-        last_verdict(
-            self.alloc,
-            self.options,
-            self.terms,
-            pass,
-            self.reorder,
-            block,
-        )
-    }
-}
-
-/// The gate of a phase, told of a batch's blocks by their numbers in the unit.
-#[derive(Drop)]
-pub(crate) struct BatchGate<'g, G> {
-    pub(crate) first: usize,
-    pub(crate) gate: &'g G,
-}
-
-impl<'g, G: Gate> Gate for BatchGate<'g, G> {
-    fn enter(&self, i: usize) {
-        if let Some(number) = self.first.checked_add(i) {
+    fn work(&self, i: usize, pass: &mut Pass) -> RunVerdicts<'a> {
+        let start = i.saturating_mul(self.length).saturating_add(self.first);
+        let end = start.saturating_add(self.length).min(self.end);
+        let blocks = self.unit.blocks();
+        let mut verdicts = Vec::new(self.alloc);
+        // room for all, if it may be had at once
+        let _ = verdicts.reserve(self.length);
+        for number in start..end {
+            if number >= blocks.len() || verdicts.reserve(1).is_err() {
+                break;
+            }
             self.gate.enter(number);
+            let verdict = last_verdict(
+                self.alloc,
+                self.options,
+                self.terms,
+                pass,
+                self.reorder,
+                &blocks[number],
+            );
+            verdicts.push_reserved(verdict);
         }
+        (start, verdicts)
     }
 }
 

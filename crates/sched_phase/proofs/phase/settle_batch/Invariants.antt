@@ -1,11 +1,10 @@
-use Rattle.std.proofs.Common.{◌≡◌, ◌+◌, length}
-use Rattle.sched_phase.specs.Settling.{AreDone, AreRightFrom}
+use Rattle.std.proofs.Common.{◌≤◌, All, length}
+use Rattle.std.specs.Vec.Iter.{into_iter_items}
+use Rattle.sched_phase.specs.Settling.{AreDone, IsRightRun}
 use Rattle.sched_phase.proofs.phase.settle_batch.Given as goal
 
-abbrev pub invariant-loop-i : goal.invariant-loop-i
-invariant-loop-i g l =
-    AreRightFrom (g.R.Reorder.proposes l.reorder) l.unit.blocks l.first l.verdicts.items
+abbrev pub invariant-loop-run : goal.invariant-loop-run
+invariant-loop-run g l =
+    All (IsRightRun (g.R.Reorder.proposes l.reorder) l.unit.blocks) (into_iter_items l.run-iterator)
     × AreDone (g.R.Reorder.proposes l.reorder) l.unit.blocks l.progress
-    × (length l.progress.orders.items ≡ l.first + l.i)
-    × (l.blocks ≡ l.unit.blocks)
-    × (l.first ≡ length l.fn.progress.orders.items)
+    × (length l.progress.orders.items ≤ l.end)
