@@ -1,5 +1,5 @@
 //! Blocks and orders as text: the check text that is read, and lines for people. What a block leaves in each place is read out of the
-//! validator's own table. A wrong order has a start that refutes it.
+//! validator's own table. For a wrong order it looks for a start that refutes it.
 //!
 //! Definitions: `specs/Whole.antt`, `specs/Shown.antt`, `specs/Written.antt`, `specs/Readers.antt`.
 //! Contract: `read`, `page_of`, `Writer`
