@@ -2,8 +2,8 @@
 use Rattle.std.proofs.Common.{◌≡◌, ℕ, Bool, List, [], ◌∷◌, Option, Some, None, sym, subst, ⊎_elim}
 use Rattle.std.specs.Prelude.{IfSome, ◌⊎◌}
 use Rattle.term_table.specs.Passes.{PassState}
-use Rattle.term_values.specs.Meanings.{Means, AllMean}
-use Rattle.term_values.proofs.Meanings.{means_as, none_mean, first_means}
+use Rattle.term_table.specs.Meanings.{Means, AllMean}
+use Rattle.term_table.proofs.Meanings.{means_as, none_mean, first_means}
 use Rattle.example_circuits.specs.declared.gate.Gate.{Gate}
 use Rattle.example_circuits.specs.Meaning.{Inputs, made, gates, Commutes}
 

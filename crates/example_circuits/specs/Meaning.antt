@@ -1,6 +1,6 @@
 -- What circuits put out, and what terms mean.
 use Rattle.std.specs.Prelude.{◌≡◌, ℕ, Bool, false, not, ◌&&◌, ◌||◌, List, [], ◌∷◌, get_or}
-use Rattle.term_values.specs.Meanings.{Algebra}
+use Rattle.term_table.specs.Meanings.{Algebra}
 use Rattle.example_circuits.specs.declared.circuit.Circuit.{Circuit}
 use Rattle.example_circuits.specs.declared.circuit.Circuit.TheVariants as circuits
 use Rattle.example_circuits.specs.declared.gate.Gate.{Gate}

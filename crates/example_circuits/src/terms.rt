@@ -3,7 +3,7 @@ ghost use Rattle.std.specs.Prelude.{◌≡◌, ◌≤◌, ◌⊎◌, Bool, not, 
 ghost use Rattle.term_table.specs.Passes.{IsOf};
 ghost use Rattle.term_table.specs.Trees.{Extends};
 ghost use Rattle.term_table.specs.Terms.{HasSeenTerm, HasSeenTerms};
-ghost use Rattle.term_values.specs.Meanings.{Means, AllMean};
+ghost use Rattle.term_table.specs.Meanings.{Means, AllMean};
 ghost use Rattle.example_circuits.specs.Gates.{gate_coding, gate_arity};
 ghost use Rattle.example_circuits.specs.Meaning.{Inputs, made, gates, Commutes};
 
@@ -39,7 +39,7 @@ fn in_order(first: Ticket, second: Ticket) -> (Ticket, Ticket)
 }
 
 /// Returns the ticket of a gate whose inputs may be swapped. They come in the order of their tickets, so both ways round give one ticket.
-#[tactic(auto, using(term_table::proofs::TermCallers::interning, term_values::proofs::Meanings::meanings))]
+#[tactic(auto, using(term_table::proofs::TermCallers::interning, term_table::proofs::Meanings::meanings))]
 pub fn make_ordered(
     table: &TermTable,
     pass: &mut Pass,
@@ -62,7 +62,7 @@ pub fn make_ordered(
 }
 
 /// Returns the ticket of the inverse. The inverse of an inverse is what that inverts.
-#[tactic(auto, using(term_table::proofs::TermCallers::interning, term_values::proofs::Meanings::meanings))]
+#[tactic(auto, using(term_table::proofs::TermCallers::interning, term_table::proofs::Meanings::meanings))]
 pub fn invert(table: &TermTable, pass: &mut Pass, input: Ticket) -> Option<Ticket>
     requires own { IsOf table.now pass.old }
     requires seen { HasSeenTerm gate_coding pass.old input }

@@ -2,7 +2,7 @@
 ghost use Rattle.std.specs.Prelude.{◌≡◌, IsTrue, IfSome};
 ghost use Rattle.term_table.specs.Passes.{IsOf};
 ghost use Rattle.term_table.specs.Trees.{Extends};
-ghost use Rattle.term_values.specs.Meanings.{Means};
+ghost use Rattle.term_table.specs.Meanings.{Means};
 ghost use Rattle.example_circuits.specs.Meaning.{Inputs, output, gates};
 
 use crate::circuit::Circuit;
@@ -27,7 +27,7 @@ pub fn are_alike(alloc: Global, left: &Circuit, right: &Circuit) -> Option<bool>
 }
 
 /// Returns the ticket of a circuit's output. None if the pass has linked all it may.
-#[tactic(auto, using(term_table::proofs::TermCallers::interning, term_values::proofs::Meanings::meanings))]
+#[tactic(auto, using(term_table::proofs::TermCallers::interning, term_table::proofs::Meanings::meanings))]
 pub fn encode(table: &TermTable, pass: &mut Pass, circuit: &Circuit) -> Option<Ticket>
     requires own { IsOf table.now pass.old }
     ensures own { IsOf table.now pass.new }

@@ -3,8 +3,8 @@ use Rattle.std.proofs.Common.{◌≡◌, ℕ, ◌<◌, List, [], ◌∷◌, ◌+
 use Rattle.std.specs.Prelude.{map, slice_index}
 use Rattle.term_table.specs.Passes.{PassState}
 use Rattle.term_table.specs.Trees.{Extends}
-use Rattle.term_values.specs.Meanings.{Means, AllMean}
-use Rattle.term_values.proofs.Meanings.{still_all_mean, all_mean_as, none_mean, first_means, last_means, means_at}
+use Rattle.term_table.specs.Meanings.{Means, AllMean}
+use Rattle.term_table.proofs.Meanings.{still_all_mean, all_mean_as, none_mean, first_means, last_means, means_at}
 use Rattle.example_terms.specs.declared.block.Instruction.{Instruction}
 use Rattle.example_terms.specs.Meaning.{Environment, Value, nothing, at, made, values_behind, values_in, op_algebra}
 use Rattle.example_terms.specs.Standing.{AreAt, StandFor}

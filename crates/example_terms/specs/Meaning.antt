@@ -1,6 +1,6 @@
 -- What blocks mean, and what terms mean.
 use Rattle.std.specs.Prelude.{ℕ, ◌+◌, ◌*◌, ◌%◌, ◌^◌, ◌==◌, nat_lt, if◌then◌else◌, List, [], ◌∷◌, ◌++◌, map, get_or}
-use Rattle.term_values.specs.Meanings.{Algebra}
+use Rattle.term_table.specs.Meanings.{Algebra}
 use Rattle.example_terms.specs.Labels.{op_coding}
 use Rattle.example_terms.specs.declared.block.Instruction.{Instruction}
 use Rattle.example_terms.specs.declared.block.Block.{Block}

@@ -1,7 +1,7 @@
 -- What a pass knows of a block: tickets mean the values that its instructions make, in each environment.
 use Rattle.std.specs.Prelude.{◌≡◌, ℕ, ◌<◌, List, [], ◌∷◌, length, slice_index}
 use Rattle.term_table.specs.Passes.{TableState, PassState, IsOf}
-use Rattle.term_values.specs.Meanings.{Means, AllMean}
+use Rattle.term_table.specs.Meanings.{Means, AllMean}
 use Rattle.example_terms.specs.declared.block.Instruction.{Instruction}
 use Rattle.example_terms.specs.declared.block.Block.{Block}
 use Rattle.example_terms.specs.declared.symbolic.Ran.{Ran}

@@ -3,7 +3,7 @@ ghost use Rattle.std.specs.Prelude.{◌≡◌, ◌<◌, ◌++◌, [], ◌∷◌,
 ghost use Rattle.term_table.specs.Passes.{IsOf};
 ghost use Rattle.term_table.specs.Trees.{Extends};
 ghost use Rattle.term_table.specs.Terms.{HasSeenTerm, HasSeenTerms};
-ghost use Rattle.term_values.specs.Meanings.{Means, AllMean};
+ghost use Rattle.term_table.specs.Meanings.{Means, AllMean};
 ghost use Rattle.example_terms.specs.Labels.{op_coding, op_arity};
 ghost use Rattle.example_terms.specs.Meaning.{Environment, Value, just, made, op_algebra};
 ghost use Rattle.example_terms.specs.Standing.{StandFor, HasRun, AreAt};

@@ -1,5 +1,5 @@
 use Rattle.std.proofs.Common.{[], ◌∷◌}
-use Rattle.term_values.proofs.Meanings.{still_means, none_mean, first_means}
+use Rattle.term_table.proofs.Meanings.{still_means, none_mean, first_means}
 use Rattle.example_circuits.proofs.terms.invert.Goals as goal
 
 pub returns-clause-means : goal.returns-clause-means

@@ -1,6 +1,6 @@
 use Rattle.std.proofs.Common.{subst}
 use Rattle.std.specs.Prelude.{IfSome}
-use Rattle.term_values.proofs.Meanings.{still_means, learns_means, same_means}
+use Rattle.term_table.proofs.Meanings.{still_means, learns_means, same_means}
 use Rattle.example_circuits.specs.Encoded.{IsOutput}
 use Rattle.example_circuits.proofs.threads.are_alike_by_two.Goals as goal
 

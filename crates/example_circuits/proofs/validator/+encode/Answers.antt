@@ -1,7 +1,7 @@
 use Rattle.std.proofs.Common.{[], sym, subst}
 use Rattle.std.specs.Prelude.{IfSome}
-use Rattle.term_values.specs.Meanings.{Means}
-use Rattle.term_values.proofs.Meanings.{still_means, none_mean}
+use Rattle.term_table.specs.Meanings.{Means}
+use Rattle.term_table.proofs.Meanings.{still_means, none_mean}
 use Rattle.example_circuits.specs.Meaning.{output, gates}
 use Rattle.example_circuits.proofs.validator.+encode.Goals as goal
 

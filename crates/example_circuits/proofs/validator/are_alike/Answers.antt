@@ -1,4 +1,4 @@
-use Rattle.term_values.proofs.Meanings.{still_means, same_means}
+use Rattle.term_table.proofs.Meanings.{still_means, same_means}
 use Rattle.example_circuits.proofs.validator.are_alike.Goals as goal
 
 pub returns : goal.returns

@@ -1,7 +1,7 @@
 use Rattle.std.proofs.Common.{◌≡◌, [], ◌∷◌, length, sym, ap₂, subst, ◌∙◌, arith}
 use Rattle.std.specs.Prelude.{IfSome}
 use Rattle.std.proofs.lemmas.List.{get_or_default}
-use Rattle.term_values.proofs.Meanings.{still_means, means_seen, all_seen_mean, all_mean_length, two_values}
+use Rattle.term_table.proofs.Meanings.{still_means, means_seen, all_seen_mean, all_mean_length, two_values}
 use Rattle.example_terms.specs.Meaning.{Environment, Value, just, nothing, made, op_algebra}
 use Rattle.example_terms.proofs.Standing.{there_means}
 use Rattle.example_terms.proofs.symbolic.fold_constants.Goals as goal

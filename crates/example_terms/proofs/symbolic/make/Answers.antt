@@ -1,6 +1,6 @@
 use Rattle.std.proofs.Common.{◌≡◌, sym, subst}
 use Rattle.std.specs.Prelude.{IfSome}
-use Rattle.term_values.proofs.Meanings.{still_all_mean, means_as, none_mean, interned_means}
+use Rattle.term_table.proofs.Meanings.{still_all_mean, means_as, none_mean, interned_means}
 use Rattle.example_terms.specs.Meaning.{Environment, just, made}
 use Rattle.example_terms.proofs.symbolic.make.Goals as goal
 

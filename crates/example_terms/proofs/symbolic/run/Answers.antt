@@ -1,6 +1,6 @@
 use Rattle.std.proofs.Common.{◌≡◌, [], ◌∷◌, ◌++◌, ◌+◌, take, sym, ap, subst, ◌∙◌}
 use Rattle.std.proofs.lemmas.List.{take_all, take_more}
-use Rattle.term_values.proofs.Meanings.{none_mean}
+use Rattle.term_table.proofs.Meanings.{none_mean}
 use Rattle.example_terms.specs.Standing.{StandFor}
 use Rattle.example_terms.proofs.Standing.{there_means}
 use Rattle.example_terms.proofs.symbolic.run.Goals as goal

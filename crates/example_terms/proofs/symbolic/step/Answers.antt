@@ -1,8 +1,8 @@
 use Rattle.std.proofs.Common.{List, sym, subst}
 use Rattle.std.specs.Prelude.{map}
 use Rattle.term_table.specs.Terms.{HasSeenTerms}
-use Rattle.term_values.specs.Meanings.{AllMean}
-use Rattle.term_values.proofs.Meanings.{all_mean_seen}
+use Rattle.term_table.specs.Meanings.{AllMean}
+use Rattle.term_table.proofs.Meanings.{all_mean_seen}
 use Rattle.example_terms.specs.Labels.{op_coding}
 use Rattle.example_terms.specs.Meaning.{Environment, Value, at, values_in, op_algebra}
 use Rattle.example_terms.specs.Standing.{AreAt}

@@ -1,6 +1,6 @@
 use Rattle.std.proofs.Common.{ap₂}
 use Rattle.example_terms.specs.Meaning.{Value}
-use Rattle.term_values.proofs.Meanings.{still_means, learns_means, same_means}
+use Rattle.term_table.proofs.Meanings.{still_means, learns_means, same_means}
 use Rattle.example_terms.proofs.validator.agree.Goals as goal
 
 pub returns-then-same_term : goal.returns-then-same_term

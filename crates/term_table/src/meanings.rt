@@ -1,15 +1,9 @@
-//! What terms mean: their values by an algebra, for labels, values and environments of any types.
-//!
-//! Definitions: `specs/Meanings.antt`. Lemmas for callers, with a ruleset `meanings`: `proofs/Meanings.antt`.
-//! Contract: `meaning_lasts`, `labels_make_meanings`, `equal_tickets_mean_the_same`, `same_meanings_have_equal_tickets`
-//! - A ticket keeps its meaning as its handle goes on, and has it for each handle that learns of it.
-//! - What a label makes of its children's meanings is what its term means.
-//! - Equal tickets mean the same. Where values separate terms, tickets that mean the same are equal.
-#![tactic(auto)]
+//! What terms mean: their values by an algebra, for labels, values and environments of any types. Definitions: `specs/Meanings.antt`.
+//! Lemmas for callers, with a ruleset `meanings`: `proofs/Meanings.antt`.
 
 ghost use Rattle.term_labels.specs.Codings.{IsCoding};
-ghost use Rattle.term_values.specs.Meanings.{Algebra, MeaningLasts, LabelsMakeMeanings, EqualTicketsMeanTheSame, ValuesSeparateTerms};
-ghost use Rattle.term_values.specs.Meanings.{MeaningsHaveOneTicket};
+ghost use Rattle.term_table.specs.Meanings.{Algebra, MeaningLasts, LabelsMakeMeanings, EqualTicketsMeanTheSame, ValuesSeparateTerms};
+ghost use Rattle.term_table.specs.Meanings.{MeaningsHaveOneTicket};
 
 /// States that a ticket keeps its meaning as its handle goes on, and has it for each handle that learns of it. A law: it computes nothing.
 pub fn meaning_lasts<L, V, E>()

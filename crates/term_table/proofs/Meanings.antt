@@ -9,7 +9,7 @@ use Rattle.term_table.specs.Passes.{PassState}
 use Rattle.term_table.specs.Trees.{Extends, Learns, HasLegalHistory}
 use Rattle.term_table.specs.Terms.{HasTerm, HaveTerms, HasSeenTerm, HasSeenTerms, IsTermNode}
 use Rattle.term_table.proofs.TermCallers.{still_term, still_terms, learns_term, term_seen, seen_terms, terms_of, one_term, same_terms}
-use Rattle.term_values.specs.Meanings.{Algebra, value_of, values_of, Means, AllMean, ValuesSeparateTerms}
+use Rattle.term_table.specs.Meanings.{Algebra, value_of, values_of, Means, AllMean, ValuesSeparateTerms}
 
 module _ {L V E : Type 0} {a : Algebra L V E} {p q : PassState} where
   -- what a pass knew, it knows later
@@ -163,5 +163,5 @@ one_ticket {L} {V} {E} {a} {p} {t} {u} {f} {g} is separate legal h k same =
     let values : (e : E) → value_of a h.term e ≡ value_of a k.term e = λ e. h.value e ∙ (same e ∙ sym (k.value e)) in
     (same_terms is legal h.has k.has).1 (one_value a separate h.term k.term h.has.proper k.has.proper values)
 
--- for a function that makes terms: `#[tactic(auto, using(term_values::proofs::Meanings::meanings))]`
+-- for a function that makes terms: `#[tactic(auto, using(term_table::proofs::Meanings::meanings))]`
 pub ruleset meanings = (still_means, still_all_mean, means_seen, all_mean_seen, none_mean, first_means, interned_means)

@@ -1,5 +1,0 @@
-use Rattle.term_values.proofs.Meanings.{still_means, learns_means}
-use Rattle.term_values.proofs.meaning_lasts.Goals as goal
-
-pub returns : goal.returns
-returns g c = λ a. record { still = λ p q t f. still_means; learns = λ p q t f. learns_means }
