@@ -10,14 +10,14 @@ use Rattle.rtl.proofs.Names.{bound_one, bound_least}
 use Rattle.rtl.specs.Names.{bound, blocks_names, how_many, uses_of}
 use Rattle.mips_homes.specs.Convention.{IsCalleeSaved}
 use Rattle.mips_homes.specs.HomedRun.{is_in, is_callee_saved, homed_run}
-use Rattle.mips_homes.specs.Homes.{HasHome, HaveHomes, Serves, AreAllHomes}
+use Rattle.mips_homes.specs.Homes.{HasHome, HaveHomes, AreApart, Serves, AreAllHomes, cell}
 use Rattle.mips_homes.specs.Laws.{KeepsRtlRuns}
 use Rattle.mips_homes.specs.Choice.{count_below, rank, is_register_home, IsChoice, AreChoices}
 use Rattle.mips_homes.specs.Best.{IsRanked, IsBest, IsHome, AreHomesOf, AreFirst}
 use Rattle.mips_homes.proofs.Choosing.{one_if, count_none, count_all, count_more, at_index, is_in_at, in_best}
 use Rattle.mips_homes.proofs.Lockstep.{each_homed_run}
 use Rattle.mips_homes.specs.declared.homed.Home.{Home}
-use Rattle.mips_homes.specs.declared.homed.Home.TheVariants.{Reg, Slot}
+use Rattle.mips_homes.specs.declared.homed.Home.TheVariants.{Reg, Slot, Copied}
 use Rattle.mips_homes.specs.declared.homed.Frame.{Frame}
 use Rattle.mips_homes.specs.declared.homed.Homed.{Homed}
 use Rattle.rtl.specs.declared.block.RFunc.{RFunc}
@@ -91,6 +91,7 @@ choice func frame best ok made first = record {
   saved = λ j r got. saved j r got;
   saved_once = λ i j r p q. (let a = first.by i r p in let b = first.by j r q in omega (arith, a, b));
   slots = slots;
+  uncopied = λ x r k got. made.by x (Copied r k) got;
   in_slots = λ x k got. in_slots x k (within x (Slot k) got) (made.by x (Slot k) got);
 }
   where
@@ -120,6 +121,7 @@ choice func frame best ok made first = record {
             let long = ok.all x lt is.0 in
             let at = in_best (uses_of func) (how_many func) best x ok.ranked lt (omega (arith, low, long)) in
             absurd (true≢false (sym (is_in_at best (rank (uses_of func) (how_many func) x) x at) ∙ is.0))
+    chosen x (Copied r k) is lt = absurd is
 
     apart : (x y : ℕ) (h : Home) → IsHome best x h → IsHome best y h → x ≡ y
     apart x y (Reg r) p q =
@@ -131,6 +133,7 @@ choice func frame best ok made first = record {
       where
         less : (x y k : ℕ) → x < y → IsHome best x (Slot k) → IsHome best y (Slot k) → x ≡ y
         less x y k lt p q = (let le = slot_below best x y lt p.0 in let a = p.1 in let b = q.1 in absurd (omega (arith, le, a, b)))
+    apart x y (Copied r k) p q = absurd p
 
     registers : (x r : ℕ) → IsHome best x (Reg r) → IsCalleeSaved r × (is_in frame.saved.items r ≡ true)
     registers x r is =
@@ -159,6 +162,7 @@ choice func frame best ok made first = record {
             let e : q ≡ r = omega (arith, a, b, c) in
             ap Reg e
         reg x (Slot k) at is = absurd (true≢false (sym (is_in_at best j x at) ∙ is.0))
+        reg x (Copied q k) at is = absurd is
 
     slots : frame.slots ≡ how_many func - 8
     slots = slots_are (uses_of func) (how_many func) frame.slots best frame.homes.items ok made
@@ -198,13 +202,25 @@ named_below homes n (x ∷ xs) le =
 pub home_callee_saved : (r : ℕ) → 16 ≤ r → r < 24 → is_callee_saved r ≡ true
 home_callee_saved r low high = ap₂ (λ a b. a && b) (lt-ltb 15 r (omega (arith, low))) (lt-ltb r 24 high)
 
+-- a home without a copy is its cell
+pub plain : (h : Home) → ((r k : ℕ) → h ≡ Copied r k → ⊥) → cell h ≡ h
+plain (Reg r) none = refl
+plain (Slot k) none = refl
+plain (Copied r k) none = absurd (none r k refl)
+
+pub plain_apart : (hs : List Home) → ((x : ℕ) (h : Home) → slice_get hs x ≡ Some h → cell h ≡ h)
+    → ((x y : ℕ) (h : Home) → slice_get hs x ≡ Some h → slice_get hs y ≡ Some h → x ≡ y) → AreApart hs
+plain_apart hs plain apart x y h g at_x at_y e =
+    let same : h ≡ g = sym (plain x h at_x) ∙ e ∙ plain y g at_y in
+    apart x y g (at_x ∙ ap Some same) at_y
+
 -- the choice serves
 pub serves : (func : RFunc) (frame : Frame) → IsChoice func frame → Serves frame func
 serves func frame is =
     let long = is.long in
     record {
       homes = record {
-        apart = is.apart;
+        apart = plain_apart frame.homes.items (λ x h at. plain h (λ r k e. is.uncopied x r k (at ∙ ap Some e))) is.apart;
         kept = λ x r got lasts. (is.registers x r got).1;
         local = λ x r got passes. absurd (true≢false (sym (home_callee_saved r (is.registers x r got).0.0 (is.registers x r got).0.1) ∙ passes));
         named =

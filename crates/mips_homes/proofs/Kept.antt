@@ -20,7 +20,7 @@ use Rattle.mips_homes.proofs.Lockstep.{callee_saved_twice}
 use Rattle.mips_homes.proofs.Chosen.{home_callee_saved, choice_keeps_runs}
 use Rattle.mips_homes.proofs.Located.{AreCalleeSaved}
 use Rattle.mips_homes.specs.declared.homed.Home.{Home}
-use Rattle.mips_homes.specs.declared.homed.Home.TheVariants.{Reg, Slot}
+use Rattle.mips_homes.specs.declared.homed.Home.TheVariants.{Reg, Slot, Copied}
 use Rattle.mips_homes.specs.declared.homed.Frame.{Frame}
 use Rattle.mips_homes.specs.declared.homed.Homed.{Homed}
 use Rattle.rtl.specs.declared.instruction.RInst.{RInst}
@@ -87,6 +87,7 @@ write_keeps hs r s x v out go homes e f = value_keeps (slice_get hs x) out (λ h
     at : (h : Home) → slice_get hs x ≡ Some h → RunKeeps (write_at h r s v go)
     at (Reg q) there = f (places_with r q (Some v)) s (write_lasts r q (Some v) e (homes x q there))
     at (Slot k) there = f r (places_with s k (Some v)) e
+    at (Copied q k) there = f r (places_with s k (Some v)) e
 
 writes_keep : (hs : List Home) (r s : Places) (x : ℕ) (vs : List ℕ) (out : List ℕ) (go : Places → Places → Run) → AreCalleeSaved hs → OnlyCalleeSaved r
     → ((r' s' : Places) → OnlyCalleeSaved r' → RunKeeps (go r' s')) → RunKeeps (write_homes (cells hs r s) x vs out go)

@@ -22,7 +22,7 @@ use Rattle.rtl.specs.Names.{how_many, uses_of}
 use Rattle.mips_homes.specs.Choice.{IsChoice, is_register_home, rank}
 use Rattle.mips_homes.specs.Places.{IsPlacedFor, ArePlaced}
 use Rattle.mips_homes.specs.declared.homed.Home.{Home}
-use Rattle.mips_homes.specs.declared.homed.Home.TheVariants.{Reg, Slot}
+use Rattle.mips_homes.specs.declared.homed.Home.TheVariants.{Reg, Slot, Copied}
 use Rattle.mips_homes.specs.declared.homed.Frame.{Frame}
 use Rattle.mips_homes.specs.declared.homed.Homed.{Homed}
 
@@ -91,10 +91,10 @@ module _ (g : Global) where
       function (suc (suc k)) d lt = absurd (omega (arith, lt))
 
   abbrev chosen : Frame
-  chosen = record { homes = one (Reg 16); saved = one 16; slots = 0; copies = none }
+  chosen = record { homes = one (Reg 16); saved = one 16; slots = 0 }
 
   abbrev placed : Frame
-  placed = record { homes = one (Reg 8); saved = none; slots = 0; copies = none }
+  placed = record { homes = one (Reg 8); saved = none; slots = 0 }
 
   abbrev leaking : Homed
   leaking = record { rtl = record { ref_ptr = (0, 0); now = program }; frames = two placed placed }
@@ -109,7 +109,8 @@ module _ (g : Global) where
     saved = λ j r got. (0, saved j r got);
     saved_once = λ i j r p q. place i r p ∙ sym (place j r q);
     slots = slots;
-    in_slots = λ x k got. absurd (slot_not k (which x (Slot k) got));
+    uncopied = λ x r k got. reg_not (Copied r k) refl (which x (Copied r k) got);
+    in_slots = λ x k got. absurd (reg_not (Slot k) refl (which x (Slot k) got));
   }
     where
       slots : 0 ≡ how_many func - 8
@@ -134,13 +135,14 @@ module _ (g : Global) where
       number : Home → ℕ
       number (Reg r) = r
       number (Slot k) = 0
+      number (Copied r k) = 0
 
       registers : (r : ℕ) → Reg 16 ≡ Reg r → ((16 ≤ r) × (r < 24)) × (is_in (16 ∷ []) r ≡ true)
       registers r e = let same : 16 ≡ r = ap number e in
           ((omega (arith, same), omega (arith, same)), sym (ap (is_in (16 ∷ [])) same))
 
-      slot_not : (k : ℕ) → Reg 16 ≡ Slot k → ⊥
-      slot_not k e = absurd (true≢false (ap is_register_home e))
+      reg_not : (h : Home) → is_register_home h ≡ false → Reg 16 ≡ h → ⊥
+      reg_not h slot e = true≢false (ap is_register_home e ∙ slot)
 
       ranked : (x : ℕ) (h : Home) → slice_get (Reg 16 ∷ []) x ≡ Some h → is_register_home h ≡ nat_lt (rank (uses_of func) (how_many func) x) 8
       ranked zero h e = sym (ap is_register_home (same_Some (Reg 16) h e))
@@ -151,10 +153,10 @@ module _ (g : Global) where
       → IsPlacedFor func frame
   is_placed func frame zero e f = subst (λ func. IsPlacedFor func frame) (same_Some caller func e)
       (subst (IsPlacedFor caller) (same_Some placed frame f)
-      (record { choice = chosen; is = is_choice caller refl refl; placed = record { homes = refl; saved = refl; slots = refl; copies = refl } }))
+      (record { choice = chosen; is = is_choice caller refl refl; placed = record { homes = refl; saved = refl; slots = refl } }))
   is_placed func frame (suc zero) e f = subst (λ func. IsPlacedFor func frame) (same_Some callee func e)
       (subst (IsPlacedFor callee) (same_Some placed frame f)
-      (record { choice = chosen; is = is_choice callee refl refl; placed = record { homes = refl; saved = refl; slots = refl; copies = refl } }))
+      (record { choice = chosen; is = is_choice callee refl refl; placed = record { homes = refl; saved = refl; slots = refl } }))
   is_placed func frame (suc (suc i)) e f = absurd (none-some func e)
 
   are_placed : ArePlaced leaking

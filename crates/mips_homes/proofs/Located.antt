@@ -7,19 +7,21 @@ use Rattle.std.proofs.lemmas.List.{append_assoc}
 use Rattle.std.proofs.lemmas.Option.{slice_get_within, same_Some, none-some}
 use Rattle.rtl.specs.Names.{blocks_names, how_many, optional}
 use Rattle.mips_homes.specs.HomedRun.{is_in, is_callee_saved, homed_run}
-use Rattle.mips_homes.specs.Homes.{Serves}
+use Rattle.mips_homes.specs.Homes.{AreApart, Serves, cell}
 use Rattle.mips_homes.specs.Laws.{KeepsRtlRuns}
 use Rattle.mips_homes.specs.Choice.{IsChoice}
 use Rattle.mips_homes.specs.Locals.{is_local, none_reads_first, some_go_to, block_reads_first}
 use Rattle.mips_homes.specs.Preferences.{reach_from, exit_reach, blocks_reach, register_of, preference}
 use Rattle.mips_homes.specs.Convention.{temporaries}
+use Rattle.mips_homes.specs.Copies.{unused}
 use Rattle.mips_homes.specs.Places.{first_free, free_register, home_or, also, places_from, is_register, lives_in, still_saved, is_slot, some_slot, IsPlaced, ArePlaced}
 use Rattle.mips_homes.proofs.Choosing.{at_index, drop_at}
 use Rattle.rtl.proofs.Names.{bound_least}
-use Rattle.mips_homes.proofs.Chosen.{home_callee_saved, home_at, named_below}
+use Rattle.mips_homes.proofs.Chosen.{home_callee_saved, home_at, named_below, plain}
+use Rattle.mips_homes.proofs.Copying.{copied_get, copied_long}
 use Rattle.mips_homes.proofs.Lockstep.{each_homed_run}
 use Rattle.mips_homes.specs.declared.homed.Home.{Home}
-use Rattle.mips_homes.specs.declared.homed.Home.TheVariants.{Reg, Slot}
+use Rattle.mips_homes.specs.declared.homed.Home.TheVariants.{Reg}
 use Rattle.mips_homes.specs.declared.homed.Frame.{Frame}
 use Rattle.mips_homes.specs.declared.homed.Homed.{Homed}
 use Rattle.rtl.specs.declared.block.RBlock.{RBlock}
@@ -182,6 +184,29 @@ each_temporary [] all r e = absurd (true≢false (sym e))
 each_temporary (q ∷ rs) all r e =
     let both = and_parts (temporary_test q) (all_temporary rs) all in
     is_or q r (is_in rs r) (λ same. subst IsTemporary same (is_caller_saved q both.0)) (each_temporary rs both.1 r) e
+
+-- the registers that are left for copies
+pub unused_is : (hs : List Home) (rs : List ℕ) (j r : ℕ) → slice_get (unused hs rs) j ≡ Some r → (is_in rs r ≡ true) × (lives_in hs r ≡ false)
+unused_is hs [] j r e = absurd (none-some r e)
+unused_is hs (q ∷ rs) j r e = by (lives_in hs q) refl j e (λ j e. unused_is hs rs j r e)
+  where
+    later : (c : Bool) → is_in rs r ≡ true → (c || is_in rs r) ≡ true
+    later true e = refl
+    later false e = e
+
+    by : (b : Bool) → lives_in hs q ≡ b → (j : ℕ) → slice_get (if b then unused hs rs else q ∷ unused hs rs) j ≡ Some r
+        → ((j : ℕ) → slice_get (unused hs rs) j ≡ Some r → (is_in rs r ≡ true) × (lives_in hs r ≡ false)) → (is_in (q ∷ rs) r ≡ true) × (lives_in hs r ≡ false)
+    by true t j e rest = (let w = rest j e in (later (nat_eq r q) w.0, w.1))
+    by false t zero e rest = (let same = same_Some q r e in (ap (λ b. b || is_in rs r) (eq-eqb r q (sym same)), sym (ap (lives_in hs) same) ∙ t))
+    by false t (suc j) e rest = (let w = rest j e in (later (nat_eq r q) w.0, w.1))
+
+pub unused_temporary : (hs : List Home) (j r : ℕ) → slice_get (unused hs temporaries) j ≡ Some r → IsTemporary r × (lives_in hs r ≡ false)
+unused_temporary hs j r e = (let w = unused_is hs temporaries j r e in (each_temporary temporaries refl r w.0, w.1))
+
+pub unused_range : (hs : List Home) (free : List ℕ) (j r : ℕ) → free ≡ unused hs temporaries → slice_get free j ≡ Some r → (0 < r) × (r < 32)
+unused_range hs free j r is e =
+    let range = (unused_temporary hs j r (sym (ap (λ l. slice_get l j) is) ∙ e)).0 in
+    (let low = range.0 in omega (arith, low), let high = range.1 in omega (arith, high))
 
 -- the register that is passed
 pub temporary_range : (local : ℕ → Bool) (preference : ℕ → Option ℕ) → ArePreferences preference → (x : ℕ) (taken : List ℕ) (h : Home) (p : GetsTemporary local preference x taken h)
@@ -365,10 +390,10 @@ still_few hs (q ∷ rs) = by (still_few hs rs) (lives_in hs q)
     by rest true = omega (arith, rest)
     by rest false = omega (arith, rest)
 
-pub has_slot : (hs : List Home) (x k : ℕ) → slice_get hs x ≡ Some (Slot k) → some_slot hs ≡ true
-has_slot [] x k e = absurd (none-some (Slot k) e)
-has_slot (h ∷ hs) zero k e = ap (λ h. if is_slot h then true else some_slot hs) (same_Some h (Slot k) e)
-has_slot (h ∷ hs) (suc x) k e = by (is_slot h) (has_slot hs x k e)
+pub has_slot : (hs : List Home) (x : ℕ) (h : Home) → slice_get hs x ≡ Some h → is_slot h ≡ true → some_slot hs ≡ true
+has_slot [] x g e slot = absurd (none-some g e)
+has_slot (h ∷ hs) zero g e slot = ap (λ c. if c then true else some_slot hs) (ap is_slot (same_Some h g e) ∙ slot)
+has_slot (h ∷ hs) (suc x) g e slot = by (is_slot h) (has_slot hs x g e slot)
   where
     by : (c : Bool) → some_slot hs ≡ true → (if c then true else some_slot hs) ≡ true
     by true rest = refl
@@ -384,11 +409,30 @@ module _ (func : RFunc) (c f : Frame) (ok : IsChoice func c) (p : IsPlaced func.
   pub choice_callee_saved : AreCalleeSaved c.homes.items
   choice_callee_saved x r e = let range = ok.registers x r e in home_callee_saved r range.0.0 range.0.1
 
-  pub case_of : (x : ℕ) (h : Home) → slice_get f.homes.items x ≡ Some h → (slice_get c.homes.items x ≡ Some h) ⊎ GetsTemporaryIn x h
-  case_of x h e =
+  -- the homes before slots have copies
+  abbrev pub uncopied : List Home
+  uncopied = places_from (is_local func.blocks.items) (preference func.parameters func.blocks.items) 0 [] c.homes.items
+
+  case_before : (x : ℕ) (h : Home) → slice_get uncopied x ≡ Some h → (slice_get c.homes.items x ≡ Some h) ⊎ GetsTemporaryIn x h
+  case_before x h e =
       let at : 0 + x ≡ x = omega arith in
       subst (λ y. (slice_get c.homes.items x ≡ Some h) ⊎ GetsTemporaryIn y h) at
-      (place_case (is_local func.blocks.items) (preference func.parameters func.blocks.items) 0 [] c.homes.items x h (sym (ap (λ l. slice_get l x) p.homes) ∙ e))
+      (place_case (is_local func.blocks.items) (preference func.parameters func.blocks.items) 0 [] c.homes.items x h e)
+
+  pub is_plain : (x : ℕ) (h : Home) → slice_get uncopied x ≡ Some h → cell h ≡ h
+  is_plain x h e = by (case_before x h e)
+    where
+      by : (slice_get c.homes.items x ≡ Some h) ⊎ GetsTemporaryIn x h → cell h ≡ h
+      by (inl home) = plain h (λ r k is. ok.uncopied x r k (home ∙ ap Some is))
+      by (inr q) = subst (λ h. cell h ≡ h) (sym q.is) refl
+
+  pub before_copy : (x : ℕ) (h : Home) → slice_get f.homes.items x ≡ Some h → slice_get uncopied x ≡ Some (cell h)
+  before_copy x h e =
+      let before = copied_get func.blocks.items uncopied x h (sym (ap (λ l. slice_get l x) p.homes) ∙ e) in
+      before.1 ∙ ap Some (sym (is_plain x before.0 before.1) ∙ before.2)
+
+  pub case_of : (x : ℕ) (h : Home) → slice_get f.homes.items x ≡ Some h → (slice_get c.homes.items x ≡ Some (cell h)) ⊎ GetsTemporaryIn x (cell h)
+  case_of x h e = case_before x (cell h) (before_copy x h e)
 
   -- a register below 8 is that of the preference: no argument is passed behind it, and a parameter comes in it
   pub seated : (x r : ℕ) → slice_get f.homes.items x ≡ Some (Reg r)
@@ -429,12 +473,12 @@ module _ (func : RFunc) (c f : Frame) (ok : IsChoice func c) (p : IsPlaced func.
           (temporary_range (is_local func.blocks.items) (preference func.parameters func.blocks.items) (preferences_range func.parameters func.blocks.items) x [] (Reg r) q)
 
   pub places_long_as : length f.homes.items ≡ how_many func
-  places_long_as = ap length p.homes ∙ places_long (is_local func.blocks.items) (preference func.parameters func.blocks.items) 0 [] c.homes.items ∙ ok.long
+  places_long_as = ap length p.homes ∙ copied_long func.blocks.items uncopied ∙ places_long (is_local func.blocks.items) (preference func.parameters func.blocks.items) 0 [] c.homes.items ∙ ok.long
 
-  pub placed_apart : Apart f.homes.items
-  placed_apart = subst Apart (sym p.homes)
-      (places_apart (is_local func.blocks.items) (preference func.parameters func.blocks.items) (preferences_range func.parameters func.blocks.items) 0 [] c.homes.items
-      choice_callee_saved ok.apart)
+  pub placed_apart : AreApart f.homes.items
+  placed_apart x y h g a b e =
+      places_apart (is_local func.blocks.items) (preference func.parameters func.blocks.items) (preferences_range func.parameters func.blocks.items) 0 [] c.homes.items
+      choice_callee_saved ok.apart x y (cell g) (before_copy x h a ∙ ap Some e) (before_copy y g b)
 
   pub placed_serves : Serves f func
   placed_serves = record {

@@ -17,10 +17,10 @@ use Rattle.mips_homes.specs.HomedRun.{cells, around, is_callee_saved, callee_sav
 use Rattle.mips_homes.specs.HomedRun.{write_home, write_homes, is_in, registers_at_entry, registers_at_return, with_inst, at_code}
 use Rattle.mips_homes.specs.HomedRun.{state_at_block, with_result, state_after_return, state_after_call, state_after_exit, step_at}
 use Rattle.mips_homes.specs.HomedRun.{homed_step, homed_steps, homed_start, homed_run, outcome}
-use Rattle.mips_homes.specs.Homes.{HasHome, HaveHomes, AreHomes, Serves, AreAllHomes}
+use Rattle.mips_homes.specs.Homes.{HasHome, HaveHomes, AreHomes, Serves, AreAllHomes, cell}
 use Rattle.mips_homes.specs.Laws.{KeepsRtlRuns}
 use Rattle.mips_homes.specs.declared.homed.Home.{Home}
-use Rattle.mips_homes.specs.declared.homed.Home.TheVariants.{Reg, Slot}
+use Rattle.mips_homes.specs.declared.homed.Home.TheVariants.{Reg, Slot, Copied}
 use Rattle.mips_homes.specs.declared.homed.Frame.{Frame}
 use Rattle.mips_homes.specs.declared.homed.Homed.{Homed}
 use Rattle.rtl.specs.declared.instruction.RInst.{RInst}
@@ -78,6 +78,7 @@ abbrev pub is_caller_saved : Option Home → Bool
 is_caller_saved None = false
 is_caller_saved (Some (Reg r)) = if is_callee_saved r then false else true
 is_caller_saved (Some (Slot k)) = false
+is_caller_saved (Some (Copied r k)) = false
 
 -- what is in such a home matters if it is wanted
 abbrev pub matters : List Home → (ℕ → Bool) → ℕ → Bool
@@ -195,7 +196,7 @@ writes hs saved blocks aside registers slots regs d v out go t wanted wanted' ok
   where
     -- another pseudo-register
     elsewhere : (h : Home) → slice_get hs d ≡ Some h → (registers' slots' : Places) → in_home registers' slots' h ≡ Some v
-        → ((k : Home) → k ≢ h → in_home registers' slots' k ≡ in_home registers slots k) → (x : ℕ) → matters hs wanted' x ≡ true → (b : Bool) → nat_eq x d ≡ b
+        → ((k : Home) → cell k ≢ cell h → in_home registers' slots' k ≡ in_home registers slots k) → (x : ℕ) → matters hs wanted' x ≡ true → (b : Bool) → nat_eq x d ≡ b
         → read_home hs registers' slots' x ≡ (if b then Some v else regs x)
     elsewhere h is registers' slots' here there x m true e =
         let x_d : x ≡ d = eqb-true x d e in
@@ -212,16 +213,18 @@ writes hs saved blocks aside registers slots regs d v out go t wanted wanted' ok
         by : (o : Option Home) → slice_get hs x ≡ o → read_home hs registers' slots' x ≡ regs x
         by None none = ap (λ o. chain o (in_home registers' slots')) none ∙ sym (ap (λ o. chain o (in_home registers slots)) none) ∙ same
         by (Some k) some =
-            let ne : k ≢ h = λ k_h. let x_d : x ≡ d = ok.apart x d h (some ∙ ap Some k_h) is in let yes_eq = eq-eqb x d x_d in cc in
+            let ne : cell k ≢ cell h = λ k_h. let x_d : x ≡ d = ok.apart x d k h some is k_h in let yes_eq = eq-eqb x d x_d in cc in
             ap (λ o. chain o (in_home registers' slots')) some ∙ there k ne ∙ sym (ap (λ o. chain o (in_home registers slots)) some) ∙ same
 
-    reg_other : (r : ℕ) (k : Home) → k ≢ Reg r → in_home (places_with registers r (Some v)) slots k ≡ in_home registers slots k
+    reg_other : (r : ℕ) (k : Home) → cell k ≢ Reg r → in_home (places_with registers r (Some v)) slots k ≡ in_home registers slots k
     reg_other r (Reg q) ne = other registers r (Some v) q (λ e. ne (ap Reg e))
     reg_other r (Slot q) ne = refl
+    reg_other r (Copied p q) ne = refl
 
-    slot_other : (s : ℕ) (k : Home) → k ≢ Slot s → in_home registers (places_with slots s (Some v)) k ≡ in_home registers slots k
+    slot_other : (s : ℕ) (k : Home) → cell k ≢ Slot s → in_home registers (places_with slots s (Some v)) k ≡ in_home registers slots k
     slot_other s (Reg q) ne = refl
     slot_other s (Slot q) ne = other slots s (Some v) q (λ e. ne (ap Slot e))
+    slot_other s (Copied p q) ne = other slots s (Some v) q (λ e. ne (ap Slot e))
 
     at : (h : Home) → slice_get hs d ≡ Some h → Alike (write_at h registers slots v go) t
     at (Reg r) is = f (places_with registers r (Some v)) slots
@@ -229,6 +232,9 @@ writes hs saved blocks aside registers slots regs d v out go t wanted wanted' ok
         (restored_write saved aside registers r (Some v) (ok.kept d r is))
     at (Slot s) is = f registers (places_with slots s (Some v))
         (record { by = λ x m. elsewhere (Slot s) is registers (places_with slots s (Some v)) (same_place slots s (Some v)) (slot_other s) x m (nat_eq x d) refl })
+        refl
+    at (Copied p s) is = f registers (places_with slots s (Some v))
+        (record { by = λ x m. elsewhere (Copied p s) is registers (places_with slots s (Some v)) (same_place slots s (Some v)) (slot_other s) x m (nat_eq x d) refl })
         refl
 
 -- words for the pseudo-registers from x on
@@ -374,6 +380,7 @@ settles hs saved blocks registers slots regs wanted ok ag b goes block there = r
     by : (x : ℕ) (o : Option Home) → slice_get hs x ≡ o → matters hs (block_reads_first block) x ≡ true → read_home hs (callee_saved registers) slots x ≡ regs x
     by x None e m = ap (λ o. chain o (in_home (callee_saved registers) slots)) e ∙ as_was x None e refl
     by x (Some (Slot k)) e m = ap (λ o. chain o (in_home (callee_saved registers) slots)) e ∙ as_was x (Some (Slot k)) e refl
+    by x (Some (Copied r k)) e m = ap (λ o. chain o (in_home (callee_saved registers) slots)) e ∙ as_was x (Some (Copied r k)) e refl
     by x (Some (Reg r)) e m = ap (λ o. chain o (in_home (callee_saved registers) slots)) e
         ∙ reg x r e (is_callee_saved r) refl (sym (ap (λ o. if is_caller_saved o then block_reads_first block x else true) e) ∙ m)
 
@@ -424,6 +431,7 @@ both_true false b e = absurd (true≢false (sym e))
 home_unset : (hs : List Home) (saved : List ℕ) (bs : List RBlock) (registers : Places) → AreHomes hs saved bs → (x : ℕ) (h : Home)
     → slice_get hs x ≡ Some h → in_home (registers_at_entry saved (callee_saved registers)) unset_places h ≡ None
 home_unset hs saved bs registers ok x (Slot k) e = refl
+home_unset hs saved bs registers ok x (Copied r k) e = refl
 home_unset hs saved bs registers ok x (Reg r) e = by (is_callee_saved r) refl
   where
     none : (c : Bool) → (if c then None else (if false then registers r else None)) ≡ None
@@ -611,6 +619,7 @@ starts_alike h all =
     empty : (h : Home) → in_home unset_places unset_places h ≡ None
     empty (Reg r) = refl
     empty (Slot k) = refl
+    empty (Copied r k) = refl
 
     unset : (hs : List Home) (x : ℕ) → read_home hs unset_places unset_places x ≡ None
     unset hs x = at (slice_get hs x)

@@ -7,7 +7,7 @@ use Rattle.std.proofs.lemmas.List.{drop_all}
 use Rattle.rtl.specs.declared.instruction.RInst.{RInst}
 use Rattle.rtl.specs.declared.block.RBlock.{RBlock}
 use Rattle.mips_homes.specs.HomedRun.{is_in}
-use Rattle.mips_homes.specs.Locals.{inst_reads, inst_writes, exit_reads, reads_first, block_reads_first, some_go_to, none_reads_first, is_local}
+use Rattle.mips_homes.specs.Locals.{inst_reads, inst_writes, exit_reads, reads_first, block_reads_first, none_reads_first, is_local}
 use Rattle.mips_homes.specs.Walks.{sight_at, is_read_first, is_unwritten, IsUpTo, Sees}
 use Rattle.mips_homes.specs.declared.locals.Sight.{Sight}
 

@@ -1,17 +1,21 @@
 -- Copies of slots, in registers that a function without calls has to spare: no pseudo-register lives there, and no function keeps them.
-use Rattle.std.specs.Prelude.{ℕ, Bool, true, false, List, [], ◌∷◌, ◌++◌, Option, None, Some, length, nat_eq, if◌then◌else◌, slice_get}
+use Rattle.std.specs.Prelude.{ℕ, Bool, true, false, List, [], ◌∷◌, Option, None, Some, drop, nat_eq, if◌then◌else◌, slice_get}
 use Rattle.rtl.specs.declared.instruction.RExit.{RExit}
 use Rattle.rtl.specs.declared.instruction.RExit.TheVariants.{Goto, Branch, Call, Return, Out}
 use Rattle.rtl.specs.declared.block.RBlock.{RBlock}
-use Rattle.runs.specs.Stores.{Places}
 use Rattle.mips_homes.specs.declared.homed.Home.{Home}
-use Rattle.mips_homes.specs.declared.homed.Home.TheVariants.{Reg, Slot}
-use Rattle.mips_homes.specs.declared.homed.SlotCopy.{SlotCopy}
+use Rattle.mips_homes.specs.declared.homed.Home.TheVariants.{Reg, Slot, Copied}
 use Rattle.mips_homes.specs.Convention.{temporaries}
 
 abbrev pub is_register : Home → ℕ → Bool
 is_register (Reg q) r = nat_eq q r
 is_register (Slot k) r = false
+is_register (Copied q k) r = false
+
+abbrev pub is_slot : Home → Bool
+is_slot (Reg q) = false
+is_slot (Slot k) = true
+is_slot (Copied q k) = true
 
 -- whether one lives in a register
 abbrev pub lives_in : List Home → ℕ → Bool
@@ -35,25 +39,18 @@ abbrev pub unused : List Home → List ℕ → List ℕ
 unused hs [] = []
 unused hs (r ∷ rs) = if lives_in hs r then unused hs rs else r ∷ unused hs rs
 
-abbrev pub copy_for : Home → (register : Option ℕ) → Option SlotCopy
-copy_for (Reg q) o = None
-copy_for (Slot k) None = None
-copy_for (Slot k) (Some r) = Some (record { slot = k; register = r })
+-- a slot gets a copy where there is a register for it
+abbrev pub with_copy : Home → (register : Option ℕ) → Home
+with_copy (Reg q) o = Reg q
+with_copy (Slot k) None = Slot k
+with_copy (Slot k) (Some r) = Copied r k
+with_copy (Copied q k) o = Copied q k
 
-abbrev pub as_copies : Option SlotCopy → List SlotCopy
-as_copies None = []
-as_copies (Some c) = c ∷ []
+-- homes whose slots have copies, as far as there are registers
+abbrev pub copied_onto : (free : List ℕ) → List Home → List Home
+copied_onto free [] = []
+copied_onto free (h ∷ hs) = with_copy h (slice_get free 0) ∷ copied_onto (if is_slot h then drop 1 free else free) hs
 
--- besides some copies, those of the slots of some homes, as far as there are registers
-abbrev pub copies_onto : (free : List ℕ) → List SlotCopy → List Home → List SlotCopy
-copies_onto free copies [] = copies
-copies_onto free copies (h ∷ hs) = copies_onto free (copies ++ as_copies (copy_for h (slice_get free (length copies)))) hs
-
--- the copies of a function's slots
-abbrev pub copies_for : List RBlock → List Home → List SlotCopy
-copies_for bs hs = if is_leaf bs then copies_onto (unused hs temporaries) [] hs else []
-
--- the register that holds a copy of a slot
-abbrev pub copy_of : List SlotCopy → Places
-copy_of [] k = None
-copy_of (c ∷ copies) k = if nat_eq k c.slot then Some c.register else copy_of copies k
+-- the slots of a function without calls have copies
+abbrev pub copied : List RBlock → List Home → List Home
+copied bs hs = if is_leaf bs then copied_onto (unused hs temporaries) hs else hs

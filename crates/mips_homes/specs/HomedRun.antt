@@ -11,7 +11,7 @@ use Rattle.rtl.specs.Meaning.{Code, code_of, kept_in, first_values}
 pub use Rattle.rtl.specs.Names.{is_in}
 pub use Rattle.mips_homes.specs.Convention.{is_callee_saved}
 use Rattle.mips_homes.specs.declared.homed.Home.{Home}
-use Rattle.mips_homes.specs.declared.homed.Home.TheVariants.{Reg, Slot}
+use Rattle.mips_homes.specs.declared.homed.Home.TheVariants.{Reg, Slot, Copied}
 use Rattle.mips_homes.specs.declared.homed.Frame.{Frame}
 use Rattle.mips_homes.specs.declared.homed.Homed.{Homed}
 use Rattle.rtl.specs.declared.instruction.RInst.{RInst}
@@ -73,10 +73,11 @@ abbrev pub with_value : {A : Type 0} → Option A → List ℕ → (A → Run) �
 with_value None out go = Failed out
 with_value (Some a) out go = go a
 
--- what a home holds
+-- what a home holds: the word of a slot is in the slot, whether or not there is a copy
 abbrev pub in_home : Places → Places → Home → Option ℕ
 in_home registers slots (Reg r) = registers r
 in_home registers slots (Slot k) = slots k
+in_home registers slots (Copied r k) = slots k
 
 -- what the home of a pseudo-register holds, or none where it has none
 abbrev pub read_home : List Home → Places → Places → ℕ → Option ℕ
@@ -91,6 +92,7 @@ read_homes homes registers slots (x ∷ xs) =
 abbrev pub write_at : Home → Places → Places → ℕ → (Places → Places → Run) → Run
 write_at (Reg r) registers slots v go = go (places_with registers r (Some v)) slots
 write_at (Slot k) registers slots v go = go registers (places_with slots k (Some v))
+write_at (Copied r k) registers slots v go = go registers (places_with slots k (Some v))
 
 -- a word into the home of a pseudo-register
 abbrev pub write_home : Cells → (x v : ℕ) → List ℕ → (Places → Places → Run) → Run

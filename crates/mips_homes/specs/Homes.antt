@@ -4,7 +4,7 @@ use Rattle.rtl.specs.Names.{blocks_names}
 use Rattle.mips_homes.specs.HomedRun.{is_in, is_callee_saved}
 use Rattle.mips_homes.specs.Locals.{block_reads_first, some_go_to}
 use Rattle.mips_homes.specs.declared.homed.Home.{Home}
-use Rattle.mips_homes.specs.declared.homed.Home.TheVariants.{Reg}
+use Rattle.mips_homes.specs.declared.homed.Home.TheVariants.{Reg, Slot, Copied}
 use Rattle.mips_homes.specs.declared.homed.Frame.{Frame}
 use Rattle.mips_homes.specs.declared.homed.Homed.{Homed}
 use Rattle.rtl.specs.declared.block.RBlock.{RBlock}
@@ -15,15 +15,25 @@ pub record HasHome (homes : List Home) (x : ℕ) : Type 0 where
   pub home : Home
   pub is : slice_get homes x ≡ Some home
 
+-- the cell of a home, without the copy
+abbrev pub cell : Home → Home
+cell (Reg r) = Reg r
+cell (Slot k) = Slot k
+cell (Copied r k) = Slot k
+
+-- no two pseudo-registers share a cell
+abbrev pub AreApart : List Home → Type 0
+AreApart homes = (x y : ℕ) (h g : Home) → slice_get homes x ≡ Some h → slice_get homes y ≡ Some g → cell h ≡ cell g → x ≡ y
+
 -- each of these has a home
 abbrev pub HaveHomes : List Home → List ℕ → Type 0
 HaveHomes homes [] = Unit {0}
 HaveHomes homes (x ∷ xs) = HasHome homes x × HaveHomes homes xs
 
--- no two pseudo-registers share a home; each callee-saved register that is a home is saved. In another register lives only what each block
+-- no two pseudo-registers share a cell; each callee-saved register that is a home is saved. In another register lives only what each block
 -- to which an exit goes writes before it reads it; and each name has a home
 pub record AreHomes (homes : List Home) (saved : List ℕ) (blocks : List RBlock) : Type 0 where
-  pub apart : (x y : ℕ) (h : Home) → slice_get homes x ≡ Some h → slice_get homes y ≡ Some h → x ≡ y
+  pub apart : AreApart homes
   pub kept : (x r : ℕ) → slice_get homes x ≡ Some (Reg r) → is_callee_saved r ≡ true → is_in saved r ≡ true
   pub local : (x r : ℕ) → slice_get homes x ≡ Some (Reg r) → is_callee_saved r ≡ false
       → (b : ℕ) (block : RBlock) → slice_get blocks b ≡ Some block → some_go_to blocks b ≡ true → block_reads_first block x ≡ false

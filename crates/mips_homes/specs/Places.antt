@@ -8,10 +8,10 @@ use Rattle.mips_homes.specs.HomedRun.{is_in}
 use Rattle.mips_homes.specs.Locals.{is_local}
 use Rattle.mips_homes.specs.Preferences.{preference}
 use Rattle.mips_homes.specs.Convention.{temporaries}
-pub use Rattle.mips_homes.specs.Copies.{is_register, lives_in}
-use Rattle.mips_homes.specs.Copies.{copies_for}
+pub use Rattle.mips_homes.specs.Copies.{is_register, is_slot, lives_in}
+use Rattle.mips_homes.specs.Copies.{copied}
 use Rattle.mips_homes.specs.declared.homed.Home.{Home}
-use Rattle.mips_homes.specs.declared.homed.Home.TheVariants.{Reg, Slot}
+use Rattle.mips_homes.specs.declared.homed.Home.TheVariants.{Reg}
 use Rattle.mips_homes.specs.declared.homed.Frame.{Frame}
 use Rattle.mips_homes.specs.declared.homed.Homed.{Homed}
 
@@ -44,21 +44,16 @@ abbrev pub still_saved : List Home → List ℕ → List ℕ
 still_saved hs [] = []
 still_saved hs (r ∷ rs) = if lives_in hs r then r ∷ still_saved hs rs else still_saved hs rs
 
-abbrev pub is_slot : Home → Bool
-is_slot (Reg q) = false
-is_slot (Slot k) = true
-
 -- whether one lives in a slot
 abbrev pub some_slot : List Home → Bool
 some_slot [] = false
 some_slot (h ∷ hs) = if is_slot h then true else some_slot hs
 
--- the frame of a choice in a function with n parameters, with local pseudo-registers in registers that no function keeps
+-- the frame of a choice in a function with n parameters, with local pseudo-registers in registers that no function keeps, and with copies
 pub record IsPlaced (n : ℕ) (bs : List RBlock) (c f : Frame) : Type 0 where
-  pub homes : f.homes.items ≡ places_from (is_local bs) (preference n bs) 0 [] c.homes.items
+  pub homes : f.homes.items ≡ copied bs (places_from (is_local bs) (preference n bs) 0 [] c.homes.items)
   pub saved : f.saved.items ≡ still_saved f.homes.items c.saved.items
   pub slots : f.slots ≡ (if some_slot f.homes.items then c.slots else 0)
-  pub copies : f.copies.items ≡ copies_for bs f.homes.items
 
 pub record IsPlacedFor (func : RFunc) (f : Frame) : Type 0 where
   pub choice : Frame

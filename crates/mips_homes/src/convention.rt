@@ -1,7 +1,9 @@
 //! The calling convention: what each register is for. Register 0 is always 0, and register 30 keeps bases of elements within a block.
 
-ghost use Rattle.std.specs.Prelude.{◌≡◌};
+ghost use Rattle.std.specs.Prelude.{◌≡◌, ℕ, ◌<◌, Some};
 ghost use Rattle.mips_homes.specs.Convention.{is_callee_saved};
+
+use mips_isa::NonzeroReg;
 
 /// Free between instructions: one of two inner temporaries, and the base of an element.
 pub const SCRATCH_1: u8 = 1;
@@ -35,6 +37,29 @@ pub const STACK_POINTER: u8 = 29;
 
 /// The return address of a call.
 pub const LINK: u8 = 31;
+
+/// Returns the register with this number, 1 to 31.
+pub fn register(number: u8) -> NonzeroReg
+    requires nonzero { 0 < number }
+    requires range { number < 32 }
+    ensures { result ≡ number }
+{
+    match NonzeroReg::new(number) {
+        Some(r) => r,
+        None => unreachable!(),
+    }
+}
+
+/// Returns the register with a number, if there is one.
+pub(crate) fn register_at(number: Option<u8>) -> Option<NonzeroReg>
+    requires { (r : ℕ) → number ≡ Some r → (0 < r) × (r < 32) }
+    ensures { result ≡ number }
+{
+    match number {
+        Some(r) => Some(register(r)),
+        None => None,
+    }
+}
 
 /// Reports whether a call leaves a register as it was.
 pub fn is_callee_saved(register: u8) -> bool

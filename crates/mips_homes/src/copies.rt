@@ -1,11 +1,13 @@
 //! Copies of slots, in registers that a function without calls has to spare.
 
-ghost use Rattle.std.specs.Prelude.{◌≡◌, ◌++◌, [], slice_get, IfOk, OnOk};
-ghost use Rattle.mips_homes.specs.Copies.{calls_none, is_leaf, unused, copy_for, as_copies, copies_onto, copies_for};
+ghost use Rattle.std.specs.Prelude.{◌≡◌, ℕ, ◌<◌, Some, slice_get, IfOk};
+ghost use Rattle.mips_homes.specs.Convention.{temporaries};
+ghost use Rattle.mips_homes.specs.Copies.{calls_none, is_leaf, is_slot, unused, with_copy, copied_onto, copied};
 
-use crate::convention::TEMPORARIES;
-use crate::homed::{Home, SlotCopy};
-use crate::places::lives_in;
+use crate::convention::{TEMPORARIES, register_at};
+use crate::homed::Home;
+use crate::places::{is_slot, lives_in};
+use mips_isa::NonzeroReg;
 use rtl::{RBlock, RExit};
 use std::alloc::{AllocError, Global};
 
@@ -47,62 +49,64 @@ fn unused(alloc: Global, homes: &[Home], registers: &[u8]) -> Result<Vec<u8>, Al
     Ok(free)
 }
 
-/// Returns a register of a list.
-fn register_at(registers: &[u8], n: usize) -> Option<u8>
-    ensures { result ≡ slice_get registers.now n }
+/// Returns the temporaries in which no pseudo-register lives.
+fn unused_temporaries(alloc: Global, homes: &[Home]) -> Result<Vec<u8>, AllocError>
+    ensures { IfOk result (λ rs. rs.items ≡ unused homes.now temporaries) }
 {
-    match registers.get(n) {
+    unused(alloc, homes, &TEMPORARIES)
+}
+
+/// Returns the number at a place of a list.
+fn number_at(numbers: &[u8], n: usize) -> Option<u8>
+    ensures { result ≡ slice_get numbers.now n }
+{
+    match numbers.get(n) {
         Some(r) => Some(*r),
         None => None,
     }
 }
 
-/// Returns a slot's copy in a register.
-fn copy_for(home: Home, register: Option<u8>) -> Option<SlotCopy>
-    ensures { result ≡ copy_for home register }
+/// Returns a home, with a copy in a register if it is a slot.
+fn with_copy(home: Home, register: Option<NonzeroReg>) -> Home
+    ensures { result ≡ with_copy home register }
 {
     match home {
-        Home::Reg(_) => None,
-        Home::Slot(slot) => match register {
-            Some(register) => Some(SlotCopy { slot, register }),
-            None => None,
+        Home::Reg(_) => home,
+        Home::Copied(_, _) => home,
+        Home::Slot(k) => match register {
+            Some(r) => Home::Copied(r, k),
+            None => home,
         },
     }
 }
 
-/// Adds one more copy, if there is one.
-fn put_copy(copies: &mut Vec<SlotCopy>, copy: Option<SlotCopy>) -> Result<(), AllocError>
-    ensures { OnOk result (copies.new.items ≡ copies.old.items ++ as_copies copy) }
+/// Returns homes, with copies of their slots in these registers as far as they go.
+fn copied_onto(alloc: Global, homes: &[Home], free: &[u8]) -> Result<Vec<Home>, AllocError>
+    requires { (j r : ℕ) → slice_get free.now j ≡ Some r → (0 < r) × (r < 32) }
+    ensures { IfOk result (λ hs. hs.items ≡ copied_onto free.now homes.now) }
 {
-    if let Some(c) = copy {
-        copies.push(c)?;
-    }
-    Ok(())
-}
-
-/// Returns copies of the slots of these homes, in these registers as far as they go.
-fn copies_in(alloc: Global, homes: &[Home], free: &[u8]) -> Result<Vec<SlotCopy>, AllocError>
-    ensures { IfOk result (λ cs. cs.items ≡ copies_onto free.now [] homes.now) }
-{
-    let mut copies = Vec::new(alloc);
+    let mut out = Vec::new(alloc);
+    let mut used: usize = 0;
     for home in homes {
-        let copy = copy_for(*home, register_at(free, copies.len()));
-        put_copy(&mut copies, copy)?;
+        out.push(with_copy(*home, register_at(number_at(free, used))))?;
+        if is_slot(*home) {
+            used += 1;
+        }
     }
-    Ok(copies)
+    Ok(out)
 }
 
-/// Returns the copies of a function's slots: none if it calls another.
-pub(crate) fn copies_for(
+/// Returns the homes of a function, with copies of its slots unless it calls another.
+pub(crate) fn copied(
     alloc: Global,
     blocks: &[RBlock],
-    homes: &[Home],
-) -> Result<Vec<SlotCopy>, AllocError>
-    ensures { IfOk result (λ cs. cs.items ≡ copies_for blocks.now homes.now) }
+    homes: Vec<Home>,
+) -> Result<Vec<Home>, AllocError>
+    ensures { IfOk result (λ hs. hs.items ≡ copied blocks.now homes.items) }
 {
     if !is_leaf(blocks) {
-        return Ok(Vec::new(alloc));
+        return Ok(homes);
     }
-    let free = unused(alloc, homes, &TEMPORARIES)?;
-    copies_in(alloc, homes, free.as_slice())
+    let free = unused_temporaries(alloc, homes.as_slice())?;
+    copied_onto(alloc, homes.as_slice(), free.as_slice())
 }

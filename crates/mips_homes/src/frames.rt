@@ -7,7 +7,7 @@ ghost use Rattle.mips_homes.specs.Laws.{KeepsRtlRuns};
 ghost use Rattle.mips_homes.specs.Best.{IsPlace, AreHomesOf, AreFirst};
 
 use crate::best::best_eight;
-use crate::convention::FIRST_CALLEE_SAVED;
+use crate::convention::{FIRST_CALLEE_SAVED, register};
 use crate::counts::uses;
 use crate::homed::{Frame, Home, Homed};
 use rtl::{RFunc, Rtl};
@@ -35,7 +35,7 @@ fn homes_of(alloc: Global, best: &[usize], n: usize) -> Result<(Vec<Home>, usize
     let mut slots: usize = 0;
     for x in 0..n {
         match rank_of(best, x) {
-            Some(j) => homes.push(Home::Reg(FIRST_CALLEE_SAVED + j as u8))?,
+            Some(j) => homes.push(Home::Reg(register(FIRST_CALLEE_SAVED + j as u8)))?,
             None => {
                 homes.push(Home::Slot(slots as u32))?;
                 slots += 1;
@@ -70,7 +70,6 @@ pub fn frame_of(alloc: Global, func: &RFunc) -> Result<Frame, AllocError>
         homes,
         saved,
         slots: slots as u32,
-        copies: Vec::new(alloc),
     })
 }
 

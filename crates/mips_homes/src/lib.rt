@@ -20,10 +20,10 @@ mod preferences;
 
 pub use convention::{
     FIRST_ARGUMENT, FIRST_CALLEE_SAVED, FIRST_TEMPORARY, GLOBAL_POINTER, LINK, RESULT, SCRATCH_1,
-    SCRATCH_2, SCRATCH_3, STACK_POINTER, is_callee_saved,
+    SCRATCH_2, SCRATCH_3, STACK_POINTER, is_callee_saved, register,
 };
 pub use copies::is_leaf;
 pub use frames::{frame_of, homes};
-pub use homed::{Frame, Home, Homed, SlotCopy};
+pub use homed::{Frame, Home, Homed};
 pub use laws::{each_choice_never_forgets, each_homed_run_is_the_run};
 pub use places::place;

@@ -10,12 +10,13 @@ ghost use Rattle.mips_homes.specs.Places.{first_free, free_register, home_or, al
 ghost use Rattle.mips_homes.specs.Walks.{TellsLocals, TellsReaches};
 ghost use Rattle.mips_homes.specs.Places.{is_slot, some_slot, IsPlaced, IsPlacedFor, ArePlaced};
 
-use crate::convention::TEMPORARIES;
-use crate::copies::copies_for;
+use crate::convention::{TEMPORARIES, register_at};
+use crate::copies::copied;
 use crate::frames::frame_of;
 use crate::homed::{Frame, Home, Homed};
 use crate::locals::{Sight, is_local, sights};
 use crate::preferences::{preference, reach_of, reaches};
+use mips_isa::NonzeroReg;
 use rtl::{RBlock, RFunc, Rtl};
 use std::alloc::{AllocError, Global};
 
@@ -44,19 +45,19 @@ fn first_free(taken: &[u8], registers: &[u8]) -> Option<u8>
 }
 
 /// Returns the register of a preference if that isn't taken, else the first free temporary.
-fn free_register(taken: &[u8], preference: Option<u8>) -> Option<u8>
+fn free_register(taken: &[u8], preference: Option<NonzeroReg>) -> Option<NonzeroReg>
     ensures { result ≡ free_register taken.now preference }
 {
     if let Some(r) = preference {
-        if !is_taken(taken, r) {
+        if !is_taken(taken, r.index()) {
             return Some(r);
         }
     }
-    first_free(taken, &TEMPORARIES)
+    register_at(first_free(taken, &TEMPORARIES))
 }
 
 /// Returns the register of a pseudo-register, if it gets one.
-fn register_for(local: bool, taken: &[u8], preference: Option<u8>) -> Option<u8>
+fn register_for(local: bool, taken: &[u8], preference: Option<NonzeroReg>) -> Option<NonzeroReg>
     ensures { result ≡ (if local then free_register taken.now preference else None) }
 {
     if local {
@@ -67,7 +68,7 @@ fn register_for(local: bool, taken: &[u8], preference: Option<u8>) -> Option<u8>
 }
 
 /// Returns a home, or a register in its stead.
-fn home_or(register: Option<u8>, home: Home) -> Home
+fn home_or(register: Option<NonzeroReg>, home: Home) -> Home
     ensures { result ≡ home_or register home }
 {
     match register {
@@ -77,11 +78,11 @@ fn home_or(register: Option<u8>, home: Home) -> Home
 }
 
 /// Adds one more register to those taken.
-fn take(taken: &mut Vec<u8>, register: Option<u8>) -> Result<(), AllocError>
-    ensures { OnOk result (taken.new.items ≡ also taken.old.items register) }
+fn take(taken: &mut Vec<u8>, register: &Option<NonzeroReg>) -> Result<(), AllocError>
+    ensures { OnOk result (taken.new.items ≡ also taken.old.items register.now) }
 {
     if let Some(r) = register {
-        taken.push(r)?;
+        taken.push(r.index())?;
     }
     Ok(())
 }
@@ -103,7 +104,7 @@ fn places_by(
     for x in 0..homes.len() {
         let preference = preference(parameters, reach_of(reaches, x), x as u32);
         let register = register_for(is_local(sights, x), taken.as_slice(), preference);
-        take(&mut taken, register)?;
+        take(&mut taken, &register)?;
         out.push(home_or(register, homes[x]))?;
     }
     Ok(out)
@@ -135,8 +136,9 @@ fn is_register(home: Home, r: u8) -> bool
     ensures { result ≡ is_register home r }
 {
     match home {
-        Home::Reg(q) => q == r,
+        Home::Reg(q) => q.index() == r,
         Home::Slot(_) => false,
+        Home::Copied(_, _) => false,
     }
 }
 
@@ -165,13 +167,14 @@ fn still_saved(alloc: Global, homes: &[Home], saved: &[u8]) -> Result<Vec<u8>, A
     Ok(kept)
 }
 
-/// Reports whether a home is a slot.
-fn is_slot(home: Home) -> bool
+/// Reports whether a home is a slot, with or without a copy.
+pub(crate) fn is_slot(home: Home) -> bool
     ensures { result ≡ is_slot home }
 {
     match home {
         Home::Reg(_) => false,
         Home::Slot(_) => true,
+        Home::Copied(_, _) => true,
     }
 }
 
@@ -197,19 +200,18 @@ fn frame_with_places(
     requires { length choice.now.homes.items ≤ 2 ^ 32 }
     ensures { IfOk result (λ f. IsPlaced parameters blocks.now choice.now f) }
 {
-    let homes = places(alloc, parameters, blocks, choice.homes.as_slice())?;
+    let places = places(alloc, parameters, blocks, choice.homes.as_slice())?;
+    let homes = copied(alloc, blocks, places)?;
     let saved = still_saved(alloc, homes.as_slice(), choice.saved.as_slice())?;
     let slots = if some_slot(homes.as_slice()) {
         choice.slots
     } else {
         0
     };
-    let copies = copies_for(alloc, blocks, homes.as_slice())?;
     Ok(Frame {
         homes,
         saved,
         slots,
-        copies,
     })
 }
 

@@ -4,8 +4,9 @@ ghost use Rattle.std.specs.Prelude.{◌≡◌, ℕ, List, max, nat_eq, if◌then
 ghost use Rattle.rtl.specs.declared.block.RBlock.{RBlock};
 ghost use Rattle.mips_homes.specs.Preferences.{reach_from, exit_reach, blocks_reach, register_of, preference};
 
-use crate::convention::FIRST_ARGUMENT;
+use crate::convention::{FIRST_ARGUMENT, register};
 use crate::counts::make_room;
+use mips_isa::NonzeroReg;
 use rtl::{RBlock, RExit, Register};
 use std::alloc::{AllocError, Global};
 
@@ -56,11 +57,11 @@ pub(crate) fn reaches(alloc: Global, blocks: &[RBlock]) -> Result<Vec<u64>, Allo
 }
 
 /// Returns the register of the last of so many arguments.
-fn register_of(arguments: u64) -> Option<u8>
+fn register_of(arguments: u64) -> Option<NonzeroReg>
     ensures { result ≡ register_of arguments }
 {
     if 0 < arguments && arguments < 5 {
-        Some(FIRST_ARGUMENT - 1 + arguments as u8)
+        Some(register(FIRST_ARGUMENT - 1 + arguments as u8))
     } else {
         None
     }
@@ -77,7 +78,7 @@ pub(crate) fn reach_of(reaches: &[u64], x: usize) -> u64
 }
 
 /// Returns the preference of a pseudo-register in a function with so many parameters.
-pub(crate) fn preference(parameters: u32, reach: u64, x: u32) -> Option<u8>
+pub(crate) fn preference(parameters: u32, reach: u64, x: u32) -> Option<NonzeroReg>
     ensures { (bs : List RBlock) → reach ≡ blocks_reach bs x → result ≡ preference parameters bs x }
 {
     if x >= parameters {

@@ -1,4 +1,5 @@
-use Rattle.std.proofs.Common.{◌≡◌, subst, arith}
+use Rattle.std.proofs.Common.{◌≡◌, ◌++◌, ◌∷◌, [], ap, ◌∙◌, subst, arith}
+use Rattle.mips_homes.specs.declared.homed.Home.TheVariants.{Reg}
 use Rattle.std.proofs.lemmas.Option.{slice_get_within}
 use Rattle.mips_homes.specs.Best.{AreHomesOf}
 use Rattle.mips_homes.proofs.Placing.{home_register, home_slot}
@@ -21,7 +22,8 @@ pub loop-x-preserved : goal.loop-x-preserved
 loop-x-preserved c = elim c.match-rank_of.branch [
   | in-Some+in_ok-push-in-Some w ↦ rw w.homes-is
       (rw w.slots-is
-      (home_register c.args.best.now c.loop-x.x c.loop-x.slots w.in-Some.j c.loop-x.homes.items _ w.in_ok-push-in-Some.ensures.items
+      (home_register c.args.best.now c.loop-x.x c.loop-x.slots w.in-Some.j c.loop-x.homes.items _
+      (w.in_ok-push-in-Some.ensures.items ∙ ap (λ r. c.loop-x.homes.items ++ Reg r ∷ []) w.register.ensures)
       w.in-Some.ensures c.loop-x.invariant))
   | in-None+in_ok-push-in-None w ↦ rw w.homes-is
       (rw w.slots-is

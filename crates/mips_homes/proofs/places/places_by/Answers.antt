@@ -2,7 +2,7 @@ use Rattle.std.proofs.Common.{sym, ap, ◌∙◌, ◌++◌}
 use Rattle.std.proofs.lemmas.List.{append-nil, at_drop_all}
 use Rattle.mips_homes.specs.Locals.{is_local}
 use Rattle.mips_homes.specs.Preferences.{preference}
-use Rattle.mips_homes.specs.Places.{places_from}
+use Rattle.mips_homes.specs.Places.{home_or, places_from}
 use Rattle.mips_homes.proofs.Placing.{register_told, places_step}
 use Rattle.mips_homes.proofs.places.places_by.Goals as goal
 
@@ -20,7 +20,7 @@ loop-x-preserved c bs local reach =
     c.loop-x-test.true
     (register_told _ _ _ _ _ _ _ c.register_for-register.ensures (c.is_local.ensures ∙ local x) c.as_slice.ensures.value
     (c.preference-preference.ensures bs (c.reach_of.ensures ∙ reach x)))
-    c.in_ok-take.ensures c.home_or.ensures c.in_ok-push.ensures.items (c.loop-x.invariant bs local reach)
+    c.in_ok-take.ensures (c.home_or.ensures ∙ ap (home_or c.register_for-register.result) c.index-homes-x.is) c.in_ok-push.ensures.items (c.loop-x.invariant bs local reach)
 
 pub returns : goal.returns
 returns c bs local reach =

@@ -1,0 +1,76 @@
+-- Copies of slots.
+use Rattle.std.proofs.Common.{◌≡◌, ℕ, zero, suc, ◌+◌, ◌<◌, Bool, true, false, List, [], ◌∷◌, ◌++◌, Some, refl, sym, ap, ap₂, ◌∙◌, arith, length, get_or, drop}
+use Rattle.std.specs.Prelude.{if◌then◌else◌, Option, None, slice_get}
+use Rattle.std.proofs.lemmas.List.{append_assoc, at_drop_more}
+use Rattle.std.proofs.lemmas.Option.{same_Some, none-some}
+use Rattle.rtl.specs.declared.block.RBlock.{RBlock}
+use Rattle.mips_homes.specs.declared.homed.Home.{Home}
+use Rattle.mips_homes.specs.declared.homed.Home.TheVariants.{Reg, Slot, Copied}
+use Rattle.mips_homes.specs.Homes.{cell}
+use Rattle.mips_homes.specs.Copies.{is_leaf, is_slot, unused, with_copy, copied_onto, copied}
+use Rattle.mips_homes.specs.Convention.{temporaries}
+
+-- ---- the loop over homes
+
+pub copied_step : (free : List ℕ) (hs : List Home) (i used used' : ℕ) (out out' all : List Home) (h : Home) (b : Bool) → i < length hs
+    → h ≡ get_or hs i h → is_slot h ≡ b → used' ≡ (if b then used + 1 else used) → out' ≡ out ++ with_copy h (slice_get free used) ∷ []
+    → out ++ copied_onto (drop used free) (drop i hs) ≡ all → out' ++ copied_onto (drop used' free) (drop (i + 1) hs) ≡ all
+copied_step free hs i used used' out out' all h b within here slot used_is out_is before =
+    let rest = drop (i + 1) hs in
+    ap₂ (λ o u. o ++ copied_onto (drop u free) rest) out_is used_is
+    ∙ append_assoc out (with_copy h (slice_get free used) ∷ []) (copied_onto (drop (if b then used + 1 else used) free) rest)
+    ∙ ap₂ (λ o l. out ++ with_copy h o ∷ copied_onto l rest) (sym (got_drop free used)) (left b)
+    ∙ ap (λ c. out ++ with_copy h (slice_get (drop used free) 0) ∷ copied_onto (if c then drop 1 (drop used free) else drop used free) rest) (sym slot)
+    ∙ ap (λ h. out ++ copied_onto (drop used free) (h ∷ rest)) here
+    ∙ sym (at_drop_more (λ hs. out ++ copied_onto (drop used free) hs) hs i h within) ∙ before
+  where
+    got_drop : (l : List ℕ) (n : ℕ) → slice_get (drop n l) 0 ≡ slice_get l n
+    got_drop [] zero = refl
+    got_drop [] (suc n) = refl
+    got_drop (x ∷ l) zero = refl
+    got_drop (x ∷ l) (suc n) = got_drop l n
+
+    past : (l : List ℕ) (n : ℕ) → drop (suc n) l ≡ drop 1 (drop n l)
+    past [] zero = refl
+    past [] (suc n) = refl
+    past (x ∷ l) zero = refl
+    past (x ∷ l) (suc n) = past l n
+
+    left : (b : Bool) → drop (if b then used + 1 else used) free ≡ (if b then drop 1 (drop used free) else drop used free)
+    left true = (let next : used + 1 ≡ suc used = omega arith in ap (λ n. drop n free) next ∙ past free used)
+    left false = refl
+
+-- ---- what copies are
+
+with_copy_cell : (h : Home) (o : Option ℕ) → cell h ≡ cell (with_copy h o)
+with_copy_cell (Reg q) o = refl
+with_copy_cell (Slot k) None = refl
+with_copy_cell (Slot k) (Some r) = refl
+with_copy_cell (Copied q k) o = refl
+
+-- a home has its cell without the copy too
+abbrev pub HasCell : List Home → ℕ → Home → Type 0
+HasCell hs x h = (g : Home) × (slice_get hs x ≡ Some g) × (cell g ≡ cell h)
+
+onto_get : (free : List ℕ) (hs : List Home) (x : ℕ) (h : Home) → slice_get (copied_onto free hs) x ≡ Some h → HasCell hs x h
+onto_get free [] x h e = absurd (none-some h e)
+onto_get free (g ∷ hs) zero h e = (g, refl, with_copy_cell g (slice_get free 0) ∙ ap cell (same_Some (with_copy g (slice_get free 0)) h e))
+onto_get free (g ∷ hs) (suc x) h e = onto_get (if is_slot g then drop 1 free else free) hs x h e
+
+pub copied_get : (bs : List RBlock) (hs : List Home) (x : ℕ) (h : Home) → slice_get (copied bs hs) x ≡ Some h → HasCell hs x h
+copied_get bs hs x h e = by (is_leaf bs) e
+  where
+    by : (b : Bool) → slice_get (if b then copied_onto (unused hs temporaries) hs else hs) x ≡ Some h → HasCell hs x h
+    by true e = onto_get (unused hs temporaries) hs x h e
+    by false e = (h, e, refl)
+
+onto_long : (free : List ℕ) (hs : List Home) → length (copied_onto free hs) ≡ length hs
+onto_long free [] = refl
+onto_long free (h ∷ hs) = ap suc (onto_long (if is_slot h then drop 1 free else free) hs)
+
+pub copied_long : (bs : List RBlock) (hs : List Home) → length (copied bs hs) ≡ length hs
+copied_long bs hs = by (is_leaf bs)
+  where
+    by : (b : Bool) → length (if b then copied_onto (unused hs temporaries) hs else hs) ≡ length hs
+    by true = onto_long (unused hs temporaries) hs
+    by false = refl

@@ -1,0 +1,24 @@
+use Rattle.std.proofs.Common.{ℕ, Option, sym, ap, ◌∙◌, ◌++◌, ◌∷◌, [], arith}
+use Rattle.mips_homes.specs.Copies.{with_copy}
+use Rattle.mips_homes.proofs.Copying.{copied_step}
+use Rattle.mips_homes.proofs.copies.copied_onto.Goals as goal
+use Rattle.mips_homes.proofs.copies.copied_onto.Goals.{then-is_slot, else-is_slot}
+
+pub loop-home-preserved : goal.loop-home-preserved
+loop-home-preserved c =
+    let copy = ap (with_copy c.home-item.result) (◌∙◌ {A = Option ℕ} c.register_at.ensures c.number_at.ensures) in
+    let more = c.in_ok-push.ensures.items ∙ ap (λ h. c.loop-home.out.items ++ h ∷ []) (c.with_copy.ensures ∙ copy) in
+    let step = copied_step c.args.free.now c.args.homes.now c.loop-home.home-index c.loop-home.used in
+    let few = c.loop-home.invariant.0 in
+    elim c.if-is_slot.branch [
+      | then-is_slot w ↦ (
+        omega (arith, few, w.used-is),
+        step _ _ _ _ _ _ c.loop-home-test.true c.home-item.is
+            (sym c.is_slot.ensures ∙ w.if-is_slot.true) w.used-is more c.loop-home.invariant.1,
+      )
+      | else-is_slot w ↦ (
+        omega (arith, few, w.used-is),
+        step _ _ _ _ _ _ c.loop-home-test.true c.home-item.is
+            (sym c.is_slot.ensures ∙ w.if-is_slot.false) w.used-is more c.loop-home.invariant.1,
+      )
+    ]
