@@ -23,7 +23,7 @@ use Rattle.rtl.specs.Operators.{truth_word, op_result}
 use Rattle.rtl.proofs.Results.{result-word}
 use Rattle.mips_homes.specs.HomedRun.{cells, is_callee_saved, in_home, Run, Failed, with_value, write_at, read_home, with_inst}
 use Rattle.mips_homes.specs.declared.homed.Home.{Home}
-use Rattle.mips_homes.specs.declared.homed.Home.TheVariants.{Reg, Slot}
+use Rattle.mips_homes.specs.declared.homed.Home.TheVariants.{Reg, Slot, Copied}
 use Rattle.mips_emit.specs.declared.location.Source.{Source}
 use Rattle.mips_emit.specs.declared.comparison.Form.{Form}
 use Rattle.mips_emit.specs.declared.comparison.Form.TheVariants.{Known, OnPair, OnLeft, OnRight, ByResult, ByOpposite, InResult}
@@ -31,9 +31,7 @@ use Rattle.mips_emit.specs.declared.comparison.Asked.{Asked}
 use Rattle.mips_emit.specs.declared.comparison.Asked.TheVariants.{Nothing, Branched, Returned}
 use Rattle.mips_emit.specs.declared.comparison.Comparison.{Comparison}
 use Rattle.mips_emit.specs.Frames.{AreFrameHomes}
-use Rattle.mips_homes.specs.declared.homed.SlotCopy.{SlotCopy}
-use Rattle.mips_homes.specs.Copies.{copy_of}
-use Rattle.mips_emit.specs.Locations.{Locations, in_frame, Facts, known_in, locations_of, location_at, operand}
+use Rattle.mips_emit.specs.Locations.{Locations, Facts, known_in, operand}
 use Rattle.mips_emit.specs.declared.operation.Operand.{Operand}
 use Rattle.mips_emit.specs.Code.{known_operand, operand_with, nop, fetch, operand_register, op_code}
 use Rattle.mips_emit.specs.Comparisons.{is_known_zero, is_immediate, opposite_if, form_of, truth_of, known_truth, form_with, opposite_op, code_by_form, comparison_code, is_asked, is_caller_saved}
@@ -306,14 +304,14 @@ module _ (most total : ℕ) (gs : List RGlobal) (starts : ℕ → ℕ) where
       decides_for (Branched c) op form is e = with_truth op form k l refl refl (form_of op k l) refl is e
       decides_for (Returned c) op form is e = subst (Given op) (same_Some InResult form is) (in_result op e)
 
-  module _ (g : Arrays) (fs : List Stored) (hs : List Home) (P : Run → Type 0) (out : List ℕ) (failed : P (Failed out)) where
-    abbrev comparison_at : List SlotCopy → Facts → Op → (d a b : ℕ) → Form → Comparison
-    comparison_at copies facts op d a b form = record {
+  module _ (g : Arrays) (fs : List Stored) (P : Run → Type 0) (out : List ℕ) (failed : P (Failed out)) where
+    abbrev comparison_at : List Home → Facts → Op → (d a b : ℕ) → Form → Comparison
+    comparison_at homes facts op d a b form = record {
       result = d;
       op = op;
       form = form;
-      left = operand_with (locations_of copies hs) facts a;
-      right = operand_with (locations_of copies hs) facts b;
+      left = operand_with (slice_get homes) facts a;
+      right = operand_with (slice_get homes) facts b;
     }
 
     -- what a comparison leaves that is one with the branch behind it
@@ -321,84 +319,81 @@ module _ (most total : ℕ) (gs : List RGlobal) (starts : ℕ → ℕ) where
     Leaves facts registers top s go m = (q u : ℕ) (s' : State) → 1 ≤ length (comparison_code m) → RunsTo (comparison_code m) s s'
         → Stands most total gs starts (hide (waiting facts q u).deferred (places_with registers q (Some u))) g (top ∷ fs) s'
         → AreDeferred (waiting facts q u).deferred (places_with registers q (Some u))
-        → IsLast (last_with (Some m) None) top.copies hs (places_with registers q (Some u)) top.slots s'
+        → IsLast (last_with (Some m) None) top.homes (places_with registers q (Some u)) top.slots s'
         → P (go (places_with registers q (Some u)) top.slots g)
 
     compares_bin : (asked : Asked) (op : Op) (d a b : ℕ) (facts : Facts) (form : Form) (registers : Places) (top : Stored) (s : State)
-        (go : Places → Places → Arrays → Run) → form_for asked op (known_in facts a) (known_in facts b) ≡ Some form → is_caller_saved (locations_of top.copies hs d) ≡ true
-        → AreFrameHomes hs top.copies top.count → IsKnown (known_in facts) hs registers top.slots → AreDeferred facts.deferred registers
+        (go : Places → Places → Arrays → Run) → form_for asked op (known_in facts a) (known_in facts b) ≡ Some form → is_caller_saved (slice_get top.homes d) ≡ true
+        → AreFrameHomes top.homes top.count → IsKnown (known_in facts) top.homes registers top.slots → AreDeferred facts.deferred registers
         → Stands most total gs starts (hide facts.deferred registers) g (top ∷ fs) s
-        → Leaves facts registers top s go (comparison_at top.copies facts op d a b form)
-        → P (with_inst gs (Bin op d a b) (cells hs registers top.slots) g out go)
+        → Leaves facts registers top s go (comparison_at top.homes facts op d a b form)
+        → P (with_inst gs (Bin op d a b) (cells top.homes registers top.slots) g out go)
     compares_bin asked op d a b facts form registers top s go is caller_saved ok k lz h f =
-        value_or_failed P (read_home hs registers top.slots a) out _ failed (λ v ev.
-        value_or_failed P (read_home hs registers top.slots b) out _ failed (λ w ew.
+        value_or_failed P (read_home top.homes registers top.slots a) out _ failed (λ v ev.
+        value_or_failed P (read_home top.homes registers top.slots b) out _ failed (λ w ew.
         value_or_failed P (op_result op v w) out _ failed (λ u eu.
         let known = known_in facts in
-        let vb = operand_below most total gs starts facts.deferred registers g top fs s h lz hs a v ok ev in
-        let wb = operand_below most total gs starts facts.deferred registers g top fs s h lz hs b w ok ew in
-        let z = decides_for (hide facts.deferred registers) g top fs s h v w u (known_in facts a) (known_in facts b) (operand (locations_of top.copies hs) facts a)
-        (operand (locations_of top.copies hs) facts b) (operand_means most total gs starts facts.deferred registers g top fs s h lz known hs a v ok k ev).1
-        (operand_means most total gs starts facts.deferred registers g top fs s h lz known hs b w ok k ew).1
-        (λ s h. (operand_means most total gs starts facts.deferred registers g top fs s h lz known hs a v ok k ev).0)
-        (λ s h. (operand_means most total gs starts facts.deferred registers g top fs s h lz known hs b w ok k ew).0)
+        let vb = operand_below most total gs starts facts.deferred registers g top fs s h lz a v ok ev in
+        let wb = operand_below most total gs starts facts.deferred registers g top fs s h lz b w ok ew in
+        let z = decides_for (hide facts.deferred registers) g top fs s h v w u (known_in facts a) (known_in facts b) (operand (slice_get top.homes) facts a)
+        (operand (slice_get top.homes) facts b) (operand_means most total gs starts facts.deferred registers g top fs s h lz known a v ok k ev).1
+        (operand_means most total gs starts facts.deferred registers g top fs s h lz known b w ok k ew).1
+        (λ s h. (operand_means most total gs starts facts.deferred registers g top fs s h lz known a v ok k ev).0)
+        (λ s h. (operand_means most total gs starts facts.deferred registers g top fs s h lz known b w ok k ew).0)
         (λ c is. same_Some c v (sym (k.by a c is) ∙ ev)) (λ c is. same_Some c w (sym (k.by b c is) ∙ ew)) vb wb asked op form is eu in
-        write u (result-word op v w u vb wb eu) z (slice_get hs d) refl caller_saved)))
+        write u (result-word op v w u vb wb eu) z (slice_get top.homes d) refl caller_saved)))
       where
         m : Comparison
-        m = comparison_at top.copies facts op d a b form
+        m = comparison_at top.homes facts op d a b form
 
         write : (u : ℕ) → u < 2 ^ 32
-            → Decided (hide facts.deferred registers) g top fs s h (code_by_form form op (operand_with (locations_of top.copies hs) facts a)
-            (operand_with (locations_of top.copies hs) facts b)) form (operand (locations_of top.copies hs) facts a) (operand (locations_of top.copies hs) facts b) u
-            → (o : Option Home) → slice_get hs d ≡ o → is_caller_saved (location_at top.copies o) ≡ true
+            → Decided (hide facts.deferred registers) g top fs s h (code_by_form form op (operand_with (slice_get top.homes) facts a)
+            (operand_with (slice_get top.homes) facts b)) form (operand (slice_get top.homes) facts a) (operand (slice_get top.homes) facts b) u
+            → (o : Option Home) → slice_get top.homes d ≡ o → is_caller_saved o ≡ true
             → P (with_value o out (λ h. write_at h registers top.slots u (λ r s. go r s g)))
         write u below z None at passes_by = absurd (true≢false (sym passes_by))
-        write u below z (Some (Slot j)) at passes_by = absurd (never (copy_of top.copies j) passes_by)
-          where
-            never : (c : Option ℕ) → is_caller_saved (Some (in_frame j c)) ≡ true → ⊥
-            never None e = true≢false (sym e)
-            never (Some r) e = true≢false (sym e)
+        write u below z (Some (Slot j)) at passes_by = absurd (true≢false (sym passes_by))
+        write u below z (Some (Copied r j)) at passes_by = absurd (true≢false (sym passes_by))
         write u below z (Some (Reg q)) at passes_by =
-            let there : read_home hs (places_with registers q (Some u)) top.slots d ≡ Some u =
+            let there : read_home top.homes (places_with registers q (Some u)) top.slots d ≡ Some u =
             ap (λ o. chain o (in_home (places_with registers q (Some u)) top.slots)) at ∙ ap (λ b. if b then Some u else registers q) (eq-eqb q q refl) in
             f q u z.to z.some z.runs
             (fewer_stand most total gs starts (hide facts.deferred registers) (hide (places_with facts.deferred q (Some u)) (places_with registers q (Some u))) g (top ∷ fs)
             z.to (λ r c e. shown_deferred facts.deferred registers q u r c e) z.stands)
             (one_deferred facts.deferred registers q u (not_true (is_callee_saved q) passes_by) below lz)
             (record {
-              fresh = none_fresh top.copies hs (places_with registers q (Some u)) top.slots z.to;
+              fresh = none_fresh top.homes (places_with registers q (Some u)) top.slots z.to;
               comparison = λ n c same holds.
-                  subst (λ (n : Comparison). read_home hs (places_with registers q (Some u)) top.slots n.result ≡ Some c → passes n.form n.left.source n.right.source z.to ≡ not (nat_eq c 0))
+                  subst (λ (n : Comparison). read_home top.homes (places_with registers q (Some u)) top.slots n.result ≡ Some c → passes n.form n.left.source n.right.source z.to ≡ not (nat_eq c 0))
                   (same_Some m n same) (λ here. z.tells ∙ ap (λ u. not (nat_eq u 0)) (same_Some u c (sym there ∙ here))) holds;
               result = λ n c same is_it holds.
-                  subst (λ (n : Comparison). is_result n.form ≡ true → read_home hs (places_with registers q (Some u)) top.slots n.result ≡ Some c → (z.to).regs 2 ≡ c)
+                  subst (λ (n : Comparison). is_result n.form ≡ true → read_home top.homes (places_with registers q (Some u)) top.slots n.result ≡ Some c → (z.to).regs 2 ≡ c)
                   (same_Some m n same) (λ it here. z.result it ∙ same_Some u c (sym there ∙ here)) is_it holds;
             })
 
     pub compares : (i : RInst) (facts : Facts) (asked : Asked) (m : Comparison) (registers : Places) (top : Stored) (s : State)
-        (go : Places → Places → Arrays → Run) → comparison_of (locations_of top.copies hs) facts asked i ≡ Some m
-        → AreFrameHomes hs top.copies top.count → IsKnown (known_in facts) hs registers top.slots → AreDeferred facts.deferred registers
+        (go : Places → Places → Arrays → Run) → comparison_of (slice_get top.homes) facts asked i ≡ Some m
+        → AreFrameHomes top.homes top.count → IsKnown (known_in facts) top.homes registers top.slots → AreDeferred facts.deferred registers
         → Stands most total gs starts (hide facts.deferred registers) g (top ∷ fs) s → Leaves facts registers top s go m
-        → P (with_inst gs i (cells hs registers top.slots) g out go)
+        → P (with_inst gs i (cells top.homes registers top.slots) g out go)
     compares (Const d w) facts asked m registers top s go e ok k lz h f = absurd (none-some m e)
     compares (Move d a) facts asked m registers top s go e ok k lz h f = absurd (none-some m e)
     compares (Load d a i) facts asked m registers top s go e ok k lz h f = absurd (none-some m e)
     compares (Store a i b) facts asked m registers top s go e ok k lz h f = absurd (none-some m e)
     compares (Bin op d a b) facts asked m registers top s go e ok k lz h f =
-        go1 (is_asked asked d && is_caller_saved (locations_of top.copies hs d)) refl e
+        go1 (is_asked asked d && is_caller_saved (slice_get top.homes d)) refl e
       where
         Goal : Type 0
-        Goal = P (with_inst gs (Bin op d a b) (cells hs registers top.slots) g out go)
+        Goal = P (with_inst gs (Bin op d a b) (cells top.homes registers top.slots) g out go)
 
-        go2 : is_caller_saved (locations_of top.copies hs d) ≡ true → (o : Option Form) → form_for asked op (known_in facts a) (known_in facts b) ≡ o
-            → operator_comparison d op (operand_with (locations_of top.copies hs) facts a) (operand_with (locations_of top.copies hs) facts b) o ≡ Some m → Goal
+        go2 : is_caller_saved (slice_get top.homes d) ≡ true → (o : Option Form) → form_for asked op (known_in facts a) (known_in facts b) ≡ o
+            → operator_comparison d op (operand_with (slice_get top.homes) facts a) (operand_with (slice_get top.homes) facts b) o ≡ Some m → Goal
         go2 caller_saved None is e = absurd (none-some m e)
         go2 caller_saved (Some form) is e =
             compares_bin asked op d a b facts form registers top s go is caller_saved ok k lz h (subst (Leaves facts registers top s go) (sym (same_Some _ m e)) f)
 
-        go1 : (t : Bool) → (is_asked asked d && is_caller_saved (locations_of top.copies hs d)) ≡ t
-            → (if t then operator_comparison d op (operand_with (locations_of top.copies hs) facts a) (operand_with (locations_of top.copies hs) facts b)
+        go1 : (t : Bool) → (is_asked asked d && is_caller_saved (slice_get top.homes d)) ≡ t
+            → (if t then operator_comparison d op (operand_with (slice_get top.homes) facts a) (operand_with (slice_get top.homes) facts b)
             (form_for asked op (known_in facts a) (known_in facts b)) else None) ≡ Some m → Goal
         go1 false t e = absurd (none-some m e)
-        go1 true t e = go2 (and_second (is_asked asked d) (is_caller_saved (locations_of top.copies hs d)) t) (form_for asked op (known_in facts a) (known_in facts b)) refl e
+        go1 true t e = go2 (and_second (is_asked asked d) (is_caller_saved (slice_get top.homes d)) t) (form_for asked op (known_in facts a) (known_in facts b)) refl e

@@ -26,22 +26,18 @@ use Rattle.rtl.specs.Meaning.{kept_in}
 use Rattle.rtl.proofs.Results.{result-word}
 use Rattle.mips_homes.specs.HomedRun.{cells, Run, Failed, with_value, read_home, with_inst}
 use Rattle.mips_homes.specs.declared.homed.Home.{Home}
-use Rattle.mips_homes.specs.declared.homed.Home.TheVariants.{Reg, Slot}
 use Rattle.mips_emit.specs.declared.limits.TheConstants.{KEPT_FACTS}
-use Rattle.mips_emit.specs.declared.location.Location.TheVariants.{Held, InSlot, Copied}
+use Rattle.mips_homes.specs.declared.homed.Home.TheVariants.{Reg, Slot, Copied}
 use Rattle.mips_emit.specs.declared.location.Source.{Source}
 use Rattle.mips_emit.specs.declared.product.ShiftedSum.{ShiftedSum}
 use Rattle.mips_emit.specs.declared.location.Source.TheVariants.{Zero, Word, From}
 use Rattle.mips_emit.specs.declared.facts.Fact.{Fact}
 use Rattle.mips_emit.specs.Frames.{AreFrameHomes}
-use Rattle.mips_homes.specs.declared.homed.SlotCopy.{SlotCopy}
-use Rattle.mips_homes.specs.Copies.{copy_of}
-use Rattle.mips_emit.specs.Locations.{in_frame, Facts, known_of, known_in, with_fact, learned, location_at, locations_of}
+use Rattle.mips_emit.specs.Locations.{Facts, known_of, known_in, with_fact, learned}
 use Rattle.mips_emit.specs.Locations.{last_of, inner_of, word_source, operand, index_register, index_of, kept_with}
 use Rattle.mips_emit.specs.declared.facts.Kept.{Kept}
 use Rattle.mips_emit.specs.declared.element.Reach.{Reach}
 use Rattle.mips_emit.specs.declared.element.Reach.TheVariants.{ByPointer, ByScratch, ByKept, ByNew}
-use Rattle.mips_emit.specs.declared.location.Location.{Location}
 use Rattle.mips_emit.specs.declared.offset.Offset.{Offset}
 use Rattle.mips_emit.specs.Offsets.{addend, offset_from, offset_of, sum_offset, or_offset, offset_past, offset_in, index_with}
 use Rattle.rtl.specs.declared.operator.Op.TheVariants.{Add, Sub, Mul, DivS, DivU, RemS, RemU, And, Or, Xor, Shl, ShrU, ShrS, Eq, Ne, LtS, LtU, LeS, LeU}
@@ -102,17 +98,14 @@ ends_set is s m d v w ok run e lt = record {
     put' : (ℕ → ℕ) → ℕ → ℕ → ℕ → ℕ
     put' = Rattle.mips_isa.specs.States.put
 
-into_target : (hs : List Home) (copies : List SlotCopy) (count x : ℕ) → AreFrameHomes hs copies count → IsTarget (into (location_at copies (slice_get hs x)))
-into_target hs copies count x ok = go (slice_get hs x) refl
+into_target : (hs : List Home) (count x : ℕ) → AreFrameHomes hs count → IsTarget (into (slice_get hs x))
+into_target hs count x ok = go (slice_get hs x) refl
   where
-    slot : (k : ℕ) (c : Option ℕ) → copy_of copies k ≡ c → IsTarget (into (Some (in_frame k c)))
-    slot k None e = inner_target (Some (InSlot k))
-    slot k (Some r) e = (let range = (ok.copied).range k r e in record { low = omega (arith, range.0); high = omega (arith, range.1) })
-
-    go : (o : Option Home) → slice_get hs x ≡ o → IsTarget (into (location_at copies o))
+    go : (o : Option Home) → slice_get hs x ≡ o → IsTarget (into o)
     go None e = inner_target None
     go (Some (Reg r)) e = (let range = ok.by x (Reg r) e in record { low = omega (arith, range.0); high = omega (arith, range.1) })
-    go (Some (Slot k)) e = slot k (copy_of copies k) refl
+    go (Some (Slot k)) e = inner_target (Some (Slot k))
+    go (Some (Copied r k)) e = (let range = (ok.copied).range x r k e in record { low = omega (arith, range.0); high = omega (arith, range.1) })
 
 word_means : (count w v : ℕ) (s : State) → w ≡ v → w < 2 ^ 32 → Denotes count s (word_source w) v
 word_means count w v s e lt = go (nat_eq w 0) refl
@@ -133,8 +126,8 @@ and_second false b e = absurd (true≢false (sym e))
 operand_register_apart : (x : Source) → IsAway x → operand_register 1 x ≢ 2
 operand_register_apart Zero away = λ e. absurd (omega (arith, e))
 operand_register_apart (Word w) away = λ e. absurd (omega (arith, e))
-operand_register_apart (From (Held r)) away = λ e. absurd (omega (arith, e, away.0))
-operand_register_apart (From (InSlot k)) away = λ e. absurd (omega (arith, e))
+operand_register_apart (From (Reg r)) away = λ e. absurd (omega (arith, e, away.0))
+operand_register_apart (From (Slot k)) away = λ e. absurd (omega (arith, e))
 operand_register_apart (From (Copied r k)) away = λ e. absurd (omega (arith, e, away.0))
 
 -- what an operator with a known word adds
@@ -163,41 +156,38 @@ sums_to LeS v w u c e is = absurd (none-some c is)
 sums_to LeU v w u c e is = absurd (none-some c is)
 
 -- a register that is a home
-abbrev IsRegister : Option Location → Type 0
+abbrev IsRegister : Option Home → Type 0
 IsRegister None = Unit {0}
-IsRegister (Some (Held r)) = (4 ≤ r) × (r < 28)
-IsRegister (Some (InSlot k)) = Unit {0}
+IsRegister (Some (Reg r)) = (4 ≤ r) × (r < 28)
+IsRegister (Some (Slot k)) = Unit {0}
 IsRegister (Some (Copied r k)) = Unit {0}
 
-home_register : (hs : List Home) (copies : List SlotCopy) (count x : ℕ) → AreFrameHomes hs copies count → IsRegister (location_at copies (slice_get hs x))
-home_register hs copies count x ok = go (slice_get hs x) refl
+home_register : (hs : List Home) (count x : ℕ) → AreFrameHomes hs count → IsRegister (slice_get hs x)
+home_register hs count x ok = go (slice_get hs x) refl
   where
-    slot : (k : ℕ) (c : Option ℕ) → IsRegister (Some (in_frame k c))
-    slot k None = tt
-    slot k (Some r) = tt
-
-    go : (o : Option Home) → slice_get hs x ≡ o → IsRegister (location_at copies o)
+    go : (o : Option Home) → slice_get hs x ≡ o → IsRegister o
     go None e = tt
     go (Some (Reg r)) e = ok.by x (Reg r) e
-    go (Some (Slot k)) e = slot k (copy_of copies k)
+    go (Some (Slot k)) e = tt
+    go (Some (Copied r k)) e = tt
 
 -- what an operator leaves in a register, of which the right operand may be known
 module _ (op : Op) (v w u : ℕ) (f f' : ℕ → ℕ) (old : Option Offset) (e : op_result op v w ≡ Some u) (before : IsOffset old f) where
-  sum_held : (t : ℕ) (right : Option ℕ) (x : Source) → 4 ≤ t → t < 28 → IsAway x → ((r : ℕ) → x ≡ From (Held r) → f r ≡ v)
-      → ((c : ℕ) → right ≡ Some c → c ≡ w) → Keeps (Some (Held t)) f f' → f' t ≡ u
-      → IsOffset (or_offset (offset_of t op right x) (offset_past (Some (Held t)) old)) f'
+  sum_held : (t : ℕ) (right : Option ℕ) (x : Source) → 4 ≤ t → t < 28 → IsAway x → ((r : ℕ) → x ≡ From (Reg r) → f r ≡ v)
+      → ((c : ℕ) → right ≡ Some c → c ≡ w) → Keeps (Some (Reg t)) f f' → f' t ≡ u
+      → IsOffset (or_offset (offset_of t op right x) (offset_past (Some (Reg t)) old)) f'
   sum_held t right x low high away at said keeps is = by right x away at said
     where
-      others : IsOffset (offset_past (Some (Held t)) old) f'
-      others = offset_written (Some (Held t)) old f f' keeps before
+      others : IsOffset (offset_past (Some (Reg t)) old) f'
+      others = offset_written (Some (Reg t)) old f f' keeps before
 
       from : (r c : ℕ) → 4 ≤ r → r < 28 → f r ≡ v → c ≡ w → (o : Option ℕ) → addend op c ≡ o
-          → IsOffset (or_offset (offset_from t r o) (offset_past (Some (Held t)) old)) f'
+          → IsOffset (or_offset (offset_from t r o) (offset_past (Some (Reg t)) old)) f'
       from r c r_low r_high at same None added = others
       from r c r_low r_high at same (Some d) added = go (nat_eq r t) refl
         where
           go : (b : Bool) → nat_eq r t ≡ b
-              → IsOffset (or_offset (if b then None else Some (record { register = t; base = r; word = d })) (offset_past (Some (Held t)) old)) f'
+              → IsOffset (or_offset (if b then None else Some (record { register = t; base = r; word = d })) (offset_past (Some (Reg t)) old)) f'
           go true n = others
           go false n =
               let ne = eqb-false r t n in
@@ -205,24 +195,24 @@ module _ (op : Op) (v w u : ℕ) (f f' : ℕ → ℕ) (old : Option Offset) (e :
               is ∙ sums_to op v w u d e (ap (addend op) (sym same) ∙ added) ∙ ap (λ v. wrap (v + d)) (sym (keeps.others r r_low ne ∙ at)) in
               offset_here (record { register = t; base = r; word = d }) f' low r_low high r_high here
 
-      by : (right : Option ℕ) (x : Source) → IsAway x → ((r : ℕ) → x ≡ From (Held r) → f r ≡ v) → ((c : ℕ) → right ≡ Some c → c ≡ w)
-          → IsOffset (or_offset (offset_of t op right x) (offset_past (Some (Held t)) old)) f'
+      by : (right : Option ℕ) (x : Source) → IsAway x → ((r : ℕ) → x ≡ From (Reg r) → f r ≡ v) → ((c : ℕ) → right ≡ Some c → c ≡ w)
+          → IsOffset (or_offset (offset_of t op right x) (offset_past (Some (Reg t)) old)) f'
       by None x away at said = others
       by (Some c) Zero away at said = others
       by (Some c) (Word n) away at said = others
-      by (Some c) (From (InSlot j)) away at said = others
+      by (Some c) (From (Slot j)) away at said = others
       by (Some c) (From (Copied r j)) away at said = others
-      by (Some c) (From (Held r)) away at said = from r c away.0 away.1 (at r refl) (said c refl) (addend op c) refl
+      by (Some c) (From (Reg r)) away at said = from r c away.0 away.1 (at r refl) (said c refl) (addend op c) refl
 
-  sum_known : (l : Option Location) (right : Option ℕ) (x : Source) → IsRegister l → IsAway x → ((r : ℕ) → x ≡ From (Held r) → f r ≡ v)
+  sum_known : (l : Option Home) (right : Option ℕ) (x : Source) → IsRegister l → IsAway x → ((r : ℕ) → x ≡ From (Reg r) → f r ≡ v)
       → ((c : ℕ) → right ≡ Some c → c ≡ w) → Keeps l f f' → Holds l f' u → IsOffset (or_offset (sum_offset l op right x) (offset_past l old)) f'
   sum_known None right x ok away at said keeps is = offset_written None old f f' keeps before
-  sum_known (Some (InSlot j)) right x ok away at said keeps is = offset_written (Some (InSlot j)) old f f' keeps before
+  sum_known (Some (Slot j)) right x ok away at said keeps is = offset_written (Some (Slot j)) old f f' keeps before
   sum_known (Some (Copied r j)) right x ok away at said keeps is = offset_written (Some (Copied r j)) old f f' keeps before
-  sum_known (Some (Held t)) right x ok away at said keeps is = sum_held t right x ok.0 ok.1 away at said keeps is
+  sum_known (Some (Reg t)) right x ok away at said keeps is = sum_held t right x ok.0 ok.1 away at said keeps is
 
 -- a register that is an operand
-held_operand : (count : ℕ) (s : State) (x : Source) (v : ℕ) → IsAway x → Denotes count s x v → (r : ℕ) → x ≡ From (Held r) → s.regs r ≡ v
+held_operand : (count : ℕ) (s : State) (x : Source) (v : ℕ) → IsAway x → Denotes count s x v → (r : ℕ) → x ≡ From (Reg r) → s.regs r ≡ v
 held_operand count s x v away d r e =
     let low = (subst IsAway e away).0 in
     sym (read_register s.regs r (omega (arith, low))) ∙ subst (λ x. Denotes count s x v) e d
@@ -445,17 +435,17 @@ module _ (most total : ℕ) (gs : List RGlobal) (starts : ℕ → ℕ) where
           (λ r low high. b.others r (omega (arith, low)) (omega (arith, low))) c.stands)
 
       -- what is known of the index
-      index_of_register : (t : ℕ) → IsAway (From (Held t)) → IsIndex (offset_in offset t) t s.regs
+      index_of_register : (t : ℕ) → IsAway (From (Reg t)) → IsIndex (offset_in offset t) t s.regs
       index_of_register t away = index_is offset t s.regs away.0 away.1 ((h.words).regs t) offsets
 
       -- register 30 is a base for the index
-      shifts : (t : ℕ) (m : State) → IsAway (From (Held t)) → m.regs t ≡ i → IsIndex (offset_in offset t) t m.regs
+      shifts : (t : ℕ) (m : State) → IsAway (From (Reg t)) → m.regs t ≡ i → IsIndex (offset_in offset t) t m.regs
           → m.regs 30 ≡ wrap (width_bytes (width_of gs a) * m.regs (base_index (width_of gs a) (starts a) (offset_in offset t)) + base_word (starts a))
           → wrap (m.regs 30 + word_of_offset (shifted_offset (width_of gs a) (starts a) (offset_in offset t).word)) ≡ address_of_place (place_in gs starts a i)
       shifts t m away is index base =
           from_shifted (width_of gs a) (starts a) (offset_in offset t) i (m.regs 30) m.regs (ap m.regs index.register ∙ is) index.sum few base
 
-      now_kept : (t : ℕ) (m : State) → IsAway (From (Held t)) → IsIndex (offset_in offset t) t m.regs
+      now_kept : (t : ℕ) (m : State) → IsAway (From (Reg t)) → IsIndex (offset_in offset t) t m.regs
           → m.regs 30 ≡ wrap (width_bytes (width_of gs a) * m.regs (base_index (width_of gs a) (starts a) (offset_in offset t)) + base_word (starts a))
           → IsKept gs starts (this t) m.regs
       now_kept t m away index base =
@@ -464,8 +454,8 @@ module _ (most total : ℕ) (gs : List RGlobal) (starts : ℕ → ℕ) where
           kept_here gs starts a (offset_in offset t) m.regs (omega (arith, low, register)) index.low base
 
       -- from a base that is made in register 30, and kept
-      anew : (t : ℕ) → IsAway (From (Held t)) → read 0 s.regs t ≡ i
-          → Reached (ByNew (base_index (width_of gs a) (starts a) (offset_in offset t)) (offset_in offset t).word) (From (Held t)) (this t)
+      anew : (t : ℕ) → IsAway (From (Reg t)) → read 0 s.regs t ≡ i
+          → Reached (ByNew (base_index (width_of gs a) (starts a) (offset_in offset t)) (offset_in offset t).word) (From (Reg t)) (this t)
       anew t away is =
           let low = away.0 in
           let high = away.1 in
@@ -489,8 +479,8 @@ module _ (most total : ℕ) (gs : List RGlobal) (starts : ℕ → ℕ) where
           (base_changed most total gs starts registers g (top ∷ fs) (base_code (width_of gs a) 30 (starts a) q) s b.regs b.runs others h)
 
       -- from the base that is kept
-      again : (t : ℕ) → IsAway (From (Held t)) → read 0 s.regs t ≡ i → (p : Option Kept) → kept ≡ p → holds_base gs starts p a (Some (offset_in offset t)) ≡ true
-          → Reached (ByKept (offset_in offset t).word) (From (Held t)) (this t)
+      again : (t : ℕ) → IsAway (From (Reg t)) → read 0 s.regs t ≡ i → (p : Option Kept) → kept ≡ p → holds_base gs starts p a (Some (offset_in offset t)) ≡ true
+          → Reached (ByKept (offset_in offset t).word) (From (Reg t)) (this t)
       again t away is None same e = absurd (true≢false (sym e))
       again t away is (Some j) same e =
           let low = away.0 in
@@ -526,13 +516,13 @@ module _ (most total : ℕ) (gs : List RGlobal) (starts : ℕ → ℕ) where
           → Reached (reach_with gs starts kept a known (index_with offset (index_register known x))) x (kept_with a (index_with offset (index_register known x)) kept)
       elements None Zero away mx said = far Zero away mx
       elements None (Word w) away mx said = far (Word w) away mx
-      elements None (From (InSlot j)) away mx said = far (From (InSlot j)) away mx
+      elements None (From (Slot j)) away mx said = far (From (Slot j)) away mx
       elements None (From (Copied r j)) away mx said = far (From (Copied r j)) away mx
-      elements None (From (Held t)) away mx said = go (holds_base gs starts kept a (Some (offset_in offset t))) refl
+      elements None (From (Reg t)) away mx said = go (holds_base gs starts kept a (Some (offset_in offset t))) refl
         where
           go : (b : Bool) → holds_base gs starts kept a (Some (offset_in offset t)) ≡ b
               → Reached (if b then ByKept (offset_in offset t).word else ByNew (base_index (width_of gs a) (starts a) (offset_in offset t)) (offset_in offset t).word)
-              (From (Held t)) (this t)
+              (From (Reg t)) (this t)
           go true e = again t away (mx s h) kept refl e
           go false e = anew t away (mx s h)
       elements (Some w) x away mx said = go (nat_lt w 65536) (nat_lt (element_place (width_of gs a) (starts a) w) 65536) refl
@@ -544,103 +534,103 @@ module _ (most total : ℕ) (gs : List RGlobal) (starts : ℕ → ℕ) where
           go true false e = far x away mx
           go true true e = close x (element_place (width_of gs a) (starts a) w) (ap (element_place (width_of gs a) (starts a)) (said w refl)) e
 
-  module _ (g : Arrays) (fs : List Stored) (hs : List Home) (P : Run → Type 0) (out : List ℕ) (failed : P (Failed out)) where
+  module _ (g : Arrays) (fs : List Stored) (P : Run → Type 0) (out : List ℕ) (failed : P (Failed out)) where
     pub performs : (i : RInst) (facts : Facts) (registers : Places) (top : Stored) (s : State) (go : Places → Places → Arrays → Run)
-        → AreFrameHomes hs top.copies top.count → IsKnown (known_in facts) hs registers top.slots → AreDeferred facts.deferred registers
+        → AreFrameHomes top.homes top.count → IsKnown (known_in facts) top.homes registers top.slots → AreDeferred facts.deferred registers
         → AreBases gs starts facts s.regs → Stands most total gs starts (hide facts.deferred registers) g (top ∷ fs) s
-        → ((registers' slots' : Places) (g' : Arrays) (s' : State) → 1 ≤ length (inst_code gs starts (locations_of top.copies hs) facts i)
-        → RunsTo (inst_code gs starts (locations_of top.copies hs) facts i) s s' → Stands most total gs starts (hide (learned (locations_of top.copies hs) i facts).deferred registers') g' (with_slots top slots' ∷ fs) s'
-        → AreDeferred (learned (locations_of top.copies hs) i facts).deferred registers' → AreBases gs starts (learned (locations_of top.copies hs) i facts) s'.regs → IsKnown (known_in (learned (locations_of top.copies hs) i facts)) hs registers' slots' → IsLast (last_of (locations_of top.copies hs) facts i) top.copies hs registers' slots' s'
+        → ((registers' slots' : Places) (g' : Arrays) (s' : State) → 1 ≤ length (inst_code gs starts (slice_get top.homes) facts i)
+        → RunsTo (inst_code gs starts (slice_get top.homes) facts i) s s' → Stands most total gs starts (hide (learned (slice_get top.homes) i facts).deferred registers') g' (with_slots top slots' ∷ fs) s'
+        → AreDeferred (learned (slice_get top.homes) i facts).deferred registers' → AreBases gs starts (learned (slice_get top.homes) i facts) s'.regs → IsKnown (known_in (learned (slice_get top.homes) i facts)) top.homes registers' slots' → IsLast (last_of (slice_get top.homes) facts i) top.homes registers' slots' s'
         → P (go registers' slots' g'))
-        → P (with_inst gs i (cells hs registers top.slots) g out go)
+        → P (with_inst gs i (cells top.homes registers top.slots) g out go)
     performs (Const d w) facts registers top s go ok k lz kp h f =
-        tells most total gs starts facts.deferred registers g top fs s h lz P (λ r s. go r s g) hs d (wrap w) out (known_in facts) (omega arith) ok k failed
-        (λ r' s' to some e st lz' kn keeps. f r' s' g to some e st lz' (bases_written gs starts (locations_of top.copies hs d) facts.kept facts.offset s.regs to.regs keeps kp)
-        (fact_known hs r' s' facts d (Some (wrap w)) kn) (none_last top.copies hs r' s' to))
+        tells most total gs starts facts.deferred registers g top fs s h lz P (λ r s. go r s g) d (wrap w) out (known_in facts) (omega arith) ok k failed
+        (λ r' s' to some e st lz' kn keeps. f r' s' g to some e st lz' (bases_written gs starts (slice_get top.homes d) facts.kept facts.offset s.regs to.regs keeps kp)
+        (fact_known top.homes r' s' facts d (Some (wrap w)) kn) (none_last top.homes r' s' to))
     performs (Move d a) facts registers top s go ok k lz kp h f =
-        value_or_failed P (read_home hs registers top.slots a) out _ failed (λ v e.
-        let x = operand_means most total gs starts facts.deferred registers g top fs s h lz (known_in facts) hs a v ok k e in
-        puts most total gs starts facts.deferred registers g top fs s h lz P (λ r s. go r s g) hs d v (known_in facts a) out (known_in facts)
-        (operand (locations_of top.copies hs) facts a) x.0 (operand_below most total gs starts facts.deferred registers g top fs s h lz hs a v ok e)
+        value_or_failed P (read_home top.homes registers top.slots a) out _ failed (λ v e.
+        let x = operand_means most total gs starts facts.deferred registers g top fs s h lz (known_in facts) a v ok k e in
+        puts most total gs starts facts.deferred registers g top fs s h lz P (λ r s. go r s g) d v (known_in facts a) out (known_in facts)
+        (operand (slice_get top.homes) facts a) x.0 (operand_below most total gs starts facts.deferred registers g top fs s h lz a v ok e)
         (λ u is. same_Some u v (sym (k.by a u is) ∙ e)) ok k failed
-        (λ r' s' to some e st lz' kn keeps. f r' s' g to some e st lz' (bases_written gs starts (locations_of top.copies hs d) facts.kept facts.offset s.regs to.regs keeps kp)
-        (fact_known hs r' s' facts d (known_in facts a) kn) (none_last top.copies hs r' s' to)))
+        (λ r' s' to some e st lz' kn keeps. f r' s' g to some e st lz' (bases_written gs starts (slice_get top.homes d) facts.kept facts.offset s.regs to.regs keeps kp)
+        (fact_known top.homes r' s' facts d (known_in facts a) kn) (none_last top.homes r' s' to)))
     performs (Bin op d a b) facts registers top s go ok k lz kp h f =
-        value_or_failed P (read_home hs registers top.slots a) out _ failed (λ v ev.
-        value_or_failed P (read_home hs registers top.slots b) out _ failed (λ w ew.
+        value_or_failed P (read_home top.homes registers top.slots a) out _ failed (λ v ev.
+        value_or_failed P (read_home top.homes registers top.slots b) out _ failed (λ w ew.
         value_or_failed P (op_result op v w) out _ failed (λ u eu.
         let known = known_in facts in
-        let x = operand (locations_of top.copies hs) facts a in
-        let x_means = operand_means most total gs starts facts.deferred registers g top fs s h lz known hs a v ok k ev in
-        let z = computes (hide facts.deferred registers) g top fs s h op (inner_of (locations_of top.copies hs d)) (into (locations_of top.copies hs d)) v w u (known_in facts a)
-        (known_in facts b) (operand (locations_of top.copies hs) facts a) (operand (locations_of top.copies hs) facts b) (inner_is (locations_of top.copies hs d)) (into_target hs top.copies top.count d ok)
-        (operand_means most total gs starts facts.deferred registers g top fs s h lz known hs a v ok k ev).1
-        (operand_means most total gs starts facts.deferred registers g top fs s h lz known hs b w ok k ew).1
-        (λ s h. (operand_means most total gs starts facts.deferred registers g top fs s h lz known hs a v ok k ev).0)
-        (λ s h. (operand_means most total gs starts facts.deferred registers g top fs s h lz known hs b w ok k ew).0)
+        let x = operand (slice_get top.homes) facts a in
+        let x_means = operand_means most total gs starts facts.deferred registers g top fs s h lz known a v ok k ev in
+        let z = computes (hide facts.deferred registers) g top fs s h op (inner_of (slice_get top.homes d)) (into (slice_get top.homes d)) v w u (known_in facts a)
+        (known_in facts b) (operand (slice_get top.homes) facts a) (operand (slice_get top.homes) facts b) (inner_is (slice_get top.homes d)) (into_target top.homes top.count d ok)
+        (operand_means most total gs starts facts.deferred registers g top fs s h lz known a v ok k ev).1
+        (operand_means most total gs starts facts.deferred registers g top fs s h lz known b w ok k ew).1
+        (λ s h. (operand_means most total gs starts facts.deferred registers g top fs s h lz known a v ok k ev).0)
+        (λ s h. (operand_means most total gs starts facts.deferred registers g top fs s h lz known b w ok k ew).0)
         (λ c is. same_Some c v (sym (k.by a c is) ∙ ev))
         (λ c is. same_Some c w (sym (k.by b c is) ∙ ew))
-        (operand_below most total gs starts facts.deferred registers g top fs s h lz hs a v ok ev)
-        (operand_below most total gs starts facts.deferred registers g top fs s h lz hs b w ok ew) eu in
-        finishes most total gs starts facts.deferred registers g top fs z.to z.stands lz P (λ r s. go r s g) hs d u (Some u) out (places_with known b (Some w))
-        (op_code op (inner_of (locations_of top.copies hs d)) (into (locations_of top.copies hs d)) (operand_with (locations_of top.copies hs) facts a)
-        (operand_with (locations_of top.copies hs) facts b)) s z.ends z.some
-        (λ c is. sym (same_Some u c is)) ok (known_with known hs registers top.slots b w ew k) failed
+        (operand_below most total gs starts facts.deferred registers g top fs s h lz a v ok ev)
+        (operand_below most total gs starts facts.deferred registers g top fs s h lz b w ok ew) eu in
+        finishes most total gs starts facts.deferred registers g top fs z.to z.stands lz P (λ r s. go r s g) d u (Some u) out (places_with known b (Some w))
+        (op_code op (inner_of (slice_get top.homes d)) (into (slice_get top.homes d)) (operand_with (slice_get top.homes) facts a)
+        (operand_with (slice_get top.homes) facts b)) s z.ends z.some
+        (λ c is. sym (same_Some u c is)) ok (known_with known top.homes registers top.slots b w ew k) failed
         (λ r' s' to some e st lz' kn keeps held new. f r' s' g to some e st lz' (
-          kept_written gs starts (locations_of top.copies hs d) facts.kept (z.to).regs to.regs keeps (kept_same gs starts facts.kept s.regs (z.to).regs z.others kp.0),
-          sum_known op v w u (z.to).regs to.regs facts.offset eu (offset_same facts.offset s.regs (z.to).regs (λ q up _. z.others q up) kp.1) (locations_of top.copies hs d)
-              (known_in facts b) x (home_register hs top.copies top.count d ok) x_means.1
+          kept_written gs starts (slice_get top.homes d) facts.kept (z.to).regs to.regs keeps (kept_same gs starts facts.kept s.regs (z.to).regs z.others kp.0),
+          sum_known op v w u (z.to).regs to.regs facts.offset eu (offset_same facts.offset s.regs (z.to).regs (λ q up _. z.others q up) kp.1) (slice_get top.homes d)
+              (known_in facts b) x (home_register top.homes top.count d ok) x_means.1
               (λ r is. (let up = (subst IsAway is x_means.1).0 in z.others r up) ∙ held_operand top.count s x v x_means.1 x_means.0 r is)
               (λ c is. same_Some c w (sym (k.by b c is) ∙ ew)) keeps held,
         )
-        (fact_known hs r' s' facts d None (known_without known hs r' s' b w d u (λ c is. same_Some c w (sym (k.by b c is) ∙ ew)) kn))
+        (fact_known top.homes r' s' facts d None (known_without known top.homes r' s' b w d u (λ c is. same_Some c w (sym (k.by b c is) ∙ ew)) kn))
         (record { fresh = new; comparison = λ m v' is. absurd (none-some m is); result = λ m v' is. absurd (none-some m is) })))))
     performs (Load d a i) facts registers top s go ok k lz kp h f =
-        value_or_failed P (read_home hs registers top.slots i) out _ failed (λ v ev.
+        value_or_failed P (read_home top.homes registers top.slots i) out _ failed (λ v ev.
         value_or_failed P (element_at g a v) out _ failed (λ w there.
         let known = known_in facts in
-        let x = operand (locations_of top.copies hs) facts i in
+        let x = operand (slice_get top.homes) facts i in
         let width = width_of gs a in
-        let o = reach_of gs starts (locations_of top.copies hs) facts a i in
+        let o = reach_of gs starts (slice_get top.homes) facts a i in
         let p = elements (hide facts.deferred registers) g top fs s h facts.kept facts.offset a v w there kp.0 kp.1 (known_in facts i) x
-        (operand_means most total gs starts facts.deferred registers g top fs s h lz known hs i v ok k ev).1
-        (λ s h. (operand_means most total gs starts facts.deferred registers g top fs s h lz known hs i v ok k ev).0) (λ u is. same_Some u v (sym (k.by i u is) ∙ ev)) in
-        let now = kept_with a (index_of (locations_of top.copies hs) facts i) facts.kept in
+        (operand_means most total gs starts facts.deferred registers g top fs s h lz known i v ok k ev).1
+        (λ s h. (operand_means most total gs starts facts.deferred registers g top fs s h lz known i v ok k ev).0) (λ u is. same_Some u v (sym (k.by i u is) ∙ ev)) in
+        let now = kept_with a (index_of (slice_get top.homes) facts i) facts.kept in
         let to = p.to in
         let at = address_of_place (place_in gs starts a v) in
-        let d' = into (locations_of top.copies hs d) in
+        let d' = into (slice_get top.homes d) in
         let load = loads_at width to d' (element_base o) (element_offset width (starts a) o) at p.here p.ok in
         let value : shown_at width to at ≡ w = (p.stands).elements a v w there in
         let below : w < 2 ^ 32 = subst (λ w. w < 2 ^ 32) value (shown_below width to at (p.stands).words) in
         let is = element_code width (starts a) o x ++ element_load width d' (starts a) o ∷ [] in
-        finishes most total gs starts facts.deferred registers g top fs to p.stands lz P (λ r s. go r s g) hs d w None out known is s
-        (ends_set is s to d' (shown_at width to at) w (into_target hs top.copies top.count d ok) (runs_then p.runs load) value below)
+        finishes most total gs starts facts.deferred registers g top fs to p.stands lz P (λ r s. go r s g) d w None out known is s
+        (ends_set is s to d' (shown_at width to at) w (into_target top.homes top.count d ok) (runs_then p.runs load) value below)
         (longer_behind (element_code width (starts a) o x) _ (omega arith)) (λ w e. absurd (none-some w e)) ok k failed
         (λ r' s' end some e st lz' kn keeps held new. f r' s' g end some e st lz' (
-          kept_written gs starts (locations_of top.copies hs d) now to.regs end.regs keeps p.is_kept,
-          offset_written (locations_of top.copies hs d) facts.offset to.regs end.regs keeps (offset_same facts.offset s.regs to.regs p.others kp.1),
+          kept_written gs starts (slice_get top.homes d) now to.regs end.regs keeps p.is_kept,
+          offset_written (slice_get top.homes d) facts.offset to.regs end.regs keeps (offset_same facts.offset s.regs to.regs p.others kp.1),
         )
-        (fact_known hs r' s' facts d None kn)
+        (fact_known top.homes r' s' facts d None kn)
         (record { fresh = new; comparison = λ m v' is. absurd (none-some m is); result = λ m v' is. absurd (none-some m is) }))))
     performs (Store a i b) facts registers top s go ok k lz kp h f =
-        value_or_failed P (read_home hs registers top.slots i) out _ failed (λ v ev.
-        value_or_failed P (read_home hs registers top.slots b) out _ failed (λ w ew.
+        value_or_failed P (read_home top.homes registers top.slots i) out _ failed (λ v ev.
+        value_or_failed P (read_home top.homes registers top.slots b) out _ failed (λ w ew.
         value_or_failed P (kept_in gs a w) out _ failed (λ c ec.
         value_or_failed P (arrays_with g a v c) out _ failed (λ g' eg.
         let known = known_in facts in
         let width = width_of gs a in
         let at_g = stored_at g a v c g' eg in
-        let x = operand (locations_of top.copies hs) facts i in
-        let y = operand (locations_of top.copies hs) facts b in
-        let o = reach_of gs starts (locations_of top.copies hs) facts a i in
+        let x = operand (slice_get top.homes) facts i in
+        let y = operand (slice_get top.homes) facts b in
+        let o = reach_of gs starts (slice_get top.homes) facts a i in
         let p = elements (hide facts.deferred registers) g top fs s h facts.kept facts.offset a v at_g.old at_g.was kp.0 kp.1 (known_in facts i) x
-        (operand_means most total gs starts facts.deferred registers g top fs s h lz known hs i v ok k ev).1
-        (λ s h. (operand_means most total gs starts facts.deferred registers g top fs s h lz known hs i v ok k ev).0) (λ u is. same_Some u v (sym (k.by i u is) ∙ ev)) in
-        let now = kept_with a (index_of (locations_of top.copies hs) facts i) facts.kept in
+        (operand_means most total gs starts facts.deferred registers g top fs s h lz known i v ok k ev).1
+        (λ s h. (operand_means most total gs starts facts.deferred registers g top fs s h lz known i v ok k ev).0) (λ u is. same_Some u v (sym (k.by i u is) ∙ ev)) in
+        let now = kept_with a (index_of (slice_get top.homes) facts i) facts.kept in
         let m = p.to in
         let at = address_of_place (place_in gs starts a v) in
         let z = fetches most total gs starts (hide facts.deferred registers) g top fs m p.stands 2 w y (omega arith) (omega arith)
-        (operand_means most total gs starts facts.deferred registers g top fs m p.stands lz known hs b w ok k ew).0 in
+        (operand_means most total gs starts facts.deferred registers g top fs m p.stands lz known b w ok k ew).0 in
         let to : State = record m { regs = z.regs } in
         let here : wrap (read 0 z.regs (element_base o) + word_of_offset (element_offset width (starts a) o)) ≡ at =
         ap (λ r. wrap (r + word_of_offset (element_offset width (starts a) o))) (read_other m.regs z.regs (element_base o) (λ _. z.others (element_base o) p.apart)) ∙ p.here in
@@ -649,9 +639,9 @@ module _ (most total : ℕ) (gs : List RGlobal) (starts : ℕ → ℕ) where
         let store' : RunsTo (last ∷ []) to (set_at width to at w) = subst (λ w. RunsTo (last ∷ []) to (set_at width to at w)) z.here store in
         f registers top.slots g' (set_at width to at w) (longer_behind (element_code width (starts a) o x) _
         (longer_behind (fetch 2 y) (last ∷ []) (omega arith))) (runs_then p.runs (runs_then z.runs store'))
-        (data_written most total gs starts (hide facts.deferred registers) g (top ∷ fs) to a v w g' (operand_below most total gs starts facts.deferred registers g top fs s h lz hs b w ok ew)
+        (data_written most total gs starts (hide facts.deferred registers) g (top ∷ fs) to a v w g' (operand_below most total gs starts facts.deferred registers g top fs s h lz b w ok ew)
         (ap (arrays_with g a v) (sym (kept_is gs a w c ec)) ∙ eg) z.stands) lz (
           kept_same gs starts now m.regs z.regs (λ q up. (let ne : q ≢ 2 = omega (arith, up) in z.others q ne)) p.is_kept,
           offset_same facts.offset s.regs z.regs (λ q up ne. (let apart : q ≢ 2 = omega (arith, up) in z.others q apart) ∙ p.others q up ne) kp.1,
         ) k
-        (none_last top.copies hs registers top.slots (set_at width to at w))))))
+        (none_last top.homes registers top.slots (set_at width to at w))))))

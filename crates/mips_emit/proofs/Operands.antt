@@ -18,10 +18,8 @@ use Rattle.mips_isa.specs.Controls.{pair_passes, zero_passes}
 use Rattle.mblock.specs.declared.limits.TheConstants.{UNIT_BYTES}
 use Rattle.mips_homes.specs.HomedRun.{is_callee_saved, in_home, read_home}
 use Rattle.mips_homes.specs.declared.homed.Home.{Home}
-use Rattle.mips_homes.specs.declared.homed.Home.TheVariants.{Reg, Slot}
 use Rattle.mips_homes.specs.declared.homed.Frame.{Frame}
-use Rattle.mips_homes.specs.declared.homed.SlotCopy.{SlotCopy}
-use Rattle.mips_emit.specs.declared.location.Location.TheVariants.{Held, InSlot, Copied}
+use Rattle.mips_homes.specs.declared.homed.Home.TheVariants.{Reg, Slot, Copied}
 use Rattle.mips_emit.specs.declared.location.Source.{Source}
 use Rattle.mips_emit.specs.declared.location.Source.TheVariants.{Zero, Word, From}
 use Rattle.mips_emit.specs.declared.comparison.Form.{Form}
@@ -30,10 +28,11 @@ use Rattle.mips_emit.specs.declared.comparison.Comparison.{Comparison}
 use Rattle.mips_emit.specs.declared.facts.Kept.{Kept}
 use Rattle.mips_emit.specs.declared.facts.Last.{Last}
 use Rattle.rtl.specs.declared.block.RGlobal.{RGlobal}
-use Rattle.mips_emit.specs.Frames.{AreFrameHomes, IsFrame}
+use Rattle.mips_emit.specs.declared.limits.TheConstants.{FRAME_BYTES}
+use Rattle.mips_emit.specs.Frames.{IsHome, AreFrameHomes, IsFrame, IsReachable}
 use Rattle.mips_emit.specs.Comparisons.{no_last, is_result}
-use Rattle.mips_emit.specs.Locations.{Facts, known_in, no_facts, location_at, kept_without, kept_past}
-use Rattle.mips_emit.specs.declared.location.Location.{Location}
+use Rattle.mips_homes.specs.Homes.{cell}
+use Rattle.mips_emit.specs.Locations.{Facts, known_in, no_facts, kept_without, kept_past, FitsHome, FitsPlace}
 use Rattle.mips_emit.specs.Locations.{inner_of}
 use Rattle.words.specs.Words.{wrap}
 use Rattle.mips_emit.specs.Elements.{width_bytes, width_of, base_word, fits_offset, base_index, address_of_place}
@@ -136,17 +135,17 @@ kept_beside places r v q w ne e = go (nat_eq q r) refl
     go true t = absurd (ne (eqb-true q r t))
 
 -- a pseudo-register is written
-pub known_register : (known : Places) (hs : List Home) (copies : List SlotCopy) (count : ℕ) (registers slots : Places) (x r v : ℕ) (o : Option ℕ) → AreFrameHomes hs copies count
+pub known_register : (known : Places) (hs : List Home) (count : ℕ) (registers slots : Places) (x r v : ℕ) (o : Option ℕ) → AreFrameHomes hs count
     → slice_get hs x ≡ Some (Reg r) → ((w : ℕ) → o ≡ Some w → w ≡ v) → IsKnown known hs registers slots
     → IsKnown (places_with known x o) hs (places_with registers r (Some v)) slots
-known_register known hs copies count registers slots x r v o ok there is h = record { by = λ y w e. by y w (nat_eq y x) refl e }
+known_register known hs count registers slots x r v o ok there is h = record { by = λ y w e. by y w (nat_eq y x) refl e }
   where
     other : (y w : ℕ) → y ≢ x → (p : Option Home) → slice_get hs y ≡ p → chain p (in_home registers slots) ≡ Some w
         → chain p (in_home (places_with registers r (Some v)) slots) ≡ Some w
     other y w ne None at e = absurd (none-some w e)
     other y w ne (Some (Slot k)) at e = e
-    other y w ne (Some (Reg q)) at e =
-        kept_beside registers r v q w (λ same. ne (ok.apart y x (Reg q) at (there ∙ ap (λ r. Some (Reg r)) (sym same)))) e
+    other y w ne (Some (Copied q k)) at e = e
+    other y w ne (Some (Reg q)) at e = kept_beside registers r v q w (λ same. ne (ok.apart y x (Reg q) (Reg r) at there (ap Reg same))) e
 
     by : (y w : ℕ) → (b : Bool) → nat_eq y x ≡ b → (if b then o else known y) ≡ Some w → read_home hs (places_with registers r (Some v)) slots y ≡ Some w
     by y w true t e =
@@ -155,31 +154,38 @@ known_register known hs copies count registers slots x r v o ok there is h = rec
         ∙ ap (λ b. if b then Some v else registers r) (eq-eqb r r refl) ∙ ap Some (sym (is w e))
     by y w false t e = other y w (eqb-false y x t) (slice_get hs y) refl (h.by y w e)
 
-pub known_slot : (known : Places) (hs : List Home) (copies : List SlotCopy) (count : ℕ) (registers slots : Places) (x k v : ℕ) (o : Option ℕ) → AreFrameHomes hs copies count
-    → slice_get hs x ≡ Some (Slot k) → ((w : ℕ) → o ≡ Some w → w ≡ v) → IsKnown known hs registers slots
+-- what a home holds is in its cell
+pub in_cell : (registers slots : Places) (h : Home) → in_home registers slots h ≡ in_home registers slots (cell h)
+in_cell registers slots (Reg r) = refl
+in_cell registers slots (Slot k) = refl
+in_cell registers slots (Copied r k) = refl
+
+pub known_slot : (known : Places) (hs : List Home) (count : ℕ) (registers slots : Places) (x k v : ℕ) (o : Option ℕ) (h : Home) → AreFrameHomes hs count
+    → slice_get hs x ≡ Some h → cell h ≡ Slot k → ((w : ℕ) → o ≡ Some w → w ≡ v) → IsKnown known hs registers slots
     → IsKnown (places_with known x o) hs registers (places_with slots k (Some v))
-known_slot known hs copies count registers slots x k v o ok there is h = record { by = λ y w e. by y w (nat_eq y x) refl e }
+known_slot known hs count registers slots x k v o h ok there in_slot is was = record { by = λ y w e. by y w (nat_eq y x) refl e }
   where
     other : (y w : ℕ) → y ≢ x → (p : Option Home) → slice_get hs y ≡ p → chain p (in_home registers slots) ≡ Some w
         → chain p (in_home registers (places_with slots k (Some v))) ≡ Some w
     other y w ne None at e = absurd (none-some w e)
     other y w ne (Some (Reg q)) at e = e
-    other y w ne (Some (Slot q)) at e =
-        kept_beside slots k v q w (λ same. ne (ok.apart y x (Slot q) at (there ∙ ap (λ r. Some (Slot r)) (sym same)))) e
+    other y w ne (Some (Slot q)) at e = kept_beside slots k v q w (λ same. ne (ok.apart y x (Slot q) h at there (ap Slot same ∙ sym in_slot))) e
+    other y w ne (Some (Copied r q)) at e = kept_beside slots k v q w (λ same. ne (ok.apart y x (Copied r q) h at there (ap Slot same ∙ sym in_slot))) e
 
     by : (y w : ℕ) → (b : Bool) → nat_eq y x ≡ b → (if b then o else known y) ≡ Some w → read_home hs registers (places_with slots k (Some v)) y ≡ Some w
     by y w true t e =
         ap (read_home hs registers (places_with slots k (Some v))) (eqb-true y x t)
         ∙ ap (λ p. chain p (in_home registers (places_with slots k (Some v)))) there
+        ∙ in_cell registers (places_with slots k (Some v)) h ∙ ap (in_home registers (places_with slots k (Some v))) in_slot
         ∙ ap (λ b. if b then Some v else slots k) (eq-eqb k k refl) ∙ ap Some (sym (is w e))
-    by y w false t e = other y w (eqb-false y x t) (slice_get hs y) refl (h.by y w e)
+    by y w false t e = other y w (eqb-false y x t) (slice_get hs y) refl (was.by y w e)
 
 -- the word of a pseudo-register is in its inner temporary
-pub record IsFresh (fresh : Option ℕ) (copies : List SlotCopy) (hs : List Home) (registers slots : Places) (s : State) : Type 0 where
-  pub by : (x w : ℕ) → fresh ≡ Some x → read_home hs registers slots x ≡ Some w → s.regs (inner_of (location_at copies (slice_get hs x))) ≡ w
+pub record IsFresh (fresh : Option ℕ) (hs : List Home) (registers slots : Places) (s : State) : Type 0 where
+  pub by : (x w : ℕ) → fresh ≡ Some x → read_home hs registers slots x ≡ Some w → s.regs (inner_of (slice_get hs x)) ≡ w
 
-pub none_fresh : (copies : List SlotCopy) (hs : List Home) (registers slots : Places) (s : State) → IsFresh None copies hs registers slots s
-none_fresh copies hs registers slots s = record { by = λ x w e. absurd (none-some x e) }
+pub none_fresh : (hs : List Home) (registers slots : Places) (s : State) → IsFresh None hs registers slots s
+none_fresh hs registers slots s = record { by = λ x w e. absurd (none-some x e) }
 
 -- whether the branch for a comparison is taken
 abbrev pub passes : Form → Source → Source → State → Bool
@@ -192,14 +198,14 @@ passes ByOpposite x y s = pair_passes Equal (read 0 s.regs 3) (read 0 s.regs 0)
 passes InResult x y s = pair_passes NotEqual (read 0 s.regs 2) (read 0 s.regs 0)
 
 -- what an exit can use of the last instruction
-pub record IsLast (last : Last) (copies : List SlotCopy) (hs : List Home) (registers slots : Places) (s : State) : Type 0 where
-  pub fresh : IsFresh last.fresh copies hs registers slots s
+pub record IsLast (last : Last) (hs : List Home) (registers slots : Places) (s : State) : Type 0 where
+  pub fresh : IsFresh last.fresh hs registers slots s
   pub comparison : (m : Comparison) (v : ℕ) → last.comparison ≡ Some m → read_home hs registers slots m.result ≡ Some v
       → passes m.form m.left.source m.right.source s ≡ not (nat_eq v 0)
   pub result : (m : Comparison) (v : ℕ) → last.comparison ≡ Some m → is_result m.form ≡ true → read_home hs registers slots m.result ≡ Some v → s.regs 2 ≡ v
 
-pub none_last : (copies : List SlotCopy) (hs : List Home) (registers slots : Places) (s : State) → IsLast no_last copies hs registers slots s
-none_last copies hs registers slots s = record { fresh = none_fresh copies hs registers slots s; comparison = λ m v e. absurd (none-some m e); result = λ m v e. absurd (none-some m e) }
+pub none_last : (hs : List Home) (registers slots : Places) (s : State) → IsLast no_last hs registers slots s
+none_last hs registers slots s = record { fresh = none_fresh hs registers slots s; comparison = λ m v e. absurd (none-some m e); result = λ m v e. absurd (none-some m e) }
 
 -- one more known word, and two words less
 pub known_with : (known : Places) (hs : List Home) (registers slots : Places) (b w : ℕ) → read_home hs registers slots b ≡ Some w
@@ -232,14 +238,14 @@ stack_apart widths.Byte a p total low high inside few = omega (arith, low, high,
 abbrev pub Denotes : ℕ → State → Source → ℕ → Type 0
 Denotes count s Zero v = v ≡ 0
 Denotes count s (Word w) v = (w ≡ v) × (w < 2 ^ 32)
-Denotes count s (From (Held r)) v = read 0 s.regs r ≡ v
+Denotes count s (From (Reg r)) v = read 0 s.regs r ≡ v
 Denotes count s (From (Copied r k)) v = read 0 s.regs r ≡ v
-Denotes count s (From (InSlot k)) v = (k < count) × (word_at s (s.regs 29 + 4 * k) ≡ v)
+Denotes count s (From (Slot k)) v = (k < count) × (word_at s (s.regs 29 + 4 * k) ≡ v)
 
 -- an operand that is in no register but one of homes and copies
 abbrev pub IsAway : Source → Type 0
-IsAway (From (Held r)) = (4 ≤ r) × (r < 28)
-IsAway (From (InSlot k)) = Unit {0}
+IsAway (From (Reg r)) = (4 ≤ r) × (r < 28)
+IsAway (From (Slot k)) = Unit {0}
 IsAway (From (Copied r k)) = (4 ≤ r) × (r < 28)
 IsAway Zero = Unit {0}
 IsAway (Word w) = Unit {0}
@@ -247,9 +253,9 @@ IsAway (Word w) = Unit {0}
 pub operand_register_kept : (x : Source) (t u : ℕ) (f f' : ℕ → ℕ) → IsAway x → t ≢ u → u < 4 → ((r : ℕ) → r ≢ u → f' r ≡ f r) → read 0 f' (operand_register t x) ≡ read 0 f (operand_register t x)
 operand_register_kept Zero t u f f' away ne low same = refl
 operand_register_kept (Word w) t u f f' away ne low same = read_other f f' t (λ _. same t ne)
-operand_register_kept (From (Held r)) t u f f' away ne low same = read_other f f' r (λ _. same r (omega (arith, away.0, low)))
+operand_register_kept (From (Reg r)) t u f f' away ne low same = read_other f f' r (λ _. same r (omega (arith, away.0, low)))
 operand_register_kept (From (Copied r k)) t u f f' away ne low same = read_other f f' r (λ _. same r (omega (arith, away.0, low)))
-operand_register_kept (From (InSlot k)) t u f f' away ne low same = read_other f f' t (λ _. same t ne)
+operand_register_kept (From (Slot k)) t u f f' away ne low same = read_other f f' t (λ _. same t ne)
 
 pub longer : (a b : List Plain) → 1 ≤ length a → 1 ≤ length (a ++ b)
 longer a b h = omega (arith, h, length-append a b)
@@ -273,14 +279,14 @@ li_some t w = go (is_small w) (nat_lt' w) (nat_eq (w % 65536) 0)
 pub bring_some : (t : ℕ) (x : Source) → 1 ≤ length (bring t x)
 bring_some t Zero = omega arith
 bring_some t (Word w) = li_some t w
-bring_some t (From (Held r)) = omega arith
-bring_some t (From (InSlot k)) = omega arith
+bring_some t (From (Reg r)) = omega arith
+bring_some t (From (Slot k)) = omega arith
 bring_some t (From (Copied r k)) = omega arith
 
 -- an operand that isn't in register t, and what it means after a write of that
 abbrev pub IsApart : ℕ → Source → Type 0
-IsApart t (From (Held r)) = r ≢ t
-IsApart t (From (InSlot k)) = Unit {0}
+IsApart t (From (Reg r)) = r ≢ t
+IsApart t (From (Slot k)) = Unit {0}
 IsApart t (From (Copied r k)) = r ≢ t
 IsApart t Zero = Unit {0}
 IsApart t (Word w) = Unit {0}
@@ -289,15 +295,15 @@ pub denotes_kept : (count t v : ℕ) (x : Source) (s : State) (f : ℕ → ℕ) 
     → Denotes count s x v → Denotes count (record s { regs = f }) x v
 denotes_kept count t v Zero s f ne apart same d = d
 denotes_kept count t v (Word w) s f ne apart same d = d
-denotes_kept count t v (From (Held r)) s f ne apart same d = read_other s.regs f r (λ _. same r apart) ∙ d
+denotes_kept count t v (From (Reg r)) s f ne apart same d = read_other s.regs f r (λ _. same r apart) ∙ d
 denotes_kept count t v (From (Copied r k)) s f ne apart same d = read_other s.regs f r (λ _. same r apart) ∙ d
-denotes_kept count t v (From (InSlot k)) s f ne apart same d = (d.0, ap (λ p. word_at s (p + 4 * k)) (same 29 (λ e. ne (sym e))) ∙ d.1)
+denotes_kept count t v (From (Slot k)) s f ne apart same d = (d.0, ap (λ p. word_at s (p + 4 * k)) (same 29 (λ e. ne (sym e))) ∙ d.1)
 
--- a register that isn't the location itself
-abbrev pub IsElsewhere : Option Location → ℕ → Type 0
+-- a register that isn't the home itself
+abbrev pub IsElsewhere : Option Home → ℕ → Type 0
 IsElsewhere None q = Unit {0}
-IsElsewhere (Some (Held r)) q = q ≢ r
-IsElsewhere (Some (InSlot k)) q = Unit {0}
+IsElsewhere (Some (Reg r)) q = q ≢ r
+IsElsewhere (Some (Slot k)) q = Unit {0}
 IsElsewhere (Some (Copied r k)) q = q ≢ r
 
 -- ---- the base that is kept
@@ -328,15 +334,15 @@ pub no_bases : (gs : List RGlobal) (starts : ℕ → ℕ) (regs : ℕ → ℕ) �
 no_bases gs starts regs = (none_kept gs starts regs, none_offset regs)
 
 -- it and the registers of homes are as they were, but for one that is written
-pub record Keeps (l : Option Location) (f f' : ℕ → ℕ) : Type 0 where
+pub record Keeps (l : Option Home) (f f' : ℕ → ℕ) : Type 0 where
   pub base : f' 30 ≡ f 30
   pub others : (q : ℕ) → 4 ≤ q → IsElsewhere l q → f' q ≡ f q
 
 -- what a write leaves in a register
-abbrev pub Holds : Option Location → (ℕ → ℕ) → ℕ → Type 0
+abbrev pub Holds : Option Home → (ℕ → ℕ) → ℕ → Type 0
 Holds None f v = Unit {0}
-Holds (Some (Held r)) f v = f r ≡ v
-Holds (Some (InSlot k)) f v = Unit {0}
+Holds (Some (Reg r)) f v = f r ≡ v
+Holds (Some (Slot k)) f v = Unit {0}
 Holds (Some (Copied r k)) f v = Unit {0}
 
 -- it is one of this global and this index
@@ -406,18 +412,18 @@ touched o r e = go (nat_eq o.register r) (nat_eq o.base r) refl refl e
     go false true ea eb e = absurd (true≢false e)
     go false false ea eb e = (eqb-false o.register r ea, eqb-false o.base r eb)
 
-pub kept_written : (gs : List RGlobal) (starts : ℕ → ℕ) (l : Option Location) (kept : Option Kept) (f f' : ℕ → ℕ) → Keeps l f f' → IsKept gs starts kept f
+pub kept_written : (gs : List RGlobal) (starts : ℕ → ℕ) (l : Option Home) (kept : Option Kept) (f f' : ℕ → ℕ) → Keeps l f f' → IsKept gs starts kept f
     → IsKept gs starts (kept_past l kept) f'
 kept_written gs starts l kept f f' same h = by l same
   where
-    as_was : (l : Option Location) → Keeps l f f' → ((k : Kept) → kept ≡ Some k → IsElsewhere l (k.index).register × IsElsewhere l (k.index).base)
+    as_was : (l : Option Home) → Keeps l f f' → ((k : Kept) → kept ≡ Some k → IsElsewhere l (k.index).register × IsElsewhere l (k.index).base)
         → IsKept gs starts kept f'
     as_was l same away = kept_as gs starts kept f f' same.base (λ k e. (
       same.others (k.index).register (h.low k e).0 (away k e).0,
       same.others (k.index).base (h.low k e).1 (away k e).1,
     )) h
 
-    without : (l : Option Location) (r : ℕ) → ((q : ℕ) → q ≢ r → IsElsewhere l q) → Keeps l f f' → (o : Option Kept) → kept ≡ o
+    without : (l : Option Home) (r : ℕ) → ((q : ℕ) → q ≢ r → IsElsewhere l q) → Keeps l f f' → (o : Option Kept) → kept ≡ o
         → IsKept gs starts (kept_without r o) f'
     without l r away same None is = none_kept gs starts f'
     without l r away same (Some k) is = go (touches k.index r) refl
@@ -430,22 +436,22 @@ kept_written gs starts l kept f f' same h = by l same
             subst (λ o. IsKept gs starts o f') is
             (as_was l same (λ j e. (away (j.index).register (apart j e).0, away (j.index).base (apart j e).1)))
 
-    by : (l : Option Location) → Keeps l f f' → IsKept gs starts (kept_past l kept) f'
+    by : (l : Option Home) → Keeps l f f' → IsKept gs starts (kept_past l kept) f'
     by None same = as_was None same (λ k e. (tt, tt))
-    by (Some (Held r)) same = without (Some (Held r)) r (λ q ne. ne) same kept refl
-    by (Some (InSlot j)) same = as_was (Some (InSlot j)) same (λ k e. (tt, tt))
+    by (Some (Reg r)) same = without (Some (Reg r)) r (λ q ne. ne) same kept refl
+    by (Some (Slot j)) same = as_was (Some (Slot j)) same (λ k e. (tt, tt))
     by (Some (Copied r j)) same = without (Some (Copied r j)) r (λ q ne. ne) same kept refl
 
-pub offset_written : (l : Option Location) (offset : Option Offset) (f f' : ℕ → ℕ) → Keeps l f f' → IsOffset offset f → IsOffset (offset_past l offset) f'
+pub offset_written : (l : Option Home) (offset : Option Offset) (f f' : ℕ → ℕ) → Keeps l f f' → IsOffset offset f → IsOffset (offset_past l offset) f'
 offset_written l offset f f' same h = by l same
   where
-    as_was : (l : Option Location) → Keeps l f f' → ((o : Offset) → offset ≡ Some o → IsElsewhere l o.register × IsElsewhere l o.base) → IsOffset offset f'
+    as_was : (l : Option Home) → Keeps l f f' → ((o : Offset) → offset ≡ Some o → IsElsewhere l o.register × IsElsewhere l o.base) → IsOffset offset f'
     as_was l same away = offset_as offset f f' (λ o e. (
       same.others o.register (h.low o e).0 (away o e).0,
       same.others o.base (h.low o e).1 (away o e).1,
     )) h
 
-    without : (l : Option Location) (r : ℕ) → ((q : ℕ) → q ≢ r → IsElsewhere l q) → Keeps l f f' → (o : Option Offset) → offset ≡ o
+    without : (l : Option Home) (r : ℕ) → ((q : ℕ) → q ≢ r → IsElsewhere l q) → Keeps l f f' → (o : Option Offset) → offset ≡ o
         → IsOffset (offset_without r o) f'
     without l r away same None is = none_offset f'
     without l r away same (Some o) is = go (touches o r) refl
@@ -457,13 +463,13 @@ offset_written l offset f f' same h = by l same
             subst (λ (o : Offset). (o.register ≢ r) × (o.base ≢ r)) (same_Some o x (sym is ∙ e)) (touched o r t) in
             subst (λ o. IsOffset o f') is (as_was l same (λ x e. (away x.register (apart x e).0, away x.base (apart x e).1)))
 
-    by : (l : Option Location) → Keeps l f f' → IsOffset (offset_past l offset) f'
+    by : (l : Option Home) → Keeps l f f' → IsOffset (offset_past l offset) f'
     by None same = as_was None same (λ k e. (tt, tt))
-    by (Some (Held r)) same = without (Some (Held r)) r (λ q ne. ne) same offset refl
-    by (Some (InSlot j)) same = as_was (Some (InSlot j)) same (λ k e. (tt, tt))
+    by (Some (Reg r)) same = without (Some (Reg r)) r (λ q ne. ne) same offset refl
+    by (Some (Slot j)) same = as_was (Some (Slot j)) same (λ k e. (tt, tt))
     by (Some (Copied r j)) same = without (Some (Copied r j)) r (λ q ne. ne) same offset refl
 
-pub bases_written : (gs : List RGlobal) (starts : ℕ → ℕ) (l : Option Location) (kept : Option Kept) (offset : Option Offset) (f f' : ℕ → ℕ) → Keeps l f f'
+pub bases_written : (gs : List RGlobal) (starts : ℕ → ℕ) (l : Option Home) (kept : Option Kept) (offset : Option Offset) (f f' : ℕ → ℕ) → Keeps l f f'
     → IsKept gs starts kept f × IsOffset offset f → IsKept gs starts (kept_past l kept) f' × IsOffset (offset_past l offset) f'
 bases_written gs starts l kept offset f f' keeps h = (kept_written gs starts l kept f f' keeps h.0, offset_written l offset f f' keeps h.1)
 
@@ -506,5 +512,18 @@ pub record Ends (is : List Plain) (s m : State) (d v : ℕ) : Type 0 where
 pub runs_nop : (s : State) → RunsTo (nop ∷ []) s s
 runs_nop s = record { ends = refl }
 
-pub frame_homes : (most : ℕ) (f : Frame) → IsFrame most f → AreFrameHomes f.homes.items f.copies.items f.slots
+pub frame_homes : (most : ℕ) (f : Frame) → IsFrame most f → AreFrameHomes f.homes.items f.slots
 frame_homes most f ok = ok.homes
+
+-- homes within reach of the stack pointer
+home_fits : (slots : ℕ) (h : Home) → 4 * slots ≤ FRAME_BYTES → IsHome slots h → FitsHome h
+home_fits slots (Reg r) few ok = tt
+home_fits slots (Slot k) few ok = omega (arith, few, ok)
+home_fits slots (Copied r k) few ok = omega (arith, few, ok)
+
+pub place_fits : (f : Frame) → IsReachable f → (x : ℕ) → FitsPlace (slice_get f.homes.items x)
+place_fits f ok x = by (slice_get f.homes.items x) refl
+  where
+    by : (o : Option Home) → slice_get f.homes.items x ≡ o → FitsPlace o
+    by None e = tt
+    by (Some h) e = home_fits f.slots h (let fits = ok.fits in omega (arith, fits)) ((ok.homes).by x h e)

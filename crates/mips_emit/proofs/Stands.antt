@@ -10,16 +10,16 @@ use Rattle.mips_isa.specs.States.{State, IsWords, is_aligned, is_open}
 use Rattle.mips_isa.specs.Starting.{data_base, stack_base, stack_end, is_mapped}
 use Rattle.mblock.specs.declared.limits.TheConstants.{UNIT_BYTES}
 use Rattle.rtl.specs.declared.block.RGlobal.{RGlobal}
-use Rattle.mips_homes.specs.declared.homed.SlotCopy.{SlotCopy}
-use Rattle.mips_homes.specs.Copies.{copy_of}
-use Rattle.mips_emit.specs.Frames.{link_words}
+use Rattle.mips_homes.specs.declared.homed.Home.{Home}
+use Rattle.mips_homes.specs.declared.homed.Home.TheVariants.{Copied}
+use Rattle.mips_emit.specs.Frames.{HaveNoCopies, link_words}
 use Rattle.mips_emit.specs.Elements.{width_of, element_place, place_in, place_behind, address_of_place, data_middle}
 use Rattle.mips_emit.proofs.View.{word_at, shown_at}
 
 -- a frame: the slots, the registers put aside, then the link
 pub record Stored : Type 0 where
   pub leaf : Bool
-  pub copies : List SlotCopy
+  pub homes : List Home
   pub count : ℕ
   pub saved : List ℕ
   pub slots : Places
@@ -30,14 +30,14 @@ abbrev pub size_of : Stored → ℕ
 size_of f = 4 * (f.count + length f.saved + link_words f.leaf)
 
 abbrev pub with_slots : Stored → Places → Stored
-with_slots f slots = record { leaf = f.leaf; copies = f.copies; count = f.count; saved = f.saved; slots = slots; aside = f.aside; link = f.link }
+with_slots f slots = record { leaf = f.leaf; homes = f.homes; count = f.count; saved = f.saved; slots = slots; aside = f.aside; link = f.link }
 
 pub record FrameHolds (most : ℕ) (m : ℕ → ℕ) (at : ℕ) (f : Stored) : Type 0 where
   pub slots : (k v : ℕ) → k < f.count → f.slots k ≡ Some v → m (at + 4 * k) ≡ v
   pub aside : (j r v : ℕ) → slice_get f.saved j ≡ Some r → f.aside r ≡ Some v → m (at + 4 * (f.count + j)) ≡ v
   pub link : f.leaf ≡ false → m (at + 4 * (f.count + length f.saved)) ≡ f.link
   pub fits : size_of f ≤ most
-  pub alone : f.leaf ≡ false → f.copies ≡ []
+  pub alone : f.leaf ≡ false → HaveNoCopies f.homes
 
 -- the frames from an address up to the top of the stack
 abbrev pub StackHolds : ℕ → (ℕ → ℕ) → ℕ → List Stored → Type 0
@@ -77,9 +77,9 @@ stack_room most m at (f ∷ fs) h =
 -- in a leaf the link is still in register 31, and registers that no home is hold the copies of slots
 pub record LeafHolds (f : Stored) (registers : Places) (regs : ℕ → ℕ) : Type 0 where
   pub link : regs 31 ≡ f.link
-  pub range : (k r : ℕ) → copy_of f.copies k ≡ Some r → (8 ≤ r) × (r < 28)
-  pub copied : (k r v : ℕ) → copy_of f.copies k ≡ Some r → f.slots k ≡ Some v → regs r ≡ v
-  pub idle : (k r : ℕ) → copy_of f.copies k ≡ Some r → registers r ≡ None
+  pub range : (x r k : ℕ) → slice_get f.homes x ≡ Some (Copied r k) → (8 ≤ r) × (r < 28)
+  pub copied : (x r k v : ℕ) → slice_get f.homes x ≡ Some (Copied r k) → f.slots k ≡ Some v → regs r ≡ v
+  pub idle : (x r k : ℕ) → slice_get f.homes x ≡ Some (Copied r k) → registers r ≡ None
 
 abbrev pub Linked : List Stored → Places → (ℕ → ℕ) → Type 0
 Linked [] registers regs = Unit {0}
@@ -97,8 +97,8 @@ linked_kept [] registers registers' regs regs' link same some h = tt
 linked_kept (f ∷ fs) registers registers' regs regs' link same some h = λ leaf. (let l = h leaf in record {
   link = link ∙ l.link;
   range = l.range;
-  copied = λ k r v is at. (let range = l.range k r is in same r range.0 range.1) ∙ l.copied k r v is at;
-  idle = λ k r is. none_fewer (registers r) (registers' r) (λ v e. some r v e) (l.idle k r is);
+  copied = λ x r k v is at. (let range = l.range x r k is in same r range.0 range.1) ∙ l.copied x r k v is at;
+  idle = λ x r k is. none_fewer (registers r) (registers' r) (λ v e. some r v e) (l.idle x r k is);
 })
 
 -- the elements lie in the data, of so many bytes, and apart

@@ -3,8 +3,8 @@ use Rattle.std.proofs.Common.{◌≡◌, ℕ, true, Option, Some, None, refl, sy
 use Rattle.std.specs.Option.{is_none}
 use Rattle.rtl.specs.declared.operator.Op.{Op}
 use Rattle.rtl.specs.declared.operator.Op.TheVariants.{Add, Sub}
-use Rattle.mips_emit.specs.declared.location.Location.{Location}
-use Rattle.mips_emit.specs.declared.location.Location.TheVariants.{Held, InSlot, Copied}
+use Rattle.mips_homes.specs.declared.homed.Home.{Home}
+use Rattle.mips_homes.specs.declared.homed.Home.TheVariants.{Reg, Slot, Copied}
 use Rattle.mips_emit.specs.declared.location.Source.{Source}
 use Rattle.mips_emit.specs.declared.location.Source.TheVariants.{Zero, Word, From}
 use Rattle.mips_emit.specs.Offsets.{addend, offset_from, sum_offset}
@@ -15,20 +15,20 @@ adds_none Add c none = absurd (true≢false (sym none))
 adds_none Sub c none = absurd (true≢false (sym none))
 adds_none _ c none = refl
 
-pub no_sum : (place : Option Location) (op : Op) (right : Option ℕ) (x : Source) → is_none (addend op 0) ≡ true → sum_offset place op right x ≡ None
+pub no_sum : (place : Option Home) (op : Op) (right : Option ℕ) (x : Source) → is_none (addend op 0) ≡ true → sum_offset place op right x ≡ None
 no_sum None op right x none = refl
-no_sum (Some (InSlot k)) op right x none = refl
+no_sum (Some (Slot k)) op right x none = refl
 no_sum (Some (Copied r k)) op right x none = refl
-no_sum (Some (Held t)) op None x none = refl
-no_sum (Some (Held t)) op (Some c) Zero none = refl
-no_sum (Some (Held t)) op (Some c) (Word w) none = refl
-no_sum (Some (Held t)) op (Some c) (From (Held r)) none = ap (offset_from t r) (adds_none op c none)
-no_sum (Some (Held t)) op (Some c) (From (InSlot k)) none = refl
-no_sum (Some (Held t)) op (Some c) (From (Copied r k)) none = refl
+no_sum (Some (Reg t)) op None x none = refl
+no_sum (Some (Reg t)) op (Some c) Zero none = refl
+no_sum (Some (Reg t)) op (Some c) (Word w) none = refl
+no_sum (Some (Reg t)) op (Some c) (From (Reg r)) none = ap (offset_from t r) (adds_none op c none)
+no_sum (Some (Reg t)) op (Some c) (From (Slot k)) none = refl
+no_sum (Some (Reg t)) op (Some c) (From (Copied r k)) none = refl
 
 -- nor is one left where the right operand is no known word
-pub no_sum_of_unknown : (place : Option Location) (op : Op) (x : Source) → sum_offset place op None x ≡ None
+pub no_sum_of_unknown : (place : Option Home) (op : Op) (x : Source) → sum_offset place op None x ≡ None
 no_sum_of_unknown None op x = refl
-no_sum_of_unknown (Some (Held t)) op x = refl
-no_sum_of_unknown (Some (InSlot k)) op x = refl
+no_sum_of_unknown (Some (Reg t)) op x = refl
+no_sum_of_unknown (Some (Slot k)) op x = refl
 no_sum_of_unknown (Some (Copied r k)) op x = refl

@@ -21,8 +21,8 @@ use Rattle.mips_isa.specs.States.{State, IsWords, AreApart, is_register, read, p
 use Rattle.mips_isa.specs.Actions.{sign_extension, imm_operator, alu_operator, address}
 use Rattle.mips_isa.proofs.Memory.{load_same, load-past-store}
 use Rattle.mips_isa.proofs.StateWords as words
-use Rattle.mips_emit.specs.declared.location.Location.{Location}
-use Rattle.mips_emit.specs.declared.location.Location.TheVariants.{Held, InSlot, Copied}
+use Rattle.mips_homes.specs.declared.homed.Home.{Home}
+use Rattle.mips_homes.specs.declared.homed.Home.TheVariants.{Reg, Slot, Copied}
 use Rattle.mips_emit.specs.Locations.{inner_of}
 use Rattle.mips_emit.specs.Elements.{width_bytes, address_of_place, data_middle, near, page, low, scaled, scaled_register, base_sum}
 use Rattle.mips_emit.specs.Elements.{base_code, base_offset, base_word, shifted_place, base_index, shifted_offset}
@@ -67,13 +67,13 @@ pub record IsInner (t : ℕ) : Type 0 where
 pub first_inner : IsInner 1
 first_inner = record { low = omega arith; high = omega arith; apart = λ e. absurd (omega (arith, e)) }
 
-pub inner_is : (l : Option Location) → IsInner (inner_of l)
+pub inner_is : (l : Option Home) → IsInner (inner_of l)
 inner_is None = first_inner
-inner_is (Some (Held r)) = record { low = omega arith; high = omega arith; apart = λ e. absurd (omega (arith, e)) }
-inner_is (Some (InSlot k)) = record { low = omega arith; high = omega arith; apart = λ e. absurd (omega (arith, e)) }
+inner_is (Some (Reg r)) = record { low = omega arith; high = omega arith; apart = λ e. absurd (omega (arith, e)) }
+inner_is (Some (Slot k)) = record { low = omega arith; high = omega arith; apart = λ e. absurd (omega (arith, e)) }
 inner_is (Some (Copied r k)) = record { low = omega arith; high = omega arith; apart = λ e. absurd (omega (arith, e)) }
 
-pub inner_target : (l : Option Location) → IsTarget (inner_of l)
+pub inner_target : (l : Option Home) → IsTarget (inner_of l)
 inner_target l = (let is = inner_is l in record { low = is.low; high = omega (arith, is.high) })
 
 target : (t : ℕ) → IsTarget t → is_register t ≡ true

@@ -23,8 +23,8 @@ use Rattle.rtl.specs.declared.block.RGlobal.{RGlobal}
 use Rattle.mips_homes.specs.declared.convention.TheConstants.{SCRATCH_1, SCRATCH_2, STACK_POINTER}
 use Rattle.mips_emit.specs.declared.element.TheConstants.{KEPT_BASE}
 use Rattle.mips_homes.specs.Convention.{is_callee_saved}
-use Rattle.mips_emit.specs.declared.location.Location.{Location}
-use Rattle.mips_emit.specs.declared.location.Location.TheVariants.{Held, InSlot, Copied}
+use Rattle.mips_homes.specs.declared.homed.Home.{Home}
+use Rattle.mips_homes.specs.declared.homed.Home.TheVariants.{Reg, Slot, Copied}
 use Rattle.mips_emit.specs.declared.location.Source.{Source}
 use Rattle.mips_emit.specs.declared.product.ShiftedSum.{ShiftedSum}
 use Rattle.mips_emit.specs.declared.operation.Operand.{Operand}
@@ -82,62 +82,62 @@ move_code t r = Alu alu.Addu t r 0
 abbrev pub fetch : ℕ → Source → List Plain
 fetch t Zero = []
 fetch t (Word w) = li t w
-fetch t (From (Held r)) = []
-fetch t (From (InSlot k)) = load_word_at t (4 * k) ∷ []
+fetch t (From (Reg r)) = []
+fetch t (From (Slot k)) = load_word_at t (4 * k) ∷ []
 fetch t (From (Copied r k)) = []
 
 abbrev pub operand_register : ℕ → Source → ℕ
 operand_register t Zero = 0
 operand_register t (Word w) = t
-operand_register t (From (Held r)) = r
-operand_register t (From (InSlot k)) = t
+operand_register t (From (Reg r)) = r
+operand_register t (From (Slot k)) = t
 operand_register t (From (Copied r k)) = r
 
 -- an operand into a register of its own
 abbrev pub bring : ℕ → Source → List Plain
 bring t Zero = move_code t 0 ∷ []
 bring t (Word w) = li t w
-bring t (From (Held r)) = move_code t r ∷ []
-bring t (From (InSlot k)) = load_word_at t (4 * k) ∷ []
+bring t (From (Reg r)) = move_code t r ∷ []
+bring t (From (Slot k)) = load_word_at t (4 * k) ∷ []
 bring t (From (Copied r k)) = move_code t r ∷ []
 
 -- the same, but nothing where the operand is in that register
 abbrev pub stays : ℕ → Source → Bool
 stays t Zero = false
 stays t (Word w) = false
-stays t (From (Held r)) = nat_eq r t
-stays t (From (InSlot k)) = false
+stays t (From (Reg r)) = nat_eq r t
+stays t (From (Slot k)) = false
 stays t (From (Copied r k)) = nat_eq r t
 
 abbrev pub carry : ℕ → Source → List Plain
 carry t x = if stays t x then [] else bring t x
 
 -- a result: the register into which it is computed, and what stands after
-abbrev pub into : Option Location → ℕ
+abbrev pub into : Option Home → ℕ
 into None = inner_of None
-into (Some (Held r)) = r
-into (Some (InSlot k)) = inner_of (Some (InSlot k))
+into (Some (Reg r)) = r
+into (Some (Slot k)) = inner_of (Some (Slot k))
 into (Some (Copied r k)) = r
 
-abbrev pub finish : Option Location → List Plain
+abbrev pub finish : Option Home → List Plain
 finish None = []
-finish (Some (Held r)) = []
-finish (Some (InSlot k)) = store_word_at (inner_of (Some (InSlot k))) (4 * k) ∷ []
+finish (Some (Reg r)) = []
+finish (Some (Slot k)) = store_word_at (inner_of (Some (Slot k))) (4 * k) ∷ []
 finish (Some (Copied r k)) = store_word_at r (4 * k) ∷ []
 
--- an operand into a location
-abbrev pub put_at : Option Location → Source → List Plain
+-- an operand into a home
+abbrev pub put_at : Option Home → Source → List Plain
 put_at None x = []
-put_at (Some (Held r)) x = bring r x
-put_at (Some (InSlot k)) x = fetch (inner_of (Some (InSlot k))) x ++ store_word_at (operand_register (inner_of (Some (InSlot k))) x) (4 * k) ∷ []
+put_at (Some (Reg r)) x = bring r x
+put_at (Some (Slot k)) x = fetch (inner_of (Some (Slot k))) x ++ store_word_at (operand_register (inner_of (Some (Slot k))) x) (4 * k) ∷ []
 put_at (Some (Copied r k)) x = bring r x ++ store_word_at r (4 * k) ∷ []
 
--- a register into a location
-abbrev pub arrive : Option Location → ℕ → List Plain
+-- a register into a home
+abbrev pub arrive : Option Home → ℕ → List Plain
 arrive None t = []
-arrive (Some (Held r)) t = carry r (From (Held t))
-arrive (Some (InSlot k)) t = store_word_at t (4 * k) ∷ []
-arrive (Some (Copied r k)) t = carry r (From (Held t)) ++ store_word_at r (4 * k) ∷ []
+arrive (Some (Reg r)) t = carry r (From (Reg t))
+arrive (Some (Slot k)) t = store_word_at t (4 * k) ∷ []
+arrive (Some (Copied r k)) t = carry r (From (Reg t)) ++ store_word_at r (4 * k) ∷ []
 
 -- ---- operators
 
@@ -325,8 +325,8 @@ element_load w t start by = plain.Load w t (element_base by) (element_offset w s
 abbrev pub element_store : Width → ℕ → (start : ℕ) → Reach → Plain
 element_store w t start by = plain.Store w t (element_base by) (element_offset w start by)
 
--- an element at index x into a location, and operand y into an element
-abbrev pub load_code : Option Location → Width → (start : ℕ) → Reach → (x : Source) → List Plain
+-- an element at index x into a home, and operand y into an element
+abbrev pub load_code : Option Home → Width → (start : ℕ) → Reach → (x : Source) → List Plain
 load_code to w start by x = (element_code w start by x ++ element_load w (into to) start by ∷ []) ++ finish to
 
 abbrev pub store_code : Width → (start : ℕ) → Reach → (x y : Source) → List Plain
@@ -338,10 +338,10 @@ abbrev pub nop : Plain
 nop = Shift Sll 0 0 0
 
 -- a constant: nothing yet for a caller-saved register
-abbrev pub const_code : Option Location → ℕ → List Plain
+abbrev pub const_code : Option Home → ℕ → List Plain
 const_code None w = []
-const_code (Some (Held r)) w = if is_callee_saved r then bring r (word_source w) else nop ∷ []
-const_code (Some (InSlot k)) w = put_at (Some (InSlot k)) (word_source w)
+const_code (Some (Reg r)) w = if is_callee_saved r then bring r (word_source w) else nop ∷ []
+const_code (Some (Slot k)) w = put_at (Some (Slot k)) (word_source w)
 const_code (Some (Copied r k)) w = put_at (Some (Copied r k)) (word_source w)
 
 abbrev pub inst_code : List RGlobal → (starts : ℕ → ℕ) → Locations → Facts → RInst → List Plain

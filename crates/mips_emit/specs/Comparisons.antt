@@ -13,8 +13,8 @@ use Rattle.rtl.specs.declared.instruction.RInst.{RInst}
 use Rattle.rtl.specs.declared.instruction.RInst.TheVariants.{Const, Move, Bin, Load, Store}
 use Rattle.mips_homes.specs.declared.convention.TheConstants.{SCRATCH_1, SCRATCH_3, RESULT}
 use Rattle.mips_homes.specs.Convention.{is_callee_saved}
-use Rattle.mips_emit.specs.declared.location.Location.{Location}
-use Rattle.mips_emit.specs.declared.location.Location.TheVariants.{Held, InSlot, Copied}
+use Rattle.mips_homes.specs.declared.homed.Home.{Home}
+use Rattle.mips_homes.specs.declared.homed.Home.TheVariants.{Reg, Slot, Copied}
 use Rattle.mips_emit.specs.declared.location.Source.{Source}
 use Rattle.mips_emit.specs.declared.comparison.Form.{Form}
 use Rattle.mips_emit.specs.declared.comparison.Form.TheVariants.{Known, OnPair, OnLeft, OnRight, ByResult, ByOpposite, InResult}
@@ -123,11 +123,11 @@ form_for Nothing op l r = None
 form_for (Branched c) op l r = form_with (known_truth op l r) (form_of op l r)
 form_for (Returned c) op l r = Some InResult
 
--- a location that no other block reads
-abbrev pub is_caller_saved : Option Location → Bool
+-- a home that no other block reads
+abbrev pub is_caller_saved : Option Home → Bool
 is_caller_saved None = false
-is_caller_saved (Some (Held r)) = not (is_callee_saved r)
-is_caller_saved (Some (InSlot k)) = false
+is_caller_saved (Some (Reg r)) = not (is_callee_saved r)
+is_caller_saved (Some (Slot k)) = false
 is_caller_saved (Some (Copied r k)) = false
 
 abbrev pub operator_comparison : ℕ → Op → (left right : Operand) → Option Form → Option Comparison

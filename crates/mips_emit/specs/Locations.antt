@@ -2,19 +2,15 @@
 use Rattle.std.specs.Prelude.{ℕ, ◌+◌, ◌-◌, ◌*◌, ◌%◌, ◌≤◌, Option, Some, None, List, [], ◌∷◌, take, reverse, nat_eq, if◌then◌else◌}
 use Rattle.std.specs.Prelude.{slice_get}
 use Rattle.words.specs.Words.{wrap}
-use Rattle.runs.specs.Stores.{Places, places_with, chain}
+use Rattle.runs.specs.Stores.{Places, places_with}
 use Rattle.rtl.specs.declared.instruction.RInst.{RInst}
 use Rattle.rtl.specs.declared.instruction.RInst.TheVariants.{Const, Move, Bin, Load, Store}
 use Rattle.mips_homes.specs.declared.convention.TheConstants.{SCRATCH_1, SCRATCH_3}
 use Rattle.mips_homes.specs.Convention.{is_callee_saved}
-use Rattle.mips_homes.specs.Copies.{copy_of}
-use Rattle.mips_homes.specs.declared.homed.SlotCopy.{SlotCopy}
 use Rattle.mips_homes.specs.declared.homed.Home.{Home}
-use Rattle.mips_homes.specs.declared.homed.Home.TheVariants.{Reg, Slot}
+use Rattle.mips_homes.specs.declared.homed.Home.TheVariants.{Reg, Slot, Copied}
 use Rattle.mips_homes.specs.declared.homed.Frame.{Frame}
 use Rattle.mips_emit.specs.declared.limits.TheConstants.{FRAME_BYTES, KEPT_FACTS}
-use Rattle.mips_emit.specs.declared.location.Location.{Location}
-use Rattle.mips_emit.specs.declared.location.Location.TheVariants.{Held, InSlot, Copied}
 use Rattle.mips_emit.specs.declared.location.Source.{Source}
 use Rattle.mips_emit.specs.declared.location.Source.TheVariants.{Zero, Word, From}
 use Rattle.mips_emit.specs.declared.facts.Fact.{Fact}
@@ -24,38 +20,22 @@ use Rattle.mips_emit.specs.Offsets.{touches, sum_offset, or_offset, offset_past,
 use Rattle.mips_emit.specs.declared.facts.Knowledge.{Knowledge}
 use Rattle.mips_emit.specs.declared.facts.Last.{Last}
 
--- ---- locations
+-- ---- homes
 
--- where each pseudo-register is, if it has a home
+-- where each pseudo-register lives, if it has a home
 abbrev pub Locations : Type 0
-Locations = ℕ → Option Location
-
--- a slot, with its copy if it has one
-abbrev pub in_frame : (slot : ℕ) → (copy : Option ℕ) → Location
-in_frame k None = InSlot k
-in_frame k (Some r) = Copied r k
-
-abbrev pub location_of : List SlotCopy → Home → Location
-location_of copies (Reg r) = Held r
-location_of copies (Slot k) = in_frame k (copy_of copies k)
-
--- the location at a home that may be absent
-abbrev pub location_at : List SlotCopy → Option Home → Option Location
-location_at copies o = chain o (λ h. Some (location_of copies h))
-
-abbrev pub locations_of : List SlotCopy → List Home → Locations
-locations_of copies homes x = location_at copies (slice_get homes x)
+Locations = ℕ → Option Home
 
 abbrev pub locations : Frame → Locations
-locations f = locations_of f.copies.items f.homes.items
+locations f = slice_get f.homes.items
 
--- the inner temporary of a location. The left operand of what goes there is fetched in this register, and what goes to a slot is computed
--- in it. It is the first and the third scratch register in turn, so that code for one location needn't wait for that of the one before. The
+-- the inner temporary of a home. The left operand of what goes there is fetched in this register, and what goes to a slot is computed
+-- in it. It is the first and the third scratch register in turn, so that code for one home needn't wait for that of the one before. The
 -- first one also has the bases of elements, so the first temporary, which is 8, has 3
-abbrev pub inner_of : Option Location → ℕ
+abbrev pub inner_of : Option Home → ℕ
 inner_of None = SCRATCH_1
-inner_of (Some (Held r)) = SCRATCH_3 - 2 * (r % 2)
-inner_of (Some (InSlot k)) = SCRATCH_1 + 2 * (k % 2)
+inner_of (Some (Reg r)) = SCRATCH_3 - 2 * (r % 2)
+inner_of (Some (Slot k)) = SCRATCH_1 + 2 * (k % 2)
 inner_of (Some (Copied r k)) = SCRATCH_3 - 2 * (r % 2)
 
 -- ---- words that are known
@@ -81,44 +61,44 @@ abbrev pub with_fact : ℕ → Option ℕ → List Fact → List Fact
 with_fact x word facts = take KEPT_FACTS ((let f : Fact = record { register = x; word = word } in f) ∷ facts)
 
 -- a constant isn't put into a caller-saved register, unless that is a copy; what is put anywhere else is there
-abbrev pub deferred_const : Option Location → ℕ → Places → Places
+abbrev pub deferred_const : Option Home → ℕ → Places → Places
 deferred_const None w deferred = deferred
-deferred_const (Some (Held r)) w deferred = places_with deferred r (if is_callee_saved r then None else Some w)
-deferred_const (Some (InSlot k)) w deferred = deferred
+deferred_const (Some (Reg r)) w deferred = places_with deferred r (if is_callee_saved r then None else Some w)
+deferred_const (Some (Slot k)) w deferred = deferred
 deferred_const (Some (Copied r k)) w deferred = deferred
 
-abbrev pub deferred_none : Option Location → Places → Places
+abbrev pub deferred_none : Option Home → Places → Places
 deferred_none None deferred = deferred
-deferred_none (Some (Held r)) deferred = places_with deferred r None
-deferred_none (Some (InSlot k)) deferred = deferred
+deferred_none (Some (Reg r)) deferred = places_with deferred r None
+deferred_none (Some (Slot k)) deferred = deferred
 deferred_none (Some (Copied r k)) deferred = deferred
 
 -- ---- operands
 
 -- a word that is known, and one that a register holds besides
-abbrev pub known_source : ℕ → Option Location → Source
-known_source w (Some (Held r)) = From (Held r)
-known_source w (Some (InSlot k)) = Word w
-known_source w (Some (Copied r k)) = From (Held r)
+abbrev pub known_source : ℕ → Option Home → Source
+known_source w (Some (Reg r)) = From (Reg r)
+known_source w (Some (Slot k)) = Word w
+known_source w (Some (Copied r k)) = From (Reg r)
 known_source w None = Word w
 
 -- an operand, from the word that it is known to hold and where it is
-abbrev pub source : (known : Option ℕ) → Option Location → Source
+abbrev pub source : (known : Option ℕ) → Option Home → Source
 source None None = Zero
-source None (Some (Held r)) = From (Held r)
-source None (Some (InSlot k)) = From (InSlot k)
-source None (Some (Copied r k)) = From (Held r)
+source None (Some (Reg r)) = From (Reg r)
+source None (Some (Slot k)) = From (Slot k)
+source None (Some (Copied r k)) = From (Reg r)
 source (Some w) o = if nat_eq w 0 then Zero else known_source w o
 
 -- a word as an operand
 abbrev pub word_source : ℕ → Source
 word_source w = if nat_eq w 0 then Zero else Word w
 
--- what a location should hold but doesn't yet
-abbrev pub deferred_at : Places → Option Location → Option ℕ
+-- what a home should hold but doesn't yet
+abbrev pub deferred_at : Places → Option Home → Option ℕ
 deferred_at deferred None = None
-deferred_at deferred (Some (Held r)) = deferred r
-deferred_at deferred (Some (InSlot k)) = None
+deferred_at deferred (Some (Reg r)) = deferred r
+deferred_at deferred (Some (Slot k)) = None
 deferred_at deferred (Some (Copied r k)) = None
 
 abbrev pub deferred_source : Option ℕ → Source → Source
@@ -135,8 +115,8 @@ abbrev pub index_register : (known : Option ℕ) → Source → Option ℕ
 index_register (Some w) x = None
 index_register None Zero = None
 index_register None (Word w) = None
-index_register None (From (Held r)) = Some r
-index_register None (From (InSlot k)) = None
+index_register None (From (Reg r)) = Some r
+index_register None (From (Slot k)) = None
 index_register None (From (Copied r k)) = None
 
 abbrev pub index_of : Locations → Facts → ℕ → Option Offset
@@ -152,10 +132,10 @@ abbrev pub kept_without : ℕ → Option Kept → Option Kept
 kept_without r None = None
 kept_without r (Some k) = if touches k.index r then None else Some k
 
-abbrev pub kept_past : Option Location → Option Kept → Option Kept
+abbrev pub kept_past : Option Home → Option Kept → Option Kept
 kept_past None kept = kept
-kept_past (Some (Held r)) kept = kept_without r kept
-kept_past (Some (InSlot k)) kept = kept
+kept_past (Some (Reg r)) kept = kept_without r kept
+kept_past (Some (Slot k)) kept = kept
 kept_past (Some (Copied r k)) kept = kept_without r kept
 
 abbrev pub learned : Locations → RInst → Facts → Facts
@@ -218,10 +198,10 @@ no_facts = record { known = []; deferred = λ q. None; kept = None; offset = Non
 -- ---- what an exit can use of the last instruction
 
 -- a pseudo-register in a slot, whose word is in its inner temporary when it has been written
-abbrev pub in_slot : Option Location → ℕ → Option ℕ
+abbrev pub in_slot : Option Home → ℕ → Option ℕ
 in_slot None x = None
-in_slot (Some (Held r)) x = None
-in_slot (Some (InSlot k)) x = Some x
+in_slot (Some (Reg r)) x = None
+in_slot (Some (Slot k)) x = Some x
 in_slot (Some (Copied r k)) x = None
 
 abbrev pub fresh_of : Locations → RInst → Option ℕ
@@ -239,23 +219,23 @@ last_of at facts i = record { fresh = fresh_of at i; comparison = None }
 -- an operand of an exit: what the last instruction left in its inner temporary, or any other
 abbrev pub fresh_source : Option ℕ → (x inner : ℕ) → Source → Source
 fresh_source None x inner other = other
-fresh_source (Some y) x inner other = if nat_eq y x then From (Held inner) else other
+fresh_source (Some y) x inner other = if nat_eq y x then From (Reg inner) else other
 
 abbrev pub last_operand : Locations → Facts → Option ℕ → ℕ → Source
 last_operand at facts fresh x = fresh_source fresh x (inner_of (at x)) (operand at facts x)
 
 -- ---- within reach of the stack pointer
 
-abbrev pub FitsLocation : Location → Type 0
-FitsLocation (Held r) = Unit {0}
-FitsLocation (InSlot k) = 4 * k ≤ FRAME_BYTES
-FitsLocation (Copied r k) = 4 * k ≤ FRAME_BYTES
+abbrev pub FitsHome : Home → Type 0
+FitsHome (Reg r) = Unit {0}
+FitsHome (Slot k) = 4 * k ≤ FRAME_BYTES
+FitsHome (Copied r k) = 4 * k ≤ FRAME_BYTES
 
-abbrev pub FitsPlace : Option Location → Type 0
+abbrev pub FitsPlace : Option Home → Type 0
 FitsPlace None = Unit {0}
-FitsPlace (Some l) = FitsLocation l
+FitsPlace (Some h) = FitsHome h
 
 abbrev pub FitsSource : Source → Type 0
 FitsSource Zero = Unit {0}
 FitsSource (Word w) = Unit {0}
-FitsSource (From l) = FitsLocation l
+FitsSource (From h) = FitsHome h

@@ -3,8 +3,8 @@ use Rattle.std.specs.Prelude.{ℕ, ◌-◌, ◌^◌, Bool, ◌||◌, nat_eq, if�
 use Rattle.words.specs.Words.{wrap}
 use Rattle.rtl.specs.declared.operator.Op.{Op}
 use Rattle.rtl.specs.declared.operator.Op.TheVariants.{Add, Sub}
-use Rattle.mips_emit.specs.declared.location.Location.{Location}
-use Rattle.mips_emit.specs.declared.location.Location.TheVariants.{Held, InSlot, Copied}
+use Rattle.mips_homes.specs.declared.homed.Home.{Home}
+use Rattle.mips_homes.specs.declared.homed.Home.TheVariants.{Reg, Slot, Copied}
 use Rattle.mips_emit.specs.declared.location.Source.{Source}
 use Rattle.mips_emit.specs.declared.location.Source.TheVariants.{Zero, Word, From}
 use Rattle.mips_emit.specs.declared.offset.Offset.{Offset}
@@ -28,15 +28,15 @@ abbrev pub offset_of : (t : ℕ) → Op → (right : Option ℕ) → Source → 
 offset_of t op None x = None
 offset_of t op (Some c) Zero = None
 offset_of t op (Some c) (Word w) = None
-offset_of t op (Some c) (From (Held r)) = offset_from t r (addend op c)
-offset_of t op (Some c) (From (InSlot k)) = None
+offset_of t op (Some c) (From (Reg r)) = offset_from t r (addend op c)
+offset_of t op (Some c) (From (Slot k)) = None
 offset_of t op (Some c) (From (Copied r k)) = None
 
--- what an operator on operand x and what is known of the right one leaves in a location
-abbrev pub sum_offset : Option Location → Op → (right : Option ℕ) → Source → Option Offset
+-- what an operator on operand x and what is known of the right one leaves in a home
+abbrev pub sum_offset : Option Home → Op → (right : Option ℕ) → Source → Option Offset
 sum_offset None op right x = None
-sum_offset (Some (Held t)) op right x = offset_of t op right x
-sum_offset (Some (InSlot k)) op right x = None
+sum_offset (Some (Reg t)) op right x = offset_of t op right x
+sum_offset (Some (Slot k)) op right x = None
 sum_offset (Some (Copied r k)) op right x = None
 
 abbrev pub or_offset : Option Offset → Option Offset → Option Offset
@@ -52,10 +52,10 @@ offset_without r None = None
 offset_without r (Some o) = if touches o r then None else Some o
 
 -- it is so while neither register is written
-abbrev pub offset_past : Option Location → Option Offset → Option Offset
+abbrev pub offset_past : Option Home → Option Offset → Option Offset
 offset_past None o = o
-offset_past (Some (Held r)) o = offset_without r o
-offset_past (Some (InSlot k)) o = o
+offset_past (Some (Reg r)) o = offset_without r o
+offset_past (Some (Slot k)) o = o
 offset_past (Some (Copied r k)) o = offset_without r o
 
 -- what is known of a register

@@ -16,11 +16,11 @@ ghost use Rattle.mips_emit.specs.Prefixes.{Emits};
 
 use crate::constant::emit_one;
 use crate::facts::Knowledge;
-use crate::location::{Location, Source, locate, register};
+use crate::location::{Source, locate};
 use crate::operation::{Operand, emit_op, immediate_of, operand_with};
 use crate::transfer::{emit_fetch, operand_register};
 use mblock::{BlockNumber, Exit};
-use mips_homes::{Frame, SCRATCH_1, SCRATCH_3, is_callee_saved};
+use mips_homes::{Frame, Home, SCRATCH_1, SCRATCH_3, is_callee_saved, register};
 use mips_isa::{PairTest, Plain, Reg, ZeroTest};
 use rtl::{Op, RInst, Register};
 use std::alloc::AllocError;
@@ -286,17 +286,17 @@ fn form_for(asked: Asked, op: Op, left: Option<u32>, right: Option<u32>) -> Opti
     }
 }
 
-/// Says whether no other block reads a location.
-fn is_caller_saved(place: Option<Location>) -> bool
+/// Says whether no other block reads a home.
+fn is_caller_saved(place: Option<Home>) -> bool
     ensures { result ≡ is_caller_saved place }
 {
     match place {
         None => false,
         // (rattle 13f: a nested pattern through another crate's type ends in "a bug in rattle": CONTRIBUTING.md)
-        Some(location) => match location {
-            Location::Held(r) => !is_callee_saved(r.index()),
-            Location::InSlot(_) => false,
-            Location::Copied(_, _) => false,
+        Some(home) => match home {
+            Home::Reg(r) => !is_callee_saved(r.index()),
+            Home::Slot(_) => false,
+            Home::Copied(_, _) => false,
         },
     }
 }

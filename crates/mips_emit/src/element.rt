@@ -14,10 +14,10 @@ ghost use Rattle.mips_emit.specs.Code.{element_code, element_load, element_store
 ghost use Rattle.mips_emit.specs.Prefixes.{Emits};
 
 use crate::constant::{emit_one, emit_one_or_two};
-use crate::location::{Source, register};
+use crate::location::Source;
 use crate::offset::Offset;
 use crate::transfer::{emit_fetch, operand_register};
-use mips_homes::{GLOBAL_POINTER, SCRATCH_1, SCRATCH_2};
+use mips_homes::{GLOBAL_POINTER, SCRATCH_1, SCRATCH_2, register};
 use mips_isa::{AluOp, Amount, DATA_BASE, NonzeroReg, Plain, Reg, ShiftOp};
 use std::alloc::AllocError;
 use words::Width;

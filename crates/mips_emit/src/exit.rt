@@ -10,9 +10,9 @@ ghost use Rattle.mips_emit.specs.Code.{arrive, carry, arguments_code};
 ghost use Rattle.mips_emit.specs.Prefixes.{Emits};
 
 use crate::facts::{Knowledge, last_operand};
-use crate::location::{locate, register};
+use crate::location::locate;
 use crate::transfer::{emit_arrive, emit_carry};
-use mips_homes::{FIRST_ARGUMENT, Frame};
+use mips_homes::{FIRST_ARGUMENT, Frame, register};
 use mips_isa::{NonzeroReg, Plain};
 use rtl::Register;
 use std::alloc::AllocError;

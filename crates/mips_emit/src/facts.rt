@@ -12,9 +12,9 @@ ghost use Rattle.mips_emit.specs.Locations.{locations, operand, last_operand, Fi
 
 use crate::comparison::Comparison;
 use crate::limits::KEPT_FACTS;
-use crate::location::{Location, Source, inner_of, locate, source_of, word_source};
+use crate::location::{Source, inner_of, locate, source_of, word_source};
 use crate::offset::{Offset, addend, index_with, pass_offset, sum_offset, touches};
-use mips_homes::{Frame, is_callee_saved};
+use mips_homes::{Frame, Home, is_callee_saved};
 use mips_isa::NonzeroReg;
 use rtl::{GlobalNumber, Op, RInst, Register};
 use std::alloc::{AllocError, Global};
@@ -113,17 +113,17 @@ fn deferred_in(table: &[Option<u32>], r: NonzeroReg) -> Option<u32>
     }
 }
 
-/// Returns the word that a location should hold but doesn't yet.
-fn deferred_at(table: &[Option<u32>], place: &Option<Location>) -> Option<u32>
+/// Returns the word that a home should hold but doesn't yet.
+fn deferred_at(table: &[Option<u32>], place: &Option<Home>) -> Option<u32>
     ensures { result ≡ deferred_at (word_in table.now) place.now }
 {
     match place {
         None => None,
         // (rattle 13f: a nested pattern through another crate's type ends in "a bug in rattle": CONTRIBUTING.md)
-        Some(location) => match location {
-            Location::Held(r) => deferred_in(table, *r),
-            Location::InSlot(_) => None,
-            Location::Copied(_, _) => None,
+        Some(home) => match home {
+            Home::Reg(r) => deferred_in(table, *r),
+            Home::Slot(_) => None,
+            Home::Copied(_, _) => None,
         },
     }
 }
@@ -136,14 +136,14 @@ fn put_deferred(table: &mut [Option<u32>; 32], r: NonzeroReg, word: Option<u32>)
 }
 
 /// Defers a constant whose home is a caller-saved register.
-fn defer(table: &mut [Option<u32>; 32], place: &Option<Location>, word: u32)
+fn defer(table: &mut [Option<u32>; 32], place: &Option<Home>, word: u32)
     ensures { word_in table.new ≡ deferred_const place.now word (word_in table.old) }
 {
     match place {
         None => {}
         // (rattle 13f: a nested pattern through another crate's type ends in "a bug in rattle": CONTRIBUTING.md)
-        Some(location) => match location {
-            Location::Held(r) => {
+        Some(home) => match home {
+            Home::Reg(r) => {
                 let word = if is_callee_saved(r.index()) {
                     None
                 } else {
@@ -151,23 +151,23 @@ fn defer(table: &mut [Option<u32>; 32], place: &Option<Location>, word: u32)
                 };
                 put_deferred(table, *r, word);
             }
-            Location::InSlot(_) => {}
-            Location::Copied(_, _) => {}
+            Home::Slot(_) => {}
+            Home::Copied(_, _) => {}
         },
     }
 }
 
 /// Cancels a deferred constant, as any other write does.
-fn clear_deferred(table: &mut [Option<u32>; 32], place: &Option<Location>)
+fn clear_deferred(table: &mut [Option<u32>; 32], place: &Option<Home>)
     ensures { word_in table.new ≡ deferred_none place.now (word_in table.old) }
 {
     match place {
         None => {}
         // (rattle 13f: a nested pattern through another crate's type ends in "a bug in rattle": CONTRIBUTING.md)
-        Some(location) => match location {
-            Location::Held(r) => put_deferred(table, *r, None),
-            Location::InSlot(_) => {}
-            Location::Copied(_, _) => {}
+        Some(home) => match home {
+            Home::Reg(r) => put_deferred(table, *r, None),
+            Home::Slot(_) => {}
+            Home::Copied(_, _) => {}
         },
     }
 }
@@ -194,17 +194,17 @@ fn forget_kept(kept: &mut Option<Kept>, r: NonzeroReg)
     }
 }
 
-/// Forgets the base that is kept, if a location is written that its index names.
-fn pass_kept(kept: &mut Option<Kept>, place: &Option<Location>)
+/// Forgets the base that is kept, if a home is written that its index names.
+fn pass_kept(kept: &mut Option<Kept>, place: &Option<Home>)
     ensures { kept.new ≡ kept_past place.now kept.old }
 {
     match place {
         None => {}
         // (rattle 13f: a nested pattern through another crate's type ends in "a bug in rattle": CONTRIBUTING.md)
-        Some(location) => match location {
-            Location::Held(r) => forget_kept(kept, *r),
-            Location::InSlot(_) => {}
-            Location::Copied(r, _) => forget_kept(kept, *r),
+        Some(home) => match home {
+            Home::Reg(r) => forget_kept(kept, *r),
+            Home::Slot(_) => {}
+            Home::Copied(r, _) => forget_kept(kept, *r),
         },
     }
 }
@@ -228,10 +228,10 @@ pub(crate) fn index_register(known: Option<u32>, x: &Source) -> Option<NonzeroRe
         None => match x {
             Source::Zero => None,
             Source::Word(_) => None,
-            Source::From(location) => match location {
-                Location::Held(r) => Some(*r),
-                Location::InSlot(_) => None,
-                Location::Copied(_, _) => None,
+            Source::From(home) => match home {
+                Home::Reg(r) => Some(*r),
+                Home::Slot(_) => None,
+                Home::Copied(_, _) => None,
             },
         },
     }
@@ -251,13 +251,13 @@ fn kept_at(facts: &Knowledge, frame: &Frame, a: GlobalNumber, i: Register) -> Op
     )
 }
 
-/// Returns what an operator leaves in a location. For an operator that leaves no sum it looks up no fact.
+/// Returns what an operator leaves in a home. For an operator that leaves no sum it looks up no fact.
 #[tactic(auto, using(crate::proofs::Sums::no_sum, crate::proofs::Sums::no_sum_of_unknown))]
 fn sum_at(
     facts: &Knowledge,
     frame: &Frame,
     op: Op,
-    place: &Option<Location>,
+    place: &Option<Home>,
     a: Register,
     b: Register,
 ) -> Option<Offset>
@@ -359,12 +359,17 @@ pub(crate) fn operand(facts: &Knowledge, frame: &Frame, x: Register) -> Source
 }
 
 /// Returns a pseudo-register, if it is in a slot.
-fn in_slot(place: Option<Location>, x: Register) -> Option<Register>
+fn in_slot(place: Option<Home>, x: Register) -> Option<Register>
     ensures { result ≡ in_slot place x }
 {
     match place {
-        Some(Location::InSlot(_)) => Some(x),
-        _ => None,
+        None => None,
+        // (rattle 13f: a nested pattern through another crate's type ends in "a bug in rattle": CONTRIBUTING.md)
+        Some(home) => match home {
+            Home::Reg(_) => None,
+            Home::Slot(_) => Some(x),
+            Home::Copied(_, _) => None,
+        },
     }
 }
 
@@ -411,7 +416,7 @@ pub fn last_operand(
         None => operand(facts, frame, x),
         Some(y) => {
             if y == x {
-                Source::From(Location::Held(inner_of(&locate(frame, x))))
+                Source::From(Home::Reg(inner_of(&locate(frame, x))))
             } else {
                 operand(facts, frame, x)
             }

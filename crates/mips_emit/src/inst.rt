@@ -6,7 +6,7 @@ ghost use Rattle.std.specs.Prelude.{◌≡◌, ◌<◌, ◌≤◌, ◌++◌, All
 ghost use Rattle.mblock.specs.declared.limits.TheConstants.{UNIT_BYTES};
 ghost use Rattle.words.specs.Words.{wrap};
 ghost use Rattle.rtl.specs.Programs.{IsInst};
-ghost use Rattle.mips_emit.specs.declared.location.Location.TheVariants.{Held};
+ghost use Rattle.mips_homes.specs.declared.homed.Home.TheVariants.{Reg};
 ghost use Rattle.mips_emit.specs.Frames.{IsReachable};
 ghost use Rattle.mips_emit.specs.Locations.{facts_of, fresh_of, inner_of, learned, locations, word_source, operand, known_after, FitsPlace, FitsSource};
 ghost use Rattle.mips_emit.specs.Comparisons.{FitsComparison, comparison_of, next_code, last_with, last_after, no_last, code_of_insts};
@@ -25,12 +25,12 @@ use crate::facts::{
     Kept, Knowledge, Last, fresh_of, index_register, known_word, last_with, learn, operand,
     operand_by,
 };
-use crate::location::{Location, Source, inner_of, locate, register, word_source};
+use crate::location::{Source, inner_of, locate, word_source};
 use crate::offset::{Offset, index_with};
 use crate::operation::{Operand, emit_op, operand_with};
 use crate::setting::Setting;
 use crate::transfer::{emit_bring, emit_fetch, emit_finish, emit_put, into_of, operand_register};
-use mips_homes::{Frame, SCRATCH_2, is_callee_saved};
+use mips_homes::{Frame, Home, SCRATCH_2, is_callee_saved, register};
 use mips_isa::{NonzeroReg, Plain};
 use rtl::{GlobalNumber, Op, RGlobal, RInst, Register};
 use std::alloc::AllocError;
@@ -46,7 +46,7 @@ struct Element {
 
 /// Emits a word into a register, or nothing yet.
 fn emit_held(code: &mut Vec<Plain>, r: NonzeroReg, word: u32) -> Result<(), AllocError>
-    ensures { Emits result code.old.items (const_code (Some (Held r)) word) code.new.items }
+    ensures { Emits result code.old.items (const_code (Some (Reg r)) word) code.new.items }
 {
     if is_callee_saved(r.index()) {
         emit_bring(code, r, &word_source(word))
@@ -69,10 +69,10 @@ fn emit_const(
     match &place {
         None => Ok(()),
         // (rattle 13f: a nested pattern through another crate's type ends in "a bug in rattle": CONTRIBUTING.md)
-        Some(location) => match location {
-            Location::Held(r) => emit_held(code, *r, word),
-            Location::InSlot(_) => emit_put(code, &place, &word_source(word)),
-            Location::Copied(_, _) => emit_put(code, &place, &word_source(word)),
+        Some(home) => match home {
+            Home::Reg(r) => emit_held(code, *r, word),
+            Home::Slot(_) => emit_put(code, &place, &word_source(word)),
+            Home::Copied(_, _) => emit_put(code, &place, &word_source(word)),
         },
     }
 }
@@ -93,11 +93,11 @@ fn emit_move(
     emit_put(code, &locate(frame, d), &operand(facts, frame, a))
 }
 
-/// Emits an operator on two operands, into a location.
+/// Emits an operator on two operands, into a home.
 fn emit_op_into(
     code: &mut Vec<Plain>,
     op: Op,
-    place: &Option<Location>,
+    place: &Option<Home>,
     x: &Operand,
     y: &Operand,
 ) -> Result<(), AllocError>
@@ -111,12 +111,12 @@ fn emit_op_into(
     emit_finish(code, place)
 }
 
-/// Emits an element into a location.
+/// Emits an element into a home.
 fn emit_load(
     code: &mut Vec<Plain>,
     element: &Element,
     x: &Source,
-    place: &Option<Location>,
+    place: &Option<Home>,
 ) -> Result<(), AllocError>
     requires place { FitsPlace place.now }
     requires few { element.now.start ≤ UNIT_BYTES }

@@ -28,7 +28,7 @@ pub use exit::{emit_arguments, emit_arrival, emit_departure};
 pub use facts::{Fact, Kept, Knowledge, Last, known_word, last_operand};
 pub use inst::emit_insts;
 pub use limits::{FRAME_BYTES, limits_are_these_numbers};
-pub use location::{Location, Source, register};
+pub use location::Source;
 pub use offset::Offset;
 pub use operation::Operand;
 pub use setting::Setting;

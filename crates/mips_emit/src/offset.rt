@@ -4,7 +4,8 @@ ghost use Rattle.std.specs.Prelude.{◌≡◌};
 ghost use Rattle.mips_emit.specs.Offsets.{no_offset, addend, offset_from, offset_of, sum_offset, touches, offset_without, offset_past};
 ghost use Rattle.mips_emit.specs.Offsets.{offset_in, index_with};
 
-use crate::location::{Location, Source};
+use crate::location::Source;
+use mips_homes::Home;
 use mips_isa::NonzeroReg;
 use rtl::Op;
 
@@ -67,18 +68,18 @@ fn offset_of(t: NonzeroReg, op: Op, right: Option<u32>, x: &Source) -> Option<Of
         Some(word) => match x {
             Source::Zero => None,
             Source::Word(_) => None,
-            Source::From(location) => match location {
-                Location::Held(r) => offset_from(t, *r, addend(op, word)),
-                Location::InSlot(_) => None,
-                Location::Copied(_, _) => None,
+            Source::From(home) => match home {
+                Home::Reg(r) => offset_from(t, *r, addend(op, word)),
+                Home::Slot(_) => None,
+                Home::Copied(_, _) => None,
             },
         },
     }
 }
 
-/// Returns what an operator on an operand and what is known of the right one leaves in a location.
+/// Returns what an operator on an operand and what is known of the right one leaves in a home.
 pub(crate) fn sum_offset(
-    place: &Option<Location>,
+    place: &Option<Home>,
     op: Op,
     right: Option<u32>,
     x: &Source,
@@ -88,10 +89,10 @@ pub(crate) fn sum_offset(
     match place {
         None => None,
         // (rattle 13f: a nested pattern through another crate's type ends in "a bug in rattle": CONTRIBUTING.md)
-        Some(location) => match location {
-            Location::Held(t) => offset_of(*t, op, right, x),
-            Location::InSlot(_) => None,
-            Location::Copied(_, _) => None,
+        Some(home) => match home {
+            Home::Reg(t) => offset_of(*t, op, right, x),
+            Home::Slot(_) => None,
+            Home::Copied(_, _) => None,
         },
     }
 }
@@ -116,17 +117,17 @@ fn forget_offset(offset: &mut Option<Offset>, r: NonzeroReg)
     }
 }
 
-/// Forgets an offset, if a location is written that it has to do with.
-pub(crate) fn pass_offset(offset: &mut Option<Offset>, place: &Option<Location>)
+/// Forgets an offset, if a home is written that it has to do with.
+pub(crate) fn pass_offset(offset: &mut Option<Offset>, place: &Option<Home>)
     ensures { offset.new ≡ offset_past place.now offset.old }
 {
     match place {
         None => {}
         // (rattle 13f: a nested pattern through another crate's type ends in "a bug in rattle": CONTRIBUTING.md)
-        Some(location) => match location {
-            Location::Held(r) => forget_offset(offset, *r),
-            Location::InSlot(_) => {}
-            Location::Copied(r, _) => forget_offset(offset, *r),
+        Some(home) => match home {
+            Home::Reg(r) => forget_offset(offset, *r),
+            Home::Slot(_) => {}
+            Home::Copied(r, _) => forget_offset(offset, *r),
         },
     }
 }

@@ -15,10 +15,10 @@ ghost use Rattle.mips_emit.specs.Prefixes.{Emits};
 
 use crate::constant::{emit_one, emit_one_or_two, half, is_small};
 use crate::facts::{Knowledge, known_word, operand_by};
-use crate::location::{Source, register};
+use crate::location::Source;
 use crate::product::{emit_multiple, multiple_of};
 use crate::transfer::{emit_fetch, operand_register};
-use mips_homes::{Frame, SCRATCH_2};
+use mips_homes::{Frame, SCRATCH_2, register};
 use mips_isa::{AluOp, Amount, HiLo, ImmOp, LogicOp, NonzeroReg, Plain, Reg, ShiftOp};
 use rtl::{Op, Register};
 use std::alloc::AllocError;

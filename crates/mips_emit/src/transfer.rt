@@ -1,4 +1,4 @@
-//! Operands into registers, and results into locations.
+//! Operands into registers, and results into homes.
 
 #![tactic(auto, using(crate::proofs::Prefixes::prefix_behind, crate::proofs::Prefixes::prefix_among, crate::proofs::Prefixes::emits_behind))]
 
@@ -8,7 +8,8 @@ ghost use Rattle.mips_emit.specs.Code.{fetch, operand_register, bring, stays, ca
 ghost use Rattle.mips_emit.specs.Prefixes.{Emits};
 
 use crate::constant::{emit_li, emit_load_word, emit_move, emit_store_word};
-use crate::location::{Location, Source, inner_of};
+use crate::location::{Source, inner_of};
+use mips_homes::Home;
 use mips_isa::{NonzeroReg, Plain, Reg};
 use std::alloc::AllocError;
 
@@ -20,10 +21,10 @@ pub fn emit_fetch(code: &mut Vec<Plain>, t: NonzeroReg, x: &Source) -> Result<()
     match x {
         Source::Zero => Ok(()),
         Source::Word(word) => emit_li(code, t.reg(), *word),
-        Source::From(location) => match location {
-            Location::Held(_) => Ok(()),
-            Location::InSlot(k) => emit_load_word(code, t, 4 * *k),
-            Location::Copied(_, _) => Ok(()),
+        Source::From(home) => match home {
+            Home::Reg(_) => Ok(()),
+            Home::Slot(k) => emit_load_word(code, t, 4 * *k),
+            Home::Copied(_, _) => Ok(()),
         },
     }
 }
@@ -35,10 +36,10 @@ pub fn operand_register(t: NonzeroReg, x: &Source) -> Reg
     match x {
         Source::Zero => Reg::ZERO,
         Source::Word(_) => t.reg(),
-        Source::From(location) => match location {
-            Location::Held(r) => r.reg(),
-            Location::InSlot(_) => t.reg(),
-            Location::Copied(r, _) => r.reg(),
+        Source::From(home) => match home {
+            Home::Reg(r) => r.reg(),
+            Home::Slot(_) => t.reg(),
+            Home::Copied(r, _) => r.reg(),
         },
     }
 }
@@ -51,10 +52,10 @@ pub(crate) fn emit_bring(code: &mut Vec<Plain>, t: NonzeroReg, x: &Source) -> Re
     match x {
         Source::Zero => emit_move(code, t.reg(), Reg::ZERO),
         Source::Word(word) => emit_li(code, t.reg(), *word),
-        Source::From(location) => match location {
-            Location::Held(r) => emit_move(code, t.reg(), r.reg()),
-            Location::InSlot(k) => emit_load_word(code, t, 4 * *k),
-            Location::Copied(r, _) => emit_move(code, t.reg(), r.reg()),
+        Source::From(home) => match home {
+            Home::Reg(r) => emit_move(code, t.reg(), r.reg()),
+            Home::Slot(k) => emit_load_word(code, t, 4 * *k),
+            Home::Copied(r, _) => emit_move(code, t.reg(), r.reg()),
         },
     }
 }
@@ -77,50 +78,50 @@ fn stays(t: NonzeroReg, x: &Source) -> bool
     match x {
         Source::Zero => false,
         Source::Word(_) => false,
-        Source::From(location) => match location {
-            Location::Held(r) => *r == t,
-            Location::InSlot(_) => false,
-            Location::Copied(r, _) => *r == t,
+        Source::From(home) => match home {
+            Home::Reg(r) => *r == t,
+            Home::Slot(_) => false,
+            Home::Copied(r, _) => *r == t,
         },
     }
 }
 
 /// Returns the register into which a result is computed.
-pub(crate) fn into_of(place: &Option<Location>) -> NonzeroReg
+pub(crate) fn into_of(place: &Option<Home>) -> NonzeroReg
     ensures { result ≡ into place.now }
 {
     match place {
         None => inner_of(place),
         // (rattle 13f: a nested pattern through another crate's type ends in "a bug in rattle": CONTRIBUTING.md)
-        Some(location) => match location {
-            Location::Held(r) => *r,
-            Location::InSlot(_) => inner_of(place),
-            Location::Copied(r, _) => *r,
+        Some(home) => match home {
+            Home::Reg(r) => *r,
+            Home::Slot(_) => inner_of(place),
+            Home::Copied(r, _) => *r,
         },
     }
 }
 
 /// Emits what stands after a result.
 #[inline(always)]
-pub(crate) fn emit_finish(code: &mut Vec<Plain>, place: &Option<Location>) -> Result<(), AllocError>
+pub(crate) fn emit_finish(code: &mut Vec<Plain>, place: &Option<Home>) -> Result<(), AllocError>
     requires { FitsPlace place.now }
     ensures { Emits result code.old.items (finish place.now) code.new.items }
 {
     match place {
         None => Ok(()),
         // (rattle 13f: a nested pattern through another crate's type ends in "a bug in rattle": CONTRIBUTING.md)
-        Some(location) => match location {
-            Location::Held(_) => Ok(()),
-            Location::InSlot(k) => emit_store_word(code, inner_of(place).reg(), 4 * *k),
-            Location::Copied(r, k) => emit_store_word(code, r.reg(), 4 * *k),
+        Some(home) => match home {
+            Home::Reg(_) => Ok(()),
+            Home::Slot(k) => emit_store_word(code, inner_of(place).reg(), 4 * *k),
+            Home::Copied(r, k) => emit_store_word(code, r.reg(), 4 * *k),
         },
     }
 }
 
-/// Emits an operand into a location; an Err means out of memory.
+/// Emits an operand into a home; an Err means out of memory.
 pub(crate) fn emit_put(
     code: &mut Vec<Plain>,
-    place: &Option<Location>,
+    place: &Option<Home>,
     x: &Source,
 ) -> Result<(), AllocError>
     requires place { FitsPlace place.now }
@@ -130,14 +131,14 @@ pub(crate) fn emit_put(
     match place {
         None => Ok(()),
         // (rattle 13f: a nested pattern through another crate's type ends in "a bug in rattle": CONTRIBUTING.md)
-        Some(location) => match location {
-            Location::Held(r) => emit_bring(code, *r, x),
-            Location::InSlot(k) => {
+        Some(home) => match home {
+            Home::Reg(r) => emit_bring(code, *r, x),
+            Home::Slot(k) => {
                 let inner = inner_of(place);
                 emit_fetch(code, inner, x)?;
                 emit_store_word(code, operand_register(inner, x), 4 * *k)
             }
-            Location::Copied(r, k) => {
+            Home::Copied(r, k) => {
                 emit_bring(code, *r, x)?;
                 emit_store_word(code, r.reg(), 4 * *k)
             }
@@ -145,10 +146,10 @@ pub(crate) fn emit_put(
     }
 }
 
-/// Emits a register into a location, but where it is that register; an Err means out of memory.
+/// Emits a register into a home, but where it is that register; an Err means out of memory.
 pub(crate) fn emit_arrive(
     code: &mut Vec<Plain>,
-    place: Option<Location>,
+    place: Option<Home>,
     t: NonzeroReg,
 ) -> Result<(), AllocError>
     requires { FitsPlace place }
@@ -157,11 +158,11 @@ pub(crate) fn emit_arrive(
     match place {
         None => Ok(()),
         // (rattle 13f: a nested pattern through another crate's type ends in "a bug in rattle": CONTRIBUTING.md)
-        Some(location) => match location {
-            Location::Held(r) => emit_carry(code, r, &Source::From(Location::Held(t))),
-            Location::InSlot(k) => emit_store_word(code, t.reg(), 4 * k),
-            Location::Copied(r, k) => {
-                emit_carry(code, r, &Source::From(Location::Held(t)))?;
+        Some(home) => match home {
+            Home::Reg(r) => emit_carry(code, r, &Source::From(Home::Reg(t))),
+            Home::Slot(k) => emit_store_word(code, t.reg(), 4 * k),
+            Home::Copied(r, k) => {
+                emit_carry(code, r, &Source::From(Home::Reg(t)))?;
                 emit_store_word(code, r.reg(), 4 * k)
             }
         },
