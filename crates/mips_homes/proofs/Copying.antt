@@ -52,7 +52,7 @@ with_copy_cell (Copied q k) o = refl
 abbrev pub HasCell : List Home → ℕ → Home → Type 0
 HasCell hs x h = (g : Home) × (slice_get hs x ≡ Some g) × (cell g ≡ cell h)
 
-onto_get : (free : List ℕ) (hs : List Home) (x : ℕ) (h : Home) → slice_get (copied_onto free hs) x ≡ Some h → HasCell hs x h
+pub onto_get : (free : List ℕ) (hs : List Home) (x : ℕ) (h : Home) → slice_get (copied_onto free hs) x ≡ Some h → HasCell hs x h
 onto_get free [] x h e = absurd (none-some h e)
 onto_get free (g ∷ hs) zero h e = (g, refl, with_copy_cell g (slice_get free 0) ∙ ap cell (same_Some (with_copy g (slice_get free 0)) h e))
 onto_get free (g ∷ hs) (suc x) h e = onto_get (if is_slot g then drop 1 free else free) hs x h e

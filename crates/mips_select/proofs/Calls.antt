@@ -21,7 +21,7 @@ use Rattle.mips_homes.specs.HomedRun.{Activation, is_in, is_callee_saved, regist
 use Rattle.mips_homes.specs.declared.homed.Frame.{Frame}
 use Rattle.mips_homes.proofs.Located.{also_in}
 use Rattle.mips_emit.specs.declared.limits.TheConstants.{FRAME_BYTES}
-use Rattle.mips_emit.specs.Frames.{link_words, IsFrame}
+use Rattle.mips_emit.specs.Frames.{HaveNoCopies, link_words, IsFrame}
 use Rattle.mips_emit.specs.Elements.{width_of, place_in, address_of_place}
 use Rattle.mips_emit.proofs.Runs.{RunsTo, runs_none, runs_then}
 use Rattle.mips_emit.proofs.View.{word_at, put_here, put_other, IsTarget, sum_value, word_of_offset}
@@ -33,7 +33,7 @@ use Rattle.mips_select.proofs.Frames.{InStack, AreKept, saves_run, restores_run}
 use Rattle.mips_select.proofs.Emitted.{kept, kept_words}
 
 abbrev pub stored_frame : Bool → Frame → Places → Places → ℕ → Stored
-stored_frame leaf f slots aside link = record { leaf = leaf; copies = f.copies.items; count = f.slots; saved = f.saved.items; slots = slots; aside = aside; link = link }
+stored_frame leaf f slots aside link = record { leaf = leaf; homes = f.homes.items; count = f.slots; saved = f.saved.items; slots = slots; aside = aside; link = link }
 
 -- the frames of waiting activations, with their links
 abbrev pub frames_of : List Activation → List ℕ → List Stored
@@ -179,7 +179,7 @@ module _ (most total : ℕ) (gs : List RGlobal) (starts : ℕ → ℕ) (small : 
     pub stands : Stands most total gs starts (registers_at_entry f.saved.items r) g (stored_frame leaf f unset_places r link ∷ fs) to
 
   pub enters : (r : Places) (g : Arrays) (fs : List Stored) (s : State) (leaf : Bool) (f : Frame) (link : ℕ) → IsFrame most f → s.regs 31 ≡ link
-      → (leaf ≡ false → f.copies.items ≡ []) → ((q : ℕ) → is_callee_saved q ≡ false → r q ≡ None)
+      → (leaf ≡ false → HaveNoCopies f.homes.items) → ((q : ℕ) → is_callee_saved q ≡ false → r q ≡ None)
       → stack_base + most ≤ s.regs 29 → Stands most total gs starts r g fs s → Entered r g fs s leaf f link
   enters r g fs s leaf f link ok is_link alone passing room h =
       let up = stack_top most (word_at s) (s.regs 29) fs h.stack in
@@ -246,8 +246,8 @@ module _ (most total : ℕ) (gs : List RGlobal) (starts : ℕ → ℕ) (small : 
           linked = λ _. record {
             link = low.others 31 (λ e. absurd (omega (arith, e))) ∙ is_link;
             range = ((ok.homes).copied).range;
-            copied = λ k q v c at. absurd (none-some v at);
-            idle = λ k q c. unset (is_in f.saved.items q) (r q) (passing q (((ok.homes).copied).caller_saved k q c));
+            copied = λ x q k v c at. absurd (none-some v at);
+            idle = λ x q k c. unset (is_in f.saved.items q) (r q) (passing q (((ok.homes).copied).caller_saved x q k c));
           };
           gp = low.others 28 (λ e. absurd (omega (arith, e))) ∙ h.gp;
         };

@@ -1,5 +1,5 @@
 -- At most how many machine instructions stand for an instruction, an exit and the beginning of a function.
-use Rattle.std.proofs.Common.{◌≡◌, ℕ, zero, suc, ◌+◌, ◌*◌, ◌≤◌, Bool, true, false, List, [], ◌∷◌, ◌++◌, length, length-append, Option, Some, None, arith, sym, subst, refl}
+use Rattle.std.proofs.Common.{◌≡◌, ℕ, zero, suc, ◌+◌, ◌*◌, ◌≤◌, Bool, true, false, List, [], ◌∷◌, ◌++◌, length, length-append, Option, Some, None, arith, refl}
 use Rattle.std.specs.Prelude.{slice_get, ◌/◌, ◌%◌, nat_eq, nat_lt, if◌then◌else◌}
 use Rattle.words.specs.Words.{wrap}
 use Rattle.words.specs.declared.width.Width.{Width}
@@ -18,10 +18,9 @@ use Rattle.rtl.specs.declared.instruction.RExit.TheVariants.{Goto, Branch, Call,
 use Rattle.rtl.specs.declared.block.RGlobal.{RGlobal}
 use Rattle.mips_homes.specs.HomedRun.{is_callee_saved}
 use Rattle.mips_homes.specs.declared.homed.Home.{Home}
-use Rattle.mips_homes.specs.declared.homed.Home.TheVariants.{Reg, Slot}
 use Rattle.mips_homes.specs.declared.homed.Frame.{Frame}
-use Rattle.mips_emit.specs.declared.location.Location.{Location}
-use Rattle.mips_emit.specs.declared.location.Location.TheVariants.{Held, InSlot, Copied}
+use Rattle.mips_homes.specs.declared.homed.Home.TheVariants.{Reg, Slot, Copied}
+use Rattle.mips_emit.specs.Frames.{HaveNoCopies}
 use Rattle.mips_emit.specs.declared.location.Source.{Source}
 use Rattle.mips_emit.specs.declared.location.Source.TheVariants.{Zero, Word as Known, From}
 use Rattle.mips_emit.specs.declared.comparison.Asked.{Asked}
@@ -29,7 +28,7 @@ use Rattle.mips_emit.specs.declared.comparison.Comparison.{Comparison}
 use Rattle.mips_emit.specs.declared.comparison.Form.{Form}
 use Rattle.mips_emit.specs.declared.comparison.Form.TheVariants.{Known, OnPair, OnLeft, OnRight, ByResult, ByOpposite, InResult}
 use Rattle.mips_emit.specs.declared.facts.Last.{Last}
-use Rattle.mips_emit.specs.Locations.{Locations, Facts, location_at, locations_of, locations, known_in, learned, operand, last_operand, inner_of, word_source}
+use Rattle.mips_emit.specs.Locations.{Locations, Facts, locations, known_in, learned, operand, last_operand, inner_of, word_source}
 use Rattle.mips_emit.specs.declared.element.Reach.{Reach}
 use Rattle.mips_emit.specs.declared.element.Reach.TheVariants.{ByPointer, ByScratch, ByKept, ByNew}
 use Rattle.mips_emit.specs.Elements.{scaled, base_sum, scaled_register, width_of, page, address_of_place}
@@ -74,48 +73,49 @@ li_few t w = by (is_small w) (nat_lt w 65536) (nat_eq (w % 65536) 0)
 fetch_few : (t : ℕ) (x : Source) → length (fetch t x) ≤ 2
 fetch_few t Zero = omega arith
 fetch_few t (Known w) = li_few t w
-fetch_few t (From (Held r)) = omega arith
-fetch_few t (From (InSlot k)) = omega arith
+fetch_few t (From (Reg r)) = omega arith
+fetch_few t (From (Slot k)) = omega arith
 fetch_few t (From (Copied r k)) = omega arith
 
 bring_few : (t : ℕ) (x : Source) → length (bring t x) ≤ 2
 bring_few t Zero = omega arith
 bring_few t (Known w) = li_few t w
-bring_few t (From (Held r)) = omega arith
-bring_few t (From (InSlot k)) = omega arith
+bring_few t (From (Reg r)) = omega arith
+bring_few t (From (Slot k)) = omega arith
 bring_few t (From (Copied r k)) = omega arith
 
 carry_few : (t : ℕ) (x : Source) → length (carry t x) ≤ 2
 carry_few t x = either (stays t x) 2 [] (bring t x) (omega arith) (bring_few t x)
 
-finish_few : (o : Option Location) → length (finish o) ≤ 1
+finish_few : (o : Option Home) → length (finish o) ≤ 1
 finish_few None = omega arith
-finish_few (Some (Held r)) = omega arith
-finish_few (Some (InSlot k)) = omega arith
+finish_few (Some (Reg r)) = omega arith
+finish_few (Some (Slot k)) = omega arith
 finish_few (Some (Copied r k)) = omega arith
 
-put_few : (o : Option Location) (x : Source) → length (put_at o x) ≤ 8
+put_few : (o : Option Home) (x : Source) → length (put_at o x) ≤ 8
 put_few None x = omega arith
-put_few (Some (Held r)) x = let n = bring_few r x in omega (arith, n)
+put_few (Some (Reg r)) x = let n = bring_few r x in omega (arith, n)
 put_few (Some (Copied r k)) x = one_behind _ 2 8 (bring r x) (bring_few r x) (omega arith)
-put_few (Some (InSlot k)) x = one_behind _ 2 8 (fetch (inner_of (Some (InSlot k))) x) (fetch_few (inner_of (Some (InSlot k))) x) (omega arith)
+put_few (Some (Slot k)) x = one_behind _ 2 8 (fetch (inner_of (Some (Slot k))) x) (fetch_few (inner_of (Some (Slot k))) x) (omega arith)
 
 -- two, of which the second is the store of a copy
-arrive_few : (o : Option Location) (t : ℕ) → length (arrive o t) ≤ 2
+arrive_few : (o : Option Home) (t : ℕ) → length (arrive o t) ≤ 2
 arrive_few None t = omega arith
-arrive_few (Some (Held r)) t = either (stays r (From (Held t))) 2 [] (bring r (From (Held t))) (omega arith) (omega arith)
-arrive_few (Some (InSlot k)) t = omega arith
+arrive_few (Some (Reg r)) t = either (stays r (From (Reg t))) 2 [] (bring r (From (Reg t))) (omega arith) (omega arith)
+arrive_few (Some (Slot k)) t = omega arith
 arrive_few (Some (Copied r k)) t =
-    one_behind _ 1 2 (carry r (From (Held t))) (either (stays r (From (Held t))) 1 [] (bring r (From (Held t))) (omega arith) (omega arith)) (omega arith)
+    one_behind _ 1 2 (carry r (From (Reg t))) (either (stays r (From (Reg t))) 1 [] (bring r (From (Reg t))) (omega arith) (omega arith)) (omega arith)
 
 -- and one where no slot has a copy
-arrive_one : (hs : List Home) (x t : ℕ) → length (arrive (locations_of [] hs x) t) ≤ 1
-arrive_one hs x t = by (slice_get hs x)
+arrive_one : (hs : List Home) (x t : ℕ) → HaveNoCopies hs → length (arrive (slice_get hs x) t) ≤ 1
+arrive_one hs x t none = by (slice_get hs x) refl
   where
-    by : (o : Option Home) → length (arrive (location_at [] o) t) ≤ 1
-    by None = omega arith
-    by (Some (Reg r)) = either (stays r (From (Held t))) 1 [] (bring r (From (Held t))) (omega arith) (omega arith)
-    by (Some (Slot k)) = omega arith
+    by : (o : Option Home) → slice_get hs x ≡ o → length (arrive o t) ≤ 1
+    by None e = omega arith
+    by (Some (Reg r)) e = either (stays r (From (Reg t))) 1 [] (bring r (From (Reg t))) (omega arith) (omega arith)
+    by (Some (Slot k)) e = omega arith
+    by (Some (Copied r k)) e = absurd (none x r k e)
 
 -- ---- operators
 
@@ -189,13 +189,13 @@ element_few w start (ByNew q c) x =
 element_few w start (ByPointer p) x = omega arith
 element_few w start (ByKept c) x = omega arith
 
-const_few : (o : Option Location) (w : ℕ) → length (const_code o w) ≤ 8
+const_few : (o : Option Home) (w : ℕ) → length (const_code o w) ≤ 8
 const_few None w = omega arith
-const_few (Some (Held r)) w =
+const_few (Some (Reg r)) w =
     let few = bring_few r (word_source w) in
     either (is_callee_saved r) 8 (bring r (word_source w)) (nop ∷ []) (omega (arith, few)) (omega arith)
 const_few (Some (Copied r k)) w = put_few (Some (Copied r k)) (word_source w)
-const_few (Some (InSlot k)) w = put_few (Some (InSlot k)) (word_source w)
+const_few (Some (Slot k)) w = put_few (Some (Slot k)) (word_source w)
 
 inst_few : (globals : List RGlobal) (starts : ℕ → ℕ) (at : Locations) (facts : Facts) (i : RInst) → length (inst_code globals starts at facts i) ≤ 8
 inst_few globals starts at facts (Const d w) = const_few (at d) (wrap w)
@@ -257,12 +257,12 @@ parameters_few at t x (suc n) =
     let sum = length-append (arrive (at x) t) (parameters_code at (suc t) (suc x) n) in
     omega (arith, one, rest, sum)
 
-parameters_one : (hs : List Home) (t x n : ℕ) → length (parameters_code (locations_of [] hs) t x n) ≤ n
-parameters_one hs t x zero = omega arith
-parameters_one hs t x (suc n) =
-    let one = arrive_one hs x t in
-    let rest = parameters_one hs (suc t) (suc x) n in
-    let sum = length-append (arrive (locations_of [] hs x) t) (parameters_code (locations_of [] hs) (suc t) (suc x) n) in
+parameters_one : (hs : List Home) (t x n : ℕ) → HaveNoCopies hs → length (parameters_code (slice_get hs) t x n) ≤ n
+parameters_one hs t x zero none = omega arith
+parameters_one hs t x (suc n) none =
+    let one = arrive_one hs x t none in
+    let rest = parameters_one hs (suc t) (suc x) n none in
+    let sum = length-append (arrive (slice_get hs x) t) (parameters_code (slice_get hs) (suc t) (suc x) n) in
     omega (arith, one, rest, sum)
 
 -- a leaf has no link, but it may have copies of its parameters; what it has more at its beginning it has less at a return
@@ -284,14 +284,13 @@ prologue_by leaf f n p most eight moved room =
     let c = length-append (saves (4 * f.slots) f.saved.items) (link_save leaf f) in
     omega (arith, saved, eight, moved, room, down, a, b, c)
 
-pub prologue_few : (leaf : Bool) (f : Frame) (n : ℕ) → length f.saved.items ≤ 8 → n ≤ 4 → (leaf ≡ false → f.copies.items ≡ [])
+pub prologue_few : (leaf : Bool) (f : Frame) (n : ℕ) → length f.saved.items ≤ 8 → n ≤ 4 → (leaf ≡ false → HaveNoCopies f.homes.items)
     → length (prologue leaf f n) ≤ prologue_most leaf
 prologue_few true f n eight four alone =
     let moved = parameters_few (locations f) 4 0 n in
     prologue_by true f n 8 17 eight (omega (arith, moved, four)) (omega arith)
 prologue_few false f n eight four alone =
-    let moved : length (parameters_code (locations f) 4 0 n) ≤ n =
-    subst (λ copies. length (parameters_code (locations_of copies f.homes.items) 4 0 n) ≤ n) (sym (alone refl)) (parameters_one f.homes.items 4 0 n) in
+    let moved = parameters_one f.homes.items 4 0 n (alone refl) in
     prologue_by false f n 4 14 eight (omega (arith, moved, four)) (omega arith)
 
 -- an epilogue, and two instructions for what is returned

@@ -8,6 +8,7 @@ use Rattle.rtl.specs.declared.instruction.RExit.TheVariants.{Goto, Branch, Call,
 use Rattle.rtl.specs.declared.block.RBlock.{RBlock}
 use Rattle.rtl.specs.declared.block.RFunc.{RFunc}
 use Rattle.mips_homes.specs.declared.homed.Frame.{Frame}
+use Rattle.mips_emit.specs.Frames.{HaveNoCopies}
 use Rattle.mips_emit.specs.Locations.{locations, no_facts, known_after}
 use Rattle.mips_emit.specs.Comparisons.{insts_code, last_after, no_last}
 use Rattle.mips_select.specs.Split.{first_piece_of, total}
@@ -60,7 +61,7 @@ both xs ys a b c d x y =
 -- ---- one function
 
 module _ (l : Linking) (p : Planning) (eight : length p.frame.saved.items ≤ 8) (four : p.parameters ≤ 4)
-    (alone : p.leaf ≡ false → p.frame.copies.items ≡ []) where
+    (alone : p.leaf ≡ false → HaveNoCopies p.frame.homes.items) where
   behind_few : (x : RExit) → Few (behind p x) (exit_blocks x - 1) (behind_most x)
   behind_few (Call g xs d next) = by (resumes d (p.heads next))
     where
@@ -149,7 +150,7 @@ later_head p names j = by (slice_get names (suc j))
     by (Some Jumped) = omega arith
 
 function_few : (l : Linking) (n k : ℕ) (bs : List RBlock) (f : Frame) → length f.saved.items ≤ 8 → n ≤ 4
-    → (is_leaf bs ≡ false → f.copies.items ≡ []) → 0 < length bs → ((i : ℕ) (b : RBlock) → slice_get bs i ≡ Some b → HasFewArguments b.exit)
+    → (is_leaf bs ≡ false → HaveNoCopies f.homes.items) → 0 < length bs → ((i : ℕ) (b : RBlock) → slice_get bs i ≡ Some b → HasFewArguments b.exit)
     → Few (blocks_in l n k bs f) (1 + exits_blocks bs) (14 + 14 * length bs + 8 * insts_in bs)
 function_few l n k [] f eight four alone some few = absurd (omega (arith, some))
 function_few l n k (b ∷ bs) f eight four alone some few =
@@ -171,7 +172,7 @@ function_few l n k (b ∷ bs) f eight four alone some few =
 record IsFew (func : RFunc) (f : Frame) : Type 0 where
   eight : length f.saved.items ≤ 8
   four : func.parameters ≤ 4
-  alone : is_leaf func.blocks.items ≡ false → f.copies.items ≡ []
+  alone : is_leaf func.blocks.items ≡ false → HaveNoCopies f.homes.items
   some : 0 < length func.blocks.items
   few : (i : ℕ) (b : RBlock) → slice_get func.blocks.items i ≡ Some b → HasFewArguments b.exit
 

@@ -7,18 +7,19 @@ use Rattle.std.proofs.lemmas.Option.{same_Some, none-some, slice_get_within, sli
 use Rattle.rtl.specs.declared.block.RFunc.{RFunc}
 use Rattle.rtl.specs.Names.{how_many}
 use Rattle.mips_homes.specs.declared.homed.Home.{Home}
-use Rattle.mips_homes.specs.declared.homed.Home.TheVariants.{Reg, Slot}
+use Rattle.mips_homes.specs.declared.homed.Home.TheVariants.{Reg, Slot, Copied}
 use Rattle.mips_homes.specs.declared.homed.Frame.{Frame}
 use Rattle.mips_homes.specs.declared.homed.Homed.{Homed}
 use Rattle.mips_homes.specs.Choice.{IsChoice}
 use Rattle.mips_homes.specs.Preferences.{blocks_reach}
 use Rattle.mips_homes.specs.Places.{some_slot, IsPlacedFor, ArePlaced}
-use Rattle.mips_homes.proofs.Located.{GetsTemporaryIn, within, seated, case_of, places_long_as, placed_apart, still_was, still_few, has_slot, same_register}
+use Rattle.mips_homes.proofs.Located.{GetsTemporaryIn, uncopied, is_plain, within, seated, case_of, places_long_as, placed_apart, still_was, still_few, has_slot, same_register}
 use Rattle.mips_emit.specs.declared.limits.TheConstants.{FRAME_BYTES}
 use Rattle.mips_homes.specs.Convention.{temporaries}
-use Rattle.mips_homes.specs.Copies.{is_leaf, unused, copies_onto}
-use Rattle.mips_emit.specs.Frames.{IsHome, AreCopies, frame_size, IsFrame}
-use Rattle.mips_select.proofs.Copied.{copies_are}
+use Rattle.mips_homes.specs.Homes.{cell}
+use Rattle.mips_homes.specs.Copies.{is_leaf, is_slot, unused, copied_onto}
+use Rattle.mips_emit.specs.Frames.{IsHome, AreCopies, HaveNoCopies, frame_size, IsFrame}
+use Rattle.mips_select.proofs.Copied.{copies_are, no_copies}
 use Rattle.mips_select.proofs.Places.{block_there}
 use Rattle.mips_select.specs.declared.limits.TheConstants.{STACK_BYTES}
 use Rattle.mips_select.specs.Emittable.{AreReachable}
@@ -122,6 +123,7 @@ module _ (func : RFunc) (f : Frame) (ok : IsChoice func f) where
       home : (x : ℕ) (h : Home) → slice_get f.homes.items x ≡ Some h → IsHome f.slots h
       home x (Reg r) there = (let range = (ok.registers x r there).0 in (omega (arith, range.0), omega (arith, range.1)))
       home x (Slot k) there = ok.in_slots x k there
+      home x (Copied r k) there = absurd (ok.uncopied x r k there)
 
 -- eight at most are saved then too
 pub placed_eight : (func : RFunc) (f : Frame) → IsPlacedFor func f → length f.saved.items ≤ 8
@@ -135,7 +137,8 @@ placed_eight func f q =
 placed_is_frame : (func : RFunc) (f : Frame) → IsPlacedFor func f → (most : ℕ) → frame_bytes_of func ≤ most → IsFrame most f
 placed_is_frame func f q most le = record {
   homes = record {
-    copied = subst (λ copies. AreCopies copies f.homes.items) (sym (q.placed).copies) (copies_are func.blocks.items f.homes.items);
+    copied = subst AreCopies (sym (q.placed).homes)
+        (copies_are func.blocks.items (uncopied func q.choice f q.is q.placed) (is_plain func q.choice f q.is q.placed));
     by = λ x h there. home x h there (case_of func q.choice f q.is q.placed x h there);
     apart = placed_apart func q.choice f q.is q.placed;
   };
@@ -155,21 +158,31 @@ placed_is_frame func f q most le = record {
         by true e = omega (arith, e)
         by false e = omega (arith, e)
 
-    home : (x : ℕ) (h : Home) → slice_get f.homes.items x ≡ Some h → (slice_get (q.choice).homes.items x ≡ Some h) ⊎ GetsTemporaryIn func q.choice f q.is q.placed x h
+    in_slot : (x : ℕ) (h : Home) (k : ℕ) → slice_get f.homes.items x ≡ Some h → is_slot h ≡ true → slice_get (q.choice).homes.items x ≡ Some (Slot k) → k < f.slots
+    in_slot x h k there slot e =
+        let lt = was.by x (Slot k) e in
+        let slots : f.slots ≡ (q.choice).slots = (q.placed).slots ∙ ap (λ c. if c then (q.choice).slots else 0) (has_slot f.homes.items x h there slot) in
+        omega (arith, lt, slots)
+
+    no_register : (k r : ℕ) → Slot k ≡ Reg r → ⊥
+    no_register k r e = absurd cc
+
+    home : (x : ℕ) (h : Home) → slice_get f.homes.items x ≡ Some h → (slice_get (q.choice).homes.items x ≡ Some (cell h)) ⊎ GetsTemporaryIn func q.choice f q.is q.placed x (cell h)
         → IsHome f.slots h
     home x (Reg r) there e = within func q.choice f q.is q.placed x r there
-    home x (Slot k) there (inl e) =
-        let lt = was.by x (Slot k) e in
-        let slots : f.slots ≡ (q.choice).slots = (q.placed).slots ∙ ap (λ c. if c then (q.choice).slots else 0) (has_slot f.homes.items x k there) in
-        omega (arith, lt, slots)
-    home x (Slot k) there (inr p) = (let range = within func q.choice f q.is q.placed x p.r (there ∙ ap Some p.is) in subst (IsHome f.slots) (sym p.is) range)
+    home x (Slot k) there (inl e) = in_slot x (Slot k) k there refl e
+    home x (Slot k) there (inr p) = absurd (no_register k p.r p.is)
+    home x (Copied r k) there (inl e) = in_slot x (Copied r k) k there refl e
+    home x (Copied r k) there (inr p) = absurd (no_register k p.r p.is)
 
 -- a function with calls has no copies
 pub are_alone : (h : Homed) → ArePlaced h → (g : ℕ) (func : RFunc) (f : Frame) → slice_get (h.rtl.now).functions g ≡ Some func
-    → slice_get h.frames.items g ≡ Some f → is_leaf func.blocks.items ≡ false → f.copies.items ≡ []
+    → slice_get h.frames.items g ≡ Some f → is_leaf func.blocks.items ≡ false → HaveNoCopies f.homes.items
 are_alone h ok g func f there at calls =
-    ((ok.by g func f there at).placed).copies
-    ∙ ap (λ b. if b then copies_onto (unused f.homes.items temporaries) [] f.homes.items else []) calls
+    let q = ok.by g func f there at in
+    let before = uncopied func q.choice f q.is q.placed in
+    let same : f.homes.items ≡ before = (q.placed).homes ∙ ap (λ b. if b then copied_onto (unused before temporaries) before else before) calls in
+    subst HaveNoCopies (sym same) (no_copies before (is_plain func q.choice f q.is q.placed))
 
 -- ---- the largest one
 

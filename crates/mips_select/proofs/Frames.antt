@@ -12,12 +12,10 @@ use Rattle.mips_isa.specs.Starting.{stack_base, stack_end, is_mapped}
 use Rattle.rtl.specs.declared.block.RGlobal.{RGlobal}
 use Rattle.mips_homes.specs.HomedRun.{cells, Run, Failed, read_home, read_homes, write_homes, is_in}
 use Rattle.mips_homes.specs.declared.homed.Home.{Home}
-use Rattle.mips_homes.specs.declared.homed.SlotCopy.{SlotCopy}
-use Rattle.mips_emit.specs.declared.location.Location.TheVariants.{Held, InSlot, Copied}
+use Rattle.mips_homes.specs.declared.homed.Home.TheVariants.{Reg, Slot, Copied}
 use Rattle.mips_emit.specs.declared.location.Source.TheVariants.{Zero, Word}
 use Rattle.mips_emit.specs.Frames.{AreFrameHomes}
-use Rattle.mips_emit.specs.declared.location.Location.{Location}
-use Rattle.mips_emit.specs.Locations.{locations_of, location_at, deferred_none, Facts, known_in, known_source, deferred_at, deferred_source, source, operand}
+use Rattle.mips_emit.specs.Locations.{deferred_none, Facts, known_in, known_source, deferred_at, deferred_source, source, operand}
 use Rattle.mips_emit.specs.Code.{store_word_at, carry, arguments_code}
 use Rattle.mips_emit.proofs.Runs.{RunsTo, runs_none, runs_then}
 use Rattle.mips_emit.proofs.View.{shown_at, word_at, set, set_word, shown_other, word_here, set_words, set_at_words, word_below, put_here, put_other}
@@ -170,7 +168,7 @@ restores_run total p n at (r ∷ rs) s kept a4 le h =
 
 module _ (most total : ℕ) (gs : List RGlobal) (starts : ℕ → ℕ) where
   -- where no word is to come, all registers are shown
-  pub all_shown : (l : Option Location) (registers : Places) (g : Arrays) (fs : List Stored) (s : State)
+  pub all_shown : (l : Option Home) (registers : Places) (g : Arrays) (fs : List Stored) (s : State)
       → Stands most total gs starts (hide (deferred_none l (λ q. None)) registers) g fs s → Stands most total gs starts registers g fs s
   all_shown l registers g fs s h = fewer_stand most total gs starts (hide (deferred_none l (λ q. None)) registers) registers g fs s (λ q v is. by l q v is) h
     where
@@ -178,102 +176,102 @@ module _ (most total : ℕ) (gs : List RGlobal) (starts : ℕ → ℕ) where
       held true q v is = is
       held false q v is = is
 
-      by : (l : Option Location) (q v : ℕ) → registers q ≡ Some v → hide (deferred_none l (λ q. None)) registers q ≡ Some v
+      by : (l : Option Home) (q v : ℕ) → registers q ≡ Some v → hide (deferred_none l (λ q. None)) registers q ≡ Some v
       by None q v is = is
-      by (Some (InSlot k)) q v is = is
+      by (Some (Slot k)) q v is = is
       by (Some (Copied r k)) q v is = is
-      by (Some (Held r)) q v is = held (nat_eq q r) q v is
+      by (Some (Reg r)) q v is = held (nat_eq q r) q v is
 
-  pub record Arguments (registers : Places) (g : Arrays) (fs : List Stored) (s : State) (copies : List SlotCopy) (hs : List Home) (facts : Facts) (t : ℕ) (xs vs : List ℕ) : Type 0 where
+  pub record Arguments (registers : Places) (g : Arrays) (fs : List Stored) (s : State) (hs : List Home) (facts : Facts) (t : ℕ) (xs vs : List ℕ) : Type 0 where
     pub regs : ℕ → ℕ
-    pub runs : RunsTo (arguments_code (locations_of copies hs) facts t xs) s (record s { regs = regs })
+    pub runs : RunsTo (arguments_code (slice_get hs) facts t xs) s (record s { regs = regs })
     pub here : (j v : ℕ) → slice_get vs j ≡ Some v → regs (t + j) ≡ v
     pub others : (r : ℕ) → r < t → regs r ≡ s.regs r
     pub stands : Stands most total gs starts registers g fs (record s { regs = regs })
 
   -- arguments as operands, before the first is moved
-  abbrev pub AllDenote : ℕ → State → List SlotCopy → List Home → Facts → (xs vs : List ℕ) → Type 0
-  AllDenote count s copies hs facts [] [] = Unit {0}
-  AllDenote count s copies hs facts [] (v ∷ vs) = ⊥
-  AllDenote count s copies hs facts (x ∷ xs) [] = ⊥
-  AllDenote count s copies hs facts (x ∷ xs) (v ∷ vs) = Denotes count s (operand (locations_of copies hs) facts x) v × AllDenote count s copies hs facts xs vs
+  abbrev pub AllDenote : ℕ → State → List Home → Facts → (xs vs : List ℕ) → Type 0
+  AllDenote count s hs facts [] [] = Unit {0}
+  AllDenote count s hs facts [] (v ∷ vs) = ⊥
+  AllDenote count s hs facts (x ∷ xs) [] = ⊥
+  AllDenote count s hs facts (x ∷ xs) (v ∷ vs) = Denotes count s (operand (slice_get hs) facts x) v × AllDenote count s hs facts xs vs
 
-  pub all_denote : (registers : Places) (g : Arrays) (top : Stored) (fs : List Stored) (s : State) (hs : List Home) (facts : Facts) (xs vs : List ℕ)
-      → AreFrameHomes hs top.copies top.count → IsKnown (known_in facts) hs registers top.slots → AreDeferred facts.deferred registers
-      → Stands most total gs starts (hide facts.deferred registers) g (top ∷ fs) s → read_homes hs registers top.slots xs ≡ Some vs
-      → AllDenote top.count s top.copies hs facts xs vs
-  all_denote registers g top fs s hs facts [] [] ok k lz h e = tt
-  all_denote registers g top fs s hs facts [] (v ∷ vs) ok k lz h e = (let none : [] ≡ v ∷ vs = same_Some [] (v ∷ vs) e in let no = ap length none in absurd (omega (arith, no)))
-  all_denote registers g top fs s hs facts (x ∷ xs) vs ok k lz h e =
-      first (λ ws rest. all_denote registers g top fs s hs facts xs ws ok k lz h rest) (read_home hs registers top.slots x) refl e
+  pub all_denote : (registers : Places) (g : Arrays) (top : Stored) (fs : List Stored) (s : State) (facts : Facts) (xs vs : List ℕ)
+      → AreFrameHomes top.homes top.count → IsKnown (known_in facts) top.homes registers top.slots → AreDeferred facts.deferred registers
+      → Stands most total gs starts (hide facts.deferred registers) g (top ∷ fs) s → read_homes top.homes registers top.slots xs ≡ Some vs
+      → AllDenote top.count s top.homes facts xs vs
+  all_denote registers g top fs s facts [] [] ok k lz h e = tt
+  all_denote registers g top fs s facts [] (v ∷ vs) ok k lz h e = (let none : [] ≡ v ∷ vs = same_Some [] (v ∷ vs) e in let no = ap length none in absurd (omega (arith, no)))
+  all_denote registers g top fs s facts (x ∷ xs) vs ok k lz h e =
+      first (λ ws rest. all_denote registers g top fs s facts xs ws ok k lz h rest) (read_home top.homes registers top.slots x) refl e
     where
       Again : Type 0
-      Again = (ws : List ℕ) → read_homes hs registers top.slots xs ≡ Some ws → AllDenote top.count s top.copies hs facts xs ws
+      Again = (ws : List ℕ) → read_homes top.homes registers top.slots xs ≡ Some ws → AllDenote top.count s top.homes facts xs ws
 
-      first : Again → (o : Option ℕ) → read_home hs registers top.slots x ≡ o → chain o
-          (λ v. chain (read_homes hs registers top.slots xs) (λ vs. Some (v ∷ vs))) ≡ Some vs → AllDenote top.count s top.copies hs facts (x ∷ xs) vs
+      first : Again → (o : Option ℕ) → read_home top.homes registers top.slots x ≡ o → chain o
+          (λ v. chain (read_homes top.homes registers top.slots xs) (λ vs. Some (v ∷ vs))) ≡ Some vs → AllDenote top.count s top.homes facts (x ∷ xs) vs
       first again None there e = absurd (none-some vs e)
-      first again (Some v) there e = second (read_homes hs registers top.slots xs) refl e
+      first again (Some v) there e = second (read_homes top.homes registers top.slots xs) refl e
         where
-          second : (o : Option (List ℕ)) → read_homes hs registers top.slots xs ≡ o → chain o (λ vs. Some (v ∷ vs)) ≡ Some vs
-              → AllDenote top.count s top.copies hs facts (x ∷ xs) vs
+          second : (o : Option (List ℕ)) → read_homes top.homes registers top.slots xs ≡ o → chain o (λ vs. Some (v ∷ vs)) ≡ Some vs
+              → AllDenote top.count s top.homes facts (x ∷ xs) vs
           second None rest e = absurd (none-some vs e)
-          second (Some ws) rest e = subst (AllDenote top.count s top.copies hs facts (x ∷ xs)) (same_Some (v ∷ ws) vs e) (
-            (operand_means most total gs starts facts.deferred registers g top fs s h lz (known_in facts) hs x v ok k there).0,
+          second (Some ws) rest e = subst (AllDenote top.count s top.homes facts (x ∷ xs)) (same_Some (v ∷ ws) vs e) (
+            (operand_means most total gs starts facts.deferred registers g top fs s h lz (known_in facts) x v ok k there).0,
             again ws rest,
           )
 
   -- an operand isn't in a register below its own
-  operand_apart : (l : Option Location) (z k : Option ℕ) (t t' : ℕ) → t < t' → t < 8 → IsBehind l t' → IsApart t (deferred_source z (source k l))
+  operand_apart : (l : Option Home) (z k : Option ℕ) (t t' : ℕ) → t < t' → t < 8 → IsBehind l t' → IsApart t (deferred_source z (source k l))
   operand_apart l (Some w) k t t' lt few behind = by (nat_eq w 0)
     where
       by : (b : Bool) → IsApart t (if b then Zero else Word w)
       by true = tt
       by false = tt
   operand_apart None None None t t' lt few behind = tt
-  operand_apart (Some (Held r)) None None t t' lt few behind = λ e. absurd (omega (arith, lt, behind, e))
-  operand_apart (Some (InSlot j)) None None t t' lt few behind = tt
+  operand_apart (Some (Reg r)) None None t t' lt few behind = λ e. absurd (omega (arith, lt, behind, e))
+  operand_apart (Some (Slot j)) None None t t' lt few behind = tt
   operand_apart (Some (Copied r j)) None None t t' lt few behind = λ e. absurd (omega (arith, few, behind, e))
   operand_apart l None (Some w) t t' lt few behind = by l behind (nat_eq w 0)
     where
-      by : (l : Option Location) → IsBehind l t' → (b : Bool) → IsApart t (if b then Zero else known_source w l)
+      by : (l : Option Home) → IsBehind l t' → (b : Bool) → IsApart t (if b then Zero else known_source w l)
       by l behind true = tt
       by None behind false = tt
-      by (Some (Held r)) behind false = λ e. absurd (omega (arith, lt, behind, e))
-      by (Some (InSlot j)) behind false = tt
+      by (Some (Reg r)) behind false = λ e. absurd (omega (arith, lt, behind, e))
+      by (Some (Slot j)) behind false = tt
       by (Some (Copied r j)) behind false = λ e. absurd (omega (arith, few, behind, e))
 
   -- the arguments that are left, after a register below theirs was written
-  still_denote : (count t v : ℕ) (s : State) (f : ℕ → ℕ) (copies : List SlotCopy) (hs : List Home) (facts : Facts) (t' : ℕ) (xs vs : List ℕ) → t < t' → t < 8
-      → AreInOrder (locations_of copies hs) t' xs → ((q : ℕ) → q ≢ t → f q ≡ s.regs q) → AllDenote count s copies hs facts xs vs
-      → AllDenote count (record s { regs = f }) copies hs facts xs vs
-  still_denote count t v s f copies hs facts t' [] [] lt few order same d = tt
-  still_denote count t v s f copies hs facts t' [] (w ∷ ws) lt few order same d = absurd d
-  still_denote count t v s f copies hs facts t' (x ∷ xs) [] lt few order same d = absurd d
-  still_denote count t v s f copies hs facts t' (x ∷ xs) (w ∷ ws) lt few order same d = (
-    denotes_kept count t w (operand (locations_of copies hs) facts x) s f (λ e. absurd (omega (arith, few, e)))
-        (operand_apart (locations_of copies hs x) (deferred_at facts.deferred (locations_of copies hs x)) (known_in facts x) t t' lt few order.0) same d.0,
-    still_denote count t v s f copies hs facts (suc t') xs ws (omega (arith, lt)) few order.1 same d.1,
+  still_denote : (count t v : ℕ) (s : State) (f : ℕ → ℕ) (hs : List Home) (facts : Facts) (t' : ℕ) (xs vs : List ℕ) → t < t' → t < 8
+      → AreInOrder (slice_get hs) t' xs → ((q : ℕ) → q ≢ t → f q ≡ s.regs q) → AllDenote count s hs facts xs vs
+      → AllDenote count (record s { regs = f }) hs facts xs vs
+  still_denote count t v s f hs facts t' [] [] lt few order same d = tt
+  still_denote count t v s f hs facts t' [] (w ∷ ws) lt few order same d = absurd d
+  still_denote count t v s f hs facts t' (x ∷ xs) [] lt few order same d = absurd d
+  still_denote count t v s f hs facts t' (x ∷ xs) (w ∷ ws) lt few order same d = (
+    denotes_kept count t w (operand (slice_get hs) facts x) s f (λ e. absurd (omega (arith, few, e)))
+        (operand_apart (slice_get hs x) (deferred_at facts.deferred (slice_get hs x)) (known_in facts x) t t' lt few order.0) same d.0,
+    still_denote count t v s f hs facts (suc t') xs ws (omega (arith, lt)) few order.1 same d.1,
   )
 
-  pub arguments : (registers : Places) (g : Arrays) (top : Stored) (fs : List Stored) (s : State) (hs : List Home) (facts : Facts) (t : ℕ) (xs vs : List ℕ)
-      → ((q w : ℕ) → registers q ≡ Some w → 8 ≤ q) → 0 < t → t + length xs ≤ 8 → AreInOrder (locations_of top.copies hs) t xs
-      → AllDenote top.count s top.copies hs facts xs vs → Stands most total gs starts registers g (top ∷ fs) s → Arguments registers g (top ∷ fs) s top.copies hs facts t xs vs
-  arguments registers g top fs s hs facts t [] [] above low high order d h = record {
+  pub arguments : (registers : Places) (g : Arrays) (top : Stored) (fs : List Stored) (s : State) (facts : Facts) (t : ℕ) (xs vs : List ℕ)
+      → ((q w : ℕ) → registers q ≡ Some w → 8 ≤ q) → 0 < t → t + length xs ≤ 8 → AreInOrder (slice_get top.homes) t xs
+      → AllDenote top.count s top.homes facts xs vs → Stands most total gs starts registers g (top ∷ fs) s → Arguments registers g (top ∷ fs) s top.homes facts t xs vs
+  arguments registers g top fs s facts t [] [] above low high order d h = record {
     regs = s.regs;
     runs = runs_none s;
     here = λ j v there. absurd (none-some v there);
     others = λ r lt. refl;
     stands = h;
   }
-  arguments registers g top fs s hs facts t [] (v ∷ vs) above low high order d h = absurd d
-  arguments registers g top fs s hs facts t (x ∷ xs) [] above low high order d h = absurd d
-  arguments registers g top fs s hs facts t (x ∷ xs) (v ∷ vs) above low high order d h =
-      let one = carries most total gs starts registers g top fs s h t v (operand (locations_of top.copies hs) facts x)
+  arguments registers g top fs s facts t [] (v ∷ vs) above low high order d h = absurd d
+  arguments registers g top fs s facts t (x ∷ xs) [] above low high order d h = absurd d
+  arguments registers g top fs s facts t (x ∷ xs) (v ∷ vs) above low high order d h =
+      let one = carries most total gs starts registers g top fs s h t v (operand (slice_get top.homes) facts x)
       (record { low = low; high = omega (arith, high) }) d.0 in
-      let st = caller_saved_kept most total gs starts registers g (top ∷ fs) (carry t (operand (locations_of top.copies hs) facts x)) s t v above (omega (arith, high)) one h in
-      let left = still_denote top.count t v s one.regs top.copies hs facts (suc t) xs vs (omega arith) (omega (arith, high)) order.1 one.others d.1 in
-      let more = arguments registers g top fs (record s { regs = one.regs }) hs facts (suc t) xs vs above (omega arith) (omega (arith, high)) order.1 left st in
+      let st = caller_saved_kept most total gs starts registers g (top ∷ fs) (carry t (operand (slice_get top.homes) facts x)) s t v above (omega (arith, high)) one h in
+      let left = still_denote top.count t v s one.regs top.homes facts (suc t) xs vs (omega arith) (omega (arith, high)) order.1 one.others d.1 in
+      let more = arguments registers g top fs (record s { regs = one.regs }) facts (suc t) xs vs above (omega arith) (omega (arith, high)) order.1 left st in
       record {
         regs = more.regs;
         runs = runs_then one.runs more.runs;
@@ -282,7 +280,7 @@ module _ (most total : ℕ) (gs : List RGlobal) (starts : ℕ → ℕ) where
         stands = more.stands;
       }
     where
-      by : (f : ℕ → ℕ) → f t ≡ v → (more : Arguments registers g (top ∷ fs) (record s { regs = f }) top.copies hs facts (suc t) xs vs) → (j w : ℕ)
+      by : (f : ℕ → ℕ) → f t ≡ v → (more : Arguments registers g (top ∷ fs) (record s { regs = f }) top.homes facts (suc t) xs vs) → (j w : ℕ)
           → slice_get (v ∷ vs) j ≡ Some w → more.regs (t + j) ≡ w
       by f here more zero w at =
           let place : t + 0 ≡ t = omega arith in
@@ -292,30 +290,30 @@ module _ (most total : ℕ) (gs : List RGlobal) (starts : ℕ → ℕ) where
           ap more.regs place ∙ more.here j w at
 
   -- a parameter's location isn't the register of a later one
-  elsewhere : (l : Option Location) (t q : ℕ) → t < q → q < 8 → IsClear l t → IsElsewhere l q
+  elsewhere : (l : Option Home) (t q : ℕ) → t < q → q < 8 → IsClear l t → IsElsewhere l q
   elsewhere None t q lt few clear = tt
-  elsewhere (Some (Held r)) t q lt few (inl le) = λ e. absurd (omega (arith, lt, le, e))
-  elsewhere (Some (Held r)) t q lt few (inr le) = λ e. absurd (omega (arith, few, le, e))
-  elsewhere (Some (InSlot k)) t q lt few clear = tt
+  elsewhere (Some (Reg r)) t q lt few (inl le) = λ e. absurd (omega (arith, lt, le, e))
+  elsewhere (Some (Reg r)) t q lt few (inr le) = λ e. absurd (omega (arith, few, le, e))
+  elsewhere (Some (Slot k)) t q lt few clear = tt
   elsewhere (Some (Copied r k)) t q lt few le = λ e. absurd (omega (arith, few, le, e))
 
-  module _ (g : Arrays) (fs : List Stored) (hs : List Home) (P : Run → Type 0) (out : List ℕ) (failed : P (Failed out)) where
-    pub parameters : (vs : List ℕ) (t x : ℕ) (registers : Places) (top : Stored) (s : State) (go : Places → Places → Run) → AreFrameHomes hs top.copies top.count
-        → 1 < t → t + length vs ≤ 8 → AreClear (locations_of top.copies hs) t x (length vs) → ((j v : ℕ) → slice_get vs j ≡ Some v → s.regs (t + j) ≡ v)
+  module _ (g : Arrays) (fs : List Stored) (P : Run → Type 0) (out : List ℕ) (failed : P (Failed out)) where
+    pub parameters : (vs : List ℕ) (t x : ℕ) (registers : Places) (top : Stored) (s : State) (go : Places → Places → Run) → AreFrameHomes top.homes top.count
+        → 1 < t → t + length vs ≤ 8 → AreClear (slice_get top.homes) t x (length vs) → ((j v : ℕ) → slice_get vs j ≡ Some v → s.regs (t + j) ≡ v)
         → Stands most total gs starts registers g (top ∷ fs) s
-        → ((registers' slots' : Places) (s' : State) → RunsTo (parameters_code (locations_of top.copies hs) t x (length vs)) s s'
+        → ((registers' slots' : Places) (s' : State) → RunsTo (parameters_code (slice_get top.homes) t x (length vs)) s s'
         → Stands most total gs starts registers' g (with_slots top slots' ∷ fs) s' → P (go registers' slots'))
-        → P (write_homes (cells hs registers top.slots) x vs out go)
+        → P (write_homes (cells top.homes registers top.slots) x vs out go)
     parameters [] t x registers top s go ok low high clear here h f = f registers top.slots s (runs_none s) h
     parameters (v ∷ vs) t x registers top s go ok low high clear here h f =
         let place : t + 0 ≡ t = omega arith in
         let is : s.regs t ≡ v = ap s.regs (sym place) ∙ here 0 v refl in
-        arrives most total gs starts (λ q. None) registers g top fs s h (none_deferred registers) P (λ r s. write_homes (cells hs r s) (suc x) vs out go) hs x v t out
+        arrives most total gs starts (λ q. None) registers g top fs s h (none_deferred registers) P (λ r s. write_homes (cells top.homes r s) (suc x) vs out go) x v t out
         low is (subst (λ v. v < 2 ^ 32) is ((h.words).regs t)) ok failed
         (λ r1 slots1 s1 e1 h1 same.
         parameters vs (suc t) (suc x) r1 (with_slots top slots1) s1 go ok (omega (arith, low)) (omega (arith, high)) clear.1
         (λ j w there. (let next : suc t + j ≡ t + suc j = omega arith in let within = slice_get_within vs j w there in
-        same (suc t + j) (omega (arith, high, within)) (elsewhere (locations_of top.copies hs x) t (suc t + j) (omega arith) (omega (arith, high, within)) clear.0)
+        same (suc t + j) (omega (arith, high, within)) (elsewhere (slice_get top.homes x) t (suc t + j) (omega arith) (omega (arith, high, within)) clear.0)
         ∙ ap s.regs next) ∙ here (suc j) w there)
-        (all_shown (location_at top.copies (slice_get hs x)) r1 g (with_slots top slots1 ∷ fs) s1 h1)
+        (all_shown (slice_get top.homes x) r1 g (with_slots top slots1 ∷ fs) s1 h1)
         (λ r2 slots2 s2 e2 h2. f r2 slots2 s2 (runs_then e1 e2) h2))

@@ -14,13 +14,12 @@ use Rattle.rtl.specs.Programs.{IsProgram}
 use Rattle.mips_homes.specs.Preferences.{reach_from, exit_reach, blocks_reach}
 use Rattle.mips_homes.proofs.Located.{reach_covers, blocks_cover}
 use Rattle.mips_homes.specs.declared.homed.Home.{Home}
-use Rattle.mips_homes.specs.declared.homed.Home.TheVariants.{Reg, Slot}
+use Rattle.mips_homes.specs.declared.homed.Home.TheVariants.{Reg, Slot, Copied}
 use Rattle.mips_homes.specs.declared.homed.Frame.{Frame}
 use Rattle.mips_homes.specs.declared.homed.Homed.{Homed}
 use Rattle.mips_emit.specs.declared.limits.TheConstants.{FRAME_BYTES}
-use Rattle.mips_emit.specs.Frames.{IsFrame}
-use Rattle.mips_homes.specs.Copies.{copy_of}
-use Rattle.mips_emit.specs.Locations.{in_frame, location_at, locations}
+use Rattle.mips_emit.specs.Frames.{HaveNoCopies, IsFrame}
+use Rattle.mips_emit.specs.Locations.{locations}
 use Rattle.mips_select.proofs.Places.{HasAt, has_head, has_tail, has_front, has_back}
 use Rattle.mips_select.specs.declared.heads.Naming.{Naming}
 use Rattle.mips_select.specs.declared.heads.Naming.TheVariants.{Unnamed, Called, Jumped}
@@ -48,22 +47,19 @@ AreSeated func f = (x r : ℕ) → slice_get f.homes.items x ≡ Some (Reg r)
     → (8 ≤ r) ⊎ ((blocks_reach func.blocks.items x + 3 ≤ r) × (x < func.parameters → r ≡ 4 + x))
 
 -- so no argument and no parameter is lost
-in_order : (f : Frame) (t : ℕ) (xs : List ℕ) → ((k r : ℕ) → copy_of f.copies.items k ≡ Some r → (8 ≤ r) × (r < 28)) → ((j x r : ℕ) → slice_get xs j ≡ Some x → slice_get f.homes.items x ≡ Some (Reg r) → t + j ≤ r)
+in_order : (f : Frame) (t : ℕ) (xs : List ℕ) → ((x r k : ℕ) → slice_get f.homes.items x ≡ Some (Copied r k) → (8 ≤ r) × (r < 28)) → ((j x r : ℕ) → slice_get xs j ≡ Some x → slice_get f.homes.items x ≡ Some (Reg r) → t + j ≤ r)
     → AreInOrder (locations f) t xs
 in_order f t [] range behind = tt
 in_order f t (x ∷ xs) range behind =
     (here (slice_get f.homes.items x) refl, in_order f (suc t) xs range (λ j y r e there. (let le = behind (suc j) y r e there in omega (arith, le))))
   where
-    slot : (k : ℕ) (c : Option ℕ) → copy_of f.copies.items k ≡ c → IsBehind (Some (in_frame k c)) t
-    slot k None e = tt
-    slot k (Some r) e = (range k r e).0
-
-    here : (o : Option Home) → slice_get f.homes.items x ≡ o → IsBehind (location_at f.copies.items o) t
+    here : (o : Option Home) → slice_get f.homes.items x ≡ o → IsBehind o t
     here None e = tt
     here (Some (Reg r)) e = (let le = behind 0 x r refl e in omega (arith, le))
-    here (Some (Slot k)) e = slot k (copy_of f.copies.items k) refl
+    here (Some (Slot k)) e = tt
+    here (Some (Copied r k)) e = (range x r k e).0
 
-are_clear : (func : RFunc) (f : Frame) → ((k r : ℕ) → copy_of f.copies.items k ≡ Some r → (8 ≤ r) × (r < 28)) → AreSeated func f → (t x n : ℕ) → t ≡ 4 + x → x + n ≤ func.parameters → AreClear (locations f) t x n
+are_clear : (func : RFunc) (f : Frame) → ((x r k : ℕ) → slice_get f.homes.items x ≡ Some (Copied r k) → (8 ≤ r) × (r < 28)) → AreSeated func f → (t x n : ℕ) → t ≡ 4 + x → x + n ≤ func.parameters → AreClear (locations f) t x n
 are_clear func f range seated t x zero at few = tt
 are_clear func f range seated t x (suc n) at few =
     (here (slice_get f.homes.items x) refl, are_clear func f range seated (suc t) (suc x) n (omega (arith, at)) (omega (arith, few)))
@@ -72,14 +68,11 @@ are_clear func f range seated t x (suc n) at few =
     comes r (inl high) = inr high
     comes r (inr is) = (let same = is.1 (omega (arith, few)) in inl (omega (arith, same, at)))
 
-    slot : (k : ℕ) (c : Option ℕ) → copy_of f.copies.items k ≡ c → IsClear (Some (in_frame k c)) t
-    slot k None e = tt
-    slot k (Some r) e = (range k r e).0
-
-    here : (o : Option Home) → slice_get f.homes.items x ≡ o → IsClear (location_at f.copies.items o) t
+    here : (o : Option Home) → slice_get f.homes.items x ≡ o → IsClear o t
     here None e = tt
     here (Some (Reg r)) e = comes r (seated x r e)
-    here (Some (Slot k)) e = slot k (copy_of f.copies.items k) refl
+    here (Some (Slot k)) e = tt
+    here (Some (Copied r k)) e = (range x r k e).0
 
 abbrev IsOrdered : Frame → RExit → Type 0
 IsOrdered f (Call g xs d next) = AreInOrder (locations f) 4 xs.items
@@ -89,7 +82,7 @@ IsOrdered f (Return o) = Unit {0}
 IsOrdered f (Out x next) = Unit {0}
 
 ordered : (functions : List RFunc) (globals blocks : ℕ) (func : RFunc) (f : Frame) (x : RExit)
-    → ((k r : ℕ) → copy_of f.copies.items k ≡ Some r → (8 ≤ r) × (r < 28)) → AreSeated func f
+    → ((x r k : ℕ) → slice_get f.homes.items x ≡ Some (Copied r k) → (8 ≤ r) × (r < 28)) → AreSeated func f
     → ((y : ℕ) → exit_reach x y ≤ blocks_reach func.blocks.items y) → All (programs.IsFunction functions globals) functions
     → programs.IsExit functions blocks x → IsOrdered f x
 ordered functions globals blocks func f (Call g xs d next) range seated covers all ok =
@@ -248,7 +241,7 @@ no_take bs d e = go (slice_get (namings bs (unnamed bs)) 0) e
 pub program_selected : (h : Homed) (depth most : ℕ) → IsProgram h.rtl.now → ((g : ℕ) (f : Frame) → slice_get h.frames.items g ≡ Some f → IsFrame most f)
     → ((g : ℕ) (func : RFunc) (f : Frame) → slice_get (h.rtl.now).functions g ≡ Some func → slice_get h.frames.items g ≡ Some f → AreSeated func f)
     → ((g : ℕ) (func : RFunc) (f : Frame) → slice_get (h.rtl.now).functions g ≡ Some func → slice_get h.frames.items g ≡ Some f
-    → is_leaf func.blocks.items ≡ false → f.copies.items ≡ [])
+    → is_leaf func.blocks.items ≡ false → HaveNoCopies f.homes.items)
     → most ≤ FRAME_BYTES → depth * most ≤ STACK_BYTES → IsSelected h depth (program_blocks h)
 program_selected h depth most ok frames seated alone small room = record {
   entry = entry_of (h.rtl.now).functions;

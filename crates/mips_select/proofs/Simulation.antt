@@ -33,7 +33,7 @@ use Rattle.mips_emit.specs.declared.comparison.Asked.{Asked}
 use Rattle.mips_emit.specs.declared.comparison.Comparison.{Comparison}
 use Rattle.mips_emit.specs.declared.facts.Last.{Last}
 use Rattle.mips_emit.specs.declared.location.Source.{Source}
-use Rattle.mips_emit.specs.Locations.{Facts, no_facts, location_at, known_in, locations, learned, known_after, fresh_of, last_operand}
+use Rattle.mips_emit.specs.Locations.{Facts, no_facts, known_in, locations, learned, known_after, fresh_of, last_operand}
 use Rattle.mips_emit.specs.Code.{move_code, inst_code, fetch, operand_register, carry}
 use Rattle.mips_emit.specs.Comparisons.{comparison_code, exit_by_form, comparison_of, asked_last, next_code, last_with, no_last, last_after, insts_code}
 use Rattle.mips_emit.specs.Comparisons.{tested, branch_code, branch_exit, is_result, returned, return_code}
@@ -150,7 +150,7 @@ module _ (h : Homed) (depth : ℕ) (blocks : List BlockParts) (ok : IsSelected h
     pub is_known : IsKnown (known_in facts) a.frame.homes.items r a.slots
     pub are_deferred : AreDeferred facts.deferred r
     pub are_bases : AreBases gs starts facts state.regs
-    pub is_last : IsLast last a.frame.copies.items a.frame.homes.items r a.slots state
+    pub is_last : IsLast last a.frame.homes.items r a.slots state
     pub placed : Placed leaf a.frame place head a.blocks
     pub frame : IsFrame ok.most a.frame
     pub stands : Stand (hide facts.deferred r) g (stored_frame leaf a.frame a.slots a.aside link ∷ frames_of ws below) state
@@ -237,7 +237,7 @@ module _ (h : Homed) (depth : ℕ) (blocks : List BlockParts) (ok : IsSelected h
           are_deferred = none_deferred r;
           are_bases = no_bases gs starts s.regs;
           is_last =
-              none_last a.frame.copies.items a.frame.homes.items r slots s;
+              none_last a.frame.homes.items r slots s;
           placed = placed;
           frame = frame;
           stands = st;
@@ -261,7 +261,7 @@ module _ (h : Homed) (depth : ℕ) (blocks : List BlockParts) (ok : IsSelected h
       let room : stack_base + ok.most ≤ s.regs 29 = enough_room (s.regs 29) (length ws)
       (stack_room ok.most (word_at s) (s.regs 29) (frames_of ws below) st.stack) (as_deep link result_to ws below waits) in
       let e = enters ok.most total gs starts ok.small r arrays (frames_of ws below) s is.leaf frame link is.frame is_link is.alone passing room st in
-      parameters ok.most total gs starts arrays (frames_of ws below) frame.homes.items (λ run. Reach 1 p run) out tt vs 4 0
+      parameters ok.most total gs starts arrays (frames_of ws below) (λ run. Reach 1 p run) out tt vs 4 0
       (registers_at_entry frame.saved.items r) (stored_frame is.leaf frame unset_places r link) e.to
       (λ r' s'. state_at_block 0 (new_activation func.blocks.items frame s' r result_to) s' (around r' ws arrays out))
       (frame_homes ok.most frame is.frame) (omega arith) (omega (arith, count, few))
@@ -376,7 +376,7 @@ module _ (h : Homed) (depth : ℕ) (blocks : List BlockParts) (ok : IsSelected h
           is_known = nothing_known w.frame.homes.items r' slots';
           are_deferred = none_deferred r';
           are_bases = no_bases gs starts s'.regs;
-          is_last = none_last w.frame.copies.items w.frame.homes.items r' slots' s';
+          is_last = none_last w.frame.homes.items r' slots' s';
           placed = m.placed;
           frame = m.frame;
           stands = st';
@@ -428,10 +428,10 @@ module _ (h : Homed) (depth : ℕ) (blocks : List BlockParts) (ok : IsSelected h
           value_or_failed (λ run. Reach 1 p run) o out (λ v. write_home (cells w.frame.homes.items (registers_at_return a.frame.saved.items a.aside r) w.slots) x v out again) tt (λ v o_v.
           let two = result v o_v in
           arrives ok.most total gs starts (λ q. None) (registers_at_return a.frame.saved.items a.aside r) g (stored_frame false w.frame w.slots w.aside l)
-          (frames_of ws ls) s st (none_deferred (registers_at_return a.frame.saved.items a.aside r)) (λ run. Reach 1 p run) again w.frame.homes.items x v 2 out
+          (frames_of ws ls) s st (none_deferred (registers_at_return a.frame.saved.items a.aside r)) (λ run. Reach 1 p run) again x v 2 out
           (omega arith) two (subst (λ v. v < 2 ^ 32) two ((st.words).regs 2)) (frame_homes ok.most w.frame m.frame) tt
           (λ r' slots' s' e st' same. f r' slots' s' e
-          (all_shown ok.most total gs starts (location_at w.frame.copies.items (slice_get w.frame.homes.items x)) r' g (stored_frame false w.frame slots' w.aside l ∷ frames_of ws ls) s' st')))
+          (all_shown ok.most total gs starts (slice_get w.frame.homes.items x) r' g (stored_frame false w.frame slots' w.aside l ∷ frames_of ws ls) s' st')))
 
   -- behind a block only callee-saved registers are known, and none of them has a word to come
   settled : (deferred r : Places) (g : Arrays) (fs : List Stored) (s : State) → AreDeferred deferred r → Stand (hide deferred r) g fs s → Stand (callee_saved r) g fs s
@@ -446,7 +446,7 @@ module _ (h : Homed) (depth : ℕ) (blocks : List BlockParts) (ok : IsSelected h
   exits : (leaf : Bool) (x : RExit) (facts : Facts) (last : Last) (a : Activation) (k : ℕ) (link : ℕ) (below : List ℕ) (place : ℕ → ℕ) (head : ℕ
       → List Plain) (ws : List Activation) (r : Places) (g : Arrays) (out : List ℕ) (s : State)
       → CodeAt leaf a.frame place head facts last k x → IsKnown (known_in facts) a.frame.homes.items r a.slots → AreDeferred facts.deferred r
-      → IsLast last a.frame.copies.items a.frame.homes.items r a.slots s → Placed leaf a.frame place head a.blocks → IsFrame ok.most a.frame
+      → IsLast last a.frame.homes.items r a.slots s → Placed leaf a.frame place head a.blocks → IsFrame ok.most a.frame
       → Waits link a.result_to ws below → Stand (hide facts.deferred r) g (stored_frame leaf a.frame a.slots a.aside link ∷ frames_of ws below) s
       → Reach 1 (At k (exit_code leaf a.frame facts last x) s out) (state_after_exit h depth x a (around r ws g out))
   exits leaf (Goto b) facts last a k link below place head ws r g out s c kn lz new placed frame waits st =
@@ -490,7 +490,7 @@ module _ (h : Homed) (depth : ℕ) (blocks : List BlockParts) (ok : IsSelected h
       branch v e None is_test None is_known is_exit =
           let code = fetch 1 (last_operand (locations a.frame) facts last.fresh x) in
           let means = last_means ok.most total gs starts facts.deferred r g (stored_frame leaf a.frame a.slots a.aside link) (frames_of ws below) s st lz (known_in facts)
-          last.fresh a.frame.homes.items x v (frame_homes ok.most a.frame frame) kn new.fresh e in
+          last.fresh x v (frame_homes ok.most a.frame frame) kn new.fresh e in
           let one = fetches ok.most total gs starts (hide facts.deferred r) g (stored_frame leaf a.frame a.slots a.aside link) (frames_of ws below) s st 1 v
           (last_operand (locations a.frame) facts last.fresh x) (omega arith) (omega arith) means in
           let s1 : State = record s { regs = one.regs } in
@@ -529,7 +529,7 @@ module _ (h : Homed) (depth : ℕ) (blocks : List BlockParts) (ok : IsSelected h
       let o = last_operand (locations a.frame) facts last.fresh x in
       let code = carry 4 o in
       let means = last_means ok.most total gs starts facts.deferred r g (stored_frame leaf a.frame a.slots a.aside link) (frames_of ws below) s st lz (known_in facts)
-      last.fresh a.frame.homes.items x v (frame_homes ok.most a.frame frame) kn new.fresh e in
+      last.fresh x v (frame_homes ok.most a.frame frame) kn new.fresh e in
       let st0 = settled facts.deferred r g (stored_frame leaf a.frame a.slots a.aside link ∷ frames_of ws below) s lz st in
       let one = carries ok.most total gs starts (callee_saved r) g (stored_frame leaf a.frame a.slots a.aside link) (frames_of ws below) s st0 4 v o
       (record { low = omega arith; high = omega arith }) means in
@@ -578,7 +578,7 @@ module _ (h : Homed) (depth : ℕ) (blocks : List BlockParts) (ok : IsSelected h
       gives v read_v false is =
           let o = last_operand (locations a.frame) facts last.fresh x in
           let means = last_means ok.most total gs starts facts.deferred r g (stored_frame leaf a.frame a.slots a.aside link) (frames_of ws below) s st lz
-          (known_in facts) last.fresh a.frame.homes.items x v (frame_homes ok.most a.frame frame) kn new.fresh read_v in
+          (known_in facts) last.fresh x v (frame_homes ok.most a.frame frame) kn new.fresh read_v in
           let one = carries ok.most total gs starts (hide facts.deferred r) g (stored_frame leaf a.frame a.slots a.aside link) (frames_of ws below) s st 2 v o
           (record { low = omega arith; high = omega arith }) means in
           let st1 = sets_kept ok.most total gs starts (hide facts.deferred r) g (stored_frame leaf a.frame a.slots a.aside link) (frames_of ws below) s st (carry 2 o) 2 v
@@ -602,9 +602,9 @@ module _ (h : Homed) (depth : ℕ) (blocks : List BlockParts) (ok : IsSelected h
       let count : length vs ≡ func.parameters = eqb-true (length vs) func.parameters as_many in
       let stored = stored_frame false a.frame a.slots a.aside link in
       let st0 = settled facts.deferred r g (stored ∷ frames_of ws below) s lz st in
-      let denote = all_denote ok.most total gs starts r g stored (frames_of ws below) s a.frame.homes.items facts xs.items vs
+      let denote = all_denote ok.most total gs starts r g stored (frames_of ws below) s facts xs.items vs
       (frame_homes ok.most a.frame frame) kn lz st read_vs in
-      let args = arguments ok.most total gs starts (callee_saved r) g stored (frames_of ws below) s a.frame.homes.items facts 4 xs.items vs (above_arguments r)
+      let args = arguments ok.most total gs starts (callee_saved r) g stored (frames_of ws below) s facts 4 xs.items vs (above_arguments r)
       (omega arith) (omega (arith, asked, count, few)) ((c.leads_on).0).1 denote st0 in
       let s1 : State = record s { regs = args.regs } in
       let s2 = set s1 31 (links k) in
@@ -675,7 +675,7 @@ module _ (h : Homed) (depth : ℕ) (blocks : List BlockParts) (ok : IsSelected h
 
       -- the match where some instructions are left
       matched : (is : List RInst) (facts : Facts) (last : Last) (r' slots' : Places) (g' : Arrays) (s' : State) → Coded is facts last
-          → IsKnown (known_in facts) a.frame.homes.items r' slots' → AreDeferred facts.deferred r' → AreBases gs starts facts s'.regs → IsLast last a.frame.copies.items a.frame.homes.items r' slots' s'
+          → IsKnown (known_in facts) a.frame.homes.items r' slots' → AreDeferred facts.deferred r' → AreBases gs starts facts s'.regs → IsLast last a.frame.homes.items r' slots' s'
           → Stand (hide facts.deferred r') g' (stored_frame m.leaf a.frame slots' a.aside m.link ∷ frames_of ws m.below) s'
           → Match r' (at_code a slots' (record { insts = is; exit = a.code.exit })) ws g' out (at is facts last s')
       matched is facts last r' slots' g' s' code known deferred bases fresh stands = record {
@@ -704,7 +704,7 @@ module _ (h : Homed) (depth : ℕ) (blocks : List BlockParts) (ok : IsSelected h
           (last_after (locations a.frame) asked (learned (locations a.frame) i m.facts) is (last_with o (fresh_of (locations a.frame) i))) a.code.exit)) m.state out)
           (step_at h depth (i ∷ is) a.code.exit a (around r ws g out))
       next i is None e0 c =
-          performs ok.most total gs starts g (frames_of ws m.below) a.frame.homes.items
+          performs ok.most total gs starts g (frames_of ws m.below)
           (λ run. Reach 1 (At m.number (inst_code gs starts (locations a.frame) m.facts i
           ++ insts_code (context_in linking (placing_of m.leaf a.frame m.place)) asked (learned (locations a.frame) i m.facts) is
           (exit_code m.leaf a.frame (known_after (locations a.frame) is (learned (locations a.frame) i m.facts))
@@ -726,7 +726,7 @@ module _ (h : Homed) (depth : ℕ) (blocks : List BlockParts) (ok : IsSelected h
           })
       next i (j ∷ js) (Some n) is c = absurd (none_asked (locations a.frame) m.facts i n is)
       next i [] (Some n) is c =
-          compares ok.most total gs starts g (frames_of ws m.below) a.frame.homes.items
+          compares ok.most total gs starts g (frames_of ws m.below)
           (λ run. Reach 1 (At m.number (comparison_code n
           ++ exit_code m.leaf a.frame (learned (locations a.frame) i m.facts) (last_with (Some n) None) a.code.exit) m.state out) run) out tt i
           m.facts (asked_of a.code.exit) n r (stored_frame m.leaf a.frame a.slots a.aside m.link) m.state

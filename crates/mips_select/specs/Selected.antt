@@ -16,20 +16,20 @@ use Rattle.mips_homes.specs.declared.homed.Homed.{Homed}
 use Rattle.mips_homes.specs.declared.convention.TheConstants.{FIRST_ARGUMENT, FIRST_TEMPORARY}
 use Rattle.mips_homes.specs.HomedRun.{homed_run}
 use Rattle.mips_emit.specs.declared.limits.TheConstants.{FRAME_BYTES}
-use Rattle.mips_emit.specs.declared.location.Location.{Location}
-use Rattle.mips_emit.specs.declared.location.Location.TheVariants.{Held, InSlot, Copied}
+use Rattle.mips_homes.specs.declared.homed.Home.{Home}
+use Rattle.mips_homes.specs.declared.homed.Home.TheVariants.{Reg, Slot, Copied}
 use Rattle.mips_emit.specs.Locations.{Locations, locations}
-use Rattle.mips_emit.specs.Frames.{IsFrame}
+use Rattle.mips_emit.specs.Frames.{HaveNoCopies, IsFrame}
 use Rattle.mips_select.specs.declared.limits.TheConstants.{STACK_BYTES}
 use Rattle.mips_select.specs.Data.{padded_bytes, start_of}
 use Rattle.mips_select.specs.Plans.{Linking, Placing, placing_of}
 use Rattle.mips_select.specs.Code.{result_code, prologue, own_block, after_block, prologue_block, start_block, end_block}
 
 -- an argument that is moved into register t isn't in a register that an earlier one was moved into
-abbrev pub IsBehind : Option Location → ℕ → Type 0
+abbrev pub IsBehind : Option Home → ℕ → Type 0
 IsBehind None t = Unit {0}
-IsBehind (Some (Held r)) t = t ≤ r
-IsBehind (Some (InSlot k)) t = Unit {0}
+IsBehind (Some (Reg r)) t = t ≤ r
+IsBehind (Some (Slot k)) t = Unit {0}
 IsBehind (Some (Copied r k)) t = FIRST_TEMPORARY ≤ r
 
 abbrev pub AreInOrder : Locations → (t : ℕ) → List ℕ → Type 0
@@ -37,10 +37,10 @@ AreInOrder at t [] = Unit {0}
 AreInOrder at t (x ∷ xs) = IsBehind (at x) t × AreInOrder at (suc t) xs
 
 -- a parameter that comes in register t doesn't go to a register in which a later one comes
-abbrev pub IsClear : Option Location → ℕ → Type 0
+abbrev pub IsClear : Option Home → ℕ → Type 0
 IsClear None t = Unit {0}
-IsClear (Some (Held r)) t = (r ≤ t) ⊎ (FIRST_TEMPORARY ≤ r)
-IsClear (Some (InSlot k)) t = Unit {0}
+IsClear (Some (Reg r)) t = (r ≤ t) ⊎ (FIRST_TEMPORARY ≤ r)
+IsClear (Some (Slot k)) t = Unit {0}
 IsClear (Some (Copied r k)) t = FIRST_TEMPORARY ≤ r
 
 abbrev pub AreClear : Locations → (t x n : ℕ) → Type 0
@@ -85,7 +85,7 @@ module _ (blocks : List BlockParts) (l : Linking) where
     pub frame : IsFrame most f
     pub parameters : func.parameters ≤ MAX_PARAMETERS
     pub clear : AreClear (locations f) FIRST_ARGUMENT 0 func.parameters
-    pub alone : leaf ≡ false → f.copies.items ≡ []
+    pub alone : leaf ≡ false → HaveNoCopies f.homes.items
 
 pub record IsSelected (h : Homed) (depth : ℕ) (blocks : List BlockParts) : Type 0 where
   pub entry : ℕ → ℕ

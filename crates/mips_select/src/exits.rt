@@ -18,9 +18,9 @@ use crate::prologue::emit_epilogue;
 use mblock::{BlockNumber, Exit};
 use mips_emit::{
     Asked, Knowledge, Last, comparison_exit, emit_arguments, emit_departure, emit_fetch,
-    known_word, last_operand, operand_register, register, returned, tested,
+    known_word, last_operand, operand_register, returned, tested,
 };
-use mips_homes::{FIRST_ARGUMENT, Frame, RESULT, SCRATCH_1};
+use mips_homes::{FIRST_ARGUMENT, Frame, RESULT, SCRATCH_1, register};
 use mips_isa::{PairTest, Plain, Reg};
 use rtl::{RExit, Register};
 use std::alloc::AllocError;

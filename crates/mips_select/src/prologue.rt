@@ -11,8 +11,8 @@ ghost use Rattle.mips_emit.specs.Locations.{locations};
 ghost use Rattle.mips_select.specs.Code.{frame_word, frame_words, frame_bytes, frame_link, step_of, stack_step, parameters_code, prologue};
 ghost use Rattle.mips_select.specs.Code.{epilogue};
 
-use mips_emit::{emit_arrival, emit_load_word, emit_store_word, register};
-use mips_homes::{FIRST_ARGUMENT, Frame, LINK, STACK_POINTER};
+use mips_emit::{emit_arrival, emit_load_word, emit_store_word};
+use mips_homes::{FIRST_ARGUMENT, Frame, LINK, STACK_POINTER, register};
 use mips_isa::{ImmOp, NonzeroReg, Plain, Reg};
 use std::alloc::AllocError;
 
@@ -116,7 +116,7 @@ fn emit_link(
     emit_word(code, direction, register(LINK), place)
 }
 
-/// Emits parameters into their locations.
+/// Emits parameters into their homes.
 fn emit_parameters(code: &mut Vec<Plain>, frame: &Frame, n: u32) -> Result<(), AllocError>
     requires frame { IsReachable frame.now }
     requires few { n ≤ 4 }
@@ -128,7 +128,7 @@ fn emit_parameters(code: &mut Vec<Plain>, frame: &Frame, n: u32) -> Result<(), A
     Ok(())
 }
 
-/// Emits what a function begins with: its frame, what it saves, and its parameters in their locations.
+/// Emits what a function begins with: its frame, what it saves, and its parameters in their homes.
 pub(crate) fn emit_prologue(
     code: &mut Vec<Plain>,
     frame: &Frame,
