@@ -2,29 +2,28 @@
 
 use crate::names::Names;
 use block_text::Writer;
-use mips_homes::{Frame, Home, SlotCopy};
+use mips_homes::{Frame, Home};
 
 fn put_register(out: &mut Writer, number: u8) {
     out.text("$");
     out.put(&number);
 }
 
-/// Writes a slot, and the register that holds a copy of its word, if one does.
-fn put_slot(out: &mut Writer, slot: u32, copies: &[SlotCopy]) {
+fn put_slot(out: &mut Writer, slot: u32) {
     out.text("slot ");
     out.put(&slot);
-    for copy in copies {
-        if copy.slot == slot {
-            out.text(", copied in ");
-            put_register(out, copy.register);
-        }
-    }
 }
 
-fn put_home(out: &mut Writer, home: Home, copies: &[SlotCopy]) {
+/// Writes a home, and the register that holds a copy of a slot's word, if one does.
+fn put_home(out: &mut Writer, home: Home) {
     match home {
-        Home::Reg(number) => put_register(out, number),
-        Home::Slot(slot) => put_slot(out, slot, copies),
+        Home::Reg(r) => put_register(out, r.index()),
+        Home::Slot(slot) => put_slot(out, slot),
+        Home::Copied(r, slot) => {
+            put_slot(out, slot);
+            out.text(", copied in ");
+            put_register(out, r.index());
+        }
     }
 }
 
@@ -46,7 +45,7 @@ pub(crate) fn put_homes(out: &mut Writer, names: &Names<'_>, function: usize, fr
         out.text("  ");
         names.put_register(out, function, register);
         out.text(" in ");
-        put_home(out, *home, frame.copies.as_slice());
+        put_home(out, *home);
         out.text("\n");
         register = register.saturating_add(1);
     }

@@ -1,8 +1,8 @@
 //! The homes of pseudo-registers.
 
+use crate::homes::Want::{Reg, Slot};
 use crate::programs::Ends::{Branch, Call, Goto, Out, Return};
 use crate::programs::{Function, function, program};
-use mips_homes::Home::{Reg, Slot};
 use mips_homes::{
     Frame, Home, Homed, each_choice_never_forgets, each_homed_run_is_the_run, frame_of, homes,
     place,
@@ -23,8 +23,15 @@ const WRITES_A_SUM: Function<'static> = (
     ],
 );
 
+/// A home as it is wanted: a register by its number, or a slot without a copy.
+#[derive(Clone, Copy)]
+enum Want {
+    Reg(u8),
+    Slot(u32),
+}
+
 // A function, and the homes, the saved registers and the slots of its frame.
-type Row = (Function<'static>, &'static [Home], &'static [u8], u32);
+type Row = (Function<'static>, &'static [Want], &'static [u8], u32);
 
 // 0 is mentioned twice, 1 three times, 2 twice: more mentions come first, and then lower numbers.
 const SUM: Row = (WRITES_A_SUM, &[Reg(17), Reg(16), Reg(18)], &[16, 17, 18], 0);
@@ -39,8 +46,26 @@ const FRAMES: &[Row] = &[
     ((0, &[(&[], Call(0, &[3, 3], Some(2), 0))]), &[Reg(18), Reg(19), Reg(17), Reg(16)], &[16, 17, 18, 19], 0),
 ];
 
-fn is_frame(frame: &Frame, wants: &[Home], saved: &[u8], slots: u32) -> bool {
-    frame.homes.as_slice() == wants && frame.saved.as_slice() == saved && frame.slots == slots
+fn is_wanted(home: &Home, want: &Want) -> bool {
+    match (home, want) {
+        (Home::Reg(r), Reg(number)) => r.index() == *number,
+        (Home::Slot(slot), Slot(k)) => slot == k,
+        _ => false,
+    }
+}
+
+fn are_homes(homes: &[Home], wants: &[Want]) -> bool {
+    homes.len() == wants.len()
+        && homes
+            .iter()
+            .zip(wants)
+            .all(|(home, want)| is_wanted(home, want))
+}
+
+fn is_frame(frame: &Frame, wants: &[Want], saved: &[u8], slots: u32) -> bool {
+    are_homes(frame.homes.as_slice(), wants)
+        && frame.saved.as_slice() == saved
+        && frame.slots == slots
 }
 
 #[test]
