@@ -1,6 +1,6 @@
 //! The calling convention: what each register is for. Register 0 is always 0, and register 30 keeps bases of elements within a block.
 
-ghost use Rattle.std.specs.Prelude.{◌≡◌, ℕ, ◌<◌, Some};
+ghost use Rattle.std.specs.Prelude.{◌≡◌, ◌<◌};
 ghost use Rattle.mips_homes.specs.Convention.{is_callee_saved};
 
 use mips_isa::NonzeroReg;
@@ -47,17 +47,6 @@ pub fn register(number: u8) -> NonzeroReg
     match NonzeroReg::new(number) {
         Some(r) => r,
         None => unreachable!(),
-    }
-}
-
-/// Returns the register with a number, if there is one.
-pub(crate) fn register_at(number: Option<u8>) -> Option<NonzeroReg>
-    requires { (r : ℕ) → number ≡ Some r → (0 < r) × (r < 32) }
-    ensures { result ≡ number }
-{
-    match number {
-        Some(r) => Some(register(r)),
-        None => None,
     }
 }
 

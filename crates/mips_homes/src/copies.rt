@@ -4,7 +4,7 @@ ghost use Rattle.std.specs.Prelude.{◌≡◌, ℕ, ◌<◌, Some, slice_get, If
 ghost use Rattle.mips_homes.specs.Convention.{temporaries};
 ghost use Rattle.mips_homes.specs.Copies.{calls_none, is_leaf, is_slot, unused, with_copy, copied_onto, copied};
 
-use crate::convention::{TEMPORARIES, register_at};
+use crate::convention::{TEMPORARIES, register};
 use crate::homed::Home;
 use crate::places::{is_slot, lives_in};
 use mips_isa::NonzeroReg;
@@ -56,12 +56,13 @@ fn unused_temporaries(alloc: Global, homes: &[Home]) -> Result<Vec<u8>, AllocErr
     unused(alloc, homes, &TEMPORARIES)
 }
 
-/// Returns the number at a place of a list.
-fn number_at(numbers: &[u8], n: usize) -> Option<u8>
-    ensures { result ≡ slice_get numbers.now n }
+/// Returns a register of a list.
+fn register_at(registers: &[u8], n: usize) -> Option<NonzeroReg>
+    requires { (j r : ℕ) → slice_get registers.now j ≡ Some r → (0 < r) × (r < 32) }
+    ensures { result ≡ slice_get registers.now n }
 {
-    match numbers.get(n) {
-        Some(r) => Some(*r),
+    match registers.get(n) {
+        Some(r) => Some(register(*r)),
         None => None,
     }
 }
@@ -88,7 +89,7 @@ fn copied_onto(alloc: Global, homes: &[Home], free: &[u8]) -> Result<Vec<Home>, 
     let mut out = Vec::new(alloc);
     let mut used: usize = 0;
     for home in homes {
-        out.push(with_copy(*home, register_at(number_at(free, used))))?;
+        out.push(with_copy(*home, register_at(free, used)))?;
         if is_slot(*home) {
             used += 1;
         }

@@ -10,7 +10,7 @@ ghost use Rattle.mips_homes.specs.Places.{first_free, free_register, home_or, al
 ghost use Rattle.mips_homes.specs.Walks.{TellsLocals, TellsReaches};
 ghost use Rattle.mips_homes.specs.Places.{is_slot, some_slot, IsPlaced, IsPlacedFor, ArePlaced};
 
-use crate::convention::{TEMPORARIES, register_at};
+use crate::convention::{TEMPORARIES, register};
 use crate::copies::copied;
 use crate::frames::frame_of;
 use crate::homed::{Frame, Home, Homed};
@@ -53,7 +53,10 @@ fn free_register(taken: &[u8], preference: Option<NonzeroReg>) -> Option<Nonzero
             return Some(r);
         }
     }
-    register_at(first_free(taken, &TEMPORARIES))
+    match first_free(taken, &TEMPORARIES) {
+        Some(r) => Some(register(r)),
+        None => None,
+    }
 }
 
 /// Returns the register of a pseudo-register, if it gets one.

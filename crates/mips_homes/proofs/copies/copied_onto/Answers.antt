@@ -1,4 +1,5 @@
-use Rattle.std.proofs.Common.{ℕ, List, Option, sym, ap, ◌∙◌, ◌++◌, ◌∷◌, [], arith}
+use Rattle.std.proofs.Common.{◌≡◌, List, sym, ap, ◌∙◌, ◌++◌, ◌∷◌, [], arith}
+use Rattle.std.specs.Prelude.{slice_get}
 use Rattle.mips_homes.specs.declared.homed.Home.{Home}
 use Rattle.mips_homes.specs.Copies.{with_copy}
 use Rattle.mips_homes.proofs.Copying.{copied_step}
@@ -7,8 +8,9 @@ use Rattle.mips_homes.proofs.copies.copied_onto.Goals.{then-is_slot, else-is_slo
 
 pub loop-home-preserved : goal.loop-home-preserved
 loop-home-preserved c =
-    let copy = ap (with_copy c.home-item.result) (◌∙◌ {A = Option ℕ} c.register_at.ensures c.number_at.ensures) in
-    let more = ◌∙◌ {A = List Home} c.in_ok-push.ensures.items (ap (λ h. c.loop-home.out.items ++ h ∷ []) (c.with_copy.ensures ∙ copy)) in
+    let copy : c.with_copy.result ≡ with_copy c.home-item.result (slice_get c.args.free.now c.loop-home.used) =
+    c.with_copy.ensures ∙ ap (with_copy c.home-item.result) c.register_at.ensures in
+    let more = ◌∙◌ {A = List Home} c.in_ok-push.ensures.items (ap (λ h. c.loop-home.out.items ++ h ∷ []) copy) in
     let step = copied_step c.args.free.now c.args.homes.now c.loop-home.home-index c.loop-home.used in
     let few = c.loop-home.invariant.0 in
     elim c.if-is_slot.branch [
