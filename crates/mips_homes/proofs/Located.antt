@@ -19,7 +19,7 @@ use Rattle.mips_homes.proofs.Choosing.{at_index, drop_at}
 use Rattle.rtl.proofs.Names.{bound_least}
 use Rattle.mips_homes.proofs.Chosen.{home_callee_saved, home_at, named_below, plain}
 use Rattle.mips_homes.proofs.Copying.{copied_get, copied_long}
-use Rattle.mips_homes.proofs.Lockstep.{each_homed_run}
+use Rattle.mips_homes.proofs.Lockstep.{is_in_later, each_homed_run}
 use Rattle.mips_homes.specs.declared.homed.Home.{Home}
 use Rattle.mips_homes.specs.declared.homed.Home.TheVariants.{Reg}
 use Rattle.mips_homes.specs.declared.homed.Frame.{Frame}
@@ -84,13 +84,9 @@ first_is : (taken rs : List ℕ) (r : ℕ) → first_free taken rs ≡ Some r �
 first_is taken [] r e = absurd (none-some r e)
 first_is taken (q ∷ rs) r e = by (is_in taken q) refl (first_is taken rs r) e
   where
-    later : (c : Bool) → is_in rs r ≡ true → (c || is_in rs r) ≡ true
-    later true e = refl
-    later false e = e
-
     by : (c : Bool) → is_in taken q ≡ c → (first_free taken rs ≡ Some r → (is_in taken r ≡ false) × (is_in rs r ≡ true))
         → (if c then first_free taken rs else Some q) ≡ Some r → (is_in taken r ≡ false) × (is_in (q ∷ rs) r ≡ true)
-    by true c rest e = let got = rest e in (got.0, later (nat_eq r q) got.1)
+    by true c rest e = let got = rest e in (got.0, is_in_later r q rs got.1)
     by false c rest e =
         let same = same_Some q r e in
         (sym (ap (is_in taken) same) ∙ c, ap (λ b. b || is_in rs r) (eq-eqb r q (sym same)))
@@ -190,15 +186,11 @@ pub unused_is : (hs : List Home) (rs : List ℕ) (j r : ℕ) → slice_get (unus
 unused_is hs [] j r e = absurd (none-some r e)
 unused_is hs (q ∷ rs) j r e = by (lives_in hs q) refl j e (λ j e. unused_is hs rs j r e)
   where
-    later : (c : Bool) → is_in rs r ≡ true → (c || is_in rs r) ≡ true
-    later true e = refl
-    later false e = e
-
     by : (b : Bool) → lives_in hs q ≡ b → (j : ℕ) → slice_get (if b then unused hs rs else q ∷ unused hs rs) j ≡ Some r
         → ((j : ℕ) → slice_get (unused hs rs) j ≡ Some r → (is_in rs r ≡ true) × (lives_in hs r ≡ false)) → (is_in (q ∷ rs) r ≡ true) × (lives_in hs r ≡ false)
-    by true t j e rest = (let w = rest j e in (later (nat_eq r q) w.0, w.1))
+    by true t j e rest = (let w = rest j e in (is_in_later r q rs w.0, w.1))
     by false t zero e rest = (let same = same_Some q r e in (ap (λ b. b || is_in rs r) (eq-eqb r q (sym same)), sym (ap (lives_in hs) same) ∙ t))
-    by false t (suc j) e rest = (let w = rest j e in (later (nat_eq r q) w.0, w.1))
+    by false t (suc j) e rest = (let w = rest j e in (is_in_later r q rs w.0, w.1))
 
 pub unused_temporary : (hs : List Home) (j r : ℕ) → slice_get (unused hs temporaries) j ≡ Some r → IsTemporary r × (lives_in hs r ≡ false)
 unused_temporary hs j r e = (let w = unused_is hs temporaries j r e in (each_temporary temporaries refl r w.0, w.1))
@@ -359,11 +351,7 @@ saved_still hs [] r e l = e
 saved_still hs (q ∷ rs) r e l = by (λ e. saved_still hs rs r e l) (nat_eq r q) refl e
   where
     keep : (c : Bool) → is_in (still_saved hs rs) r ≡ true → is_in (if c then q ∷ still_saved hs rs else still_saved hs rs) r ≡ true
-    keep true e = later (nat_eq r q) e
-      where
-        later : (b : Bool) → is_in (still_saved hs rs) r ≡ true → (b || is_in (still_saved hs rs) r) ≡ true
-        later true e = refl
-        later false e = e
+    keep true e = is_in_later r q (still_saved hs rs) e
     keep false e = e
 
     by : (is_in rs r ≡ true → is_in (still_saved hs rs) r ≡ true) → (b : Bool) → nat_eq r q ≡ b → (b || is_in rs r) ≡ true → is_in (if lives_in hs q then q ∷ still_saved hs rs else still_saved hs rs) r ≡ true
