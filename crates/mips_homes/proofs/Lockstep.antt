@@ -275,7 +275,7 @@ writes_all hs saved blocks aside registers slots regs x (v ∷ vs) out go t want
     writes_all hs saved blocks aside r1 s1 (places_with regs x (Some v)) (suc x) vs out go t wanted ok ag1 (λ y lt. has y (omega (arith, lt))) (λ r2 s2 ag2 e2.
     f r2 s2 ag2 (e2 ∙ e1)))
 
-pub is_in_first : (x : ℕ) (xs : List ℕ) → is_in (x ∷ xs) x ≡ true
+is_in_first : (x : ℕ) (xs : List ℕ) → is_in (x ∷ xs) x ≡ true
 is_in_first x xs = ap (λ c. c || is_in xs x) (eq-eqb x x refl)
 
 pub is_in_later : (x y : ℕ) (xs : List ℕ) → is_in xs x ≡ true → is_in (y ∷ xs) x ≡ true
