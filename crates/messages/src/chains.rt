@@ -7,32 +7,29 @@ use std::alloc::{AllocError, Global};
 /// Returns where a comment ends that begins with `/*` at an offset.
 fn block_end(text: &[u8], at: usize) -> usize {
     let inside = at.saturating_add(2);
-    let mut is_star = false;
-    for (n, byte) in back(text, inside).iter().enumerate() {
-        if is_star && *byte == b'/' {
-            return inside.saturating_add(n).saturating_add(1);
+    for (n, pair) in back(text, inside).windows(2).enumerate() {
+        if pair == b"*/".as_slice() {
+            return inside.saturating_add(n).saturating_add(2);
         }
-        is_star = *byte == b'*';
     }
     text.len()
 }
 
 /// Returns where the comment or the sign ends that begins with a `/` at an offset.
 fn slash_end(text: &[u8], at: usize) -> usize {
-    match text.get(at.saturating_add(1)) {
-        Some(b'/') => line_end(text, at),
-        Some(b'*') => block_end(text, at),
+    match back(text, at) {
+        [_, b'/', ..] => line_end(text, at),
+        [_, b'*', ..] => block_end(text, at),
         _ => at.saturating_add(1),
     }
 }
 
-/// Reports whether the sign that begins with this `<` or `>` at an offset compares, and where it ends.
-fn relation(text: &[u8], at: usize, first: u8) -> (bool, usize) {
-    let second = at.saturating_add(1);
-    match text.get(second) {
-        Some(b'=') => (true, second.saturating_add(1)),
-        Some(byte) if *byte == first => (false, second.saturating_add(1)),
-        _ => (true, second),
+/// Reports whether the sign that begins with a `<` or `>` at an offset compares, and where it ends.
+fn relation(text: &[u8], at: usize) -> (bool, usize) {
+    match back(text, at) {
+        [_, b'=', ..] => (true, at.saturating_add(2)),
+        [first, second, ..] if first == second => (false, at.saturating_add(2)),
+        _ => (true, at.saturating_add(1)),
     }
 }
 
@@ -111,7 +108,7 @@ fn push_chains(
             }
             b')' | b']' => is_behind = around.pop().unwrap_or(false),
             b'<' | b'>' => {
-                let (compares, end) = relation(text, at, text[at]);
+                let (compares, end) = relation(text, at);
                 if compares && is_behind {
                     found.push(at)?;
                 }

@@ -7,34 +7,6 @@ use c_tokens::{MAX_TEXT, Mark};
 /// The most tokens in a row without `;`, `{` or `}` (c_tokens).
 const MAX_RUN: usize = 1024;
 
-/// Why a number is no constant, and what to write; empty where nothing helps.
-type Reason = (&'static str, &'static str);
-
-const FLOATING: Reason = (
-    "floating point isn't in this subset of C",
-    "write a whole number",
-);
-
-const LONG: Reason = (
-    "int and unsigned are the only types",
-    "leave l and ll out: u is the only suffix",
-);
-
-const BINARY: Reason = (
-    "a number is decimal, octal or hexadecimal",
-    "write it as 0x..",
-);
-
-const OCTAL: Reason = (
-    "a number that begins with 0 is octal",
-    "leave the 0 at its front out",
-);
-
-/// Reasons, with the bytes of which a number has one, of hexadecimal numbers and of others: the first that holds is told.
-const OF_HEXADECIMAL: &[(&[u8], Reason)] = &[(b".pP", FLOATING), (b"lL", LONG)];
-
-const OF_OTHERS: &[(&[u8], Reason)] = &[(b".pPeE", FLOATING), (b"lL", LONG)];
-
 /// Returns the bytes of the preprocessing number at the front (C99 6.4.8).
 fn number<'t>(text: &'t [u8]) -> &'t [u8] {
     let mut is_behind_exponent = false;
@@ -49,100 +21,66 @@ fn number<'t>(text: &'t [u8]) -> &'t [u8] {
 }
 
 fn has(number: &[u8], bytes: &[u8]) -> bool {
-    for byte in number {
-        if bytes.contains(byte) {
-            return true;
-        }
-    }
-    false
+    number.iter().any(|byte| bytes.contains(byte))
 }
 
 fn has_only(number: &[u8], bytes: &[u8]) -> bool {
-    for byte in number {
-        if !bytes.contains(byte) {
-            return false;
-        }
-    }
-    true
-}
-
-/// Returns the first reason of a list that a number has a byte for.
-fn reason_of(number: &[u8], reasons: &[(&[u8], Reason)]) -> Option<Reason> {
-    for (bytes, reason) in reasons {
-        if has(number, *bytes) {
-            return Some(*reason);
-        }
-    }
-    None
+    number.iter().all(|byte| bytes.contains(byte))
 }
 
 /// Returns why digits are no constant.
-fn digits_reason(digits: &[u8]) -> Reason {
+fn digits_reason(digits: &[u8]) -> &'static str {
     if has_only(digits, b"0123456789abcdefABCDEFuU") {
-        ("an unsigned goes up to 4294967295", "")
+        "an unsigned goes up to 4294967295"
     } else {
-        ("digits come first, and u may follow", "")
+        "digits come first, and u may follow"
     }
 }
 
-/// Returns why a number without a prefix is no constant.
-fn decimal_reason(number: &[u8]) -> Reason {
-    let is_octal = number.starts_with(b"0");
-    if !is_octal && shown_text(number).parse::<u32>().is_ok() {
-        return ("an int goes up to 2147483647, append u", "");
+/// Reports whether a number has a point or an exponent.
+fn is_floating(number: &[u8]) -> bool {
+    match number {
+        [b'0', b'x' | b'X', ..] => has(number, b".pP"),
+        _ => has(number, b".pPeE"),
     }
-    if is_octal && has(number, b"89") && has_only(number, b"0123456789") {
-        return OCTAL;
-    }
-    digits_reason(number)
 }
 
-/// Returns why a number is no constant.
-fn reason(number: &[u8]) -> Reason {
-    let is_hexadecimal = number.starts_with(b"0x") || number.starts_with(b"0X");
-    let reasons = if is_hexadecimal {
-        OF_HEXADECIMAL
-    } else {
-        OF_OTHERS
-    };
-    if let Some(reason) = reason_of(number, reasons) {
-        return reason;
+/// Returns why a number is no constant, and what to write; empty where nothing helps.
+#[rattlefmt::skip]
+fn reason(number: &[u8]) -> (&'static str, &'static str) {
+    match number {
+        _ if is_floating(number) => ("floating point isn't in this subset of C", "write a whole number"),
+        _ if has(number, b"lL") => ("int and unsigned are the only types", "leave l and ll out: u is the only suffix"),
+        [b'0', b'x' | b'X', digits @ ..] => (digits_reason(digits), ""),
+        [b'0', b'b' | b'B', ..] => ("a number is decimal, octal or hexadecimal", "write it as 0x.."),
+        [b'0', ..] if has(number, b"89") && has_only(number, b"0123456789") =>
+            ("a number that begins with 0 is octal", "leave the 0 at its front out"),
+        [b'1'..=b'9', ..] if shown_text(number).parse::<u32>().is_ok() => ("an int goes up to 2147483647, append u", ""),
+        _ => (digits_reason(number), ""),
     }
-    if is_hexadecimal {
-        return digits_reason(back(number, 2));
-    }
-    if number.starts_with(b"0b") || number.starts_with(b"0B") {
-        return BINARY;
-    }
-    decimal_reason(number)
 }
 
 /// Returns what is written in place of the least int; at file scope a minus and a constant are all that can stand.
 fn least_int_hint(source: &Source<'_>, k: usize) -> &'static str {
-    if source
-        .open_before(k, Mark::LeftBrace, Mark::RightBrace)
-        .is_none()
-    {
+    if source.open_before(k, Mark::LeftBrace).is_none() {
         "write 0x80000000, which becomes -2147483648 as an int"
     } else {
         "write -2147483647 - 1"
     }
 }
 
-/// Returns why the number at a token is no constant.
-fn reason_at(source: &Source<'_>, number: &[u8], k: usize) -> Reason {
-    if number == b"2147483648".as_slice() && source.is(before(k, 1), Mark::Minus) {
-        return ("an int goes up to 2147483647", least_int_hint(source, k));
-    }
-    reason(number)
-}
-
 /// Says what is wrong with a number that is no constant.
 pub(crate) fn say_constant(said: &mut Said, source: &Source<'_>, at: usize) {
     let number = number(back(source.text, at));
-    let (why, hint) = reason_at(source, number, source.index_of(at));
-    said.say(shown_text(number));
-    said.say(" is no constant: ");
+    let k = source.index_of(at);
+    let is_least = number == b"2147483648".as_slice() && source.is(before(k, 1), Mark::Minus);
+    let (why, hint) = if is_least {
+        ("an int goes up to 2147483647", least_int_hint(source, k))
+    } else {
+        reason(number)
+    };
+    said.message
+        .texts(&[shown_text(number), " is no constant: "]);
     said.say(why);
     said.hint(hint);
 }

@@ -55,14 +55,11 @@ fn open_declaration<'t>(source: &Source<'t>, k: usize) -> &'t [u8] {
     for token in 0..k.min(source.count()) {
         match source.mark(token) {
             Some(Mark::LeftBrace) => depth = depth.saturating_add(1),
-            Some(Mark::RightBrace) => {
-                depth = depth.saturating_sub(1);
-                if depth == 0 {
-                    start = source.at(token).saturating_add(1);
-                }
-            }
-            Some(Mark::Semicolon) if depth == 0 => start = source.at(token).saturating_add(1),
+            Some(Mark::RightBrace) => depth = depth.saturating_sub(1),
             _ => {}
+        }
+        if depth == 0 && source.is_one(token, &[Mark::RightBrace, Mark::Semicolon]) {
+            start = source.at(token).saturating_add(1);
         }
     }
     back(front(source.text, source.at(k)), start)
@@ -86,23 +83,7 @@ fn can_stand(alloc: Global, piece: &[u8], token: &[u8]) -> Result<bool, AllocErr
 
 /// Reports whether one of these words is told.
 fn is_told(told: &[&'static str], words: &[&'static str]) -> bool {
-    for word in words {
-        if told.contains(word) {
-            return true;
-        }
-    }
-    false
-}
-
-/// Returns what can stand after these bytes, in the words of a message.
-fn all_expected(alloc: Global, piece: &[u8]) -> Result<Vec<&'static str>, AllocError> {
-    let mut all = Vec::new(alloc);
-    for (token, told, covers) in CANDIDATES {
-        if !is_told(all.as_slice(), *covers) && can_stand(alloc, piece, *token)? {
-            all.push(*told)?;
-        }
-    }
-    Ok(all)
+    words.iter().any(|word| told.contains(word))
 }
 
 /// Returns what can stand in a token's place; nothing where that is more than four things, or the declaration is long.
@@ -112,10 +93,15 @@ pub(crate) fn expected_words(
     k: usize,
 ) -> Result<Vec<&'static str>, AllocError> {
     let piece = open_declaration(source, k);
+    let mut all = Vec::new(alloc);
     if piece.len() > LONGEST {
-        return Ok(Vec::new(alloc));
+        return Ok(all);
     }
-    let mut all = all_expected(alloc, piece)?;
+    for (token, told, covers) in CANDIDATES {
+        if !is_told(all.as_slice(), *covers) && can_stand(alloc, piece, *token)? {
+            all.push(*told)?;
+        }
+    }
     if all.len() > MOST {
         all.clear();
     }

@@ -21,10 +21,8 @@ impl SourceFault {
     /// Returns where the fault lies in its text; none if memory ran out.
     pub fn offset(self) -> Option<usize> {
         match self {
-            SourceFault::Front(fault) if fault.kind == FrontFaultKind::NoMemory => None,
-            SourceFault::Types(fault) if fault.kind == TypeFaultKind::NoMemory => None,
-            SourceFault::Front(fault) => Some(fault.at),
-            SourceFault::Types(fault) => Some(fault.at),
+            SourceFault::Front(it) => (it.kind != FrontFaultKind::NoMemory).then_some(it.at),
+            SourceFault::Types(it) => (it.kind != TypeFaultKind::NoMemory).then_some(it.at),
         }
     }
 }

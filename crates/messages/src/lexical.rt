@@ -5,92 +5,69 @@ use crate::source::{Source, Told, back, before, front, shown_text, spelled_at, t
 
 const NO_DIRECTIVES: &str = "there is no preprocessor: leave the line out";
 
-const TWO_WORDS: &str = "int and unsigned have 32 bits: write one of them";
-
-const LEAVE_OUT: &str = "leave it out";
-
-const NO_MEMBERS: &str = "write an array at file scope for each member";
-
-const IF_ELSE: &str = "write if and else";
-
 const NO_FLOATING: &str = "floating point isn't in this subset of C: write int or unsigned";
 
 /// What C has and the subset leaves out, with what to write in its place.
 #[rattlefmt::skip]
 const LEFT_OUT: &[Told] = &[
-    (b"do", "write while (1) { s if (!(e)) break; }"),
-    (b"switch", IF_ELSE),
-    (b"case", IF_ELSE),
-    (b"default", IF_ELSE),
-    (b"goto", "write a loop with break"),
-    (b"struct", NO_MEMBERS),
-    (b"union", NO_MEMBERS),
-    (b"enum", "write a variable at file scope for each constant: int red = 0;"),
-    (b"typedef", "write int or unsigned in its place"),
-    (b"sizeof", "write the number: int and unsigned have 4 bytes"),
-    (b"const", LEAVE_OUT),
-    (b"volatile", LEAVE_OUT),
-    (b"static", "leave it out; what outlives a call stands at file scope"),
-    (b"extern", "leave it out: a program is one text"),
-    (b"auto", LEAVE_OUT),
-    (b"register", LEAVE_OUT),
-    (b"restrict", LEAVE_OUT),
-    (b"inline", LEAVE_OUT),
-    (b"long", TWO_WORDS),
-    (b"short", TWO_WORDS),
-    (b"signed", "write int"),
-    (b"float", NO_FLOATING),
-    (b"double", NO_FLOATING),
-    (b"_Complex", NO_FLOATING),
-    (b"_Imaginary", NO_FLOATING),
-    (b"_Bool", "write int: 0 is false, and 1 is true"),
-    (b"->", NO_MEMBERS),
-    (b".", NO_MEMBERS),
-    (b"...", "a function has up to four parameters"),
-    (b"##", NO_DIRECTIVES),
-    (b"??", "trigraphs aren't read: write the sign itself"),
+    (&[b"do"], "write while (1) { s if (!(e)) break; }"),
+    (&[b"switch", b"case", b"default"], "write if and else"),
+    (&[b"goto"], "write a loop with break"),
+    (&[b"struct", b"union", b"->", b"."], "write an array at file scope for each member"),
+    (&[b"enum"], "write a variable at file scope for each constant: int red = 0;"),
+    (&[b"typedef"], "write int or unsigned in its place"),
+    (&[b"sizeof"], "write the number: int and unsigned have 4 bytes"),
+    (&[b"const", b"volatile", b"auto", b"register", b"restrict", b"inline"], "leave it out"),
+    (&[b"static"], "leave it out; what outlives a call stands at file scope"),
+    (&[b"extern"], "leave it out: a program is one text"),
+    (&[b"long", b"short"], "int and unsigned have 32 bits: write one of them"),
+    (&[b"signed"], "write int"),
+    (&[b"float", b"double", b"_Complex", b"_Imaginary"], NO_FLOATING),
+    (&[b"_Bool"], "write int: 0 is false, and 1 is true"),
+    (&[b"..."], "a function has up to four parameters"),
+    (&[b"##"], NO_DIRECTIVES),
+    (&[b"??"], "trigraphs aren't read: write the sign itself"),
 ];
 
 /// `++`, `--` and assignments with an operator, and what is written after `i = i` in their place.
+#[rattlefmt::skip]
 const COMPOUND: &[Told] = &[
-    (b"++", "+ 1"),
-    (b"--", "- 1"),
-    (b"+=", "+ .."),
-    (b"-=", "- .."),
-    (b"*=", "* .."),
-    (b"/=", "/ .."),
-    (b"%=", "% .."),
-    (b"&=", "& .."),
-    (b"|=", "| .."),
-    (b"^=", "^ .."),
-    (b"<<=", "<< .."),
-    (b">>=", ">> .."),
+    (&[b"++"], "+ 1"),
+    (&[b"--"], "- 1"),
+    (&[b"+="], "+ .."),
+    (&[b"-="], "- .."),
+    (&[b"*="], "* .."),
+    (&[b"/="], "/ .."),
+    (&[b"%="], "% .."),
+    (&[b"&="], "& .."),
+    (&[b"|="], "| .."),
+    (&[b"^="], "^ .."),
+    (&[b"<<="], "<< .."),
+    (&[b">>="], ">> .."),
 ];
 
 /// Directives that have a hint of their own.
 #[rattlefmt::skip]
 const DIRECTIVES: &[Told] = &[
-    (b"include", "there is nothing to include: out(e); prints a word"),
-    (b"define", "write a variable at file scope, as int size = 16;, or the number itself"),
+    (&[b"include"], "there is nothing to include: out(e); prints a word"),
+    (&[b"define"], "write a variable at file scope, as int size = 16;, or the number itself"),
 ];
 
 /// The numbers of characters after a backslash (C99 5.2.2, 6.4.4.4).
+#[rattlefmt::skip]
 const ESCAPES: &[Told] = &[
-    (b"n", "10"),
-    (b"t", "9"),
-    (b"0", "0"),
-    (b"r", "13"),
-    (b"a", "7"),
-    (b"b", "8"),
-    (b"f", "12"),
-    (b"v", "11"),
-    (b"\\", "92"),
-    (b"'", "39"),
-    (b"\"", "34"),
+    (&[b"n"], "10"),
+    (&[b"t"], "9"),
+    (&[b"0"], "0"),
+    (&[b"r"], "13"),
+    (&[b"a"], "7"),
+    (&[b"b"], "8"),
+    (&[b"f"], "12"),
+    (&[b"v"], "11"),
+    (&[b"\\"], "92"),
+    (&[b"'"], "39"),
+    (&[b"\""], "34"),
 ];
-
-/// Signs that no comment may have.
-const NOT_IN_COMMENTS: &[&[u8]] = &[b"\\", b"??"];
 
 /// What is said of a word or a sign that C has and the subset leaves out.
 const LEFT_OUT_HERE: &str = "isn't in this subset of C";
@@ -112,7 +89,8 @@ pub(crate) fn say_byte(said: &mut Said, text: &[u8], at: usize) {
         return said.say_both("the text begins with a byte order mark", hint);
     }
     said.say("the byte ");
-    said.say_number(text.get(at).copied().unwrap_or(0) as usize);
+    let byte = text.get(at).copied().unwrap_or(0);
+    said.message.number(byte as usize);
     said.say(" can't stand in a text");
     said.hint("write ASCII alone: bytes 32 to 126, tab and the ends of lines");
 }
@@ -120,12 +98,10 @@ pub(crate) fn say_byte(said: &mut Said, text: &[u8], at: usize) {
 /// Returns the word or the sign after blanks.
 pub(crate) fn behind_blanks<'t>(text: &'t [u8], at: usize) -> &'t [u8] {
     let rest = back(text, at);
-    for (n, byte) in rest.iter().enumerate() {
-        if *byte != b' ' {
-            return spelled_at(rest, n);
-        }
+    match rest.iter().position(|byte| *byte != b' ') {
+        Some(n) => spelled_at(rest, n),
+        None => b"",
     }
-    b""
 }
 
 /// Returns the name before `++` or after it, or `i`.
@@ -141,22 +117,11 @@ fn counted_name<'t>(source: &Source<'t>, at: usize) -> &'t str {
     }
 }
 
-/// Says what to write for a sign that assigns to a name and computes with it.
-fn say_compound(said: &mut Said, name: &str, written: &str) {
-    said.hint("write ");
-    said.hint(name);
-    said.hint(" = ");
-    said.hint(name);
-    said.hint(" ");
-    said.hint(written);
-}
-
 /// Says what to do about what stands after `#`.
 fn say_directive(said: &mut Said, text: &[u8], at: usize) {
     let word = behind_blanks(text, at.saturating_add(1));
-    said.say("'#");
-    said.say(shown_text(word));
-    said.say("' isn't in this subset of C");
+    said.message.texts(&["'#", shown_text(word), "' "]);
+    said.say(LEFT_OUT_HERE);
     said.hint(told_of(DIRECTIVES, word).unwrap_or(NO_DIRECTIVES));
 }
 
@@ -167,13 +132,12 @@ fn say_quoted(said: &mut Said, text: &[u8], at: usize) {
         [] => {}
         [b'\\', letter @ ..] => {
             if let Some(number) = told_of(ESCAPES, front(letter, 1)) {
-                said.hint(": ");
-                said.hint(number);
+                said.hint.texts(&[": ", number]);
             }
         }
         [letter, ..] => {
             said.hint(": ");
-            said.hint_number(*letter as usize);
+            said.hint.number(*letter as usize);
         }
     }
 }
@@ -208,7 +172,9 @@ fn say_sign(said: &mut Said, source: &Source<'_>, at: usize) {
     let sign = spelled_at(source.text, at);
     if let Some(written) = told_of(COMPOUND, sign) {
         said.say_name(shown_text(sign), LEFT_OUT_HERE);
-        say_compound(said, counted_name(source, at), written);
+        let name = counted_name(source, at);
+        said.hint.texts(&["write ", name, " = ", name, " "]);
+        said.hint(written);
     } else if let Some(hint) = left_out(source.text, at) {
         said.say_name(shown_text(sign), LEFT_OUT_HERE);
         said.hint(hint);
@@ -217,14 +183,10 @@ fn say_sign(said: &mut Said, source: &Source<'_>, at: usize) {
     }
 }
 
-/// Reports whether this is a sign that no comment may have, inside a comment.
-fn is_forbidden(source: &Source<'_>, sign: &[u8], at: usize) -> bool {
-    NOT_IN_COMMENTS.contains(&sign) && is_in_comment(source, at)
-}
-
 /// Says what is wrong where no token begins.
 pub(crate) fn say_token(said: &mut Said, source: &Source<'_>, at: usize) {
-    match spelled_at(source.text, at) {
+    let sign = spelled_at(source.text, at);
+    match sign {
         [b'/', b'*'] => said.say_both("this comment isn't closed", "write */ where it ends"),
         [b'"'] => said.say_both(
             "a string isn't in this subset of C",
@@ -232,7 +194,7 @@ pub(crate) fn say_token(said: &mut Said, source: &Source<'_>, at: usize) {
         ),
         [b'#'] => say_directive(said, source.text, at),
         [b'\''] => say_quoted(said, source.text, at),
-        sign if is_forbidden(source, sign, at) => {
+        [b'\\'] | [b'?', b'?'] if is_in_comment(source, at) => {
             said.say_name(shown_text(sign), "can't stand in a comment");
             said.hint("leave it out: C may read what follows as code");
         }

@@ -35,13 +35,11 @@ use crate::constants::{say_constant, say_size};
 use crate::expected::expected_words;
 use crate::lexical::{say_byte, say_token};
 use crate::more_tokens::say_more;
-use crate::names::{in_sight, names_before};
 use crate::said::Said;
 use crate::source::Source;
 use crate::syntax::say_syntax;
-use crate::types::{say_kind, say_undeclared};
+use crate::types::say_types;
 use c_front::{FrontFault, FrontFaultKind};
-use c_statements::{TypeFault, TypeFaultKind};
 use commands::Explanation;
 pub use fault::SourceFault;
 pub use statements::{PlacedStatement, placed_statements};
@@ -69,22 +67,6 @@ fn say_front(
         FrontFaultKind::Size => say_size(said, source, fault.at),
         FrontFaultKind::NoMemory => said.say("memory was refused"),
     }
-    Ok(())
-}
-
-fn say_types(
-    alloc: Global,
-    said: &mut Said,
-    source: &Source<'_>,
-    fault: TypeFault,
-) -> Result<(), AllocError> {
-    let k = source.index_of(fault.at);
-    let names = names_before(alloc, source, k)?;
-    if fault.kind == TypeFaultKind::Undeclared {
-        return say_undeclared(alloc, said, source, names.as_slice(), k);
-    }
-    let declared = in_sight(source, names.as_slice(), k);
-    say_kind(said, source, fault.kind, k, declared);
     Ok(())
 }
 

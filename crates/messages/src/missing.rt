@@ -19,36 +19,28 @@ fn is_at_head(source: &Source<'_>, k: usize) -> bool {
 
 /// Names the brace that isn't closed where a function begins inside of another; false if that isn't so.
 fn hint_brace(said: &mut Said, source: &Source<'_>, k: usize) -> bool {
-    let Some(brace) = source.open_before(k, Mark::LeftBrace, Mark::RightBrace) else {
+    let Some(brace) = source.open_before(k, Mark::LeftBrace) else {
         return false;
     };
     if !is_at_head(source, k) {
         return false;
     }
     said.hint("functions don't stand in functions: the '{' of line ");
-    said.hint_number(source.spot(brace).line);
+    said.hint.number(source.spot(brace).line);
     said.hint(" isn't closed");
     true
 }
 
+/// What a statement can begin with, or a block end.
+#[rattlefmt::skip]
+const BEGINNINGS: &[Mark] =
+    &[Mark::LeftBrace, Mark::RightBrace, Mark::If, Mark::Else, Mark::While, Mark::For];
+
 /// Reports whether a statement or a declaration can begin with a token, or a block end.
 fn can_begin(source: &Source<'_>, k: usize) -> bool {
-    match source.token(k) {
-        Some(Token::The(mark)) => {
-            TYPES.contains(&mark)
-                || [
-                    Mark::LeftBrace,
-                    Mark::RightBrace,
-                    Mark::If,
-                    Mark::Else,
-                    Mark::While,
-                    Mark::For,
-                ]
-                .contains(&mark)
-        }
-        Some(Token::Name(_) | Token::Jump(_, _)) => true,
-        _ => false,
-    }
+    source.is_one(k, TYPES)
+        || source.is_one(k, BEGINNINGS)
+        || matches!(source.token(k), Some(Token::Name(_) | Token::Jump(_, _)))
 }
 
 /// Names the line that lacks a `;` at its end; false if that isn't so.
@@ -61,7 +53,7 @@ fn hint_semicolon(said: &mut Said, source: &Source<'_>, k: usize, expected: &[&s
         return false;
     }
     said.hint("a ';' is missing at the end of line ");
-    said.hint_number(line);
+    said.hint.number(line);
     true
 }
 

@@ -15,12 +15,9 @@ const NAMED: usize = 8;
 
 /// Returns where the line of an offset ends.
 pub(crate) fn line_end(text: &[u8], at: usize) -> usize {
-    for (n, byte) in back(text, at).iter().enumerate() {
-        if *byte == b'\n' {
-            return at.saturating_add(n);
-        }
-    }
-    text.len()
+    let rest = back(text, at);
+    let length = rest.iter().position(|byte| *byte == b'\n');
+    at.saturating_add(length.unwrap_or(rest.len()))
 }
 
 /// Returns where a string or a character that begins at an offset ends, at the latest with its line.
@@ -37,12 +34,11 @@ fn quoted_end(text: &[u8], at: usize, quote: u8) -> usize {
 
 /// Returns where a number that is no constant ends.
 fn number_end(text: &[u8], at: usize) -> usize {
-    for (n, byte) in back(text, at).iter().enumerate() {
-        if !is_word(*byte) && *byte != b'.' {
-            return at.saturating_add(n.max(1));
-        }
-    }
-    text.len()
+    let rest = back(text, at);
+    let length = rest
+        .iter()
+        .position(|byte| !is_word(*byte) && *byte != b'.');
+    at.saturating_add(length.unwrap_or(rest.len()).max(1))
 }
 
 /// Returns where tokens can be read on after a wrong one; None in a comment, and where it can't be told.
@@ -72,16 +68,16 @@ fn next_refused(
 
 /// Names one of them, with line and column.
 fn say_one(said: &mut Said, text: &[u8], at: usize) {
-    let spot = spot_of(text, at);
-    said.more_number(spot.line);
-    said.more(":");
-    said.more_number(spot.column);
-    said.more(" '");
-    said.more(shown_text(spelled_at(text, at)));
-    if spelled_at(text, at) == b"#".as_slice() {
-        said.more(shown_text(behind_blanks(text, at.saturating_add(1))));
+    let (spot, sign) = (spot_of(text, at), spelled_at(text, at));
+    said.more.number(spot.line);
+    said.more.text(":");
+    said.more.number(spot.column);
+    said.more.texts(&[" '", shown_text(sign)]);
+    if sign == b"#".as_slice() {
+        said.more
+            .text(shown_text(behind_blanks(text, at.saturating_add(1))));
     }
-    said.more("'");
+    said.more.text("'");
 }
 
 /// Says which tokens after the first wrong one C doesn't have either, as far as they can be read.
@@ -93,7 +89,6 @@ pub(crate) fn say_more(
 ) -> Result<(), AllocError> {
     let text = front(text, MAX_TEXT);
     let mut from = goes_on(text, first);
-    let mut count = 0usize;
     for _ in 0..text.len() {
         let Some(next) = from else { break };
         let Some((why, at)) = next_refused(alloc, text, next)? else {
@@ -101,17 +96,19 @@ pub(crate) fn say_more(
         };
         match why {
             Refusal::BadToken => {
-                if count < NAMED {
-                    said.more(if count == 0 { "" } else { ", " });
+                if said.count < NAMED {
+                    said.more.text(if said.count == 0 { "" } else { ", " });
                     say_one(said, text, at);
                 }
-                count = count.saturating_add(1);
+                said.count = said.count.saturating_add(1);
                 from = goes_on(text, at);
             }
             Refusal::BadConstant => from = Some(number_end(text, at)),
             Refusal::BadSize => from = None,
         }
     }
-    said.count_more(count, NAMED);
+    if said.count > NAMED {
+        said.more.text(" ..");
+    }
     Ok(())
 }

@@ -1,6 +1,6 @@
 //! The names that a text declares, up to a place: in a text that spells a program, as c_types has them.
 
-use crate::source::{Source, before, behind};
+use crate::source::{Source, behind};
 use c_tokens::Mark;
 use std::alloc::{AllocError, Global};
 
@@ -37,19 +37,18 @@ pub(crate) fn names_before(
 
 /// Returns the token among these names that declares the name of a token, the innermost one.
 pub(crate) fn in_sight(source: &Source<'_>, names: &[usize], k: usize) -> Option<usize> {
-    let mut found = None;
-    for declared in names {
-        if source.spelling(*declared) == source.spelling(k) {
-            found = Some(*declared);
+    let name = source.spelling(k);
+    for declared in names.iter().rev() {
+        if source.spelling(*declared) == name {
+            return Some(*declared);
         }
     }
-    found
+    None
 }
 
 /// Returns the function that is declared last before a token: at a place inside a function that one.
 pub(crate) fn last_function(source: &Source<'_>, k: usize) -> Option<usize> {
-    for n in 1..behind(k, 1) {
-        let token = before(k, n);
+    for token in (0..k).rev() {
         if source.is_declared(token) && source.is(behind(token, 1), Mark::LeftParen) {
             return Some(token);
         }

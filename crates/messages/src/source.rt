@@ -28,18 +28,14 @@ pub(crate) fn front<'t>(text: &'t [u8], n: usize) -> &'t [u8]
     ensures most { length result.now ≤ n }
     ensures part { length result.now ≤ length text.now }
 {
-    if n < text.len() { &text[..n] } else { text }
+    &text[..n.min(text.len())]
 }
 
 /// Returns the bytes of a text from an offset on.
 pub(crate) fn back<'t>(text: &'t [u8], n: usize) -> &'t [u8]
     ensures part { length result.now ≤ length text.now }
 {
-    if n < text.len() {
-        &text[n..]
-    } else {
-        &text[text.len()..]
-    }
+    &text[n.min(text.len())..]
 }
 
 /// Returns the text that a message shows of bytes.
@@ -47,13 +43,13 @@ pub(crate) fn shown_text<'t>(bytes: &'t [u8]) -> &'t str {
     str::from_utf8(front(bytes, SHOWN)).unwrap_or("?")
 }
 
-/// A word or a sign, and what is told of it.
-pub(crate) type Told = (&'static [u8], &'static str);
+/// Words or signs, and what is told of them.
+pub(crate) type Told = (&'static [&'static [u8]], &'static str);
 
 /// Returns what a table tells of a word.
 pub(crate) fn told_of(table: &[Told], word: &[u8]) -> Option<&'static str> {
-    for (known, told) in table {
-        if word == *known {
+    for (words, told) in table {
+        if words.contains(&word) {
             return Some(*told);
         }
     }
@@ -67,12 +63,8 @@ pub(crate) fn is_word(byte: u8) -> bool {
 
 /// Returns how many bytes of a word stand at the front.
 fn word_length(text: &[u8]) -> usize {
-    for (n, byte) in text.iter().enumerate() {
-        if !is_word(*byte) {
-            return n;
-        }
-    }
-    text.len()
+    let length = text.iter().position(|byte| !is_word(*byte));
+    length.unwrap_or(text.len())
 }
 
 /// Returns how many bytes the longest sign at the front has.
@@ -104,7 +96,8 @@ pub(crate) struct Source<'t> {
 }
 
 impl<'t> Source<'t> {
-    /// Returns a refusal inside a comment leaves an open comment before it, so at most two refusals stand after one another.
+    /// Reads the tokens of a text. A refusal inside a comment leaves an open comment before it, so at most two refusals stand after one
+    /// another.
     pub(crate) fn read(alloc: Global, text: &'t [u8]) -> Result<Source<'t>, AllocError> {
         let text = front(text, MAX_TEXT);
         let mut end = text.len();
@@ -152,12 +145,9 @@ impl<'t> Source<'t> {
 
     /// Returns the number of the first token that doesn't begin before the offset.
     pub(crate) fn index_of(&self, at: usize) -> usize {
-        for (k, place) in self.places.iter().enumerate() {
-            if *place as usize >= at {
-                return k;
-            }
-        }
-        self.count()
+        self.places
+            .as_slice()
+            .partition_point(|place| (*place as usize) < at)
     }
 
     pub(crate) fn mark(&self, k: usize) -> Option<Mark> {
@@ -173,10 +163,7 @@ impl<'t> Source<'t> {
 
     /// Reports whether a token is one of these.
     pub(crate) fn is_one(&self, k: usize, marks: &[Mark]) -> bool {
-        match self.token(k) {
-            Some(Token::The(mark)) => marks.contains(&mark),
-            _ => false,
-        }
+        matches!(self.token(k), Some(Token::The(mark)) if marks.contains(&mark))
     }
 
     pub(crate) fn is_name(&self, k: usize) -> bool {
@@ -189,15 +176,28 @@ impl<'t> Source<'t> {
         self.is_name(k) && self.is_one(before(k, 1), TYPES)
     }
 
-    /// Returns the innermost bracket of a kind that is open before a token.
-    pub(crate) fn open_before(&self, k: usize, opening: Mark, closing: Mark) -> Option<usize> {
+    /// Returns the first token that declares a name, if one does.
+    pub(crate) fn declaration_of(&self, name: &[u8]) -> Option<usize> {
+        for k in 0..self.count() {
+            if self.is_declared(k) && self.spelling(k) == name {
+                return Some(k);
+            }
+        }
+        None
+    }
+
+    /// Returns the innermost one of these brackets that is open before a token.
+    pub(crate) fn open_before(&self, k: usize, opening: Mark) -> Option<usize> {
+        let closing = match opening {
+            Mark::LeftBrace => Mark::RightBrace,
+            Mark::LeftParen => Mark::RightParen,
+            _ => Mark::RightBracket,
+        };
         let mut depth = 0usize;
-        for n in 1..behind(k, 1) {
-            let token = before(k, n);
-            let mark = self.mark(token);
-            if mark == Some(closing) {
+        for token in (0..k).rev() {
+            if self.is(token, closing) {
                 depth = depth.saturating_add(1);
-            } else if mark == Some(opening) {
+            } else if self.is(token, opening) {
                 if depth == 0 {
                     return Some(token);
                 }
@@ -209,8 +209,7 @@ impl<'t> Source<'t> {
 
     /// Returns the first token of the statement or the declaration that is open before a token.
     pub(crate) fn first_of(&self, k: usize) -> usize {
-        for n in 1..behind(k, 1) {
-            let token = before(k, n);
+        for token in (0..k).rev() {
             if self.is_one(token, ENDS) {
                 return behind(token, 1);
             }

@@ -23,26 +23,19 @@ fn first_name(e: &Expression) -> Option<usize> {
         Expression::Unary(_, part) => first_name(part),
         Expression::Binary(_, operands) => {
             let (left, right) = &**operands;
-            match first_name(left) {
-                Some(at) => Some(at),
-                None => first_name(right),
-            }
+            first_name(left).or(first_name(right))
         }
         Expression::Conditional(parts) => {
             let (test, first, second) = &**parts;
-            match first_name(test) {
-                Some(at) => Some(at),
-                None => match first_name(first) {
-                    Some(at) => Some(at),
-                    None => first_name(second),
-                },
-            }
+            first_name(test)
+                .or(first_name(first))
+                .or(first_name(second))
         }
     }
 }
 
 /// Finds where a simple statement begins.
-fn start_of(s: &Simple) -> usize {
+pub(crate) fn start_of(s: &Simple) -> usize {
     match s {
         Simple::Assign(name, _) | Simple::AssignAt(name, _, _) => name.at as usize,
         Simple::CallStatement(call) => call.name.at as usize,
@@ -70,19 +63,6 @@ impl<'a> Walk<'a> {
         Ok(())
     }
 
-    /// Adds the first or last part of a `for`.
-    fn part(
-        &mut self,
-        part: &Option<Simple>,
-        typed: &'a TypedStatement,
-        left: usize,
-    ) -> Result<(), AllocError> {
-        match part {
-            Some(s) => self.add(typed, left, Some(start_of(s))),
-            None => Ok(()),
-        }
-    }
-
     /// Walks through a `for`, which is typed as the block of its first part and the loop.
     #[cycle(statements)]
     fn for_loop(
@@ -91,21 +71,22 @@ impl<'a> Walk<'a> {
         body: &Statement,
         typed: &'a [TypedStatement],
     ) -> Result<(), AllocError> {
-        if let Some(first) = typed.first() {
-            self.part(&parts.first, first, 1)?;
+        let [begin, again] = typed else { return Ok(()) };
+        let TypedStatement::Loop(_, step, inner) = again else {
+            return Ok(());
+        };
+        if let Some(first) = &parts.first {
+            self.add(begin, 1, Some(start_of(first)))?;
         }
-        if let Some(again) = typed.get(1)
-            && let TypedStatement::Loop(_, last, inner) = again
-        {
-            let at = match &parts.test {
-                Some(test) => first_name(test),
-                None => None,
-            };
-            self.add(again, 0, at)?;
-            self.part(&parts.last, last, 0)?;
-            self.statement(body, inner, 0)?;
+        let at = match &parts.test {
+            Some(test) => first_name(test),
+            None => None,
+        };
+        self.add(again, 0, at)?;
+        if let Some(last) = &parts.last {
+            self.add(step, 0, Some(start_of(last)))?;
         }
-        Ok(())
+        self.statement(body, inner, 0)
     }
 
     /// Walks through a statement that so many others follow in its block.

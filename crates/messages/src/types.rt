@@ -1,104 +1,65 @@
 //! What is said of the faults of a program: names used as what they aren't, and what is missing or too much.
 
 use crate::headers::written_for;
-use crate::names::last_function;
+use crate::names::{in_sight, last_function, names_before};
 use crate::near_names::nearest;
 use crate::said::Said;
 use crate::source::{Source, Told, before, behind, told_of};
-use c_statements::TypeFaultKind;
+use c_statements::{TypeFault, TypeFaultKind};
 use c_tokens::{Mark, Token};
-use commands::Spot;
 use std::alloc::{AllocError, Global};
 
 /// Names of C's library, and of its headers, with what to write.
+#[rattlefmt::skip]
 const LIBRARY: &[Told] = &[
-    (b"printf", "out(e); prints a word in decimal"),
-    (b"puts", "out(e); prints a word in decimal"),
-    (b"putchar", "out(e); prints a word in decimal"),
-    (b"exit", "return from main ends the program"),
-    (b"abort", "return from main ends the program"),
-    (b"assert", "write if (!(e)) out(e);"),
-    (b"NULL", "there are no pointers: write an index, as 0"),
-    (b"true", "write 1"),
-    (b"false", "write 0"),
+    (&[b"printf", b"puts", b"putchar"], "out(e); prints a word in decimal"),
+    (&[b"exit", b"abort"], "return from main ends the program"),
+    (&[b"assert"], "write if (!(e)) out(e);"),
+    (&[b"NULL"], "there are no pointers: write an index, as 0"),
+    (&[b"true"], "write 1"),
+    (&[b"false"], "write 0"),
 ];
 
 /// How many arguments a function takes, by how many those are.
-const TAKEN: &[&str] = &[
-    "no arguments",
-    "1 argument",
-    "2 arguments",
-    "3 arguments",
-    "4 arguments",
-];
-
-/// Returns a name that is declared somewhere else in the text.
-fn elsewhere(source: &Source<'_>, k: usize) -> Option<usize> {
-    for other in 0..source.count() {
-        if source.is_declared(other) && source.spelling(other) == source.spelling(k) {
-            return Some(other);
-        }
-    }
-    None
-}
-
-/// Says what is wrong with a name that no token declares.
-fn say_unknown(
-    alloc: Global,
-    said: &mut Said,
-    source: &Source<'_>,
-    names: &[usize],
-    k: usize,
-) -> Result<(), AllocError> {
-    let name = source.spelling(k);
-    if let Some(told) = told_of(LIBRARY, name).or(written_for(name)) {
-        said.hint(told);
-    } else if let Some(near) = nearest(alloc, source, names, k)? {
-        said.hint("did you mean '");
-        said.hint(near);
-        said.hint("'");
-    }
-    Ok(())
-}
+#[rattlefmt::skip]
+const TAKEN: &[&str] = &["no arguments", "1 argument", "2 arguments", "3 arguments", "4 arguments"];
 
 /// Says what is wrong with a name that isn't in sight, given the names that are.
-pub(crate) fn say_undeclared(
+fn say_undeclared(
     alloc: Global,
     said: &mut Said,
     source: &Source<'_>,
     names: &[usize],
     k: usize,
 ) -> Result<(), AllocError> {
-    said.say_name(source.token_text(k), "isn't declared");
-    let Some(other) = elsewhere(source, k) else {
-        return say_unknown(alloc, said, source, names, k);
-    };
-    said.hint("'");
-    said.hint(source.token_text(k));
-    said.hint("' of line ");
-    said.hint_number(source.spot(other).line);
-    said.hint(if other < k {
-        " ends with its block: declare it further out"
-    } else {
-        " comes too late: put it before its first use"
-    });
+    let (name, shown) = (source.spelling(k), source.token_text(k));
+    said.say_name(shown, "isn't declared");
+    if let Some(other) = source.declaration_of(name) {
+        said.hint.texts(&["'", shown, "' of line "]);
+        said.hint.number(source.spot(other).line);
+        said.hint(if other < k {
+            " ends with its block: declare it further out"
+        } else {
+            " comes too late: put it before its first use"
+        });
+    } else if let Some(told) = told_of(LIBRARY, name).or(written_for(name)) {
+        said.hint(told);
+    } else if let Some(near) = nearest(alloc, source, names, k)? {
+        said.hint.texts(&["did you mean '", near, "'"]);
+    }
     Ok(())
 }
 
 fn say_redeclared(said: &mut Said, source: &Source<'_>, k: usize, first: Option<usize>) {
-    let Some(first) = first else {
-        said.say_name(
-            source.token_text(k),
-            "is there from the beginning: it prints a word",
-        );
-        return said.hint("give yours another name");
-    };
-    said.say_name(source.token_text(k), "is declared twice in this scope");
-    let Spot { line, column } = source.spot(first);
-    said.hint("the first one stands at line ");
-    said.hint_number(line);
-    said.hint(", column ");
-    said.hint_number(column);
+    let name = source.token_text(k);
+    if let Some(first) = first {
+        said.say_name(name, "is declared twice in this scope");
+        said.hint("the first one stands at ");
+        said.hint.spot(source.spot(first));
+    } else {
+        said.say_name(name, "is there from the beginning: it prints a word");
+        said.hint("give yours another name");
+    }
 }
 
 /// Says what is wrong with a `return` that doesn't fit its function.
@@ -114,26 +75,12 @@ fn say_return(said: &mut Said, source: &Source<'_>, k: usize) {
     }
 }
 
-/// Says what is wrong with a declaration of a `main` that isn't `int main(void)`, or of an array of length 0.
-fn say_declaration(said: &mut Said, name: &str) {
-    said.say_name(
-        name,
-        if name == "main" {
-            "has to be int main(void)"
-        } else {
-            "has length 0: an array has an element at least"
-        },
-    );
-}
-
 /// Says what is wrong with the use of a function's name, by what stands after it.
 fn say_function(said: &mut Said, name: &str, after: Option<Mark>) {
     match after {
         Some(Mark::LeftParen) => {
             said.say_name(name, "is void: its call has no value");
-            said.hint("call it alone: ");
-            said.hint(name);
-            said.hint("(..);");
+            said.hint.texts(&["call it alone: ", name, "(..);"]);
         }
         Some(Mark::LeftBracket) => said.say_name(name, "is a function: it has no elements"),
         Some(Mark::Assign) => said.say_name(name, "is a function: it can't be assigned to"),
@@ -151,9 +98,7 @@ fn say_variable(said: &mut Said, name: &str, after: Option<Mark>) {
         Some(Mark::LeftBracket) => said.say_name(name, "is no array: it has no elements"),
         _ => {
             said.say_name(name, "is an array: name one of its elements");
-            said.hint("write ");
-            said.hint(name);
-            said.hint("[0] or another index");
+            said.hint.texts(&["write ", name, "[0] or another index"]);
         }
     }
 }
@@ -170,8 +115,10 @@ fn say_other_kind(said: &mut Said, source: &Source<'_>, k: usize, declared: Opti
     let (name, after) = (source.token_text(k), source.mark(behind(k, 1)));
     if let Some(Token::Jump(_, _)) = source.token(k) {
         say_return(said, source, k);
+    } else if source.is_declared(k) && name == "main" {
+        said.say_name(name, "has to be int main(void)");
     } else if source.is_declared(k) {
-        say_declaration(said, name);
+        said.say_name(name, "has length 0: an array has an element at least");
     } else if is_function(source, declared) {
         say_function(said, name, after);
     } else {
@@ -208,14 +155,13 @@ fn say_other_count(said: &mut Said, source: &Source<'_>, k: usize, declared: Opt
         None => 1,
     };
     said.say_name(source.token_text(k), "takes ");
-    said.say(TAKEN.get(taken).copied().unwrap_or("4 arguments"));
-    said.say(", not ");
-    said.say_number(arguments(source, behind(k, 1)));
+    let taken = TAKEN.get(taken).copied().unwrap_or("4 arguments");
+    said.message.texts(&[taken, ", not "]);
+    said.message.number(arguments(source, behind(k, 1)));
 }
 
 fn say_limit(said: &mut Said, source: &Source<'_>, k: usize) {
-    let brace = source.open_before(k, Mark::LeftBrace, Mark::RightBrace);
-    if brace.is_some() {
+    if source.open_before(k, Mark::LeftBrace).is_some() {
         said.say_both(
             "a function has more than 128 locals, parameters counted",
             "split the function, or put variables at file scope",
@@ -230,16 +176,20 @@ fn say_limit(said: &mut Said, source: &Source<'_>, k: usize) {
     }
 }
 
-/// Says what the first fault of a program is, which lies at this token; its name is declared so.
-pub(crate) fn say_kind(
+/// Says what the first fault of a program is.
+pub(crate) fn say_types(
+    alloc: Global,
     said: &mut Said,
     source: &Source<'_>,
-    kind: TypeFaultKind,
-    k: usize,
-    declared: Option<usize>,
-) {
-    match kind {
-        TypeFaultKind::Undeclared => said.say_name(source.token_text(k), "isn't declared"),
+    fault: TypeFault,
+) -> Result<(), AllocError> {
+    let k = source.index_of(fault.at);
+    let names = names_before(alloc, source, k)?;
+    let declared = in_sight(source, names.as_slice(), k);
+    match fault.kind {
+        TypeFaultKind::Undeclared => {
+            return say_undeclared(alloc, said, source, names.as_slice(), k);
+        }
         TypeFaultKind::Redeclared => say_redeclared(said, source, k, declared),
         TypeFaultKind::Kind => say_other_kind(said, source, k, declared),
         TypeFaultKind::Count => say_other_count(said, source, k, declared),
@@ -251,4 +201,5 @@ pub(crate) fn say_kind(
         TypeFaultKind::Limit => say_limit(said, source, k),
         TypeFaultKind::NoMemory => said.say("memory was refused"),
     }
+    Ok(())
 }

@@ -4,11 +4,12 @@
 use crate::chains::ChainParts;
 use crate::folded::{folded_binary, folded_unary, is_decided};
 use crate::source::{Source, shown_text};
+use crate::statements::start_of;
 use crate::warnings::Warning;
 use c_tokens::{Identifier, IntegerType, Mark};
 use c_tree::{
-    BinaryOp, Call, Expression, ForParts, FunctionDefinition, Item, Simple, Statement, UnaryOp,
-    Value,
+    BinaryOp, Call, Declaration, Expression, ForParts, FunctionDefinition, Item, Program, Simple,
+    Statement, Value,
 };
 use c_typed::{Destination, Function, Global as Variable, TypedExpression, TypedStatement};
 use std::alloc::{AllocError, Global};
@@ -18,6 +19,8 @@ use words::Sign;
 /// An operator between operands, the type that it computes in, and that of its right operand.
 #[derive(Clone, Copy)]
 struct Operation {
+    /// Where its sign stands, if it may have no meaning.
+    at: usize,
     operator: BinaryOp,
     integer_type: IntegerType,
     right_type: IntegerType,
@@ -32,7 +35,7 @@ struct Local {
 }
 
 #[derive(Drop)]
-pub(crate) struct Walk<'a, 't> {
+struct Walk<'a, 't> {
     alloc: Global,
     source: &'a Source<'t>,
     variables: &'a [Variable],
@@ -41,43 +44,22 @@ pub(crate) struct Walk<'a, 't> {
     /// The next token that may be an operator.
     cursor: usize,
     locals: Vec<Local>,
-    /// Whether a `break` of the innermost loop can be reached, and a `return` of the function.
+    /// Whether the statement can be reached that comes next, a `break` of the innermost loop, and a `return` of the function.
+    is_live: bool,
     has_break: bool,
     has_return: bool,
     /// Of each function so far, whether its calls never end.
     endless: Vec<bool>,
 }
 
-/// Returns the sign of an operator.
-fn mark_of(operator: BinaryOp) -> Mark {
+/// Returns the sign of an operator that may have no meaning at its right operand.
+fn warned_mark(operator: BinaryOp) -> Option<Mark> {
     match operator {
-        BinaryOp::Multiply => Mark::Star,
-        BinaryOp::Divide => Mark::Slash,
-        BinaryOp::Remainder => Mark::Percent,
-        BinaryOp::Add => Mark::Plus,
-        BinaryOp::Subtract => Mark::Minus,
-        BinaryOp::ShiftLeft => Mark::LessLess,
-        BinaryOp::ShiftRight => Mark::GreaterGreater,
-        BinaryOp::Less => Mark::LessSign,
-        BinaryOp::Greater => Mark::GreaterSign,
-        BinaryOp::LessOrEqual => Mark::LessEqual,
-        BinaryOp::GreaterOrEqual => Mark::GreaterEqual,
-        BinaryOp::Equal => Mark::EqualEqual,
-        BinaryOp::NotEqual => Mark::BangEqual,
-        BinaryOp::BitAnd => Mark::Ampersand,
-        BinaryOp::BitXor => Mark::Caret,
-        BinaryOp::BitOr => Mark::Bar,
-        BinaryOp::LogicalAnd => Mark::AndAnd,
-        BinaryOp::LogicalOr => Mark::BarBar,
-    }
-}
-
-fn prefix_mark(operator: UnaryOp) -> Mark {
-    match operator {
-        UnaryOp::Negate => Mark::Minus,
-        UnaryOp::Identity => Mark::Plus,
-        UnaryOp::Complement => Mark::Tilde,
-        UnaryOp::Not => Mark::Bang,
+        BinaryOp::Divide => Some(Mark::Slash),
+        BinaryOp::Remainder => Some(Mark::Percent),
+        BinaryOp::ShiftLeft => Some(Mark::LessLess),
+        BinaryOp::ShiftRight => Some(Mark::GreaterGreater),
+        _ => None,
     }
 }
 
@@ -91,19 +73,7 @@ fn is_relation(operator: BinaryOp) -> bool {
 
 /// Reports whether an expression compares by one of these.
 fn is_comparison(e: &Expression) -> bool {
-    match e {
-        Expression::Binary(operator, _) => is_relation(*operator),
-        _ => false,
-    }
-}
-
-/// Returns the name that a simple statement begins with.
-fn first_name(s: &Simple) -> Identifier {
-    match s {
-        Simple::Assign(name, _) => *name,
-        Simple::AssignAt(name, _, _) => *name,
-        Simple::CallStatement(call) => call.name,
-    }
+    matches!(e, Expression::Binary(operator, _) if is_relation(*operator))
 }
 
 /// Returns a word as a number of its type.
@@ -122,67 +92,18 @@ fn outcomes(test: Option<u32>) -> (bool, bool) {
     }
 }
 
-/// Returns the value of a conditional expression whose test is a constant.
-fn chosen(outcomes: (bool, bool), first: Option<u32>, second: Option<u32>) -> Option<u32> {
-    match outcomes {
-        (true, false) => first,
-        (false, true) => second,
-        _ => None,
-    }
-}
-
-/// Returns what is said of an index outside its array, which is shown by its name.
-fn index_message(
-    alloc: Global,
-    index: i64,
-    shown: &str,
-    length: usize,
-) -> Result<String, AllocError> {
-    let elements = if length == 1 { "element" } else { "elements" };
-    format!(in alloc; "the index {index} is outside '{shown}', which has {length} {elements}")
-}
-
-/// Returns what is said of a left shift of an int that has no value.
-fn left_shift_message(alloc: Global, value: i32, count: u32) -> Result<String, AllocError> {
-    if value < 0 {
-        format!(in alloc; "{value} << {count} shifts a negative int")
-    } else {
-        format!(in alloc; "{value} << {count} goes beyond 2147483647: shift {value}u")
-    }
-}
-
 impl<'a, 't> Walk<'a, 't> {
-    pub(crate) fn new(
-        alloc: Global,
-        source: &'a Source<'t>,
-        variables: &'a [Variable],
-    ) -> Walk<'a, 't> {
-        Walk {
-            alloc,
-            source,
-            variables,
-            warnings: Vec::new(alloc),
-            chains: ChainParts::new(alloc),
-            cursor: 0,
-            locals: Vec::new(alloc),
-            has_break: false,
-            has_return: false,
-            endless: Vec::new(alloc),
-        }
-    }
-
-    /// Returns the warnings, and where comparisons are compared.
-    pub(crate) fn end(self) -> (Vec<Warning>, ChainParts) {
-        (self.warnings, self.chains)
-    }
-
-    fn warn(&mut self, at: usize, message: String) -> Result<(), AllocError> {
+    fn warn(&mut self, at: usize, message: Result<String, AllocError>) -> Result<(), AllocError> {
+        let message = message?;
         self.warnings.push(Warning { at, message })?;
         Ok(())
     }
 
-    /// Returns where the next sign of this kind stands. Signs are asked for in the order of the text.
-    fn next_sign(&mut self, mark: Mark) -> usize {
+    /// Returns where the sign of an operator stands, if that may have no meaning. It is asked for in the order of the text.
+    fn next_sign(&mut self, operator: BinaryOp) -> usize {
+        let Some(mark) = warned_mark(operator) else {
+            return 0;
+        };
         for k in self.cursor..self.source.count() {
             if self.source.is(k, mark) {
                 self.cursor = k.saturating_add(1);
@@ -200,13 +121,9 @@ impl<'a, 't> Walk<'a, 't> {
     }
 
     fn assign(&mut self, place: &Destination) {
-        if let Destination::Local(k) = place {
-            self.set(*k);
-        }
-    }
-
-    fn set(&mut self, k: usize) {
-        if let Some(local) = self.locals.get_mut(k) {
+        if let Destination::Local(k) = place
+            && let Some(local) = self.locals.get_mut(*k)
+        {
             local.is_assigned = true;
         }
     }
@@ -228,33 +145,32 @@ impl<'a, 't> Walk<'a, 't> {
         value: u32,
     ) -> Result<(), AllocError> {
         let length = match self.variables.get(array) {
-            Some(variable) => variable.length,
-            None => return Ok(()),
+            Some(variable) if variable.length <= value as usize => variable.length,
+            _ => return Ok(()),
         };
-        if (value as usize) < length {
-            return Ok(());
-        }
-        let index = number(value, index.integer_type());
-        let message = index_message(self.alloc, index, self.name(name), length)?;
+        let (index, shown) = (number(value, index.integer_type()), self.name(name));
+        let elements = if length == 1 { "element" } else { "elements" };
+        let message = format!(in self.alloc;
+            "the index {index} is outside '{shown}', which has {length} {elements}"
+        );
         self.warn(name.at as usize, message)
     }
 
     /// Warns of a shift whose count is known, perhaps with what is shifted.
     fn shift(
         &mut self,
-        at: usize,
         operation: &Operation,
-        count: u32,
         value: Option<u32>,
+        count: u32,
     ) -> Result<(), AllocError> {
         if count >= 32 {
             let count = number(count, operation.right_type);
-            let message = format!(in self.alloc; "the shift count {count} isn't from 0 to 31")?;
-            return self.warn(at, message);
+            let message = format!(in self.alloc; "the shift count {count} isn't from 0 to 31");
+            return self.warn(operation.at, message);
         }
         match (operation.operator, operation.integer_type, value) {
             (BinaryOp::ShiftLeft, IntegerType::SignedInt, Some(value)) => {
-                self.left_shift(at, value, count)
+                self.left_shift(operation.at, value, count)
             }
             _ => Ok(()),
         }
@@ -266,78 +182,33 @@ impl<'a, 't> Walk<'a, 't> {
             return Ok(());
         }
         let value = value.cast_signed();
-        let message = left_shift_message(self.alloc, value, count)?;
+        let message = if value < 0 {
+            format!(in self.alloc; "{value} << {count} shifts a negative int")
+        } else {
+            format!(in self.alloc; "{value} << {count} goes beyond 2147483647: shift {value}u")
+        };
         self.warn(at, message)
     }
 
     /// Warns of an operator whose right operand is known.
     fn operation(
         &mut self,
-        at: usize,
         operation: &Operation,
         left: Option<u32>,
         right: u32,
     ) -> Result<(), AllocError> {
-        match operation.operator {
-            BinaryOp::Divide if right == 0 => {
-                let message = String::from_str(self.alloc, "a division by 0")?;
-                self.warn(at, message)
-            }
-            BinaryOp::Remainder if right == 0 => {
-                let message = String::from_str(self.alloc, "the remainder of a division by 0")?;
-                self.warn(at, message)
-            }
-            BinaryOp::ShiftLeft | BinaryOp::ShiftRight => self.shift(at, operation, right, left),
-            _ => Ok(()),
-        }
+        let message = match operation.operator {
+            BinaryOp::Divide if right == 0 => "a division by 0",
+            BinaryOp::Remainder if right == 0 => "the remainder of a division by 0",
+            BinaryOp::ShiftLeft | BinaryOp::ShiftRight => return self.shift(operation, left, right),
+            _ => return Ok(()),
+        };
+        self.warn(operation.at, String::from_str(self.alloc, message))
     }
 
-    /// Returns where an operator stands, after its left operand, and whether its right one is reached.
-    fn between(&mut self, operator: BinaryOp, left: Option<u32>, is_live: bool) -> (usize, bool) {
-        let at = self.next_sign(mark_of(operator));
-        (at, is_live && !is_decided(operator, left))
-    }
-
-    /// Warns of an operator with these operands, if it is reached; its value where it is a constant.
-    fn behind(
-        &mut self,
-        place: (usize, bool),
-        operation: &Operation,
-        left: Option<u32>,
-        right: Option<u32>,
-    ) -> Result<Option<u32>, AllocError> {
-        let (at, is_reached) = place;
-        if let Some(right) = right
-            && is_reached
-        {
-            self.operation(at, operation, left, right)?;
-        }
-        Ok(folded_binary(operation.operator, operation.integer_type, left, right))
-    }
-
-    /// Does the same as `expression`, without a call for a constant or a local.
+    /// Walks through an expression that can be reached or can't; its value where it is a constant. A constant or a local takes no call.
     #[cycle(expressions)]
     #[inline(always)]
-    fn operand(
-        &mut self,
-        e: &Expression,
-        typed: &TypedExpression,
-        is_live: bool,
-    ) -> Result<Option<u32>, AllocError> {
-        match (e, typed) {
-            (Expression::Constant(literal), _) => Ok(Some(literal.value)),
-            (Expression::Name(name), TypedExpression::Local(_, k)) => {
-                if is_live {
-                    self.read(*k, *name);
-                }
-                Ok(None)
-            }
-            _ => self.expression(e, typed, is_live),
-        }
-    }
-
-    /// Walks through an expression that can be reached or can't; its value where it is a constant.
-    #[cycle(expressions)]
     fn expression(
         &mut self,
         e: &Expression,
@@ -352,6 +223,19 @@ impl<'a, 't> Walk<'a, 't> {
                 }
                 Ok(None)
             }
+            _ => self.parts_of(e, typed, is_live),
+        }
+    }
+
+    /// Walks through the parts of an expression.
+    #[cycle(expressions)]
+    fn parts_of(
+        &mut self,
+        e: &Expression,
+        typed: &TypedExpression,
+        is_live: bool,
+    ) -> Result<Option<u32>, AllocError> {
+        match (e, typed) {
             (Expression::Index(parts), TypedExpression::Element(_, typed)) => {
                 let (name, index) = &**parts;
                 let (k, typed) = &**typed;
@@ -359,8 +243,7 @@ impl<'a, 't> Walk<'a, 't> {
                 Ok(None)
             }
             (Expression::Unary(operator, part), TypedExpression::Unary(_, integer_type, typed)) => {
-                self.next_sign(prefix_mark(*operator));
-                let value = self.operand(part, typed, is_live)?;
+                let value = self.expression(part, typed, is_live)?;
                 Ok(folded_unary(*operator, *integer_type, value))
             }
             (
@@ -372,26 +255,35 @@ impl<'a, 't> Walk<'a, 't> {
                 if is_relation(*operator) && is_comparison(left) {
                     self.chains.compare();
                 }
-                let left = self.operand(left, one, is_live)?;
-                let place = self.between(*operator, left, is_live);
-                let right = self.operand(right, other, place.1)?;
-                if left.is_none() && right.is_none() {
-                    return Ok(None);
+                let left = self.expression(left, one, is_live)?;
+                let at = self.next_sign(*operator);
+                let is_reached = is_live && !is_decided(*operator, left);
+                let right = self.expression(right, other, is_reached)?;
+                if let Some(right) = right
+                    && is_reached
+                {
+                    let operation = Operation {
+                        at,
+                        operator: *operator,
+                        integer_type: *integer_type,
+                        right_type: other.integer_type(),
+                    };
+                    self.operation(&operation, left, right)?;
                 }
-                let operation = Operation {
-                    operator: *operator,
-                    integer_type: *integer_type,
-                    right_type: other.integer_type(),
-                };
-                self.behind(place, &operation, left, right)
+                Ok(folded_binary(*operator, *integer_type, left, right))
             }
             (Expression::Conditional(parts), TypedExpression::Conditional(_, typed)) => {
                 let (test, first, second) = &**parts;
                 let (what, one, other) = &**typed;
-                let what = outcomes(self.operand(test, what, is_live)?);
-                let first = self.operand(first, one, is_live && what.0)?;
-                let second = self.operand(second, other, is_live && what.1)?;
-                Ok(chosen(what, first, second))
+                let value = self.expression(test, what, is_live)?;
+                let (can_hold, can_fail) = outcomes(value);
+                let first = self.expression(first, one, is_live && can_hold)?;
+                let second = self.expression(second, other, is_live && can_fail)?;
+                Ok(match value {
+                    Some(0) => second,
+                    Some(_) => first,
+                    None => None,
+                })
             }
             _ => Ok(None),
         }
@@ -407,104 +299,85 @@ impl<'a, 't> Walk<'a, 't> {
         typed: &TypedExpression,
         is_live: bool,
     ) -> Result<(), AllocError> {
-        match self.operand(index, typed, is_live)? {
+        match self.expression(index, typed, is_live)? {
             Some(value) if is_live => self.index(name, array, typed, value),
             _ => Ok(()),
         }
     }
 
-    /// Walks through a call; the answer is whether it can be followed by something.
+    /// Walks through a call, after which nothing is reached where it never ends.
     fn call(
         &mut self,
         call: &Call,
         function: usize,
         typed: &[TypedExpression],
-        is_live: bool,
-    ) -> Result<bool, AllocError> {
-        for (k, argument) in call.arguments.iter().enumerate() {
-            if let Some(typed) = typed.get(k) {
-                self.expression(argument, typed, is_live)?;
-            }
+    ) -> Result<(), AllocError> {
+        for (argument, typed) in call.arguments.iter().zip(typed) {
+            self.expression(argument, typed, self.is_live)?;
         }
-        let is_endless = self.endless.get(function).copied().unwrap_or(false);
-        Ok(is_live && !is_endless)
+        if self.endless.get(function) == Some(&true) {
+            self.is_live = false;
+        }
+        Ok(())
     }
 
     /// Walks through an assignment or a first value.
-    fn value(
-        &mut self,
-        value: &Value,
-        typed: &TypedStatement,
-        is_live: bool,
-    ) -> Result<bool, AllocError> {
+    fn value(&mut self, value: &Value, typed: &TypedStatement) -> Result<(), AllocError> {
         match (value, typed) {
             (Value::Plain(e), TypedStatement::Assign(place, typed)) => {
                 self.assign(place);
-                self.expression(e, typed, is_live)?;
-                Ok(is_live)
+                self.expression(e, typed, self.is_live)?;
+                Ok(())
             }
             (Value::Called(call), TypedStatement::Call(place, function, typed)) => {
                 if let Some(place) = place {
                     self.assign(place);
                 }
-                self.call(call, *function, typed, is_live)
+                self.call(call, *function, typed)
             }
-            _ => Ok(is_live),
+            _ => Ok(()),
         }
     }
 
-    /// Walks through a simple statement; as with every statement the answer is whether its end can be reached.
-    fn simple(
-        &mut self,
-        s: &Simple,
-        typed: &TypedStatement,
-        is_live: bool,
-    ) -> Result<bool, AllocError> {
-        self.chains.begin(first_name(s).at as usize)?;
+    /// Walks through a simple statement.
+    fn simple(&mut self, s: &Simple, typed: &TypedStatement) -> Result<(), AllocError> {
+        self.chains.begin(start_of(s))?;
         match (s, typed) {
-            (Simple::Assign(_, value), _) => self.value(value, typed, is_live),
+            (Simple::Assign(_, value), _) => self.value(value, typed),
             (Simple::AssignAt(name, index, e), TypedStatement::Store(k, part, typed)) => {
-                self.element(*name, *k, index, part, is_live)?;
-                self.expression(e, typed, is_live)?;
-                Ok(is_live)
+                self.element(*name, *k, index, part, self.is_live)?;
+                self.expression(e, typed, self.is_live)?;
+                Ok(())
             }
             (Simple::CallStatement(call), TypedStatement::Call(_, function, typed)) => {
-                self.call(call, *function, typed, is_live)
+                self.call(call, *function, typed)
             }
             (Simple::CallStatement(call), TypedStatement::Output(typed)) => {
                 if let Some(argument) = call.arguments.first() {
-                    self.expression(argument, typed, is_live)?;
+                    self.expression(argument, typed, self.is_live)?;
                 }
-                Ok(is_live)
+                Ok(())
             }
-            _ => Ok(is_live),
+            _ => Ok(()),
         }
     }
 
     /// Walks through the first or last part of a `for`.
-    fn part(
-        &mut self,
-        part: &Option<Simple>,
-        typed: &TypedStatement,
-        is_live: bool,
-    ) -> Result<bool, AllocError> {
+    fn part(&mut self, part: &Option<Simple>, typed: &TypedStatement) -> Result<(), AllocError> {
         match part {
-            Some(s) => self.simple(s, typed, is_live),
-            None => Ok(is_live),
+            Some(s) => self.simple(s, typed),
+            None => Ok(()),
         }
     }
 
-    /// Walks through the test of a `for`, which is 1 where there is none.
+    /// Walks through a test; the answer is whether what comes where it holds can be reached, and what comes where it fails.
     fn test(
         &mut self,
-        test: &Option<Expression>,
+        test: &Expression,
         typed: &TypedExpression,
-        is_live: bool,
-    ) -> Result<Option<u32>, AllocError> {
-        match test {
-            Some(e) => self.expression(e, typed, is_live),
-            None => Ok(Some(1)),
-        }
+    ) -> Result<(bool, bool), AllocError> {
+        let (can_hold, can_fail) = outcomes(self.expression(test, typed, self.is_live)?);
+        Ok((self.is_live && can_hold, self.is_live && can_fail))
     }
 
     /// Walks through a `for`, which is typed as the block of its first part and the loop.
@@ -514,29 +387,33 @@ impl<'a, 't> Walk<'a, 't> {
         parts: &ForParts,
         body: &Statement,
         typed: &[TypedStatement],
-        is_live: bool,
-    ) -> Result<bool, AllocError> {
-        let [first, TypedStatement::Loop(test, last, inner)] = typed else {
-            return Ok(is_live);
+    ) -> Result<(), AllocError> {
+        let [first, TypedStatement::Loop(what, last, inner)] = typed else {
+            return Ok(());
         };
-        let is_live = self.part(&parts.first, first, is_live)?;
-        let (can_hold, can_fail) = outcomes(self.test(&parts.test, test, is_live)?);
-        self.part(&parts.last, last, is_live && can_hold)?;
-        let has_break = self.body(body, inner, is_live && can_hold)?;
-        Ok(has_break || (is_live && can_fail))
+        self.part(&parts.first, first)?;
+        let (holds, fails) = match &parts.test {
+            Some(test) => self.test(test, what)?,
+            None => (self.is_live, false),
+        };
+        self.is_live = holds;
+        self.part(&parts.last, last)?;
+        self.is_live = holds;
+        self.body(body, inner, fails)
     }
 
-    /// Walks through the body of a loop; the answer is whether a `break` leaves it.
+    /// Walks through the body of a loop, which ends by a `break`, or where its test may fail.
     #[cycle(statements)]
     fn body(
         &mut self,
         s: &Statement,
         typed: &TypedStatement,
-        is_live: bool,
-    ) -> Result<bool, AllocError> {
+        fails: bool,
+    ) -> Result<(), AllocError> {
         let outer = mem::replace(&mut self.has_break, false);
-        self.statement(s, typed, is_live)?;
-        Ok(mem::replace(&mut self.has_break, outer))
+        self.statement(s, typed)?;
+        self.is_live = mem::replace(&mut self.has_break, outer) || fails;
+        Ok(())
     }
 
     /// Walks through a `return`.
@@ -544,85 +421,75 @@ impl<'a, 't> Walk<'a, 't> {
         &mut self,
         value: &Option<Expression>,
         typed: &TypedStatement,
-        is_live: bool,
-    ) -> Result<bool, AllocError> {
+    ) -> Result<(), AllocError> {
         if let Some(e) = value
             && let TypedStatement::Return(Some(typed)) = typed
         {
-            self.expression(e, typed, is_live)?;
+            self.expression(e, typed, self.is_live)?;
         }
-        self.has_return = self.has_return || is_live;
-        Ok(false)
+        self.has_return = self.has_return || self.is_live;
+        self.is_live = false;
+        Ok(())
     }
 
-    /// Walks through a statement that can be reached or can't; the answer is whether its end can be.
+    /// Walks through a statement.
     #[cycle(statements)]
-    fn statement(
-        &mut self,
-        s: &Statement,
-        typed: &TypedStatement,
-        is_live: bool,
-    ) -> Result<bool, AllocError> {
+    fn statement(&mut self, s: &Statement, typed: &TypedStatement) -> Result<(), AllocError> {
         match (s, typed) {
-            (Statement::Block(items), TypedStatement::Block(all)) => {
-                self.items(items, all, is_live)
-            }
+            (Statement::Block(items), TypedStatement::Block(all)) => return self.items(items, all),
             (Statement::If(test, first), TypedStatement::If(what, one, _)) => {
-                let (can_hold, can_fail) = outcomes(self.expression(test, what, is_live)?);
-                let is_behind = self.statement(first, one, is_live && can_hold)?;
-                Ok(is_behind || (is_live && can_fail))
+                let (holds, fails) = self.test(test, what)?;
+                self.is_live = holds;
+                self.statement(first, one)?;
+                self.is_live = self.is_live || fails;
             }
             (Statement::IfElse(test, first, second), TypedStatement::If(what, one, other)) => {
-                let what = outcomes(self.expression(test, what, is_live)?);
-                let first = self.statement(first, one, is_live && what.0)?;
-                let second = self.statement(second, other, is_live && what.1)?;
-                Ok(first || second)
+                let (holds, fails) = self.test(test, what)?;
+                self.is_live = holds;
+                self.statement(first, one)?;
+                let goes_on = mem::replace(&mut self.is_live, fails);
+                self.statement(second, other)?;
+                self.is_live = self.is_live || goes_on;
             }
             (Statement::While(test, body), TypedStatement::Loop(what, _, inner)) => {
-                let (can_hold, can_fail) = outcomes(self.expression(test, what, is_live)?);
-                let has_break = self.body(body, inner, is_live && can_hold)?;
-                Ok(has_break || (is_live && can_fail))
+                let (holds, fails) = self.test(test, what)?;
+                self.is_live = holds;
+                return self.body(body, inner, fails);
             }
             (Statement::For(parts, body), TypedStatement::Block(two)) => {
-                self.for_loop(parts, body, two, is_live)
+                return self.for_loop(parts, body, two);
             }
             (Statement::Break(_), _) => {
-                self.has_break = self.has_break || is_live;
-                Ok(false)
+                self.has_break = self.has_break || self.is_live;
+                self.is_live = false;
             }
-            (Statement::Continue(_), _) => Ok(false),
-            (Statement::Return(_, value), _) => self.leave(value, typed, is_live),
-            (Statement::Simply(inner), _) => self.simple(inner, typed, is_live),
-            _ => Ok(is_live),
+            (Statement::Continue(_), _) => self.is_live = false,
+            (Statement::Return(_, value), _) => return self.leave(value, typed),
+            (Statement::Simply(inner), _) => return self.simple(inner, typed),
+            _ => {}
         }
+        Ok(())
     }
 
     /// Walks through the items of a block or of a function's body.
     #[cycle(statements)]
-    fn items(
-        &mut self,
-        items: &[Item],
-        typed: &[TypedStatement],
-        is_live: bool,
-    ) -> Result<bool, AllocError> {
-        let mut is_live = is_live;
+    fn items(&mut self, items: &[Item], typed: &[TypedStatement]) -> Result<(), AllocError> {
         for (k, item) in items.iter().enumerate() {
-            if let Some(one) = typed.get(k) {
-                is_live = match item {
-                    Item::Declare(_, name, Some(value)) => {
-                        self.chains.begin(name.at as usize)?;
-                        self.value(value, one, is_live)?
-                    }
-                    Item::Declare(_, _, None) => is_live,
-                    Item::Statement(s) => self.statement(s, one, is_live)?,
-                };
+            let Some(one) = typed.get(k) else { break };
+            match item {
+                Item::Declare(_, name, Some(value)) => {
+                    self.chains.begin(name.at as usize)?;
+                    self.value(value, one)?;
+                }
+                Item::Declare(_, _, None) => {}
+                Item::Statement(s) => self.statement(s, one)?,
             }
         }
-        Ok(is_live)
+        Ok(())
     }
 
     /// Forgets the locals of the function before; parameters are assigned from the beginning.
-    fn enter(&mut self, function: &FunctionDefinition, typed: &Function) -> Result<(), AllocError> {
+    fn enter(&mut self, typed: &Function) -> Result<(), AllocError> {
         self.locals.clear();
         for k in 0..typed.locals {
             self.locals.push(Local {
@@ -630,13 +497,7 @@ impl<'a, 't> Walk<'a, 't> {
                 read_at: None,
             })?;
         }
-        for k in self.cursor..self.source.count() {
-            if self.source.at(k) >= function.name.at as usize {
-                self.cursor = k;
-                break;
-            }
-        }
-        (self.has_break, self.has_return) = (false, false);
+        (self.is_live, self.has_break, self.has_return) = (true, false, false);
         Ok(())
     }
 
@@ -648,7 +509,7 @@ impl<'a, 't> Walk<'a, 't> {
                 && let Some(name) = local.read_at
             {
                 let shown = self.name(name);
-                let message = format!(in self.alloc; "'{shown}' is read and never assigned")?;
+                let message = format!(in self.alloc; "'{shown}' is read and never assigned");
                 self.warn(name.at as usize, message)?;
             }
         }
@@ -656,24 +517,56 @@ impl<'a, 't> Walk<'a, 't> {
     }
 
     /// Walks through a function. In its typed form a `return` stands at the end of `main`, and of a function without a result.
-    pub(crate) fn function(
+    fn function(
         &mut self,
         function: &FunctionDefinition,
         typed: &Function,
     ) -> Result<(), AllocError> {
-        self.enter(function, typed)?;
+        self.enter(typed)?;
         self.chains.begin(function.name.at as usize)?;
-        let is_live = self.items(&function.body, &typed.body, true)?;
+        self.items(&function.body, &typed.body)?;
         self.unset_locals()?;
-        self.endless.push(!is_live && !self.has_return)?;
+        self.endless.push(!self.is_live && !self.has_return)?;
         let has_own_end = typed.body.len() > function.body.len();
-        if is_live && !has_own_end {
+        if self.is_live && !has_own_end {
             let shown = self.name(function.name);
             let message = format!(in self.alloc;
                 "the end of '{shown}' can be reached without a return"
-            )?;
+            );
             self.warn(function.name.at as usize, message)?;
         }
         Ok(())
     }
+}
+
+/// Walks through the functions of a program; returns the warnings, and where comparisons are compared.
+pub(crate) fn walked(
+    alloc: Global,
+    source: &Source<'_>,
+    program: &Program,
+    variables: &[Variable],
+    functions: &[Function],
+) -> Result<(Vec<Warning>, ChainParts), AllocError> {
+    let mut walk = Walk {
+        alloc,
+        source,
+        variables,
+        warnings: Vec::new(alloc),
+        chains: ChainParts::new(alloc),
+        cursor: 0,
+        locals: Vec::new(alloc),
+        is_live: true,
+        has_break: false,
+        has_return: false,
+        endless: Vec::new(alloc),
+    };
+    let mut typed = functions.iter();
+    for declaration in &program.declarations {
+        if let Declaration::Function(function) = declaration
+            && let Some(typed) = typed.next()
+        {
+            walk.function(function, typed)?;
+        }
+    }
+    Ok((walk.warnings, walk.chains))
 }
