@@ -15,33 +15,15 @@ pub struct Access {
     pub stores: bool,
 }
 
-/// Returns a load or store; the offset's sign is extended.
-fn access_at(width: Width, base: Reg, offset: i16, stores: bool) -> Access {
-    Access {
-        base,
-        offset: i32::from(offset).cast_unsigned(),
-        width,
-        stores,
-    }
-}
-
-/// Returns the load or store of an instruction, if it is one.
+/// Returns the load or store of an instruction, if it is one. The offset's sign is extended.
+#[rattlefmt::skip]
 pub fn access_of(inst: &Plain) -> Option<Access> {
-    match *inst {
-        Plain::Load {
-            width,
-            base,
-            offset,
-            ..
-        } => Some(access_at(width, base, offset, false)),
-        Plain::Store {
-            width,
-            base,
-            offset,
-            ..
-        } => Some(access_at(width, base, offset, true)),
-        _ => None,
-    }
+    let (width, base, offset, stores) = match *inst {
+        Plain::Load { width, base, offset, .. } => (width, base, offset, false),
+        Plain::Store { width, base, offset, .. } => (width, base, offset, true),
+        _ => return None,
+    };
+    Some(Access { base, offset: i32::from(offset).cast_unsigned(), width, stores })
 }
 
 fn bytes(width: Width) -> u32 {

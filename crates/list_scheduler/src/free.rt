@@ -64,18 +64,9 @@ impl Free {
 
     /// Returns the place of a rank, which is before this one.
     fn place_of(&self, lists: &[u32], rank: u32, before: usize) -> usize {
-        let (mut low, mut high) = (self.from, before);
-        for _ in 0..64 {
-            if low >= high {
-                break;
-            }
-            let middle = low.wrapping_add(high.wrapping_sub(low) / 2);
-            match lists.get(middle) {
-                Some(it) if *it < rank => low = middle.saturating_add(1),
-                _ => high = middle,
-            }
-        }
-        low
+        let ranks = lists.get(self.from..before).unwrap_or_default();
+        self.from
+            .saturating_add(ranks.partition_point(|it| *it < rank))
     }
 
     /// Adds one at its place. Most come among the best few, so these make way for it one by one.
@@ -85,17 +76,14 @@ impl Free {
         match graph.lists.get(near) {
             Some(it) if *it > rank && near > self.from => {
                 let place = self.place_of(graph.lists.as_slice(), rank, near);
-                match graph.lists.insert(place.min(end), rank) {
-                    Ok(()) => Ok(()),
-                    Err(_) => Err(AllocError),
-                }
+                graph.lists.insert(place.min(end), rank)?;
             }
             _ => {
                 graph.lists.push(rank)?;
                 sink(graph.lists.as_mut_slice(), rank, near, end);
-                Ok(())
             }
         }
+        Ok(())
     }
 
     /// Reports whether nothing delays the one at a place.

@@ -5,6 +5,7 @@ use crate::node::{Facts, Kept, NEXT, Node, PRODUCT_AFTER_MOVE};
 use crate::resources::Resources;
 use mblock::Exit;
 use std::alloc::{AllocError, Global};
+use std::mem::replace;
 
 /// The instructions of a block, and which of them wait for which.
 #[derive(Drop)]
@@ -18,53 +19,22 @@ pub struct Graph {
     height: u32,
 }
 
-/// The next uses of each register, HI and LO: the first writer, and the readers before it. A reader has its number and which of its reads
-/// it is.
-#[derive(Drop)]
-struct Users {
-    writers: [Link; Resources::COUNT],
-    readers: [Link; Resources::COUNT],
+/// The next uses of a register, HI or LO: the first writer, and the readers before it. A reader has its number and which of its reads it is.
+#[derive(Clone, Copy)]
+struct Uses {
+    writer: Link,
+    readers: Link,
 }
 
-impl Users {
-    /// Returns the users at the end of a block: none.
-    fn none() -> Users {
-        Users {
-            writers: [Link::NONE; Resources::COUNT],
-            readers: [Link::NONE; Resources::COUNT],
-        }
-    }
-
-    /// Returns the first writer of a register.
-    fn writer(&self, resource: usize) -> Option<u32> {
-        self.writers.get(resource)?.number()
-    }
-
-    /// Returns the first reader of a register.
-    fn readers(&self, resource: usize) -> Link {
-        self.readers.get(resource).copied().unwrap_or(Link::NONE)
-    }
-
-    /// Notes that an instruction writes a register.
-    fn write(&mut self, resource: usize, k: u32) {
-        if let Some(writer) = self.writers.get_mut(resource) {
-            *writer = Link::to(k);
-        }
-        if let Some(readers) = self.readers.get_mut(resource) {
-            *readers = Link::NONE;
-        }
-    }
-
-    /// Notes that a register is read, and returns the next reader.
-    fn read(&mut self, resource: usize, reader: u32) -> Link {
-        let Some(readers) = self.readers.get_mut(resource) else {
-            return Link::NONE;
-        };
-        let next = *readers;
-        *readers = Link::to(reader);
-        next
-    }
+impl Uses {
+    const NONE: Uses = Uses {
+        writer: Link::NONE,
+        readers: Link::NONE,
+    };
 }
+
+/// Those of each.
+type Users = [Uses; Resources::COUNT];
 
 impl Graph {
     /// Returns how many nodes there are.
@@ -105,17 +75,11 @@ impl Graph {
     }
 
     /// Puts it before the next readers of a register, or before the next writer, which waits for those.
-    fn put_before_users(
-        &mut self,
-        users: &Users,
-        resource: usize,
-        words: u32,
-    ) -> Result<(), AllocError> {
-        let readers = users.readers(resource);
-        if readers.number().is_some() {
-            return self.put_before_readers(readers, words);
+    fn put_before_uses(&mut self, uses: Uses, words: u32) -> Result<(), AllocError> {
+        if uses.readers.number().is_some() {
+            return self.put_before_readers(uses.readers, words);
         }
-        match users.writer(resource) {
+        match uses.writer.number() {
             Some(writer) => self.put_before(writer, words),
             None => Ok(()),
         }
@@ -129,8 +93,13 @@ impl Graph {
             let Some((resource, others)) = left.split() else {
                 break;
             };
-            self.put_before_users(users, resource, words)?;
-            users.write(resource, k);
+            if let Some(uses) = users.get_mut(resource) {
+                self.put_before_uses(*uses, words)?;
+                *uses = Uses {
+                    writer: Link::to(k),
+                    readers: Link::NONE,
+                };
+            }
             left = others;
         }
         Ok(())
@@ -144,10 +113,13 @@ impl Graph {
         words: u32,
         users: &mut Users,
     ) -> Result<Link, AllocError> {
-        if let Some(writer) = users.writer(resource) {
+        let Some(uses) = users.get_mut(resource) else {
+            return Ok(Link::NONE);
+        };
+        if let Some(writer) = uses.writer.number() {
             self.put_before(writer, words)?;
         }
-        Ok(users.read(resource, reader))
+        Ok(replace(&mut uses.readers, Link::to(reader)))
     }
 
     /// Does so for all that it reads; returns the next reader of each.
@@ -224,7 +196,7 @@ impl Graph {
             height: NEXT,
         };
         let touched = Resources::touched_at_exit(exit);
-        let mut users = Users::none();
+        let mut users = [Uses::NONE; Resources::COUNT];
         for k in 0..graph.count() {
             graph.link(k, touched, &mut users, &mut accesses)?;
         }

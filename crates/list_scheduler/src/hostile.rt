@@ -59,14 +59,32 @@ fn change(
 }
 
 fn change_insts(alloc: Global, kind: Hostile, insts: &[Plain]) -> Result<Vec<Plain>, AllocError> {
+    let mut all = Vec::from_slice(alloc, insts)?;
     match kind {
-        Hostile::Drop => without_last(alloc, insts),
-        Hostile::Double => double_first(alloc, insts),
-        Hostile::Swap => swap_first(alloc, insts),
-        Hostile::Foreign => behind_store(alloc, insts),
-        Hostile::Rename => rename_first(alloc, insts),
-        Hostile::Exit | Hostile::Slot | Hostile::Silent => Vec::from_slice(alloc, insts),
+        Hostile::Drop => {
+            if let Some(last) = insts.iter().rposition(|inst| !inst.is_nop()) {
+                all.remove(last);
+            }
+        }
+        Hostile::Double => {
+            if let Some(first) = insts.first() {
+                all.insert(0, *first)?;
+            }
+        }
+        Hostile::Swap if all.len() >= 2 => all.swap(0, 1),
+        Hostile::Foreign => all.insert(
+            0,
+            Plain::Store {
+                width: Width::Word,
+                rt: Reg::ZERO,
+                base: Reg::masked(29),
+                offset: 0,
+            },
+        )?,
+        Hostile::Rename => rename_first(&mut all),
+        Hostile::Swap | Hostile::Exit | Hostile::Slot | Hostile::Silent => {}
     }
+    Ok(all)
 }
 
 fn change_exit(kind: Hostile, mut exit: Exit) -> Exit {
@@ -80,62 +98,18 @@ fn change_exit(kind: Hostile, mut exit: Exit) -> Exit {
     exit
 }
 
-fn without_last(alloc: Global, insts: &[Plain]) -> Result<Vec<Plain>, AllocError> {
-    let mut kept = Vec::from_slice(alloc, insts)?;
-    if let Some(last) = insts.iter().rposition(|inst| !inst.is_nop()) {
-        kept.remove(last);
-    }
-    Ok(kept)
-}
-
-fn double_first(alloc: Global, insts: &[Plain]) -> Result<Vec<Plain>, AllocError> {
-    let mut all = Vec::new(alloc);
-    if let Some(first) = insts.first() {
-        all.push(*first)?;
-    }
-    all.extend_from_slice(insts)?;
-    Ok(all)
-}
-
-fn swap_first(alloc: Global, insts: &[Plain]) -> Result<Vec<Plain>, AllocError> {
-    let mut all = Vec::from_slice(alloc, insts)?;
-    if all.len() >= 2 {
-        all.swap(0, 1);
-    }
-    Ok(all)
-}
-
-fn behind_store(alloc: Global, insts: &[Plain]) -> Result<Vec<Plain>, AllocError> {
-    let mut all = Vec::new(alloc);
-    all.push(Plain::Store {
-        width: Width::Word,
-        rt: Reg::ZERO,
-        base: Reg::masked(29),
-        offset: 0,
-    })?;
-    all.extend_from_slice(insts)?;
-    Ok(all)
-}
-
-fn rename_first(alloc: Global, insts: &[Plain]) -> Result<Vec<Plain>, AllocError> {
-    let mut all = Vec::with_capacity(alloc, insts.len())?;
-    let mut is_done = false;
-    for inst in insts {
-        match to_next(inst) {
-            Some(next) if !is_done => {
-                all.push(next)?;
-                is_done = true;
-            }
-            _ => all.push(*inst)?,
+/// Puts the next register in place of the first one from 1 to 30 that is written.
+fn rename_first(insts: &mut [Plain]) {
+    for inst in insts.iter_mut() {
+        if rename(inst) {
+            return;
         }
     }
-    Ok(all)
 }
 
-/// Returns the instruction with the next register in place of one from 1 to 30 that it writes.
-fn to_next(inst: &Plain) -> Option<Plain> {
-    let mut changed = *inst;
-    let is_changed = match &mut changed {
+/// Puts the next register in place of one from 1 to 30 that an instruction writes; false if it writes none.
+fn rename(inst: &mut Plain) -> bool {
+    match inst {
         Plain::Shift { rd, .. } => raise(rd),
         Plain::ShiftBy { rd, .. } => raise(rd),
         Plain::Alu { rd, .. } => raise(rd),
@@ -145,8 +119,7 @@ fn to_next(inst: &Plain) -> Option<Plain> {
         Plain::MoveFrom { rd, .. } => raise(rd),
         Plain::Load { rt, .. } => raise_nonzero(rt),
         Plain::Multiply { .. } | Plain::Divide { .. } | Plain::Store { .. } => false,
-    };
-    if is_changed { Some(changed) } else { None }
+    }
 }
 
 /// Replaces a register from 1 to 30 by the next one.

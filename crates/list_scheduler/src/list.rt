@@ -4,7 +4,7 @@ ghost use Rattle.std.specs.Prelude.{⊤};
 use crate::delays::Delays;
 use crate::free::Free;
 use crate::graph::Graph;
-use crate::node::{Facts, keep_needed};
+use crate::node::{Facts, NEXT, keep_needed};
 use crate::reorder::Reorder;
 use crate::resources::Resources;
 use crate::standing::list_standing;
@@ -23,11 +23,7 @@ impl Reorder for ListOrder {
     fn reorder(&self, alloc: Global, block: &Block) -> Result<Order, AllocError> {
         let exit = block.exit();
         let list = list_insts(alloc, block.insts(), &exit)?;
-        let slot = if exit.has_slot() {
-            Some(Plain::nop())
-        } else {
-            None
-        };
+        let slot = exit.has_slot().then_some(Plain::nop());
         match Order::new(list, exit, slot) {
             Some(order) => Ok(order),
             None => plain(alloc, block),
@@ -37,14 +33,10 @@ impl Reorder for ListOrder {
 
 /// Adds a Nop after a load whose register the exit's first word touches.
 fn finish(list: &mut Vec<Plain>, exit: &Exit) -> Result<(), AllocError> {
-    let waits = match list.last() {
-        Some(inst) => {
-            let facts = Facts::of(inst);
-            facts.loads() && facts.writes.meets(Resources::touched_at_exit(exit))
-        }
-        None => false,
-    };
-    if waits {
+    let touched = Resources::touched_at_exit(exit);
+    if let Some(inst) = list.last()
+        && Facts::of(inst).words_to_exit(touched) > NEXT
+    {
         list.push(Plain::nop())?;
     }
     Ok(())
@@ -75,13 +67,6 @@ fn list_words(graph: &mut Graph, free: &Free, list: &mut Vec<Plain>) -> Result<(
     Ok(())
 }
 
-/// Lists the instructions of the graph, and a Nop after them if the exit has to wait.
-fn list_nodes(graph: &mut Graph, exit: &Exit, list: &mut Vec<Plain>) -> Result<(), AllocError> {
-    let free = Free::of(graph)?;
-    list_words(graph, &free, list)?;
-    finish(list, exit)
-}
-
 /// Lists the instructions of a block that are needed: as they stand, if that is the order, else by their graph.
 fn list_insts(alloc: Global, insts: &[Plain], exit: &Exit) -> Result<Vec<Plain>, AllocError> {
     let mut list = Vec::with_capacity(alloc, insts.len().saturating_add(1))?;
@@ -90,6 +75,8 @@ fn list_insts(alloc: Global, insts: &[Plain], exit: &Exit) -> Result<Vec<Plain>,
     }
     list.clear();
     let mut graph = Graph::of(alloc, keep_needed(alloc, insts)?, exit)?;
-    list_nodes(&mut graph, exit, &mut list)?;
+    let free = Free::of(&mut graph)?;
+    list_words(&mut graph, &free, &mut list)?;
+    finish(&mut list, exit)?;
     Ok(list)
 }

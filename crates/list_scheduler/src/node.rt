@@ -24,48 +24,33 @@ pub struct Facts {
     pub memory: Memory,
 }
 
-/// Returns the facts of an instruction that leaves memory alone.
-fn apart_from_memory(reads: Resources, writes: Resources) -> Facts {
-    Facts {
-        reads,
-        writes,
-        memory: Memory::Apart,
+/// Returns what an instruction reads, what it writes, and what it does with memory.
+#[rattlefmt::skip]
+fn uses(inst: &Plain) -> (Resources, Resources, Memory) {
+    match *inst {
+        Plain::Shift { rd, rt, .. } => (Resources::of(rt), Resources::of(rd), Memory::Apart),
+        Plain::ShiftBy { rd, rt, rs, .. } => (Resources::of_both(rs, rt), Resources::of(rd), Memory::Apart),
+        Plain::Alu { rd, rs, rt, .. } => (Resources::of_both(rs, rt), Resources::of(rd), Memory::Apart),
+        Plain::Imm { rt, rs, .. } => (Resources::of(rs), Resources::of(rt), Memory::Apart),
+        Plain::Logic { rt, rs, .. } => (Resources::of(rs), Resources::of(rt), Memory::Apart),
+        Plain::LoadUpper { rt, .. } => (Resources::NONE, Resources::of(rt), Memory::Apart),
+        Plain::MoveFrom { place: HiLo::Hi, rd } => (Resources::HIGH, Resources::of(rd), Memory::Apart),
+        Plain::MoveFrom { place: HiLo::Lo, rd } => (Resources::LOW, Resources::of(rd), Memory::Apart),
+        Plain::Multiply { rs, rt, .. } => (Resources::of_both(rs, rt), Resources::PRODUCT, Memory::Apart),
+        Plain::Divide { rs, rt, .. } => (Resources::of_both(rs, rt), Resources::PRODUCT, Memory::Apart),
+        Plain::Load { rt, base, .. } => (Resources::of(base), Resources::of(rt.reg()), Memory::Loads),
+        Plain::Store { rt, base, .. } => (Resources::of_both(rt, base), Resources::NONE, Memory::Stores),
     }
 }
 
 impl Facts {
     /// Returns the facts of an instruction.
     pub fn of(inst: &Plain) -> Facts {
-        match *inst {
-            Plain::Shift { rd, rt, .. } => apart_from_memory(Resources::of(rt), Resources::of(rd)),
-            Plain::ShiftBy { rd, rt, rs, .. } | Plain::Alu { rd, rs, rt, .. } => {
-                apart_from_memory(
-                    Resources::of(rs).union(Resources::of(rt)),
-                    Resources::of(rd),
-                )
-            }
-            Plain::Imm { rt, rs, .. } | Plain::Logic { rt, rs, .. } => {
-                apart_from_memory(Resources::of(rs), Resources::of(rt))
-            }
-            Plain::LoadUpper { rt, .. } => apart_from_memory(Resources::NONE, Resources::of(rt)),
-            Plain::MoveFrom { place, rd } => match place {
-                HiLo::Hi => apart_from_memory(Resources::HIGH, Resources::of(rd)),
-                HiLo::Lo => apart_from_memory(Resources::LOW, Resources::of(rd)),
-            },
-            Plain::Multiply { rs, rt, .. } | Plain::Divide { rs, rt, .. } => {
-                let reads = Resources::of(rs).union(Resources::of(rt));
-                apart_from_memory(reads, Resources::PRODUCT)
-            }
-            Plain::Load { rt, base, .. } => Facts {
-                reads: Resources::of(base),
-                writes: Resources::of(rt.reg()),
-                memory: Memory::Loads,
-            },
-            Plain::Store { rt, base, .. } => Facts {
-                reads: Resources::of(rt).union(Resources::of(base)),
-                writes: Resources::NONE,
-                memory: Memory::Stores,
-            },
+        let (reads, writes, memory) = uses(inst);
+        Facts {
+            reads,
+            writes,
+            memory,
         }
     }
 

@@ -77,11 +77,11 @@ impl<'a> Passed<'a> {
 
 /// Reports whether instruction k loads what a store over the same register may have stored before.
 fn is_fixed_load(insts: &[Plain], k: usize) -> bool {
-    let Some(inst) = insts.get(k) else {
+    let Some((before, [inst, ..])) = insts.split_at_checked(k) else {
         return false;
     };
     match access_of(inst) {
-        Some(load) if !load.stores => meets_store(&load, insts.get(..k).unwrap_or_default()),
+        Some(load) if !load.stores => meets_store(&load, before),
         _ => false,
     }
 }
@@ -89,9 +89,11 @@ fn is_fixed_load(insts: &[Plain], k: usize) -> bool {
 /// Reports whether a load loads what a store over the same register may have stored.
 fn meets_store(load: &Access, before: &[Plain]) -> bool {
     for inst in before {
-        match access_of(inst) {
-            Some(store) if store.stores && load.meets(&store) => return true,
-            _ => {}
+        if let Some(store) = access_of(inst)
+            && store.stores
+            && load.meets(&store)
+        {
+            return true;
         }
     }
     false
@@ -99,34 +101,19 @@ fn meets_store(load: &Access, before: &[Plain]) -> bool {
 
 /// Reports whether an instruction makes a product.
 fn is_product(inst: Option<&Plain>) -> bool {
-    match inst {
-        Some(inst) => inst.action().is_product(),
-        None => false,
-    }
-}
-
-/// Reports whether an instruction moves HI or LO to a register.
-fn is_move(inst: Option<&Plain>) -> bool {
-    match inst {
-        Some(inst) => inst.action().is_move(),
-        None => false,
-    }
+    inst.is_some_and(|inst| inst.action().is_product())
 }
 
 /// Reports whether an order keeps the delay rules without instruction k, if it keeps them with it. Only the words around k come nearer to
 /// one another.
 fn may_leave(order: &Order, k: usize) -> bool {
     let insts = order.insts();
-    let (one, two) = (k.checked_sub(1), k.checked_sub(2));
-    let before = match one {
-        Some(one) => insts.get(one),
-        None => None,
-    };
-    let Some(last) = before else {
+    let before = insts.get(..k).unwrap_or_default();
+    let after = insts.get(k.saturating_add(1)..).unwrap_or_default();
+    let Some((last, earlier)) = before.split_last() else {
         return true;
     };
-    let after = insts.get(k.saturating_add(1));
-    let touched = match after {
+    let touched = match after.first() {
         Some(next) => Facts::of(next).touched(),
         None => Resources::touched_at_exit(&order.exit()),
     };
@@ -134,13 +121,8 @@ fn may_leave(order: &Order, k: usize) -> bool {
     if facts.loads() && facts.writes.meets(touched) {
         return false;
     }
-    if facts.moves() && is_product(insts.get(k.saturating_add(2))) {
-        return false;
-    }
-    match two {
-        Some(two) => !(is_product(after) && is_move(insts.get(two))),
-        None => true,
-    }
+    let moves_earlier = earlier.last().is_some_and(|inst| inst.action().is_move());
+    !(facts.moves() && is_product(after.get(1))) && !(moves_earlier && is_product(after.first()))
 }
 
 /// Returns the order with its instruction k in the slot.
@@ -159,10 +141,7 @@ fn move_to_slot(alloc: Global, block: &Block, order: Order, k: usize) -> Result<
 /// Returns the order with an instruction in its slot in place of a Nop. It is the last one that nothing after it depends on, and without
 /// which in its place no delay rule is broken. The order as it was, where it has no such instruction. An Err means out of memory.
 pub fn fill(alloc: Global, block: &Block, order: Order) -> Result<Order, AllocError> {
-    let is_free = match order.slot() {
-        Some(inst) => inst.is_nop(),
-        None => false,
-    };
+    let is_free = matches!(order.slot(), Some(inst) if inst.is_nop());
     if !is_free {
         return Ok(order);
     }
