@@ -2,7 +2,7 @@
 
 use crate::origins::{Pair, access_of};
 use mblock::{Block, Order};
-use mips_isa::{Plain, Reg};
+use mips_isa::Plain;
 use std::alloc::{AllocError, Global};
 
 /// At most so many pairs are tried.
@@ -17,26 +17,17 @@ fn has_store(one: &Plain, other: &Plain) -> bool {
     !one.action().is_load() || !other.action().is_load()
 }
 
-/// Reports whether an instruction from the first on and before the second writes the register.
-fn is_written(insts: &[Plain], pair: Pair, register: Reg) -> bool {
-    for inst in insts.get(pair.first..pair.second).unwrap_or_default() {
-        if inst.writes(register) {
-            return true;
-        }
-    }
-    false
-}
-
 /// Reports whether two instructions have one base, which isn't written from the first on: so the offsets tell whether they meet.
 fn is_one_base(insts: &[Plain], pair: Pair) -> bool {
-    let (Some(one), Some(other)) = (insts.get(pair.first), insts.get(pair.second)) else {
+    let between = insts.get(pair.first..pair.second).unwrap_or_default();
+    let (Some(one), Some(other)) = (between.first(), insts.get(pair.second)) else {
         return false;
     };
     let (Some((_, p, _)), Some((_, q, _))) = (access_of(&one.action()), access_of(&other.action()))
     else {
         return false;
     };
-    p == q && !is_written(insts, pair, p)
+    p == q && !between.iter().any(|inst| inst.writes(p))
 }
 
 /// The accesses of a block, by their places, up to those that an order has done.
@@ -62,28 +53,16 @@ impl<'b> Waiting<'b> {
         })
     }
 
-    fn inst(&self, place: usize) -> Option<&'b Plain> {
-        self.insts.get(place)
-    }
-
-    /// Returns the number of the first of the waiting accesses that is this instruction.
-    fn number_of(&self, inst: &Plain) -> Option<usize> {
-        for (number, place) in self.places.iter().enumerate() {
-            if self.inst(*place) == Some(inst) {
-                return Some(number);
-            }
-        }
-        None
-    }
-
     /// Notes that the order does this instruction: it passes the accesses that still wait before it.
     fn does(&mut self, inst: &Plain) -> Result<(), AllocError> {
-        let Some(number) = self.number_of(inst) else {
+        let insts = self.insts;
+        let Some(number) = self
+            .places
+            .iter()
+            .position(|place| insts.get(*place) == Some(inst))
+        else {
             return Ok(());
         };
-        if number >= self.places.len() {
-            return Ok(());
-        }
         let second = self.places.remove(number);
         for k in 0..number {
             if let Some(first) = self.places.get(k).copied() {
@@ -94,11 +73,11 @@ impl<'b> Waiting<'b> {
     }
 
     fn put_pair(&mut self, inst: &Plain, pair: Pair) -> Result<(), AllocError> {
-        let is_wanted = match self.inst(pair.first) {
-            Some(passed) => has_store(passed, inst) && !is_one_base(self.insts, pair),
-            None => false,
-        };
-        if is_wanted && self.pairs.len() < PAIRS {
+        if let Some(passed) = self.insts.get(pair.first)
+            && has_store(passed, inst)
+            && !is_one_base(self.insts, pair)
+            && self.pairs.len() < PAIRS
+        {
             self.pairs.push(pair)?;
         }
         Ok(())
@@ -113,15 +92,10 @@ pub(crate) fn crossings(
 ) -> Result<Vec<Pair>, AllocError> {
     let mut waiting = Waiting::of(alloc, block.insts())?;
     for inst in order.insts() {
-        if is_access(inst) {
-            waiting.does(inst)?;
-        }
+        waiting.does(inst)?;
     }
-    if let Some(inst) = order.slot()
-        && is_access(&inst)
-    {
+    if let Some(inst) = order.slot() {
         waiting.does(&inst)?;
     }
-    let Waiting { pairs, .. } = waiting;
-    Ok(pairs)
+    Ok(waiting.pairs)
 }

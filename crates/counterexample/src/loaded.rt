@@ -17,13 +17,6 @@ fn loaded_word(registers: &Registers, action: &Action) -> Option<u32> {
     }
 }
 
-fn put_new(words: &mut Vec<u32>, word: u32) -> Result<(), AllocError> {
-    if !words.contains(&word) {
-        words.push(word)?;
-    }
-    Ok(())
-}
-
 /// Adds the words that instructions load, up to one that isn't safe.
 fn put_loaded(
     words: &mut Vec<u32>,
@@ -32,8 +25,10 @@ fn put_loaded(
 ) -> Result<(), AllocError> {
     for inst in insts {
         let action = inst.action();
-        if let Some(word) = loaded_word(registers, &action) {
-            put_new(words, word)?;
+        if let Some(word) = loaded_word(registers, &action)
+            && !words.contains(&word)
+        {
+            words.push(word)?;
         }
         if !registers.act(action)? {
             return Ok(());

@@ -53,20 +53,10 @@ struct Tracing {
 }
 
 /// Returns the width, the base and the offset of an access of memory.
+#[rattlefmt::skip]
 pub(crate) fn access_of(action: &Action) -> Option<(Width, Reg, u32)> {
     match *action {
-        Action::Loads {
-            width,
-            base,
-            offset,
-            ..
-        }
-        | Action::Stores {
-            width,
-            base,
-            offset,
-            ..
-        } => Some((width, base, offset)),
+        Action::Loads { width, base, offset, .. } | Action::Stores { width, base, offset, .. } => Some((width, base, offset)),
         _ => None,
     }
 }

@@ -84,10 +84,9 @@ fn filling_of_kind(kind: u32, base: u32, word: u32) -> Filling {
 
 /// Returns a base near which addresses meet: that of the data, or a word that the block itself puts into a register's upper half.
 fn base_of(block: &Block, number: u32) -> u32 {
-    let insts = block.insts();
     let mut base = 0x1000_0000;
     let mut left = number;
-    for inst in insts {
+    for inst in block.insts() {
         if let Action::Sets { d: _, word } = inst.action() {
             if left == 0 {
                 return base;
@@ -132,15 +131,10 @@ fn shift(start: &mut Start, origin: Origin, by: u32) -> bool {
 /// Returns how far the first access is from where it meets the second: a byte meets a word in one of its four bytes.
 fn distance(first: &Access, second: &Access, lane: u32) -> u32 {
     let by = second.address.wrapping_sub(first.address);
-    match first.width {
-        Width::Byte => match second.width {
-            Width::Byte => by,
-            Width::Word => by.wrapping_add(lane),
-        },
-        Width::Word => match second.width {
-            Width::Byte => by.wrapping_sub(lane),
-            Width::Word => by,
-        },
+    match (first.width, second.width) {
+        (Width::Byte, Width::Word) => by.wrapping_add(lane),
+        (Width::Word, Width::Byte) => by.wrapping_sub(lane),
+        _ => by,
     }
 }
 
@@ -181,10 +175,8 @@ fn change(
 
 /// Returns the pair whose turn it is.
 fn pair_number(pairs: &[Pair], number: u32) -> Option<Pair> {
-    if pairs.is_empty() {
-        return None;
-    }
-    pairs.get((number / 2) as usize % pairs.len()).copied()
+    let turn = (number as usize / 2).checked_rem(pairs.len())?;
+    pairs.get(turn).copied()
 }
 
 /// Returns the start with this number, of those for a block and pairs of its accesses that may meet.
