@@ -95,7 +95,7 @@ fn push_chains(
     from: usize,
 ) -> Result<(), AllocError> {
     // whether a comparison stands before, here and between each of the open brackets around
-    let (mut is_behind, mut around) = (false, Vec::new(alloc));
+    let (mut is_after, mut around) = (false, Vec::new(alloc));
     let mut next = from;
     for at in from..text.len() {
         if at < next {
@@ -103,22 +103,21 @@ fn push_chains(
         }
         match text[at] {
             b'(' | b'[' => {
-                around.push(is_behind)?;
-                is_behind = false;
+                around.push(is_after)?;
+                is_after = false;
             }
-            b')' | b']' => is_behind = around.pop().unwrap_or(false),
+            b')' | b']' => is_after = around.pop().unwrap_or(false),
             b'<' | b'>' => {
                 let (compares, end) = relation(text, at);
-                if compares && is_behind {
+                if compares && is_after {
                     found.push(at)?;
                 }
-                is_behind = is_behind || compares;
+                is_after = is_after || compares;
                 next = end;
             }
             b'/' => next = slash_end(text, at),
             // what ends the operands of a comparison: signs that bind less, and what ends expressions
-            b'=' | b'&' | b'^' | b'|' | b'?' | b':' | b',' | b';' | b'{' | b'}' => is_behind =
-                false,
+            b'=' | b'&' | b'^' | b'|' | b'?' | b':' | b',' | b';' | b'{' | b'}' => is_after = false,
             _ => {}
         }
     }

@@ -9,13 +9,13 @@ const MAX_RUN: usize = 1024;
 
 /// Returns the bytes of the preprocessing number at the front (C99 6.4.8).
 fn number<'t>(text: &'t [u8]) -> &'t [u8] {
-    let mut is_behind_exponent = false;
+    let mut is_after_exponent = false;
     for (n, byte) in text.iter().enumerate() {
-        let is_sign = is_behind_exponent && b"+-".contains(byte);
+        let is_sign = is_after_exponent && b"+-".contains(byte);
         if !is_sign && !is_word(*byte) && *byte != b'.' {
             return front(text, n);
         }
-        is_behind_exponent = b"eEpP".contains(byte);
+        is_after_exponent = b"eEpP".contains(byte);
     }
     text
 }

@@ -43,7 +43,7 @@ pub(crate) fn written_for(name: &[u8]) -> Option<&'static str> {
 }
 
 /// Reports whether a token stands after a cast to a type of these headers.
-fn is_behind_cast(source: &Source<'_>, k: usize) -> bool {
+fn is_after_cast(source: &Source<'_>, k: usize) -> bool {
     let name = source.spelling(before(k, 2));
     source.is(before(k, 1), Mark::RightParen)
         && source.is(before(k, 3), Mark::LeftParen)
@@ -53,7 +53,7 @@ fn is_behind_cast(source: &Source<'_>, k: usize) -> bool {
 
 /// Returns what to write in place of a type of these headers, or of a cast to one. A token or the one before has to name it.
 pub(crate) fn type_hint(source: &Source<'_>, k: usize) -> Option<&'static str> {
-    if is_behind_cast(source, k) {
+    if is_after_cast(source, k) {
         return Some(NO_CASTS);
     }
     for token in [k, before(k, 1)] {

@@ -96,7 +96,7 @@ pub(crate) fn say_byte(said: &mut Said, text: &[u8], at: usize) {
 }
 
 /// Returns the word or the sign after blanks.
-pub(crate) fn behind_blanks<'t>(text: &'t [u8], at: usize) -> &'t [u8] {
+pub(crate) fn after_blanks<'t>(text: &'t [u8], at: usize) -> &'t [u8] {
     let rest = back(text, at);
     match rest.iter().position(|byte| *byte != b' ') {
         Some(n) => spelled_at(rest, n),
@@ -110,7 +110,7 @@ fn counted_name<'t>(source: &Source<'t>, at: usize) -> &'t str {
     if source.is_name(k) {
         return source.token_text(k);
     }
-    let name = behind_blanks(source.text, at.saturating_add(2));
+    let name = after_blanks(source.text, at.saturating_add(2));
     match name.first() {
         Some(byte) if byte.is_ascii_alphabetic() => shown_text(name),
         _ => "i",
@@ -119,7 +119,7 @@ fn counted_name<'t>(source: &Source<'t>, at: usize) -> &'t str {
 
 /// Says what to do about what stands after `#`.
 fn say_directive(said: &mut Said, text: &[u8], at: usize) {
-    let word = behind_blanks(text, at.saturating_add(1));
+    let word = after_blanks(text, at.saturating_add(1));
     said.message.texts(&["'#", shown_text(word), "' "]);
     said.say(LEFT_OUT_HERE);
     said.hint(told_of(DIRECTIVES, word).unwrap_or(NO_DIRECTIVES));

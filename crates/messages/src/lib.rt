@@ -29,7 +29,7 @@ mod warning_walk;
 mod warnings;
 
 ghost use Rattle.std.specs.Prelude.{IfOk};
-ghost use Rattle.commands.specs.Texts.{IsPrintableExplanation};
+ghost use Rattle.text.specs.Shown.{IsPrintableExplanation};
 
 use crate::constants::{say_constant, say_size};
 use crate::expected::expected_words;
@@ -40,10 +40,10 @@ use crate::source::Source;
 use crate::syntax::say_syntax;
 use crate::types::say_types;
 use c_front::{FrontFault, FrontFaultKind};
-use commands::Explanation;
 pub use fault::SourceFault;
 pub use statements::{PlacedStatement, placed_statements};
 use std::alloc::{AllocError, Global};
+use text::Explanation;
 pub use warnings::{Warning, warnings_of};
 
 fn say_front(

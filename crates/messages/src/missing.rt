@@ -1,20 +1,20 @@
 //! Hints that name what is missing further up in the text: a brace or a semicolon.
 
 use crate::said::Said;
-use crate::source::{Source, TYPES, before, behind};
+use crate::source::{Source, TYPES, after, before};
 use c_tokens::{Mark, Token};
 
 /// Reports whether a function's head stands at a token that can't stand. The token is the `(` of `type name (`, or the `void` that such a
 /// head begins with.
 fn is_at_head(source: &Source<'_>, k: usize) -> bool {
     let name = if source.is(k, Mark::Void) {
-        behind(k, 1)
+        after(k, 1)
     } else {
         before(k, 1)
     };
     source.is_name(name)
         && source.is_one(before(name, 1), TYPES)
-        && source.is(behind(name, 1), Mark::LeftParen)
+        && source.is(after(name, 1), Mark::LeftParen)
 }
 
 /// Names the brace that isn't closed where a function begins inside of another; false if that isn't so.

@@ -3,11 +3,11 @@
 ghost use Rattle.std.specs.Prelude.{◌≤◌, length};
 ghost use Rattle.c_tokens.specs.declared.sizes.TheConstants.{MAX_TEXT};
 
-use crate::lexical::behind_blanks;
+use crate::lexical::after_blanks;
 use crate::said::Said;
 use crate::source::{back, front, is_word, shown_text, spelled_at};
 use c_tokens::{LexFault, MAX_TEXT, Refusal, lex};
-use commands::spot_of;
+use host::spot_of;
 use std::alloc::{AllocError, Global};
 
 /// So many are named at most.
@@ -75,7 +75,7 @@ fn say_one(said: &mut Said, text: &[u8], at: usize) {
     said.more.texts(&[" '", shown_text(sign)]);
     if sign == b"#".as_slice() {
         said.more
-            .text(shown_text(behind_blanks(text, at.saturating_add(1))));
+            .text(shown_text(after_blanks(text, at.saturating_add(1))));
     }
     said.more.text("'");
 }

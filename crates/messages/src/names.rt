@@ -1,6 +1,6 @@
 //! The names that a text declares, up to a place: in a text that spells a program, as c_types has them.
 
-use crate::source::{Source, behind};
+use crate::source::{Source, after};
 use c_tokens::Mark;
 use std::alloc::{AllocError, Global};
 
@@ -49,7 +49,7 @@ pub(crate) fn in_sight(source: &Source<'_>, names: &[usize], k: usize) -> Option
 /// Returns the function that is declared last before a token: at a place inside a function that one.
 pub(crate) fn last_function(source: &Source<'_>, k: usize) -> Option<usize> {
     for token in (0..k).rev() {
-        if source.is_declared(token) && source.is(behind(token, 1), Mark::LeftParen) {
+        if source.is_declared(token) && source.is(after(token, 1), Mark::LeftParen) {
             return Some(token);
         }
     }

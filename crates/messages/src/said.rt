@@ -1,31 +1,23 @@
 //! What is said of a fault, as it is written.
 
 ghost use Rattle.std.specs.Prelude.{IfOk};
-ghost use Rattle.commands.specs.Texts.{IsPrintableExplanation};
+ghost use Rattle.text.specs.Shown.{IsPrintableExplanation};
 
-use commands::{Explanation, Spot};
+use host::Spot;
 use std::alloc::{AllocError, Global};
+use text::{Explanation, Writer};
 
-/// A line that grows piece by piece. Where memory was refused once, nothing more is written, and `end` says so: what writes has no
-/// result at each step.
+/// A line that grows piece by piece.
 #[derive(Drop)]
-pub(crate) struct Line {
-    written: String,
-    is_refused: bool,
-}
+pub(crate) struct Line(Writer);
 
 impl Line {
     fn new(alloc: Global) -> Line {
-        Line {
-            written: String::new(alloc),
-            is_refused: false,
-        }
+        Line(Writer::new(alloc))
     }
 
     pub(crate) fn text(&mut self, text: &str) {
-        if !self.is_refused {
-            self.is_refused = self.written.push_str(text).is_err();
-        }
+        self.0.text(text);
     }
 
     pub(crate) fn texts(&mut self, texts: &[&str]) {
@@ -35,9 +27,7 @@ impl Line {
     }
 
     pub(crate) fn number(&mut self, number: usize) {
-        if !self.is_refused {
-            self.is_refused = write!(self.written, "{number}").is_err();
-        }
+        self.0.put(&number);
     }
 
     pub(crate) fn spot(&mut self, spot: Spot) {
@@ -45,14 +35,6 @@ impl Line {
         self.number(spot.line);
         self.text(", column ");
         self.number(spot.column);
-    }
-
-    /// Returns what was written, unless memory was refused.
-    fn end(self) -> Result<String, AllocError> {
-        if self.is_refused {
-            return Err(AllocError);
-        }
-        Ok(self.written)
     }
 }
 
@@ -103,16 +85,25 @@ impl Said {
         ensures { IfOk result IsPrintableExplanation }
     {
         let count = self.count;
-        let (message, hint, named) = (self.message.end()?, self.hint.end()?, self.more.end()?);
-        let hint = if hint.is_empty() {
+        let (message, hint, named) = (
+            self.message.0.end()?,
+            self.hint.0.end()?,
+            self.more.0.end()?,
+        );
+        let hint = if hint.bytes().is_empty() {
             None
         } else {
-            Some(hint.as_str())
+            Some(hint.bytes())
         };
         if count == 0 {
-            return Explanation::new(alloc, message.as_str(), hint);
+            return Explanation::with_more(alloc, message.bytes(), hint, None);
         }
-        let more = format!(in alloc; "and {count} more: {named}")?;
-        Explanation::with_more(alloc, message.as_str(), hint, Some(more.as_str()))
+        let mut more = Line::new(alloc);
+        more.text("and ");
+        more.number(count);
+        more.text(" more: ");
+        more.0.page(&named);
+        let more = more.0.end()?;
+        Explanation::with_more(alloc, message.bytes(), hint, Some(more.bytes()))
     }
 }

@@ -3,7 +3,7 @@
 ghost use Rattle.std.specs.Prelude.{◌≤◌, length};
 
 use c_tokens::{LexFault, MAX_TEXT, Mark, Token, lex};
-use commands::{Spot, spot_of};
+use host::{Spot, spot_of};
 use std::alloc::{AllocError, Global};
 use std::str;
 
@@ -211,7 +211,7 @@ impl<'t> Source<'t> {
     pub(crate) fn first_of(&self, k: usize) -> usize {
         for token in (0..k).rev() {
             if self.is_one(token, ENDS) {
-                return behind(token, 1);
+                return after(token, 1);
             }
         }
         0
@@ -239,6 +239,6 @@ pub(crate) fn before(k: usize, n: usize) -> usize {
 }
 
 /// Returns the number of the token so many after this one.
-pub(crate) fn behind(k: usize, n: usize) -> usize {
+pub(crate) fn after(k: usize, n: usize) -> usize {
     k.saturating_add(n)
 }

@@ -5,10 +5,9 @@ use crate::missing::hint_missing;
 use crate::said::Said;
 use crate::source::{Source, TYPES, before};
 use Fact::{
-    AtFileScope, Before, Begins, BeginsWithName, BeginsWithReturn, BeginsWithType, BehindAssign,
-    BehindCall, BehindDeclared, BehindName, BehindNoOperand, InFunction, InNoBrackets,
-    InNoParentheses, InParentheses, Is, IsConstant, IsFirst, IsName, IsOperator, IsPointerSign,
-    IsSecond, IsType,
+    AfterAssign, AfterCall, AfterDeclared, AfterName, AfterNoOperand, AtFileScope, Before, Begins,
+    BeginsWithName, BeginsWithReturn, BeginsWithType, InFunction, InNoBrackets, InNoParentheses,
+    InParentheses, Is, IsConstant, IsFirst, IsName, IsOperator, IsPointerSign, IsSecond, IsType,
 };
 use c_tokens::{JumpWord, Mark, Token};
 
@@ -23,15 +22,15 @@ enum Fact {
     IsPointerSign,
     /// This stands so many tokens before it.
     Before(usize, Mark),
-    BehindName,
+    AfterName,
     /// A name stands before it that is declared there.
-    BehindDeclared,
+    AfterDeclared,
     /// Just before it a call ends.
-    BehindCall,
+    AfterCall,
     /// No operand ends just before it.
-    BehindNoOperand,
+    AfterNoOperand,
     /// An `=` stands before it in its declaration.
-    BehindAssign,
+    AfterAssign,
     /// It is the first token of its statement or declaration, or the second one.
     IsFirst,
     IsSecond,
@@ -74,19 +73,19 @@ const STATEMENT: &str = "a statement is an assignment or a call: x = x + 1; f(x)
 /// What is written in place of calls that the subset leaves out. The first hint holds whose facts hold, of these and then of the others.
 #[rattlefmt::skip]
 const CALL_HINTS: &[(&[Fact], &str)] = &[
-    (&[InFunction, Is(Mark::LeftParen), BehindName, BeginsWithReturn],
+    (&[InFunction, Is(Mark::LeftParen), AfterName, BeginsWithReturn],
         "a call stands alone or behind 'name =': int r; r = f(1); return r;"),
-    (&[InFunction, Is(Mark::LeftParen), BehindName, Before(2, Mark::Assign), Before(3, Mark::RightBracket)],
+    (&[InFunction, Is(Mark::LeftParen), AfterName, Before(2, Mark::Assign), Before(3, Mark::RightBracket)],
         "a call stands alone or behind 'name =': int r; r = f(1); a[0] = r;"),
-    (&[InFunction, Is(Mark::LeftParen), BehindName], CALL),
+    (&[InFunction, Is(Mark::LeftParen), AfterName], CALL),
 ];
 
 /// What is written in place of the rest that C has and the subset leaves out. (rattle 13f: `--backend rattle` has no room for all
 /// hints in one function)
 #[rattlefmt::skip]
 const HINTS: &[(&[Fact], &str)] = &[
-    (&[InFunction, IsOperator, BehindCall], CALL),
-    (&[IsPointerSign, BehindNoOperand], "there are no pointers: write an index into an array at file scope"),
+    (&[InFunction, IsOperator, AfterCall], CALL),
+    (&[IsPointerSign, AfterNoOperand], "there are no pointers: write an index into an array at file scope"),
     (&[IsType, Before(1, Mark::LeftParen), Before(2, Mark::For)], "declare it before the loop: int i; for (i = 0; i < 3; i = i + 1)"),
     (&[IsType, Before(1, Mark::LeftParen), InFunction], NO_CASTS),
     (&[Is(Mark::Char)], CHAR),
@@ -97,16 +96,16 @@ const HINTS: &[(&[Fact], &str)] = &[
     (&[Is(Mark::Comma), InFunction], "there is no comma operator: write two statements"),
     (&[Is(Mark::Comma)], PARAMETER),
     (&[Is(Mark::LeftBracket), Before(1, Mark::RightBracket)], "an array has one index: write a[8 * i + j]"),
-    (&[Is(Mark::LeftBracket), BehindDeclared, InFunction], "an array stands at file scope: put its declaration before the function"),
-    (&[Is(Mark::LeftBracket), BehindDeclared], "an array can't be passed: pass an index into one at file scope"),
+    (&[Is(Mark::LeftBracket), AfterDeclared, InFunction], "an array stands at file scope: put its declaration before the function"),
+    (&[Is(Mark::LeftBracket), AfterDeclared], "an array can't be passed: pass an index into one at file scope"),
     (&[Before(1, Mark::LeftBracket), BeginsWithType, AtFileScope], "an array's length is a number: int a[16];"),
     (&[Is(Mark::LeftBrace), Before(1, Mark::Assign)], ARRAY_VALUES),
     (&[Is(Mark::Assign), Before(1, Mark::RightBracket), BeginsWithType], ARRAY_VALUES),
     (&[Is(Mark::Assign), InFunction, InNoBrackets, InParentheses], "'=' assigns and is a statement of its own: write '==' to compare"),
     (&[Is(Mark::Assign), InFunction, InNoBrackets], "an assignment is a statement of its own: b = c; a = b;"),
-    (&[AtFileScope, Begins(Mark::Void), BehindDeclared], VOID),
+    (&[AtFileScope, Begins(Mark::Void), AfterDeclared], VOID),
     (&[AtFileScope, BeginsWithType, Before(2, Mark::Char)], CHAR),
-    (&[AtFileScope, BeginsWithType, BehindAssign], "a variable at file scope begins with a number: compute its value in main"),
+    (&[AtFileScope, BeginsWithType, AfterAssign], "a variable at file scope begins with a number: compute its value in main"),
     (&[AtFileScope, Is(Mark::Semicolon), Before(1, Mark::RightParen)], "there are no prototypes: put the function before its callers"),
     (&[AtFileScope, Is(Mark::RightParen), Before(1, Mark::LeftParen)], "write (void) where there are no parameters"),
     (&[AtFileScope, InParentheses], PARAMETER),
@@ -147,7 +146,7 @@ impl<'s, 't> Found<'s, 't> {
     }
 
     /// Reports whether an operand ends just before it.
-    fn is_behind_operand(&self) -> bool {
+    fn is_after_operand(&self) -> bool {
         match self.source.token(before(self.token, 1)) {
             Some(Token::Name(_) | Token::Constant(_)) => true,
             Some(Token::The(mark)) => mark == Mark::RightParen || mark == Mark::RightBracket,
@@ -156,7 +155,7 @@ impl<'s, 't> Found<'s, 't> {
     }
 
     /// Reports whether a call ends just before it.
-    fn is_behind_call(&self) -> bool {
+    fn is_after_call(&self) -> bool {
         let last = before(self.token, 1);
         let source = self.source;
         match source.open_before(last, Mark::LeftParen) {
@@ -166,7 +165,7 @@ impl<'s, 't> Found<'s, 't> {
     }
 
     /// Reports whether an `=` stands before it in its declaration.
-    fn is_behind_assign(&self) -> bool {
+    fn is_after_assign(&self) -> bool {
         (self.first..self.token).any(|k| self.source.is(k, Mark::Assign))
     }
 
@@ -181,11 +180,11 @@ impl<'s, 't> Found<'s, 't> {
             Fact::IsOperator => source.is_one(self.token, OPERATORS),
             Fact::IsPointerSign => source.is_one(self.token, POINTER_SIGNS),
             Fact::Before(n, mark) => source.is(before(self.token, *n), *mark),
-            Fact::BehindName => source.is_name(last),
-            Fact::BehindDeclared => source.is_declared(last),
-            Fact::BehindCall => self.is_behind_call(),
-            Fact::BehindNoOperand => !self.is_behind_operand(),
-            Fact::BehindAssign => self.is_behind_assign(),
+            Fact::AfterName => source.is_name(last),
+            Fact::AfterDeclared => source.is_declared(last),
+            Fact::AfterCall => self.is_after_call(),
+            Fact::AfterNoOperand => !self.is_after_operand(),
+            Fact::AfterAssign => self.is_after_assign(),
             Fact::IsFirst => self.token == self.first,
             Fact::IsSecond => last == self.first,
             Fact::Begins(mark) => source.is(self.first, *mark),

@@ -4,7 +4,7 @@ use crate::headers::written_for;
 use crate::names::{in_sight, last_function, names_before};
 use crate::near_names::nearest;
 use crate::said::Said;
-use crate::source::{Source, Told, before, behind, told_of};
+use crate::source::{Source, Told, after, before, told_of};
 use c_statements::{TypeFault, TypeFaultKind};
 use c_tokens::{Mark, Token};
 use std::alloc::{AllocError, Global};
@@ -106,13 +106,13 @@ fn say_variable(said: &mut Said, name: &str, after: Option<Mark>) {
 /// Reports whether the name is a function's; `out`, which no text declares, is one.
 fn is_function(source: &Source<'_>, declared: Option<usize>) -> bool {
     match declared {
-        Some(token) => source.is(behind(token, 1), Mark::LeftParen),
+        Some(token) => source.is(after(token, 1), Mark::LeftParen),
         None => true,
     }
 }
 
 fn say_other_kind(said: &mut Said, source: &Source<'_>, k: usize, declared: Option<usize>) {
-    let (name, after) = (source.token_text(k), source.mark(behind(k, 1)));
+    let (name, after) = (source.token_text(k), source.mark(after(k, 1)));
     if let Some(Token::Jump(_, _)) = source.token(k) {
         say_return(said, source, k);
     } else if source.is_declared(k) && name == "main" {
@@ -128,7 +128,7 @@ fn say_other_kind(said: &mut Said, source: &Source<'_>, k: usize, declared: Opti
 
 /// Returns how many arguments or parameters stand between the parentheses that begin at this token.
 fn arguments(source: &Source<'_>, open: usize) -> usize {
-    if source.is_one(behind(open, 1), &[Mark::RightParen, Mark::Void]) {
+    if source.is_one(after(open, 1), &[Mark::RightParen, Mark::Void]) {
         return 0;
     }
     let (mut depth, mut count) = (0usize, 1usize);
@@ -151,13 +151,13 @@ fn say_other_count(said: &mut Said, source: &Source<'_>, k: usize, declared: Opt
         return said.hint("more values go through variables at file scope");
     }
     let taken = match declared {
-        Some(token) => arguments(source, behind(token, 1)),
+        Some(token) => arguments(source, after(token, 1)),
         None => 1,
     };
     said.say_name(source.token_text(k), "takes ");
     let taken = TAKEN.get(taken).copied().unwrap_or("4 arguments");
     said.message.texts(&[taken, ", not "]);
-    said.message.number(arguments(source, behind(k, 1)));
+    said.message.number(arguments(source, after(k, 1)));
 }
 
 fn say_limit(said: &mut Said, source: &Source<'_>, k: usize) {
@@ -166,7 +166,7 @@ fn say_limit(said: &mut Said, source: &Source<'_>, k: usize) {
             "a function has more than 128 locals, parameters counted",
             "split the function, or put variables at file scope",
         );
-    } else if source.is(behind(k, 1), Mark::LeftParen) {
+    } else if source.is(after(k, 1), Mark::LeftParen) {
         said.say("the program has more than 256 functions");
     } else {
         said.say_both(
