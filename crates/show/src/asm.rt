@@ -10,42 +10,9 @@ use rtl::RGlobal;
 use std::alloc::{AllocError, Global};
 
 /// Returns the address after so many words.
-fn behind(address: u32, words: usize) -> u32 {
+fn address_after(address: u32, words: usize) -> u32 {
     let words = u32::try_from(words).unwrap_or(u32::MAX);
     address.wrapping_add(words.wrapping_mul(4))
-}
-
-fn put_functions<'t>(
-    labels: &mut Vec<Label<'t>>,
-    names: &Names<'t>,
-    ranges: &[Range],
-    orders: &[Order],
-) -> Result<(), AllocError> {
-    let mut address = CODE_BASE;
-    for (number, range) in ranges.iter().enumerate() {
-        if number > 0 {
-            let name = names.function(number - 1);
-            labels.push(Label { address, name })?;
-        }
-        for order in range.of(orders) {
-            address = behind(address, order_words(order));
-        }
-    }
-    Ok(())
-}
-
-fn put_globals<'t>(
-    labels: &mut Vec<Label<'t>>,
-    names: &Names<'t>,
-    globals: &[RGlobal],
-) -> Result<(), AllocError> {
-    let mut address = DATA_BASE;
-    for (k, global) in globals.iter().enumerate() {
-        let name = names.global(k);
-        labels.push(Label { address, name })?;
-        address = behind(address, global.width.words_of(global.length) as usize);
-    }
-    Ok(())
 }
 
 /// Returns the labels of a program's functions and globals.
@@ -57,7 +24,21 @@ pub(crate) fn labels_of<'t>(
     globals: &[RGlobal],
 ) -> Result<Vec<Label<'t>>, AllocError> {
     let mut labels = Vec::new(alloc);
-    put_functions(&mut labels, names, ranges, orders)?;
-    put_globals(&mut labels, names, globals)?;
+    let mut address = CODE_BASE;
+    for (number, range) in ranges.iter().enumerate() {
+        if number > 0 {
+            let name = names.function(number - 1);
+            labels.push(Label { address, name })?;
+        }
+        for order in range.of(orders) {
+            address = address_after(address, order_words(order));
+        }
+    }
+    address = DATA_BASE;
+    for (k, global) in globals.iter().enumerate() {
+        let name = names.global(k);
+        labels.push(Label { address, name })?;
+        address = address_after(address, global.width.words_of(global.length) as usize);
+    }
     Ok(labels)
 }

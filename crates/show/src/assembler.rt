@@ -1,8 +1,7 @@
 //! Images as assembler source, for GNU as and for SPIM.
 ghost use Rattle.std.specs.Prelude.{All, IfOk};
-ghost use Rattle.block_text.specs.Shown.{IsShown};
+ghost use Rattle.text.specs.Shown.{IsShown};
 
-use block_text::{Writer, page_of};
 use image::Image;
 use mips_code::decode;
 use mips_isa::{
@@ -10,6 +9,7 @@ use mips_isa::{
     branch_target, jump_target,
 };
 use std::alloc::{AllocError, Global};
+use text::{Page, Writer};
 
 const HEAD: &str = "\
 # An image of mcc: code at 0x00400000, data at 0x10000000, MIPS I, big-endian.
@@ -30,8 +30,9 @@ pub struct Label<'a> {
 fn target_of(control: &Control, address: u32) -> Option<u32> {
     let slot = address.wrapping_add(4);
     match control {
-        Control::BranchPair { offset, .. } => Some(branch_target(slot, *offset)),
-        Control::BranchZero { offset, .. } => Some(branch_target(slot, *offset)),
+        Control::BranchPair { offset, .. } | Control::BranchZero { offset, .. } => {
+            Some(branch_target(slot, *offset))
+        }
         Control::JumpTo { target, .. } => Some(jump_target(slot, *target)),
         Control::JumpRegister { .. } | Control::SystemCall => None,
     }
@@ -53,33 +54,25 @@ enum Form {
 
 /// Reports whether a branch or jump leads to no word of the code, which has so many words.
 fn leads_out(control: &Control, address: u32, count: usize) -> bool {
-    match target_of(control, address) {
-        Some(target) => target < CODE_BASE || word_index(target) >= count,
-        None => false,
-    }
+    let Some(target) = target_of(control, address) else {
+        return false;
+    };
+    target < CODE_BASE || word_index(target) >= count
 }
 
 fn form_of(word: u32, address: u32, count: usize) -> Form {
     match decode(word) {
-        Some(Inst::Plain(Plain::Divide { .. })) => Form::Word(word),
-        Some(Inst::Plain(plain)) => Form::Plain(plain),
-        Some(Inst::Control(control)) => {
-            if leads_out(&control, address, count) {
-                Form::Word(word)
-            } else {
-                Form::Control(control)
-            }
+        Some(Inst::Plain(plain)) if !matches!(plain, Plain::Divide { .. }) => Form::Plain(plain),
+        Some(Inst::Control(control)) if !leads_out(&control, address, count) => {
+            Form::Control(control)
         }
-        None => Form::Word(word),
+        _ => Form::Word(word),
     }
 }
 
 /// Returns which code words a branch or jump leads to.
 fn targets(alloc: Global, code: &[u32]) -> Result<Vec<bool>, AllocError> {
-    let mut marks = Vec::new(alloc);
-    for _ in code {
-        marks.push(false)?;
-    }
+    let mut marks = vec![in alloc; false; code.len()]?;
     let mut address = CODE_BASE;
     for word in code {
         if let Form::Control(control) = form_of(*word, address, code.len())
@@ -93,32 +86,18 @@ fn targets(alloc: Global, code: &[u32]) -> Result<Vec<bool>, AllocError> {
     Ok(marks)
 }
 
-/// Reports whether the source has a label of its own that may be this name.
-fn is_taken(name: &str) -> bool {
-    name == "__start" || (name.len() == 9 && name.starts_with("L"))
+impl<'a> Label<'a> {
+    /// Reports whether it names this address, and is like no label of the source itself.
+    fn is_of(&self, address: u32) -> bool {
+        let is_like_own = self.name.len() == 9 && self.name.starts_with("L");
+        self.address == address && self.name != "__start" && !is_like_own
+    }
 }
 
 /// Returns the first name of an address.
 fn name_at<'a>(labels: &[Label<'a>], address: u32) -> Option<&'a str> {
-    for label in labels {
-        if label.address == address && !is_taken(label.name) {
-            return Some(label.name);
-        }
-    }
-    None
-}
-
-/// Writes the names of an address, each a global label.
-fn put_names(out: &mut Writer, labels: &[Label<'_>], address: u32) {
-    for label in labels {
-        if label.address == address && !is_taken(label.name) {
-            out.text(".globl ");
-            out.text(label.name);
-            out.text("\n");
-            out.text(label.name);
-            out.text(":\n");
-        }
-    }
+    let label = labels.iter().find(|label| label.is_of(address))?;
+    Some(label.name)
 }
 
 /// Writes the label that the source itself has for an address.
@@ -155,15 +134,7 @@ fn put_word(out: &mut Writer, word: u32) {
     out.put(&WordDigits(word));
 }
 
-/// Writes an instruction's text. The word 0 is `sll $0,$0,0`, since SPIM on a bare machine knows no `nop`.
-fn put_plain(out: &mut Writer, plain: Plain) {
-    if plain.is_nop() {
-        out.text("sll $0,$0,0");
-    } else {
-        out.put(&plain);
-    }
-}
-
+/// Writes a word of the code. The word 0 is `sll $0,$0,0`, since SPIM on a bare machine knows no `nop`.
 fn put_form(
     alloc: Global,
     out: &mut Writer,
@@ -173,7 +144,8 @@ fn put_form(
 ) -> Result<(), AllocError> {
     out.text("    ");
     match form {
-        Form::Plain(plain) => put_plain(out, plain),
+        Form::Plain(plain) if plain.is_nop() => out.text("sll $0,$0,0"),
+        Form::Plain(plain) => out.put(&plain),
         Form::Control(control) => put_control(alloc, out, control, address, labels)?,
         Form::Word(word) => put_word(out, word),
     }
@@ -181,21 +153,16 @@ fn put_form(
     Ok(())
 }
 
-/// Writes the labels of an address of the code.
-fn put_labels(
-    out: &mut Writer,
-    image: &Image,
-    labels: &[Label<'_>],
-    address: u32,
-    is_target: bool,
-) {
-    if address == image.entry() {
-        out.text("__start:\n");
-    }
-    put_names(out, labels, address);
-    if is_target && name_at(labels, address).is_none() {
-        put_label(out, address);
-        out.text(":\n");
+/// Writes the names of an address, each a global label.
+fn put_names(out: &mut Writer, labels: &[Label<'_>], address: u32) {
+    for label in labels {
+        if label.is_of(address) {
+            out.text(".globl ");
+            out.text(label.name);
+            out.text("\n");
+            out.text(label.name);
+            out.text(":\n");
+        }
     }
 }
 
@@ -209,39 +176,33 @@ fn put_code(
     let marks = targets(alloc, code)?;
     let mut address = CODE_BASE;
     for (word, is_target) in code.iter().zip(marks.iter()) {
-        put_labels(out, image, labels, address, *is_target);
-        put_form(
-            alloc,
-            out,
-            form_of(*word, address, code.len()),
-            address,
-            labels,
-        )?;
+        if address == image.entry() {
+            out.text("__start:\n");
+        }
+        put_names(out, labels, address);
+        if *is_target && name_at(labels, address).is_none() {
+            put_label(out, address);
+            out.text(":\n");
+        }
+        let form = form_of(*word, address, code.len());
+        put_form(alloc, out, form, address, labels)?;
         address = address.wrapping_add(4);
     }
     Ok(())
 }
 
-/// Returns four bytes as a word, the first the highest.
-fn word_of(bytes: &[u8]) -> u32 {
-    bytes.iter().fold(
-        0u32,
-        |word, byte| word.wrapping_mul(256).wrapping_add(u32::from(*byte)),
-    )
-}
-
 /// Writes four bytes as a word, and fewer each alone.
 fn put_bytes(out: &mut Writer, bytes: &[u8]) {
-    if bytes.len() == 4 {
+    if let [a, b, c, d] = bytes {
         out.text("    ");
-        put_word(out, word_of(bytes));
+        put_word(out, u32::from_be_bytes([*a, *b, *c, *d]));
         out.text("\n");
-    } else {
-        for byte in bytes {
-            out.text("    .byte 0x");
-            out.put(&ByteDigits(*byte));
-            out.text("\n");
-        }
+        return;
+    }
+    for byte in bytes {
+        out.text("    .byte 0x");
+        out.put(&ByteDigits(*byte));
+        out.text("\n");
     }
 }
 
@@ -278,11 +239,10 @@ pub fn assembler_source(
     alloc: Global,
     image: &Image,
     labels: &[Label<'_>],
-) -> Result<Vec<u8>, AllocError>
-    ensures { IfOk result (λ page. All IsShown page.items) }
+) -> Result<Page, AllocError>
+    ensures { IfOk result (All IsShown) }
 {
     let mut out = Writer::new(alloc);
     put_source(alloc, &mut out, image, labels)?;
-    let text = out.end()?;
-    page_of(alloc, text.as_bytes(), usize::MAX)
+    out.end()
 }

@@ -2,8 +2,8 @@
 
 use crate::names::Names;
 use crate::numbers::Range;
-use block_text::Writer;
 use mblock::Exit;
+use text::Writer;
 
 /// Returns the name of the function that a call goes to; none if the block is left otherwise.
 pub(crate) fn callee<'t>(names: &Names<'t>, ranges: &[Range], exit: Exit) -> Option<&'t str> {

@@ -3,10 +3,10 @@
 use crate::back_edges::{Edges, back_edges};
 use crate::orders::put_needed;
 use crate::rtl_text::RtlView;
-use block_text::Writer;
 use mblock::{Block, Exit};
 use rtl::{RBlock, RExit};
 use std::alloc::{AllocError, Global};
+use text::Writer;
 
 /// What an edge is for: where a branch's condition holds, where it doesn't, and all others.
 #[derive(Clone, Copy)]
@@ -67,13 +67,11 @@ fn rtl_places(exit: &RExit) -> Edges {
 
 /// Returns their numbers.
 fn rtl_targets(view: &RtlView<'_>, exit: &RExit) -> Edges {
-    match exit {
-        RExit::Goto(next) | RExit::Call(_, _, _, next) | RExit::Out(_, next) => {
-            [Some(view.number(*next)), None]
-        }
-        RExit::Branch(_, then, other) => [Some(view.number(*then)), Some(view.number(*other))],
-        RExit::Return(_) => [None, None],
-    }
+    let [one, other] = rtl_places(exit);
+    [
+        one.map(|place| view.number(place)),
+        other.map(|place| view.number(place)),
+    ]
 }
 
 /// Writes the edges out of a node: two are a branch's.
@@ -133,19 +131,13 @@ pub(crate) fn put_rtl_blocks(
         edges.push(rtl_places(&block.exit))?;
     }
     let back = back_edges(alloc, &edges)?;
-    let mut number = 0u32;
     for (k, block) in blocks.iter().enumerate() {
-        let from = view.number(number);
+        let from = view.number(k);
         put_node(out, from);
         view.lines(out, block, "", "\\l");
         out.text("\"];\n");
-        put_edges(
-            out,
-            from,
-            rtl_targets(view, &block.exit),
-            marks_of(&back, k),
-        );
-        number = number.saturating_add(1);
+        let targets = rtl_targets(view, &block.exit);
+        put_edges(out, from, targets, marks_of(&back, k));
     }
     Ok(())
 }

@@ -1,8 +1,8 @@
 //! Where the pseudo-registers of a function live.
 
 use crate::names::Names;
-use block_text::Writer;
 use mips_homes::{Frame, Home};
+use text::Writer;
 
 fn put_register(out: &mut Writer, number: u8) {
     out.text("$");

@@ -3,10 +3,10 @@
 use crate::blocks::{callee, put_heading, put_line};
 use crate::names::Names;
 use crate::numbers::{Range, is_wanted};
-use block_text::Writer;
-use mblock::{Exit, Order, Unit};
+use mblock::{Exit, Order};
 use rtl::RGlobal;
 use std::str::Lines;
+use text::Writer;
 
 /// Returns how many words an exit has with its slot.
 fn exit_words(exit: Exit) -> usize {
@@ -25,7 +25,6 @@ pub(crate) fn order_words(order: &Order) -> usize {
 #[derive(Clone, Copy)]
 pub(crate) struct ListingView<'a> {
     pub(crate) names: &'a Names<'a>,
-    pub(crate) unit: &'a Unit,
     pub(crate) ranges: &'a [Range],
     pub(crate) globals: &'a [RGlobal],
     /// The function that is shown alone, by its number among the ranges.

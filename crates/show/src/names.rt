@@ -1,9 +1,9 @@
 //! The names of functions, globals and locals, by their numbers.
 
-use block_text::Writer;
 use c_tokens::{Identifier, MAX_TEXT, Mark, Token, lex};
 use std::alloc::{AllocError, Global};
 use std::str;
+use text::Writer;
 
 /// A function's name, and those of its locals, the parameters first.
 #[derive(Drop)]
@@ -28,7 +28,7 @@ fn is_type(token: Option<Token>) -> bool {
 }
 
 /// Returns how many brackets are open after a token.
-fn open_behind(token: Token, open: usize) -> usize {
+fn open_after(token: Token, open: usize) -> usize {
     match token {
         Token::The(Mark::LeftParen | Mark::LeftBrace) => open.saturating_add(1),
         Token::The(Mark::RightParen | Mark::RightBrace) => open.saturating_sub(1),
@@ -67,7 +67,7 @@ impl<'t> Names<'t> {
             {
                 names.declare(alloc, name, open, is_paren(tokens.get(k + 1).copied()))?;
             }
-            open = open_behind(*token, open);
+            open = open_after(*token, open);
             before = Some(*token);
         }
         Ok(names)
@@ -85,16 +85,14 @@ impl<'t> Names<'t> {
             if let Some(function) = self.functions.last_mut() {
                 function.locals.push(name)?;
             }
-            return Ok(());
-        }
-        if !is_function {
+        } else if is_function {
+            self.functions.push(FunctionNames {
+                name,
+                locals: Vec::new(alloc),
+            })?;
+        } else {
             self.globals.push(name)?;
-            return Ok(());
         }
-        self.functions.push(FunctionNames {
-            name,
-            locals: Vec::new(alloc),
-        })?;
         Ok(())
     }
 

@@ -5,7 +5,7 @@ use rtl::RFunc;
 use std::alloc::{AllocError, Global};
 
 /// The blocks of one function among all: from this number up to this one, which isn't one of them.
-#[derive(Clone, Copy)]
+#[derive(Clone, Copy, Default)]
 pub(crate) struct Range {
     pub(crate) from: usize,
     pub(crate) to: usize,
@@ -24,10 +24,7 @@ impl Range {
 
 /// Reports whether a number is the one that is asked for, if one is.
 pub(crate) fn is_wanted(asked: Option<usize>, number: usize) -> bool {
-    match asked {
-        Some(only) => only == number,
-        None => true,
-    }
+    asked.is_none_or(|only| only == number)
 }
 
 /// Returns the functions of a unit: the code that calls main, and then those of the program in their order.

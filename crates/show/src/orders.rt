@@ -3,12 +3,14 @@
 ghost use Rattle.std.specs.Prelude.{All, IfSome};
 ghost use Rattle.term_table.specs.Passes.{IsOf};
 
-use block_text::{ExitLine, Writer, put_found, put_insts, put_order};
+use block_text::{ExitLine, put_insts, put_order};
 use block_validator::{Place, Verdict, validate};
+use explain::put_found;
 use list_scheduler::{FilledOrder, ListOrder, Reorder};
 use mblock::{Block, Order, plain};
 use std::alloc::{AllocError, Global};
 use term_table::{Pass, TermTable};
+use text::Writer;
 
 /// How many terms a table has, and how many chains.
 #[derive(Clone, Copy)]
@@ -109,18 +111,6 @@ pub(crate) fn put_needed(out: &mut Writer, block: &Block, margin: &str, end: &st
     out.text(end);
 }
 
-/// Writes a block in its plain order, after a margin.
-fn put_plain(
-    alloc: Global,
-    out: &mut Writer,
-    block: &Block,
-    margin: &str,
-) -> Result<(), AllocError> {
-    let order = plain(alloc, block)?;
-    put_order(out, &order, margin, "\n");
-    Ok(())
-}
-
 /// Writes the order that was refused, why it is wrong, if that was found, and the plain one, which is taken.
 fn put_refused(alloc: Global, out: &mut Writer, block: &Block) -> Result<(), AllocError> {
     let refused = proposed_order(alloc, block)?;
@@ -128,7 +118,8 @@ fn put_refused(alloc: Global, out: &mut Writer, block: &Block) -> Result<(), All
     put_order(out, &refused, "      ", "\n");
     put_found(alloc, out, block, &refused)?;
     out.text("    taken:\n");
-    put_plain(alloc, out, block, "      ")
+    put_order(out, &plain(alloc, block)?, "      ", "\n");
+    Ok(())
 }
 
 /// Writes the verdict on the order that is proposed for a block, and the order that is taken; the one that was refused before it.

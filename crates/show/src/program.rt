@@ -1,7 +1,7 @@
 //! The stages of a program, function by function.
 
 ghost use Rattle.std.specs.Prelude.{All, IfOk};
-ghost use Rattle.block_text.specs.Shown.{IsShown};
+ghost use Rattle.text.specs.Shown.{IsShown};
 
 use crate::asm::labels_of;
 use crate::assembler::put_source;
@@ -17,15 +17,15 @@ use crate::rtl_text::RtlView;
 use crate::stage::Stage;
 use crate::terms::put_terms;
 use crate::wanted::{Asked, ShowFault, Wanted};
-use block_text::{WIDTH, Writer, page_of};
 use image::Image;
 use list_scheduler::{FilledOrder, ListOrder};
-use mblock::{Block, BlockNumber, Unit};
+use mblock::{Block, BlockNumber, Order, Unit};
 use mips_asm::{assemble, list};
 use mips_homes::{Frame, Homed, place};
-use rtl::{RFunc, Rtl};
+use rtl::Rtl;
 use sched_phase::{PhaseOpts, Scheduled, schedule_one};
 use std::alloc::{AllocError, Global};
+use text::{Page, WIDTH, Writer};
 
 /// A program at its stages, with the text that it is of.
 #[derive(Clone, Copy)]
@@ -70,62 +70,30 @@ struct View<'a> {
 }
 
 impl<'a> View<'a> {
-    fn of(
-        alloc: Global,
-        shown: Shown<'a>,
-        names: Names<'a>,
-        ranges: Vec<Range>,
-        wanted: &Wanted,
-    ) -> Result<View<'a>, AllocError> {
-        let rtl_ranges = rtl_blocks_of(alloc, shown.rtl.functions())?;
-        let frames = frames_of(alloc, shown.rtl, wanted)?;
-        Ok(View {
-            alloc,
-            shown,
-            names,
-            ranges,
-            rtl_ranges,
-            frames,
-            block: wanted.block,
-        })
-    }
-
     fn range(&self, number: usize) -> Range {
-        let none = Range { from: 0, to: 0 };
-        self.ranges.get(number).copied().unwrap_or(none)
+        self.ranges.get(number).copied().unwrap_or_default()
     }
 
-    /// Returns the function of RTL of this number among the ranges, the first of which is none of the program's.
-    fn function(&self, number: usize) -> Option<&'a RFunc> {
-        if number == 0 {
-            return None;
-        }
-        self.shown.rtl.functions().get(number - 1)
-    }
-
-    /// Returns the numbers of a function's blocks of RTL.
-    fn numbers(&self, number: usize) -> &'a [BlockNumber] {
-        let none = Range { from: 0, to: 0 };
-        let range = self.rtl_ranges.get(number.saturating_sub(1)).copied();
-        range.unwrap_or(none).of(self.shown.numbers)
-    }
-
+    /// Writes RTL of the function of this number among the ranges, the first of which is none of the program's.
     fn put_rtl(&self, out: &mut Writer, number: usize, is_graph: bool) -> Result<(), AllocError> {
-        let Some(function) = self.function(number) else {
+        let Some(number) = number.checked_sub(1) else {
             return Ok(());
         };
+        let Some(function) = self.shown.rtl.functions().get(number) else {
+            return Ok(());
+        };
+        let range = self.rtl_ranges.get(number).copied().unwrap_or_default();
         let view = RtlView {
             names: &self.names,
-            function: number.saturating_sub(1),
+            function: number,
             globals: self.shown.rtl.globals(),
-            numbers: self.numbers(number),
+            numbers: range.of(self.shown.numbers),
         };
         let blocks = function.blocks.as_slice();
         if is_graph {
-            put_rtl_blocks(self.alloc, out, &view, blocks)?;
-        } else {
-            view.blocks(out, blocks, self.block);
+            return put_rtl_blocks(self.alloc, out, &view, blocks);
         }
+        view.blocks(out, blocks, self.block);
         Ok(())
     }
 
@@ -209,37 +177,20 @@ impl<'a> View<'a> {
     fn put_listing(
         &self,
         out: &mut Writer,
-        scheduled: &Scheduled<'_>,
+        orders: &[Order],
         image: &Image,
         only: Option<usize>,
     ) -> Result<(), AllocError> {
         let listing = list(self.alloc, image)?;
         let view = ListingView {
             names: &self.names,
-            unit: self.shown.unit,
             ranges: self.ranges.as_slice(),
             globals: self.shown.rtl.globals(),
             only,
             block: self.block,
         };
-        view.put(out, scheduled.orders(), listing.as_str());
+        view.put(out, orders, listing.as_str());
         Ok(())
-    }
-
-    fn put_asm(
-        &self,
-        out: &mut Writer,
-        scheduled: &Scheduled<'_>,
-        image: &Image,
-    ) -> Result<(), AllocError> {
-        let labels = labels_of(
-            self.alloc,
-            &self.names,
-            self.ranges.as_slice(),
-            scheduled.orders(),
-            self.shown.rtl.globals(),
-        )?;
-        put_source(self.alloc, out, image, labels.as_slice())
     }
 
     /// Writes what is made of the whole image.
@@ -251,20 +202,19 @@ impl<'a> View<'a> {
         let scheduled = schedule_one(self.alloc, self.shown.unit, options, &scheduler)?;
         let image = image_of(self.alloc, &scheduled)?;
         if wanted.stage == Some(Stage::Asm) {
-            self.put_asm(out, &scheduled, &image)?;
+            let globals = self.shown.rtl.globals();
+            let (ranges, orders) = (self.ranges.as_slice(), scheduled.orders());
+            let labels = labels_of(self.alloc, &self.names, ranges, orders, globals)?;
+            put_source(self.alloc, out, &image, labels.as_slice())?;
         } else {
-            self.put_listing(out, &scheduled, &image, wanted.only)?;
+            self.put_listing(out, scheduled.orders(), &image, wanted.only)?;
         }
         Ok(())
     }
 
     fn put_check(&self, out: &mut Writer, wanted: &Wanted) -> Result<(), AllocError> {
-        match self
-            .shown
-            .unit
-            .blocks()
-            .get(wanted.checked(self.ranges.as_slice()))
-        {
+        let number = wanted.checked(self.ranges.as_slice());
+        match self.shown.unit.blocks().get(number) {
             Some(block) => put_check(self.alloc, out, block),
             None => Ok(()),
         }
@@ -272,14 +222,14 @@ impl<'a> View<'a> {
 
     /// Writes RTL, blocks and orders of a function.
     fn put_stages(&self, out: &mut Writer, number: usize) -> Result<(), AllocError> {
-        for stage in [Stage::Rtl, Stage::Blocks, Stage::Orders] {
-            if number > 0 || stage != Stage::Rtl {
-                out.text(stage.name());
-                out.text(": ");
-                self.put_function(out, stage, number)?;
-            }
+        if number > 0 {
+            out.text("rtl: ");
+            self.put_function(out, Stage::Rtl, number)?;
         }
-        Ok(())
+        out.text("blocks: ");
+        self.put_function(out, Stage::Blocks, number)?;
+        out.text("orders: ");
+        self.put_function(out, Stage::Orders, number)
     }
 
     /// Writes all that is asked of a function.
@@ -315,16 +265,18 @@ impl<'a> View<'a> {
         Ok(())
     }
 
-    /// Returns the text of what is asked for.
-    fn text(&self, wanted: &Wanted) -> Result<String, ShowFault> {
+    /// Returns what is asked for.
+    fn page(&self, wanted: &Wanted) -> Result<Page, ShowFault>
+        ensures { IfOk result (All IsShown) }
+    {
         let mut out = Writer::new(self.alloc);
         match wanted.stage {
             Some(Stage::Listing | Stage::Asm) if !wanted.dot => self.put_image(&mut out, wanted)?,
             Some(Stage::Check) if !wanted.dot => self.put_check(&mut out, wanted)?,
             _ => self.put_all(&mut out, wanted)?,
         }
-        let text = out.end()?;
-        Ok(text)
+        let page = out.end()?;
+        Ok(page)
     }
 }
 
@@ -336,30 +288,31 @@ fn first_of(wanted: &Wanted) -> usize {
     }
 }
 
-/// Returns how long lines are at most: what another program reads isn't cut.
-fn width_of(wanted: &Wanted) -> usize {
-    match wanted.stage {
-        Some(Stage::Asm) => usize::MAX,
-        _ => if wanted.dot { usize::MAX } else { WIDTH },
-    }
+/// Reports whether long lines are cut: those that another program reads aren't.
+fn is_cut(wanted: &Wanted) -> bool {
+    !wanted.dot && !matches!(wanted.stage, Some(Stage::Asm))
 }
 
 /// Returns what is asked for of a program: lines of printable ASCII, of at most 120 bytes but for graphs and assembler source.
-pub fn show(alloc: Global, shown: Shown<'_>, asked: &Asked<'_>) -> Result<Vec<u8>, ShowFault>
-    ensures { IfOk result (λ page. All IsShown page.items) }
+pub fn show(alloc: Global, shown: Shown<'_>, asked: &Asked<'_>) -> Result<Page, ShowFault>
+    ensures { IfOk result (All IsShown) }
 {
     let names = Names::read(alloc, shown.text)?;
     let ranges = functions_of(alloc, shown.unit)?;
     let wanted = Wanted::of(&names, ranges.as_slice(), asked)?;
-    let view = View::of(alloc, shown, names, ranges, &wanted)?;
-    let text = view.text(&wanted)?;
-    page_in(alloc, text.as_str(), width_of(&wanted))
-}
-
-/// Returns a text as it is shown, in lines of at most so many bytes.
-fn page_in(alloc: Global, text: &str, width: usize) -> Result<Vec<u8>, ShowFault>
-    ensures { IfOk result (λ page. All IsShown page.items) }
-{
-    let page = page_of(alloc, text.as_bytes(), width)?;
-    Ok(page)
+    let view = View {
+        alloc,
+        shown,
+        names,
+        ranges,
+        rtl_ranges: rtl_blocks_of(alloc, shown.rtl.functions())?,
+        frames: frames_of(alloc, shown.rtl, &wanted)?,
+        block: wanted.block,
+    };
+    let page = view.page(&wanted)?;
+    if is_cut(&wanted) {
+        Ok(page.cut(alloc, WIDTH)?)
+    } else {
+        Ok(page)
+    }
 }

@@ -1,10 +1,11 @@
 //! RTL as text.
 
+use crate::blocks::put_heading;
 use crate::names::Names;
 use crate::numbers::is_wanted;
-use block_text::Writer;
 use mblock::BlockNumber;
 use rtl::{Op, RBlock, RExit, RGlobal, RInst, Register};
+use text::Writer;
 
 /// A function of RTL as it is shown: its number, its names, the globals, and the numbers of its blocks.
 #[derive(Clone, Copy)]
@@ -52,10 +53,8 @@ impl<'a> RtlView<'a> {
     }
 
     fn is_array(&self, global: u32) -> bool {
-        match self.globals.get(global as usize) {
-            Some(global) => global.length > 1,
-            None => true,
-        }
+        let global = self.globals.get(global as usize);
+        global.is_none_or(|global| global.length > 1)
     }
 
     /// Writes an element of a global; a variable by its name alone.
@@ -98,8 +97,8 @@ impl<'a> RtlView<'a> {
     }
 
     /// Returns the number that a block has in all stages.
-    pub(crate) fn number(&self, block: u32) -> usize {
-        match self.numbers.get(block as usize) {
+    pub(crate) fn number(&self, block: usize) -> usize {
+        match self.numbers.get(block) {
             Some(number) => number.number() as usize,
             None => 0,
         }
@@ -107,7 +106,7 @@ impl<'a> RtlView<'a> {
 
     fn to(&self, out: &mut Writer, before: &str, block: u32) {
         out.text(before);
-        out.put(&self.number(block));
+        out.put(&self.number(block as usize));
     }
 
     fn call(&self, out: &mut Writer, function: u32, arguments: &[Register], to: Option<Register>) {
@@ -166,14 +165,13 @@ impl<'a> RtlView<'a> {
 
     /// Writes the blocks of a function, or the one with this number.
     pub(crate) fn blocks(&self, out: &mut Writer, blocks: &[RBlock], only: Option<usize>) {
-        let mut k = 0u32;
-        for block in blocks {
-            if is_wanted(only, self.number(k)) {
-                self.to(out, "  block ", k);
+        for (k, block) in blocks.iter().enumerate() {
+            let number = self.number(k);
+            if is_wanted(only, number) {
+                put_heading(out, number, None);
                 out.text("\n");
                 self.lines(out, block, "    ", "\n");
             }
-            k = k.saturating_add(1);
         }
     }
 }

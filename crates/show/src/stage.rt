@@ -20,35 +20,18 @@ pub(crate) enum Stage {
 }
 
 impl Stage {
-    pub(crate) fn name(self) -> &'static str {
-        match self {
-            Stage::Rtl => "rtl",
-            Stage::Homes => "homes",
-            Stage::Blocks => "blocks",
-            Stage::Orders => "orders",
-            Stage::Check => "check",
-            Stage::Terms => "terms",
-            Stage::Listing => "listing",
-            Stage::Asm => "asm",
-        }
-    }
-
     /// Returns the stage of this name.
     pub(crate) fn from_name(name: &str) -> Option<Stage> {
-        for stage in [
-            Stage::Rtl,
-            Stage::Homes,
-            Stage::Blocks,
-            Stage::Orders,
-            Stage::Check,
-            Stage::Terms,
-            Stage::Listing,
-            Stage::Asm,
-        ] {
-            if stage.name() == name {
-                return Some(stage);
-            }
+        match name {
+            "rtl" => Some(Stage::Rtl),
+            "homes" => Some(Stage::Homes),
+            "blocks" => Some(Stage::Blocks),
+            "orders" => Some(Stage::Orders),
+            "check" => Some(Stage::Check),
+            "terms" => Some(Stage::Terms),
+            "listing" => Some(Stage::Listing),
+            "asm" => Some(Stage::Asm),
+            _ => None,
         }
-        None
     }
 }

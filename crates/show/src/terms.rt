@@ -1,25 +1,19 @@
 //! The terms of what a block leaves.
 
-use crate::blocks::put_line;
-use block_text::{ReadFault, Writer, left_lines};
+use explain::{ReadFault, put_left};
 use mblock::Block;
 use std::alloc::{AllocError, Global};
+use text::Writer;
 
 /// How deep terms are shown.
 const DEPTH: u32 = 8;
 
-/// Writes a line for each place that changes, after a margin.
+/// Writes a line for each place that changes.
 pub(crate) fn put_terms(alloc: Global, out: &mut Writer, block: &Block) -> Result<(), AllocError> {
-    match left_lines(alloc, block, DEPTH) {
-        Ok(lines) => put_lines(out, lines.as_str()),
+    match put_left(alloc, out, block, DEPTH) {
+        Ok(()) => {}
         Err(ReadFault::Full) => out.text("    full\n"),
         Err(ReadFault::NoMemory) => return Err(AllocError),
     }
     Ok(())
-}
-
-fn put_lines(out: &mut Writer, lines: &str) {
-    for line in lines.lines() {
-        put_line(out, line);
-    }
 }

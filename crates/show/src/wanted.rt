@@ -63,30 +63,25 @@ fn stage_of(asked: &Asked<'_>) -> Result<Option<Stage>, ShowFault> {
     let Some(name) = asked.stage else {
         return Ok(None);
     };
-    match Stage::from_name(name) {
-        Some(stage) => Ok(Some(stage)),
-        None => Err(ShowFault::NoStage),
-    }
+    let stage = Stage::from_name(name).ok_or(ShowFault::NoStage)?;
+    Ok(Some(stage))
 }
 
 fn function_of(names: &Names<'_>, asked: &Asked<'_>) -> Result<Option<usize>, ShowFault> {
     let Some(name) = asked.function else {
         return Ok(None);
     };
-    match names.function_named(name) {
-        Some(number) => Ok(Some(number.saturating_add(1))),
-        None => Err(ShowFault::NoFunction),
-    }
+    let number = names.function_named(name).ok_or(ShowFault::NoFunction)?;
+    Ok(Some(number.saturating_add(1)))
 }
 
 /// Returns the blocks of a function, or of all.
 fn blocks_of(ranges: &[Range], only: Option<usize>) -> Range {
-    let none = Range { from: 0, to: 0 };
     match only {
-        Some(number) => ranges.get(number).copied().unwrap_or(none),
+        Some(number) => ranges.get(number).copied().unwrap_or_default(),
         None => Range {
             from: 0,
-            to: ranges.last().copied().unwrap_or(none).to,
+            to: ranges.last().copied().unwrap_or_default().to,
         },
     }
 }
@@ -111,15 +106,7 @@ fn shown_alone(ranges: &[Range], only: Option<usize>, block: Option<usize>) -> O
     let Some(block) = block else {
         return only;
     };
-    if only.is_some() {
-        return only;
-    }
-    for (number, range) in ranges.iter().enumerate() {
-        if range.has(block) {
-            return Some(number);
-        }
-    }
-    None
+    only.or(ranges.iter().position(|range| range.has(block)))
 }
 
 impl Wanted {
@@ -142,9 +129,6 @@ impl Wanted {
 
     /// Returns the block of a check text: the one that is named, or the function's first, or the first of all.
     pub(crate) fn checked(&self, ranges: &[Range]) -> usize {
-        match self.block {
-            Some(block) => block,
-            None => blocks_of(ranges, self.only).from,
-        }
+        self.block.unwrap_or(blocks_of(ranges, self.only).from)
     }
 }
