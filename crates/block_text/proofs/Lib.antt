@@ -8,4 +8,3 @@ pub mod Stood
 pub mod Reading
 pub mod Ends
 pub mod Values
-pub mod Readers

@@ -5,6 +5,3 @@ pub mod StageParts
 pub mod Stages
 pub mod Faults
 pub mod Named
-pub mod Shown
-pub mod Readers
-pub mod Written

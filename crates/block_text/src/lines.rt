@@ -4,10 +4,10 @@ ghost use Rattle.std.specs.Prelude.{◌≡◌, Some};
 ghost use Rattle.block_text.specs.Spelling.{exit_text, name_of_exit, targets_text};
 
 use crate::ExitName;
-use crate::writer::Writer;
-use mblock::{BlockNumber, Exit, Order};
+use mblock::{Exit, Order};
 use mips_isa::Plain;
 use std::fmt;
+use text::Writer;
 
 /// Returns the name of an exit that names blocks.
 fn name_of(exit: &Exit) -> Option<ExitName>
@@ -86,12 +86,6 @@ impl fmt::Display for ExitLine {
             None => write!(f, "{targets}"),
         }
     }
-}
-
-/// Writes the number of a block after some words.
-pub(crate) fn put_block(out: &mut Writer, before: &str, block: BlockNumber) {
-    out.text(before);
-    out.put(&block.number());
 }
 
 /// Writes instructions, each after a margin and before an end.

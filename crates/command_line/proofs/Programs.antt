@@ -4,10 +4,10 @@ use Rattle.clap.specs.Words.{HasKind, IsAmong, Kinds, Text, fault_of, kind_of, t
 use Rattle.clap.specs.declared.error.Error.{Error}
 use Rattle.clap.specs.declared.error.kind.ErrorKind.{ErrorKind}
 use Rattle.clap.specs.declared.error.kind.ErrorKind.TheVariants.{OutOfMemory}
-use Rattle.commands.specs.Requests.{Asks, Does, HostState, LeavesOutput, Relations, Request, TellsLine, WasRefused}
-use Rattle.commands.specs.Texts.{host_fault_text}
-use Rattle.commands.specs.declared.fault.HostFault.{HostFault}
-use Rattle.commands.specs.WrongWords.{IsFaultOfWords, IsHelp, IsMistake}
+use Rattle.host.specs.Requests.{Asks, Does, HostState, LeavesOutput, Relations, Request, TellsLine, WasRefused}
+use Rattle.host.specs.Texts.{host_fault_text}
+use Rattle.host.specs.declared.fault.HostFault.{HostFault}
+use Rattle.host.specs.WrongWords.{IsFaultOfWords, IsHelp, IsMistake}
 use Rattle.command_line.specs.Commands.{IsCommand, mcc_app}
 use Rattle.command_line.specs.Programs.{EndsUntaken, HasHelp, HasMistake, IsAnswered, IsFaultBefore, IsStopped}
 use Rattle.command_line.specs.declared.command.Command.{Command}

@@ -5,8 +5,8 @@ use Rattle.clap.specs.Words.{App, Row, Rule, Text, all_of, first_of, one_of, new
 use Rattle.clap.specs.declared.builder.ArgAction.TheVariants.{Append, Set, SetTrue}
 use Rattle.clap.specs.declared.builder.value_parser.ValueParser.TheVariants as parsers
 use Rattle.term_table.specs.declared.limits.TheConstants.{MAX_PASSES, MAX_NODES, MAX_HEADS}
-use Rattle.commands.specs.declared.numbers.WordForm.{WordForm}
-use Rattle.commands.specs.declared.numbers.WordForm.TheVariants as forms
+use Rattle.host.specs.declared.numbers.WordForm.{WordForm}
+use Rattle.host.specs.declared.numbers.WordForm.TheVariants as forms
 use Rattle.command_line.specs.declared.command.Choice.{Choice}
 use Rattle.command_line.specs.declared.command.Choice.TheVariants as choices
 use Rattle.command_line.specs.declared.command.Level.{Level}

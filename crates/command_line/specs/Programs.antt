@@ -2,11 +2,11 @@
 use Rattle.std.specs.Prelude.{◌≡◌, ◌⊎◌, ℕ, List, [], true}
 use Rattle.clap.specs.Words.{IsAmong, Kinds, Text, fault_of, takes}
 use Rattle.clap.specs.declared.error.kind.ErrorKind.{ErrorKind}
-use Rattle.commands.specs.Requests.{LeavesOutput, Request}
-use Rattle.commands.specs.Texts.{host_fault_text}
-use Rattle.commands.specs.declared.fault.HostFault.{HostFault}
-use Rattle.commands.specs.declared.fault.HostFault.TheVariants.{CannotWrite, NoMemory}
-use Rattle.commands.specs.WrongWords.{IsHelp, IsMistake}
+use Rattle.host.specs.Requests.{LeavesOutput, Request}
+use Rattle.host.specs.Texts.{host_fault_text}
+use Rattle.host.specs.declared.fault.HostFault.{HostFault}
+use Rattle.host.specs.declared.fault.HostFault.TheVariants.{CannotWrite, NoMemory}
+use Rattle.host.specs.WrongWords.{IsHelp, IsMistake}
 use Rattle.command_line.specs.Commands.{IsCommand, mcc_app}
 use Rattle.command_line.specs.declared.command.Command.{Command}
 

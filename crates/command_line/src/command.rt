@@ -3,7 +3,7 @@
 ghost use Rattle.std.specs.Prelude.{◌≤◌};
 ghost use Rattle.term_table.specs.Passes.{InRange};
 
-use commands::WordForm;
+use host::WordForm;
 
 /// What is asked of a build: the C program of a file, and the file of its image. It is made for `depth` active calls at most (1 to 4096).
 /// `plain` leaves every block in its own order; else at most `workers` (1 to `MAX_PASSES`) put the blocks in order. Their table has `nodes`

@@ -3,7 +3,7 @@
 ghost use Rattle.std.specs.Prelude.{◌≡◌, true, Some, IfOk, IfErr, IfNone, IfSome, map, codes};
 ghost use Rattle.clap.specs.declared.error.ErrorKind.TheVariants.{OutOfMemory};
 ghost use Rattle.clap.specs.Words.{FailsBy, HasMatchesOf, fault_of, first_of, found_of, kind_of, one_of, rows_of, subcommand_rows_of, takes};
-ghost use Rattle.commands.specs.declared.numbers.WordForm.TheVariants.{Unsigned};
+ghost use Rattle.host.specs.declared.numbers.WordForm.TheVariants.{Unsigned};
 ghost use Rattle.command_line.specs.declared.command.Choice.TheVariants.{Form, Level as LevelOf};
 ghost use Rattle.command_line.specs.declared.command.Level.TheVariants.{C};
 ghost use Rattle.command_line.specs.Commands.{mcc_app, HasValues, IsBounded, IsCommand, IsFlag, IsMaybeNumber, IsNamed, IsNoChoice, IsNumber, NamesNone, form_name, level_name};
@@ -11,7 +11,7 @@ ghost use Rattle.command_line.specs.Commands.{mcc_app, HasValues, IsBounded, IsC
 use crate::command::{AskedBuild, AskedInterp, AskedRun, Choice, Command, Level};
 use crate::grammar::grammar;
 use clap::{ArgMatches, Error};
-use commands::WordForm;
+use host::WordForm;
 use std::alloc::{AllocError, Global};
 use term_table::{MAX_HEADS, MAX_NODES, MAX_PASSES};
 

@@ -1,5 +1,5 @@
 -- What a command did, as what the program did with its words: what it told beside its answer, and checks of several files.
-use Rattle.std.proofs.Common.{◌≡◌, ◌≢◌, ◌≤◌, ◌++◌, ◌⊎◌, All, get_or, ℕ, zero, suc, List, [], ◌∷◌, ◌==◌, ◌||◌, if◌then◌else◌, Bool, true, false, length, map, fold, max, refl, sym, subst, inl, inr, arith}
+use Rattle.std.proofs.Common.{◌≡◌, ◌≢◌, ◌≤◌, ◌++◌, ◌⊎◌, All, ℕ, zero, suc, List, [], ◌∷◌, ◌==◌, ◌||◌, if◌then◌else◌, Bool, true, false, length, map, fold, max, refl, sym, subst, inl, inr, arith}
 use Rattle.std.specs.declared.vec.Vec.{Vec}
 use Rattle.std.specs.declared.alloc.Global.{Global}
 use Rattle.std.specs.Borrow.{Bor}
@@ -7,28 +7,24 @@ use Rattle.std.specs.List.{FoldsTo, flat_map}
 use Rattle.clap.specs.Words.{HasKind, fault_of, kind_of, takes}
 use Rattle.clap.specs.declared.error.Error.{Error}
 use Rattle.clap.specs.declared.error.kind.ErrorKind.TheVariants.{OutOfMemory}
-use Rattle.commands.specs.Requests.{Asks, Does, HostState, IsSent, LeavesOutput, Ran, Relations, StopsMidway, TellsBeside, TellsLine, WasRefused}
-use Rattle.commands.specs.Texts.{IsShown, host_fault_text}
-use Rattle.commands.specs.WrongWords.{IsFaultOfWords, IsHelp, IsMistake}
-use Rattle.commands.specs.declared.fault.HostFault.{HostFault}
-use Rattle.commands.proofs.Asked.{ran_stopped}
-use Rattle.check_command.specs.Several.{BreaksOff, CheckedFile, ChecksAll, ChecksEach, IsTotals, faults_of, lines_of, request_of, status_of, totals_of, totals_text, worse}
-use Rattle.check_command.specs.Several.CheckedFile.{Answered, Unexplained, Faulty, Unread}
+use Rattle.host.specs.Requests.{Asks, Does, HostState, IsSent, LeavesOutput, Ran, Relations, StopsMidway, TellsBeside, TellsLine, WasRefused}
+use Rattle.text.specs.Shown.{IsShown, IsTold}
+use Rattle.host.specs.Texts.{host_fault_text}
+use Rattle.host.specs.WrongWords.{IsFaultOfWords, IsHelp, IsMistake}
+use Rattle.host.specs.declared.fault.HostFault.{HostFault}
+use Rattle.host.proofs.Asked.{ran_stopped}
+use Rattle.driver.specs.Several.{BreaksOff, CheckedFile, ChecksAll, ChecksEach, IsTotals, faults_of, lines_of, request_of, status_of, totals_of, totals_text, worse}
+use Rattle.driver.specs.Several.CheckedFile.{Answered, Unexplained, Faulty, Unread}
 use Rattle.command_line.specs.Commands.{IsCommand, mcc_app}
 use Rattle.command_line.specs.Programs.{IsStopped}
 use Rattle.command_line.specs.declared.command.Command.{Command}
 use Rattle.command_line.specs.declared.command.Command.TheVariants.{CheckEach}
 use Rattle.command_line.proofs.Programs.{answered_by, ends_untaken, mistake_of, stopped_before, stopped_by}
 use Rattle.driver.specs.Program.{Answers, Begins, HasFaultyFile, IsBegun, NamesOneFile, RanWords, Stops, meaning_of}
-use Rattle.driver.specs.RunCommand.{IsShown as IsPageByte}
-
-shown_of : (byte : ℕ) → IsPageByte byte → IsShown byte
-shown_of byte (inl feed) = inr (inr feed)
-shown_of byte (inr printable) = inl printable
 
 -- a page of printable lines steers no terminal
-pub page_shown : (pieces : List (List ℕ)) → All (All IsPageByte) pieces → All (All IsShown) pieces
-page_shown pieces h k d inside i e within = shown_of (get_or (get_or pieces k d) i e) (h k d inside i e within)
+pub page_shown : (pieces : List (List ℕ)) → All (All IsShown) pieces → All (All IsTold) pieces
+page_shown pieces h k d inside i e within = inl (h k d inside i e within)
 
 one_or : (b : Bool) (n : ℕ) → (if b || true then 1 else n) ≡ 1
 one_or true n = refl

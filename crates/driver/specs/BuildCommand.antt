@@ -6,11 +6,12 @@ use Rattle.image.specs.Texts.{counts_text}
 use Rattle.image.specs.Views.{counts_of}
 use Rattle.sched_phase.specs.Phases.{IsPhase}
 use Rattle.command_line.specs.declared.command.AskedBuild.{AskedBuild}
-use Rattle.commands.specs.Requests.{Meaning, Request, reading_fault, writing_fault}
-use Rattle.commands.specs.declared.files.FileFault.{FileFault}
-use Rattle.commands.specs.Requests.Request.{Read, NotRead, Written, NotWritten}
-use Rattle.commands.specs.Texts.{IsShown, host_fault_text}
-use Rattle.commands.specs.declared.fault.HostFault.TheVariants.{CannotWrite}
+use Rattle.host.specs.Requests.{Meaning, Request, reading_fault, writing_fault}
+use Rattle.host.specs.declared.files.FileFault.{FileFault}
+use Rattle.host.specs.Requests.Request.{Read, NotRead, Written, NotWritten}
+use Rattle.text.specs.Shown.{IsTold}
+use Rattle.host.specs.Texts.{host_fault_text}
+use Rattle.host.specs.declared.fault.HostFault.TheVariants.{CannotWrite}
 use Rattle.driver.specs.BuildTexts.{build_fault_text}
 use Rattle.driver.specs.Builds.{IsScheduledBuild, IsPlain}
 use Rattle.driver.specs.Follows.{FollowsText}
@@ -77,7 +78,7 @@ pub data AnswersBuild (source image : List ℕ) (depth : ℕ) (plain : Bool) (st
 
 -- what is told with it: with a build warnings, which steer no terminal
 abbrev pub IsBuildRemark : (status : ℕ) → List (List ℕ) → Type 0
-IsBuildRemark status told = ((status ≢ 2) × All (All IsShown) told) ⊎ ((status ≡ 2) × (told ≡ one_name_text ∷ []))
+IsBuildRemark status told = ((status ≢ 2) × All (All IsTold) told) ⊎ ((status ≡ 2) × (told ≡ one_name_text ∷ []))
 
 -- a build that ended by a fault has two names
 abbrev pub StopsApart : (source image : List ℕ) → (depth : ℕ) → (plain : Bool) → (silent refused : Type 0) → List Request → List ℕ → Type 0
@@ -90,7 +91,7 @@ apart_meaning b = record {
   Answers = Builds b.source.now b.image.now b.depth b.plain;
   Stops = StopsBuild b.source.now b.image.now b.depth b.plain;
   Begins = λ requests printed. ⊥;
-  Remarks = λ status told. All (All IsShown) told;
+  Remarks = λ status told. All (All IsTold) told;
 }
 
 abbrev pub build_meaning : AskedBuild → Meaning

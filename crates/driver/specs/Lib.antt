@@ -4,6 +4,12 @@ pub mod Texts
 pub mod Listings
 pub mod Stages
 pub mod Program
+-- mcc check
+pub mod Checks
+pub mod CheckTexts
+pub mod CheckCommand
+pub mod Several
+pub mod FileLine
 -- mcc build
 pub mod BuildTexts
 pub mod Follows

@@ -8,16 +8,15 @@ use Rattle.runs.specs.Runs.{Outcome, outcome_of}
 use Rattle.image.specs.Texts.{image_fault_text}
 use Rattle.image.specs.Images.{IsImageFault}
 use Rattle.clap.specs.Words.{fault_of, takes}
-use Rattle.commands.specs.Requests.{Asks, Does, HostState, IsNothing, IsSent, Meaning, Relations, Request, StopsMidway, TellsBeside}
-use Rattle.commands.specs.OneFile.{AnswersFile, StopsFile}
-use Rattle.block_text.specs.Shown.{IsShown}
-use Rattle.check_command.specs.Command.{Checks, check_meaning}
-use Rattle.check_command.specs.Explained.{Explains}
-use Rattle.check_command.specs.Several.{BreaksOff, ChecksAll, ChecksEach, IsTotals}
+use Rattle.host.specs.Requests.{Asks, Does, HostState, IsNothing, IsSent, Meaning, Relations, Request, StopsMidway, TellsBeside}
+use Rattle.host.specs.OneFile.{AnswersFile, StopsFile}
+use Rattle.text.specs.Shown.{IsShown}
+use Rattle.driver.specs.CheckCommand.{check_meaning}
+use Rattle.driver.specs.Several.{BreaksOff, ChecksAll, ChecksEach, IsTotals}
 use Rattle.driver.specs.SourceFaults.{IsFaultless}
 use Rattle.driver.specs.BuildCommand.{build_meaning}
-use Rattle.commands.specs.Streams.{BeginsFile}
-use Rattle.commands.specs.declared.numbers.WordForm.{WordForm}
+use Rattle.host.specs.Streams.{BeginsFile}
+use Rattle.host.specs.declared.numbers.WordForm.{WordForm}
 use Rattle.driver.specs.RunCommand.{IsRefused, IsRunRemark, run_meaning, words_in}
 use Rattle.driver.specs.declared.run_command.remarks.Counted.TheVariants.{Steps}
 use Rattle.command_line.specs.Commands.{IsCommand, mcc_app}
@@ -138,8 +137,7 @@ quiet_meaning Answers Stops =
 
 -- what each command means; what is told beside the answer of a check of several files are its totals
 abbrev pub meaning_of : Command → Meaning
-meaning_of (Check file false) = check_meaning (Checks file.now) file.now
-meaning_of (Check file true) = check_meaning (Explains file.now) file.now
+meaning_of (Check file explain) = check_meaning explain file.now
 meaning_of (CheckEach files explain) = record {
   Answers = ChecksEach explain (map (λ s. s.now) files.items);
   Stops = BreaksOff explain (map (λ s. s.now) files.items);

@@ -1,17 +1,17 @@
 -- What the command `run` asks of its file, prints, tells and ends by.
-use Rattle.std.specs.Prelude.{◌≡◌, ◌⊎◌, ℕ, ◌≤◌, List, [], ◌∷◌, ◌++◌, ◌==◌, decimal, All, Bool, Option, codes, nat_lt, if◌then◌else◌}
+use Rattle.std.specs.Prelude.{◌≡◌, ℕ, ◌≤◌, List, [], ◌∷◌, ◌++◌, ◌==◌, decimal, All, Bool, Option, codes, nat_lt, if◌then◌else◌}
 use Rattle.std.specs.List.{flat_map}
 use Rattle.image.specs.Texts.{image_fault_text}
 use Rattle.image.specs.Images.{IsImageFault}
 use Rattle.mips_code.specs.Machines.{MachineOutcome}
-use Rattle.commands.specs.Numbers.{word_text}
-use Rattle.commands.specs.declared.numbers.WordForm.{WordForm}
-use Rattle.commands.specs.declared.numbers.WordForm.TheVariants.{Unsigned}
-use Rattle.commands.specs.Requests.{Meaning, Request}
-use Rattle.commands.specs.OneFile.{AnswersFile, StopsFile, TookPrint}
-pub use Rattle.commands.specs.OneFile.{IsRefused}
-use Rattle.commands.specs.Streams.{BeginsFile}
-use Rattle.commands.specs.Texts.{IsPrintable}
+use Rattle.host.specs.Numbers.{word_text}
+use Rattle.host.specs.declared.numbers.WordForm.{WordForm}
+use Rattle.host.specs.declared.numbers.WordForm.TheVariants.{Unsigned}
+use Rattle.host.specs.Requests.{Meaning, Request}
+use Rattle.host.specs.OneFile.{AnswersFile, StopsFile, TookPrint}
+pub use Rattle.host.specs.OneFile.{IsRefused}
+use Rattle.host.specs.Streams.{BeginsFile}
+use Rattle.text.specs.Shown.{IsShown}
 use Rattle.driver.specs.RunTexts.{ending_text, ending_status}
 use Rattle.driver.specs.ImageRuns.{IsImageRun}
 use Rattle.driver.specs.declared.run_command.portions.Cut.{Cut}
@@ -53,10 +53,6 @@ pub record AreFirstLines (form : WordForm) (output printed : List ℕ) : Type 0 
 abbrev pub CutsOff : WordForm → (output : List ℕ) → (old new : Option (List ℕ)) → (refused : Type 0) → Cut → Type 0
 CutsOff form output old new refused Unprinted = refused
 CutsOff form output old new refused NoMemory = TookPrint old new (AreFirstLines form output)
-
--- a byte that steers no terminal: a line's end, or one from the space to `~`
-abbrev pub IsShown : ℕ → Type 0
-IsShown byte = (byte ≡ 10) ⊎ IsPrintable byte
 
 -- how many words or steps ran
 abbrev pub unit_text : Counted → List ℕ

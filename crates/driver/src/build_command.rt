@@ -6,7 +6,6 @@ mod largest;
 mod laws;
 mod places;
 mod scheduled_builds;
-mod shown;
 mod texts;
 mod warnings;
 

@@ -1,11 +1,11 @@
 //! What is told of an option that has none of its names.
 
 ghost use Rattle.std.specs.Prelude.{◌≡◌, Some};
-ghost use Rattle.commands.specs.Requests.{TellsLine};
+ghost use Rattle.host.specs.Requests.{TellsLine};
 ghost use Rattle.driver.specs.Texts.{no_choice_text};
 
 use command_line::Choice;
-use commands::{Complaints, FileError, tell, tell_file};
+use host::{Complaints, FileError, tell, tell_file};
 use std::alloc::{AllocError, Global};
 use std::fmt;
 

@@ -1,14 +1,14 @@
 //! The command that shows an image.
 
 ghost use Rattle.std.specs.Prelude.{All, IfErr, IfOk};
-ghost use Rattle.block_text.specs.Shown.{IsShown};
+ghost use Rattle.text.specs.Shown.{IsShown};
 ghost use Rattle.driver.specs.Listings.{IsListing, IsOfImage};
 ghost use Rattle.image.specs.Images.{IsImageFault};
 
 use crate::listings::list_image;
 use crate::pages::PageCommand;
 use crate::run_command::tell_image;
-use commands::{BadFile, Complaints};
+use host::{BadFile, Complaints};
 use image::{ImageFault, read_image};
 use show::assembler_source;
 use std::alloc::Global;
@@ -33,7 +33,7 @@ fn source_of(alloc: Global, bytes: &[u8]) -> Result<Vec<u8>, ImageFault>
         Err(fault) => return Err(fault),
     };
     match assembler_source(alloc, &image, &[]) {
-        Ok(page) => Ok(page),
+        Ok(page) => Ok(page.into_bytes()),
         Err(_) => Err(ImageFault::NoMemory),
     }
 }

@@ -1,9 +1,9 @@
 //! The command that runs a C program.
 
 ghost use Rattle.std.specs.Prelude.{◌≡◌, ◌≢◌, ◌≤◌, IfErr, IfOk, OnOk};
-ghost use Rattle.commands.specs.Hosts.{RanOn};
-ghost use Rattle.commands.specs.Requests.{IsSent, TellsLine, WasRefused, relations};
-ghost use Rattle.commands.specs.Streams.{BreaksBy, TookAnswer};
+ghost use Rattle.host.specs.Hosts.{RanOn};
+ghost use Rattle.host.specs.Requests.{IsSent, TellsLine, WasRefused, relations};
+ghost use Rattle.host.specs.Streams.{BreaksBy, TookAnswer};
 ghost use Rattle.driver.specs.RunCommand.{IsRunRemark};
 ghost use Rattle.driver.specs.declared.run_command.remarks.Counted.TheVariants.{Steps};
 ghost use Rattle.driver.specs.Interps.{IsInterpFault, IsRun};
@@ -18,7 +18,7 @@ use crate::running_source::RunningSource;
 use crate::source_runs::InterpFault;
 use c_run::begin;
 use command_line::AskedInterp;
-use commands::{
+use host::{
     BadFile, Broken, Complaints, Files, Host, Output, StreamCommand, WordForm, answer_stream,
     tell_placed,
 };

@@ -1,8 +1,8 @@
 //! The command that runs a C program, at the level that is asked for.
 
 ghost use Rattle.std.specs.Prelude.{◌≢◌, ◌≤◌, false};
-ghost use Rattle.commands.specs.Hosts.{RanOn};
-ghost use Rattle.commands.specs.Requests.{relations};
+ghost use Rattle.host.specs.Hosts.{RanOn};
+ghost use Rattle.host.specs.Requests.{relations};
 ghost use Rattle.driver.specs.RunCommand.{IsRunRemark};
 ghost use Rattle.driver.specs.declared.run_command.remarks.Counted.TheVariants.{Steps};
 ghost use Rattle.driver.specs.Program.{below_meaning, interp_meaning};
@@ -13,7 +13,7 @@ use crate::level_runs::{interp_blocks, interp_rtl};
 use crate::run_command::{Counted, Spent, print_run, tell_run};
 use crate::texts::EndLine;
 use command_line::{AskedInterp, Level};
-use commands::{BadFile, Complaints, FileCommand, Files, Host, HostFault, Output, answer_file};
+use host::{BadFile, Complaints, FileCommand, Files, Host, HostFault, Output, answer_file};
 use runs::Ran;
 use std::alloc::Global;
 

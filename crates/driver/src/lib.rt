@@ -13,6 +13,7 @@
 #![tactic(auto)]
 
 mod build_command;
+mod check_command;
 mod choices;
 mod image_commands;
 mod interp_command;
@@ -33,9 +34,9 @@ pub use build_command::{
     BuildFault, BuildOpts, Built, Limit, build, build_one, build_plain, one_build, print_built,
     tell_build, unit_of,
 };
-pub use check_command::{CheckAnswer, CheckFault, check};
+pub use check_command::{CheckAnswer, CheckFault, check, print_answer, tell_check};
 pub use command_line::{AskedBuild, Command, words};
-pub use commands::{FileFault, Files};
+pub use host::{FileFault, Files};
 pub use interp_command::{end_status, tell_interp};
 pub use level_runs::{interp_blocks, interp_rtl};
 pub use listings::list_image;

@@ -5,10 +5,10 @@ ghost use Rattle.std.specs.Io.KnownBytes.{Appends};
 ghost use Rattle.std.specs.declared.alloc.Global.{Global};
 ghost use Rattle.std.specs.declared.vec.Vec.{Vec};
 ghost use Rattle.driver.specs.RunCommand.{IsRefused};
-ghost use Rattle.commands.specs.Requests.{IsNothing, IsSent, TellsLine, WasRefused};
+ghost use Rattle.host.specs.Requests.{IsNothing, IsSent, TellsLine, WasRefused};
 ghost use Rattle.driver.specs.Program.{PrintsPage};
 
-use commands::{BadFile, Complaints, FileCommand, HostFault, Output};
+use host::{BadFile, Complaints, FileCommand, HostFault, Output};
 use std::alloc::Global;
 use std::io;
 

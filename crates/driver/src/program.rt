@@ -1,41 +1,23 @@
 //! The whole program: its words, its files and its streams.
 ghost use Rattle.std.specs.Prelude.{◌≤◌, map};
-ghost use Rattle.commands.specs.Hosts.{IsSameHost, RanOn, state_of};
-ghost use Rattle.commands.specs.Requests.{host_of, relations};
-ghost use Rattle.check_command.specs.Texts.{IsCheckStatus};
-ghost use Rattle.command_line.specs.declared.command.Command.TheVariants.{Check};
+ghost use Rattle.host.specs.Hosts.{IsSameHost, RanOn, state_of};
+ghost use Rattle.host.specs.Requests.{host_of, relations};
 ghost use Rattle.driver.specs.Program.{RanWords, Shows, StopsShow, meaning_of, quiet_meaning};
 
 use crate::build_command::build_file;
+use crate::check_command::{check_file, check_files};
 use crate::choices::tell_choice;
 use crate::image_commands::ImageCommand;
 use crate::levels::interp_at;
 use crate::pages::Paged;
 use crate::run_command::run_file;
 use crate::show_commands::ShowCommand;
-use check_command::{ExplainedAnswer, answer_check, check_file, check_files};
 use command_line::{Command, words};
-use commands::{Complaints, Files, Host, Output, answer_file, tell_words};
+use host::{Complaints, Files, Host, Output, answer_file, tell_words};
 use show::Asked;
 use std::alloc::Global;
 use std::sync::Wait;
 use std::thread::Threads;
-
-/// Runs `mcc check FILE`, with `--explain` or without.
-fn check_one<F: Files, W: Output, E: Complaints>(
-    host: &mut Host<F, W, E>,
-    file: &str,
-    explain: bool,
-) -> u8
-    ensures possible { IsCheckStatus result }
-    ensures ran { RanOn (relations F.answers W.contents W.sends W.refuses E.tells) host.old host.new (meaning_of (Check file.entry explain)) result }
-{
-    if explain {
-        answer_check(host, &ExplainedAnswer, file)
-    } else {
-        check_file(host, file)
-    }
-}
 
 /// Runs `mcc show SOURCE`, with what is asked for.
 fn show_source<F: Files, W: Output, E: Complaints>(
@@ -62,7 +44,7 @@ fn answer_words<T: Threads + Wait + Sync, F: Files, W: Output, E: Complaints>(
 {
     let alloc = host.alloc;
     match words(alloc, args) {
-        Ok(Command::Check { file, explain }) => check_one(host, file, explain),
+        Ok(Command::Check { file, explain }) => check_file(host, file, explain),
         Ok(Command::CheckEach { files, explain }) => check_files(host, files.as_slice(), explain),
         Ok(Command::Interp(asked)) => interp_at(host, asked),
         Ok(Command::Build(asked)) => build_file(rt, host, &asked),

@@ -1,25 +1,20 @@
 //! Why a program's run is wrong, in lines for people.
 
-ghost use Rattle.std.specs.Prelude.{All, IfSome};
-ghost use Rattle.block_text.specs.Shown.{IsShown};
-
 use crate::build_command::typed_of;
 use crate::wrong_places::place_in_text;
-use block_text::{WIDTH, page_of};
 use c_run::{Reason, reason_of, wrong_place_of};
 use c_tokens::IntegerType;
 use c_tree::{BinaryOp, UnaryOp};
 use c_types::Typed;
 use std::alloc::{AllocError, Global};
+use text::{Page, WIDTH, Writer};
 
 /// Returns lines as they may be told; None if memory was refused to them.
-pub(crate) fn page(alloc: Global, lines: Result<String, AllocError>) -> Option<Vec<u8>>
-    ensures { IfSome result (λ page. All IsShown page.items) }
-{
-    match lines {
-        Ok(lines) => page_of(alloc, lines.as_bytes(), WIDTH).ok(),
-        Err(_) => None,
-    }
+pub(crate) fn page(alloc: Global, lines: Result<String, AllocError>) -> Option<Page> {
+    let lines = lines.ok()?;
+    let mut out = Writer::new(alloc);
+    out.text(lines.as_str());
+    out.end().ok()?.cut(alloc, WIDTH).ok()
 }
 
 /// Returns a word as its type reads it.
@@ -146,9 +141,7 @@ pub fn wrong_page(
     text: &[u8],
     depth: u32,
     steps: u64,
-) -> Option<Vec<u8>>
-    ensures { IfSome result (λ page. All IsShown page.items) }
-{
+) -> Option<Page> {
     let Ok(typed) = typed_of(alloc, text) else {
         return None;
     };

@@ -12,6 +12,6 @@ pub use command::{ending_status, run_file};
 pub use image_faults::tell_image;
 pub use image_runs::run_image;
 pub use portions::{Advance, Cut, Finish, Resumable, stream};
-pub use reasons::tell_page;
+pub(crate) use reasons::tell_page;
 pub use remarks::{Counted, Spent, tell_run};
 pub use texts::{EndingLine, print_run};

@@ -8,7 +8,7 @@ ghost use Rattle.driver.specs.Texts.{end_text};
 use crate::run_command::{Advance, Resumable};
 use crate::texts::EndLine;
 use c_run::UnderWay;
-use commands::Output;
+use host::Output;
 use runs::End;
 use std::alloc::{AllocError, Global};
 use std::io;

@@ -1,8 +1,7 @@
 //! The command that shows what becomes of a program, stage by stage.
 
-ghost use Rattle.std.specs.Prelude.{◌≡◌, ◌⊎◌, All, IfErr, IfOk, Some};
-ghost use Rattle.commands.specs.Requests.{TellsLine};
-ghost use Rattle.block_text.specs.Shown.{IsShown};
+ghost use Rattle.std.specs.Prelude.{◌≡◌, ◌⊎◌, IfErr, IfOk, Some};
+ghost use Rattle.host.specs.Requests.{TellsLine};
 ghost use Rattle.driver.specs.BuildFaults.{IsBuildFault};
 ghost use Rattle.driver.specs.SourceFaults.{IsFaultless};
 ghost use Rattle.mips_select.specs.Limits.{FramesFit};
@@ -15,13 +14,14 @@ use crate::reasons::page;
 use crate::run_command::tell_page;
 use c_front::read;
 use c_tree::{Declaration, Program};
-use commands::{BadFile, Complaints, tell};
+use host::{BadFile, Complaints, tell};
 use mips_select::{Numbered, SelectFault, select_numbered};
 use rtl::Rtl;
 use show::{Asked, ShowFault, Shown, show};
 use std::alloc::{AllocError, Global};
 use std::error::Error;
 use std::{fmt, str};
+use text::Page;
 
 /// Why nothing of a text is shown.
 #[derive(Clone, Copy, Debug)]
@@ -78,10 +78,9 @@ fn shown_of(
     rtl: &Rtl,
     numbered: &Numbered,
     asked: &Asked<'_>,
-) -> Result<Vec<u8>, StagesFault>
+) -> Result<Page, StagesFault>
     requires { IsFaultless text.now }
-    ensures shown { IfOk result (λ page. All IsShown page.items) }
-    ensures fault { IfErr result (IsStagesFault text.now) }
+    ensures { IfErr result (IsStagesFault text.now) }
 {
     let unit = &numbered.unit;
     let numbers = numbered.numbers.as_slice();
@@ -102,9 +101,8 @@ fn shown_of(
 }
 
 /// Returns what is asked for of the program that the text spells.
-pub fn stages(alloc: Global, text: &[u8], asked: &Asked<'_>) -> Result<Vec<u8>, StagesFault>
+pub fn stages(alloc: Global, text: &[u8], asked: &Asked<'_>) -> Result<Page, StagesFault>
     ensures spelled { IfOk result (λ _. IsFaultless text.now) }
-    ensures shown { IfOk result (λ page. All IsShown page.items) }
     ensures fault { IfErr result (IsStagesFault text.now) }
 {
     let rtl = match rtl_of(alloc, text) {
@@ -255,7 +253,10 @@ impl<'a> PageCommand for ShowCommand<'a> {
     ghost fault_line = { stages_fault_text };
 
     fn page(&self, alloc: Global, bytes: &[u8]) -> Result<Vec<u8>, StagesFault> {
-        stages(alloc, bytes, &self.asked)
+        match stages(alloc, bytes, &self.asked) {
+            Ok(page) => Ok(page.into_bytes()),
+            Err(fault) => Err(fault),
+        }
     }
 
     fn tell<E: Complaints>(&self, alloc: Global, of: &BadFile<'_, StagesFault>, err: &mut E) -> u8 {

@@ -6,7 +6,7 @@ use c_run::WrongPlace;
 use c_tree::{Declaration, FunctionDefinition, Program};
 use c_typed::TypedStatement;
 use c_types::Typed;
-use commands::{Spot, spot_of};
+use host::{Spot, spot_of};
 use messages::placed_statements;
 use std::alloc::Global;
 use std::str;

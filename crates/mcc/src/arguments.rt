@@ -2,7 +2,7 @@
 
 ghost use Rattle.std.specs.Prelude.{◌≤◌};
 
-use commands::{HostFault, tell};
+use host::{HostFault, tell};
 use std::alloc::{AllocError, Global};
 use std::env::Env;
 use std::io::Write;

@@ -12,35 +12,35 @@
 
 mod arguments;
 mod files;
-mod host;
 mod stack;
 mod streams;
+mod system;
 
 ghost use Rattle.std.specs.Prelude.{map};
-ghost use Rattle.commands.specs.Requests.{host_of, relations};
+ghost use Rattle.host.specs.Requests.{host_of, relations};
 ghost use Rattle.driver.specs.Program.{RanWords};
 
-use crate::host::{Host, run};
-use commands::{Complaints, Files, Output};
+use crate::system::{System, run};
 use driver::mcc;
+use host::{Complaints, Files, Output};
 use std::process::ExitCode;
 use std::sync::Wait;
 use std::thread::Threads;
 
 /// Runs `driver::mcc` over what its host has. The answer is the exit status.
 pub(crate) fn answer<T: Threads + Wait + Sync, F: Files, W: Output, E: Complaints>(
-    host: &mut Host<'_, T, F, W, E>,
+    system: &mut System<'_, T, F, W, E>,
 ) -> u8
-    ensures { RanWords (relations F.answers W.contents W.sends W.refuses E.tells) (host_of host.old.files host.old.out host.old.err)
-        (host_of host.new.files host.new.out host.new.err) (map (λ s. s.now) host.old.words.now) result }
+    ensures { RanWords (relations F.answers W.contents W.sends W.refuses E.tells) (host_of system.old.files system.old.out system.old.err)
+        (host_of system.new.files system.new.out system.new.err) (map (λ s. s.now) system.old.words.now) result }
 {
-    let out = &mut host.out;
-    let err = &mut host.err;
+    let out = &mut system.out;
+    let err = &mut system.err;
     mcc(
-        host.threads,
-        host.alloc,
-        host.words,
-        &mut host.files,
+        system.threads,
+        system.alloc,
+        system.words,
+        &mut system.files,
         out,
         err,
     )

@@ -2,7 +2,7 @@
 use Rattle.std.proofs.Common.{◌≡◌, ◌≢◌, arith, ℕ, List, [], ◌∷◌, ◌++◌, true, sym, ap, subst, ◌∙◌, append_assoc}
 use Rattle.std.proofs.lemmas.List.{append-nil}
 use Rattle.std.specs.List.{FoldsTo}
-use Rattle.commands.specs.Requests.{TellsLine}
+use Rattle.host.specs.Requests.{TellsLine}
 use Rattle.mcc_web.specs.Answers.{Gives, GivesLine, SaysFault}
 use Rattle.mcc_web.specs.Telling.{Tells}
 use Rattle.mcc_web.specs.declared.told.Told.{Told}

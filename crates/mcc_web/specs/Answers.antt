@@ -4,10 +4,11 @@ use Rattle.runs.specs.Runs.{Outcome}
 use Rattle.mips_code.specs.Machines.{MachineOutcome}
 use Rattle.image.specs.Images.{IsImageFault}
 use Rattle.image.specs.Texts.{image_fault_text}
-use Rattle.block_text.specs.Shown.{IsShown}
-use Rattle.check_command.specs.Checks.{IsAnswerTo, IsCheckFault}
-use Rattle.check_command.specs.Texts.{answer_text, check_fault_text, exit_status}
-use Rattle.check_command.specs.declared.verdicts.CheckAnswer.{CheckAnswer}
+use Rattle.text.specs.Shown.{IsShown}
+use Rattle.driver.specs.Checks.{IsAnswerTo, IsCheckFault}
+use Rattle.driver.specs.CheckCommand.{PrintsAnswer}
+use Rattle.driver.specs.CheckTexts.{check_fault_text, exit_status}
+use Rattle.driver.specs.declared.check_command.verdicts.CheckAnswer.{CheckAnswer}
 use Rattle.sched_phase.specs.Phases.{IsWholePhase}
 use Rattle.driver.specs.BuildCommand.{AnyOrder, built_text, factor_of}
 use Rattle.driver.specs.BuildTexts.{build_fault_text}
@@ -39,24 +40,17 @@ pub record SaysFault {F : Type 0} (found : F → Type 0) (line : F → List ℕ)
   pub is : found fault
   pub gives : GivesLine (line fault) said old new
 
--- `check`: the verdict on what the text spells
-pub record SaysVerdict (text : List ℕ) (status said : ℕ) (old new : List ℕ) : Type 0 where
+-- `check`: the verdict on what the text spells, and with `--explain` lines of printable ASCII after it
+pub record SaysVerdict (explain : Bool) (text : List ℕ) (status said : ℕ) (old new : List ℕ) : Type 0 where
   pub answer : CheckAnswer
   pub answered : IsAnswerTo text answer
   pub ends : status ≡ exit_status answer
-  pub gives : Gives (answer_text answer ++ 10 ∷ []) said old new
+  pub printed : List ℕ
+  pub prints : PrintsAnswer explain answer printed
+  pub gives : Gives printed said old new
 
 abbrev pub SaysCheckFault : (text : List ℕ) → (said : ℕ) → (old new : List ℕ) → Type 0
 SaysCheckFault text = SaysFault (IsCheckFault text) check_fault_text
-
--- `check --explain`: the same, and after it lines of printable ASCII
-pub record SaysExplained (text : List ℕ) (status said : ℕ) (old new : List ℕ) : Type 0 where
-  pub answer : CheckAnswer
-  pub answered : IsAnswerTo text answer
-  pub ends : status ≡ exit_status answer
-  pub more : List ℕ
-  pub shown : All IsShown more
-  pub gives : Gives ((answer_text answer ++ 10 ∷ []) ++ more) said old new
 
 -- `interp`: the run of the program that the text spells
 pub record SaysRun (text : List ℕ) (depth steps : ℕ) (status said : ℕ) (old new : List ℕ) : Type 0 where

@@ -1,20 +1,19 @@
 //! The exports that print what a command prints.
 
-ghost use Rattle.std.specs.Prelude.{◌≡◌, ◌≢◌};
-ghost use Rattle.check_command.specs.Checks.{IsCheckFault};
+ghost use Rattle.std.specs.Prelude.{◌≡◌, ◌≢◌, true, false};
+ghost use Rattle.driver.specs.Checks.{IsCheckFault};
 ghost use Rattle.image.specs.Images.{IsImageFault};
-ghost use Rattle.mcc_web.specs.Answers.{SaysCheckFault, SaysExplained, SaysImageFault, SaysInterpFault, SaysListing, SaysMachine};
+ghost use Rattle.mcc_web.specs.Answers.{SaysCheckFault, SaysImageFault, SaysInterpFault, SaysListing, SaysMachine};
 ghost use Rattle.mcc_web.specs.Answers.{SaysReason, SaysRun, SaysStages, SaysStagesFault, SaysVerdict};
 ghost use Rattle.mcc_web.specs.declared.told.TheConstants.{REFUSED};
 
 pub use crate::told::REFUSED;
 use crate::told::{Told, put};
-use check_command::{print_answer, print_explained, tell_check};
-use commands::{WordForm, tell};
 use driver::{
     CheckFault, EndLine, EndingLine, check, end_status, ending_status, interp, list_image,
-    print_run, run_image, stages, tell_interp, tell_stages, wrong_page,
+    print_answer, print_run, run_image, stages, tell_check, tell_interp, tell_stages, wrong_page,
 };
+use host::{WordForm, tell};
 use image::ImageFault;
 use show::Asked;
 use std::alloc::Global;
@@ -62,21 +61,15 @@ fn give_image_fault(
     told.give(out, status)
 }
 
-/// The verdict on the block and the order that the text spells: what `mcc check order.check` prints or tells, and its status.
-#[unsafe(no_mangle)]
-pub extern "C" fn mcc_web_check(
-    alloc: Global,
-    text: &[u8],
-    out: &mut [u8],
-    status: &mut u8,
-) -> usize
-    ensures answered { status.new ≢ 1 → status.new ≢ REFUSED → SaysVerdict text.now status.new result out.old out.new }
+/// Gives the host what `mcc check order.check` prints or tells, with `--explain` or without.
+fn give_verdict(alloc: Global, explain: bool, text: &[u8], out: &mut [u8], status: &mut u8) -> usize
+    ensures answered { status.new ≢ 1 → status.new ≢ REFUSED → SaysVerdict explain text.now status.new result out.old out.new }
     ensures faulty { status.new ≡ 1 → SaysCheckFault text.now result out.old out.new }
 {
     match check(alloc, text) {
         Ok(answer) => {
             let mut printed = Vec::new(alloc);
-            match print_answer(&mut printed, &answer) {
+            match print_answer(alloc, explain, text, &answer, &mut printed) {
                 Ok(ended) => {
                     *status = ended;
                     put(out, printed.as_slice())
@@ -88,6 +81,20 @@ pub extern "C" fn mcc_web_check(
     }
 }
 
+/// The verdict on the block and the order that the text spells: what `mcc check order.check` prints or tells, and its status.
+#[unsafe(no_mangle)]
+pub extern "C" fn mcc_web_check(
+    alloc: Global,
+    text: &[u8],
+    out: &mut [u8],
+    status: &mut u8,
+) -> usize
+    ensures answered { status.new ≢ 1 → status.new ≢ REFUSED → SaysVerdict false text.now status.new result out.old out.new }
+    ensures faulty { status.new ≡ 1 → SaysCheckFault text.now result out.old out.new }
+{
+    give_verdict(alloc, false, text, out, status)
+}
+
 /// The verdict, and why it isn't `same`: what `mcc check --explain order.check` prints or tells, and its status.
 #[unsafe(no_mangle)]
 pub extern "C" fn mcc_web_explain(
@@ -96,22 +103,10 @@ pub extern "C" fn mcc_web_explain(
     out: &mut [u8],
     status: &mut u8,
 ) -> usize
-    ensures answered { status.new ≢ 1 → status.new ≢ REFUSED → SaysExplained text.now status.new result out.old out.new }
+    ensures answered { status.new ≢ 1 → status.new ≢ REFUSED → SaysVerdict true text.now status.new result out.old out.new }
     ensures faulty { status.new ≡ 1 → SaysCheckFault text.now result out.old out.new }
 {
-    match check(alloc, text) {
-        Ok(answer) => {
-            let mut printed = Vec::new(alloc);
-            match print_explained(alloc, &mut printed, text, &answer) {
-                Ok(ended) => {
-                    *status = ended;
-                    put(out, printed.as_slice())
-                }
-                Err(_) => refuse(status),
-            }
-        }
-        Err(fault) => give_check_fault(alloc, text, fault, out, status),
-    }
+    give_verdict(alloc, true, text, out, status)
 }
 
 /// The run of the C program that the text spells: what `mcc interp program.c` prints or tells, and its status.
@@ -168,7 +163,7 @@ pub extern "C" fn mcc_web_wrong(
     match wrong_page(alloc, "program.c", text, depth, steps) {
         Some(page) => {
             *status = 0;
-            put(out, page.as_slice())
+            put(out, page.bytes())
         }
         None => refuse(status),
     }
@@ -258,7 +253,7 @@ pub extern "C" fn mcc_web_show(
     match stages(alloc, text, &asked) {
         Ok(page) => {
             *status = 0;
-            put(out, page.as_slice())
+            put(out, page.bytes())
         }
         Err(fault) => {
             let mut told = Told::new(alloc);

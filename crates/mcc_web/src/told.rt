@@ -5,7 +5,7 @@ ghost use Rattle.mcc_web.specs.Answers.{Gives};
 ghost use Rattle.mcc_web.specs.Telling.{Tells};
 ghost use Rattle.mcc_web.specs.declared.told.TheConstants.{REFUSED};
 
-use commands::Complaints;
+use host::Complaints;
 use std::alloc::Global;
 use std::fmt;
 use std::io::Write;

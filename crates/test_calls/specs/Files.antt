@@ -1,7 +1,7 @@
 -- What a request does to files of one row of bytes.
 use Rattle.std.specs.Prelude.{◌≡◌, ◌++◌}
-use Rattle.commands.specs.Requests.{Request}
-use Rattle.commands.specs.Requests.Request.{Read, NotRead, Written, NotWritten}
+use Rattle.host.specs.Requests.{Request}
+use Rattle.host.specs.Requests.Request.{Read, NotRead, Written, NotWritten}
 use Rattle.test_calls.specs.declared.files.OneFile.{OneFile}
 
 -- a read gives the bytes, and a write adds to what is written

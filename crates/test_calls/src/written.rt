@@ -3,7 +3,7 @@ ghost use Rattle.std.specs.Prelude.{◌≡◌, ◌≢◌, ◌≤◌, List, map, 
 ghost use Rattle.std.specs.List.{FoldsTo};
 ghost use Rattle.clap.specs.Words.{takes};
 ghost use Rattle.command_line.specs.Commands.{mcc_app};
-ghost use Rattle.commands.specs.Requests.{Request};
+ghost use Rattle.host.specs.Requests.{Request};
 ghost use Rattle.command_line.specs.Programs.{IsAnswered};
 ghost use Rattle.driver.specs.Program.{Answers as AnswersCommand};
 ghost use Rattle.test_calls.specs.Files.{Answers};

@@ -1,7 +1,7 @@
 -- A build whose image has a name of its own is a build of any two names.
 use Rattle.std.proofs.Common.{◌≢◌, ◌⊎◌, ℕ, inl, inr}
 use Rattle.command_line.specs.declared.command.AskedBuild.{AskedBuild}
-use Rattle.commands.specs.Requests.{Asks, HostState, Ran, Relations, StopsMidway}
+use Rattle.host.specs.Requests.{Asks, HostState, Ran, Relations, StopsMidway}
 use Rattle.driver.specs.BuildCommand.{apart_meaning, build_meaning}
 use Rattle.driver.specs.BuildCommand.AnswersBuild.{apart}
 

@@ -3,9 +3,9 @@ use Rattle.std.proofs.Common.{◌≡◌, ℕ, ◌+◌, ◌-◌, ◌<◌, ◌≤�
 use Rattle.std.proofs.lemmas.Grind.{flat_map-append}
 use Rattle.std.proofs.KnownBytes.{Appends-nil, Appends-trans}
 use Rattle.std.specs.Io.KnownBytes.{Appends}
-use Rattle.commands.specs.Numbers.{word_text}
-use Rattle.commands.specs.declared.numbers.WordForm.{WordForm}
-use Rattle.commands.specs.OneFile.{TookPrint}
+use Rattle.host.specs.Numbers.{word_text}
+use Rattle.host.specs.declared.numbers.WordForm.{WordForm}
+use Rattle.host.specs.OneFile.{TookPrint}
 use Rattle.driver.specs.RunCommand.{AreFirstLines, words_in}
 use Rattle.driver.specs.Portions.{IsEnough, RunOutcome, WentOn, after_output, behind}
 

@@ -2,11 +2,11 @@
 
 ghost use Rattle.std.specs.Prelude.{◌≡◌, ◌≤◌, ℕ, List, All, IfErr, IfOk, OnErr, OnOk};
 ghost use Rattle.std.specs.Io.KnownBytes.{Appends};
-ghost use Rattle.commands.specs.Hosts.{RanOn};
-ghost use Rattle.commands.specs.Requests.{IsSent, TellsBeside, TellsLine, WasRefused, relations};
+ghost use Rattle.host.specs.Hosts.{RanOn};
+ghost use Rattle.host.specs.Requests.{IsSent, TellsBeside, TellsLine, WasRefused, relations};
 ghost use Rattle.c_types.specs.Shape.{program_of};
 ghost use Rattle.c_types.specs.Typed.{SpellsTyped};
-ghost use Rattle.commands.specs.Texts.{IsShown};
+ghost use Rattle.text.specs.Shown.{IsTold};
 ghost use Rattle.driver.specs.BuildTexts.{build_fault_text};
 ghost use Rattle.driver.specs.BuildFaults.{IsBuildFault};
 ghost use Rattle.driver.specs.BuildCommand.{IsBuiltAs, apart_meaning, build_meaning, built_text};
@@ -21,7 +21,7 @@ use crate::build_command::texts::BuiltLine;
 use crate::build_command::warnings::{tell_warnings, warning_lines};
 use c_types::Typed;
 use command_line::AskedBuild;
-use commands::{
+use host::{
     Complaints, Files, Host, HostFault, Output, read_file, tell_placed, tell_unprinted,
     tell_unread, tell_unwritten, write_file,
 };
@@ -33,10 +33,11 @@ use std::mem::forget;
 use std::sync::Wait;
 use std::thread::Threads;
 use steal_pool::Open;
+use text::Page;
 
 /// Returns what a limit is about, for the line below its fault.
 fn limit_text(limit: Limit) -> &'static str
-    ensures { All IsShown result.now }
+    ensures { All IsTold result.now }
 {
     match limit {
         Limit::Lowering => {
@@ -62,14 +63,14 @@ fn source_fault(fault: BuildFault) -> Option<SourceFault> {
 
 /// Tells what a limit is about, and which function has most code, if that is limited.
 fn tell_limit<E: Complaints>(alloc: Global, err: &mut E, text: &[u8], limit: Limit)
-    ensures { TellsBeside E.tells err.old (All (All IsShown)) err.new }
+    ensures { TellsBeside E.tells err.old (All (All IsTold)) err.new }
 {
     let about = limit_text(limit);
     err.line(&about);
     if limit == Limit::Assembly
         && let Some(line) = largest_line(alloc, text)
     {
-        err.bytes(line.as_slice());
+        err.bytes(line.bytes());
     }
 }
 
@@ -136,9 +137,8 @@ fn built_with_warnings<T: Threads + Wait + Sync>(
     alloc: Global,
     text: &[u8],
     asked: &AskedBuild<'_>,
-) -> Result<(Built, Vec<u8>), BuildFault>
+) -> Result<(Built, Page), BuildFault>
     ensures built { IfOk result (λ both. IsBuiltAs text.now asked.now.depth asked.now.plain both.0) }
-    ensures warnings { IfOk result (λ both. All IsShown both.1.items) }
     ensures fault { IfErr result (IsBuildFault text.now asked.now.depth) }
 {
     let (program, typed) = front_of(alloc, text)?;
@@ -177,7 +177,7 @@ fn build_apart<T: Threads + Wait + Sync, F: Files, W: Output, E: Complaints>(
         Ok(both) => both,
         Err(fault) => return tell_build(alloc, host.err, asked.source, text.as_slice(), fault),
     };
-    let (built, warnings) = (&both.0, both.1.as_slice());
+    let (built, warnings) = (&both.0, &both.1);
     if let Err(fault) = write_file(asked.image, built.image.as_slice(), host.files) {
         return tell_unwritten(alloc, host.err, asked.image, fault);
     }

@@ -1,16 +1,13 @@
 //! Which function has too much code, for a line below the fault of a limit.
 
-ghost use Rattle.std.specs.Prelude.{All, IfSome};
-ghost use Rattle.commands.specs.Texts.{IsShown};
-
 use crate::build_command::builds::unit_of;
-use crate::build_command::shown::with_line;
 use c_front::read;
 use c_tree::Declaration;
 use mblock::{BlockNumber, Exit, Order};
 use sched_phase::schedule_plain;
 use std::alloc::{AllocError, Global};
 use std::str;
+use text::{Page, Writer};
 
 /// Returns how many words an order has.
 fn words_of(order: &Order) -> usize {
@@ -67,13 +64,14 @@ fn largest_of(alloc: Global, text: &[u8]) -> Option<(usize, usize)> {
 }
 
 /// Returns the line that names the function of a text with most words of code; None if memory runs out to it.
-pub(crate) fn largest_line(alloc: Global, text: &[u8]) -> Option<Vec<u8>>
-    ensures { IfSome result (λ line. All IsShown line.items) }
-{
+pub(crate) fn largest_line(alloc: Global, text: &[u8]) -> Option<Page> {
     let (number, words) = largest_of(alloc, text)?;
     let name = name_of(alloc, text, number).ok()??;
-    let line = format!(in alloc;
-        "the largest function, '{name}', has {words} words in plain order"
-    ).ok()?;
-    with_line(Vec::new(alloc), line.as_str()).ok()
+    let mut out = Writer::new(alloc);
+    out.text("the largest function, '");
+    out.within_line(name.as_bytes());
+    out.text("', has ");
+    out.put(&words);
+    out.text(" words in plain order\n");
+    out.end().ok()
 }

@@ -1,6 +1,6 @@
 //! Where a fault of a C text lies, and what is said of it.
 
-use commands::Place;
+use host::Place;
 use messages::{SourceFault, explain};
 use std::alloc::Global;
 

@@ -5,9 +5,9 @@ ghost use Rattle.driver.specs.RunCommand.{IsRunRemark, PrintsMachine, run_meanin
 ghost use Rattle.driver.specs.ImageRuns.{IsImageRun};
 ghost use Rattle.driver.specs.RunTexts.{ending_status};
 ghost use Rattle.driver.specs.declared.run_command.remarks.Counted.TheVariants.{Words};
-ghost use Rattle.commands.specs.Hosts.{RanOn};
-ghost use Rattle.commands.specs.Requests.{IsSent, WasRefused, relations};
-ghost use Rattle.commands.specs.Streams.{BreaksBy, TookAnswer};
+ghost use Rattle.host.specs.Hosts.{RanOn};
+ghost use Rattle.host.specs.Requests.{IsSent, WasRefused, relations};
+ghost use Rattle.host.specs.Streams.{BreaksBy, TookAnswer};
 ghost use Rattle.image.specs.Images.{IsImageFault};
 ghost use Rattle.image.specs.Texts.{image_fault_text};
 
@@ -16,7 +16,7 @@ use crate::run_command::portions::{Cut, stream};
 use crate::run_command::reasons::stuck_page;
 use crate::run_command::remarks::{Counted, Spent, tell_run};
 use command_line::AskedRun;
-use commands::{
+use host::{
     BadFile, Broken, Complaints, Files, Host, Output, StreamCommand, WordForm, answer_stream,
 };
 use image::{ImageFault, read_image};

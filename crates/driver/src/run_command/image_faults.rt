@@ -1,10 +1,10 @@
 //! What is told of a file that is no image.
 
 ghost use Rattle.std.specs.Prelude.{◌≡◌};
-ghost use Rattle.commands.specs.Requests.{TellsLine};
+ghost use Rattle.host.specs.Requests.{TellsLine};
 ghost use Rattle.image.specs.Texts.{image_fault_text};
 
-use commands::{Complaints, FileError, tell, tell_file};
+use host::{Complaints, FileError, tell, tell_file};
 use image::ImageFault;
 use std::alloc::{AllocError, Global};
 

@@ -2,11 +2,11 @@
 
 ghost use Rattle.std.specs.Prelude.{◌≡◌, ◌<◌, ◌≤◌, ℕ, List, [], ◌∷◌, ◌++◌, IfErr, IfOk, OnErr, OnOk};
 ghost use Rattle.std.specs.Io.KnownBytes.{Appends};
-ghost use Rattle.commands.specs.Requests.{IsSent, WasRefused};
+ghost use Rattle.host.specs.Requests.{IsSent, WasRefused};
 ghost use Rattle.driver.specs.RunCommand.{CutsOff, words_in};
 ghost use Rattle.driver.specs.Portions.{IsEnough, RunOutcome, WentOn, after_output};
 
-use commands::{FormedWord, Output, WordForm};
+use host::{FormedWord, Output, WordForm};
 use std::alloc::{AllocError, Global};
 use std::io;
 

@@ -1,23 +1,23 @@
 //! Why an image's run is stuck, in lines for people.
 
-ghost use Rattle.std.specs.Prelude.{All, IfSome};
-ghost use Rattle.driver.specs.RunCommand.{IsShown};
-ghost use Rattle.commands.specs.Requests.{TellsBeside};
+ghost use Rattle.std.specs.Prelude.{All};
+ghost use Rattle.text.specs.Shown.{IsShown};
+ghost use Rattle.host.specs.Requests.{TellsBeside};
 
 use crate::reasons::page;
-use commands::Complaints;
+use host::Complaints;
 use image::{Image, read_image};
 use mips_asm::list;
 use mips_isa::{CODE_BASE, Rule};
 use std::alloc::{AllocError, Global};
+use text::Page;
 
 /// Tells the lines, if there are some.
-pub fn tell_page<E: Complaints>(err: &mut E, page: Option<Vec<u8>>)
-    requires { IfSome page (λ page. All IsShown page.items) }
+pub(crate) fn tell_page<E: Complaints>(err: &mut E, page: Option<Page>)
     ensures { TellsBeside E.tells err.old (All (All IsShown)) err.new }
 {
     if let Some(page) = page {
-        err.bytes(page.as_slice());
+        err.bytes(page.bytes());
     }
 }
 
@@ -59,9 +59,7 @@ fn stuck_lines(alloc: Global, image: &Image, at: u32, rule: Rule) -> Result<Stri
 }
 
 /// Returns why the image of these bytes is stuck at an address, by a rule.
-pub(crate) fn stuck_page(alloc: Global, bytes: &[u8], at: u32, rule: Rule) -> Option<Vec<u8>>
-    ensures { IfSome result (λ page. All IsShown page.items) }
-{
+pub(crate) fn stuck_page(alloc: Global, bytes: &[u8], at: u32, rule: Rule) -> Option<Page> {
     let Ok(image) = read_image(alloc, bytes) else {
         return None;
     };

@@ -1,12 +1,14 @@
 //! What is told beside a run: how much ran, which option goes on, and why it is stuck or wrong.
 
-ghost use Rattle.std.specs.Prelude.{◌≡◌, ◌≤◌, [], ◌∷◌, ◌++◌, ◌==◌, All, IfSome, Some, if◌then◌else◌};
-ghost use Rattle.driver.specs.RunCommand.{IsRunRemark, IsShown, count_text, more_hint, more_text, unit_text};
-ghost use Rattle.commands.specs.Requests.{TellsBeside};
+ghost use Rattle.std.specs.Prelude.{◌≡◌, ◌≤◌, [], ◌∷◌, ◌++◌, ◌==◌, All, Some, if◌then◌else◌};
+ghost use Rattle.driver.specs.RunCommand.{IsRunRemark, count_text, more_hint, more_text, unit_text};
+ghost use Rattle.host.specs.Requests.{TellsBeside};
+ghost use Rattle.text.specs.Shown.{IsShown};
 
 use crate::run_command::reasons::tell_page;
-use commands::Complaints;
+use host::Complaints;
 use std::fmt;
+use text::Page;
 
 /// What is counted of a run.
 #[derive(Clone, Copy)]
@@ -95,8 +97,7 @@ fn tell_more<E: Complaints>(err: &mut E, spent: Spent, status: u8)
 }
 
 /// Tells why a run is stuck or wrong.
-fn tell_reason<E: Complaints>(err: &mut E, status: u8, page: Option<Vec<u8>>)
-    requires { IfSome page (λ page. All IsShown page.items) }
+fn tell_reason<E: Complaints>(err: &mut E, status: u8, page: Option<Page>)
     ensures { TellsBeside E.tells err.old (λ told. All (All IsShown) told × ((status ≡ 3 → ⊥) → told ≡ [])) err.new }
 {
     if status == 3 {
@@ -105,9 +106,8 @@ fn tell_reason<E: Complaints>(err: &mut E, status: u8, page: Option<Vec<u8>>)
 }
 
 /// Tells what stands beside a run that ended by this status: `page` is why it is stuck or wrong.
-pub fn tell_run<E: Complaints>(err: &mut E, spent: Spent, status: u8, page: Option<Vec<u8>>)
-    requires page { IfSome page (λ page. All IsShown page.items) }
-    requires within { spent.count ≤ spent.most }
+pub fn tell_run<E: Complaints>(err: &mut E, spent: Spent, status: u8, page: Option<Page>)
+    requires { spent.count ≤ spent.most }
     ensures { TellsBeside E.tells err.old (IsRunRemark spent.unit spent.most spent.counts status) err.new }
 {
     tell_count(err, spent);

@@ -6,7 +6,7 @@ ghost use Rattle.mips_machine.specs.Views.{machine_of};
 
 use crate::run_command::portions::{Advance, Resumable};
 use crate::run_command::texts::EndingLine;
-use commands::Output;
+use host::Output;
 use mips_code::Ending;
 use mips_machine::Machine;
 use std::alloc::{AllocError, Global};

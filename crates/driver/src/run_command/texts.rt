@@ -2,12 +2,12 @@
 
 ghost use Rattle.std.specs.Prelude.{Some, [], ◌∷◌, ◌++◌, IfSome, OnErr, OnOk};
 ghost use Rattle.std.specs.Io.KnownBytes.{Appends};
-ghost use Rattle.commands.specs.Requests.{IsSent, WasRefused};
+ghost use Rattle.host.specs.Requests.{IsSent, WasRefused};
 ghost use Rattle.driver.specs.RunCommand.{words_in};
 ghost use Rattle.driver.specs.RunTexts.{ending_text};
 
 use crate::run_command::portions::put_words;
-use commands::{Output, WordForm};
+use host::{Output, WordForm};
 use mips_code::Ending;
 use std::{fmt, io};
 

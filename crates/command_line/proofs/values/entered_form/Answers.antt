@@ -1,7 +1,7 @@
 use Rattle.std.proofs.Common.{◌∙◌, sym, codes}
 use Rattle.clap.specs.Words.{first_of, found_of, rows_of}
 use Rattle.clap.proofs.WalkLemmas.{first_value-rows}
-use Rattle.commands.specs.declared.numbers.WordForm.TheVariants as forms
+use Rattle.host.specs.declared.numbers.WordForm.TheVariants as forms
 use Rattle.command_line.specs.Commands.{form_name}
 use Rattle.command_line.proofs.Names.{named_none, named_some}
 use Rattle.command_line.proofs.values.entered_form.Goals as goal

@@ -6,8 +6,8 @@ use Rattle.c_typed.specs.Trees.{TypedProgram}
 use Rattle.c_typed.specs.Meaning.{Run, source_run, source_start, source_steps}
 use Rattle.c_run.specs.Portions.{state_of}
 use Rattle.c_run.specs.declared.portions.UnderWay.{UnderWay}
-use Rattle.commands.specs.declared.numbers.WordForm.{WordForm}
-use Rattle.commands.specs.Streams.{IsBeginning}
+use Rattle.host.specs.declared.numbers.WordForm.{WordForm}
+use Rattle.host.specs.Streams.{IsBeginning}
 use Rattle.driver.specs.RunCommand.{AreFirstLines, words_in}
 use Rattle.driver.proofs.run_command.Streamed.{lines_on}
 use Rattle.driver.specs.Interps.{IsRun, comes_to}

@@ -1,6 +1,6 @@
 use Rattle.std.proofs.Common.{sym, subst}
-use Rattle.commands.specs.Hosts.{RanOn}
-use Rattle.commands.specs.Requests.{relations}
+use Rattle.host.specs.Hosts.{RanOn}
+use Rattle.host.specs.Requests.{relations}
 use Rattle.command_line.specs.declared.command.Level.{Level}
 use Rattle.driver.specs.Program.{interp_meaning}
 use Rattle.driver.proofs.levels.interp_at.Goals as goal

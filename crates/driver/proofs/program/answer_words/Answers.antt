@@ -1,17 +1,17 @@
 use Rattle.std.proofs.Common.{[], refl, inl, map, subst, arith}
 use Rattle.command_line.specs.Commands.{IsCommand}
 use Rattle.command_line.specs.declared.command.Command.TheVariants.{Check, Interp, Build, Run, List as Listing, NoChoice, Show}
-use Rattle.commands.proofs.Asked.{ran_stopped}
+use Rattle.host.proofs.Asked.{ran_stopped}
 use Rattle.driver.proofs.Lifted.{of_answer, of_command, of_error, of_files}
 use Rattle.driver.specs.Texts.{no_choice_text}
 use Rattle.driver.proofs.program.answer_words.Goals as goal
 
 pub returns-in-Ok-Check-clause-ran : goal.returns-in-Ok-Check-clause-ran
 returns-in-Ok-Check-clause-ran g c =
-    let most = c.check_one.ensures.possible.0 in
+    let most = c.check_file.ensures.possible.0 in
     of_answer _ _ _ _ _ (Check c.in-Ok-Check.file c.in-Ok-Check.explain)
     (subst (IsCommand (map (λ s. s.now) c.args.args.now)) c.in-Ok-Check.field-0-is c.in-Ok-Check.ensures.command)
-    c.in-Ok-Check.ensures.kinds (omega (arith, most)) c.check_one.ensures.possible.1 c.check_one.ensures.ran.ran
+    c.in-Ok-Check.ensures.kinds (omega (arith, most)) c.check_file.ensures.possible.1 c.check_file.ensures.ran.ran
 
 pub returns-in-Ok-CheckEach-clause-ran : goal.returns-in-Ok-CheckEach-clause-ran
 returns-in-Ok-CheckEach-clause-ran g c =

@@ -1,4 +1,4 @@
-use Rattle.commands.proofs.Told.{line_on}
+use Rattle.host.proofs.Told.{line_on}
 use Rattle.driver.proofs.Lifted.{page_shown}
 use Rattle.driver.specs.Stages.{stages_fault_text}
 use Rattle.driver.proofs.show_commands.tell_with.Goals as goal

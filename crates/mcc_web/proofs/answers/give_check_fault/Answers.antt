@@ -1,5 +1,5 @@
-use Rattle.check_command.specs.Checks.{IsCheckFault}
-use Rattle.check_command.specs.Texts.{check_fault_text}
+use Rattle.driver.specs.Checks.{IsCheckFault}
+use Rattle.driver.specs.CheckTexts.{check_fault_text}
 use Rattle.mcc_web.proofs.Fronts.{fault_given}
 use Rattle.mcc_web.proofs.answers.give_check_fault.Goals as goal
 

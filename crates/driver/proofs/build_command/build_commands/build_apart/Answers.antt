@@ -1,10 +1,10 @@
 use Rattle.std.proofs.Common.{[], ◌∷◌, refl, inl, arith}
-use Rattle.commands.specs.Requests.{reading_fault, writing_fault}
-use Rattle.commands.specs.Requests.Request.{Read, NotRead, Written, NotWritten}
-use Rattle.commands.specs.Texts.{host_fault_text}
-use Rattle.commands.specs.declared.fault.HostFault.TheVariants.{CannotWrite}
-use Rattle.commands.proofs.Told.{told_as}
-use Rattle.commands.proofs.Asked.{asked_twice, asks_once, not_written_as, on_host, ran_answered, ran_stopped, read_as, written_as}
+use Rattle.host.specs.Requests.{reading_fault, writing_fault}
+use Rattle.host.specs.Requests.Request.{Read, NotRead, Written, NotWritten}
+use Rattle.host.specs.Texts.{host_fault_text}
+use Rattle.host.specs.declared.fault.HostFault.TheVariants.{CannotWrite}
+use Rattle.host.proofs.Told.{told_as}
+use Rattle.host.proofs.Asked.{asked_twice, asks_once, not_written_as, on_host, ran_answered, ran_stopped, read_as, written_as}
 use Rattle.driver.specs.BuildTexts.{build_fault_text}
 use Rattle.driver.specs.BuildCommand.{built_text}
 use Rattle.driver.specs.BuildCommand.StopsBuild.{unread, faulty, unwritten, untold}

@@ -2,7 +2,7 @@ use Rattle.std.proofs.Common.{◌≡◌, ◌≢◌, [], ◌∷◌, refl, inr, ru
 use Rattle.std.proofs.KnownBytes.{Appends-nil}
 use Rattle.driver.specs.BuildCommand.{one_name_text}
 use Rattle.driver.specs.BuildCommand.AnswersBuild.{one_name}
-use Rattle.commands.proofs.Asked.{on_host}
+use Rattle.host.proofs.Asked.{on_host}
 use Rattle.driver.proofs.build_command.TwoNames.{apart_ran}
 use Rattle.driver.proofs.build_command.build_commands.build_file.Goals as goal
 

@@ -1,5 +1,5 @@
 use Rattle.std.proofs.Common.{codes, refl}
-use Rattle.commands.proofs.Shown.{literal}
+use Rattle.host.proofs.Shown.{literal}
 use Rattle.driver.proofs.build_command.build_commands.limit_text.Goals as goal
 
 pub returns-in-Lowering : goal.returns-in-Lowering

@@ -1,4 +1,4 @@
-use Rattle.commands.proofs.Told.{line_on}
+use Rattle.host.proofs.Told.{line_on}
 use Rattle.driver.specs.BuildTexts.{build_fault_text}
 use Rattle.driver.proofs.build_command.build_commands.tell_build.Goals as goal
 

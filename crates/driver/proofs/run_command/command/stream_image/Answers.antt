@@ -5,8 +5,8 @@ use Rattle.mips_code.specs.Machines.{MachineOutcome, machine_run, words_code}
 use Rattle.mips_machine.specs.Views.{machine_of}
 use Rattle.mips_machine.specs.ImageRuns.{image_run, start_machine}
 use Rattle.mips_machine.specs.declared.machine.Machine.{Machine}
-use Rattle.commands.specs.declared.numbers.WordForm.{WordForm}
-use Rattle.commands.specs.Streams.{IsBeginning}
+use Rattle.host.specs.declared.numbers.WordForm.{WordForm}
+use Rattle.host.specs.Streams.{IsBeginning}
 use Rattle.driver.specs.RunCommand.{AreFirstLines, PrintsMachine, words_in}
 use Rattle.driver.specs.ImageRuns.{IsImageRun, comes_to}
 use Rattle.driver.specs.RunTexts.{ending_text}

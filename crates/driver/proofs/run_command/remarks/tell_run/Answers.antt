@@ -1,5 +1,5 @@
 use Rattle.std.proofs.Common.{◌≡◌, ℕ, List, ◌++◌, ap, ◌∙◌}
-use Rattle.commands.proofs.Told.{folds_on}
+use Rattle.host.proofs.Told.{folds_on}
 use Rattle.driver.proofs.run_command.remarks.tell_run.Goals as goal
 
 joined : (a b c d rest : List (List ℕ)) → a ≡ c → b ≡ d → a ++ (b ++ rest) ≡ c ++ (d ++ rest)
@@ -15,7 +15,7 @@ returns g c =
       folds_on tells _ _ _ count.0 (more.0 ++ reason.0) count.1 (folds_on tells _ _ _ more.0 reason.0 more.1 reason.1),
       record {
         count = c.args.spent.count;
-        within = c.requires.within;
+        within = c.requires;
         reason = reason.0;
         all = joined _ _ _ _ reason.0 count.2 more.2;
         shown = reason.2.0;

@@ -1,8 +1,0 @@
-pub mod Texts
-pub mod Numbers
-pub mod Requests
-pub mod Hosts
-pub mod OneFile
-pub mod WrongWords
-pub mod Streams
-pub mod Unique

@@ -1,0 +1,188 @@
+//! The command over a file and streams.
+
+ghost use Rattle.std.specs.Prelude.{◌≡◌, [], ◌∷◌, ◌++◌, true, IfOk, IfErr, OnErr, OnOk};
+ghost use Rattle.std.specs.Io.KnownBytes.{Appends};
+ghost use Rattle.driver.specs.Checks.{IsAnswerTo, IsCheckFault};
+ghost use Rattle.driver.specs.CheckCommand.{IsMore, IsUnprinted, PrintsAnswer, check_meaning};
+ghost use Rattle.driver.specs.CheckTexts.{IsCheckStatus, answer_text, check_fault_text, exit_status};
+ghost use Rattle.host.specs.OneFile.{TookPrint};
+ghost use Rattle.host.specs.Hosts.{RanOn};
+ghost use Rattle.host.specs.Requests.{IsNothing, IsSent, LeavesOutput, TellsLine, WasRefused, relations};
+
+use crate::check_command::explanations::explanation;
+use crate::check_command::verdicts::{CheckAnswer, CheckFault, check};
+use explain::explain_line;
+use host::{
+    BadFile, Complaints, FileCommand, Files, Host, HostFault, Output, Place, answer_file,
+    line_offset, tell_placed,
+};
+use std::alloc::{AllocError, Global};
+use std::io;
+use text::{Explanation, Page};
+
+/// Returns the status of an answer, with which the program ends: 0 for `same`, else 3.
+pub fn status_of(answer: &CheckAnswer) -> u8
+    ensures status { result ≡ exit_status answer.now }
+    ensures possible { IsCheckStatus result }
+{
+    match answer {
+        CheckAnswer::Same => 0,
+        _ => 3,
+    }
+}
+
+/// Returns what stands after the line of an answer: what explains it, if that is asked for. Err if memory runs out to it.
+pub(crate) fn more_of(
+    alloc: Global,
+    explain: bool,
+    text: &[u8],
+    answer: &CheckAnswer,
+) -> Result<Page, AllocError>
+    ensures more { IfOk result (IsMore explain) }
+    ensures refused { IfErr result (λ _. explain ≡ true) }
+{
+    if explain {
+        explanation(alloc, text, answer)
+    } else {
+        Ok(Page::empty(alloc))
+    }
+}
+
+fn print<W: Output>(out: &mut W, answer: &CheckAnswer, more: &Page) -> io::Result<()>
+    ensures sent { OnOk result (IsSent W.sends out.new) }
+    ensures refused { OnErr result (WasRefused W.refuses out.new) }
+    ensures lines { OnOk result (Appends (W.contents out.old) (W.contents out.new) ((answer_text answer.now ++ 10 ∷ []) ++ more.now)) }
+{
+    out.put_line(answer)?;
+    out.put_bytes(more.bytes())?;
+    out.send()
+}
+
+/// Prints the answer to a text and what explains it, if that is asked for. The result is its status.
+pub fn print_answer<W: Output>(
+    alloc: Global,
+    explain: bool,
+    text: &[u8],
+    answer: &CheckAnswer,
+    out: &mut W,
+) -> Result<u8, HostFault>
+    ensures took { OnOk result (TookPrint (W.contents out.old) (W.contents out.new) (PrintsAnswer explain answer.now)) }
+    ensures sent { OnOk result (IsSent W.sends out.new) }
+    ensures status { IfOk result (λ s. s ≡ exit_status answer.now) }
+    ensures possible { IfOk result IsCheckStatus }
+    ensures fault { IfErr result IsUnprinted }
+    ensures left { IfErr result (λ e. LeavesOutput e (out.new ≡ out.old) (WasRefused W.refuses out.new)) }
+{
+    let Ok(more) = more_of(alloc, explain, text, answer) else {
+        return Err(HostFault::NoMemory);
+    };
+    match print(out, answer, &more) {
+        Ok(()) => Ok(status_of(answer)),
+        Err(_) => Err(HostFault::CannotWrite),
+    }
+}
+
+/// Returns where a fault of a check text lies: at a line, if anywhere.
+fn offset_of(text: &[u8], fault: CheckFault) -> Option<usize> {
+    match fault {
+        CheckFault::Line(line) => Some(line_offset(text, line)),
+        CheckFault::Size | CheckFault::NoMemory => None,
+    }
+}
+
+/// Returns what is said of a fault of a check text: of a line, if anything.
+fn explanation_of(alloc: Global, text: &[u8], fault: CheckFault) -> Option<Explanation> {
+    match fault {
+        CheckFault::Line(line) => explain_line(alloc, text, line).ok(),
+        CheckFault::Size | CheckFault::NoMemory => None,
+    }
+}
+
+/// Tells the line of a fault of a text, and below it where it lies and what is said of it.
+pub fn tell_check<E: Complaints>(
+    alloc: Global,
+    err: &mut E,
+    file: &str,
+    text: &[u8],
+    fault: CheckFault,
+) -> u8
+    ensures status { result ≡ 1 }
+    ensures told { TellsLine E.tells err.old (check_fault_text fault) err.new }
+{
+    let place = Place {
+        source: file,
+        text,
+        at: offset_of(text, fault),
+        about: explanation_of(alloc, text, fault),
+    };
+    tell_placed(alloc, err, &fault, &place)
+}
+
+/// `mcc check` over one file, with `--explain` or without.
+#[derive(Clone, Copy)]
+struct CheckCommand {
+    explain: bool,
+}
+
+impl FileCommand for CheckCommand {
+    type Answer = CheckAnswer;
+
+    type Fault = CheckFault;
+
+    ghost answers = { λ s text answer. IsAnswerTo text answer };
+
+    ghost faults = { λ s text fault. IsCheckFault text fault };
+
+    ghost prints = { λ s answer printed. PrintsAnswer s.explain answer printed };
+
+    ghost status = { exit_status };
+
+    ghost most = { 3 };
+
+    ghost line = { check_fault_text };
+
+    ghost unprinted = { IsUnprinted };
+
+    ghost remarks = { λ s status told. IsNothing told };
+
+    fn work(&self, alloc: Global, bytes: &[u8]) -> Result<CheckAnswer, CheckFault> {
+        match check(alloc, bytes) {
+            Ok(answer) => Ok(answer),
+            Err(fault) => Err(fault),
+        }
+    }
+
+    fn print<W: Output>(
+        &self,
+        alloc: Global,
+        bytes: &[u8],
+        answer: &CheckAnswer,
+        out: &mut W,
+    ) -> Result<u8, HostFault> {
+        print_answer(alloc, self.explain, bytes, answer, out)
+    }
+
+    fn remark<E: Complaints>(
+        &self,
+        _alloc: Global,
+        _bytes: &[u8],
+        _answer: &CheckAnswer,
+        _err: &mut E,
+    ) {}
+
+    fn tell<E: Complaints>(&self, alloc: Global, of: &BadFile<'_, CheckFault>, err: &mut E) -> u8 {
+        tell_check(alloc, err, of.file, of.bytes, of.fault)
+    }
+}
+
+/// Prints the verdict on the text of a file, and what explains it, if that is asked for. The answer is the exit status.
+pub(crate) fn check_file<F: Files, W: Output, E: Complaints>(
+    host: &mut Host<F, W, E>,
+    file: &str,
+    explain: bool,
+) -> u8
+    ensures possible { IsCheckStatus result }
+    ensures ran { RanOn (relations F.answers W.contents W.sends W.refuses E.tells) host.old host.new (check_meaning explain file.now) result }
+{
+    answer_file(host, &CheckCommand { explain }, file)
+}

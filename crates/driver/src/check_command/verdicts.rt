@@ -1,0 +1,98 @@
+//! The verdict of a check text, or its fault.
+ghost use Rattle.std.specs.Prelude.{◌≡◌, ◌≤◌, ◌^◌, length, IfOk, IfErr, IfSome, MatchResult, All};
+ghost use Rattle.mblock.specs.Parts.{BlockParts, OrderParts};
+ghost use Rattle.block_text.specs.Lines.{lines_of};
+ghost use Rattle.block_text.specs.Whole.{SpellsPair};
+ghost use Rattle.term_table.specs.Passes.{IsOf};
+ghost use Rattle.driver.specs.Checks.{IsAnswer, IsCheckFault};
+
+use block_text::{PairFault, Text, read};
+use block_validator::{Place, Verdict, validate};
+use mblock::{Block, Order, Unclean};
+use std::alloc::Global;
+use term_table::{OpenFault, Pass, TermTable};
+
+/// The verdict on the order of a text.
+#[derive(Clone, Copy, Debug, PartialEq, Eq)]
+pub enum CheckAnswer {
+    /// The order is clean, and has the terms of the block in every place.
+    Same,
+    /// The order breaks this delay rule, and no lesser one.
+    Unclean(Unclean),
+    /// The order is clean, and this is the first place whose terms differ.
+    Differs(Place),
+    /// The order is clean, and the table of terms was full.
+    Full,
+}
+
+/// Why a text has no verdict.
+#[derive(Clone, Copy, Debug, PartialEq, Eq)]
+pub enum CheckFault {
+    /// The text is longer than 1,048,576 bytes, which is tested first.
+    Size,
+    /// The first line, from 1, that can't stand in its place, or the number of lines plus 1 where the
+    /// text ends too early.
+    Line(u32),
+    /// Memory was refused.
+    NoMemory,
+}
+
+/// The most bytes of a text that has a verdict.
+pub const LONGEST: usize = 1_048_576;
+
+/// Returns a table for one pass, of 16,384 nodes and 256 heads.
+fn table(alloc: Global) -> Option<(TermTable, Vec<Pass>)>
+    ensures each { IfSome result (λ t. All (IsOf t.0) t.1.items) }
+    ensures one { IfSome result (λ t. length t.1.items ≡ 1) }
+{
+    match TermTable::open(alloc, 1, 16384, 256) {
+        Ok((table, passes)) => Some((table, passes)),
+        Err(OpenFault::NoMemory) => None,
+        Err(OpenFault::Range) => unreachable!(),
+    }
+}
+
+/// Returns the table and its pass; None only if memory ran out.
+fn open_table(alloc: Global) -> Option<(TermTable, Pass)>
+    ensures { IfSome result (λ t. IsOf t.0 t.1) }
+{
+    let (table, mut passes) = table(alloc)?;
+    let Some(pass) = passes.pop() else {
+        unreachable!();
+    };
+    Some((table, pass))
+}
+
+/// Returns the verdict on a block and an order; no other fault than refused memory.
+fn judge(alloc: Global, block: &Block, order: Order) -> Result<CheckAnswer, CheckFault>
+    ensures { MatchResult result (IsAnswer block.now order) (λ e. e ≡ CheckFault.NoMemory) }
+{
+    let Some((table, mut pass)) = open_table(alloc) else {
+        return Err(CheckFault::NoMemory);
+    };
+    match validate(alloc, &table, &mut pass, block, order) {
+        Verdict::Same(_) => Ok(CheckAnswer::Same),
+        Verdict::Unclean(rule) => Ok(CheckAnswer::Unclean(rule)),
+        Verdict::Differs(place) => Ok(CheckAnswer::Differs(place)),
+        Verdict::Full => Ok(CheckAnswer::Full),
+        Verdict::NoMemory => Err(CheckFault::NoMemory),
+    }
+}
+
+/// Returns the verdict on the block and the order that the text spells.
+pub fn check(alloc: Global, text: &[u8]) -> Result<CheckAnswer, CheckFault>
+    ensures spelled { IfOk result (λ _. (length text.now ≤ 2 ^ 20) × (b : BlockParts) × (o : OrderParts)
+        × SpellsPair (lines_of text.now) b o) }
+    ensures answer { length text.now ≤ 2 ^ 20 → (b : BlockParts) (o : OrderParts) → SpellsPair (lines_of text.now) b o
+        → MatchResult result (IsAnswer b o) (λ e. e ≡ CheckFault.NoMemory) }
+    ensures fault { IfErr result (IsCheckFault text.now) }
+{
+    if text.len() > LONGEST {
+        return Err(CheckFault::Size);
+    }
+    match read(alloc, text) {
+        Ok(Text { block, order }) => judge(alloc, &block, order),
+        Err(PairFault::Line(line)) => Err(CheckFault::Line(line)),
+        Err(PairFault::NoMemory) => Err(CheckFault::NoMemory),
+    }
+}

@@ -1,0 +1,316 @@
+//! What is said of the first line of a check text that can't stand in its place.
+
+ghost use Rattle.std.specs.Prelude.{IfOk};
+ghost use Rattle.text.specs.Shown.{IsPrintableExplanation};
+
+use crate::operands::hint_of_operands;
+use std::alloc::{AllocError, Global};
+use std::str;
+use text::Explanation;
+
+/// The most instructions of a block, and of an order (docs/FORMATS.md).
+const BLOCK: usize = 512;
+
+const ORDER: usize = 2048;
+
+const SMALL: &str = "n from 0 to 31";
+
+const SIGNED: &str = "n from -32768 to 32767";
+
+const UNSIGNED: &str = "n from 0 to 65535";
+
+const NO_NUMBER: &str = "registers are $0 to $31";
+
+const BLOCKS: &str = "numbers of blocks are from 0 to 1048575";
+
+/// A mnemonic, its operands, and what they may be.
+type Form = (&'static [u8], &'static str, &'static str);
+
+const INSTRUCTIONS: [Form; 32] = [
+    (b"sll", " $rd,$rt,n", SMALL),
+    (b"srl", " $rd,$rt,n", SMALL),
+    (b"sra", " $rd,$rt,n", SMALL),
+    (b"sllv", " $rd,$rt,$rs", NO_NUMBER),
+    (b"srlv", " $rd,$rt,$rs", NO_NUMBER),
+    (b"srav", " $rd,$rt,$rs", NO_NUMBER),
+    (b"addu", " $rd,$rs,$rt", NO_NUMBER),
+    (b"subu", " $rd,$rs,$rt", NO_NUMBER),
+    (b"and", " $rd,$rs,$rt", NO_NUMBER),
+    (b"or", " $rd,$rs,$rt", NO_NUMBER),
+    (b"xor", " $rd,$rs,$rt", NO_NUMBER),
+    (b"nor", " $rd,$rs,$rt", NO_NUMBER),
+    (b"slt", " $rd,$rs,$rt", NO_NUMBER),
+    (b"sltu", " $rd,$rs,$rt", NO_NUMBER),
+    (b"addiu", " $rt,$rs,n", SIGNED),
+    (b"slti", " $rt,$rs,n", SIGNED),
+    (b"sltiu", " $rt,$rs,n", SIGNED),
+    (b"andi", " $rt,$rs,n", UNSIGNED),
+    (b"ori", " $rt,$rs,n", UNSIGNED),
+    (b"xori", " $rt,$rs,n", UNSIGNED),
+    (b"lui", " $rt,n", UNSIGNED),
+    (b"mfhi", " $rd", NO_NUMBER),
+    (b"mflo", " $rd", NO_NUMBER),
+    (b"mult", " $rs,$rt", NO_NUMBER),
+    (b"multu", " $rs,$rt", NO_NUMBER),
+    (b"div", " $rs,$rt", NO_NUMBER),
+    (b"divu", " $rs,$rt", NO_NUMBER),
+    (b"lw", " $rt,n($base)", SIGNED),
+    (b"lbu", " $rt,n($base)", SIGNED),
+    (b"sw", " $rt,n($base)", SIGNED),
+    (b"sb", " $rt,n($base)", SIGNED),
+    (b"nop", "", "nothing stands behind it"),
+];
+
+const EXITS: [Form; 11] = [
+    (b"goto", " T", BLOCKS),
+    (b"beq", " $s,$t,T,E", BLOCKS),
+    (b"bne", " $s,$t,T,E", BLOCKS),
+    (b"blez", " $s,T,E", BLOCKS),
+    (b"bgtz", " $s,T,E", BLOCKS),
+    (b"bltz", " $s,T,E", BLOCKS),
+    (b"bgez", " $s,T,E", BLOCKS),
+    (b"call", " F,N", BLOCKS),
+    (b"return", "", "nothing stands behind it"),
+    (b"out", " N", BLOCKS),
+    (b"halt", "", "nothing stands behind it"),
+];
+
+/// What assemblers have and check texts haven't, with what to write.
+const OTHERS: [(&[u8], &str); 14] = [
+    (b"add", "write addu, which doesn't trap"),
+    (b"addi", "write addiu, which doesn't trap"),
+    (b"sub", "write subu, which doesn't trap"),
+    (b"move", "write addu $rd,$rs,$0"),
+    (b"li", "write addiu $rt,$0,n"),
+    (b"not", "write nor $rd,$rs,$0"),
+    (b"lb", "write lbu"),
+    (b"j", "write goto T"),
+    (b"b", "write goto T"),
+    (b"jal", "write call F,N"),
+    (b"jr", "write return"),
+    (b"beqz", "write beq $s,$0,T,E"),
+    (b"bnez", "write bne $s,$0,T,E"),
+    (b"syscall", "write out N or halt"),
+];
+
+/// What has to stand next in a check text.
+#[derive(Clone, Copy)]
+enum Stage {
+    Block,
+    /// After so many instructions of the block.
+    InBlock(usize),
+    Order,
+    InOrder(usize),
+    Slot,
+    /// After an order that ends in `out` or `halt`.
+    NoSlot,
+    Nothing,
+}
+
+/// Returns what stands before the first space of a line.
+fn mnemonic<'t>(line: &'t [u8]) -> &'t [u8] {
+    for (length, byte) in line.iter().enumerate() {
+        if *byte == b' ' {
+            return line.get(..length).unwrap_or(line);
+        }
+    }
+    line
+}
+
+fn shown_word<'t>(bytes: &'t [u8]) -> &'t str {
+    str::from_utf8(bytes).unwrap_or("?")
+}
+
+fn form(table: &[Form], word: &[u8]) -> Option<Form> {
+    for form in table {
+        if form.0 == word {
+            return Some(*form);
+        }
+    }
+    None
+}
+
+fn instruction(word: &[u8]) -> Option<Form> {
+    form(&INSTRUCTIONS, word)
+}
+
+fn exit(word: &[u8]) -> Option<Form> {
+    form(&EXITS, word)
+}
+
+fn is_exit(line: &[u8]) -> bool {
+    exit(mnemonic(line)).is_some()
+}
+
+/// Returns what to write in place of a mnemonic that assemblers have and check texts haven't.
+fn other(word: &[u8]) -> Option<&'static str> {
+    for (other, hint) in &OTHERS {
+        if *other == word {
+            return Some(*hint);
+        }
+    }
+    None
+}
+
+/// Returns what has to stand after a line that stands in its place.
+fn stage_after(stage: Stage, line: &[u8]) -> Stage {
+    match stage {
+        Stage::Block => Stage::InBlock(0),
+        Stage::InBlock(_) if is_exit(line) => Stage::Order,
+        Stage::InBlock(n) => Stage::InBlock(n.saturating_add(1)),
+        Stage::Order => Stage::InOrder(0),
+        Stage::InOrder(_) if is_exit(line) => match mnemonic(line) {
+            b"out" | b"halt" => Stage::NoSlot,
+            _ => Stage::Slot,
+        },
+        Stage::InOrder(n) => Stage::InOrder(n.saturating_add(1)),
+        Stage::Slot | Stage::NoSlot | Stage::Nothing => Stage::Nothing,
+    }
+}
+
+/// Returns what has to stand at a line, counted from 1, and the line; None if the text has no such line.
+fn stage_at<'t>(text: &'t [u8], line: u32) -> (Stage, Option<&'t [u8]>) {
+    let (mut stage, mut number, mut start) = (Stage::Block, 1u32, 0usize);
+    for (k, byte) in text.iter().enumerate() {
+        if *byte == b'\n' {
+            let bytes = text.get(start..k).unwrap_or(b"");
+            if number >= line {
+                return (stage, Some(bytes));
+            }
+            stage = stage_after(stage, bytes);
+            number = number.saturating_add(1);
+            start = k + 1;
+        }
+    }
+    match text.get(start..) {
+        Some(last) if !last.is_empty() && number >= line => (stage, Some(last)),
+        Some(last) if !last.is_empty() => (stage_after(stage, last), None),
+        _ => (stage, None),
+    }
+}
+
+/// Returns what is said of a line that should be an instruction or an exit.
+fn explain_instruction(alloc: Global, line: &[u8]) -> Result<Explanation, AllocError>
+    ensures { IfOk result IsPrintableExplanation }
+{
+    let word = mnemonic(line);
+    if line.is_empty() {
+        return Explanation::new(alloc, "an empty line can't stand in a check text", None);
+    }
+    if line.contains(&b'\t') {
+        return Explanation::new(
+            alloc,
+            "a line has a tab",
+            Some("write one space behind the mnemonic"),
+        );
+    }
+    match instruction(word).or(exit(word)) {
+        Some(form) => explain_operands(alloc, line, form),
+        None => explain_unknown(alloc, word),
+    }
+}
+
+/// Returns what is said of a line whose mnemonic has this form.
+fn explain_operands(alloc: Global, line: &[u8], form: Form) -> Result<Explanation, AllocError>
+    ensures { IfOk result IsPrintableExplanation }
+{
+    if line.starts_with(b"lw $0,") || line.starts_with(b"lbu $0,") {
+        return Explanation::new(alloc, "register 0 can't be loaded", None);
+    }
+    let (word, operands, range) = form;
+    let name = shown_word(word);
+    let message = format!(in alloc; "expected {name}{operands}")?;
+    match hint_of_operands(alloc, word, line)? {
+        Some(hint) => Explanation::new(alloc, message.as_str(), Some(hint.as_str())),
+        None => Explanation::new(alloc, message.as_str(), Some(range)),
+    }
+}
+
+/// Returns what is said of a line by how it begins or ends; None if that is right.
+fn fault_of_ends(line: &[u8]) -> Option<(&'static str, &'static str)> {
+    match line {
+        [.., b'\r'] => Some((
+            "the line ends with a carriage return",
+            "save the text with LF at the ends of its lines",
+        )),
+        [b' ' | b'\t', ..] => Some(("a line begins with a blank", "leave it out")),
+        _ if line.contains(&b'\r') => {
+            Some((
+                "a line has a carriage return",
+                "end each line by a line feed alone",
+            ))
+        }
+        _ => None,
+    }
+}
+
+fn explain_unknown(alloc: Global, word: &[u8]) -> Result<Explanation, AllocError>
+    ensures { IfOk result IsPrintableExplanation }
+{
+    let told = shown_word(word.get(..63).unwrap_or(word));
+    let message = format!(in alloc; "'{told}' is no instruction here")?;
+    Explanation::new(alloc, message.as_str(), other(word))
+}
+
+/// Returns what is said of a line between the head of a block or an order and its exit.
+fn explain_inside(
+    alloc: Global,
+    line: &[u8],
+    before: usize,
+    most: usize,
+    part: &str,
+) -> Result<Explanation, AllocError>
+    ensures { IfOk result IsPrintableExplanation }
+{
+    if before < most || instruction(mnemonic(line)).is_none() {
+        return explain_instruction(alloc, line);
+    }
+    let count = before.saturating_add(1);
+    let message = format!(in alloc; "{count} instructions in {part}: at most {most}")?;
+    Explanation::new(alloc, message.as_str(), None)
+}
+
+/// Returns what has to stand at a stage.
+fn expected_line(stage: Stage) -> &'static str {
+    match stage {
+        Stage::Block => "expected the line 'block'",
+        Stage::InBlock(_) | Stage::InOrder(_) => "expected an instruction or an exit",
+        Stage::Order => "expected the line 'order'",
+        Stage::Slot => "expected the line 'slot INSTRUCTION'",
+        Stage::NoSlot | Stage::Nothing => "the text is at its end",
+    }
+}
+
+/// Returns what is said of the first line, counted from 1, that can't stand in its place.
+pub fn explain_line(alloc: Global, text: &[u8], line: u32) -> Result<Explanation, AllocError>
+    ensures { IfOk result IsPrintableExplanation }
+{
+    let (stage, bytes) = stage_at(text, line);
+    let Some(bytes) = bytes else {
+        let wanted = expected_line(stage);
+        let message = format!(in alloc; "{wanted} at the text's end")?;
+        return Explanation::new(alloc, message.as_str(), None);
+    };
+    if let Some((message, hint)) = fault_of_ends(bytes) {
+        return Explanation::new(alloc, message, Some(hint));
+    }
+    match stage {
+        Stage::InBlock(before) => explain_inside(alloc, bytes, before, BLOCK, "a block"),
+        Stage::InOrder(before) => explain_inside(alloc, bytes, before, ORDER, "an order"),
+        Stage::Slot if bytes.starts_with(b"slot ") => explain_instruction(
+            alloc,
+            bytes.get(5..).unwrap_or(b""),
+        ),
+        Stage::NoSlot if bytes.starts_with(b"slot") => Explanation::new(
+            alloc,
+            "out and halt have no slot",
+            None,
+        ),
+        Stage::NoSlot | Stage::Nothing => Explanation::new(
+            alloc,
+            "nothing can stand behind the order",
+            None,
+        ),
+        _ => Explanation::new(alloc, expected_line(stage), None),
+    }
+}

@@ -1,0 +1,199 @@
+//! Terms as text.
+
+use crate::terms::TermReader;
+use mips_isa::{PairTest, ZeroTest};
+use std::alloc::{AllocError, Global};
+use sym_terms::{Label, Origin};
+use text::{Page, Writer};
+use words::{Operator, Width};
+
+/// What stands for the parts of a term that are cut off.
+const CUT: &str = "..";
+
+/// The parts of a term that are shown at most.
+const MOST: u32 = 200;
+
+pub(crate) fn load_name(width: Width) -> &'static str {
+    match width {
+        Width::Word => "lw",
+        Width::Byte => "lbu",
+    }
+}
+
+fn store_name(width: Width) -> &'static str {
+    match width {
+        Width::Word => "sw",
+        Width::Byte => "sb",
+    }
+}
+
+pub(crate) fn width_name(width: Width) -> &'static str {
+    match width {
+        Width::Word => "word",
+        Width::Byte => "byte",
+    }
+}
+
+pub(crate) fn pair_sign(test: PairTest) -> &'static str {
+    match test {
+        PairTest::Equal => " == ",
+        PairTest::NotEqual => " != ",
+    }
+}
+
+pub(crate) fn zero_sign(test: ZeroTest) -> &'static str {
+    match test {
+        ZeroTest::AtMostZero => " <= 0",
+        ZeroTest::AboveZero => " > 0",
+        ZeroTest::BelowZero => " < 0",
+        ZeroTest::AtLeastZero => " >= 0",
+    }
+}
+
+/// Returns the sign between operands, of those that have one in C.
+fn sign(operator: Operator) -> Option<&'static str> {
+    match operator {
+        Operator::Addu => Some(" + "),
+        Operator::Subu => Some(" - "),
+        Operator::And => Some(" & "),
+        Operator::Or => Some(" | "),
+        Operator::Xor => Some(" ^ "),
+        Operator::Sll => Some(" << "),
+        _ => None,
+    }
+}
+
+/// Returns the sign between the operands of a term, if its label has one.
+fn infix(label: &Label) -> Option<&'static str> {
+    match label {
+        Label::Op(operator) => sign(*operator),
+        _ => None,
+    }
+}
+
+/// Returns the operator's instruction, with the register that it is read from where there are two.
+fn operator_name(operator: Operator) -> &'static str {
+    match operator {
+        Operator::Addu => "addu",
+        Operator::Subu => "subu",
+        Operator::And => "and",
+        Operator::Or => "or",
+        Operator::Xor => "xor",
+        Operator::Nor => "nor",
+        Operator::Slt => "slt",
+        Operator::Sltu => "sltu",
+        Operator::Sll => "sll",
+        Operator::Srl => "srl",
+        Operator::Sra => "sra",
+        Operator::MultHigh => "mult.hi",
+        Operator::MultLow => "mult.lo",
+        Operator::MultuHigh => "multu.hi",
+        Operator::MultuLow => "multu.lo",
+        Operator::DivQuotient => "div.lo",
+        Operator::DivRemainder => "div.hi",
+        Operator::DivuQuotient => "divu.lo",
+        Operator::DivuRemainder => "divu.hi",
+    }
+}
+
+fn put_origin(out: &mut Writer, origin: &Origin) {
+    match origin {
+        Origin::Register(register) => {
+            out.text("$");
+            out.put(&register.index());
+        }
+        Origin::Hi => out.text("hi"),
+        Origin::Lo => out.text("lo"),
+        Origin::Link => out.text("link"),
+    }
+}
+
+/// Writes the label of a term, if it has no operands; a word as a signed number.
+fn put_label(out: &mut Writer, label: &Label) {
+    match label {
+        Label::Init(origin) => put_origin(out, origin),
+        Label::Mem0 => out.text("mem"),
+        Label::Const(word) => out.put(&word.cast_signed()),
+        Label::Op(operator) => out.text(operator_name(*operator)),
+        Label::Load(width) => out.text(load_name(*width)),
+        Label::Store(width) => out.text(store_name(*width)),
+    }
+}
+
+fn label_page(alloc: Global, label: &Label) -> Result<Page, AllocError> {
+    let mut out = Writer::new(alloc);
+    put_label(&mut out, label);
+    out.end()
+}
+
+/// Returns what stands for a term that is cut off.
+fn cut_page(alloc: Global) -> Result<Page, AllocError> {
+    let mut out = Writer::new(alloc);
+    out.text(CUT);
+    out.end()
+}
+
+/// Writes the operands, the last of which stands first, between parentheses and with this between them.
+fn put_operands(out: &mut Writer, operands: &[Page], between: &str) {
+    out.text("(");
+    for (k, operand) in operands.iter().rev().enumerate() {
+        if k > 0 {
+            out.text(between);
+        }
+        out.page(operand);
+    }
+    out.text(")");
+}
+
+/// Returns a term of a label and its operands, the last of which stands first. The label stands before them, or as a sign between them.
+fn term_page(alloc: Global, label: &Label, operands: &[Page]) -> Result<Page, AllocError> {
+    let mut out = Writer::new(alloc);
+    let between = match infix(label) {
+        Some(sign) => sign,
+        None => {
+            put_label(&mut out, label);
+            ", "
+        }
+    };
+    put_operands(&mut out, operands, between);
+    out.end()
+}
+
+/// Returns the term that is next, cut at a depth, and where so many parts were shown.
+fn next_page(
+    alloc: Global,
+    reader: &mut TermReader,
+    depth: u32,
+    left: &mut u32,
+) -> Result<Page, AllocError> {
+    let Some((label, count)) = reader.next()? else {
+        return cut_page(alloc);
+    };
+    if count == 0 {
+        return label_page(alloc, &label);
+    }
+    if depth == 0 || *left == 0 {
+        reader.skip(count);
+        return cut_page(alloc);
+    }
+    *left = left.saturating_sub(1);
+    let mut operands = Vec::new(alloc);
+    for _ in 0..count {
+        operands.push(next_page(alloc, reader, depth - 1, left)?)?;
+    }
+    term_page(alloc, &label, operands.as_slice())
+}
+
+/// Returns a root's term, cut at a depth; empty where there is no such root.
+pub(crate) fn root_page(
+    alloc: Global,
+    reader: &mut TermReader,
+    root: usize,
+    depth: u32,
+) -> Result<Page, AllocError> {
+    if !reader.start(root)? {
+        return Ok(Page::empty(alloc));
+    }
+    let mut left = MOST;
+    next_page(alloc, reader, depth, &mut left)
+}

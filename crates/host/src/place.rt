@@ -1,0 +1,279 @@
+//! Where a fault lies in its file, as editors and readers want it. Below the line `FILE:LINE:COLUMN: error: MESSAGE` is the line of the
+//! text around the place with a caret, and a line with a hint.
+
+ghost use Rattle.std.specs.Prelude.{◌≡◌, ◌<◌, ◌^◌, ◌≤◌, length, ◌++◌, All, IfOk, IfSome, Some, codes, decimal};
+ghost use Rattle.host.specs.Requests.{TellsBeside, TellsLine};
+ghost use Rattle.text.specs.Shown.{IsTold};
+
+use crate::fault::Complaints;
+use crate::host_faults::FileError;
+use std::alloc::{AllocError, Global};
+use std::fmt;
+use text::{Explanation, Page, Writer, printable_byte};
+
+/// The most bytes that are shown of a line of the text; a longer one is cut, with three dots for what is left out.
+const WIDTH: usize = 160;
+
+/// What is shown of a long line: bytes before the place, and in all, without the dots.
+const BEFORE: usize = 77;
+
+const SHOWN: usize = WIDTH - 2 * DOTS.len();
+
+const DOTS: &[u8] = b"...";
+
+/// A place in a text.
+#[derive(Clone, Copy, Debug, PartialEq, Eq)]
+pub struct Spot {
+    /// From 1.
+    pub line: usize,
+    /// In bytes, from 1.
+    pub column: usize,
+}
+
+/// Returns where the line of the offset begins.
+fn line_start(text: &[u8], at: usize) -> usize {
+    let mut start = 0;
+    for (k, byte) in text.iter().take(at).enumerate() {
+        if *byte == b'\n' {
+            start = k + 1;
+        }
+    }
+    start
+}
+
+/// Returns where the line of the offset ends: at its LF or at the text's end.
+fn line_end(text: &[u8], at: usize) -> usize {
+    for (k, byte) in text.iter().enumerate().skip(at) {
+        if *byte == b'\n' {
+            return k;
+        }
+    }
+    text.len()
+}
+
+/// Returns the line and the column of an offset of the text, or of its end.
+pub fn spot_of(text: &[u8], at: usize) -> Spot {
+    let before = text.iter().take(at).filter(|byte| **byte == b'\n').count();
+    let column = at.saturating_sub(line_start(text, at));
+    Spot {
+        line: before.saturating_add(1),
+        column: column.saturating_add(1),
+    }
+}
+
+/// Returns where a line of the text begins, counted from 1; the text's length where it has no such line.
+pub fn line_offset(text: &[u8], line: u32) -> usize
+    ensures { result ≤ length text.now }
+{
+    let mut ends = 1u32;
+    for (k, byte) in text.iter().enumerate() {
+        if line <= ends {
+            return k;
+        }
+        if *byte == b'\n' {
+            ends = ends.saturating_add(1);
+        }
+    }
+    text.len()
+}
+
+/// Returns what stands for a byte of the text: tabs stay, so that the caret keeps its place. With `blank` all else is a blank.
+fn quoted_byte(byte: u8, blank: bool) -> u8
+    ensures { IsTold result }
+{
+    match byte {
+        b'\t' => byte,
+        _ if blank => b' ',
+        b'\n' => byte,
+        b'\r' => b' ',
+        _ => printable_byte(byte),
+    }
+}
+
+/// Returns the part of a line that is shown: from and to these offsets.
+fn window(start: usize, end: usize, at: usize) -> (usize, usize) {
+    if end.saturating_sub(start) <= WIDTH {
+        return (start, end);
+    }
+    let latest = end.saturating_sub(SHOWN);
+    let from = at.saturating_sub(BEFORE).max(start).min(latest);
+    (from, from.saturating_add(SHOWN).min(end))
+}
+
+/// Returns what stands for a part of a line that is left out.
+fn dots(is_cut: bool) -> &'static [u8] {
+    if is_cut { DOTS } else { b"" }
+}
+
+/// Adds what stands for these bytes.
+fn add(quote: &mut Vec<u8>, bytes: &[u8], blank: bool) -> Result<(), AllocError>
+    requires { All IsTold quote.old.items }
+    ensures { All IsTold quote.new.items }
+{
+    for byte in bytes {
+        quote.push(quoted_byte(*byte, blank))?;
+    }
+    Ok(())
+}
+
+/// Returns at most 160 bytes of the line in which the offset lies, and a line with a caret under the offset. Nothing at the text's end.
+fn quote_of(alloc: Global, text: &[u8], at: usize) -> Result<Vec<u8>, AllocError>
+    ensures { IfOk result (λ quote. All IsTold quote.items) }
+{
+    let mut quote = Vec::new(alloc);
+    if at >= text.len() {
+        return Ok(quote);
+    }
+    let start = line_start(text, at);
+    let end = line_end(text, at);
+    let (from, to) = window(start, end, at);
+    add(&mut quote, dots(start < from), false)?;
+    add(&mut quote, text.get(from..to).unwrap_or(b""), false)?;
+    add(&mut quote, dots(to < end), false)?;
+    add(&mut quote, b"\n", false)?;
+    add(&mut quote, dots(start < from), true)?;
+    add(&mut quote, text.get(from..at).unwrap_or(b""), true)?;
+    add(&mut quote, b"^\n", false)?;
+    Ok(quote)
+}
+
+/// Where a fault lies, and what is said of it.
+#[derive(Drop)]
+pub struct Place<'a> {
+    /// The file as it was named.
+    pub source: &'a str,
+    pub text: &'a [u8],
+    /// The offset in the text, or its length; none where memory was refused.
+    pub at: Option<usize>,
+    /// None where nothing more is known, or memory was refused.
+    pub about: Option<Explanation>,
+}
+
+fn put_hint(out: &mut Writer, hint: &[u8]) {
+    out.text("hint: ");
+    out.within_line(hint);
+    out.text("\n");
+}
+
+/// Returns the line with the file and what is wrong with it, and the hint.
+pub(crate) fn file_page(alloc: Global, about: &FileError<'_>) -> Result<Page, AllocError> {
+    let mut out = Writer::new(alloc);
+    out.within_line(about.file.as_bytes());
+    out.text(": error: ");
+    out.within_line(about.message.as_bytes());
+    out.text("\n");
+    if let Some(hint) = about.hint {
+        put_hint(&mut out, hint.as_bytes());
+    }
+    out.end()
+}
+
+/// Returns the line with the place and the message.
+fn head_of(alloc: Global, place: &Place<'_>, at: usize) -> Result<Page, AllocError> {
+    let mut out = Writer::new(alloc);
+    out.within_line(place.source.as_bytes());
+    out.put(&after_name(place.text, at));
+    if let Some(about) = &place.about {
+        out.text(" error: ");
+        out.within_line(about.message.as_slice());
+    }
+    out.text("\n");
+    out.end()
+}
+
+/// Returns the lines with the hint and what else is wrong.
+fn rest_of(alloc: Global, about: &Explanation) -> Result<Page, AllocError> {
+    let mut out = Writer::new(alloc);
+    if let Some(hint) = &about.hint {
+        put_hint(&mut out, hint.as_slice());
+    }
+    if let Some(more) = &about.more {
+        out.within_line(more.as_slice());
+        out.text("\n");
+    }
+    out.end()
+}
+
+/// What is told below a fault: the place and the message, the line of the text with its caret, the hint and what else is wrong.
+#[derive(Drop)]
+struct Below {
+    head: Page,
+    quote: Vec<u8>,
+    rest: Page,
+}
+
+fn lines_below(alloc: Global, place: &Place<'_>, at: usize) -> Result<Below, AllocError>
+    ensures { IfOk result (λ below. All IsTold below.quote.items) }
+{
+    let head = head_of(alloc, place, at)?;
+    let quote = quote_of(alloc, place.text, at)?;
+    let rest = match &place.about {
+        Some(about) => rest_of(alloc, about)?,
+        None => Page::empty(alloc),
+    };
+    Ok(Below { head, quote, rest })
+}
+
+/// Tells the line of a fault of a text. If it has a place, below come the place and what is said of it.
+pub fn tell_placed<E: Complaints, F: fmt::Display>(
+    alloc: Global,
+    err: &mut E,
+    fault: &F,
+    place: &Place<'_>,
+) -> u8
+    ensures status { result ≡ 1 }
+    ensures told { IfSome (F.output fault.now) (λ text. TellsLine E.tells err.old text err.new) }
+{
+    err.line(fault);
+    if let Some(at) = place.at {
+        show_place(alloc, err, place, at);
+    }
+    1
+}
+
+/// Tells, below a fault's line, where it lies and what is said of it; if memory runs out, only where it lies.
+fn show_place<E: Complaints>(alloc: Global, err: &mut E, place: &Place<'_>, at: usize)
+    ensures { TellsBeside E.tells err.old (All (All IsTold)) err.new }
+{
+    match lines_below(alloc, place, at) {
+        Ok(below) => {
+            err.bytes(below.head.bytes());
+            err.bytes(below.quote.as_slice());
+            err.bytes(below.rest.bytes());
+        }
+        Err(_) => tell_site(err, place, at),
+    }
+}
+
+/// Tells where a fault lies alone, which takes no memory.
+fn tell_site<E: Complaints>(err: &mut E, place: &Place<'_>, at: usize)
+    ensures { TellsBeside E.tells err.old (All (All IsTold)) err.new }
+{
+    for byte in place.source.as_bytes() {
+        err.bytes(&[printable_byte(*byte)]);
+    }
+    err.line(&after_name(place.text, at));
+}
+
+/// A place as editors read it after the name of its file.
+#[derive(Clone, Copy)]
+struct AfterName {
+    line: usize,
+    column: usize,
+}
+
+fn after_name(text: &[u8], at: usize) -> AfterName
+    ensures { (result.line < 2 ^ 64) × (result.column < 2 ^ 64) }
+{
+    let Spot { line, column } = spot_of(text, at);
+    AfterName { line, column }
+}
+
+impl fmt::Display for AfterName {
+    ghost output = { λ s. Some (codes ":" ++ (decimal s.line ++ (codes ":" ++ (decimal s.column ++ codes ":")))) };
+
+    fn fmt<W: fmt::Write>(&self, f: &mut fmt::Formatter<W>) -> fmt::Result {
+        let (line, column) = (self.line, self.column);
+        write!(f, ":{line}:{column}:")
+    }
+}
