@@ -67,24 +67,11 @@ abbrev pub show_app : App
 show_app = with_rule (with_rule (with_rule (with_rule (with_rule (new_app (codes "show")) (required_rule (codes "SOURCE")))
     (text_rule (codes "stage"))) (text_rule (codes "function"))) (number_rule (codes "block") 0 1048575)) (flag_rule (codes "dot"))
 
--- `mcc` with its first command, with two, with three, with four, with five
-abbrev pub checking_app : App
-checking_app = with_subcommand (with_version (with_required_subcommand (new_app (codes "mcc")))) check_app.top
-
-abbrev pub interpreting_app : App
-interpreting_app = with_subcommand checking_app interp_app.top
-
-abbrev pub building_app : App
-building_app = with_subcommand interpreting_app build_app.top
-
-abbrev pub running_app : App
-running_app = with_subcommand building_app run_app.top
-
-abbrev pub listing_app : App
-listing_app = with_subcommand running_app list_app.top
-
+-- `mcc`: one of its commands must be given
 abbrev pub mcc_app : App
-mcc_app = with_subcommand listing_app show_app.top
+mcc_app = with_subcommand (with_subcommand (with_subcommand (with_subcommand (with_subcommand (with_subcommand
+    (with_version (with_required_subcommand (new_app (codes "mcc")))) check_app.top) interp_app.top) build_app.top) run_app.top)
+    list_app.top) show_app.top
 
 -- the number that the text gives, or the default where there is no text
 abbrev pub IsNumber : Option Text → ℕ → ℕ → Type 0

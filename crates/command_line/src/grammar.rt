@@ -2,7 +2,7 @@
 
 ghost use Rattle.std.specs.Prelude.{◌≡◌, IfOk};
 ghost use Rattle.clap.specs.Words.{app_of};
-ghost use Rattle.command_line.specs.Commands.{building_app, mcc_app};
+ghost use Rattle.command_line.specs.Commands.{mcc_app};
 
 use crate::pages::Page;
 use crate::parts::{CommandBuilder, CommandParts, Form, Part, with_commands};
@@ -126,25 +126,19 @@ const SHOW: &[Part<'static>] = &[
     Part { id: "dot", form: Form::Flag, about: DOT_HELP },
 ];
 
-/// The commands of a text: of a block and an order, or of a C program.
 #[rattlefmt::skip]
-const TEXTS: &[CommandParts<'static>] = &[
+const COMMANDS: &[CommandParts<'static>] = &[
     CommandParts { name: "check", about: "Says whether an order may stand for a block", page: Page::Check, parts: CHECK },
     CommandParts { name: "interp", about: "Runs a C program by its meaning", page: Page::Interp, parts: INTERP },
     CommandParts { name: "build", about: "Compiles a C program to an image for MIPS I", page: Page::Build, parts: BUILD },
-];
-
-/// Those of what comes of a build.
-#[rattlefmt::skip]
-const BUILDS: &[CommandParts<'static>] = &[
     CommandParts { name: "run", about: "Runs an image on the machine", page: Page::Run, parts: RUN },
     CommandParts { name: "list", about: "Prints the listing of an image", page: Page::List, parts: LIST },
     CommandParts { name: "show", about: "Shows what becomes of a C program, stage by stage", page: Page::Show, parts: SHOW },
 ];
 
-/// Returns `mcc` with the commands of a text.
-fn text_command<'a, C: CommandBuilder<'a>>(alloc: Global) -> Result<C, AllocError>
-    ensures { IfOk result (λ c. C.app c ≡ building_app) }
+/// Returns `mcc` with its commands.
+fn whole_command<'a, C: CommandBuilder<'a>>(alloc: Global) -> Result<C, AllocError>
+    ensures { IfOk result (λ c. C.app c ≡ mcc_app) }
 {
     let command = C::new_command(
         alloc,
@@ -152,14 +146,7 @@ fn text_command<'a, C: CommandBuilder<'a>>(alloc: Global) -> Result<C, AllocErro
         "A C compiler for MIPS I, its checks, a C interpreter and a machine",
         Page::Whole,
     );
-    with_commands(alloc, command.as_program(VERSION), TEXTS)
-}
-
-/// Returns `mcc` with all its commands.
-fn whole_command<'a, C: CommandBuilder<'a>>(alloc: Global) -> Result<C, AllocError>
-    ensures { IfOk result (λ c. C.app c ≡ mcc_app) }
-{
-    with_commands(alloc, text_command(alloc)?, BUILDS)
+    with_commands(alloc, command.as_program(VERSION), COMMANDS)
 }
 
 /// Returns the command line of `mcc`.
