@@ -41,63 +41,60 @@ abbrev pub built_text : Bool → Built → List ℕ
 built_text true b = codes "blocks " ++ (decimal b.blocks ++ codes " plain\n")
 built_text false b = codes "blocks " ++ (decimal b.blocks ++ (codes " " ++ (counts_text (counts_of b.report) ++ 10 ∷ [])))
 
--- `mcc build SOURCE IMAGE`: SOURCE was read, and then IMAGE became the bytes of an image of its text
-pub record Builds (source image : List ℕ) (depth : ℕ) (plain : Bool) (status : ℕ) (requests : List Request)
-    (printed : List ℕ) : Type 0 where
-  pub text : List ℕ
-  pub built : Built
-  pub asked : requests ≡ Read source text ∷ (Written image built.image.items ∷ [])
-  pub promised : IsBuiltAs text depth plain built
-  pub line : printed ≡ built_text plain built
-  pub ends : status ≡ 0
-
--- the same where it ended by a fault. IMAGE isn't touched but by the bytes of an image of the text, and nothing is printed before it was
--- written
-pub data StopsBuild (source image : List ℕ) (depth : ℕ) (plain : Bool) (silent refused : Type 0) : List Request → List ℕ → Type 0 where
-  unread : (fault : FileFault) → silent
-      → StopsBuild source image depth plain silent refused (NotRead source fault ∷ []) (host_fault_text (reading_fault fault))
-  faulty : (text : List ℕ) (fault : BuildFault) → IsBuildFault text depth fault → silent
-      → StopsBuild source image depth plain silent refused (Read source text ∷ []) (build_fault_text fault)
-  unwritten : (text : List ℕ) (built : Built) → IsBuiltAs text depth plain built → (fault : FileFault) → silent
-      → StopsBuild source image depth plain silent refused (Read source text ∷ (NotWritten image built.image.items fault ∷ []))
-      (host_fault_text (writing_fault fault))
-  untold : (text : List ℕ) (built : Built) → IsBuiltAs text depth plain built → refused
-      → StopsBuild source image depth plain silent refused (Read source text ∷ (Written image built.image.items ∷ []))
-      (host_fault_text CannotWrite)
-
 -- what is told if both names are the same, in the form of wrong words
 abbrev pub one_name_text : List ℕ
 one_name_text = codes "error: SOURCE and IMAGE are one file\n\n  tip: give the image a name of its own, as in 'mcc build prog.c prog.image'\n\nFor more information, try '--help'.\n"
 
--- `mcc build SOURCE IMAGE` by its names: a build if they differ; else status 2, and nothing is asked or printed
-pub data AnswersBuild (source image : List ℕ) (depth : ℕ) (plain : Bool) (status : ℕ) (requests : List Request)
-    (printed : List ℕ) : Type 0 where
-  apart : source ≢ image → Builds source image depth plain status requests printed
-      → AnswersBuild source image depth plain status requests printed
-  one_name : source ≡ image → status ≡ 2 → requests ≡ [] → printed ≡ [] → AnswersBuild source image depth plain status requests printed
+module _ (b : AskedBuild) where
+  -- `mcc build SOURCE IMAGE`: SOURCE was read, and then IMAGE became the bytes of an image of its text
+  pub record Builds (status : ℕ) (requests : List Request) (printed : List ℕ) : Type 0 where
+    pub text : List ℕ
+    pub built : Built
+    pub asked : requests ≡ Read b.source.now text ∷ (Written b.image.now built.image.items ∷ [])
+    pub promised : IsBuiltAs text b.depth b.plain built
+    pub line : printed ≡ built_text b.plain built
+    pub ends : status ≡ 0
+
+  -- the same where it ended by a fault. IMAGE isn't touched but by the bytes of an image of the text, and nothing is printed before it was
+  -- written
+  pub data StopsBuild (silent refused : Type 0) : List Request → List ℕ → Type 0 where
+    unread : (fault : FileFault) → silent
+        → StopsBuild silent refused (NotRead b.source.now fault ∷ []) (host_fault_text (reading_fault fault))
+    faulty : (text : List ℕ) (fault : BuildFault) → IsBuildFault text b.depth fault → silent
+        → StopsBuild silent refused (Read b.source.now text ∷ []) (build_fault_text fault)
+    unwritten : (text : List ℕ) (built : Built) → IsBuiltAs text b.depth b.plain built → (fault : FileFault) → silent
+        → StopsBuild silent refused (Read b.source.now text ∷ (NotWritten b.image.now built.image.items fault ∷ []))
+        (host_fault_text (writing_fault fault))
+    untold : (text : List ℕ) (built : Built) → IsBuiltAs text b.depth b.plain built → refused
+        → StopsBuild silent refused (Read b.source.now text ∷ (Written b.image.now built.image.items ∷ []))
+        (host_fault_text CannotWrite)
+
+  -- by its names: a build if they differ; else status 2, and nothing is asked or printed
+  pub data AnswersBuild (status : ℕ) (requests : List Request) (printed : List ℕ) : Type 0 where
+    apart : b.source.now ≢ b.image.now → Builds status requests printed → AnswersBuild status requests printed
+    one_name : b.source.now ≡ b.image.now → status ≡ 2 → requests ≡ [] → printed ≡ [] → AnswersBuild status requests printed
+
+  -- a build that ended by a fault has two names
+  abbrev pub StopsApart : (silent refused : Type 0) → List Request → List ℕ → Type 0
+  StopsApart silent refused requests told = (b.source.now ≢ b.image.now) × StopsBuild silent refused requests told
 
 -- what is told with it: with a build warnings, which steer no terminal
 abbrev pub IsBuildRemark : (status : ℕ) → List (List ℕ) → Type 0
 IsBuildRemark status told = ((status ≢ 2) × All (All IsTold) told) ⊎ ((status ≡ 2) × (told ≡ one_name_text ∷ []))
 
--- a build that ended by a fault has two names
-abbrev pub StopsApart : (source image : List ℕ) → (depth : ℕ) → (plain : Bool) → (silent refused : Type 0) → List Request → List ℕ → Type 0
-StopsApart source image depth plain silent refused requests told =
-    (source ≢ image) × StopsBuild source image depth plain silent refused requests told
-
 -- the command, for two names that differ, and for any two
 abbrev pub apart_meaning : AskedBuild → Meaning
 apart_meaning b = record {
-  Answers = Builds b.source.now b.image.now b.depth b.plain;
-  Stops = StopsBuild b.source.now b.image.now b.depth b.plain;
+  Answers = Builds b;
+  Stops = StopsBuild b;
   Begins = λ requests printed. ⊥;
   Remarks = λ status told. All (All IsTold) told;
 }
 
 abbrev pub build_meaning : AskedBuild → Meaning
 build_meaning b = record {
-  Answers = AnswersBuild b.source.now b.image.now b.depth b.plain;
-  Stops = StopsApart b.source.now b.image.now b.depth b.plain;
+  Answers = AnswersBuild b;
+  Stops = StopsApart b;
   Begins = λ requests printed. ⊥;
   Remarks = IsBuildRemark;
 }
