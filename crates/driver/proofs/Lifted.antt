@@ -13,8 +13,9 @@ use Rattle.host.specs.Texts.{host_fault_text}
 use Rattle.host.specs.WrongWords.{IsFaultOfWords, IsHelp, IsMistake}
 use Rattle.host.specs.declared.fault.HostFault.{HostFault}
 use Rattle.host.proofs.Asked.{ran_stopped}
-use Rattle.driver.specs.Several.{BreaksOff, CheckedFile, ChecksAll, ChecksEach, IsTotals, faults_of, lines_of, request_of, status_of, totals_of, totals_text, worse}
-use Rattle.driver.specs.Several.CheckedFile.{Answered, Unexplained, Faulty, Unread}
+use Rattle.driver.specs.Several.{BreaksOff, CheckedFile, ChecksAll, ChecksEach, IsTotals, faults_of, lines_of, said_status, status_of, told_of, totals_of, totals_text, worse}
+use Rattle.driver.specs.declared.check_command.said.Said.{Said}
+use Rattle.driver.specs.declared.check_command.said.Said.TheVariants as says
 use Rattle.command_line.specs.Commands.{IsCommand, mcc_app}
 use Rattle.command_line.specs.Programs.{IsStopped}
 use Rattle.command_line.specs.declared.command.Command.{Command}
@@ -41,13 +42,17 @@ stays_one (x ∷ xs) = stays_one xs
 fault_shows : (a : ℕ) (xs : List ℕ) → fold worse (worse a 1) xs ≡ 1
 fault_shows a xs = subst (λ (s : ℕ). fold worse s xs ≡ 1) (sym (worse_one a)) (stays_one xs)
 
+without_fault : (a : ℕ) (said : Said) (statuses : List ℕ) (told : List (List ℕ)) → fold worse (worse a (said_status said)) statuses ≢ 1
+    → told ≡ [] → told_of said ++ told ≡ []
+without_fault a (says.Answer answer) statuses told other none = none
+without_fault a (says.Text fault) statuses told other none = absurd (other (fault_shows a statuses))
+without_fault a (says.Host fault) statuses told other none = absurd (other (fault_shows a statuses))
+
 -- without the worst status no file had a fault
 no_faults : (a : ℕ) (files : List CheckedFile) → fold worse a (map status_of files) ≢ 1 → flat_map faults_of files ≡ []
 no_faults a [] other = refl
-no_faults a (Answered name text answer more ∷ files) other = no_faults (worse a (status_of (Answered name text answer more))) files other
-no_faults a (Unexplained name text answer ∷ files) other = absurd (other (fault_shows a (map status_of files)))
-no_faults a (Faulty name text fault ∷ files) other = absurd (other (fault_shows a (map status_of files)))
-no_faults a (Unread name fault ∷ files) other = absurd (other (fault_shows a (map status_of files)))
+no_faults a (file ∷ files) other =
+    without_fault a file.said (map status_of files) (flat_map faults_of files) other (no_faults (worse a (status_of file)) files other)
 
 -- the status that is left
 zero_of : (status : ℕ) → status ≤ 2 → status ≢ 1 → status ≢ 2 → status ≡ 0
@@ -130,7 +135,7 @@ module _ {F W E : Type 0} (by : Relations F W E) (old new : HostState F W E) (ex
   -- all of them, as an answer
   each_answered : (names : List (List ℕ)) → ChecksAll by old new explain names status → Does by old new (ChecksEach explain names status)
   each_answered names all = record {
-    requests = map request_of all.files;
+    requests = map (λ (f : CheckedFile). f.request) all.files;
     printed = flat_map lines_of all.files;
     asked = all.asked;
     took = all.took;

@@ -1,5 +1,5 @@
 -- Files that are checked one after another.
-use Rattle.std.proofs.Common.{◌≡◌, ℕ, ◌+◌, ◌<◌, ◌≤◌, List, [], ◌∷◌, ◌++◌, All, Bool, Option, None, map, fold, ◌^◌, refl, sym, ◌∙◌, ap, subst, append-nil, codes, length, take, get_or, Bor, arith}
+use Rattle.std.proofs.Common.{◌≡◌, ℕ, ◌+◌, ◌<◌, ◌≤◌, List, [], ◌∷◌, ◌++◌, All, Bool, Option, None, map, fold, ◌^◌, refl, sym, ◌∙◌, ap, subst, append-nil, length, take, get_or, Bor, arith}
 use Rattle.std.specs.List.{FoldsTo, flat_map}
 use Rattle.std.specs.Io.KnownBytes.{Appends, Keeps}
 use Rattle.std.proofs.KnownBytes.{Appends-kept, Appends-nil, Appends-trans}
@@ -7,16 +7,16 @@ use Rattle.std.proofs.lemmas.List.{get_or-map, length-map, map-append, take_all,
 use Rattle.std.proofs.lemmas.List.Concat.{flat_map-append}
 use Rattle.std.proofs.lemmas.List.Elements.{All-append, All-cons, All-nil, All-tail}
 use Rattle.std.proofs.lemmas.List.Sums.{fold-append}
-use Rattle.host.specs.Requests.{Asks, HostState, Relations, Request, TellsLine, WasRefused}
-use Rattle.text.specs.Shown.{IsTold, shown_name}
+use Rattle.host.specs.Requests.{Asks, HostState, Relations, Request, TellsLine, WasRefused, host_of}
+use Rattle.text.specs.Shown.{IsTold}
 use Rattle.host.specs.Texts.{host_fault_text}
 use Rattle.host.specs.declared.fault.HostFault.TheVariants.{CannotWrite}
 use Rattle.host.proofs.Told.{folds_on, line_on, lines_on}
 use Rattle.host.proofs.Shown.{host_fault}
 use Rattle.driver.proofs.check_command.Counts.{kept_totals}
 use Rattle.driver.proofs.check_command.FaultsShown.{of_files}
-use Rattle.driver.specs.FileLine.{AreChecked, IsChecked, kept_after, line_text, said_text, totals_said}
-use Rattle.driver.specs.Several.{BreaksOff, CheckedFile, ChecksAll, IsRight, faults_of, first_told, lines_of, name_of, no_totals, request_of, said_of, status_of, totals_text, worse}
+use Rattle.driver.specs.FileLine.{AreChecked, IsChecked, file_of, kept_more}
+use Rattle.driver.specs.Several.{BreaksOff, CheckedFile, ChecksAll, IsRight, faults_of, first_told, line_text, lines_of, no_totals, status_of, totals_after, totals_by, totals_text, worse}
 use Rattle.driver.specs.Several.BreaksOff.{breaks}
 use Rattle.driver.specs.declared.check_command.totals.Totals.{Totals}
 use Rattle.driver.specs.declared.check_command.said.FileLine.{FileLine}
@@ -29,9 +29,9 @@ first_line tells p q r (line ∷ lines) shown a b = line_on tells p a.0 r line a
     (lines_on tells a.0 q r lines (host_fault_text CannotWrite) (All-tail (All IsTold) line lines shown) (host_fault CannotWrite) a.2 b)
 
 -- their status is the worst
-worst_of : (t : Totals) (files : List CheckedFile) → (fold kept_after t files).status ≡ fold worse t.status (map status_of files)
+worst_of : (t : Totals) (files : List CheckedFile) → (totals_by kept_more t files).status ≡ fold worse t.status (map status_of files)
 worst_of t [] = refl
-worst_of t (file ∷ files) = worst_of (kept_after t file) files
+worst_of t (file ∷ files) = worst_of (totals_after kept_more t file.said) files
 
 -- one more of the names, by its place
 name_more : (xs : List (Bor (List ℕ))) (k : ℕ) (none : Bor (List ℕ)) → k < length xs
@@ -43,61 +43,61 @@ name_more xs k none inside =
     ∙ ap (λ (n : List ℕ). take k ns ++ n ∷ []) (get_or-map (λ (s : Bor (List ℕ)). s.now) xs k none [] inside)
 
 module _ {F E : Type 0} (answers : F → Request → F → Type 0) (tells : E → List ℕ → E → Type 0) (explain : Bool) where
-  pub none_yet : (f : F) (o : Option (List ℕ)) (e : E) → AreChecked answers f f o o tells e e explain [] no_totals
-  none_yet f o e = record { files = []; right = All-nil (IsRight explain); named = refl; asked = refl; took = Appends-nil o; told = refl; counted = refl }
+  -- files, what standard output holds, and standard error
+  abbrev Seen : Type 0
+  Seen = HostState F (Option (List ℕ)) E
 
-  printed : (r : Request) (d e : E) (name : List ℕ) (line : FileLine) (one : IsChecked r tells d e explain name line)
-      → line_text name line ≡ lines_of one.file ++ []
-  printed r d e name line one =
-      ap (λ (n : List ℕ). shown_name n ++ (codes ": " ++ (said_text line.said ++ 10 ∷ line.more))) (sym one.named)
-      ∙ (ap (λ (t : List ℕ). shown_name (name_of one.file) ++ (codes ": " ++ (t ++ 10 ∷ line.more))) one.said
-      ∙ (ap (λ (t : List ℕ). shown_name (name_of one.file) ++ (codes ": " ++ (said_of one.file ++ 10 ∷ t))) one.more
-      ∙ sym (append-nil (lines_of one.file))))
+  pub none_yet : (s : Seen) → AreChecked answers tells s s explain [] no_totals
+  none_yet s = record { files = []; right = All-nil (IsRight explain); named = refl; asked = refl; took = Appends-nil s.out; told = refl; counted = refl }
 
   -- one more of the files
-  next : (f g h : F) (o p q : Option (List ℕ)) (c d e : E) (ns : List (List ℕ)) (name : List ℕ) (t : Totals) (line : FileLine)
-      → AreChecked answers f g o p tells c d explain ns t → ((r : Request) × answers g r h × IsChecked r tells d e explain name line)
-      → Appends p q (line_text name line) → AreChecked answers f h o q tells c e explain (ns ++ name ∷ []) (totals_said t line.said)
-  next f g h o p q c d e ns name t line so_far (r, answered, one) took =
+  next : (a b c : Seen) (ns : List (List ℕ)) (name : List ℕ) (t : Totals) (line : FileLine) → AreChecked answers tells a b explain ns t
+      → ((r : Request) × answers b.files r c.files × IsChecked tells b.err c.err explain (file_of name r line))
+      → Appends b.out c.out (line_text name line.said line.more)
+      → AreChecked answers tells a c explain (ns ++ name ∷ []) (totals_after kept_more t line.said)
+  next a b c ns name t line so_far (r, answered, one) took =
       let before = so_far.files in
-      let this = one.file ∷ [] in
+      let file = file_of name r line in
+      let this = file ∷ [] in
       record {
         files = before ++ this;
-        right = All-append (IsRight explain) before this so_far.right (All-cons (IsRight explain) one.file [] one.right (All-nil (IsRight explain)));
-        named = map-append name_of before this ∙ (ap (λ (xs : List (List ℕ)). xs ++ name_of one.file ∷ []) so_far.named ∙ ap (λ (n : List ℕ). ns ++ n ∷ []) one.named);
-        asked = subst (λ (rs : List Request). FoldsTo answers f rs h) (sym (map-append request_of before this))
-            (folds_on answers f g h (map request_of before) (map request_of this) so_far.asked (h, subst (λ (s : Request). answers g s h) (sym one.asked) answered, refl));
-        took = subst (λ (bs : List ℕ). Appends o q bs) (sym (flat_map-append lines_of before this))
-            (Appends-trans o p q (flat_map lines_of before) (flat_map lines_of this) so_far.took
-            (subst (λ (bs : List ℕ). Appends p q bs) (printed r d e name line one) took));
-        told = subst (λ (ts : List (List ℕ)). FoldsTo (TellsLine tells) c ts e) (sym (flat_map-append faults_of before this))
-            (folds_on (TellsLine tells) c d e (flat_map faults_of before) (flat_map faults_of this) so_far.told
-            (subst (λ (ts : List (List ℕ)). FoldsTo (TellsLine tells) d ts e) (sym (append-nil (faults_of one.file))) one.told));
-        counted = one.counted t ∙ (ap (λ (u : Totals). kept_after u one.file) so_far.counted ∙ sym (fold-append kept_after no_totals before this));
+        right = All-append (IsRight explain) before this so_far.right (All-cons (IsRight explain) file [] one.0 (All-nil (IsRight explain)));
+        named = map-append (λ (f : CheckedFile). f.name) before this ∙ ap (λ (xs : List (List ℕ)). xs ++ name ∷ []) so_far.named;
+        asked = subst (λ (rs : List Request). FoldsTo answers a.files rs c.files) (sym (map-append (λ (f : CheckedFile). f.request) before this))
+            (folds_on answers a.files b.files c.files (map (λ (f : CheckedFile). f.request) before) (r ∷ []) so_far.asked (c.files, answered, refl));
+        took = subst (λ (bs : List ℕ). Appends a.out c.out bs) (sym (flat_map-append lines_of before this))
+            (Appends-trans a.out b.out c.out (flat_map lines_of before) (flat_map lines_of this) so_far.took
+            (subst (λ (bs : List ℕ). Appends b.out c.out bs) (sym (append-nil (lines_of file))) took));
+        told = subst (λ (ts : List (List ℕ)). FoldsTo (TellsLine tells) a.err ts c.err) (sym (flat_map-append faults_of before this))
+            (folds_on (TellsLine tells) a.err b.err c.err (flat_map faults_of before) (flat_map faults_of this) so_far.told
+            (subst (λ (ts : List (List ℕ)). FoldsTo (TellsLine tells) b.err ts c.err) (sym (append-nil (faults_of file))) one.1));
+        counted = ap (λ (u : Totals). totals_after kept_more u line.said) so_far.counted
+            ∙ sym (fold-append (λ (u : Totals) (f : CheckedFile). totals_after kept_more u f.said) no_totals before this);
       }
 
   -- the same by the place of its name
-  pub next_at : (f g h : F) (o p q : Option (List ℕ)) (c d e : E) (xs : List (Bor (List ℕ))) (k : ℕ) (none : Bor (List ℕ)) (t both : Totals)
-      (line : FileLine) → k < length xs → both ≡ totals_said t line.said → AreChecked answers f g o p tells c d explain (take k (map (λ s. s.now) xs)) t
-      → ((r : Request) × answers g r h × IsChecked r tells d e explain (get_or xs k none).now line) → Appends p q (line_text (get_or xs k none).now line)
-      → AreChecked answers f h o q tells c e explain (take (k + 1) (map (λ s. s.now) xs)) both
-  next_at f g h o p q c d e xs k none t both line inside is so_far one took =
-      subst (λ (u : Totals). AreChecked answers f h o q tells c e explain (take (k + 1) (map (λ (s : Bor (List ℕ)). s.now) xs)) u) (sym is)
-      (subst (λ (ms : List (List ℕ)). AreChecked answers f h o q tells c e explain ms (totals_said t line.said)) (sym (name_more xs k none inside))
-      (next f g h o p q c d e (take k (map (λ (s : Bor (List ℕ)). s.now) xs)) (get_or xs k none).now t line so_far one took))
+  pub next_at : (a b c : Seen) (xs : List (Bor (List ℕ))) (k : ℕ) (none : Bor (List ℕ)) (t both : Totals) (line : FileLine) → k < length xs
+      → both ≡ totals_after kept_more t line.said → AreChecked answers tells a b explain (take k (map (λ s. s.now) xs)) t
+      → ((r : Request) × answers b.files r c.files × IsChecked tells b.err c.err explain (file_of (get_or xs k none).now r line))
+      → Appends b.out c.out (line_text (get_or xs k none).now line.said line.more)
+      → AreChecked answers tells a c explain (take (k + 1) (map (λ s. s.now) xs)) both
+  next_at a b c xs k none t both line inside is so_far one took =
+      subst (λ (u : Totals). AreChecked answers tells a c explain (take (k + 1) (map (λ (s : Bor (List ℕ)). s.now) xs)) u) (sym is)
+      (subst (λ (ms : List (List ℕ)). AreChecked answers tells a c explain ms (totals_after kept_more t line.said)) (sym (name_more xs k none inside))
+      (next a b c (take k (map (λ (s : Bor (List ℕ)). s.now) xs)) (get_or xs k none).now t line so_far one took))
 
   -- none is left
-  pub whole : (f g : F) (o p : Option (List ℕ)) (c d : E) (xs : List (Bor (List ℕ))) (k : ℕ) (t : Totals) → length xs ≤ k
-      → AreChecked answers f g o p tells c d explain (take k (map (λ s. s.now) xs)) t → AreChecked answers f g o p tells c d explain (map (λ s. s.now) xs) t
-  whole f g o p c d xs k t end so_far =
+  pub whole : (a b : Seen) (xs : List (Bor (List ℕ))) (k : ℕ) (t : Totals) → length xs ≤ k
+      → AreChecked answers tells a b explain (take k (map (λ s. s.now) xs)) t → AreChecked answers tells a b explain (map (λ s. s.now) xs) t
+  whole a b xs k t end so_far =
       let ns = map (λ (s : Bor (List ℕ)). s.now) xs in
       let names = length-map xs (λ (s : Bor (List ℕ)). s.now) in
-      subst (λ (ms : List (List ℕ)). AreChecked answers f g o p tells c d explain ms t) (take_all k ns (omega arith)) so_far
+      subst (λ (ms : List (List ℕ)). AreChecked answers tells a b explain ms t) (take_all k ns (omega arith)) so_far
 
   -- nothing is said of standard output
-  pub unprinted : (f g : F) (o p : Option (List ℕ)) (c d : E) (ns : List (List ℕ)) (t : Totals)
-      → AreChecked answers f g o p tells c d explain ns t → AreChecked answers f g None None tells c d explain ns t
-  unprinted f g o p c d ns t all = record {
+  pub unprinted : (a b : Seen) (ns : List (List ℕ)) (t : Totals) → AreChecked answers tells a b explain ns t
+      → AreChecked answers tells (record a { out = None }) (record b { out = None }) explain ns t
+  unprinted a b ns t all = record {
     files = all.files;
     right = all.right;
     named = all.named;
@@ -110,11 +110,11 @@ module _ {F E : Type 0} (answers : F → Request → F → Type 0) (tells : E �
 module _ {F W E : Type 0} (by : Relations F W E) (explain : Bool) (old new : HostState F W E) where
   -- all of them, and then the totals
   pub all_checked : (p : Option (List ℕ)) (d : E) (ns : List (List ℕ)) (t : Totals) (n : ℕ) → length ns ≡ n → n < 2 ^ 64
-      → AreChecked by.answers old.files new.files (by.contents old.out) p by.tells old.err d explain ns t → Keeps p (by.contents new.out)
-      → by.tells d (totals_text n t ++ 10 ∷ []) new.err → ChecksAll by old new explain ns t.status
+      → AreChecked by.answers by.tells (host_of old.files (by.contents old.out) old.err) (host_of new.files p d) explain ns t
+      → Keeps p (by.contents new.out) → by.tells d (totals_text n t ++ 10 ∷ []) new.err → ChecksAll by old new explain ns t.status
   all_checked p d ns t n long few these kept told =
       let counts = these.counted ∙ kept_totals these.files (subst (λ (m : ℕ). m < 2 ^ 64)
-      (sym long ∙ (ap (λ (xs : List (List ℕ)). length xs) (sym these.named) ∙ length-map these.files name_of)) few) in
+      (sym long ∙ (ap (λ (xs : List (List ℕ)). length xs) (sym these.named) ∙ length-map these.files (λ (f : CheckedFile). f.name))) few) in
       record {
         files = these.files;
         right = these.right;
@@ -132,10 +132,10 @@ module _ {F W E : Type 0} (by : Relations F W E) (explain : Bool) (old new : Hos
 
   -- standard output was refused
   pub broken : (o p : Option (List ℕ)) (d : E) (ns rest all : List (List ℕ)) (t : Totals) → ns ++ rest ≡ all
-      → AreChecked by.answers old.files new.files o p by.tells old.err d explain ns t → WasRefused by.refuses new.out
+      → AreChecked by.answers by.tells (host_of old.files o old.err) (host_of new.files p d) explain ns t → WasRefused by.refuses new.out
       → TellsLine by.tells d (host_fault_text CannotWrite) new.err → Asks by old new (BreaksOff explain all)
   broken o p d ns rest all t same these refused told = record {
-    requests = map request_of these.files;
+    requests = map (λ (f : CheckedFile). f.request) these.files;
     text = first_told (flat_map faults_of these.files);
     asked = these.asked;
     told = first_line by.tells old.err d new.err (flat_map faults_of these.files) (of_files explain these.files these.right) these.told told;

@@ -1,9 +1,11 @@
 //! The line of one of several files: what it says, and the lines after that.
 
-ghost use Rattle.std.specs.Prelude.{◌≡◌, [], true, Some, IfErr, IfOk, OnErr, OnOk};
+ghost use Rattle.std.specs.Prelude.{◌≡◌, ℕ, List, [], Some, OnErr, OnOk};
 ghost use Rattle.std.specs.Io.KnownBytes.{Appends};
 ghost use Rattle.driver.specs.CheckTexts.{IsCheckStatus};
-ghost use Rattle.driver.specs.FileLine.{IsAnswerLine, IsChecked, line_text, said_status, said_text};
+ghost use Rattle.driver.specs.Checks.{IsAnswerTo};
+ghost use Rattle.driver.specs.FileLine.{IsChecked, file_of};
+ghost use Rattle.driver.specs.Several.{line_text, said_status, said_text};
 ghost use Rattle.host.specs.Requests.{Request, WasRefused};
 ghost use Rattle.host.specs.Requests.Request.{Read};
 
@@ -56,7 +58,7 @@ impl Said {
 
 /// Returns a line after which there are no others.
 fn bare(alloc: Global, said: Said) -> FileLine
-    ensures { (result.said ≡ said) × (result.more ≡ []) }
+    ensures { result ≡ record { said = said; more = [] } }
 {
     FileLine {
         said,
@@ -72,7 +74,8 @@ fn answer_line<E: Complaints>(
     answer: CheckAnswer,
     err: &mut E,
 ) -> FileLine
-    ensures { IsAnswerLine E.tells err.old err.new explain answer result }
+    ensures { (name : List ℕ) → IsAnswerTo text.now answer
+        → IsChecked E.tells err.old err.new explain (file_of name (Read name text.now) result) }
 {
     match more_of(alloc, explain, text, &answer) {
         Ok(more) => FileLine {
@@ -94,7 +97,7 @@ fn check_text<E: Complaints>(
     text: &[u8],
     err: &mut E,
 ) -> FileLine
-    ensures { IsChecked (Read name.now text.now) E.tells err.old err.new explain name.now result }
+    ensures { IsChecked E.tells err.old err.new explain (file_of name.now (Read name.now text.now) result) }
 {
     match check(alloc, text) {
         Ok(answer) => answer_line(alloc, explain, text, answer, err),
@@ -113,7 +116,7 @@ pub(crate) fn check_one<F: Files, E: Complaints>(
     files: &mut F,
     err: &mut E,
 ) -> FileLine
-    ensures { (r : Request) × F.answers files.old r files.new × IsChecked r E.tells err.old err.new explain name.now result }
+    ensures { (r : Request) × F.answers files.old r files.new × IsChecked E.tells err.old err.new explain (file_of name.now r result) }
 {
     match read_file(alloc, name, files) {
         Ok(text) => check_text(alloc, name, explain, text.as_slice(), err),
@@ -125,7 +128,7 @@ pub(crate) fn check_one<F: Files, E: Complaints>(
 }
 
 pub(crate) fn print_line<W: Output>(out: &mut W, name: &str, line: &FileLine) -> io::Result<()>
-    ensures line { OnOk result (Appends (W.contents out.old) (W.contents out.new) (line_text name.now line.now)) }
+    ensures line { OnOk result (Appends (W.contents out.old) (W.contents out.new) (line_text name.now line.now.said line.now.more)) }
     ensures refused { OnErr result (WasRefused W.refuses out.new) }
 {
     print_name(out, name)?;

@@ -2,9 +2,8 @@
 
 ghost use Rattle.std.specs.Prelude.{◌≡◌, Some};
 ghost use Rattle.driver.specs.CheckTexts.{IsCheckStatus};
-ghost use Rattle.driver.specs.FileLine.{keep_fault, totals_said};
-ghost use Rattle.driver.specs.Several.{no_totals, totals_text, worse};
-ghost use Rattle.driver.specs.declared.check_command.said.Said.TheVariants as says;
+ghost use Rattle.driver.specs.FileLine.{kept_more};
+ghost use Rattle.driver.specs.Several.{no_totals, totals_after, totals_text, worse};
 
 use crate::check_command::said::Said;
 use crate::check_command::verdicts::CheckAnswer;
@@ -46,57 +45,24 @@ impl Totals {
         }
     }
 
-    /// Counts one more answer.
-    fn with_answer(self, answer: CheckAnswer) -> Totals
-        requires { IsCheckStatus self.status }
-        ensures totals { result ≡ totals_said self (says.Answer answer) }
-        ensures possible { IsCheckStatus result.status }
-    {
-        let mut totals = self;
-        match answer {
-            CheckAnswer::Same => {
-                totals.same = self.same.saturating_add(1);
-                totals.status = worse(self.status, 0);
-            }
-            CheckAnswer::Unclean(_) => {
-                totals.unclean = self.unclean.saturating_add(1);
-                totals.status = worse(self.status, 3);
-            }
-            CheckAnswer::Differs(_) => {
-                totals.differs = self.differs.saturating_add(1);
-                totals.status = worse(self.status, 3);
-            }
-            CheckAnswer::Full => {
-                totals.full = self.full.saturating_add(1);
-                totals.status = worse(self.status, 3);
-            }
-        }
-        totals
-    }
-
-    /// Counts one more fault.
-    fn with_fault(self) -> Totals
-        requires { IsCheckStatus self.status }
-        ensures totals { result ≡ record (keep_fault self) { status = worse self.status 1 } }
-        ensures possible { IsCheckStatus result.status }
-    {
-        let mut totals = self;
-        totals.faulty = self.faulty.saturating_add(1);
-        totals.status = worse(self.status, 1);
-        totals
-    }
-
     /// Counts one more file, of which this is said.
     pub(crate) fn with(self, said: Said) -> Totals
         requires { IsCheckStatus self.status }
-        ensures totals { result ≡ totals_said self said }
+        ensures totals { result ≡ totals_after kept_more self said }
         ensures possible { IsCheckStatus result.status }
     {
-        match said {
-            Said::Answer(answer) => self.with_answer(answer),
-            Said::Text(_) => self.with_fault(),
-            Said::Host(_) => self.with_fault(),
+        let mut totals = self;
+        totals.status = worse(self.status, said.status());
+        match &said {
+            Said::Answer(answer) => match answer {
+                CheckAnswer::Same => totals.same = self.same.saturating_add(1),
+                CheckAnswer::Unclean(_) => totals.unclean = self.unclean.saturating_add(1),
+                CheckAnswer::Differs(_) => totals.differs = self.differs.saturating_add(1),
+                CheckAnswer::Full => totals.full = self.full.saturating_add(1),
+            },
+            Said::Text(_) | Said::Host(_) => totals.faulty = self.faulty.saturating_add(1),
         }
+        totals
     }
 }
 

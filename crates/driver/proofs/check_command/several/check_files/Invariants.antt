@@ -2,12 +2,14 @@ use Rattle.std.proofs.Common.{map, take}
 use Rattle.driver.specs.CheckTexts.{IsCheckStatus}
 use Rattle.driver.specs.FileLine.{AreChecked}
 use Rattle.host.specs.Hosts.{IsSameHost}
+use Rattle.host.specs.Requests.{host_of}
 use Rattle.driver.proofs.check_command.several.check_files.Given as goal
 
 abbrev pub invariant-loop-name : goal.invariant-loop-name
 invariant-loop-name g l = record {
   status : IsCheckStatus l.totals.status;
-  lines : AreChecked g.F.Files.answers l.fn.host.files.now l.host.files.now (g.W.Write.contents l.fn.host.out.now) (g.W.Write.contents l.host.out.now)
-      g.E.Complaints.tells l.fn.host.err.now l.host.err.now l.explain (take l.name-index (map (λ s. s.now) l.names)) l.totals;
+  lines : AreChecked g.F.Files.answers g.E.Complaints.tells
+      (host_of l.fn.host.files.now (g.W.Write.contents l.fn.host.out.now) l.fn.host.err.now)
+      (host_of l.host.files.now (g.W.Write.contents l.host.out.now) l.host.err.now) l.explain (take l.name-index (map (λ s. s.now) l.names)) l.totals;
   same : IsSameHost l.fn.host l.host;
 }
