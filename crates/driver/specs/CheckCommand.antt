@@ -1,13 +1,14 @@
 -- What `mcc check` asks of its file, prints and ends by.
-use Rattle.std.specs.Prelude.{◌≡◌, ◌≢◌, ℕ, List, [], ◌∷◌, ◌++◌, All, Bool, true, false}
+use Rattle.std.specs.Prelude.{◌≡◌, ◌⊎◌, ℕ, List, [], ◌∷◌, ◌++◌, All, Bool, true, false}
 use Rattle.text.specs.Shown.{IsShown}
-use Rattle.host.specs.Requests.{IsNothing, Meaning, Request}
-use Rattle.host.specs.OneFile.{AnswersFile, StopsFile}
+use Rattle.host.specs.Requests.{IsNothing}
+use Rattle.host.specs.OneFile.{FileMeaning}
 use Rattle.host.specs.declared.fault.HostFault.{HostFault}
-use Rattle.host.specs.declared.fault.HostFault.TheVariants.{CannotRead}
+use Rattle.host.specs.declared.fault.HostFault.TheVariants.{CannotWrite, NoMemory}
 use Rattle.driver.specs.Checks.{IsAnswerTo, IsCheckFault}
 use Rattle.driver.specs.CheckTexts.{answer_text, check_fault_text, exit_status}
 use Rattle.driver.specs.declared.check_command.verdicts.CheckAnswer.{CheckAnswer}
+use Rattle.driver.specs.declared.check_command.verdicts.CheckFault.{CheckFault}
 
 -- what stands after an answer's line: with `--explain` lines of printable ASCII, else nothing
 abbrev pub IsMore : (explain : Bool) → List ℕ → Type 0
@@ -18,23 +19,19 @@ IsMore false more = more ≡ []
 abbrev pub PrintsAnswer : (explain : Bool) → CheckAnswer → List ℕ → Type 0
 PrintsAnswer explain answer printed = (more : List ℕ) × (printed ≡ (answer_text answer ++ 10 ∷ []) ++ more) × IsMore explain more
 
--- once it has an answer
-abbrev pub Checks : (explain : Bool) → (file : List ℕ) → (status : ℕ) → List Request → List ℕ → Type 0
-Checks explain = AnswersFile IsAnswerTo (PrintsAnswer explain) exit_status
-
--- an answer was left unprinted, since standard output, or memory for its explanation, was refused
-abbrev pub IsUnprinted : HostFault → Type 0
-IsUnprinted fault = fault ≢ CannotRead
-
--- where it ended by a fault
-abbrev pub StopsCheck : (file : List ℕ) → (silent refused : Type 0) → List Request → List ℕ → Type 0
-StopsCheck = StopsFile IsAnswerTo IsCheckFault check_fault_text IsUnprinted
+-- why an answer was left unprinted: standard output was refused, or memory for its explanation
+abbrev pub IsUnprinted : (explain : Bool) → HostFault → Type 0
+IsUnprinted explain fault = (fault ≡ CannotWrite) ⊎ ((explain ≡ true) × (fault ≡ NoMemory))
 
 -- the command; it tells nothing beside an answer
-abbrev pub check_meaning : (explain : Bool) → (file : List ℕ) → Meaning
-check_meaning explain file = record {
-  Answers = Checks explain file;
-  Stops = StopsCheck file;
-  Begins = λ requests printed. ⊥;
+abbrev pub checking : (explain : Bool) → FileMeaning CheckAnswer CheckFault
+checking explain = record {
+  Answers = IsAnswerTo;
+  Faults = IsCheckFault;
+  Prints = PrintsAnswer explain;
+  status_of = exit_status;
   Remarks = λ status told. IsNothing told;
+  line = check_fault_text;
+  Unprinted = IsUnprinted explain;
+  streams = false;
 }

@@ -4,29 +4,32 @@ use Rattle.std.specs.Prelude.{◌≡◌, ◌≢◌, ◌≤◌, ◌⊎◌, ℕ, L
 use Rattle.std.specs.declared.vec.Vec.{Vec}
 use Rattle.std.specs.declared.alloc.Global.{Global}
 use Rattle.std.specs.Borrow.{Bor}
-use Rattle.runs.specs.Runs.{Outcome, outcome_of}
+use Rattle.runs.specs.Runs.{Outcome}
 use Rattle.image.specs.Texts.{image_fault_text}
 use Rattle.image.specs.Images.{IsImageFault}
+use Rattle.image.specs.declared.fault.ImageFault.{ImageFault}
 use Rattle.clap.specs.Words.{fault_of, takes}
 use Rattle.host.specs.Requests.{Asks, Does, HostState, IsNothing, IsSent, Meaning, Relations, Request, StopsMidway, TellsBeside}
-use Rattle.host.specs.OneFile.{AnswersFile, StopsFile}
+use Rattle.host.specs.OneFile.{FileMeaning, IsRefused, file_meaning}
 use Rattle.text.specs.Shown.{IsShown}
-use Rattle.driver.specs.CheckCommand.{check_meaning}
+use Rattle.driver.specs.CheckCommand.{checking}
 use Rattle.driver.specs.Several.{BreaksOff, ChecksAll, ChecksEach, IsTotals}
 use Rattle.driver.specs.SourceFaults.{IsFaultless}
 use Rattle.driver.specs.BuildCommand.{build_meaning}
-use Rattle.host.specs.Streams.{BeginsFile}
 use Rattle.host.specs.declared.numbers.WordForm.{WordForm}
-use Rattle.driver.specs.RunCommand.{IsRefused, IsRunRemark, run_meaning, words_in}
+use Rattle.driver.specs.RunCommand.{IsRunRemark, running, words_in}
 use Rattle.driver.specs.declared.run_command.remarks.Counted.TheVariants.{Steps}
 use Rattle.command_line.specs.Commands.{IsCommand, mcc_app}
 use Rattle.command_line.specs.Programs.{EndsUntaken, HasMistake, IsAnswered, IsRemark, IsStopped}
 use Rattle.command_line.specs.declared.command.AskedBuild.{AskedBuild}
+use Rattle.command_line.specs.declared.command.AskedInterp.{AskedInterp}
 use Rattle.command_line.specs.declared.command.Command.{Command}
 use Rattle.command_line.specs.declared.command.Command.TheVariants.{Check, CheckEach, Interp, Build, Run, List as Listing, NoChoice, Show}
 use Rattle.driver.specs.Texts.{end_text, end_status, interp_fault_text, no_choice_text}
 use Rattle.driver.specs.Interps.{IsRun, IsInterpFault}
+use Rattle.driver.specs.declared.source_runs.InterpFault.{InterpFault}
 use Rattle.driver.specs.BuildTexts.{build_fault_text}
+use Rattle.driver.specs.declared.build_command.builds.BuildFault.{BuildFault}
 use Rattle.command_line.specs.declared.command.Level.{Level}
 use Rattle.command_line.specs.declared.command.Level.TheVariants as levels
 use Rattle.driver.specs.Levels.{IsFaultBelow, IsRunBelow}
@@ -34,123 +37,96 @@ use Rattle.driver.specs.declared.levels.Below.{Below}
 use Rattle.driver.specs.declared.levels.Below.TheVariants as belows
 use Rattle.driver.specs.Listings.{IsListing, IsOfImage}
 use Rattle.driver.specs.Stages.{IsStagesFault, stages_fault_text}
+use Rattle.driver.specs.declared.show_commands.StagesFault.{StagesFault}
 
 -- what is printed of a run: its output, and how it ended
 abbrev pub PrintsRun : WordForm → Outcome → List ℕ → Type 0
 PrintsRun form o printed = printed ≡ words_in form o.output ++ (end_text o.end ++ 10 ∷ [])
 
--- `mcc interp SOURCE`
-abbrev pub Interps : (source : List ℕ) → (depth steps : ℕ) → WordForm → (status : ℕ) → List Request → List ℕ → Type 0
-Interps source depth steps form =
-    AnswersFile (λ text o. IsRun text depth steps o) (PrintsRun form) (λ o. end_status o.end) source
+-- `mcc interp SOURCE`, which prints while it runs
+abbrev pub interpreting : (depth steps : ℕ) → WordForm → (counts : Bool) → FileMeaning Outcome InterpFault
+interpreting depth steps form counts = record {
+  Answers = λ text o. IsRun text depth steps o;
+  Faults = IsInterpFault;
+  Prints = PrintsRun form;
+  status_of = λ o. end_status o.end;
+  Remarks = IsRunRemark Steps steps counts;
+  line = interp_fault_text;
+  Unprinted = IsRefused;
+  streams = true;
+}
 
--- the same with `--at` a level below C
-abbrev pub InterpsBelow : Below → (source : List ℕ) → (depth steps : ℕ) → WordForm → (status : ℕ) → List Request → List ℕ → Type 0
-InterpsBelow below source depth steps form =
-    AnswersFile (λ text ran. IsRunBelow below text depth steps (outcome_of ran)) (λ ran. PrintsRun form (outcome_of ran))
-    (λ ran. end_status ran.end) source
+-- the same with `--at` a level below C, where steps aren't counted
+abbrev pub interpreting_below : Below → AskedInterp → FileMeaning Outcome BuildFault
+interpreting_below below asked = record {
+  Answers = λ text o. IsRunBelow below text asked.depth asked.steps o;
+  Faults = IsFaultBelow below asked.depth;
+  Prints = PrintsRun asked.form;
+  status_of = λ o. end_status o.end;
+  Remarks = IsRunRemark Steps asked.steps false;
+  line = build_fault_text;
+  Unprinted = IsRefused;
+  streams = false;
+}
 
-abbrev pub InterpsAt : Level → (source : List ℕ) → (depth steps : ℕ) → WordForm → (status : ℕ) → List Request → List ℕ → Type 0
-InterpsAt levels.C = Interps
-InterpsAt levels.Rtl = InterpsBelow belows.Rtl
-InterpsAt levels.Blocks = InterpsBelow belows.Blocks
-
--- what is told beside it; steps are counted at the level of C alone
-abbrev pub IsInterpRemark : Level → (steps : ℕ) → (counts : Bool) → (status : ℕ) → List (List ℕ) → Type 0
-IsInterpRemark levels.C steps counts = IsRunRemark Steps steps counts
-IsInterpRemark levels.Rtl steps counts = IsRunRemark Steps steps false
-IsInterpRemark levels.Blocks steps counts = IsRunRemark Steps steps false
-
--- lines of printable ASCII
-abbrev pub IsPage : Vec ℕ Global → Type 0
-IsPage page = All IsShown page.items
-
-abbrev pub PrintsPage : Vec ℕ Global → List ℕ → Type 0
-PrintsPage page printed = printed ≡ page.items
+abbrev pub interp_meaning : Level → AskedInterp → Meaning
+interp_meaning levels.C asked = file_meaning (interpreting asked.depth asked.steps asked.form asked.count) asked.source.now
+interp_meaning levels.Rtl asked = file_meaning (interpreting_below belows.Rtl asked) asked.source.now
+interp_meaning levels.Blocks asked = file_meaning (interpreting_below belows.Blocks asked) asked.source.now
 
 -- what is printed of an image: its listing, or with `--asm` its source. Of the source no more is said than that it is lines of printable
 -- ASCII
-abbrev pub IsImagePage : Bool → List ℕ → Vec ℕ Global → Type 0
-IsImagePage false bytes page = IsListing bytes page.items
-IsImagePage true bytes page = IsOfImage bytes × IsPage page
+abbrev pub IsImagePage : Bool → (bytes page : List ℕ) → Type 0
+IsImagePage false bytes page = IsListing bytes page
+IsImagePage true bytes page = IsOfImage bytes × All IsShown page
 
 -- `mcc list IMAGE`, with `--asm` or without
-abbrev pub Lists : (image : List ℕ) → (asm : Bool) → (status : ℕ) → List Request → List ℕ → Type 0
-Lists image asm = AnswersFile (IsImagePage asm) PrintsPage (λ _. 0) image
+abbrev pub listing_image : (asm : Bool) → FileMeaning (List ℕ) ImageFault
+listing_image asm = record {
+  Answers = IsImagePage asm;
+  Faults = IsImageFault;
+  Prints = λ page printed. printed ≡ page;
+  status_of = λ _. 0;
+  Remarks = λ status told. IsNothing told;
+  line = image_fault_text;
+  Unprinted = IsRefused;
+  streams = false;
+}
 
 -- `mcc show SOURCE`: the text spells a program without faults. Of what is printed no more is said than that it is lines of
 -- printable ASCII
-abbrev pub Shows : (source : List ℕ) → (status : ℕ) → List Request → List ℕ → Type 0
-Shows source = AnswersFile (λ text page. IsFaultless text × IsPage page) PrintsPage (λ _. 0) source
-
--- these where they ended by a fault
-abbrev pub StopsInterp : (source : List ℕ) → (depth steps : ℕ) → (silent refused : Type 0) → List Request → List ℕ → Type 0
-StopsInterp source depth steps = StopsFile (λ text o. IsRun text depth steps o) IsInterpFault interp_fault_text IsRefused source
-
--- the same where memory was refused to the run
-abbrev pub BeginsInterp : (source : List ℕ) → (depth steps : ℕ) → WordForm → List Request → List ℕ → Type 0
-BeginsInterp source depth steps form = BeginsFile (λ text o. IsRun text depth steps o) (PrintsRun form) source
-
-abbrev pub StopsBelow : Below → (source : List ℕ) → (depth steps : ℕ) → (silent refused : Type 0) → List Request → List ℕ → Type 0
-StopsBelow below source depth steps =
-    StopsFile (λ text ran. IsRunBelow below text depth steps (outcome_of ran)) (IsFaultBelow below depth) build_fault_text IsRefused source
-
-abbrev pub StopsInterpAt : Level → (source : List ℕ) → (depth steps : ℕ) → (silent refused : Type 0) → List Request → List ℕ → Type 0
-StopsInterpAt levels.C = StopsInterp
-StopsInterpAt levels.Rtl = StopsBelow belows.Rtl
-StopsInterpAt levels.Blocks = StopsBelow belows.Blocks
-
-abbrev pub BeginsInterpAt : Level → (source : List ℕ) → (depth steps : ℕ) → WordForm → List Request → List ℕ → Type 0
-BeginsInterpAt levels.C = BeginsInterp
-BeginsInterpAt levels.Rtl = λ source depth steps form requests printed. ⊥
-BeginsInterpAt levels.Blocks = λ source depth steps form requests printed. ⊥
-
--- the command, at a level below C
-abbrev pub below_meaning : Below → (source : List ℕ) → (depth steps : ℕ) → WordForm → Meaning
-below_meaning below source depth steps form = record {
-  Answers = InterpsBelow below source depth steps form;
-  Stops = StopsBelow below source depth steps;
-  Begins = λ requests printed. ⊥;
-  Remarks = IsRunRemark Steps steps false;
+abbrev pub showing : FileMeaning (List ℕ) StagesFault
+showing = record {
+  Answers = λ text page. IsFaultless text × All IsShown page;
+  Faults = IsStagesFault;
+  Prints = λ page printed. printed ≡ page;
+  status_of = λ _. 0;
+  Remarks = λ status told. IsNothing told;
+  line = stages_fault_text;
+  Unprinted = IsRefused;
+  streams = false;
 }
-
--- the command, at a level
-abbrev pub interp_meaning : Level → (source : List ℕ) → (depth steps : ℕ) → WordForm → (counts : Bool) → Meaning
-interp_meaning level source depth steps form counts = record {
-  Answers = InterpsAt level source depth steps form;
-  Stops = StopsInterpAt level source depth steps;
-  Begins = BeginsInterpAt level source depth steps form;
-  Remarks = IsInterpRemark level steps counts;
-}
-
-abbrev pub StopsList : (image : List ℕ) → (asm : Bool) → (silent refused : Type 0) → List Request → List ℕ → Type 0
-StopsList image asm = StopsFile (IsImagePage asm) IsImageFault image_fault_text IsRefused image
-
-abbrev pub StopsShow : (source : List ℕ) → (silent refused : Type 0) → List Request → List ℕ → Type 0
-StopsShow source = StopsFile (λ text page. IsFaultless text × IsPage page) IsStagesFault stages_fault_text IsRefused source
-
--- a command that prints once it has its answer, and tells nothing beside it
-abbrev pub quiet_meaning : (Answers : (status : ℕ) → List Request → List ℕ → Type 0)
-    → (Stops : (silent refused : Type 0) → List Request → List ℕ → Type 0) → Meaning
-quiet_meaning Answers Stops =
-    record { Answers = Answers; Stops = Stops; Begins = λ requests printed. ⊥; Remarks = λ status told. IsNothing told }
 
 -- what each command means; what is told beside the answer of a check of several files are its totals
 abbrev pub meaning_of : Command → Meaning
-meaning_of (Check file explain) = check_meaning explain file.now
+meaning_of (Check file explain) = file_meaning (checking explain) file.now
 meaning_of (CheckEach files explain) = record {
   Answers = ChecksEach explain (map (λ s. s.now) files.items);
   Stops = BreaksOff explain (map (λ s. s.now) files.items);
   Begins = λ requests printed. ⊥;
   Remarks = λ status told. IsTotals explain (map (λ s. s.now) files.items) told;
 }
-meaning_of (Interp r) = interp_meaning r.level r.source.now r.depth r.steps r.form r.count
-meaning_of (Build b) = build_meaning b
-meaning_of (Run r) = run_meaning r.image.now r.steps r.form r.count
-meaning_of (Listing image asm) = quiet_meaning (Lists image.now asm) (StopsList image.now asm)
-meaning_of (Show source stage function block dot) = quiet_meaning (Shows source.now) (StopsShow source.now)
-meaning_of (NoChoice choice value) =
-    quiet_meaning (λ status requests printed. ⊥) (λ silent refused requests told. (requests ≡ []) × (told ≡ no_choice_text) × silent)
+meaning_of (Interp asked) = interp_meaning asked.level asked
+meaning_of (Build asked) = build_meaning asked
+meaning_of (Run asked) = file_meaning (running asked.steps asked.form asked.count) asked.image.now
+meaning_of (Listing image asm) = file_meaning (listing_image asm) image.now
+meaning_of (Show source stage function block dot) = file_meaning showing source.now
+meaning_of (NoChoice choice value) = record {
+  Answers = λ status requests printed. ⊥;
+  Stops = λ silent refused requests told. (requests ≡ []) × (told ≡ no_choice_text) × silent;
+  Begins = λ requests printed. ⊥;
+  Remarks = λ status told. IsNothing told;
+}
 
 abbrev pub Answers : Command → (status : ℕ) → List Request → List ℕ → Type 0
 Answers command = (meaning_of command).Answers

@@ -1,16 +1,14 @@
 -- What the command `run` asks of its file, prints, tells and ends by.
-use Rattle.std.specs.Prelude.{◌≡◌, ℕ, ◌≤◌, List, [], ◌∷◌, ◌++◌, ◌==◌, decimal, All, Bool, Option, codes, nat_lt, if◌then◌else◌}
+use Rattle.std.specs.Prelude.{◌≡◌, ℕ, ◌≤◌, List, [], ◌∷◌, ◌++◌, ◌==◌, decimal, All, Bool, Option, codes, nat_lt, if◌then◌else◌, true}
 use Rattle.std.specs.List.{flat_map}
 use Rattle.image.specs.Texts.{image_fault_text}
 use Rattle.image.specs.Images.{IsImageFault}
+use Rattle.image.specs.declared.fault.ImageFault.{ImageFault}
 use Rattle.mips_code.specs.Machines.{MachineOutcome}
 use Rattle.host.specs.Numbers.{word_text}
 use Rattle.host.specs.declared.numbers.WordForm.{WordForm}
 use Rattle.host.specs.declared.numbers.WordForm.TheVariants.{Unsigned}
-use Rattle.host.specs.Requests.{Meaning, Request}
-use Rattle.host.specs.OneFile.{AnswersFile, StopsFile, TookPrint}
-pub use Rattle.host.specs.OneFile.{IsRefused}
-use Rattle.host.specs.Streams.{BeginsFile}
+use Rattle.host.specs.OneFile.{FileMeaning, IsRefused, TookPrint}
 use Rattle.text.specs.Shown.{IsShown}
 use Rattle.driver.specs.RunTexts.{ending_text, ending_status}
 use Rattle.driver.specs.ImageRuns.{IsImageRun}
@@ -29,18 +27,6 @@ words_text words = words_in Unsigned words
 -- what is printed of an image's run: its output, and how it ended
 abbrev pub PrintsMachine : WordForm → MachineOutcome → List ℕ → Type 0
 PrintsMachine form o printed = printed ≡ words_in form o.output ++ (ending_text o.end ++ 10 ∷ [])
-
--- `mcc run IMAGE`
-abbrev pub Runs : (image : List ℕ) → (steps : ℕ) → WordForm → (status : ℕ) → List Request → List ℕ → Type 0
-Runs image steps form = AnswersFile (λ bytes o. IsImageRun bytes steps o) (PrintsMachine form) (λ o. ending_status o.end) image
-
--- the same where it ended by a fault before the run began, or as standard output was refused
-abbrev pub StopsRun : (image : List ℕ) → (steps : ℕ) → (silent refused : Type 0) → List Request → List ℕ → Type 0
-StopsRun image steps = StopsFile (λ bytes o. IsImageRun bytes steps o) IsImageFault image_fault_text IsRefused image
-
--- the same where memory was refused to the run
-abbrev pub BeginsRun : (image : List ℕ) → (steps : ℕ) → WordForm → List Request → List ℕ → Type 0
-BeginsRun image steps form = BeginsFile (λ bytes o. IsImageRun bytes steps o) (PrintsMachine form) image
 
 -- the lines of the first words of an output
 pub record AreFirstLines (form : WordForm) (output printed : List ℕ) : Type 0 where
@@ -82,10 +68,14 @@ pub record IsRunRemark (unit : Counted) (most : ℕ) (counts : Bool) (status : �
   pub only : (status ≡ 3 → ⊥) → reason ≡ []
 
 -- the command
-abbrev pub run_meaning : (image : List ℕ) → (steps : ℕ) → WordForm → (counts : Bool) → Meaning
-run_meaning image steps form counts = record {
-  Answers = Runs image steps form;
-  Stops = StopsRun image steps;
-  Begins = BeginsRun image steps form;
+abbrev pub running : (steps : ℕ) → WordForm → (counts : Bool) → FileMeaning MachineOutcome ImageFault
+running steps form counts = record {
+  Answers = λ bytes o. IsImageRun bytes steps o;
+  Faults = IsImageFault;
+  Prints = PrintsMachine form;
+  status_of = λ o. ending_status o.end;
   Remarks = IsRunRemark Words steps counts;
+  line = image_fault_text;
+  Unprinted = IsRefused;
+  streams = true;
 }

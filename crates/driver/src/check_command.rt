@@ -8,7 +8,7 @@ mod texts;
 mod totals;
 mod verdicts;
 
+pub use command::CheckCommand;
 pub(crate) use command::check_file;
-pub use command::{print_answer, tell_check};
 pub(crate) use several::check_files;
 pub use verdicts::{CheckAnswer, CheckFault, check};

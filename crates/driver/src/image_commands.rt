@@ -1,14 +1,15 @@
 //! The command that shows an image.
 
-ghost use Rattle.std.specs.Prelude.{All, IfErr, IfOk};
+ghost use Rattle.std.specs.Prelude.{ℕ, List, All, IfErr, IfOk, ⊤};
 ghost use Rattle.text.specs.Shown.{IsShown};
 ghost use Rattle.driver.specs.Listings.{IsListing, IsOfImage};
+ghost use Rattle.driver.specs.Program.{IsImagePage, listing_image};
 ghost use Rattle.image.specs.Images.{IsImageFault};
 
 use crate::listings::list_image;
-use crate::pages::PageCommand;
+use crate::pages::print_page;
 use crate::run_command::tell_image;
-use host::{BadFile, Complaints};
+use host::{BadFile, Broken, Complaints, FileCommand, HostFault, Output};
 use image::{ImageFault, read_image};
 use show::assembler_source;
 use std::alloc::Global;
@@ -40,29 +41,60 @@ fn source_of(alloc: Global, bytes: &[u8]) -> Result<Vec<u8>, ImageFault>
 
 /// `mcc list`, or with `asm` `mcc list --asm`.
 #[derive(Clone, Copy)]
-pub(crate) struct ImageCommand {
-    pub(crate) asm: bool,
+pub struct ImageCommand {
+    pub asm: bool,
 }
 
-impl PageCommand for ImageCommand {
-    ghost use Rattle.driver.specs.Program.{IsImagePage};
-    ghost use Rattle.image.specs.Texts.{image_fault_text};
-
-    type Fault = ImageFault;
-
-    ghost pages = { λ s bytes page. IsImagePage s.asm bytes page };
-
-    ghost page_faults = { λ bytes fault. IsImageFault bytes fault };
-
-    ghost fault_line = { image_fault_text };
-
-    fn page(&self, alloc: Global, bytes: &[u8]) -> Result<Vec<u8>, ImageFault> {
+impl ImageCommand {
+    /// Returns what is printed of an image's bytes.
+    fn page(self, alloc: Global, bytes: &[u8]) -> Result<Vec<u8>, ImageFault>
+        ensures page { IfOk result (λ page. IsImagePage self.asm bytes.now page.items) }
+        ensures fault { IfErr result (IsImageFault bytes.now) }
+    {
         if self.asm {
             source_of(alloc, bytes)
         } else {
             listing_of(alloc, bytes)
         }
     }
+}
+
+impl FileCommand for ImageCommand {
+    type End = ();
+
+    type Fault = ImageFault;
+
+    ghost Answer = { List ℕ };
+
+    ghost meaning = { λ s. listing_image s.asm };
+
+    ghost end_status = { λ _. 0 };
+
+    ghost most = { 0 };
+
+    ghost knows = { λ s _. ⊤ };
+
+    fn run<W: Output>(
+        &self,
+        alloc: Global,
+        bytes: &[u8],
+        out: &mut W,
+    ) -> Result<(), Broken<ImageFault>> {
+        let page = match self.page(alloc, bytes) {
+            Ok(page) => page,
+            Err(fault) => return Err(Broken::Faulty(fault)),
+        };
+        match print_page(out, page.as_slice()) {
+            Ok(()) => Ok(()),
+            Err(_) => Err(Broken::Unprinted(HostFault::CannotWrite)),
+        }
+    }
+
+    fn status_of(&self, _end: &()) -> u8 {
+        0
+    }
+
+    fn remark<E: Complaints>(&self, _alloc: Global, _bytes: &[u8], _end: &(), _err: &mut E) {}
 
     fn tell<E: Complaints>(&self, alloc: Global, of: &BadFile<'_, ImageFault>, err: &mut E) -> u8 {
         tell_image(alloc, err, of.file, of.bytes, of.fault)

@@ -1,20 +1,20 @@
 //! The command that runs a C program, at the level that is asked for.
 
-ghost use Rattle.std.specs.Prelude.{◌≢◌, ◌≤◌, false};
+ghost use Rattle.std.specs.Prelude.{◌≢◌, ◌≤◌, IfErr, IfOk};
+ghost use Rattle.runs.specs.Runs.{outcome_of};
 ghost use Rattle.host.specs.Hosts.{RanOn};
 ghost use Rattle.host.specs.Requests.{relations};
-ghost use Rattle.driver.specs.RunCommand.{IsRunRemark};
-ghost use Rattle.driver.specs.declared.run_command.remarks.Counted.TheVariants.{Steps};
-ghost use Rattle.driver.specs.Program.{below_meaning, interp_meaning};
+ghost use Rattle.driver.specs.Levels.{IsFaultBelow, IsRunBelow};
+ghost use Rattle.driver.specs.Program.{interp_meaning};
 
 use crate::build_command::{BuildFault, tell_build};
-use crate::interp_command::{end_status, interp_file};
+use crate::interp_command::{InterpCommand, end_status};
 use crate::level_runs::{interp_blocks, interp_rtl};
 use crate::run_command::{Counted, Spent, print_run, tell_run};
 use crate::texts::EndLine;
 use command_line::{AskedInterp, Level};
-use host::{BadFile, Complaints, FileCommand, Files, Host, HostFault, Output, answer_file};
-use runs::Ran;
+use host::{BadFile, Broken, Complaints, FileCommand, Files, Host, HostFault, Output, answer_file};
+use runs::{End, Ran};
 use std::alloc::Global;
 
 /// A level below C.
@@ -22,6 +22,22 @@ use std::alloc::Global;
 pub(crate) enum Below {
     Rtl,
     Blocks,
+}
+
+/// Returns what the program that the text spells does at a level below C.
+fn run_below(
+    alloc: Global,
+    text: &[u8],
+    asked: &AskedInterp<'_>,
+    below: Below,
+) -> Result<Ran, BuildFault>
+    ensures ran { IfOk result (λ ran. IsRunBelow below text.now asked.now.depth asked.now.steps (outcome_of ran)) }
+    ensures fault { IfErr result (IsFaultBelow below asked.now.depth text.now) }
+{
+    match below {
+        Below::Rtl => interp_rtl(alloc, text, asked.depth, asked.steps),
+        Below::Blocks => interp_blocks(alloc, text, asked.depth, asked.steps),
+    }
 }
 
 /// `mcc interp --at rtl` and `mcc interp --at blocks`.
@@ -32,68 +48,54 @@ struct BelowCommand<'s> {
 }
 
 impl FileCommand for BelowCommand<'_> {
-    ghost use Rattle.runs.specs.Runs.{outcome_of};
-    ghost use Rattle.driver.specs.BuildTexts.{build_fault_text};
-    ghost use Rattle.driver.specs.RunCommand.{IsRefused};
-    ghost use Rattle.driver.specs.Levels.{IsFaultBelow, IsRunBelow};
-    ghost use Rattle.driver.specs.Program.{PrintsRun};
+    ghost use Rattle.std.specs.Prelude.{⊤};
+    ghost use Rattle.runs.specs.Runs.{Outcome};
+    ghost use Rattle.driver.specs.Program.{interpreting_below};
     ghost use Rattle.driver.specs.Texts.{end_status};
 
-    type Answer = Ran;
+    type End = End;
 
     type Fault = BuildFault;
 
-    ghost answers = { λ s text ran. IsRunBelow s.below text s.asked.depth s.asked.steps (outcome_of ran) };
+    ghost Answer = { Outcome };
 
-    ghost faults = { λ s text fault. IsFaultBelow s.below s.asked.depth text fault };
+    ghost meaning = { λ s. interpreting_below s.below s.asked };
 
-    ghost prints = { λ s ran printed. PrintsRun s.asked.form (outcome_of ran) printed };
-
-    ghost status = { λ ran. end_status ran.end };
+    ghost end_status = { end_status };
 
     ghost most = { 4 };
 
-    ghost line = { build_fault_text };
+    ghost knows = { λ s end. ⊤ };
 
-    ghost unprinted = { IsRefused };
-
-    ghost remarks = { λ s status told. IsRunRemark Steps s.asked.steps false status told };
-
-    fn work(&self, alloc: Global, bytes: &[u8]) -> Result<Ran, BuildFault> {
-        let (depth, steps) = (self.asked.depth, self.asked.steps);
-        match self.below {
-            Below::Rtl => interp_rtl(alloc, bytes, depth, steps),
-            Below::Blocks => interp_blocks(alloc, bytes, depth, steps),
-        }
-    }
-
-    fn print<W: Output>(
+    fn run<W: Output>(
         &self,
-        _alloc: Global,
-        _bytes: &[u8],
-        answer: &Ran,
+        alloc: Global,
+        bytes: &[u8],
         out: &mut W,
-    ) -> Result<u8, HostFault> {
-        let end = answer.end;
-        match print_run(
-            out,
-            self.asked.form,
-            answer.output.as_slice(),
-            &EndLine(end),
-        ) {
-            Ok(()) => Ok(end_status(end)),
-            Err(_) => Err(HostFault::CannotWrite),
+    ) -> Result<End, Broken<BuildFault>> {
+        let ran = match run_below(alloc, bytes, &self.asked, self.below) {
+            Ok(ran) => ran,
+            Err(fault) => return Err(Broken::Faulty(fault)),
+        };
+        let last = EndLine(ran.end);
+        match print_run(out, self.asked.form, ran.output.as_slice(), &last) {
+            Ok(()) => Ok(ran.end),
+            Err(_) => Err(Broken::Unprinted(HostFault::CannotWrite)),
         }
     }
 
-    fn remark<E: Complaints>(&self, _alloc: Global, _bytes: &[u8], answer: &Ran, err: &mut E) {
+    fn status_of(&self, end: &End) -> u8 {
+        end_status(*end)
+    }
+
+    fn remark<E: Complaints>(&self, _alloc: Global, _bytes: &[u8], end: &End, err: &mut E) {
         let spent = Spent {
             unit: Counted::Steps,
             count: 0,
             most: self.asked.steps,
             counts: false,
         };
-        tell_run(err, spent, end_status(answer.end), None);
+        tell_run(err, spent, end_status(*end), None);
     }
 
     fn tell<E: Complaints>(&self, alloc: Global, of: &BadFile<'_, BuildFault>, err: &mut E) -> u8 {
@@ -101,33 +103,44 @@ impl FileCommand for BelowCommand<'_> {
     }
 }
 
-/// Runs the C program of a file at a level below C, and prints its output and how it ended. The answer is the exit status.
-fn interp_below<F: Files, W: Output, E: Complaints>(
-    host: &mut Host<F, W, E>,
-    asked: AskedInterp<'_>,
-    below: Below,
-) -> u8
-    ensures most { result ≤ 4 }
-    ensures not_wrong_words { result ≢ 2 }
-    ensures ran { RanOn (relations F.answers W.contents W.sends W.refuses E.tells) host.old host.new
-        (below_meaning below asked.entry.source.now asked.entry.depth asked.entry.steps asked.entry.form) result }
-{
-    answer_file(host, &BelowCommand { asked, below }, asked.source)
-}
-
-/// Runs the C program of a file at the level that is asked for; the answer is the exit status.
+/// Runs the C program of a file at the level that is asked for, and prints its output and how it ended: at the level of C while it runs. The
+/// answer is the exit status.
 pub(crate) fn interp_at<F: Files, W: Output, E: Complaints>(
     host: &mut Host<F, W, E>,
     asked: AskedInterp<'_>,
 ) -> u8
     ensures most { result ≤ 4 }
     ensures not_wrong_words { result ≢ 2 }
-    ensures ran { RanOn (relations F.answers W.contents W.sends W.refuses E.tells) host.old host.new
-        (interp_meaning asked.entry.level asked.entry.source.now asked.entry.depth asked.entry.steps asked.entry.form asked.entry.count) result }
+    ensures ran { RanOn (relations F.answers W.contents W.sends W.refuses E.tells) host.old host.new (interp_meaning asked.entry.level asked.entry)
+        result }
 {
+    let file = asked.source;
     match asked.level {
-        Level::C => interp_file(host, asked),
-        Level::Rtl => interp_below(host, asked, Below::Rtl),
-        Level::Blocks => interp_below(host, asked, Below::Blocks),
+        Level::C => {
+            let command = InterpCommand {
+                source: file,
+                depth: asked.depth,
+                steps: asked.steps,
+                form: asked.form,
+                count: asked.count,
+            };
+            answer_file(host, &command, file)
+        }
+        Level::Rtl => answer_file(
+            host,
+            &BelowCommand {
+                asked,
+                below: Below::Rtl,
+            },
+            file,
+        ),
+        Level::Blocks => answer_file(
+            host,
+            &BelowCommand {
+                asked,
+                below: Below::Blocks,
+            },
+            file,
+        ),
     }
 }

@@ -34,16 +34,16 @@ pub use build_command::{
     BuildFault, BuildOpts, Built, Limit, build, build_one, build_plain, one_build, print_built,
     tell_build, unit_of,
 };
-pub use check_command::{CheckAnswer, CheckFault, check, print_answer, tell_check};
+pub use check_command::{CheckAnswer, CheckCommand, CheckFault, check};
 pub use command_line::{AskedBuild, Command, words};
 pub use host::{FileFault, Files};
-pub use interp_command::{end_status, tell_interp};
+pub use image_commands::ImageCommand;
+pub use interp_command::InterpCommand;
 pub use level_runs::{interp_blocks, interp_rtl};
 pub use listings::list_image;
 pub use messages::SourceFault;
 pub use program::mcc;
 pub use reasons::wrong_page;
-pub use run_command::{EndingLine, ending_status, print_run, run_image};
-pub use show_commands::{StagesFault, stages, tell_stages};
+pub use run_command::{RunCommand, run_image};
+pub use show_commands::{ShowCommand, StagesFault, stages};
 pub use source_runs::{InterpFault, interp};
-pub use texts::EndLine;

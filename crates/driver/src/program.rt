@@ -1,15 +1,14 @@
 //! The whole program: its words, its files and its streams.
-ghost use Rattle.std.specs.Prelude.{◌≤◌, map};
-ghost use Rattle.host.specs.Hosts.{IsSameHost, RanOn, state_of};
+ghost use Rattle.std.specs.Prelude.{map};
+ghost use Rattle.host.specs.Hosts.{IsSameHost, state_of};
 ghost use Rattle.host.specs.Requests.{host_of, relations};
-ghost use Rattle.driver.specs.Program.{RanWords, Shows, StopsShow, meaning_of, quiet_meaning};
+ghost use Rattle.driver.specs.Program.{RanWords};
 
 use crate::build_command::build_file;
 use crate::check_command::{check_file, check_files};
 use crate::choices::tell_choice;
 use crate::image_commands::ImageCommand;
 use crate::levels::interp_at;
-use crate::pages::Paged;
 use crate::run_command::run_file;
 use crate::show_commands::ShowCommand;
 use command_line::{Command, words};
@@ -18,19 +17,6 @@ use show::Asked;
 use std::alloc::Global;
 use std::sync::Wait;
 use std::thread::Threads;
-
-/// Runs `mcc show SOURCE`, with what is asked for.
-fn show_source<F: Files, W: Output, E: Complaints>(
-    host: &mut Host<F, W, E>,
-    asked: Asked<'_>,
-    source: &str,
-) -> u8
-    ensures most { result ≤ 1 }
-    ensures ran { RanOn (relations F.answers W.contents W.sends W.refuses E.tells) host.old host.new
-        (quiet_meaning (Shows source.now) (StopsShow source.now)) result }
-{
-    answer_file(host, &Paged(ShowCommand { asked }), source)
-}
 
 /// Does what the words ask for, over a host that is lent.
 fn answer_words<T: Threads + Wait + Sync, F: Files, W: Output, E: Complaints>(
@@ -49,7 +35,7 @@ fn answer_words<T: Threads + Wait + Sync, F: Files, W: Output, E: Complaints>(
         Ok(Command::Interp(asked)) => interp_at(host, asked),
         Ok(Command::Build(asked)) => build_file(rt, host, &asked),
         Ok(Command::Run(asked)) => run_file(host, asked),
-        Ok(Command::List { image, asm }) => answer_file(host, &Paged(ImageCommand { asm }), image),
+        Ok(Command::List { image, asm }) => answer_file(host, &ImageCommand { asm }, image),
         Ok(
             Command::Show {
                 source,
@@ -65,7 +51,7 @@ fn answer_words<T: Threads + Wait + Sync, F: Files, W: Output, E: Complaints>(
                 block,
                 dot,
             };
-            show_source(host, asked, source)
+            answer_file(host, &ShowCommand { asked }, source)
         }
         Ok(Command::NoChoice { choice, value }) => tell_choice(alloc, host.err, choice, value),
         Err(error) => tell_words(alloc, &error, host.out, host.err),

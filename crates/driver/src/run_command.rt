@@ -8,10 +8,10 @@ mod remarks;
 mod running_image;
 mod texts;
 
-pub use command::{ending_status, run_file};
+pub use command::{RunCommand, run_file};
 pub use image_faults::tell_image;
 pub use image_runs::run_image;
 pub use portions::{Advance, Cut, Finish, Resumable, stream};
 pub(crate) use reasons::tell_page;
 pub use remarks::{Counted, Spent, tell_run};
-pub use texts::{EndingLine, print_run};
+pub use texts::print_run;

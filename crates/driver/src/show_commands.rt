@@ -1,20 +1,21 @@
 //! The command that shows what becomes of a program, stage by stage.
 
-ghost use Rattle.std.specs.Prelude.{◌≡◌, ◌⊎◌, IfErr, IfOk, Some};
+ghost use Rattle.std.specs.Prelude.{◌≡◌, ◌⊎◌, ℕ, List, IfErr, IfOk, Some, ⊤};
 ghost use Rattle.host.specs.Requests.{TellsLine};
 ghost use Rattle.driver.specs.BuildFaults.{IsBuildFault};
 ghost use Rattle.driver.specs.SourceFaults.{IsFaultless};
 ghost use Rattle.mips_select.specs.Limits.{FramesFit};
 ghost use Rattle.mips_select.specs.Laws.{IsBeyond};
+ghost use Rattle.driver.specs.Program.{showing};
 ghost use Rattle.driver.specs.Stages.{IsRtlOf, IsStagesFault, stages_fault_text};
 
 use crate::build_command::{BuildFault, Limit, rtl_of_typed, tell_build, typed_of};
-use crate::pages::PageCommand;
+use crate::pages::print_page;
 use crate::reasons::page;
 use crate::run_command::tell_page;
 use c_front::read;
 use c_tree::{Declaration, Program};
-use host::{BadFile, Complaints, tell};
+use host::{BadFile, Broken, Complaints, FileCommand, HostFault, Output, tell};
 use mips_select::{Numbered, SelectFault, select_numbered};
 use rtl::Rtl;
 use show::{Asked, ShowFault, Shown, show};
@@ -215,49 +216,48 @@ fn tell_asked<E: Complaints>(
     }
 }
 
-/// Tells the fault's line, and below it what is known of it.
-pub fn tell_stages<E: Complaints>(
-    alloc: Global,
-    err: &mut E,
-    source: &str,
-    text: &[u8],
-    fault: StagesFault,
-) -> u8
-    ensures status { result ≡ 1 }
-    ensures told { TellsLine E.tells err.old (stages_fault_text fault) err.new }
-{
-    let unknown = Asked {
-        stage: None,
-        function: None,
-        block: None,
-        dot: false,
-    };
-    tell_asked(alloc, err, source, text, fault, &unknown)
-}
-
 /// `mcc show`, with what is asked for.
 #[derive(Clone, Copy)]
-pub(crate) struct ShowCommand<'a> {
-    pub(crate) asked: Asked<'a>,
+pub struct ShowCommand<'a> {
+    pub asked: Asked<'a>,
 }
 
-impl<'a> PageCommand for ShowCommand<'a> {
-    ghost use Rattle.driver.specs.Program.{IsPage};
+impl FileCommand for ShowCommand<'_> {
+    type End = ();
 
     type Fault = StagesFault;
 
-    ghost pages = { λ s text page. IsFaultless text × IsPage page };
+    ghost Answer = { List ℕ };
 
-    ghost page_faults = { λ text fault. IsStagesFault text fault };
+    ghost meaning = { λ s. showing };
 
-    ghost fault_line = { stages_fault_text };
+    ghost end_status = { λ _. 0 };
 
-    fn page(&self, alloc: Global, bytes: &[u8]) -> Result<Vec<u8>, StagesFault> {
-        match stages(alloc, bytes, &self.asked) {
-            Ok(page) => Ok(page.into_bytes()),
-            Err(fault) => Err(fault),
+    ghost most = { 0 };
+
+    ghost knows = { λ s _. ⊤ };
+
+    fn run<W: Output>(
+        &self,
+        alloc: Global,
+        bytes: &[u8],
+        out: &mut W,
+    ) -> Result<(), Broken<StagesFault>> {
+        let page = match stages(alloc, bytes, &self.asked) {
+            Ok(page) => page,
+            Err(fault) => return Err(Broken::Faulty(fault)),
+        };
+        match print_page(out, page.bytes()) {
+            Ok(()) => Ok(()),
+            Err(_) => Err(Broken::Unprinted(HostFault::CannotWrite)),
         }
     }
+
+    fn status_of(&self, _end: &()) -> u8 {
+        0
+    }
+
+    fn remark<E: Complaints>(&self, _alloc: Global, _bytes: &[u8], _end: &(), _err: &mut E) {}
 
     fn tell<E: Complaints>(&self, alloc: Global, of: &BadFile<'_, StagesFault>, err: &mut E) -> u8 {
         tell_asked(alloc, err, of.file, of.bytes, of.fault, &self.asked)

@@ -4,4 +4,3 @@ pub mod Requests
 pub mod Hosts
 pub mod OneFile
 pub mod WrongWords
-pub mod Streams

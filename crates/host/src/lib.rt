@@ -1,7 +1,7 @@
 //! What the commands of the program share: files, errors, and where an error lies.
 //!
-//! Definitions: `specs/Texts.antt`, `specs/Requests.antt`, `specs/Hosts.antt`, `specs/Streams.antt`.
-//! Contract: `answer_file`, `answer_stream`, `read_file`, `write_file`, `tell`, `tell_file`, `tell_placed`, `print_name`
+//! Definitions: `specs/Texts.antt`, `specs/Requests.antt`, `specs/Hosts.antt`, `specs/OneFile.antt`.
+//! Contract: `answer_file`, `read_file`, `write_file`, `tell`, `tell_file`, `tell_placed`, `print_name`
 //! - A command over one file asks, prints and ends as its own definition says.
 //! - What is printed below an error steers no terminal.
 #![tactic(auto)]
@@ -15,7 +15,6 @@ mod numbers;
 mod one_file;
 mod output;
 mod place;
-mod streams;
 mod wrong_words;
 
 pub use fault::{Complaints, HostFault, tell};
@@ -24,8 +23,7 @@ pub use host::Host;
 pub use host_faults::{FileError, tell_file, tell_unprinted, tell_unread, tell_unwritten};
 pub use names::print_name;
 pub use numbers::{FormedWord, WordForm};
-pub use one_file::{BadFile, FileCommand, answer_file};
+pub use one_file::{BadFile, Broken, FileCommand, answer_file};
 pub use output::Output;
 pub use place::{Place, Spot, line_offset, spot_of, tell_placed};
-pub use streams::{Broken, StreamCommand, answer_stream};
 pub use wrong_words::tell_words;

@@ -1,12 +1,11 @@
-//! A command over one file: it reads it, works out an answer or a fault, and prints the one or tells the other.
+//! A command over one file: it reads it, and prints its answer or tells its fault.
 
 ghost use Rattle.std.specs.Prelude.{◌≡◌, ◌≢◌, ◌≤◌, ℕ, List, max, IfErr, IfOk, OnOk};
-ghost use Rattle.host.specs.declared.fault.HostFault.{HostFault};
-ghost use Rattle.host.specs.OneFile.{AnswersFile, StopsFile, TookPrint};
+ghost use Rattle.host.specs.OneFile.{BreaksBy, FileMeaning, TookAnswer, file_meaning};
 ghost use Rattle.host.specs.Hosts.{RanOn};
-ghost use Rattle.host.specs.Requests.{IsSent, LeavesOutput, TellsBeside, TellsLine, WasRefused, relations};
+ghost use Rattle.host.specs.Requests.{IsSent, TellsBeside, TellsLine, WasRefused, relations};
 
-use crate::fault::{Complaints, HostFault};
+use crate::fault::{Complaints, HostFault, tell};
 use crate::files::{Files, read_file};
 use crate::host::Host;
 use crate::host_faults::{tell_unprinted, tell_unread};
@@ -22,62 +21,64 @@ pub struct BadFile<'a, F> {
     pub fault: F,
 }
 
+/// Why a command has not printed its answer.
+#[derive(Drop)]
+pub enum Broken<F> {
+    /// The bytes have a fault, and nothing was printed.
+    Faulty(F),
+    /// The answer was left unprinted: standard output was refused, or memory before anything was printed.
+    Unprinted(HostFault),
+    /// Memory was refused once it had begun, and a beginning was printed.
+    Midway,
+}
+
 /// What a command does with the bytes of its file.
 pub trait FileCommand {
-    type Answer: Drop;
+    // what is known of an answer that is printed
+    type End: Drop;
 
     type Fault: Drop;
 
-    // the answers and the faults that the bytes may have
-    ghost answers: { Self → List ℕ → Self.Answer → Type 0 };
+    ghost Answer: { Type 0 };
 
-    ghost faults: { Self → List ℕ → Self.Fault → Type 0 };
+    ghost meaning: { Self → FileMeaning Self.Answer Self.Fault };
 
-    // what is printed of an answer, its status, and the greatest status
-    ghost prints: { Self → Self.Answer → List ℕ → Type 0 };
-
-    ghost status: { Self.Answer → ℕ };
+    // the status of an end, and the greatest status
+    ghost end_status: { Self.End → ℕ };
 
     ghost most: { ℕ };
 
-    // the line of a fault
-    ghost line: { Self.Fault → List ℕ };
+    // what is known of an end
+    ghost knows: { Self → Self.End → Type 0 };
 
-    // why an answer may be left unprinted
-    ghost unprinted: { HostFault → Type 0 };
-
-    // what may be told beside an answer of this status
-    ghost remarks: { Self → ℕ → List (List ℕ) → Type 0 };
-
-    /// Returns the answer to these bytes, or their fault.
-    fn work(&self, alloc: Global, bytes: &[u8]) -> Result<Self::Answer, Self::Fault>
-        ensures answer { IfOk result (answers self.now bytes.now) }
-        ensures fault { IfErr result (faults self.now bytes.now) };
-
-    /// Prints the answer, and returns its status.
-    fn print<W: Output>(
+    /// Works out the answer to these bytes, and prints and sends it; what is known of it.
+    fn run<W: Output>(
         &self,
         alloc: Global,
         bytes: &[u8],
-        answer: &Self::Answer,
         out: &mut W,
-    ) -> Result<u8, HostFault>
-        ensures took { OnOk result (TookPrint (W.contents out.old) (W.contents out.new) (prints self.now answer.now)) }
+    ) -> Result<Self::End, Broken<Self::Fault>>
+        ensures took { IfOk result (λ e. TookAnswer (meaning self.now) bytes.now (W.contents out.old) (W.contents out.new) (end_status e)) }
+        ensures knows { IfOk result (knows self.now) }
         ensures sent { OnOk result (IsSent W.sends out.new) }
-        ensures status { IfOk result (λ s. s ≡ status answer.now) }
-        ensures most { IfOk result (λ s. s ≤ most) }
-        ensures neither { IfOk result (λ s. (s ≢ 1) × (s ≢ 2)) }
-        ensures fault { IfErr result unprinted }
-        ensures left { IfErr result (λ e. LeavesOutput e (out.new ≡ out.old) (WasRefused W.refuses out.new)) };
+        ensures broken { IfErr result (BreaksBy (meaning self.now) bytes.now (W.contents out.old) (W.contents out.new) (out.new ≡ out.old)
+            (WasRefused W.refuses out.new)) };
+
+    /// Returns the status of an end.
+    fn status_of(&self, end: &Self::End) -> u8
+        ensures status { result ≡ end_status end.now }
+        ensures most { result ≤ most }
+        ensures neither { (result ≢ 1) × (result ≢ 2) };
 
     /// Tells what is said beside an answer that was printed.
-    fn remark<E: Complaints>(&self, alloc: Global, bytes: &[u8], answer: &Self::Answer, err: &mut E)
-        ensures { TellsBeside E.tells err.old (remarks self.now (status answer.now)) err.new };
+    fn remark<E: Complaints>(&self, alloc: Global, bytes: &[u8], end: &Self::End, err: &mut E)
+        requires { knows self.now end.now }
+        ensures { TellsBeside E.tells err.old ((meaning self.now).Remarks (end_status end.now)) err.new };
 
     /// Tells the line of a fault, and below it what is known of it.
     fn tell<E: Complaints>(&self, alloc: Global, of: &BadFile<'_, Self::Fault>, err: &mut E) -> u8
         ensures status { result ≡ 1 }
-        ensures told { TellsLine E.tells err.old (line of.now.fault) err.new };
+        ensures told { TellsLine E.tells err.old ((meaning self.now).line of.now.fault) err.new };
 }
 
 /// Runs a command over its file and the streams. The answer is the exit status: 1 if it ended by a fault.
@@ -88,13 +89,8 @@ pub fn answer_file<C: FileCommand, F: Files, W: Output, E: Complaints>(
 ) -> u8
     ensures most { result ≤ max 1 C.most }
     ensures not_wrong_words { result ≢ 2 }
-    ensures ran { RanOn (relations F.answers W.contents W.sends W.refuses E.tells) host.old host.new
-        (record {
-          Answers = AnswersFile (C.answers command.now) (C.prints command.now) C.status file.now;
-          Stops = StopsFile (C.answers command.now) (C.faults command.now) C.line C.unprinted file.now;
-          Begins = λ requests printed. ⊥;
-          Remarks = C.remarks command.now;
-        }) result }
+    ensures ran { RanOn (relations F.answers W.contents W.sends W.refuses E.tells) host.old host.new (file_meaning (C.meaning command.now) file.now)
+        result }
 {
     let alloc = host.alloc;
     let text = match read_file(alloc, file, host.files) {
@@ -102,15 +98,17 @@ pub fn answer_file<C: FileCommand, F: Files, W: Output, E: Complaints>(
         Err(fault) => return tell_unread(alloc, host.err, file, fault),
     };
     let bytes = text.as_slice();
-    let answer = match command.work(alloc, bytes) {
-        Ok(answer) => answer,
-        Err(fault) => return command.tell(alloc, &BadFile { file, bytes, fault }, host.err),
-    };
-    match command.print(alloc, bytes, &answer, host.out) {
-        Ok(status) => {
-            command.remark(alloc, bytes, &answer, host.err);
-            status
+    match command.run(alloc, bytes, host.out) {
+        Ok(end) => {
+            command.remark(alloc, bytes, &end, host.err);
+            command.status_of(&end)
         }
-        Err(fault) => tell_unprinted(host.err, fault),
+        Err(Broken::Faulty(fault)) => command.tell(
+            alloc,
+            &BadFile { file, bytes, fault },
+            host.err,
+        ),
+        Err(Broken::Unprinted(fault)) => tell_unprinted(host.err, fault),
+        Err(Broken::Midway) => tell(host.err, &HostFault::NoMemory),
     }
 }

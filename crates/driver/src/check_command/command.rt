@@ -1,19 +1,18 @@
 //! The command over a file and streams.
 
-ghost use Rattle.std.specs.Prelude.{◌≡◌, [], ◌∷◌, ◌++◌, true, IfOk, IfErr, OnErr, OnOk};
+ghost use Rattle.std.specs.Prelude.{◌≡◌, [], ◌∷◌, ◌++◌, true, IfOk, IfErr, OnErr, OnOk, ⊤};
 ghost use Rattle.std.specs.Io.KnownBytes.{Appends};
-ghost use Rattle.driver.specs.Checks.{IsAnswerTo, IsCheckFault};
-ghost use Rattle.driver.specs.CheckCommand.{IsMore, IsUnprinted, PrintsAnswer, check_meaning};
+ghost use Rattle.driver.specs.CheckCommand.{IsMore, IsUnprinted, PrintsAnswer, checking};
 ghost use Rattle.driver.specs.CheckTexts.{IsCheckStatus, answer_text, check_fault_text, exit_status};
-ghost use Rattle.host.specs.OneFile.{TookPrint};
+ghost use Rattle.host.specs.OneFile.{TookPrint, file_meaning};
 ghost use Rattle.host.specs.Hosts.{RanOn};
-ghost use Rattle.host.specs.Requests.{IsNothing, IsSent, LeavesOutput, TellsLine, WasRefused, relations};
+ghost use Rattle.host.specs.Requests.{IsSent, LeavesOutput, TellsLine, WasRefused, relations};
 
 use crate::check_command::explanations::explanation;
 use crate::check_command::verdicts::{CheckAnswer, CheckFault, check};
 use explain::explain_line;
 use host::{
-    BadFile, Complaints, FileCommand, Files, Host, HostFault, Output, Place, answer_file,
+    BadFile, Broken, Complaints, FileCommand, Files, Host, HostFault, Output, Place, answer_file,
     line_offset, tell_placed,
 };
 use std::alloc::{AllocError, Global};
@@ -59,7 +58,7 @@ fn print<W: Output>(out: &mut W, answer: &CheckAnswer, more: &Page) -> io::Resul
 }
 
 /// Prints the answer to a text and what explains it, if that is asked for. The result is its status.
-pub fn print_answer<W: Output>(
+fn print_answer<W: Output>(
     alloc: Global,
     explain: bool,
     text: &[u8],
@@ -70,7 +69,7 @@ pub fn print_answer<W: Output>(
     ensures sent { OnOk result (IsSent W.sends out.new) }
     ensures status { IfOk result (λ s. s ≡ exit_status answer.now) }
     ensures possible { IfOk result IsCheckStatus }
-    ensures fault { IfErr result IsUnprinted }
+    ensures fault { IfErr result (IsUnprinted explain) }
     ensures left { IfErr result (λ e. LeavesOutput e (out.new ≡ out.old) (WasRefused W.refuses out.new)) }
 {
     let Ok(more) = more_of(alloc, explain, text, answer) else {
@@ -99,7 +98,7 @@ fn explanation_of(alloc: Global, text: &[u8], fault: CheckFault) -> Option<Expla
 }
 
 /// Tells the line of a fault of a text, and below it where it lies and what is said of it.
-pub fn tell_check<E: Complaints>(
+pub(crate) fn tell_check<E: Complaints>(
     alloc: Global,
     err: &mut E,
     file: &str,
@@ -120,53 +119,52 @@ pub fn tell_check<E: Complaints>(
 
 /// `mcc check` over one file, with `--explain` or without.
 #[derive(Clone, Copy)]
-struct CheckCommand {
-    explain: bool,
+pub struct CheckCommand {
+    pub explain: bool,
 }
 
 impl FileCommand for CheckCommand {
-    type Answer = CheckAnswer;
+    ghost use Rattle.driver.specs.declared.check_command.verdicts.CheckAnswer.{CheckAnswer};
+
+    type End = CheckAnswer;
 
     type Fault = CheckFault;
 
-    ghost answers = { λ s text answer. IsAnswerTo text answer };
+    ghost Answer = { CheckAnswer };
 
-    ghost faults = { λ s text fault. IsCheckFault text fault };
+    ghost meaning = { λ s. checking s.explain };
 
-    ghost prints = { λ s answer printed. PrintsAnswer s.explain answer printed };
-
-    ghost status = { exit_status };
+    ghost end_status = { exit_status };
 
     ghost most = { 3 };
 
-    ghost line = { check_fault_text };
+    ghost knows = { λ s answer. ⊤ };
 
-    ghost unprinted = { IsUnprinted };
-
-    ghost remarks = { λ s status told. IsNothing told };
-
-    fn work(&self, alloc: Global, bytes: &[u8]) -> Result<CheckAnswer, CheckFault> {
-        match check(alloc, bytes) {
-            Ok(answer) => Ok(answer),
-            Err(fault) => Err(fault),
-        }
-    }
-
-    fn print<W: Output>(
+    fn run<W: Output>(
         &self,
         alloc: Global,
         bytes: &[u8],
-        answer: &CheckAnswer,
         out: &mut W,
-    ) -> Result<u8, HostFault> {
-        print_answer(alloc, self.explain, bytes, answer, out)
+    ) -> Result<CheckAnswer, Broken<CheckFault>> {
+        let answer = match check(alloc, bytes) {
+            Ok(answer) => answer,
+            Err(fault) => return Err(Broken::Faulty(fault)),
+        };
+        match print_answer(alloc, self.explain, bytes, &answer, out) {
+            Ok(_) => Ok(answer),
+            Err(fault) => Err(Broken::Unprinted(fault)),
+        }
+    }
+
+    fn status_of(&self, end: &CheckAnswer) -> u8 {
+        status_of(end)
     }
 
     fn remark<E: Complaints>(
         &self,
         _alloc: Global,
         _bytes: &[u8],
-        _answer: &CheckAnswer,
+        _end: &CheckAnswer,
         _err: &mut E,
     ) {}
 
@@ -182,7 +180,8 @@ pub(crate) fn check_file<F: Files, W: Output, E: Complaints>(
     explain: bool,
 ) -> u8
     ensures possible { IsCheckStatus result }
-    ensures ran { RanOn (relations F.answers W.contents W.sends W.refuses E.tells) host.old host.new (check_meaning explain file.now) result }
+    ensures ran { RanOn (relations F.answers W.contents W.sends W.refuses E.tells) host.old host.new
+        (file_meaning (checking explain) file.now) result }
 {
     answer_file(host, &CheckCommand { explain }, file)
 }

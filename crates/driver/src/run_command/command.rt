@@ -1,15 +1,11 @@
 //! The command that runs an image.
 
-ghost use Rattle.std.specs.Prelude.{◌≡◌, ◌≢◌, ◌≤◌, IfErr, IfOk, OnOk};
-ghost use Rattle.driver.specs.RunCommand.{IsRunRemark, PrintsMachine, run_meaning};
-ghost use Rattle.driver.specs.ImageRuns.{IsImageRun};
+ghost use Rattle.std.specs.Prelude.{◌≡◌, ◌≢◌, ◌≤◌};
+ghost use Rattle.driver.specs.RunCommand.{running};
 ghost use Rattle.driver.specs.RunTexts.{ending_status};
-ghost use Rattle.driver.specs.declared.run_command.remarks.Counted.TheVariants.{Words};
 ghost use Rattle.host.specs.Hosts.{RanOn};
-ghost use Rattle.host.specs.Requests.{IsSent, WasRefused, relations};
-ghost use Rattle.host.specs.Streams.{BreaksBy, TookAnswer};
-ghost use Rattle.image.specs.Images.{IsImageFault};
-ghost use Rattle.image.specs.Texts.{image_fault_text};
+ghost use Rattle.host.specs.OneFile.{file_meaning};
+ghost use Rattle.host.specs.Requests.{relations};
 
 use crate::run_command::image_faults::tell_image;
 use crate::run_command::portions::{Cut, stream};
@@ -17,7 +13,7 @@ use crate::run_command::reasons::stuck_page;
 use crate::run_command::remarks::{Counted, Spent, tell_run};
 use command_line::AskedRun;
 use host::{
-    BadFile, Broken, Complaints, Files, Host, Output, StreamCommand, WordForm, answer_stream,
+    BadFile, Broken, Complaints, FileCommand, Files, Host, HostFault, Output, WordForm, answer_file,
 };
 use image::{ImageFault, read_image};
 use mips_code::Ending;
@@ -48,79 +44,51 @@ pub struct RunEnd {
 
 /// `mcc run`, for so many words, in a form, and with their count if that is asked for.
 #[derive(Clone, Copy)]
-struct RunCommand {
-    steps: u64,
-    form: WordForm,
-    count: bool,
+pub struct RunCommand {
+    pub steps: u64,
+    pub form: WordForm,
+    pub count: bool,
 }
 
-/// Runs the image of these bytes, and prints its output and how it ended.
-fn stream_image<W: Output>(
-    alloc: Global,
-    bytes: &[u8],
-    steps: u64,
-    form: WordForm,
-    out: &mut W,
-) -> Result<RunEnd, Broken<ImageFault>>
-    ensures took { IfOk result (λ e. TookAnswer (IsImageRun bytes.now steps) (PrintsMachine form) (λ o. ending_status o.end)
-        (W.contents out.old) (W.contents out.new) (ending_status e.end)) }
-    ensures count { IfOk result (λ e. e.count ≤ steps) }
-    ensures sent { OnOk result (IsSent W.sends out.new) }
-    ensures broken { IfErr result (BreaksBy (IsImageRun bytes.now steps) (PrintsMachine form) (IsImageFault bytes.now) (W.contents out.old)
-        (W.contents out.new) (out.new ≡ out.old) (WasRefused W.refuses out.new)) }
-{
-    let image = match read_image(alloc, bytes) {
-        Ok(image) => image,
-        Err(fault) => return Err(Broken::Faulty(fault)),
-    };
-    let Ok(mut machine) = load(alloc, &image) else {
-        return Err(Broken::Faulty(ImageFault::NoMemory));
-    };
-    match stream(alloc, &mut machine, form, steps, out) {
-        Ok(finish) => Ok(RunEnd {
-            end: finish.end,
-            count: finish.count,
-            at: machine.pc(),
-        }),
-        Err(Cut::Unprinted) => Err(Broken::Unprinted),
-        Err(Cut::NoMemory) => Err(Broken::Midway),
-    }
-}
+impl FileCommand for RunCommand {
+    ghost use Rattle.mips_code.specs.Machines.{MachineOutcome};
 
-impl StreamCommand for RunCommand {
     type End = RunEnd;
 
     type Fault = ImageFault;
 
-    ghost use Rattle.mips_code.specs.Machines.{MachineOutcome};
-
     ghost Answer = { MachineOutcome };
 
-    ghost answers = { λ s bytes o. IsImageRun bytes s.steps o };
-
-    ghost faults = { λ s bytes fault. IsImageFault bytes fault };
-
-    ghost prints = { λ s o printed. PrintsMachine s.form o printed };
-
-    ghost status = { λ o. ending_status o.end };
+    ghost meaning = { λ s. running s.steps s.form s.count };
 
     ghost end_status = { λ e. ending_status e.end };
 
     ghost most = { 4 };
 
-    ghost line = { image_fault_text };
-
     ghost knows = { λ s e. e.count ≤ s.steps };
 
-    ghost remarks = { λ s status told. IsRunRemark Words s.steps s.count status told };
-
-    fn stream<W: Output>(
+    fn run<W: Output>(
         &self,
         alloc: Global,
         bytes: &[u8],
         out: &mut W,
     ) -> Result<RunEnd, Broken<ImageFault>> {
-        stream_image(alloc, bytes, self.steps, self.form, out)
+        let image = match read_image(alloc, bytes) {
+            Ok(image) => image,
+            Err(fault) => return Err(Broken::Faulty(fault)),
+        };
+        let Ok(mut machine) = load(alloc, &image) else {
+            return Err(Broken::Faulty(ImageFault::NoMemory));
+        };
+        match stream(alloc, &mut machine, self.form, self.steps, out) {
+            Ok(finish) => Ok(RunEnd {
+                end: finish.end,
+                count: finish.count,
+                at: machine.pc(),
+            }),
+            Err(Cut::Unprinted) => Err(Broken::Unprinted(HostFault::CannotWrite)),
+            Err(Cut::NoMemory) => Err(Broken::Midway),
+        }
     }
 
     fn status_of(&self, end: &RunEnd) -> u8 {
@@ -155,12 +123,12 @@ pub fn run_file<F: Files, W: Output, E: Complaints>(
     ensures most { result ≤ 4 }
     ensures not_wrong_words { result ≢ 2 }
     ensures ran { RanOn (relations F.answers W.contents W.sends W.refuses E.tells) host.old host.new
-        (run_meaning asked.entry.image.now asked.entry.steps asked.entry.form asked.entry.count) result }
+        (file_meaning (running asked.entry.steps asked.entry.form asked.entry.count) asked.entry.image.now) result }
 {
     let command = RunCommand {
         steps: asked.steps,
         form: asked.form,
         count: asked.count,
     };
-    answer_stream(host, &command, asked.image)
+    answer_file(host, &command, asked.image)
 }

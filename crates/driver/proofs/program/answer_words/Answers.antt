@@ -51,10 +51,10 @@ returns-in-Ok-List-clause-ran g c =
 
 pub returns-in-Ok-Show-clause-ran : goal.returns-in-Ok-Show-clause-ran
 returns-in-Ok-Show-clause-ran g c =
-    let most = c.show_source.ensures.most in
+    let most = c.answer_file-in-Ok-Show.ensures.most in
     of_answer _ _ _ _ _ (Show c.in-Ok-Show.source c.in-Ok-Show.stage c.in-Ok-Show.function c.in-Ok-Show.block c.in-Ok-Show.dot)
     (subst (IsCommand (map (λ s. s.now) c.args.args.now)) c.in-Ok-Show.field-0-is c.in-Ok-Show.ensures.command)
-    c.in-Ok-Show.ensures.kinds (omega (arith, most)) (λ two. omega (arith, most, two)) c.show_source.ensures.ran.ran
+    c.in-Ok-Show.ensures.kinds (omega (arith, most)) c.answer_file-in-Ok-Show.ensures.not_wrong_words c.answer_file-in-Ok-Show.ensures.ran.ran
 
 pub returns-in-Ok-NoChoice-clause-ran : goal.returns-in-Ok-NoChoice-clause-ran
 returns-in-Ok-NoChoice-clause-ran g c =

@@ -1,4 +1,4 @@
-use Rattle.std.proofs.Common.{refl, inl}
+use Rattle.std.proofs.Common.{refl, inl, inr}
 use Rattle.host.specs.Requests.{reading_fault}
 use Rattle.host.specs.Requests.Request.{Read, NotRead}
 use Rattle.host.specs.OneFile.StopsFile.{unread, faulty, untold}
@@ -13,42 +13,58 @@ returns-in-Err-clause-ran g c =
     on_host refl refl refl (ran_stopped _ _ _ _ _ c.tell_unread.ensures.status (inl (asks_once _ _ _ (NotRead c.args.file.now fault) (host_fault_text (reading_fault fault)) _
     c.in-Err.ensures.asked.2 (told_as _ _ _ _ _ c.in-Err.ensures.asked.1 c.tell_unread.ensures.told) (unread fault (refl {a = c.args.host.now.out.now})))))
 
-pub returns-in-Err-work-clause-ran : goal.returns-in-Err-work-clause-ran
-returns-in-Err-work-clause-ran g c =
-    let bytes = c.as_slice-bytes.result.now in
-    on_host refl refl refl (ran_stopped _ _ _ _ _ c.tell.ensures.status (inl (asks_once _ _ _ (Read c.args.file.now bytes) (g.C.FileCommand.line c.in-Err-work.fault) _
-    (read_as g.F.Files.answers _ _ _ _ bytes c.as_slice-bytes.ensures.value c.in-Ok.ensures.asked) c.tell.ensures.told
-    (faulty bytes c.in-Err-work.fault c.in-Err-work.ensures.fault refl))))
-
-pub returns-in-Ok-print-clause-ran : goal.returns-in-Ok-print-clause-ran
-returns-in-Ok-print-clause-ran g c =
+pub returns-in-Ok-run-clause-ran : goal.returns-in-Ok-run-clause-ran
+returns-in-Ok-run-clause-ran g c =
     let answers = g.F.Files.answers in
     let bytes = c.as_slice-bytes.result.now in
-    let took = c.in-Ok-print.ensures.took in
+    let took = c.in-Ok-run.ensures.took in
     record {
       same = record { files = refl; out = refl; err = refl };
-      ran = ran_answered _ _ _ _ _ c.in-Ok-print.ensures.neither.0
+      ran = ran_answered _ _ _ _ _ c.status_of.ensures.neither.0
           (record {
             requests = _;
-            printed = took.0;
+            printed = took.took.0;
             asked = asked_once answers _ _ (Read c.args.file.now bytes) (read_as answers _ _ _ _ bytes c.as_slice-bytes.ensures.value c.in-Ok.ensures.asked);
-            took = took.1;
+            took = took.took.1;
             means = record {
               bytes = bytes;
               asked = refl;
-              answer = c.in-Ok-work.answer;
-              answered = c.in-Ok-work.ensures.answer;
-              prints = took.2;
-              ends = c.in-Ok-print.ensures.status;
+              answer = took.answer;
+              answered = took.answered;
+              prints = took.took.2;
+              ends = rw c.status_of.ensures.status took.ends;
             };
           })
-          c.in-Ok-print.ensures.sent
-          (rw c.in-Ok-print.ensures.status c.remark.ensures);
+          c.in-Ok-run.ensures.sent
+          (rw c.status_of.ensures.status c.remark.ensures);
     }
+
+pub returns-in-Err-Faulty-clause-ran : goal.returns-in-Err-Faulty-clause-ran
+returns-in-Err-Faulty-clause-ran g c =
+    let bytes = c.as_slice-bytes.result.now in
+    let broken = rw c.in-Err-Faulty.field-0-is at c.in-Err-Faulty.ensures.broken in
+    on_host refl refl refl (ran_stopped _ _ _ _ _ c.tell.ensures.status (inl (asks_once _ _ _ (Read c.args.file.now bytes) _ _
+    (read_as g.F.Files.answers _ _ _ _ bytes c.as_slice-bytes.ensures.value c.in-Ok.ensures.asked) c.tell.ensures.told
+    (faulty bytes c.in-Err-Faulty.fault broken.0 broken.1))))
+
+pub returns-in-Err-Unprinted-clause-ran : goal.returns-in-Err-Unprinted-clause-ran
+returns-in-Err-Unprinted-clause-ran g c =
+    let bytes = c.as_slice-bytes.result.now in
+    let broken = rw c.in-Err-Unprinted.field-0-is at c.in-Err-Unprinted.ensures.broken in
+    on_host refl refl refl (ran_stopped _ _ _ _ _ c.tell_unprinted.ensures.status (inl (asks_once _ _ _ (Read c.args.file.now bytes) (host_fault_text c.in-Err-Unprinted.fault) _
+    (read_as g.F.Files.answers _ _ _ _ bytes c.as_slice-bytes.ensures.value c.in-Ok.ensures.asked) c.tell_unprinted.ensures.told
+    (untold bytes broken.0.0 broken.0.1 c.in-Err-Unprinted.fault broken.1 broken.2))))
 
 pub returns-clause-ran : goal.returns-clause-ran
 returns-clause-ran g c =
     let bytes = c.as_slice-bytes.result.now in
-    on_host refl refl refl (ran_stopped _ _ _ _ _ c.tell_unprinted.ensures.status (inl (asks_once _ _ _ (Read c.args.file.now bytes) (host_fault_text c.in-Err-print.fault) _
-    (read_as g.F.Files.answers _ _ _ _ bytes c.as_slice-bytes.ensures.value c.in-Ok.ensures.asked) c.tell_unprinted.ensures.told
-    (untold bytes c.in-Ok-work.answer c.in-Ok-work.ensures.answer c.in-Err-print.fault c.in-Err-print.ensures.fault c.in-Err-print.ensures.left))))
+    let broken = rw c.in-Err-Midway.field-0-is at c.in-Err-Midway.ensures.broken in
+    on_host refl refl refl (ran_stopped _ _ _ _ _ c.tell-in-Err-Midway.ensures.status (inr (record {
+      requests = _;
+      printed = broken.1.0;
+      asked = asked_once g.F.Files.answers _ _ (Read c.args.file.now bytes)
+          (read_as g.F.Files.answers _ _ _ _ bytes c.as_slice-bytes.ensures.value c.in-Ok.ensures.asked);
+      took = broken.1.1;
+      told = c.tell-in-Err-Midway.ensures.told;
+      begins = record { bytes = bytes; asked = refl; streams = broken.0; begins = broken.1.2 };
+    })))
