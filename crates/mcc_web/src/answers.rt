@@ -1,20 +1,17 @@
 //! The exports that print what a command prints.
 
 ghost use Rattle.std.specs.Prelude.{◌≡◌, ◌≢◌, true, false};
-ghost use Rattle.driver.specs.Checks.{IsCheckFault};
-ghost use Rattle.image.specs.Images.{IsImageFault};
-ghost use Rattle.mcc_web.specs.Answers.{SaysCheckFault, SaysImageFault, SaysInterpFault, SaysListing, SaysMachine};
-ghost use Rattle.mcc_web.specs.Answers.{SaysReason, SaysRun, SaysStages, SaysStagesFault, SaysVerdict};
+ghost use Rattle.host.specs.declared.numbers.WordForm.TheVariants.{Unsigned};
+ghost use Rattle.driver.specs.CheckCommand.{checking};
+ghost use Rattle.driver.specs.Program.{interpreting, listing_image, showing};
+ghost use Rattle.driver.specs.RunCommand.{running};
+ghost use Rattle.mcc_web.specs.Answers.{SaysAnswer, SaysFaultOf, SaysReason};
 ghost use Rattle.mcc_web.specs.declared.told.TheConstants.{REFUSED};
 
 pub use crate::told::REFUSED;
 use crate::told::{Told, put};
-use driver::{
-    CheckFault, EndLine, EndingLine, check, end_status, ending_status, interp, list_image,
-    print_answer, print_run, run_image, stages, tell_check, tell_interp, tell_stages, wrong_page,
-};
-use host::{WordForm, tell};
-use image::ImageFault;
+use driver::{CheckCommand, ImageCommand, InterpCommand, RunCommand, ShowCommand, wrong_page};
+use host::{BadFile, Broken, FileCommand, WordForm};
 use show::Asked;
 use std::alloc::Global;
 use std::str;
@@ -27,57 +24,30 @@ fn refuse(status: &mut u8) -> usize
     0
 }
 
-/// Gives the host the fault of a check text; the status is 1, unless memory was refused.
-fn give_check_fault(
+/// Gives the host what a command prints of the bytes, or the line of their fault and what is said of it.
+fn give<C: FileCommand>(
     alloc: Global,
-    text: &[u8],
-    fault: CheckFault,
+    command: &C,
+    file: &str,
+    bytes: &[u8],
     out: &mut [u8],
     status: &mut u8,
 ) -> usize
-    requires { IsCheckFault text.now fault }
-    ensures ends { status.new ≢ 1 → status.new ≡ REFUSED }
-    ensures faulty { status.new ≡ 1 → SaysCheckFault text.now result out.old out.new }
+    ensures answered { status.new ≢ 1 → status.new ≢ REFUSED → SaysAnswer (C.meaning command.now) bytes.now status.new result out.old out.new }
+    ensures faulty { status.new ≡ 1 → SaysFaultOf (C.meaning command.now) bytes.now result out.old out.new }
 {
-    let mut told = Told::new(alloc);
-    *status = tell_check(alloc, &mut told, "order.check", text, fault);
-    told.give(out, status)
-}
-
-/// Gives the host the fault of an image; the status is 1, unless memory was refused.
-fn give_image_fault(
-    alloc: Global,
-    image: &[u8],
-    fault: ImageFault,
-    out: &mut [u8],
-    status: &mut u8,
-) -> usize
-    requires { IsImageFault image.now fault }
-    ensures ends { status.new ≢ 1 → status.new ≡ REFUSED }
-    ensures faulty { status.new ≡ 1 → SaysImageFault image.now result out.old out.new }
-{
-    let mut told = Told::new(alloc);
-    *status = tell(&mut told, &fault);
-    told.give(out, status)
-}
-
-/// Gives the host what `mcc check order.check` prints or tells, with `--explain` or without.
-fn give_verdict(alloc: Global, explain: bool, text: &[u8], out: &mut [u8], status: &mut u8) -> usize
-    ensures answered { status.new ≢ 1 → status.new ≢ REFUSED → SaysVerdict explain text.now status.new result out.old out.new }
-    ensures faulty { status.new ≡ 1 → SaysCheckFault text.now result out.old out.new }
-{
-    match check(alloc, text) {
-        Ok(answer) => {
-            let mut printed = Vec::new(alloc);
-            match print_answer(alloc, explain, text, &answer, &mut printed) {
-                Ok(ended) => {
-                    *status = ended;
-                    put(out, printed.as_slice())
-                }
-                Err(_) => refuse(status),
-            }
+    let mut printed = Vec::new(alloc);
+    match command.run(alloc, bytes, &mut printed) {
+        Ok(end) => {
+            *status = command.status_of(&end);
+            put(out, printed.as_slice())
         }
-        Err(fault) => give_check_fault(alloc, text, fault, out, status),
+        Err(Broken::Faulty(fault)) => {
+            let mut told = Told::new(alloc);
+            *status = command.tell(alloc, &BadFile { file, bytes, fault }, &mut told);
+            told.give(out, status)
+        }
+        Err(Broken::Unprinted(_) | Broken::Midway) => refuse(status),
     }
 }
 
@@ -89,10 +59,11 @@ pub extern "C" fn mcc_web_check(
     out: &mut [u8],
     status: &mut u8,
 ) -> usize
-    ensures answered { status.new ≢ 1 → status.new ≢ REFUSED → SaysVerdict false text.now status.new result out.old out.new }
-    ensures faulty { status.new ≡ 1 → SaysCheckFault text.now result out.old out.new }
+    ensures answered { status.new ≢ 1 → status.new ≢ REFUSED → SaysAnswer (checking false) text.now status.new result out.old out.new }
+    ensures faulty { status.new ≡ 1 → SaysFaultOf (checking false) text.now result out.old out.new }
 {
-    give_verdict(alloc, false, text, out, status)
+    let command = CheckCommand { explain: false };
+    give(alloc, &command, "order.check", text, out, status)
 }
 
 /// The verdict, and why it isn't `same`: what `mcc check --explain order.check` prints or tells, and its status.
@@ -103,10 +74,11 @@ pub extern "C" fn mcc_web_explain(
     out: &mut [u8],
     status: &mut u8,
 ) -> usize
-    ensures answered { status.new ≢ 1 → status.new ≢ REFUSED → SaysVerdict true text.now status.new result out.old out.new }
-    ensures faulty { status.new ≡ 1 → SaysCheckFault text.now result out.old out.new }
+    ensures answered { status.new ≢ 1 → status.new ≢ REFUSED → SaysAnswer (checking true) text.now status.new result out.old out.new }
+    ensures faulty { status.new ≡ 1 → SaysFaultOf (checking true) text.now result out.old out.new }
 {
-    give_verdict(alloc, true, text, out, status)
+    let command = CheckCommand { explain: true };
+    give(alloc, &command, "order.check", text, out, status)
 }
 
 /// The run of the C program that the text spells: what `mcc interp program.c` prints or tells, and its status.
@@ -119,31 +91,18 @@ pub extern "C" fn mcc_web_interp(
     out: &mut [u8],
     status: &mut u8,
 ) -> usize
-    ensures answered { status.new ≢ 1 → status.new ≢ REFUSED → SaysRun text.now depth steps status.new result out.old out.new }
-    ensures faulty { status.new ≡ 1 → SaysInterpFault text.now result out.old out.new }
+    ensures answered { status.new ≢ 1 → status.new ≢ REFUSED
+        → SaysAnswer (interpreting depth steps Unsigned false) text.now status.new result out.old out.new }
+    ensures faulty { status.new ≡ 1 → SaysFaultOf (interpreting depth steps Unsigned false) text.now result out.old out.new }
 {
-    match interp(alloc, text, depth, steps) {
-        Ok(ran) => {
-            let mut printed = Vec::new(alloc);
-            match print_run(
-                &mut printed,
-                WordForm::Unsigned,
-                ran.output.as_slice(),
-                &EndLine(ran.end),
-            ) {
-                Ok(()) => {
-                    *status = end_status(ran.end);
-                    put(out, printed.as_slice())
-                }
-                Err(_) => refuse(status),
-            }
-        }
-        Err(fault) => {
-            let mut told = Told::new(alloc);
-            *status = tell_interp(alloc, &mut told, "program.c", text, fault);
-            told.give(out, status)
-        }
-    }
+    let command = InterpCommand {
+        source: "program.c",
+        depth,
+        steps,
+        form: WordForm::Unsigned,
+        count: false,
+    };
+    give(alloc, &command, "program.c", text, out, status)
 }
 
 /// Where and why the run of the C program is wrong: what `mcc interp program.c` tells below `wrong`. The status is `REFUSED`, and
@@ -169,7 +128,7 @@ pub extern "C" fn mcc_web_wrong(
     }
 }
 
-/// What the image does within so many words: what `mcc run` prints or tells, and its status.
+/// What the image does within so many words: what `mcc run program.image` prints or tells, and its status.
 #[unsafe(no_mangle)]
 pub extern "C" fn mcc_web_run(
     alloc: Global,
@@ -178,30 +137,19 @@ pub extern "C" fn mcc_web_run(
     out: &mut [u8],
     status: &mut u8,
 ) -> usize
-    ensures answered { status.new ≢ 1 → status.new ≢ REFUSED → SaysMachine image.now steps status.new result out.old out.new }
-    ensures faulty { status.new ≡ 1 → SaysImageFault image.now result out.old out.new }
+    ensures answered { status.new ≢ 1 → status.new ≢ REFUSED
+        → SaysAnswer (running steps Unsigned false) image.now status.new result out.old out.new }
+    ensures faulty { status.new ≡ 1 → SaysFaultOf (running steps Unsigned false) image.now result out.old out.new }
 {
-    match run_image(alloc, image, steps) {
-        Ok(ran) => {
-            let mut printed = Vec::new(alloc);
-            match print_run(
-                &mut printed,
-                WordForm::Unsigned,
-                ran.output.as_slice(),
-                &EndingLine(ran.end),
-            ) {
-                Ok(()) => {
-                    *status = ending_status(ran.end);
-                    put(out, printed.as_slice())
-                }
-                Err(_) => refuse(status),
-            }
-        }
-        Err(fault) => give_image_fault(alloc, image, fault, out, status),
-    }
+    let command = RunCommand {
+        steps,
+        form: WordForm::Unsigned,
+        count: false,
+    };
+    give(alloc, &command, "program.image", image, out, status)
 }
 
-/// The listing of the image: what `mcc list` prints or tells, and its status.
+/// The listing of the image: what `mcc list program.image` prints or tells, and its status.
 #[unsafe(no_mangle)]
 pub extern "C" fn mcc_web_list(
     alloc: Global,
@@ -209,16 +157,11 @@ pub extern "C" fn mcc_web_list(
     out: &mut [u8],
     status: &mut u8,
 ) -> usize
-    ensures answered { status.new ≢ 1 → status.new ≢ REFUSED → SaysListing image.now status.new result out.old out.new }
-    ensures faulty { status.new ≡ 1 → SaysImageFault image.now result out.old out.new }
+    ensures answered { status.new ≢ 1 → status.new ≢ REFUSED → SaysAnswer (listing_image false) image.now status.new result out.old out.new }
+    ensures faulty { status.new ≡ 1 → SaysFaultOf (listing_image false) image.now result out.old out.new }
 {
-    match list_image(alloc, image) {
-        Ok(text) => {
-            *status = 0;
-            put(out, text.as_bytes())
-        }
-        Err(fault) => give_image_fault(alloc, image, fault, out, status),
-    }
+    let command = ImageCommand { asm: false };
+    give(alloc, &command, "program.image", image, out, status)
 }
 
 /// Returns a name, if there is one. What isn't UTF-8 is no name of anything.
@@ -241,8 +184,8 @@ pub extern "C" fn mcc_web_show(
     out: &mut [u8],
     status: &mut u8,
 ) -> usize
-    ensures answered { status.new ≢ 1 → status.new ≢ REFUSED → SaysStages text.now status.new result out.old out.new }
-    ensures faulty { status.new ≡ 1 → SaysStagesFault text.now result out.old out.new }
+    ensures answered { status.new ≢ 1 → status.new ≢ REFUSED → SaysAnswer showing text.now status.new result out.old out.new }
+    ensures faulty { status.new ≡ 1 → SaysFaultOf showing text.now result out.old out.new }
 {
     let asked = Asked {
         stage: name_of(stage),
@@ -250,15 +193,12 @@ pub extern "C" fn mcc_web_show(
         block: None,
         dot: false,
     };
-    match stages(alloc, text, &asked) {
-        Ok(page) => {
-            *status = 0;
-            put(out, page.bytes())
-        }
-        Err(fault) => {
-            let mut told = Told::new(alloc);
-            *status = tell_stages(alloc, &mut told, "program.c", text, fault);
-            told.give(out, status)
-        }
-    }
+    give(
+        alloc,
+        &ShowCommand { asked },
+        "program.c",
+        text,
+        out,
+        status,
+    )
 }
