@@ -3,12 +3,12 @@ pub mod Fitting
 pub mod Going
 pub mod Fronts
 pub mod Limits
-pub mod Shapes
 pub mod Decimals
 pub mod Finding
 pub mod Numbers
 pub mod Pieces
 pub mod Once
+pub mod Signs
 pub mod Beginning
 pub mod Placing
 pub mod Marks

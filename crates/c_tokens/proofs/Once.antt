@@ -1,125 +1,81 @@
 -- A text has its tokens once.
-use Rattle.std.proofs.Common.{◌≡◌, ◌+◌, ℕ, List, ◌∷◌, drop, Bool, true, false, refl, sym, ap, subst, ◌∙◌}
+use Rattle.std.proofs.Common.{◌≡◌, ◌+◌, ℕ, List, [], ◌∷◌, drop, Bool, true, false, refl, sym, ap, subst, ◌∙◌}
 use Rattle.c_tokens.specs.declared.token.Token.{Token}
 use Rattle.c_tokens.specs.declared.lexer.Step.{Step}
 use Rattle.c_tokens.specs.declared.lexer.Step.TheVariants.{Done, Skip, Take, Stop}
 use Rattle.c_tokens.specs.Texts.{IsStep, step_of, is_oversize, Lexes, lexes_end, lexes_skip, lexes_take, LexStops, stops_here, stops_size, stops_skip}
 use Rattle.c_tokens.specs.Texts.{stops_take}
 use Rattle.c_tokens.specs.declared.fault.Refusal.{Refusal}
+use Rattle.c_tokens.specs.declared.fault.Refusal.TheVariants.{BadSize}
 use Rattle.c_tokens.proofs.Pieces.{next-once}
 
-pub step-once : (at : ℕ) (bs : List ℕ) (s t : Step) → IsStep at bs s → IsStep at bs t → s ≡ t
-step-once at bs s t p q = p.step ∙ ap (step_of at) (next-once bs p.lexeme q.lexeme p.next q.next) ∙ sym q.step
-
-pub done-skip : (n : ℕ) → Done ≡ Skip n → ⊥
-done-skip n e = cc
-
-pub done-take : (t : Token) (n : ℕ) → Done ≡ Take t n → ⊥
-done-take t n e = cc
-
-pub skip-take : (t : Token) (n m : ℕ) → Skip m ≡ Take t n → ⊥
-skip-take t n m e = cc
-
-pub skip-same : (n m : ℕ) → Skip n ≡ Skip m → n ≡ m
-skip-same n m e = cc
-
-take-token : (t u : Token) (n m : ℕ) → Take t n ≡ Take u m → t ≡ u
-take-token t u n m e = cc
-
-pub take-length : (t u : Token) (n m : ℕ) → Take t n ≡ Take u m → n ≡ m
-take-length t u n m e = cc
-
-pub lexes-once : {at : ℕ} {bs : List ℕ} {before tokens : List Token} {places : List ℕ} → Lexes at bs before tokens places →
-    (others : List Token) (there : List ℕ) → Lexes at bs before others there → (tokens ≡ others) × (places ≡ there)
-lexes-once {at = at} {bs = bs} (lexes_end e) others there (lexes_end f) = (refl, refl)
-lexes-once {at = at} {bs = bs} (lexes_end e) others there (lexes_skip {n = m} f d) = absurd (done-skip m (step-once at bs _ _ e f))
-lexes-once {at = at} {bs = bs} (lexes_end e) _ _ (lexes_take {n = m} {t = u} f k d) = absurd (done-take u m (step-once at bs _ _ e f))
-lexes-once {at = at} {bs = bs} (lexes_skip {n = n} e c) others there (lexes_end f) = absurd (done-skip n (step-once at bs _ _ f e))
-lexes-once {at = at} {bs = bs} {before = before} (lexes_skip {n = n} e c) others there (lexes_skip {n = m} f d) =
-    let P : ℕ → Type 0 = λ x. Lexes (at + x) (drop x bs) before others there in
-    lexes-once c others there (subst P (sym (skip-same n m (step-once at bs _ _ e f))) d)
-lexes-once {at = at} {bs = bs} (lexes_skip {n = n} e c) _ _ (lexes_take {n = m} {t = u} f k d) = absurd (skip-take u m n (step-once at bs _ _ e f))
-lexes-once {at = at} {bs = bs} (lexes_take {n = n} {t = t} e h c) others there (lexes_end f) = absurd (done-take t n (step-once at bs _ _ f e))
-lexes-once {at = at} {bs = bs} (lexes_take {n = n} {t = t} e h c) others there (lexes_skip {n = m} f d) = absurd (skip-take t n m (step-once at bs _ _ f e))
-lexes-once {at = at} {bs = bs} {before = before} (lexes_take {n = n} {tokens = ts} {t = t} e h c) _ _
-    (lexes_take {n = m} {places = ks} {tokens = us} {t = u} f k d) =
-    let same = step-once at bs _ _ e f in
-    let q : t ≡ u = take-token t u n m same in
-    let P : ℕ → Type 0 = λ x. Lexes (at + x) (drop x bs) (u ∷ before) us ks in
-    let Q : Token → Type 0 = λ x. Lexes (at + n) (drop n bs) (x ∷ before) us ks in
-    let r = lexes-once c us ks (subst Q (sym q) (subst P (sym (take-length t u n m same)) d)) in
-    (ap (λ (x : Token). x ∷ ts) q ∙ ap (λ (x : List Token). u ∷ x) r.0, ap (λ (x : List ℕ). at ∷ x) r.1)
-
-stop-done : (r : Refusal) (k : ℕ) → Stop r k ≡ Done → ⊥
-stop-done r k e = cc
-
-stop-skip : (r : Refusal) (k n : ℕ) → Stop r k ≡ Skip n → ⊥
-stop-skip r k n e = cc
-
-stop-take : (r : Refusal) (k n : ℕ) (t : Token) → Stop r k ≡ Take t n → ⊥
-stop-take r k n t e = cc
+step-once : {at : ℕ} {bs : List ℕ} {s t : Step} → IsStep at bs s → IsStep at bs t → s ≡ t
+step-once {at} {bs} p q = p.step ∙ ap (step_of at) (next-once bs p.lexeme q.lexeme p.next q.next) ∙ sym q.step
 
 true-false : {x : Bool} → x ≡ true → x ≡ false → ⊥
 true-false e f = cc
 
+-- the tokens and places where a step takes one
+pub record Taken (t : Token) (n at : ℕ) (bs : List ℕ) (before tokens : List Token) (places : List ℕ) : Type 0 where
+  pub more : List Token
+  pub there : List ℕ
+  pub tokens_are : tokens ≡ t ∷ more
+  pub places_are : places ≡ at ∷ there
+  pub size : is_oversize (t ∷ before) ≡ false
+  pub rest : Lexes (at + n) (drop n bs) (t ∷ before) more there
+
+-- what is known of tokens and places, by the first step
+abbrev pub LexesBy : Step → ℕ → List ℕ → List Token → List Token → List ℕ → Type 0
+LexesBy Done at bs before tokens places = (tokens ≡ []) × (places ≡ [])
+LexesBy (Skip n) at bs before tokens places = Lexes (at + n) (drop n bs) before tokens places
+LexesBy (Take t n) at bs before tokens places = Taken t n at bs before tokens places
+LexesBy (Stop r k) at bs before tokens places = ⊥
+
+pub lexes-by : {at : ℕ} {bs places : List ℕ} {before tokens : List Token} {s : Step} → Lexes at bs before tokens places → IsStep at bs s
+    → LexesBy s at bs before tokens places
+lexes-by {at} {bs} {before = before} (lexes_end e) f = subst (λ (x : Step). LexesBy x at bs before [] []) (step-once e f) (refl, refl)
+lexes-by {at} {bs} {places} {before} {tokens} (lexes_skip e d) f = subst (λ (x : Step). LexesBy x at bs before tokens places) (step-once e f) d
+lexes-by {at} {bs} {before = before} (lexes_take {places = ks} {tokens = ts} {t = t} e h d) f =
+    subst (λ (x : Step). LexesBy x at bs before (t ∷ ts) (at ∷ ks)) (step-once e f)
+    (record { more = ts; there = ks; tokens_are = refl; places_are = refl; size = h; rest = d })
+
+pub lexes-once : {at : ℕ} {bs : List ℕ} {before tokens : List Token} {places : List ℕ} → Lexes at bs before tokens places →
+    (others : List Token) (there : List ℕ) → Lexes at bs before others there → (tokens ≡ others) × (places ≡ there)
+lexes-once (lexes_end e) others there d = let r = lexes-by d e in (sym r.0, sym r.1)
+lexes-once (lexes_skip e c) others there d = lexes-once c others there (lexes-by d e)
+lexes-once {at = at} (lexes_take {t = t} e h c) others there d =
+    let r = lexes-by d e in
+    let w = lexes-once c r.more r.there r.rest in
+    (ap (λ (x : List Token). t ∷ x) w.0 ∙ sym r.tokens_are, ap (λ (x : List ℕ). at ∷ x) w.1 ∙ sym r.places_are)
+
 -- a text that is refused has no tokens
 pub never-lexes : {at : ℕ} {bs : List ℕ} {before : List Token} {r : Refusal} {k : ℕ} → LexStops at bs before r k → (tokens : List Token) (places : List ℕ)
     → Lexes at bs before tokens places → ⊥
-never-lexes {at = at} {bs = bs} (stops_here {k = k} {r = r} e) ts ks (lexes_end f) = stop-done r k (step-once at bs _ _ e f)
-never-lexes {at = at} {bs = bs} (stops_here {k = k} {r = r} e) ts ks (lexes_skip {n = m} f d) = stop-skip r k m (step-once at bs _ _ e f)
-never-lexes {at = at} {bs = bs} (stops_here {k = k} {r = r} e) _ _ (lexes_take {n = m} {t = u} f h d) = stop-take r k m u (step-once at bs _ _ e f)
-never-lexes {at = at} {bs = bs} (stops_size {n = n} {t = t} e h) ts ks (lexes_end f) = done-take t n (step-once at bs _ _ f e)
-never-lexes {at = at} {bs = bs} (stops_size {n = n} {t = t} e h) ts ks (lexes_skip {n = m} f d) = skip-take t n m (step-once at bs _ _ f e)
-never-lexes {at = at} {bs = bs} {before = before} (stops_size {n = n} {t = t} e h) _ _ (lexes_take {n = m} {t = u} f k d) =
-    let q : t ≡ u = take-token t u n m (step-once at bs _ _ e f) in
-    true-false (ap (λ (x : Token). is_oversize (x ∷ before)) (sym q) ∙ h) k
-never-lexes {at = at} {bs = bs} (stops_skip {n = n} e s) ts ks (lexes_end f) = done-skip n (step-once at bs _ _ f e)
-never-lexes {at = at} {bs = bs} {before = before} (stops_skip {n = n} e s) ts ks (lexes_skip {n = m} f d) =
-    let P : ℕ → Type 0 = λ x. Lexes (at + x) (drop x bs) before ts ks in
-    never-lexes s ts ks (subst P (sym (skip-same n m (step-once at bs _ _ e f))) d)
-never-lexes {at = at} {bs = bs} (stops_skip {n = n} e s) _ _ (lexes_take {n = m} {t = u} f k d) = skip-take u m n (step-once at bs _ _ e f)
-never-lexes {at = at} {bs = bs} (stops_take {n = n} {t = t} e h s) ts ks (lexes_end f) = done-take t n (step-once at bs _ _ f e)
-never-lexes {at = at} {bs = bs} (stops_take {n = n} {t = t} e h s) ts ks (lexes_skip {n = m} f d) = skip-take t n m (step-once at bs _ _ f e)
-never-lexes {at = at} {bs = bs} {before = before} (stops_take {n = n} {t = t} e h s) _ _ (lexes_take {n = m} {places = ks} {tokens = us} {t = u} f k d) =
-    let same = step-once at bs _ _ e f in
-    let P : ℕ → Type 0 = λ x. Lexes (at + x) (drop x bs) (u ∷ before) us ks in
-    let Q : Token → Type 0 = λ x. Lexes (at + n) (drop n bs) (x ∷ before) us ks in
-    never-lexes s us ks (subst Q (sym (take-token t u n m same)) (subst P (sym (take-length t u n m same)) d))
+never-lexes (stops_here e) ts ks d = lexes-by d e
+never-lexes (stops_size e h) ts ks d = true-false h (lexes-by d e).size
+never-lexes (stops_skip e s) ts ks d = never-lexes s ts ks (lexes-by d e)
+never-lexes (stops_take e h s) ts ks d = let r = lexes-by d e in never-lexes s r.more r.there r.rest
 
-stop-refusal : (r q : Refusal) (k m : ℕ) → Stop r k ≡ Stop q m → r ≡ q
-stop-refusal r q k m e = cc
+-- what is known of a refusal, by the first step
+abbrev StopsBy : Step → ℕ → List ℕ → List Token → Refusal → ℕ → Type 0
+StopsBy Done at bs before r k = ⊥
+StopsBy (Skip n) at bs before r k = LexStops (at + n) (drop n bs) before r k
+StopsBy (Take t n) at bs before r k = (is_oversize (t ∷ before) ≡ true → (r ≡ BadSize) × (k ≡ at))
+    × (is_oversize (t ∷ before) ≡ false → LexStops (at + n) (drop n bs) (t ∷ before) r k)
+StopsBy (Stop q j) at bs before r k = (r ≡ q) × (k ≡ at + j)
 
-stop-distance : (r q : Refusal) (k m : ℕ) → Stop r k ≡ Stop q m → k ≡ m
-stop-distance r q k m e = cc
+stops-by : {at k : ℕ} {bs : List ℕ} {before : List Token} {r : Refusal} {s : Step} → LexStops at bs before r k → IsStep at bs s → StopsBy s at bs before r k
+stops-by {at} {bs = bs} {before = before} (stops_here {k = k} {r = r} e) f = subst (λ (x : Step). StopsBy x at bs before r (at + k)) (step-once e f) (refl, refl)
+stops-by {at} {bs = bs} {before = before} (stops_size e h) f =
+    subst (λ (x : Step). StopsBy x at bs before BadSize at) (step-once e f) (λ g. (refl, refl), λ g. absurd (true-false h g))
+stops-by {at} {k} {bs} {before} {r} (stops_skip e d) f = subst (λ (x : Step). StopsBy x at bs before r k) (step-once e f) d
+stops-by {at} {k} {bs} {before} {r} (stops_take e h d) f =
+    subst (λ (x : Step). StopsBy x at bs before r k) (step-once e f) (λ g. absurd (true-false g h), λ g. d)
 
 -- a text is refused for one reason at one place
 pub stops-once : {at : ℕ} {bs : List ℕ} {before : List Token} {r : Refusal} {k : ℕ} → LexStops at bs before r k → (q : Refusal) (j : ℕ)
     → LexStops at bs before q j → (r ≡ q) × (k ≡ j)
-stops-once {at = at} {bs = bs} (stops_here {k = k} {r = r} e) _ _ (stops_here {k = m} {r = q} f) =
-    let same = step-once at bs _ _ e f in
-    (stop-refusal r q k m same, ap (λ (x : ℕ). at + x) (stop-distance r q k m same))
-stops-once {at = at} {bs = bs} (stops_here {k = k} {r = r} e) _ _ (stops_size {n = m} {t = u} f h) = absurd (stop-take r k m u (step-once at bs _ _ e f))
-stops-once {at = at} {bs = bs} (stops_here {k = k} {r = r} e) _ _ (stops_skip {n = m} f d) = absurd (stop-skip r k m (step-once at bs _ _ e f))
-stops-once {at = at} {bs = bs} (stops_here {k = k} {r = r} e) _ _ (stops_take {n = m} {t = u} f h d) = absurd (stop-take r k m u (step-once at bs _ _ e f))
-stops-once {at = at} {bs = bs} (stops_size {n = n} {t = t} e h) _ _ (stops_here {k = k} {r = q} f) = absurd (stop-take q k n t (step-once at bs _ _ f e))
-stops-once (stops_size e h) _ _ (stops_size f i) = (refl, refl)
-stops-once {at = at} {bs = bs} (stops_size {n = n} {t = t} e h) _ _ (stops_skip {n = m} f d) = absurd (skip-take t n m (step-once at bs _ _ f e))
-stops-once {at = at} {bs = bs} {before = before} (stops_size {n = n} {t = t} e h) _ _ (stops_take {n = m} {t = u} f i d) =
-    let q : t ≡ u = take-token t u n m (step-once at bs _ _ e f) in
-    absurd (true-false (ap (λ (x : Token). is_oversize (x ∷ before)) (sym q) ∙ h) i)
-stops-once {at = at} {bs = bs} (stops_skip {n = n} e c) _ _ (stops_here {k = k} {r = q} f) = absurd (stop-skip q k n (step-once at bs _ _ f e))
-stops-once {at = at} {bs = bs} (stops_skip {n = n} e c) _ _ (stops_size {n = m} {t = u} f h) = absurd (skip-take u m n (step-once at bs _ _ e f))
-stops-once {at = at} {bs = bs} {before = before} (stops_skip {n = n} e c) _ _ (stops_skip {n = m} {k = j} {r = q} f d) =
-    let P : ℕ → Type 0 = λ x. LexStops (at + x) (drop x bs) before q j in
-    stops-once c q j (subst P (sym (skip-same n m (step-once at bs _ _ e f))) d)
-stops-once {at = at} {bs = bs} (stops_skip {n = n} e c) _ _ (stops_take {n = m} {t = u} f h d) = absurd (skip-take u m n (step-once at bs _ _ e f))
-stops-once {at = at} {bs = bs} (stops_take {n = n} {t = t} e h c) _ _ (stops_here {k = k} {r = q} f) = absurd (stop-take q k n t (step-once at bs _ _ f e))
-stops-once {at = at} {bs = bs} {before = before} (stops_take {n = n} {t = t} e h c) _ _ (stops_size {n = m} {t = u} f i) =
-    let q : t ≡ u = take-token t u n m (step-once at bs _ _ e f) in
-    absurd (true-false (ap (λ (x : Token). is_oversize (x ∷ before)) q ∙ i) h)
-stops-once {at = at} {bs = bs} (stops_take {n = n} {t = t} e h c) _ _ (stops_skip {n = m} f d) = absurd (skip-take t n m (step-once at bs _ _ f e))
-stops-once {at = at} {bs = bs} {before = before} (stops_take {n = n} {t = t} e h c) _ _ (stops_take {n = m} {k = j} {r = q} {t = u} f i d) =
-    let same = step-once at bs _ _ e f in
-    let P : ℕ → Type 0 = λ x. LexStops (at + x) (drop x bs) (u ∷ before) q j in
-    let Q : Token → Type 0 = λ x. LexStops (at + n) (drop n bs) (x ∷ before) q j in
-    stops-once c q j (subst Q (sym (take-token t u n m same)) (subst P (sym (take-length t u n m same)) d))
+stops-once (stops_here e) q j d = let w = stops-by d e in (sym w.0, sym w.1)
+stops-once (stops_size e h) q j d = let w = (stops-by d e).0 h in (sym w.0, sym w.1)
+stops-once (stops_skip e c) q j d = stops-once c q j (stops-by d e)
+stops-once (stops_take e h c) q j d = stops-once c q j ((stops-by d e).1 h)

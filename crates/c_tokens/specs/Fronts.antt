@@ -1,12 +1,13 @@
 -- How the front of a text is cut: the words of the private functions, which find the longest piece.
-use Rattle.std.specs.Prelude.{◌≡◌, ◌≤◌, ◌+◌, ℕ, suc, List, [], ◌∷◌, length, drop, take, Bool, true, false, nat_eq, nat_lt, if◌then◌else◌, ◌||◌, Option}
+use Rattle.std.specs.Prelude.{◌≡◌, ◌≤◌, ◌+◌, ℕ, suc, List, [], ◌∷◌, length, drop, take, Bool, true, false, nat_eq, if◌then◌else◌, Option}
 use Rattle.std.specs.Prelude.{Some, None, codes}
 use Rattle.c_tokens.specs.declared.token.Mark.{Mark}
 use Rattle.c_tokens.specs.declared.lexer.Lexeme.{Lexeme}
 use Rattle.c_tokens.specs.declared.lexer.Lexeme.TheVariants.{End, Separator, Sign, Refused}
-use Rattle.c_tokens.specs.Lexing.{is_space, is_letter, is_digit, is_word, is_exponent, goes_on, is_front, comment_length, escape_at, signs}
+use Rattle.c_tokens.specs.Lexing.{is_space, is_letter, is_digit, is_word, is_exponent, goes_on, is_front, comment_length, signs}
 use Rattle.c_tokens.specs.Lexing.{keywords}
-use Rattle.c_tokens.specs.Lexing.{word_lexeme}
+use Rattle.c_tokens.specs.Lexing.{entry_in, word_lexeme}
+use Rattle.c_tokens.specs.Pieces.{comment_piece}
 use Rattle.c_tokens.specs.Digits.{constant_lexeme, digits_of, is_suffix, last_or}
 
 abbrev pub blank_length : List ℕ → ℕ
@@ -26,51 +27,54 @@ abbrev pub line_length : List ℕ → ℕ
 line_length [] = 0
 line_length (b ∷ bs) = if nat_eq b 10 then 0 else suc (line_length bs)
 
--- the spellings that may stand at the front of bytes that begin with a byte
+-- the words of a table that begin with a byte
 abbrev pub may_begin : ℕ → List ℕ → Bool
 may_begin b [] = true
 may_begin b (a ∷ more) = nat_eq a b
 
+abbrev pub kept_if : {A : Type 0} → Bool → A → List A → List A
+kept_if true e es = e ∷ es
+kept_if false e es = es
+
 abbrev pub beginning : {A : Type 0} → ℕ → List (List ℕ × A) → List (List ℕ × A)
 beginning b [] = []
-beginning b (e ∷ es) = if may_begin b e.0 then e ∷ beginning b es else beginning b es
+beginning b (e ∷ es) = kept_if (may_begin b e.0) e (beginning b es)
 
-abbrev pub longer : List ℕ × Option Mark → Option (List ℕ × Option Mark) → List ℕ × Option Mark
-longer e None = e
-longer e (Some f) = if nat_lt (length e.0) (length f.0) then f else e
+-- the mark of a spelling, if it has one that is in use
+abbrev pub mark_of : Option (Option Mark) → Option Mark
+mark_of None = None
+mark_of (Some m) = m
 
--- the longest spelling that the bytes begin with
-abbrev pub longest : List (List ℕ × Option Mark) → List ℕ → Option (List ℕ × Option Mark)
-longest [] bs = None
-longest (e ∷ es) bs = if is_front e.0 bs then Some (longer e (longest es bs)) else longest es bs
+-- the mark of a spelling and its length, or else what is given; None where it is not in use
+abbrev pub spelled_or : Option (Mark × ℕ) → ℕ → Option (Option Mark) → Option (Mark × ℕ)
+spelled_or other n None = other
+spelled_or other n (Some None) = None
+spelled_or other n (Some (Some m)) = Some (m, n)
 
--- the second bytes of spellings
-abbrev pub is_second : ℕ → Bool
-is_second b = nat_eq b 61 || nat_eq b 124 || nat_eq b 38 || nat_eq b 60 || nat_eq b 62 || nat_eq b 43 || nat_eq b 45 || nat_eq b 46
-    || nat_eq b 35 || nat_eq b 63
+-- those of the longest spelling at the front, which has three bytes at most
+abbrev pub sign_of : List ℕ → Option (Mark × ℕ)
+sign_of [] = None
+sign_of (a ∷ bs) = spelled_or (spelled_or (spelled_or None 1 (entry_in signs (a ∷ []))) (length (take 2 (a ∷ bs))) (entry_in signs (take 2 (a ∷ bs))))
+    (length (take 3 (a ∷ bs))) (entry_in signs (take 3 (a ∷ bs)))
 
--- a longer spelling may go on with these bytes
-abbrev pub may_continue : List ℕ → Bool
-may_continue [] = false
-may_continue (b ∷ bs) = is_second b
-
-abbrev pub sign_lexeme : Option (List ℕ × Option Mark) → Lexeme
+abbrev pub sign_lexeme : Option (Mark × ℕ) → Lexeme
 sign_lexeme None = Refused 0
-sign_lexeme (Some e) = elim e.1 [ None ↦ Refused 0 | Some m ↦ Sign m (length e.0) ]
+sign_lexeme (Some s) = Sign s.0 s.1
+
+-- a comment whose bytes after the first two are these
+abbrev pub ended_lexeme : ℕ → List ℕ → Lexeme
+ended_lexeme n bs = comment_piece (n + 2) (take n bs)
 
 abbrev pub comment_lexeme : Option ℕ → List ℕ → Lexeme
 comment_lexeme None bs = Refused 0
-comment_lexeme (Some n) bs = elim (escape_at (take n bs)) [ None ↦ Separator (n + 2) | Some k ↦ Refused (k + 2) ]
-
-abbrev pub line_lexeme : ℕ → List ℕ → Lexeme
-line_lexeme n bs = elim (escape_at (take n bs)) [ None ↦ Separator (n + 2) | Some k ↦ Refused (k + 2) ]
+comment_lexeme (Some n) bs = ended_lexeme n bs
 
 -- what stands at the front of the bytes, where no white space and no word does, or also no number, or also no comment
 abbrev pub sign_at : ℕ → List ℕ → Lexeme
-sign_at b bs = sign_lexeme (longest signs (b ∷ bs))
+sign_at b bs = sign_lexeme (sign_of (b ∷ bs))
 
 abbrev pub line_at : ℕ → List ℕ → Lexeme
-line_at b bs = if is_front (codes "//") (b ∷ bs) then line_lexeme (line_length (drop 1 bs)) (drop 1 bs) else sign_at b bs
+line_at b bs = if is_front (codes "//") (b ∷ bs) then ended_lexeme (line_length (drop 1 bs)) (drop 1 bs) else sign_at b bs
 
 abbrev pub comment_at : ℕ → List ℕ → Lexeme
 comment_at b bs = if is_front (codes "/*") (b ∷ bs) then comment_lexeme (comment_length (drop 1 bs)) (drop 1 bs) else line_at b bs
@@ -79,7 +83,7 @@ abbrev pub constant_at : ℕ → List ℕ → Lexeme
 constant_at b bs = if is_digit b then constant_lexeme (take (run_length false (b ∷ bs)) (b ∷ bs)) else comment_at b bs
 
 abbrev pub word_at : ℕ → List ℕ → Lexeme
-word_at b bs = if is_letter b then word_lexeme keywords (take (word_length (b ∷ bs)) (b ∷ bs)) else constant_at b bs
+word_at b bs = if is_letter b then word_lexeme (entry_in keywords (take (word_length (b ∷ bs)) (b ∷ bs))) (word_length (b ∷ bs)) else constant_at b bs
 
 -- what stands at the front of the bytes
 abbrev pub lexeme_of : List ℕ → Lexeme

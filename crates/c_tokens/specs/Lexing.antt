@@ -1,5 +1,5 @@
 -- The classes of bytes, and the tables of operators and keywords (C99 6.4.1, 6.4.6).
-use Rattle.std.specs.Prelude.{ℕ, suc, List, [], ◌∷◌, length, Bool, true, false, nat_eq, nat_le, ◌&&◌, ◌||◌, if◌then◌else◌, Option, Some}
+use Rattle.std.specs.Prelude.{ℕ, suc, List, [], ◌∷◌, Bool, true, false, nat_eq, nat_le, ◌&&◌, ◌||◌, if◌then◌else◌, Option, Some}
 use Rattle.std.specs.Prelude.{None, codes}
 use Rattle.c_tokens.specs.declared.token.JumpWord.TheVariants.{Break, Continue, Return}
 use Rattle.c_tokens.specs.declared.token.Mark.{Mark}
@@ -92,13 +92,16 @@ abbrev pub same_bytes : List ℕ → List ℕ → Bool
 same_bytes [] [] = true
 same_bytes [] (b ∷ bs) = false
 same_bytes (a ∷ more) [] = false
-same_bytes (a ∷ more) (b ∷ bs) = nat_eq a b && same_bytes more bs
+same_bytes (a ∷ more) (b ∷ bs) = same_bytes more bs && nat_eq a b
 
-abbrev pub keyword_lexeme : Reserved → ℕ → Lexeme
-keyword_lexeme (Marked m) n = Sign m n
-keyword_lexeme (Jumping w) n = Leap w n
-keyword_lexeme Unused n = Refused 0
+-- what a table has for some bytes
+abbrev pub entry_in : {A : Type 0} → List (List ℕ × A) → List ℕ → Option A
+entry_in [] o = None
+entry_in (e ∷ es) o = if same_bytes e.0 o then Some e.1 else entry_in es o
 
-abbrev pub word_lexeme : List (List ℕ × Reserved) → List ℕ → Lexeme
-word_lexeme [] word = Word (length word)
-word_lexeme (k ∷ ks) word = if same_bytes k.0 word then keyword_lexeme k.1 (length word) else word_lexeme ks word
+-- a word of some bytes, by what it is among the keywords
+abbrev pub word_lexeme : Option Reserved → ℕ → Lexeme
+word_lexeme None n = Word n
+word_lexeme (Some (Marked m)) n = Sign m n
+word_lexeme (Some (Jumping w)) n = Leap w n
+word_lexeme (Some Unused) n = Refused 0

@@ -4,7 +4,6 @@ pub mod Pieces
 pub mod Digits
 pub mod Fronts
 pub mod Texts
-pub mod Spellings
 pub mod Keywords
 pub mod Messages
 pub mod Numbers

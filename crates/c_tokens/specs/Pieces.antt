@@ -1,12 +1,12 @@
 -- The pieces that a text consists of (C99 6.4), and which of them stands at its front: the longest.
-use Rattle.std.specs.Prelude.{◌≡◌, ◌+◌, ◌<◌, ◌≤◌, ℕ, List, [], ◌∷◌, length, take, Bool, true, false, nat_eq, if◌then◌else◌, Option, Some}
+use Rattle.std.specs.Prelude.{◌≡◌, ◌+◌, ◌<◌, ◌≤◌, ℕ, List, [], ◌∷◌, length, take, Bool, true, false, nat_eq, Some}
 use Rattle.std.specs.Prelude.{None, codes}
 use Rattle.c_tokens.specs.declared.token.Mark.{Mark}
 use Rattle.c_tokens.specs.declared.token.Literal.{Literal}
 use Rattle.c_tokens.specs.declared.lexer.Lexeme.{Lexeme}
 use Rattle.c_tokens.specs.declared.lexer.Lexeme.TheVariants.{End, Separator, Numeral, Sign, Refused, NoConstant}
-use Rattle.c_tokens.specs.Lexing.{is_space, is_letter, is_digit, is_word, goes_on, is_exponent, is_front, same_bytes, signs, keywords}
-use Rattle.c_tokens.specs.Lexing.{word_lexeme, escape_at}
+use Rattle.c_tokens.specs.Lexing.{is_space, is_letter, is_digit, is_word, goes_on, is_exponent, is_front, signs, keywords}
+use Rattle.c_tokens.specs.Lexing.{entry_in, word_lexeme, escape_at}
 use Rattle.c_tokens.specs.Constants.{IsConstant}
 
 -- letters, digits and `_`
@@ -34,11 +34,6 @@ pub data IsClosed : List ℕ → Type 0 where
   closed_here : IsClosed (codes "*/")
   closed_later : {b : ℕ} {bs : List ℕ} → is_front (codes "*/") (b ∷ bs) ≡ false → IsClosed bs → IsClosed (b ∷ bs)
 
--- what a table has for some bytes
-abbrev pub entry_in : List (List ℕ × Option Mark) → List ℕ → Option (Option Mark)
-entry_in [] o = None
-entry_in (e ∷ es) o = if same_bytes e.0 o then Some e.1 else entry_in es o
-
 -- a comment is a separator, and refused where a backslash or two question marks in a row stand in it
 abbrev pub comment_piece : ℕ → List ℕ → Lexeme
 comment_piece n inside = elim (escape_at inside) [ None ↦ Separator n | Some k ↦ Refused (k + 2) ]
@@ -46,7 +41,7 @@ comment_piece n inside = elim (escape_at inside) [ None ↦ Separator n | Some k
 -- the pieces, and what each of them is. A comment that isn't closed is a piece too, and so is a byte that begins no other
 pub data IsPiece : List ℕ → Lexeme → Type 0 where
   a_space : {b : ℕ} → is_space b ≡ true → IsPiece (b ∷ []) (Separator 1)
-  a_word : {b : ℕ} {bs : List ℕ} → is_letter b ≡ true → IsWord bs → IsPiece (b ∷ bs) (word_lexeme keywords (b ∷ bs))
+  a_word : {b : ℕ} {bs : List ℕ} → is_letter b ≡ true → IsWord bs → IsPiece (b ∷ bs) (word_lexeme (entry_in keywords (b ∷ bs)) (length (b ∷ bs)))
   a_constant : {b : ℕ} {bs : List ℕ} {c : Literal} → is_digit b ≡ true → IsRun false (b ∷ bs) → IsConstant (b ∷ bs) c
       → IsPiece (b ∷ bs) (Numeral c (length (b ∷ bs)))
   no_constant : {b : ℕ} {bs : List ℕ} → is_digit b ≡ true → IsRun false (b ∷ bs) → ((c : Literal) → IsConstant (b ∷ bs) c → ⊥)

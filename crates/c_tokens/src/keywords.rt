@@ -1,12 +1,12 @@
 //! Words that are no identifiers: the keywords in use, and those that are refused (C99 6.4.1).
 ghost use Rattle.std.specs.Prelude.{◌≡◌, ◌<◌, length, take, map};
-ghost use Rattle.c_tokens.specs.Lexing.{word_lexeme, keyword_lexeme, keywords};
+ghost use Rattle.c_tokens.specs.Lexing.{entry_in, word_lexeme, keywords};
 ghost use Rattle.c_tokens.specs.Fronts.{beginning, word_length};
 ghost use Rattle.c_tokens.specs.Keywords.{keyword_of};
 ghost use Rattle.c_tokens.specs.Texts.{Fits};
 
 use crate::lexer::Lexeme;
-use crate::scan::{split, word_length};
+use crate::scan::word_length;
 use crate::token::{JumpWord, Mark};
 
 /// What a keyword is: a mark, a word that leaves a place in the tree, or not in use.
@@ -52,44 +52,48 @@ fn beginning(first: u8) -> &'static [Keyword]
     }
 }
 
-fn lexeme_of_keyword(word: Reserved, length: usize) -> Lexeme
-    ensures { result ≡ keyword_lexeme word length }
+/// Returns what a table has for a word.
+fn look_up(table: &[Keyword], word: &[u8]) -> Option<Reserved>
+    ensures { result ≡ entry_in (map keyword_of table.now) word.now }
 {
-    match word {
-        Reserved::Marked(mark) => Lexeme::Sign(mark, length),
-        Reserved::Jumping(jump) => Lexeme::Leap(jump, length),
-        Reserved::Unused => Lexeme::Refused(0),
-    }
-}
-
-fn look_up(table: &[Keyword], word: &[u8]) -> Lexeme
-    ensures { result ≡ word_lexeme (map keyword_of table.now) word.now }
-{
-    let mut found = Lexeme::Word(word.len());
-    let mut i = table.len();
-    'table: while i > 0 {
-        i -= 1;
-        let entry = table[i];
+    for entry in table {
         if entry.0 == word {
-            found = lexeme_of_keyword(entry.1, word.len());
+            return Some(entry.1);
         }
     }
-    found
+    None
+}
+
+/// Returns what a word is among the keywords.
+fn keyword(word: &[u8]) -> Option<Reserved>
+    requires { 0 < length word.now }
+    ensures { result ≡ entry_in keywords word.now }
+{
+    // each keyword has two letters at least
+    if word.len() == 1 {
+        return None;
+    }
+    look_up(beginning(word[0]), word)
+}
+
+fn lexeme_of(keyword: Option<Reserved>, length: usize) -> Lexeme
+    ensures { result ≡ word_lexeme keyword length }
+{
+    match keyword {
+        None => Lexeme::Word(length),
+        Some(Reserved::Marked(mark)) => Lexeme::Sign(mark, length),
+        Some(Reserved::Jumping(jump)) => Lexeme::Leap(jump, length),
+        Some(Reserved::Unused) => Lexeme::Refused(0),
+    }
 }
 
 /// Returns a word: a keyword or a name.
 #[inline(always)]
 pub fn word(text: &[u8]) -> Lexeme
     requires { 0 < word_length text.now }
-    ensures same { result ≡ word_lexeme keywords (take (word_length text.now) text.now) }
+    ensures same { result ≡ word_lexeme (entry_in keywords (take (word_length text.now) text.now)) (word_length text.now) }
     ensures fits { Fits result (length text.now) }
 {
     let n = word_length(text);
-    let Some((first, _)) = split(text) else {
-        unreachable!();
-    };
-    if n == 1 {
-        return Lexeme::Word(1);
-    }
-    look_up(beginning(first), &text[..n])
+    lexeme_of(keyword(&text[..n]), n)
 }

@@ -1,7 +1,7 @@
 //! A text piece by piece: its tokens with their places, or the first refusal (C99 6.4).
 ghost use Rattle.std.specs.Prelude.{◌≡◌, ◌∷◌, ◌+◌, ◌<◌, ◌≤◌, ◌^◌, [], false, length, IfOk, IfErr, List, ℕ};
-ghost use Rattle.c_tokens.specs.Lexing.{comment_length, is_letter, is_digit};
-ghost use Rattle.c_tokens.specs.Fronts.{lexeme_of, comment_lexeme, line_lexeme, line_length};
+ghost use Rattle.c_tokens.specs.Lexing.{is_letter, is_digit};
+ghost use Rattle.c_tokens.specs.Fronts.{lexeme_of, ended_lexeme};
 ghost use Rattle.c_tokens.specs.declared.token.Token.{Token};
 ghost use Rattle.c_tokens.specs.declared.sizes.TheConstants.{MAX_TEXT};
 ghost use Rattle.c_tokens.specs.declared.fault.Refusal.{Refusal};
@@ -14,7 +14,7 @@ use crate::scan::{
     after, after_blanks, begins, comment_length, escape_at, is_digit, is_letter, is_space,
     line_length, split,
 };
-use crate::sign::{sign, single};
+use crate::sign::sign;
 use crate::sizes::{Sizes, count};
 use crate::token::{Identifier, JumpWord, Literal, Mark, Token};
 use std::alloc::{AllocError, Global};
@@ -41,28 +41,13 @@ pub enum Step {
     Stop(Refusal, usize),
 }
 
-/// Returns a comment, after its first two bytes.
-fn comment(rest: &[u8]) -> Lexeme
-    requires { length rest.now < 2 ^ 32 }
-    ensures same { result ≡ comment_lexeme (comment_length rest.now) rest.now }
+/// Returns a comment that has `n` bytes after its first two.
+fn ended(rest: &[u8], n: usize) -> Lexeme
+    requires narrow { length rest.now < 2 ^ 32 }
+    requires within { n ≤ length rest.now }
+    ensures same { result ≡ ended_lexeme n rest.now }
     ensures fits { Fits result (length rest.now + 2) }
 {
-    match comment_length(rest) {
-        None => Lexeme::Refused(0),
-        Some(n) => match escape_at(&rest[..n]) {
-            None => Lexeme::Separator(n + 2),
-            Some(k) => Lexeme::Refused(k + 2),
-        },
-    }
-}
-
-/// Returns a comment to the end of its line, after its first two bytes.
-fn line(rest: &[u8]) -> Lexeme
-    requires { length rest.now < 2 ^ 32 }
-    ensures same { result ≡ line_lexeme (line_length rest.now) rest.now }
-    ensures fits { Fits result (length rest.now + 2) }
-{
-    let n = line_length(rest);
     match escape_at(&rest[..n]) {
         None => Lexeme::Separator(n + 2),
         Some(k) => Lexeme::Refused(k + 2),
@@ -83,12 +68,20 @@ fn other(first: u8, rest: &[u8], text: &[u8]) -> Lexeme
         return Lexeme::Separator(1);
     }
     if begins(text, b'/', b'*') {
-        return comment(after(rest, 1));
+        let inside = after(rest, 1);
+        return match comment_length(inside) {
+            None => Lexeme::Refused(0),
+            Some(n) => ended(inside, n),
+        };
     }
     if begins(text, b'/', b'/') {
-        return line(after(rest, 1));
+        let inside = after(rest, 1);
+        return ended(inside, line_length(inside));
     }
-    sign(text)
+    match sign(text) {
+        Some((mark, n)) => Lexeme::Sign(mark, n),
+        None => Lexeme::Refused(0),
+    }
 }
 
 /// Returns what stands at the front.
@@ -143,9 +136,10 @@ fn next_step(at: u32, text: &[u8]) -> Step
     ensures found { IsStep at text.now result }
     ensures fits { StepFits result (length text.now) }
 {
-    match single(text) {
-        Some(mark) => Step::Take(Token::The(mark), 1),
-        None => any_step(at, text),
+    match sign(text) {
+        // a slash may begin a comment
+        Some((mark, n)) if text[0] != b'/' => Step::Take(Token::The(mark), n),
+        _ => any_step(at, text),
     }
 }
 

@@ -1,20 +1,15 @@
-use Rattle.std.proofs.Common.{◌<◌, ◌∙◌, subst, sym}
-use Rattle.c_tokens.specs.Lexing.{keywords}
-use Rattle.c_tokens.proofs.Beginning.{letter-there, some_of, word_ends, word_there}
-use Rattle.c_tokens.proofs.Fitting.{looked-up-fits}
+use Rattle.std.proofs.Common.{ap, sym, subst, ◌∙◌, ℕ, Option, length, take, arith}
+use Rattle.c_tokens.specs.declared.keywords.Reserved.{Reserved}
+use Rattle.c_tokens.specs.declared.lexer.Lexeme.{Lexeme}
+use Rattle.c_tokens.specs.Lexing.{entry_in, keywords, word_lexeme}
+use Rattle.c_tokens.specs.Texts.{Fits}
+use Rattle.c_tokens.proofs.Beginning.{word-fits}
 use Rattle.c_tokens.proofs.keywords.word.Goals as goal
 
-pub returns-then-n-eq1-clause-same : goal.returns-then-n-eq1-clause-same
-returns-then-n-eq1-clause-same c = letter-there _ _ _ _ (some_of _ c.in-Some.is c.split.ensures.some) (sym c.word_length-n.ensures.same ∙ c.if-n-eq1.true)
-
 pub returns-clause-same : goal.returns-clause-same
-returns-clause-same c =
-    word_ends _ _ _ _
-    (word_there _ _ _ _ _ _ c.look_up.ensures c.beginning.ensures (some_of _ c.in-Some.is c.split.ensures.some)
-    (subst (λ n. 0 < n) (sym c.word_length-n.ensures.same) c.requires)) c.word_length-n.ensures.same
+returns-clause-same c = c.lexeme_of.ensures ∙ ap (λ (x : Option Reserved). word_lexeme x c.word_length-n.result) c.keyword.ensures
+    ∙ ap (λ (n : ℕ). word_lexeme (entry_in keywords (take n c.args.text.now)) n) c.word_length-n.ensures.same
 
 pub returns-clause-fits : goal.returns-clause-fits
-returns-clause-fits c =
-    looked-up-fits keywords _ _ _
-    (word_there _ _ _ _ _ _ c.look_up.ensures c.beginning.ensures (some_of _ c.in-Some.is c.split.ensures.some)
-    (subst (λ n. 0 < n) (sym c.word_length-n.ensures.same) c.requires)) c.word_length-n.ensures.same c.requires
+returns-clause-fits c = subst (λ (x : Lexeme). Fits x (length c.args.text.now)) (sym c.lexeme_of.ensures)
+    (word-fits c.keyword.result c.word_length-n.result (length c.args.text.now) (omega (arith, c.requires, c.word_length-n.ensures.same)) c.word_length-n.ensures.fits)
