@@ -7,11 +7,11 @@ use Rattle.c_tokens.specs.declared.lexer.Lexeme.TheVariants.{Numeral}
 use Rattle.c_tokens.specs.declared.token.IntegerType.{IntegerType}
 use Rattle.c_tokens.specs.declared.token.IntegerType.TheVariants.{SignedInt, UnsignedInt}
 use Rattle.c_tokens.specs.Lexing.{is_digit, is_exponent, goes_on}
-use Rattle.c_tokens.specs.Digits.{digit_of, digits_of, up_to, plain_of, is_suffix, is_octal_or_hexadecimal, last_or, greatest_of, constant_type}
+use Rattle.c_tokens.specs.Digits.{digit_of, digits_of, up_to, after_zero, plain_of, is_suffix, is_octal_or_hexadecimal, last_or, greatest_of, constant_type}
 use Rattle.c_tokens.specs.Digits.{digits_in, constant_lexeme}
 use Rattle.c_tokens.specs.Fronts.{run_length, SpellsSoFar}
 use Rattle.c_tokens.proofs.Finding.{digit-goes}
-use Rattle.c_tokens.proofs.Limits.{constant-some}
+use Rattle.c_tokens.proofs.Limits.{constant-is}
 
 no-exponent : (b : ℕ) → is_digit b ≡ true → is_exponent b ≡ false
 no-exponent b h = grind (arith, nat_tests)
@@ -74,11 +74,7 @@ no-zero b h = grind (arith, nat_tests, h)
 
 plain-decimal : (xs : List ℕ) → 0 < length xs → nat_eq (get_or xs 0 0) 48 ≡ false → plain_of xs ≡ digits_of 10 0 xs
 plain-decimal [] l h = absurd (omega (arith, l))
-plain-decimal (b ∷ []) l h = refl
-plain-decimal (b ∷ c ∷ []) l h = ap (λ (x : Bool). if x then digits_of 8 0 (c ∷ []) else digits_of 10 0 (b ∷ c ∷ [])) h
-plain-decimal (b ∷ c ∷ d ∷ ds) l h = ap (λ (x : Bool). if x
-    then (if nat_eq c 120 || nat_eq c 88 then digits_of 16 0 (d ∷ ds) else digits_of 8 0 (c ∷ d ∷ ds))
-    else digits_of 10 0 (b ∷ c ∷ d ∷ ds)) h
+plain-decimal (b ∷ bs) l h = ap (λ (x : Bool). if x then after_zero bs else digits_of 10 0 (b ∷ bs)) h
 
 below-greatest : (run : List ℕ) (v : ℕ) → v ≤ 2147483647 → nat_le v (greatest_of run) ≡ true
 below-greatest run v h = go (is_suffix (last_or 0 run) || is_octal_or_hexadecimal run)
@@ -86,6 +82,12 @@ below-greatest run v h = go (is_suffix (last_or 0 run) || is_octal_or_hexadecima
     go : (x : Bool) → nat_le v (if x then 4294967295 else 2147483647) ≡ true
     go true = grind (arith, nat_tests, h)
     go false = grind (arith, nat_tests, h)
+
+constant-some : (run digits : List ℕ) (v n : ℕ) (k : IntegerType) → Some v ≡ up_to (greatest_of run) (plain_of digits) → digits ≡ digits_in run
+    → n ≡ length run → k ≡ constant_type run v → Numeral (record { value = v; integer_type = k }) n ≡ constant_lexeme run
+constant-some run digits v n k h f g i =
+    ap (λ (x : IntegerType). Numeral (record { value = v; integer_type = x }) n) i ∙ ap (Numeral (record { value = v; integer_type = constant_type run v })) g
+    ∙ constant-is run digits (greatest_of run) (Some v) h refl f
 
 -- digits that spell a value, where nothing but perhaps a suffix goes on behind them
 module _ (text : List ℕ) (n v : ℕ) (some : 0 < n) (first : nat_eq (get_or text 0 0) 48 ≡ false) (low : v ≤ 2147483647) (s : SpellsSoFar text n v) where
@@ -119,7 +121,7 @@ module _ (text : List ℕ) (n v : ℕ) (some : 0 < n) (first : nat_eq (get_or te
       let big : nat_lt 2147483647 v ≡ false = grind (arith, nat_tests, low) in
       let signed : SignedInt ≡ constant_type digits v = sym (ap (λ (x : Bool). if x || nat_lt 2147483647 v then UnsignedInt else SignedInt) plain-end
       ∙ ap (λ (x : Bool). if x then UnsignedInt else SignedInt) big) in
-      constant-some digits digits (greatest_of digits) v n SignedInt (within-limit digits) refl whole (sym length-digits) signed
+      constant-some digits digits v n SignedInt (within-limit digits) whole (sym length-digits) signed
       ∙ ap (λ (x : ℕ). constant_lexeme (take x text)) k
 
   pub suffixed-constant : n < length text → is_suffix (get_or text n 0) ≡ true → run_length false (drop (n + 1) text) ≡ 0
@@ -137,7 +139,7 @@ module _ (text : List ℕ) (n v : ℕ) (some : 0 < n) (first : nat_eq (get_or te
       let whole : digits ≡ digits_in run = sym (ap (λ (x : Bool). if x then take (length run - 1) run else run) suffix
       ∙ ap (λ (x : ℕ). take x run) cut ∙ take-take n (n + 1) text (omega arith)) in
       let unsigned : UnsignedInt ≡ constant_type run v = sym (ap (λ (x : Bool). if x || nat_lt 2147483647 v then UnsignedInt else SignedInt) suffix) in
-      constant-some run digits (greatest_of run) v (n + 1) UnsignedInt (within-limit run) refl whole (sym size) unsigned
+      constant-some run digits v (n + 1) UnsignedInt (within-limit run) whole (sym size) unsigned
       ∙ ap (λ (x : ℕ). constant_lexeme (take x text)) k
 
   -- the type and the length, as the code takes them together

@@ -22,14 +22,17 @@ abbrev pub up_to : ℕ → Option ℕ → Option ℕ
 up_to limit None = None
 up_to limit (Some v) = if nat_le v limit then Some v else None
 
--- a number without suffix
+abbrev pub is_x : ℕ → Bool
+is_x b = nat_eq b 120 || nat_eq b 88
+
+-- a number without suffix, and one after its first zero
+abbrev pub after_zero : List ℕ → Option ℕ
+after_zero (c ∷ d ∷ ds) = if is_x c then digits_of 16 0 (d ∷ ds) else digits_of 8 0 (c ∷ d ∷ ds)
+after_zero bs = digits_of 8 0 bs
+
 abbrev pub plain_of : List ℕ → Option ℕ
 plain_of [] = None
-plain_of (b ∷ []) = digits_of 10 0 (b ∷ [])
-plain_of (b ∷ c ∷ []) = if nat_eq b 48 then digits_of 8 0 (c ∷ []) else digits_of 10 0 (b ∷ c ∷ [])
-plain_of (b ∷ c ∷ d
-    ∷ ds) = if nat_eq b 48 then (if nat_eq c 120 || nat_eq c 88 then digits_of 16 0 (d ∷ ds) else digits_of 8 0 (c ∷ d ∷ ds))
-    else digits_of 10 0 (b ∷ c ∷ d ∷ ds)
+plain_of (b ∷ bs) = if nat_eq b 48 then after_zero bs else digits_of 10 0 (b ∷ bs)
 
 abbrev pub is_suffix : ℕ → Bool
 is_suffix b = nat_eq b 117 || nat_eq b 85
@@ -50,14 +53,14 @@ greatest_of run = if is_suffix (last_or 0 run) || is_octal_or_hexadecimal run th
 abbrev pub constant_type : List ℕ → ℕ → IntegerType
 constant_type run v = if is_suffix (last_or 0 run) || nat_lt 2147483647 v then UnsignedInt else SignedInt
 
-abbrev pub within_limit : List ℕ → ℕ → Option ℕ → Lexeme
-within_limit run limit None = NoConstant
-within_limit run limit (Some v) = if nat_le v limit then Numeral (record { value = v; integer_type = constant_type run v }) (length run)
-    else NoConstant
+-- the constant of a run that spells a value
+abbrev pub valued : List ℕ → Option ℕ → Lexeme
+valued run None = NoConstant
+valued run (Some v) = Numeral (record { value = v; integer_type = constant_type run v }) (length run)
 
 -- a constant without its suffix
 abbrev pub digits_in : List ℕ → List ℕ
 digits_in run = if is_suffix (last_or 0 run) then take (length run - 1) run else run
 
 abbrev pub constant_lexeme : List ℕ → Lexeme
-constant_lexeme run = within_limit run (greatest_of run) (plain_of (digits_in run))
+constant_lexeme run = valued run (up_to (greatest_of run) (plain_of (digits_in run)))
