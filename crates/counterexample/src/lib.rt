@@ -27,6 +27,6 @@ pub use left::{Departs, Left};
 pub use loaded::loaded_words;
 pub use memory::{Memory, Stored};
 pub use registers::{Load, Registers};
-pub use search::{STARTS, Witness, find_among, find_start};
+pub use search::{STARTS, Witness, find_start};
 pub use start::Start;
 pub use verdict::{no_refuting_state_agrees, refute, refuted_orders_do_not_mean_their_blocks};

@@ -1,9 +1,8 @@
 //! Starts to try.
-ghost use Rattle.std.specs.Prelude.{◌≡◌, IfOk, IfSome, IfNone, Contains};
+ghost use Rattle.std.specs.Prelude.{IfOk, IfSome};
 ghost use Rattle.mblock.specs.Orders.{Means};
-ghost use Rattle.counterexample.specs.declared.start.Start.{Start as AStart};
 ghost use Rattle.counterexample.specs.Views.{start_of};
-ghost use Rattle.counterexample.specs.Refuting.{Agrees, Refutes};
+ghost use Rattle.counterexample.specs.Refuting.{Refutes};
 
 use crate::crossings::crossings;
 use crate::difference::Difference;
@@ -213,50 +212,6 @@ fn starts_for(block: &Block) -> u32 {
     (0x2000 / work.max(1)).max(8).min(STARTS)
 }
 
-/// Returns what a start with this link tells.
-fn witness_of(
-    alloc: Global,
-    block: &Block,
-    order: &Order,
-    start: &Start,
-    link: u32,
-) -> Result<Option<Witness>, AllocError>
-    ensures refutes { IfOk result (λ r. IfSome r (λ w. Refutes block.now order.now (start_of w.start) w.link w.difference)) }
-    ensures tried { IfOk result (λ r. IfSome r (λ w. (w.start ≡ start.now) × (w.link ≡ link))) }
-    ensures none { IfOk result (λ r. IfNone r (Agrees block.now order.now (start_of start.now) link)) }
-{
-    match refute(alloc, block, order, start, link)? {
-        None => Ok(None),
-        Some(difference) => Ok(Some(Witness {
-            start: *start,
-            link,
-            difference,
-        })),
-    }
-}
-
-/// Returns one of these starts that refutes that the order means the block. None if from each of them the order does what the block does,
-/// if that isn't stuck. `Err` only if memory runs out.
-pub fn find_among(
-    alloc: Global,
-    block: &Block,
-    order: &Order,
-    starts: &[Start],
-    link: u32,
-) -> Result<Option<Witness>, AllocError>
-    ensures refutes { IfOk result (λ r. IfSome r (λ w. Refutes block.now order.now (start_of w.start) w.link w.difference)) }
-    ensures tried { IfOk result (λ r. IfSome r (λ w. Contains starts.now w.start × (w.link ≡ link))) }
-    ensures none { IfOk result (λ r. IfNone r ((s : AStart) → Contains starts.now s → Agrees block.now order.now (start_of s) link)) }
-{
-    for start in starts {
-        let witness = witness_of(alloc, block, order, start, link)?;
-        if witness.is_some() {
-            return Ok(witness);
-        }
-    }
-    Ok(None)
-}
-
 /// Returns one of the starts for a block and pairs of its accesses that refutes that the order means the block.
 fn find_by(
     alloc: Global,
@@ -268,9 +223,12 @@ fn find_by(
 {
     for number in 0..starts_for(block) {
         let start = start_number(alloc, block, pairs, number)?;
-        let witness = find_among(alloc, block, order, &[start], LINK)?;
-        if witness.is_some() {
-            return Ok(witness);
+        if let Some(difference) = refute(alloc, block, order, &start, LINK)? {
+            return Ok(Some(Witness {
+                start,
+                link: LINK,
+                difference,
+            }));
         }
     }
     Ok(None)
