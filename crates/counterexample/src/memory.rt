@@ -41,37 +41,24 @@ fn is_inside(a: u32, b: u32) -> bool
 }
 
 impl Stored {
-    /// Returns the byte at an address after a store of a word.
-    #[tactic(auto, unfolding(mips_isa::specs::States::store_word))]
-    fn byte_behind_word(&self, a: u32, before: u8) -> u8
-        ensures { result ≡ store_at Width.Word everywhere (λ b. before) self.now.address self.now.word a }
-    {
-        if is_aligned(Width::Word, self.address) && is_inside(self.address, a) {
-            byte_at_place(self.word, (a - self.address) as usize)
-        } else {
-            before
-        }
-    }
-
-    /// Returns the byte at an address after a store of a byte.
-    #[tactic(auto, unfolding(mips_isa::specs::States::store_byte))]
-    fn byte_behind_byte(&self, a: u32, before: u8) -> u8
-        ensures { result ≡ store_at Width.Byte everywhere (λ b. before) self.now.address self.now.word a }
-    {
-        if a == self.address {
-            (self.word % 256) as u8
-        } else {
-            before
-        }
-    }
-
     /// Returns the byte at an address after the store, where this one stands before.
+    #[tactic(auto, unfolding(mips_isa::specs::States::store_word, mips_isa::specs::States::store_byte))]
     pub fn byte_behind(&self, a: u32, before: u8) -> u8
         ensures { result ≡ byte_behind self.now a before }
     {
         match self.width {
-            Width::Word => self.byte_behind_word(a, before),
-            Width::Byte => self.byte_behind_byte(a, before),
+            Width::Word => {
+                if is_aligned(Width::Word, self.address) && is_inside(self.address, a) {
+                    byte_at_place(self.word, (a - self.address) as usize)
+                } else {
+                    before
+                }
+            }
+            Width::Byte => if a == self.address {
+                (self.word % 256) as u8
+            } else {
+                before
+            },
         }
     }
 }
@@ -135,16 +122,5 @@ impl Memory {
             word,
         })?;
         Ok(true)
-    }
-}
-
-/// Returns memory as a filling has it.
-pub fn memory_of(alloc: Global, filling: Filling) -> Memory
-    ensures filling { result.filling ≡ filling }
-    ensures bytes { bytes_of result ≡ filled_byte filling }
-{
-    Memory {
-        filling,
-        stores: Vec::new(alloc),
     }
 }

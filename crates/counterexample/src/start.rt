@@ -4,7 +4,7 @@ ghost use Rattle.mips_isa.specs.States.{IsWords};
 ghost use Rattle.counterexample.specs.Views.{start_of, state_of};
 
 use crate::filling::Filling;
-use crate::memory::memory_of;
+use crate::memory::Memory;
 use crate::registers::Registers;
 use std::alloc::Global;
 
@@ -48,7 +48,10 @@ impl Registers {
             regs: start.regs,
             hi: start.hi,
             lo: start.lo,
-            memory: memory_of(alloc, start.filling),
+            memory: Memory {
+                filling: start.filling,
+                stores: Vec::new(alloc),
+            },
         }
     }
 }
