@@ -6,17 +6,6 @@ use mblock::{Block, Order};
 use mips_isa::{Action, Plain};
 use std::alloc::{AllocError, Global};
 
-/// Returns the address of the word that an action loads, or loads a byte of.
-fn loaded_word(registers: &Registers, action: &Action) -> Option<u32> {
-    match *action {
-        Action::Loads { base, offset, .. } => {
-            let address = registers.read(base).wrapping_add(offset);
-            Some(address - address % 4)
-        }
-        _ => None,
-    }
-}
-
 /// Adds the words that instructions load, up to one that isn't safe.
 fn put_loaded(
     words: &mut Vec<u32>,
@@ -25,10 +14,12 @@ fn put_loaded(
 ) -> Result<(), AllocError> {
     for inst in insts {
         let action = inst.action();
-        if let Some(word) = loaded_word(registers, &action)
-            && !words.contains(&word)
-        {
-            words.push(word)?;
+        if let Action::Loads { base, offset, .. } = action {
+            let address = registers.address(base, offset);
+            let word = address - address % 4;
+            if !words.contains(&word) {
+                words.push(word)?;
+            }
         }
         if !registers.act(action)? {
             return Ok(());

@@ -65,9 +65,7 @@ impl Tracing {
     fn of(alloc: Global, start: &Start, takes_second: bool) -> Tracing {
         let mut origins = [Origin::Nothing; 32];
         for r in 1..32u8 {
-            if let Some(register) = Reg::new(r) {
-                origins[r as usize] = Origin::Held(register);
-            }
+            origins[r as usize] = Origin::Held(Reg::masked(r));
         }
         Tracing {
             registers: Registers::of(alloc, start),
@@ -122,7 +120,7 @@ impl Tracing {
         let (width, base, offset) = access_of(action)?;
         Some(Access {
             width,
-            address: self.registers.read(base).wrapping_add(offset),
+            address: self.registers.address(base, offset),
             origin: self.origin(base),
         })
     }

@@ -2,7 +2,6 @@
 ghost use Rattle.std.specs.Prelude.{◌≡◌, true, IfOk, IfSome, is_some};
 ghost use Rattle.words.specs.Operators.{op_value};
 ghost use Rattle.mips_isa.specs.States.{read, put};
-ghost use Rattle.mips_isa.specs.declared.action.Action.TheVariants.{Loads, Stores, Multiplies, Divides};
 ghost use Rattle.mips_isa.specs.Actions.{operand, address, is_safe, state_after};
 ghost use Rattle.mips_isa.specs.Flows.{shown_state, pending_of, state_with_pending};
 ghost use Rattle.counterexample.specs.Views.{state_of, pending_in};
@@ -13,7 +12,7 @@ use mips_isa::{
     remainder_operator,
 };
 use std::alloc::AllocError;
-use words::{Operator, Sign, Width};
+use words::Operator;
 
 /// What a word loads.
 #[derive(Clone, Copy)]
@@ -73,56 +72,10 @@ impl Registers {
 
     /// Returns the address of a load or a store.
     #[tactic(auto, unfolding(words::specs::Operators::op_value))]
-    fn address(&self, base: Reg, offset: u32) -> u32
+    pub(crate) fn address(&self, base: Reg, offset: u32) -> u32
         ensures { result ≡ address (state_of self.now) base offset }
     {
         self.read(base).wrapping_add(offset)
-    }
-
-    /// Returns what a load loads, if it may.
-    fn load(&self, width: Width, register: NonzeroReg, base: Reg, offset: u32) -> Option<Load>
-        ensures safe { is_some result ≡ is_safe (Loads width register base offset) (state_of self.now) }
-        ensures load { IfSome result (λ l. pending_in l ≡ pending_of (Loads width register base offset) (state_of self.now)) }
-    {
-        match self.memory.load(width, self.address(base, offset)) {
-            None => None,
-            Some(word) => Some(Load::Loaded { register, word }),
-        }
-    }
-
-    /// Does a store, if it may.
-    fn store(&mut self, width: Width, r: Reg, base: Reg, offset: u32) -> Result<bool, AllocError>
-        ensures safe { IfOk result (λ b. b ≡ is_safe (Stores width r base offset) (state_of self.old)) }
-        ensures state { IfOk result (λ b. b ≡ true → state_of self.new ≡ state_after (Stores width r base offset) (state_of self.old)) }
-        ensures filling { self.new.memory.filling ≡ self.old.memory.filling }
-    {
-        let at = self.address(base, offset);
-        let word = self.read(r);
-        self.memory.store(width, at, word)
-    }
-
-    fn multiply(&mut self, sign: Sign, a: Reg, b: Reg)
-        ensures state { state_of self.new ≡ state_after (Multiplies sign a b) (state_of self.old) }
-        ensures filling { self.new.memory.filling ≡ self.old.memory.filling }
-    {
-        let (a, b) = (self.read(a), self.read(b));
-        self.hi = value(product_high(sign), a, b);
-        self.lo = value(product_low(sign), a, b);
-    }
-
-    /// Does a division, if it has a value.
-    fn divide(&mut self, sign: Sign, a: Reg, b: Reg) -> bool
-        ensures safe { result ≡ is_safe (Divides sign a b) (state_of self.old) }
-        ensures state { result ≡ true → state_of self.new ≡ state_after (Divides sign a b) (state_of self.old) }
-        ensures filling { self.new.memory.filling ≡ self.old.memory.filling }
-    {
-        let (a, b) = (self.read(a), self.read(b));
-        if !sign.has_quotient(a, b) {
-            return false;
-        }
-        self.hi = value(remainder_operator(sign), a, b);
-        self.lo = value(quotient_operator(sign), a, b);
-        true
     }
 
     /// Does an action, and gives what it loads; None if it isn't safe.
@@ -143,22 +96,35 @@ impl Registers {
                 d,
                 base,
                 offset,
-            } => return Ok(self.load(width, d, base, offset)),
+            } => {
+                let Some(word) = self.memory.load(width, self.address(base, offset)) else {
+                    return Ok(None);
+                };
+                return Ok(Some(Load::Loaded { register: d, word }));
+            }
             Action::Stores {
                 width,
                 r,
                 base,
                 offset,
             } => {
-                if !self.store(width, r, base, offset)? {
+                let (at, word) = (self.address(base, offset), self.read(r));
+                if !self.memory.store(width, at, word)? {
                     return Ok(None);
                 }
             }
-            Action::Multiplies { sign, a, b } => self.multiply(sign, a, b),
+            Action::Multiplies { sign, a, b } => {
+                let (a, b) = (self.read(a), self.read(b));
+                self.hi = value(product_high(sign), a, b);
+                self.lo = value(product_low(sign), a, b);
+            }
             Action::Divides { sign, a, b } => {
-                if !self.divide(sign, a, b) {
+                let (a, b) = (self.read(a), self.read(b));
+                if !sign.has_quotient(a, b) {
                     return Ok(None);
                 }
+                self.hi = value(remainder_operator(sign), a, b);
+                self.lo = value(quotient_operator(sign), a, b);
             }
             Action::MovesHigh { d } => self.put(d, self.hi),
             Action::MovesLow { d } => self.put(d, self.lo),
@@ -183,12 +149,10 @@ impl Registers {
         ensures state { IfOk result (λ b. b ≡ true → state_of self.new ≡ state_after action (state_of self.old)) }
         ensures filling { self.new.memory.filling ≡ self.old.memory.filling }
     {
-        match self.perform(action)? {
-            None => Ok(false),
-            Some(load) => {
-                self.settle(load);
-                Ok(true)
-            }
-        }
+        let Some(load) = self.perform(action)? else {
+            return Ok(false);
+        };
+        self.settle(load);
+        Ok(true)
     }
 }
