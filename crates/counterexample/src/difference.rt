@@ -1,11 +1,11 @@
 //! Where what two runs leave differs.
-ghost use Rattle.std.specs.Prelude.{◌≡◌, ◌≢◌, ℕ, ◌+◌, ◌%◌, ◌<◌, IfSome, IfNone, Contains, slice_index, Some, false, true};
+ghost use Rattle.std.specs.Prelude.{◌≡◌, ◌≢◌, ℕ, ◌+◌, ◌%◌, ◌<◌, IfSome, IfNone, Contains, slice_index, Some};
 ghost use Rattle.counterexample.specs.declared.memory.Stored.{Stored as AStored};
 ghost use Rattle.counterexample.specs.Memories.{bytes_of, SameReached};
-ghost use Rattle.counterexample.specs.Views.{departure_in, effect_of};
+ghost use Rattle.counterexample.specs.Views.{effect_of};
 ghost use Rattle.counterexample.specs.Refuting.{DiffersIn};
 
-use crate::left::{Departs, Left};
+use crate::left::Left;
 use crate::memory::{Memory, Stored};
 use crate::registers::Registers;
 use mips_isa::Reg;
@@ -58,20 +58,9 @@ fn byte_of_store(a: &Memory, b: &Memory, stored: &Stored) -> Option<u32>
     ensures none { IfNone result (SameReached a.now b.now stored.now) }
 {
     match stored.width {
-        Width::Word => {
-            if stored.address % 4 == 0 {
-                byte_of_word(a, b, stored.address)
-            } else {
-                None
-            }
-        }
-        Width::Byte => {
-            if a.byte(stored.address) != b.byte(stored.address) {
-                Some(stored.address)
-            } else {
-                None
-            }
-        }
+        Width::Word if stored.address % 4 == 0 => byte_of_word(a, b, stored.address),
+        Width::Byte if a.byte(stored.address) != b.byte(stored.address) => Some(stored.address),
+        _ => None,
     }
 }
 
@@ -101,41 +90,6 @@ fn first_byte(a: &Memory, b: &Memory) -> Option<u32>
     }
 }
 
-impl Departs {
-    /// Reports whether both go to the same place with the same word.
-    fn is_same(&self, other: &Departs) -> bool
-        ensures other { result ≡ false → departure_in self.now ≢ departure_in other.now }
-        ensures same { result ≡ true → departure_in self.now ≡ departure_in other.now }
-    {
-        match *self {
-            // (rattle 13f: matching a pair that holds a BlockNumber ends in "cites the_type": CONTRIBUTING.md)
-            Departs::To(a) => match *other {
-                Departs::To(b) => a.number() == b.number(),
-                _ => false,
-            },
-            Departs::Calls { function, next } => match *other {
-                Departs::Calls {
-                    function: g,
-                    next: n,
-                } => function.number() == g.number() && next.number() == n.number(),
-                _ => false,
-            },
-            Departs::Back(a) => match *other {
-                Departs::Back(b) => a == b,
-                _ => false,
-            },
-            Departs::Prints { word, next } => match *other {
-                Departs::Prints { word: w, next: n } => word == w && next.number() == n.number(),
-                _ => false,
-            },
-            Departs::Halts(a) => match *other {
-                Departs::Halts(b) => a == b,
-                _ => false,
-            },
-        }
-    }
-}
-
 /// Returns a difference of what two runs leave.
 pub(crate) fn difference_of(a: &Left, b: &Left) -> Option<Difference>
     requires { a.now.registers.memory.filling ≡ b.now.registers.memory.filling }
@@ -154,7 +108,7 @@ pub(crate) fn difference_of(a: &Left, b: &Left) -> Option<Difference>
     if let Some(address) = first_byte(&a.registers.memory, &b.registers.memory) {
         return Some(Difference::Memory(address));
     }
-    if !a.goes.is_same(&b.goes) {
+    if a.goes != b.goes {
         return Some(Difference::Exit);
     }
     None

@@ -9,7 +9,7 @@ use mblock::{BlockNumber, Exit};
 use mips_isa::Reg;
 
 /// Where a run goes on, with what it prints or ends with.
-#[derive(Clone, Copy)]
+#[derive(Clone, Copy, PartialEq, Eq)]
 pub enum Departs {
     To(BlockNumber),
     Calls {
@@ -45,11 +45,8 @@ impl Registers {
                 then,
                 other,
             } => {
-                if test.passes(self.read(rs), self.read(rt)) {
-                    Departs::To(then)
-                } else {
-                    Departs::To(other)
-                }
+                let holds = test.passes(self.read(rs), self.read(rt));
+                Departs::To(if holds { then } else { other })
             }
             Exit::BranchZero {
                 test,
@@ -57,11 +54,8 @@ impl Registers {
                 then,
                 other,
             } => {
-                if test.passes(self.read(rs)) {
-                    Departs::To(then)
-                } else {
-                    Departs::To(other)
-                }
+                let holds = test.passes(self.read(rs));
+                Departs::To(if holds { then } else { other })
             }
             Exit::Call { function, next } => Departs::Calls { function, next },
             Exit::Return => Departs::Back(self.read(Reg::LINK)),
@@ -79,10 +73,7 @@ impl Registers {
         ensures filling { self.new.memory.filling ≡ self.old.memory.filling }
     {
         match *exit {
-            Exit::Call {
-                function: _,
-                next: _,
-            } => self.put(Reg::LINK, link),
+            Exit::Call { .. } => self.put(Reg::LINK, link),
             Exit::Out(_) => self.put(Reg::RESULT, 1),
             Exit::Halt => self.put(Reg::RESULT, 10),
             _ => {}
