@@ -1,30 +1,17 @@
 //! Whether a start refutes that an order means its block.
-ghost use Rattle.std.specs.Prelude.{◌≡◌, IfOk, IfSome, IfNone, Some};
+ghost use Rattle.std.specs.Prelude.{IfOk, IfSome, IfNone};
 ghost use Rattle.mblock.specs.Orders.{Means};
-ghost use Rattle.counterexample.specs.Views.{start_of, effect_of, effect_in};
-ghost use Rattle.counterexample.specs.Refuting.{DiffersIn, Agrees, Refutes, RefutedOrdersDoNotMeanTheirBlocks, NoRefutingStateAgrees};
+ghost use Rattle.counterexample.specs.Views.{start_of};
+ghost use Rattle.counterexample.specs.Refuting.{Agrees, Refutes, RefutedOrdersDoNotMeanTheirBlocks, NoRefutingStateAgrees};
 
 use crate::block::run_block;
 use crate::difference::{Difference, difference_of};
 use crate::flow::run_order;
-use crate::left::Left;
 use crate::start::{Start, has_words};
 use mblock::{Block, Order};
 use std::alloc::{AllocError, Global};
 
-/// Returns what an order that came to this does otherwise than a block that left that.
-fn found(left: &Left, ordered: &Option<Left>) -> Option<Difference>
-    requires { IfSome ordered.now (λ l. left.now.registers.memory.filling ≡ l.registers.memory.filling) }
-    ensures some { IfSome result (λ d. DiffersIn d (effect_of left.now) (effect_in ordered.now)) }
-    ensures none { IfNone result (effect_in ordered.now ≡ Some (effect_of left.now)) }
-{
-    match ordered {
-        None => Some(Difference::Stuck),
-        Some(other) => difference_of(left, other),
-    }
-}
-
-/// Returns the same of a block and an order, from a start.
+/// Returns what an order does otherwise than its block, from a start.
 fn tried(
     alloc: Global,
     block: &Block,
@@ -39,8 +26,10 @@ fn tried(
     let Some(left) = run_block(alloc, block, start, link)? else {
         return Ok(None);
     };
-    let ordered = run_order(alloc, order, start, link)?;
-    Ok(found(&left, &ordered))
+    match run_order(alloc, order, start, link)? {
+        None => Ok(Some(Difference::Stuck)),
+        Some(ordered) => Ok(difference_of(&left, &ordered)),
+    }
 }
 
 /// Reports whether this start and link refute that the order means the block, and by what. From there the block isn't stuck, and the order
