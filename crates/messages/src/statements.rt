@@ -35,7 +35,7 @@ fn first_name(e: &Expression) -> Option<usize> {
 }
 
 /// Finds where a simple statement begins.
-pub(crate) fn start_of(s: &Simple) -> usize {
+fn start_of(s: &Simple) -> usize {
     match s {
         Simple::Assign(name, _) | Simple::AssignAt(name, _, _) => name.at as usize,
         Simple::CallStatement(call) => call.name.at as usize,

@@ -1,6 +1,5 @@
 //! Warnings of a program without faults: what has no meaning in C and is plain to see.
 
-use crate::chains::ChainParts;
 use crate::source::Source;
 use crate::warning_walk::walked;
 use c_tree::Program;
@@ -16,23 +15,6 @@ pub struct Warning {
     pub message: String,
 }
 
-/// Warns of each comparison of a comparison without parentheses.
-fn push_chains(
-    alloc: Global,
-    warnings: &mut Vec<Warning>,
-    text: &[u8],
-    chains: ChainParts,
-) -> Result<(), AllocError> {
-    for at in chains.places(alloc, text)? {
-        let message = String::from_str(
-            alloc,
-            "a comparison of a comparison: a < b < c compares 0 or 1 with c",
-        )?;
-        warnings.push(Warning { at, message })?;
-    }
-    Ok(())
-}
-
 /// Returns the warnings of a text that spells this program, in no order. It descends into the program: run it on a thread with a large
 /// stack where the text may be hostile.
 pub fn warnings_of(
@@ -42,13 +24,11 @@ pub fn warnings_of(
     variables: &[Variable],
     functions: &[Function],
 ) -> Result<Vec<Warning>, AllocError> {
-    // only the tokens say where an operator stands, and only its warning needs that
+    // only the tokens say where a warning belongs, and most programs have none
     let unread = Source::without_tokens(alloc, text);
-    let (mut warnings, chains) = walked(alloc, &unread, program, variables, functions)?;
-    if !warnings.is_empty() {
-        let source = Source::read(alloc, text)?;
-        (warnings, _) = walked(alloc, &source, program, variables, functions)?;
+    if walked(alloc, &unread, program, variables, functions)?.is_empty() {
+        return Ok(Vec::new(alloc));
     }
-    push_chains(alloc, &mut warnings, text, chains)?;
-    Ok(warnings)
+    let source = Source::read(alloc, text)?;
+    walked(alloc, &source, program, variables, functions)
 }
