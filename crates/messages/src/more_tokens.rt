@@ -4,7 +4,7 @@ ghost use Rattle.std.specs.Prelude.{◌≤◌, length};
 ghost use Rattle.c_tokens.specs.declared.sizes.TheConstants.{MAX_TEXT};
 
 use crate::lexical::after_blanks;
-use crate::said::Said;
+use crate::said::{Line, Said};
 use crate::source::{back, front, is_word, shown_text, spelled_at};
 use c_tokens::{LexFault, MAX_TEXT, Refusal, lex};
 use host::spot_of;
@@ -14,7 +14,7 @@ use std::alloc::{AllocError, Global};
 const NAMED: usize = 8;
 
 /// Returns where the line of an offset ends.
-pub(crate) fn line_end(text: &[u8], at: usize) -> usize {
+fn line_end(text: &[u8], at: usize) -> usize {
     let rest = back(text, at);
     let length = rest.iter().position(|byte| *byte == b'\n');
     at.saturating_add(length.unwrap_or(rest.len()))
@@ -67,17 +67,16 @@ fn next_refused(
 }
 
 /// Names one of them, with line and column.
-fn say_one(said: &mut Said, text: &[u8], at: usize) {
+fn put_one(named: &mut Line, text: &[u8], at: usize) {
     let (spot, sign) = (spot_of(text, at), spelled_at(text, at));
-    said.more.number(spot.line);
-    said.more.text(":");
-    said.more.number(spot.column);
-    said.more.texts(&[" '", shown_text(sign)]);
+    named.number(spot.line);
+    named.text(":");
+    named.number(spot.column);
+    named.texts(&[" '", shown_text(sign)]);
     if sign == b"#".as_slice() {
-        said.more
-            .text(shown_text(after_blanks(text, at.saturating_add(1))));
+        named.text(shown_text(after_blanks(text, at.saturating_add(1))));
     }
-    said.more.text("'");
+    named.text("'");
 }
 
 /// Says which tokens after the first wrong one C doesn't have either, as far as they can be read.
@@ -88,6 +87,7 @@ pub(crate) fn say_more(
     first: usize,
 ) -> Result<(), AllocError> {
     let text = front(text, MAX_TEXT);
+    let (mut named, mut count) = (Line::new(alloc), 0usize);
     let mut from = goes_on(text, first);
     for _ in 0..text.len() {
         let Some(next) = from else { break };
@@ -96,19 +96,23 @@ pub(crate) fn say_more(
         };
         match why {
             Refusal::BadToken => {
-                if said.count < NAMED {
-                    said.more.text(if said.count == 0 { "" } else { ", " });
-                    say_one(said, text, at);
+                if count < NAMED {
+                    named.text(if count == 0 { "" } else { ", " });
+                    put_one(&mut named, text, at);
                 }
-                said.count = said.count.saturating_add(1);
+                count = count.saturating_add(1);
                 from = goes_on(text, at);
             }
             Refusal::BadConstant => from = Some(number_end(text, at)),
             Refusal::BadSize => from = None,
         }
     }
-    if said.count > NAMED {
-        said.more.text(" ..");
+    if count > 0 {
+        said.more.text("and ");
+        said.more.number(count);
+        said.more.text(" more: ");
+        said.more.line(named)?;
+        said.more.text(if count > NAMED { " .." } else { "" });
     }
     Ok(())
 }

@@ -5,14 +5,14 @@ ghost use Rattle.text.specs.Shown.{IsPrintableExplanation};
 
 use host::Spot;
 use std::alloc::{AllocError, Global};
-use text::{Explanation, Writer};
+use text::{Explanation, Page, Writer};
 
 /// A line that grows piece by piece.
 #[derive(Drop)]
 pub(crate) struct Line(Writer);
 
 impl Line {
-    fn new(alloc: Global) -> Line {
+    pub(crate) fn new(alloc: Global) -> Line {
         Line(Writer::new(alloc))
     }
 
@@ -30,6 +30,12 @@ impl Line {
         self.0.put(&number);
     }
 
+    /// Goes on with another line, unless memory was refused to that one.
+    pub(crate) fn line(&mut self, line: Line) -> Result<(), AllocError> {
+        self.0.page(&line.0.end()?);
+        Ok(())
+    }
+
     pub(crate) fn spot(&mut self, spot: Spot) {
         self.text("line ");
         self.number(spot.line);
@@ -38,15 +44,17 @@ impl Line {
     }
 }
 
-/// A message and a hint.
+/// A message, a hint, and what else is wrong: each may be empty but the message.
 #[derive(Drop)]
 pub(crate) struct Said {
     pub(crate) message: Line,
-    /// Empty where there is none.
     pub(crate) hint: Line,
-    /// What else is wrong, and how much.
     pub(crate) more: Line,
-    pub(crate) count: usize,
+}
+
+/// Returns the bytes of a page, if it has any.
+fn if_any(page: &Page) -> Option<&[u8]> {
+    (!page.bytes().is_empty()).then_some(page.bytes())
 }
 
 impl Said {
@@ -55,7 +63,6 @@ impl Said {
             message: Line::new(alloc),
             hint: Line::new(alloc),
             more: Line::new(alloc),
-            count: 0,
         }
     }
 
@@ -84,26 +91,9 @@ impl Said {
     pub(crate) fn end(self, alloc: Global) -> Result<Explanation, AllocError>
         ensures { IfOk result IsPrintableExplanation }
     {
-        let count = self.count;
-        let (message, hint, named) = (
-            self.message.0.end()?,
-            self.hint.0.end()?,
-            self.more.0.end()?,
-        );
-        let hint = if hint.bytes().is_empty() {
-            None
-        } else {
-            Some(hint.bytes())
-        };
-        if count == 0 {
-            return Explanation::with_more(alloc, message.bytes(), hint, None);
-        }
-        let mut more = Line::new(alloc);
-        more.text("and ");
-        more.number(count);
-        more.text(" more: ");
-        more.0.page(&named);
-        let more = more.0.end()?;
-        Explanation::with_more(alloc, message.bytes(), hint, Some(more.bytes()))
+        let message = self.message.0.end()?;
+        let hint = self.hint.0.end()?;
+        let more = self.more.0.end()?;
+        Explanation::with_more(alloc, message.bytes(), if_any(&hint), if_any(&more))
     }
 }
