@@ -29,44 +29,11 @@ const LEFT_OUT: &[Told] = &[
     (&[b"??"], "trigraphs aren't read: write the sign itself"),
 ];
 
-/// `++`, `--` and assignments with an operator, and what is written after `i = i` in their place.
-#[rattlefmt::skip]
-const COMPOUND: &[Told] = &[
-    (&[b"++"], "+ 1"),
-    (&[b"--"], "- 1"),
-    (&[b"+="], "+ .."),
-    (&[b"-="], "- .."),
-    (&[b"*="], "* .."),
-    (&[b"/="], "/ .."),
-    (&[b"%="], "% .."),
-    (&[b"&="], "& .."),
-    (&[b"|="], "| .."),
-    (&[b"^="], "^ .."),
-    (&[b"<<="], "<< .."),
-    (&[b">>="], ">> .."),
-];
-
 /// Directives that have a hint of their own.
 #[rattlefmt::skip]
 const DIRECTIVES: &[Told] = &[
     (&[b"include"], "there is nothing to include: out(e); prints a word"),
     (&[b"define"], "write a variable at file scope, as int size = 16;, or the number itself"),
-];
-
-/// The numbers of characters after a backslash (C99 5.2.2, 6.4.4.4).
-#[rattlefmt::skip]
-const ESCAPES: &[Told] = &[
-    (&[b"n"], "10"),
-    (&[b"t"], "9"),
-    (&[b"0"], "0"),
-    (&[b"r"], "13"),
-    (&[b"a"], "7"),
-    (&[b"b"], "8"),
-    (&[b"f"], "12"),
-    (&[b"v"], "11"),
-    (&[b"\\"], "92"),
-    (&[b"'"], "39"),
-    (&[b"\""], "34"),
 ];
 
 /// What is said of a word or a sign that C has and the subset leaves out.
@@ -125,20 +92,35 @@ fn say_directive(said: &mut Said, text: &[u8], at: usize) {
     said.hint(told_of(DIRECTIVES, word).unwrap_or(NO_DIRECTIVES));
 }
 
+/// Returns the number of a character after a backslash (C99 5.2.2, 6.4.4.4).
+fn escaped(letter: u8) -> Option<u8> {
+    match letter {
+        b'n' => Some(10),
+        b't' => Some(9),
+        b'0' => Some(0),
+        b'r' => Some(13),
+        b'a' => Some(7),
+        b'b' => Some(8),
+        b'f' => Some(12),
+        b'v' => Some(11),
+        b'\\' | b'\'' | b'"' => Some(letter),
+        _ => None,
+    }
+}
+
 fn say_quoted(said: &mut Said, text: &[u8], at: usize) {
-    said.say("a character constant isn't in this subset of C");
-    said.hint("write the character's number");
-    match back(text, at.saturating_add(1)) {
-        [] => {}
-        [b'\\', letter @ ..] => {
-            if let Some(number) = told_of(ESCAPES, front(letter, 1)) {
-                said.hint.texts(&[": ", number]);
-            }
-        }
-        [letter, ..] => {
-            said.hint(": ");
-            said.hint.number(*letter as usize);
-        }
+    said.say_both(
+        "a character constant isn't in this subset of C",
+        "write the character's number",
+    );
+    let number = match back(text, at.saturating_add(1)) {
+        [b'\\', rest @ ..] => rest.first().copied().and_then(escaped),
+        [letter, ..] => Some(*letter),
+        [] => None,
+    };
+    if let Some(number) = number {
+        said.hint(": ");
+        said.hint.number(number as usize);
     }
 }
 
@@ -167,14 +149,28 @@ fn left_out(text: &[u8], at: usize) -> Option<&'static str> {
     }
 }
 
+/// Returns the operator and the operand that stand for `++`, `--` or an assignment with an operator.
+fn compound<'t>(sign: &'t [u8]) -> Option<(&'t [u8], &'static str)> {
+    match sign {
+        b"++" | b"--" => Some((front(sign, 1), " 1")),
+        b"<<=" | b">>=" => Some((front(sign, 2), " ..")),
+        [b'+' | b'-' | b'*' | b'/' | b'%' | b'&' | b'|' | b'^', b'='] => Some((
+            front(sign, 1),
+            " ..",
+        )),
+        _ => None,
+    }
+}
+
 /// Says what is wrong with a sign or a word.
 fn say_sign(said: &mut Said, source: &Source<'_>, at: usize) {
     let sign = spelled_at(source.text, at);
-    if let Some(written) = told_of(COMPOUND, sign) {
+    if let Some((operator, operand)) = compound(sign) {
         said.say_name(shown_text(sign), LEFT_OUT_HERE);
         let name = counted_name(source, at);
         said.hint.texts(&["write ", name, " = ", name, " "]);
-        said.hint(written);
+        said.hint(shown_text(operator));
+        said.hint(operand);
     } else if let Some(hint) = left_out(source.text, at) {
         said.say_name(shown_text(sign), LEFT_OUT_HERE);
         said.hint(hint);
