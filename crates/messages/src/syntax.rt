@@ -127,10 +127,6 @@ struct Found<'s, 't> {
     token: usize,
     /// The first token of its statement or declaration.
     first: usize,
-    /// The innermost brace, parenthesis and bracket that are open there.
-    brace: Option<usize>,
-    parenthesis: Option<usize>,
-    bracket: Option<usize>,
 }
 
 impl<'s, 't> Found<'s, 't> {
@@ -139,9 +135,6 @@ impl<'s, 't> Found<'s, 't> {
             source,
             token,
             first: source.first_of(token),
-            brace: source.open_before(token, Mark::LeftBrace),
-            parenthesis: source.open_before(token, Mark::LeftParen),
-            bracket: source.open_before(token, Mark::LeftBracket),
         }
     }
 
@@ -169,47 +162,50 @@ impl<'s, 't> Found<'s, 't> {
         (self.first..self.token).any(|k| self.source.is(k, Mark::Assign))
     }
 
+    /// Reports whether it stands in brackets that this one opens.
+    fn is_in(&self, opening: Mark) -> bool {
+        self.source.open_before(self.token, opening).is_some()
+    }
+
     fn holds(&self, fact: &Fact) -> bool {
         let source = self.source;
         let last = before(self.token, 1);
         match fact {
-            Fact::Is(mark) => source.is(self.token, *mark),
-            Fact::IsName => source.is_name(self.token),
-            Fact::IsConstant => matches!(source.token(self.token), Some(Token::Constant(_))),
-            Fact::IsType => source.is_one(self.token, TYPES),
-            Fact::IsOperator => source.is_one(self.token, OPERATORS),
-            Fact::IsPointerSign => source.is_one(self.token, POINTER_SIGNS),
-            Fact::Before(n, mark) => source.is(before(self.token, *n), *mark),
-            Fact::AfterName => source.is_name(last),
-            Fact::AfterDeclared => source.is_declared(last),
-            Fact::AfterCall => self.is_after_call(),
-            Fact::AfterNoOperand => !self.is_after_operand(),
-            Fact::AfterAssign => self.is_after_assign(),
-            Fact::IsFirst => self.token == self.first,
-            Fact::IsSecond => last == self.first,
-            Fact::Begins(mark) => source.is(self.first, *mark),
-            Fact::BeginsWithName => source.is_name(self.first),
-            Fact::BeginsWithType => source.is_one(self.first, TYPES),
-            Fact::BeginsWithReturn => matches!(
-                source.token(self.first),
-                Some(Token::Jump(JumpWord::Return, _))
-            ),
-            Fact::InFunction => self.brace.is_some(),
-            Fact::AtFileScope => self.brace.is_none(),
-            Fact::InParentheses => self.parenthesis.is_some(),
-            Fact::InNoParentheses => self.parenthesis.is_none(),
-            Fact::InNoBrackets => self.bracket.is_none(),
+            Is(mark) => source.is(self.token, *mark),
+            IsName => source.is_name(self.token),
+            IsConstant => matches!(source.token(self.token), Some(Token::Constant(_))),
+            IsType => source.is_one(self.token, TYPES),
+            IsOperator => source.is_one(self.token, OPERATORS),
+            IsPointerSign => source.is_one(self.token, POINTER_SIGNS),
+            Before(n, mark) => source.is(before(self.token, *n), *mark),
+            AfterName => source.is_name(last),
+            AfterDeclared => source.is_declared(last),
+            AfterCall => self.is_after_call(),
+            AfterNoOperand => !self.is_after_operand(),
+            AfterAssign => self.is_after_assign(),
+            IsFirst => self.token == self.first,
+            IsSecond => last == self.first,
+            Begins(mark) => source.is(self.first, *mark),
+            BeginsWithName => source.is_name(self.first),
+            BeginsWithType => source.is_one(self.first, TYPES),
+            BeginsWithReturn => {
+                matches!(
+                    source.token(self.first),
+                    Some(Token::Jump(JumpWord::Return, _))
+                )
+            }
+            InFunction => self.is_in(Mark::LeftBrace),
+            AtFileScope => !self.is_in(Mark::LeftBrace),
+            InParentheses => self.is_in(Mark::LeftParen),
+            InNoParentheses => !self.is_in(Mark::LeftParen),
+            InNoBrackets => !self.is_in(Mark::LeftBracket),
         }
-    }
-
-    fn hold(&self, facts: &[Fact]) -> bool {
-        facts.iter().all(|fact| self.holds(fact))
     }
 
     /// Returns the first hint whose facts hold, or none.
     fn first_hint(&self, hints: &[(&[Fact], &'static str)]) -> &'static str {
         for (facts, hint) in hints {
-            if self.hold(*facts) {
+            if facts.iter().all(|fact| self.holds(fact)) {
                 return *hint;
             }
         }
