@@ -1,11 +1,10 @@
 //! Memory: what fills it at the start, and the stores since.
 ghost use Rattle.std.specs.Prelude.{◌≡◌, ◌+◌, ◌*◌, ◌<◌, ◌^◌, ◌%◌, IfOk, IfSome, is_some, true, ◌&&◌};
 ghost use Rattle.mips_isa.specs.States.{is_aligned, is_open, is_inside, load_at, store_at};
-ghost use Rattle.counterexample.specs.Fillings.{filled_byte};
 ghost use Rattle.counterexample.specs.Memories.{everywhere, bytes_of, byte_behind};
 
 use crate::filling::{Filling, byte_at_place};
-use std::alloc::{AllocError, Global};
+use std::alloc::AllocError;
 use words::Width;
 
 /// A store that was made.
