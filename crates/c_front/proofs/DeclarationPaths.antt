@@ -7,7 +7,6 @@ use Rattle.c_tokens.specs.declared.token.IntegerType.TheVariants.{SignedInt}
 use Rattle.words.specs.declared.width.Width.TheVariants.{Word, Byte}
 use Rattle.c_tokens.specs.declared.token.Token.{Token}
 use Rattle.c_tokens.specs.declared.token.Token.TheVariants.{The}
-use Rattle.c_tokens.specs.declared.token.Mark.{Mark}
 use Rattle.c_tokens.specs.declared.token.Mark.TheVariants.{Int, Unsigned, Char, Void, Semicolon, Comma, LeftBrace, RightBrace, LeftParen, RightParen}
 use Rattle.c_tokens.specs.declared.token.Mark.TheVariants.{LeftBracket}
 use Rattle.c_tokens.specs.declared.token.Mark.TheVariants.{RightBracket, Assign, Minus}
@@ -16,7 +15,7 @@ use Rattle.c_front.specs.Grammar.{more_parameters, items, Symbol, T, N, variable
 use Rattle.c_front.specs.Grammar.{declarations_more, declaration_typed, declaration_bytes, declaration_void, global_plain, global_initial}
 use Rattle.c_front.specs.Grammar.{global_array, global_function}
 use Rattle.c_front.specs.Grammar.{initial_plain, initial_negative, function_rule, parameters_void, parameters_some, more_parameters_end, more_parameters_more}
-use Rattle.c_front.specs.Grammar.{first, second, is_the, Spells}
+use Rattle.c_front.specs.Grammar.{first, second, is_name, is_constant, is_the, Spells}
 use Rattle.c_front.specs.Reading.{Reads, read_nothing, read_token, read_phrase, Stuck, stuck_past, stuck_phrase, stuck_inside}
 use Rattle.c_front.specs.Choosing.{one_choice, chosen_rule, Peeks, EndsParameters}
 use Rattle.c_tokens.specs.declared.token.Literal.{Literal}
@@ -32,20 +31,16 @@ use Rattle.c_tree.specs.declared.tree.Declaration as Rust
 use Rattle.c_tree.specs.Shape.{declaration_of, declarations_of}
 use Rattle.c_front.proofs.Reading.{stuck_after, stuck-within, type-takes, derived}
 use Rattle.c_front.proofs.Paths.{followed, whole}
-use Rattle.c_front.proofs.Steps.{missing-first, name-missing-first, constant-missing-first, past-mark, past-name, past-constant, past-phrase}
-use Rattle.c_front.proofs.Steps.{first-ended, past-ended, ended-then, inside, mark-then, mark-end, name-then, constant-then}
+use Rattle.c_front.proofs.Steps.{missing-first, name-missing-first, constant-missing-first, past-token, past-phrase, taken, begun, by-first}
+use Rattle.c_front.proofs.Steps.{first-ended, past-ended, ended-then, inside, token-then, mark-end}
 
 -- the first value of a global variable
-chosen-negative : (ts a : List Token) → StartsWith Minus ts a → one_choice initial (first ts) ≡ Some (T (the Minus) ∷ T a_constant ∷ [], initial_negative)
-chosen-negative ts a e = ap (λ (x : List Token). one_choice initial (first x)) e
-
 pub negative-read : (ts a rest : List Token) (k : Literal) → StartsWith Minus ts a → StartsWithConstant a k rest
     → IsRead initial ts rest (record { negative = true; literal = k })
-negative-read ts a rest k e f = whole initial_negative (chosen-negative ts a e) (mark-then e (constant-then f read_nothing))
+negative-read ts a rest k e f = taken initial_negative is_the e refl (token-then is_constant f read_nothing)
 
 pub negative-stuck : (ts a : List Token) (s : ParseStop) → StartsWith Minus ts a → IsConstantMissing a s → IsStuck initial ts s
-negative-stuck ts a s e h = inside initial_negative ts s (chosen-negative ts a e) (λ z. z)
-    (past-mark Minus (T a_constant ∷ []) ts a s e (constant-missing-first [] a s h))
+negative-stuck ts a s e h = begun initial_negative is_the ts a s e refl (λ z. z) (constant-missing-first [] a s h)
 
 chosen-plain : (next : Option Token) → next ≢ Some (The Minus) → one_choice initial next ≡ Some (T a_constant ∷ [], initial_plain)
 chosen-plain None h = refl
@@ -54,7 +49,7 @@ chosen-plain (Some _) h = refl
 
 pub plain-read : (ts rest : List Token) (k : Literal) → StartsWithout Minus ts → StartsWithConstant ts k rest
     → IsRead initial ts rest (record { negative = false; literal = k })
-plain-read ts rest k h e = whole initial_plain (chosen-plain (first ts) h) (constant-then e read_nothing)
+plain-read ts rest k h e = whole initial_plain (chosen-plain (first ts) h) (token-then is_constant e read_nothing)
 
 pub plain-stuck : (ts : List Token) (s : ParseStop) → StartsWithout Minus ts → IsConstantMissing ts s → IsStuck initial ts s
 plain-stuck ts s h k = inside initial_plain ts s (chosen-plain (first ts) h) (λ z. z) (constant-missing-first [] ts s k)
@@ -77,7 +72,7 @@ parameter-type-stuck ts h symbols = type-missing ts h (T a_name ∷ symbols)
 
 pub parameter-read : (ts a rest : List Token) (k : IntegerType) (x : Identifier) → IsRead a_type ts a k → StartsWithName a x rest
     → IsParameterRead ts rest (record { integer_type = k; name = x })
-parameter-read ts a rest k x d e = followed d (name-then e read_nothing)
+parameter-read ts a rest k x d e = followed d (token-then is_name e read_nothing)
 
 -- some parameters were read
 pub record GoesOnParameters (ts middle : List Token) (all : List Parameter) : Type 0 where
@@ -87,7 +82,7 @@ pub record GoesOnParameters (ts middle : List Token) (all : List Parameter) : Ty
   pub shorter : length middle < length ts
 
 pub no-parameters-read : (ts rest : List Token) → StartsWith Void ts rest → IsRead parameters ts rest []
-no-parameters-read ts rest e = whole parameters_void (ap (λ (x : List Token). one_choice parameters (first x)) e) (mark-end e)
+no-parameters-read ts rest e = taken parameters_void is_the e refl read_nothing
 
 some-parameters : (next : Option Token) → next ≢ Some (The Void) → one_choice parameters next ≡ Some
     (N a_type ∷ T a_name ∷ N more_parameters ∷ [], parameters_some)
@@ -120,10 +115,6 @@ parameters-first ts middle p all h d l q =
     } in
     subst P (sym q) start
 
-chosen-comma : (ts a : List Token) → StartsWith Comma ts a → one_choice more_parameters (first ts) ≡ Some
-    (T (the Comma) ∷ N a_type ∷ T a_name ∷ N more_parameters ∷ [], more_parameters_more)
-chosen-comma ts a e = ap (λ (x : List Token). one_choice more_parameters (first x)) e
-
 comma-stuck : {ts after rest : List Token} → StartsWith Comma ts after → ((symbols : List Symbol)
     → Stuck (N a_type ∷ T a_name ∷ N more_parameters ∷ symbols) after rest) → (symbols : List Symbol) → Stuck (N more_parameters ∷ symbols) ts rest
 comma-stuck {rest = rest} e h symbols =
@@ -135,8 +126,7 @@ pub parameters-more : (ts middle after next : List Token) (p : Parameter) (all n
     length next < length ts → new ≡ all ++ p ∷ [] → GoesOnParameters ts next new
 parameters-more ts middle after next p all new g h d l q =
     let start : GoesOnParameters ts next (all ++ p ∷ []) = record {
-      reads = λ rest more z. rw append_assoc (g.reads rest (p ∷ more) (whole more_parameters_more (chosen-comma middle after h)
-          (mark-then h (parameter-then d z))));
+      reads = λ rest more z. rw append_assoc (g.reads rest (p ∷ more) (taken more_parameters_more is_the h refl (parameter-then d z)));
       stuck = λ rest z symbols. g.stuck rest (comma-stuck h (λ y. stuck_after d (z y))) symbols;
       shorter = l;
     } in
@@ -172,12 +162,12 @@ function-open-stuck ts s h = function-stuck ts s (missing-first LeftParen after_
 
 pub function-parameters-stuck : (ts a : List Token) (s : ParseStop) → StartsWith LeftParen ts a → IsEndedStuck parameters RightParen a s
     → IsStuck function_rest ts s
-function-parameters-stuck ts a s e h = function-stuck ts s (past-mark LeftParen after_open ts a s e (first-ended parameters RightParen in_body a s h))
+function-parameters-stuck ts a s e h = function-stuck ts s (past-token is_the after_open ts a s e (first-ended parameters RightParen in_body a s h))
 
 past-parameters : (ts a b : List Token) (ps : List Parameter) (s : ParseStop) → StartsWith LeftParen ts a → IsEndedRead parameters RightParen a b ps
     → AreStuck in_body b s → IsStuck function_rest ts s
 past-parameters ts a b ps s e d h =
-    function-stuck ts s (past-mark LeftParen after_open ts a s e (past-ended parameters RightParen in_body a b ps s d h))
+    function-stuck ts s (past-token is_the after_open ts a s e (past-ended parameters RightParen in_body a b ps s d h))
 
 pub function-brace-stuck : (ts a b : List Token) (ps : List Parameter) (s : ParseStop) → StartsWith LeftParen ts a
     → IsEndedRead parameters RightParen a b ps → IsMissing LeftBrace b s → IsStuck function_rest ts s
@@ -187,65 +177,61 @@ function-brace-stuck ts a b ps s e d h =
 pub function-body-stuck : (ts a b c : List Token) (ps : List Parameter) (s : ParseStop) → StartsWith LeftParen ts a
     → IsEndedRead parameters RightParen a b ps → StartsWith LeftBrace b c → IsEndedStuck items RightBrace c s → IsStuck function_rest ts s
 function-body-stuck ts a b c ps s e d f h =
-    past-parameters ts a b ps s e d (past-mark LeftBrace (N items ∷ T (the RightBrace) ∷ []) b c s f h)
+    past-parameters ts a b ps s e d (past-token is_the (N items ∷ T (the RightBrace) ∷ []) b c s f h)
 
 pub function-read : (ts a b c rest : List Token) (ps : List Parameter) (is : Items) → StartsWith LeftParen ts a
     → IsEndedRead parameters RightParen a b ps → StartsWith LeftBrace b c → IsEndedRead items RightBrace c rest is
     → IsRead function_rest ts rest (ps, is)
-function-read ts a b c rest ps is e d f q = whole function_rule refl (mark-then e (ended-then d (mark-then f q)))
+function-read ts a b c rest ps is e d f q = whole function_rule refl (token-then is_the e (ended-then d (token-then is_the f q)))
 
 -- what stands after the type and the name of a declaration
-chosen-by : (ts a : List Token) (u : Mark) → StartsWith u ts a → one_choice after_global (first ts) ≡ one_choice after_global (Some (The u))
-chosen-by ts a u e = ap (λ (x : List Token). one_choice after_global (first x)) e
-
 pub tail-plain : (k : IntegerType) (x : Identifier) (ts rest : List Token) → StartsWith Semicolon ts rest → IsTailRead k x ts rest (variable k x None)
-tail-plain k x ts rest e = (variable_tail None, whole global_plain (chosen-by ts rest Semicolon e) (mark-end e), refl)
+tail-plain k x ts rest e = (variable_tail None, taken global_plain is_the e refl read_nothing, refl)
 
 pub tail-initial : (k : IntegerType) (x : Identifier) (ts a rest : List Token) (i : Initial) → StartsWith Assign ts a
     → IsEndedRead initial Semicolon a rest i → IsTailRead k x ts rest (variable k x (Some i))
-tail-initial k x ts a rest i e d = (variable_tail (Some i), whole global_initial (chosen-by ts a Assign e) (mark-then e d), refl)
+tail-initial k x ts a rest i e d = (variable_tail (Some i), taken global_initial is_the e refl d, refl)
 
 pub tail-initial-stuck : (ts a : List Token) (s : ParseStop) → StartsWith Assign ts a → IsEndedStuck initial Semicolon a s → IsStuck after_global ts s
-tail-initial-stuck ts a s e h = inside global_initial ts s (chosen-by ts a Assign e) (λ z. z)
-    (past-mark Assign (N initial ∷ T (the Semicolon) ∷ []) ts a s e h)
+tail-initial-stuck ts a s e h = begun global_initial is_the ts a s e refl (λ z. z) h
 
 pub length-stuck : (ts : List Token) (s : ParseStop) → IsConstantMissing ts s → IsLengthStuck ts s
 length-stuck ts s h = constant-missing-first (T (the RightBracket) ∷ T (the Semicolon) ∷ []) ts s h
 
 pub length-close-stuck : (ts a : List Token) (n : Literal) (s : ParseStop) → StartsWithConstant ts n a → IsMissing RightBracket a s → IsLengthStuck ts s
-length-close-stuck ts a n s e h = past-constant (T (the RightBracket) ∷ T (the Semicolon) ∷ []) ts a n s e
+length-close-stuck ts a n s e h = past-token is_constant (T (the RightBracket) ∷ T (the Semicolon) ∷ []) ts a s e
     (missing-first RightBracket (T (the Semicolon) ∷ []) a s h)
 
 pub length-end-stuck : (ts a b : List Token) (n : Literal) (s : ParseStop) → StartsWithConstant ts n a → StartsWith RightBracket a b
     → IsMissing Semicolon b s → IsLengthStuck ts s
-length-end-stuck ts a b n s e f h = past-constant (T (the RightBracket) ∷ T (the Semicolon) ∷ []) ts a n s e
-    (past-mark RightBracket (T (the Semicolon) ∷ []) a b s f (missing-first Semicolon [] b s h))
+length-end-stuck ts a b n s e f h = past-token is_constant (T (the RightBracket) ∷ T (the Semicolon) ∷ []) ts a s e
+    (past-token is_the (T (the Semicolon) ∷ []) a b s f (missing-first Semicolon [] b s h))
 
 pub length-read : (ts a b rest : List Token) (n : Literal) → StartsWithConstant ts n a → StartsWith RightBracket a b → StartsWith Semicolon b rest
     → IsLengthRead ts rest n
-length-read ts a b rest n e f g = constant-then e (mark-then f (mark-end g))
+length-read ts a b rest n e f g = token-then is_constant e (token-then is_the f (mark-end g))
 
 pub array-stuck : (ts a : List Token) (s : ParseStop) → StartsWith LeftBracket ts a → IsLengthStuck a s → IsStuck after_global ts s
-array-stuck ts a s e h = inside global_array ts s (chosen-by ts a LeftBracket e) (λ z. z) (past-mark LeftBracket length_symbols ts a s e h)
+array-stuck ts a s e h = begun global_array is_the ts a s e refl (λ z. z) h
 
 pub tail-array : (k : IntegerType) (x : Identifier) (ts a rest : List Token) (n : Literal) → StartsWith LeftBracket ts a → IsLengthRead a rest n
     → IsTailRead k x ts rest (array Word k x n)
-tail-array k x ts a rest n e d = (array_tail n, whole global_array (chosen-by ts a LeftBracket e) (mark-then e d), refl)
+tail-array k x ts a rest n e d = (array_tail n, taken global_array is_the e refl d, refl)
 
 -- an array of bytes
 pub bytes-name-stuck : (ts : List Token) (s : ParseStop) → IsNameMissing ts s → IsBytesStuck ts s
 bytes-name-stuck ts s h = name-missing-first (T (the LeftBracket) ∷ length_symbols) ts s h
 
 pub bytes-open-stuck : (ts a : List Token) (x : Identifier) (s : ParseStop) → StartsWithName ts x a → IsMissing LeftBracket a s → IsBytesStuck ts s
-bytes-open-stuck ts a x s e h = past-name (T (the LeftBracket) ∷ length_symbols) ts a x s e (missing-first LeftBracket length_symbols a s h)
+bytes-open-stuck ts a x s e h = past-token is_name (T (the LeftBracket) ∷ length_symbols) ts a s e (missing-first LeftBracket length_symbols a s h)
 
 pub bytes-length-stuck : (ts a b : List Token) (x : Identifier) (s : ParseStop) → StartsWithName ts x a → StartsWith LeftBracket a b → IsLengthStuck b s
     → IsBytesStuck ts s
-bytes-length-stuck ts a b x s e f h = past-name (T (the LeftBracket) ∷ length_symbols) ts a x s e (past-mark LeftBracket length_symbols a b s f h)
+bytes-length-stuck ts a b x s e f h = past-token is_name (T (the LeftBracket) ∷ length_symbols) ts a s e (past-token is_the length_symbols a b s f h)
 
 pub bytes-read : (ts a b rest : List Token) (x : Identifier) (n : Literal) → StartsWithName ts x a → StartsWith LeftBracket a b → IsLengthRead b rest n
     → IsBytesRead ts rest (array Byte SignedInt x n)
-bytes-read ts a b rest x n e f d = (x, n, name-then e (mark-then f d), refl)
+bytes-read ts a b rest x n e f d = (x, n, token-then is_name e (token-then is_the f d), refl)
 
 chosen-function : (next : Option Token) → next ≢ Some (The Semicolon) → next ≢ Some (The Assign) → next ≢ Some (The LeftBracket)
     → one_choice after_global next ≡ Some (N function_rest ∷ [], global_function)
@@ -265,27 +251,18 @@ pub tail-function : (k : IntegerType) (x : Identifier) (ts rest : List Token) (d
 tail-function k x ts rest d a b c f = (function_tail f.0 f.1, whole global_function (chosen-function (first ts) a b c) f.2, f.3)
 
 -- a declaration
-chosen-void : (ts a : List Token) → StartsWith Void ts a → chosen_rule a_declaration (first ts) (second ts) ≡ Some
-    (T (the Void) ∷ T a_name ∷ N function_rest ∷ [], declaration_void)
-chosen-void ts a e = ap (λ (x : List Token). chosen_rule a_declaration (first x) (second x)) e
-
-void-quiet : (ts a : List Token) → StartsWith Void ts a → Peeks a_declaration (first ts) → ⊥
-void-quiet ts a e h = let P : List Token → Type 0 = λ x. Peeks a_declaration (first x) in subst P e h
-
 pub void-name-stuck : (ts a : List Token) (s : ParseStop) → StartsWith Void ts a → IsNameMissing a s → IsStuck a_declaration ts s
-void-name-stuck ts a s e h = inside declaration_void ts s (chosen-void ts a e) (void-quiet ts a e)
-    (past-mark Void (T a_name ∷ N function_rest ∷ []) ts a s e (name-missing-first (N function_rest ∷ []) a s h))
+void-name-stuck ts a s e h = begun declaration_void is_the ts a s e refl (λ z. z) (name-missing-first (N function_rest ∷ []) a s h)
 
 pub void-rest-stuck : (ts a b : List Token) (x : Identifier) (s : ParseStop) → StartsWith Void ts a → StartsWithName a x b → IsStuck function_rest b s
     → IsStuck a_declaration ts s
-void-rest-stuck ts a b x s e f h = inside declaration_void ts s (chosen-void ts a e) (void-quiet ts a e)
-    (past-mark Void (T a_name ∷ N function_rest ∷ []) ts a s e (past-name (N function_rest ∷ []) a b x s f h))
+void-rest-stuck ts a b x s e f h = begun declaration_void is_the ts a s e refl (λ z. z) (past-token is_name (N function_rest ∷ []) a b s f h)
 
 pub void-read : (ts a b rest : List Token) (x : Identifier) (d : Declaration) → StartsWith Void ts a → StartsWithName a x b
     → (ps : List Parameter) × (is : Items) × IsRead function_rest b rest (ps, is) × (d ≡ function None x ps is) → IsRead a_declaration ts rest d
 void-read ts a b rest x d e f g =
     let P : Declaration → Type 0 = λ y. IsRead a_declaration ts rest y in
-    subst P (sym g.3) (whole declaration_void (chosen-void ts a e) (mark-then e (name-then f g.2)))
+    subst P (sym g.3) (taken declaration_void is_the e refl (token-then is_name f g.2))
 
 chosen-typed : (next after : Option Token) → next ≢ Some (The Void) → (next ≡ Some (The Unsigned) → after ≢ Some (The Char))
     → chosen_rule a_declaration next after ≡ Some (N a_type ∷ T a_name ∷ N after_global ∷ [], declaration_typed)
@@ -319,13 +296,13 @@ typed-name-stuck ts a k s v n d h = typed-stuck ts a k s v n d (name-missing-fir
 
 pub typed-rest-stuck : (ts a b : List Token) (k : IntegerType) (x : Identifier) (s : ParseStop) → StartsWithout Void ts → StartsNoBytes ts
     → IsRead a_type ts a k → StartsWithName a x b → IsStuck after_global b s → IsStuck a_declaration ts s
-typed-rest-stuck ts a b k x s v n d e h = typed-stuck ts a k s v n d (past-name (N after_global ∷ []) a b x s e h)
+typed-rest-stuck ts a b k x s v n d e h = typed-stuck ts a k s v n d (past-token is_name (N after_global ∷ []) a b s e h)
 
 pub typed-read : (ts a b rest : List Token) (k : IntegerType) (x : Identifier) (d : Declaration) → StartsWithout Void ts → StartsNoBytes ts
     → IsRead a_type ts a k → StartsWithName a x b → IsTailRead k x b rest d → IsRead a_declaration ts rest d
 typed-read ts a b rest k x d v n q e h =
     let P : Declaration → Type 0 = λ y. IsRead a_declaration ts rest y in
-    subst P (sym h.2) (whole declaration_typed (chosen-typed (first ts) (second ts) v n) (followed q (name-then e h.1)))
+    subst P (sym h.2) (whole declaration_typed (chosen-typed (first ts) (second ts) v n) (followed q (token-then is_name e h.1)))
 
 -- `unsigned char`, and what stands behind it
 pub bytes-stuck : (ts a : List Token) (s : ParseStop) → StartsBytes ts a → IsBytesStuck a s → IsStuck a_declaration ts s
@@ -356,18 +333,11 @@ pub record GoesOnDeclarations (ts middle : List Token) (all : List Declaration) 
       → Stuck (N declarations ∷ symbols) ts rest
   pub shorter : length middle ≤ length ts
 
-pub declarations-start : (ts : List Token) → length ts ≤ length ts → GoesOnDeclarations ts ts []
-declarations-start ts h = record { reads = λ more d. d; stuck = λ rest s. s; shorter = h }
-
-go-on : (ts more : List Token) (t : Token) → ts ≡ t ∷ more → one_choice declarations (first ts) ≡ Some
-    (N a_declaration ∷ N declarations ∷ [], declarations_more)
-go-on ts more t e = ap (λ (x : List Token). one_choice declarations (first x)) e
-
 pub declarations-more : (ts middle after next : List Token) (t : Token) (all : List Declaration) (d : Declaration) → GoesOnDeclarations ts middle all
     → middle ≡ t ∷ after → IsRead a_declaration middle next d → length next ≤ length ts → GoesOnDeclarations ts next (all ++ d ∷ [])
 declarations-more ts middle after next t all d g h q l = record {
-  reads = λ more z. rw append_assoc (g.reads (d ∷ more) (whole declarations_more (go-on middle after t h) (followed q z)));
-  stuck = λ rest s symbols. g.stuck rest (λ more. stuck_inside declarations_more (go-on middle after t h) (λ z. absurd z) (stuck_after q (s more))) symbols;
+  reads = λ more z. rw append_assoc (g.reads (d ∷ more) (whole declarations_more (by-first declarations h) (followed q z)));
+  stuck = λ rest s symbols. g.stuck rest (λ more. stuck_inside declarations_more (by-first declarations h) (λ z. absurd z) (stuck_after q (s more))) symbols;
   shorter = l;
 }
 
@@ -380,7 +350,7 @@ declarations-spelled ts middle all g e =
 pub declaration-stuck : (ts middle after : List Token) (t : Token) (all : List Declaration) (s : ParseStop) → GoesOnDeclarations ts middle all
     → middle ≡ t ∷ after → IsStuck a_declaration middle s → IsProgramStuck ts s
 declaration-stuck ts middle after t all (Syntax rest) g h k =
-    stuck_inside program_rule refl (λ z. absurd z) (g.stuck rest.now (λ symbols. stuck_inside declarations_more (go-on middle after t h) (λ z. absurd z)
+    stuck_inside program_rule refl (λ z. absurd z) (g.stuck rest.now (λ symbols. stuck_inside declarations_more (by-first declarations h) (λ z. absurd z)
     (k (N declarations ∷ symbols))) [])
 declaration-stuck ts middle after t all NoMemory g h k = tt
 

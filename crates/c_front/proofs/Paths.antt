@@ -10,12 +10,12 @@ use Rattle.c_tokens.specs.declared.token.Mark.TheVariants.{LessEqual, GreaterEqu
 use Rattle.c_tree.specs.declared.tree.UnaryOp.{UnaryOp}
 use Rattle.c_tree.specs.declared.tree.BinaryOp.{BinaryOp}
 use Rattle.c_front.specs.Grammar.{a_name, the, Level, unary_expressions, above, ors, Nonterminal, an_expression, choice, operands, more_operands, Symbol, T, N}
-use Rattle.c_front.specs.Grammar.{PhraseTree, SortTree, PhraseTrees, Operator, multiply, divide, remainder, add, subtract, shift_left, shift_right, less}
+use Rattle.c_front.specs.Grammar.{PhraseTree, PhraseTrees, Operator, multiply, divide, remainder, add, subtract, shift_left, shift_right, less}
 use Rattle.c_front.specs.Grammar.{greater, less_or_equal, greater_or_equal, equal, not_equal, bit_and, bit_xor, bit_or, logical_and, logical_or, Prefix, negate}
 use Rattle.c_front.specs.Grammar.{identity, complement, not, Rule, expression_rule, choice_none, choice_some, operands_rule, operands_end, operands_more}
-use Rattle.c_front.specs.Grammar.{operand_constant, operand_name, operand_index, operand_unary, operand_paren, grouping_of, tree_of, first, second, IsToken}
+use Rattle.c_front.specs.Grammar.{operand_constant, operand_name, operand_index, operand_unary, operand_paren, grouping_of, tree_of, first, second}
 use Rattle.c_front.specs.Grammar.{is_name, is_constant, is_the}
-use Rattle.c_front.specs.Reading.{Reads, read_nothing, read_token, read_phrase, Stuck, stuck_token, stuck_past, stuck_phrase, stuck_inside}
+use Rattle.c_front.specs.Reading.{Reads, read_nothing, read_token, read_phrase, Stuck, stuck_past, stuck_phrase, stuck_inside}
 use Rattle.c_front.specs.Choosing.{Choice, operator_at, more_choice, chosen_rule, EndsOperands, EndsChoice}
 use Rattle.c_tokens.specs.declared.token.Literal.{Literal}
 use Rattle.c_front.specs.declared.cursor.ParseStop.{ParseStop}
@@ -24,6 +24,7 @@ use Rattle.c_tree.specs.Tree.{Expression, constant, name, index, unary, binary, 
 use Rattle.c_front.specs.Parsing.{level_of, EndsUpTo, EndsBelow, StartsWith, StartsWithout, IsRead, IsStuck, StartsWithOperator, IsChoiceRead}
 use Rattle.c_front.specs.Parsing.{IsChoiceStuck, IsClosedRead, IsClosedStuck}
 use Rattle.c_front.proofs.Reading.{stuck_after, stuck-within}
+use Rattle.c_front.proofs.Steps.{ended-then, taken, begun}
 use Rattle.c_front.proofs.Ranks.{chosen-operator, rank, operator-rank, ends-operands}
 
 -- a phrase, and what follows it
@@ -199,18 +200,6 @@ climbs-more-stuck level k ts middle after left o (Syntax rest) g s h q =
     lifted (suc level) (suc k) ts (Syntax rest) (omega (arith, h)) ((at-operator level k o ts middle after left g s).stuck rest.now
     (more-stuck s (λ symbols. q (N (more_operands (level_of k)) ∷ symbols))))
 
-pub missing-stuck : (u : Mark) (ts : List Token) → first ts ≢ Some (The u) → (symbols : List Symbol) → Stuck (T (the u) ∷ symbols) ts ts
-missing-stuck u ts h symbols = stuck_token (λ t v e i. go t v e i)
-  where
-    go : (t : Token) (v : SortTree (the u)) → first ts ≡ Some t → IsToken (the u) t v → ⊥
-    go t v e is_the = h e
-
--- an expression and a mark after it
-closed-then : {u : Mark} {symbols : List Symbol} {ts a rest : List Token} {e : Expression} {m : PhraseTrees symbols} → IsClosedRead u ts a e
-    → Reads symbols a rest m →
-    Reads (N an_expression ∷ T (the u) ∷ symbols) ts rest (e, (tt, m))
-closed-then (read_phrase r c d q (read_token is_the read_nothing)) z = read_phrase r c d q (read_token is_the z)
-
 pub choice-first-stuck : (ts : List Token) (s : ParseStop) → IsClosedStuck Colon ts s → IsChoiceStuck ts s
 choice-first-stuck ts (Syntax rest) h = λ symbols. h (N an_expression ∷ symbols)
 choice-first-stuck ts NoMemory h = tt
@@ -221,7 +210,7 @@ choice-second-stuck ts rest a (Syntax end) d h = λ symbols. stuck_after d (h sy
 choice-second-stuck ts rest a NoMemory d h = tt
 
 pub choice-read : (ts rest end : List Token) (a b : Expression) → IsClosedRead Colon ts rest a → IsRead an_expression rest end b → IsChoiceRead ts end a b
-choice-read ts rest end a b d q = closed-then d q
+choice-read ts rest end a b d q = ended-then d q
 
 pub condition-stuck : (ts : List Token) (s : ParseStop) → IsStuck (operands ors) ts s → IsStuck an_expression ts s
 condition-stuck ts (Syntax rest) h = λ symbols. stuck_inside expression_rule refl (λ h. absurd h) (h (N choice ∷ symbols))
@@ -238,21 +227,16 @@ expression-alone ts rest c d h = whole expression_rule refl (followed d (whole c
 pub expression-choice : (ts rest after end : List Token) (c a b : Expression) → IsRead (operands ors) ts rest c → StartsWith Question rest after
     → IsChoiceRead after end a b →
     IsRead an_expression ts end (conditional c a b)
-expression-choice ts rest after end c a b d e q =
-    let P : List Token → Type 0 = λ x. Reads (N choice ∷ []) x end (Some (a, b), tt) in
-    whole expression_rule refl (followed d (subst P (sym e) (whole choice_some refl (read_token is_the q))))
+expression-choice ts rest after end c a b d e q = whole expression_rule refl (followed d (taken choice_some is_the e refl q))
 
 pub expression-choice-stuck : (ts rest after : List Token) (c : Expression) (s : ParseStop) → IsRead (operands ors) ts rest c → StartsWith Question rest after
     → IsChoiceStuck after s → IsStuck an_expression ts s
 expression-choice-stuck ts rest after c (Syntax end) d e h = λ symbols.
-    let P : List Token → Type 0 = λ x. Stuck (N choice ∷ symbols) x end.now in
-    stuck_inside expression_rule refl (λ h. absurd h) (stuck_after d (subst P (sym e)
-    (stuck_inside choice_some refl (λ h. absurd h) (stuck_past is_the (h symbols)))))
+    stuck_inside expression_rule refl (λ h. absurd h) (stuck_after d (begun choice_some is_the rest after (Syntax end) e refl (λ z. z) h symbols))
 expression-choice-stuck ts rest after c NoMemory d e h = tt
 
 pub constant-read : (ts rest : List Token) (k : Literal) → ts ≡ Constant k ∷ rest → IsRead (operands unary_expressions) ts rest (constant k)
-constant-read ts rest k e = let P : List Token → Type 0 = λ x. IsRead (operands unary_expressions) x rest (constant k) in
-    subst P (sym e) (whole operand_constant refl (read_token is_constant read_nothing))
+constant-read ts rest k e = taken operand_constant is_constant e refl read_nothing
 
 no-index : (x : Identifier) (next : Option Token) → next ≢ Some (The LeftBracket)
     → chosen_rule (operands unary_expressions) (Some (Name x)) next ≡ Some (T a_name ∷ [], operand_name)
@@ -262,10 +246,9 @@ no-index x (Some _) h = refl
 
 pub name-read : (ts rest : List Token) (x : Identifier) → ts ≡ Name x ∷ rest → StartsWithout LeftBracket rest
     → IsRead (operands unary_expressions) ts rest (name x)
-name-read ts rest x e h = let P : List Token → Type 0 = λ y. IsRead (operands unary_expressions) y rest (name x) in
-    subst P (sym e) (whole operand_name (no-index x (first rest) h) (read_token is_name read_nothing))
+name-read ts rest x e h = taken operand_name is_name e (no-index x (first rest) h) read_nothing
 
-two : (ts rest after : List Token) (t u : Token) → ts ≡ t ∷ rest → rest ≡ u ∷ after → ts ≡ t ∷ u ∷ after
+pub two : (ts rest after : List Token) (t u : Token) → ts ≡ t ∷ rest → rest ≡ u ∷ after → ts ≡ t ∷ u ∷ after
 two ts rest after t u e f = e ∙ ap (λ (x : List Token). t ∷ x) f
 
 pub index-read : (ts rest after end : List Token) (x : Identifier) (a : Expression) → ts ≡ Name x ∷ rest → StartsWith LeftBracket rest after
@@ -292,28 +275,19 @@ chosen-prefix not after = refl
 
 pub prefix-read : (ts rest end : List Token) (t : Mark) (o : UnaryOp) (e : Expression) → ts ≡ The t ∷ rest → Prefix o t
     → IsRead (operands unary_expressions) rest end e → IsRead (operands unary_expressions) ts end (unary o e)
-prefix-read ts rest end t o e q r d = let P : List Token → Type 0 = λ y. IsRead (operands unary_expressions) y end (unary o e) in
-    subst P (sym q) (whole (operand_unary r) (chosen-prefix r (first rest)) (read_token is_the d))
+prefix-read ts rest end t o e q r d = taken (operand_unary r) is_the q (chosen-prefix r (first rest)) d
 
 pub prefix-stuck : (ts rest : List Token) (t : Mark) (o : UnaryOp) (s : ParseStop) → ts ≡ The t ∷ rest → Prefix o t
     → IsStuck (operands unary_expressions) rest s → IsStuck (operands unary_expressions) ts s
-prefix-stuck ts rest t o (Syntax end) q r h = λ symbols.
-    let P : List Token → Type 0 = λ y. Stuck (N (operands unary_expressions) ∷ symbols) y end.now in
-    subst P (sym q) (stuck_inside (operand_unary r) (chosen-prefix r (first rest)) (λ h. absurd h) (stuck_past is_the (h symbols)))
-prefix-stuck ts rest t o NoMemory q r h = tt
+prefix-stuck ts rest t o s q r h = begun (operand_unary r) is_the ts rest s q (chosen-prefix r (first rest)) (λ z. z) h
 
 pub parens-read : (ts rest end : List Token) (e : Expression) → ts ≡ The LeftParen ∷ rest → IsClosedRead RightParen rest end e
     → IsRead (operands unary_expressions) ts end e
-parens-read ts rest end e q d =
-    let P : List Token → Type 0 = λ y. IsRead (operands unary_expressions) y end e in
-    subst P (sym q) (whole operand_paren refl (read_token is_the d))
+parens-read ts rest end e q d = taken operand_paren is_the q refl d
 
 pub parens-stuck : (ts rest : List Token) (s : ParseStop) → ts ≡ The LeftParen ∷ rest → IsClosedStuck RightParen rest s
     → IsStuck (operands unary_expressions) ts s
-parens-stuck ts rest (Syntax end) q h = λ symbols.
-    let P : List Token → Type 0 = λ y. Stuck (N (operands unary_expressions) ∷ symbols) y end.now in
-    subst P (sym q) (stuck_inside operand_paren refl (λ h. absurd h) (stuck_past is_the (h symbols)))
-parens-stuck ts rest NoMemory q h = tt
+parens-stuck ts rest s q h = begun operand_paren is_the ts rest s q refl (λ z. z) h
 
 pub no-operand : (ts rest : List Token) (t : Mark) → ts ≡ The t ∷ rest → t ≢ Minus → t ≢ Plus → t ≢ Tilde → t ≢ Bang → t ≢ LeftParen → (symbols : List Symbol)
     → Stuck (N (operands unary_expressions) ∷ symbols) ts ts

@@ -3,12 +3,11 @@ use Rattle.std.proofs.Common.{◌≡◌, ◌≢◌, ◌<◌, ◌+◌, List, [], 
 use Rattle.c_tokens.specs.declared.token.Identifier.{Identifier}
 use Rattle.c_tokens.specs.declared.token.Token.{Token}
 use Rattle.c_tokens.specs.declared.token.Token.TheVariants.{Name, The}
-use Rattle.c_tokens.specs.declared.token.Mark.{Mark}
 use Rattle.c_tokens.specs.declared.token.Mark.TheVariants.{Comma, LeftParen, RightParen, LeftBracket, RightBracket, Assign}
-use Rattle.c_front.specs.Grammar.{a_name, the, Nonterminal, simple, value, a_call, arguments, more_arguments, an_expression, Symbol, T, N, PhraseTrees, Rule}
+use Rattle.c_front.specs.Grammar.{a_name, the, Nonterminal, simple, value, a_call, arguments, more_arguments, an_expression, Symbol, T, N, Rule}
 use Rattle.c_front.specs.Grammar.{simple_assign, simple_assign_at, simple_call, value_plain, value_call, call_rule, arguments_none, arguments_some}
 use Rattle.c_front.specs.Grammar.{more_arguments_end, more_arguments_more, first, second, is_name, is_the}
-use Rattle.c_front.specs.Reading.{Reads, read_nothing, read_token, read_phrase, Stuck, stuck_past, stuck_inside, CanRead, can_read}
+use Rattle.c_front.specs.Reading.{read_nothing, read_token, Stuck, stuck_past, stuck_inside, CanRead, can_read}
 use Rattle.c_front.specs.Choosing.{Choice, one_choice, chosen_rule, Peeks, EndsArguments}
 use Rattle.c_front.specs.declared.cursor.ParseStop.{ParseStop}
 use Rattle.c_front.specs.declared.cursor.ParseStop.TheVariants.{Syntax, NoMemory}
@@ -20,8 +19,8 @@ use Rattle.c_front.specs.Parsing.{StartsWith, StartsWithout, IsRead, AreStuck, I
 use Rattle.c_front.specs.Parsing.{IsArgumentsRead, IsArgumentsStuck, IsAssignedRead, IsAssignedStuck, StartsCall, StartsNoCall}
 use Rattle.c_front.proofs.Reading.{stuck_after, stuck-within, Before, before_here, before_past, StuckAt, stuck_at, dead}
 use Rattle.c_front.proofs.Completing.{name-expression}
-use Rattle.c_front.proofs.Paths.{followed, whole, missing-stuck}
-use Rattle.c_front.proofs.Steps.{first-ended, past-ended, missing-first, past-mark}
+use Rattle.c_front.proofs.Paths.{followed, whole, two}
+use Rattle.c_front.proofs.Steps.{missing-stuck, first-ended, past-ended, missing-first, past-token, token-then, taken, mark-end, ended-then}
 
 before-length : {p ts rest : List Token} → Before p ts rest → length ts ≡ length p + length rest
 before-length before_here = omega arith
@@ -64,9 +63,7 @@ none-more (Some _) h = refl
 
 paren-then : {ts end : List Token} {es : List Tree.Expression} (middle : List Token) → IsRead arguments ts middle es → StartsWith RightParen middle end
     → IsArgumentsRead ts end es
-paren-then {end = end} middle d e =
-    let P : List Token → Type 0 = λ x. Reads (T (the RightParen) ∷ []) x end (tt, tt) in
-    followed d (subst P (sym e) (read_token is_the read_nothing))
+paren-then middle d e = followed d (mark-end e)
 
 pub no-arguments-read : (ts end : List Token) → StartsWith RightParen ts end → IsArgumentsRead ts end []
 no-arguments-read ts end e =
@@ -91,9 +88,7 @@ arguments-first ts middle e all h d l q =
 
 comma-read : {ts after next rest : List Token} {e : Tree.Expression} {more : List Tree.Expression} → StartsWith Comma ts after
     → IsRead an_expression after next e → IsRead more_arguments next rest more → IsRead more_arguments ts rest (e ∷ more)
-comma-read {rest = rest} {e = e} {more = more} h d q =
-    let P : List Token → Type 0 = λ x. IsRead more_arguments x rest (e ∷ more) in
-    subst P (sym h) (whole more_arguments_more refl (read_token is_the (followed d q)))
+comma-read h d q = taken more_arguments_more is_the h refl (followed d q)
 
 comma-stuck : {ts after rest : List Token} → StartsWith Comma ts after → ((symbols : List Symbol)
     → Stuck (N an_expression ∷ N more_arguments ∷ symbols) after rest) → (symbols : List Symbol) → Stuck (N more_arguments ∷ symbols) ts rest
@@ -187,29 +182,18 @@ value-plain-stuck ts (Syntax rest) h k = λ symbols.
 value-plain-stuck ts NoMemory h k = tt
 
 pub assigned-read : (ts a b : List Token) (v : Value) → StartsWith Assign ts a → IsRead value a b v → IsAssignedRead ts b v
-assigned-read ts a b v e d =
-    let P : List Token → Type 0 = λ x. IsAssignedRead x b v in
-    subst P (sym e) (read_token is_the d)
+assigned-read ts a b v e d = token-then is_the e d
 
 pub assigned-sign-stuck : (ts : List Token) (s : ParseStop) → IsMissing Assign ts s → IsAssignedStuck ts s
-assigned-sign-stuck ts (Syntax rest) h = λ symbols.
-    let P : List Token → Type 0 = λ x. Stuck (T (the Assign) ∷ N value ∷ symbols) ts x in
-    subst P (sym h.0) (missing-stuck Assign ts h.1 (N value ∷ symbols))
-assigned-sign-stuck ts NoMemory h = tt
+assigned-sign-stuck ts s h = missing-first Assign (N value ∷ []) ts s h
 
 pub assigned-value-stuck : (ts a : List Token) (s : ParseStop) → StartsWith Assign ts a → IsStuck value a s → IsAssignedStuck ts s
-assigned-value-stuck ts a (Syntax rest) e h = λ symbols.
-    let P : List Token → Type 0 = λ x. Stuck (T (the Assign) ∷ N value ∷ symbols) x rest.now in
-    subst P (sym e) (stuck_past is_the (h symbols))
-assigned-value-stuck ts a NoMemory e h = tt
+assigned-value-stuck ts a s e h = past-token is_the (N value ∷ []) ts a s e h
 
 no-simple : (next : Option Token) → ((x : Identifier) → next ≢ Some (Name x)) → (after : Option Token) → chosen_rule simple next after ≡ None
 no-simple None h after = refl
 no-simple (Some (Name x)) h after = absurd (h x refl)
 no-simple (Some _) h after = refl
-
-two : (ts rest after : List Token) (t u : Token) → ts ≡ t ∷ rest → rest ≡ u ∷ after → ts ≡ t ∷ u ∷ after
-two ts rest after t u e f = e ∙ ap (λ (x : List Token). t ∷ x) f
 
 pub simple-call-read : (ts rest after end : List Token) (x : Identifier) (es : List Tree.Expression) → StartsWithName ts x rest
     → StartsWith LeftParen rest after → IsArgumentsRead after end es → IsRead simple ts end (call_statement (call x es))
@@ -221,19 +205,13 @@ pub simple-call-stuck : (ts rest after : List Token) (x : Identifier) (s : Parse
     → IsArgumentsStuck after s → IsStuck simple ts s
 simple-call-stuck ts rest after x s e f h = call-stuck simple simple_call ts after x s (λ y. refl) (two ts rest after (Name x) (The LeftParen) e f) h
 
-closed-then : {u : Mark} {symbols : List Symbol} {ts a rest : List Token} {e : Tree.Expression} {m : PhraseTrees symbols} → IsClosedRead u ts a e
-    → Reads symbols a rest m →
-    Reads (N an_expression ∷ T (the u) ∷ symbols) ts rest (e, (tt, m))
-closed-then (read_phrase r c d q (read_token is_the read_nothing)) z = read_phrase r c d q (read_token is_the z)
-
 pub assign-at-read : (ts rest after close start end : List Token) (x : Identifier) (e v : Tree.Expression) → StartsWithName ts x rest
     → StartsWith LeftBracket rest after → IsClosedRead RightBracket after close e → StartsWith Assign close start →
     IsRead an_expression start end v → IsRead simple ts end (assign_at x e v)
 assign-at-read ts rest after close start end x e v f g d k q =
     let P : List Token → Type 0 = λ y. IsRead simple y end (assign_at x e v) in
-    let Q : List Token → Type 0 = λ y. Reads (T (the Assign) ∷ N an_expression ∷ []) y end (tt, (v, tt)) in
     subst P (sym (two ts rest after (Name x) (The LeftBracket) f g)) (whole simple_assign_at refl
-    (read_token is_name (read_token is_the (closed-then d (subst Q (sym k) (read_token is_the q))))))
+    (read_token is_name (read_token is_the (ended-then d (token-then is_the k q)))))
 
 -- stuck after the name and the bracket of an indexed assignment
 assign-at-stuck : (ts rest after : List Token) (x : Identifier) (s : ParseStop) → StartsWithName ts x rest → StartsWith LeftBracket rest after →
@@ -260,7 +238,7 @@ pub assign-at-value-stuck : (ts rest after close start : List Token) (x : Identi
     IsStuck an_expression start s → IsStuck simple ts s
 assign-at-value-stuck ts rest after close start x e s f g d k h = assign-at-stuck ts rest after x s f g
     (past-ended an_expression RightBracket (T (the Assign) ∷ N an_expression ∷ []) after close e s d
-    (past-mark Assign (N an_expression ∷ []) close start s k h))
+    (past-token is_the (N an_expression ∷ []) close start s k h))
 
 assign-chosen : (x : Identifier) (after : Option Token) → after ≢ Some (The LeftParen) → after ≢ Some (The LeftBracket)
     → chosen_rule simple (Some (Name x)) after ≡ Some (T a_name ∷ T (the Assign) ∷ N value ∷ [], simple_assign)
@@ -271,9 +249,7 @@ assign-chosen x (Some _) h k = refl
 
 pub assign-read : (ts rest end : List Token) (x : Identifier) (v : Value) → StartsWithName ts x rest → StartsWithout LeftParen rest
     → StartsWithout LeftBracket rest → IsAssignedRead rest end v → IsRead simple ts end (assign x v)
-assign-read ts rest end x v e h k d =
-    let P : List Token → Type 0 = λ y. IsRead simple y end (assign x v) in
-    subst P (sym e) (whole simple_assign (assign-chosen x (first rest) h k) (read_token is_name d))
+assign-read ts rest end x v e h k d = taken simple_assign is_name e (assign-chosen x (first rest) h k) d
 
 pub assign-stuck : (ts rest : List Token) (x : Identifier) (s : ParseStop) → StartsWithName ts x rest → StartsWithout LeftParen rest
     → StartsWithout LeftBracket rest → IsAssignedStuck rest s → IsStuck simple ts s

@@ -13,7 +13,7 @@ use Rattle.c_front.specs.Grammar.{a_name, a_jump, the, Rule, tree_of, a_type, ma
 use Rattle.c_front.specs.Grammar.{simple, value, an_expression, Symbol, T, N, PhraseTrees, type_int, type_unsigned, int_none, int_some, items_end}
 use Rattle.c_front.specs.Grammar.{items_more, item_declare, item_statement, declared_none, declared_some, statement_empty, statement_block, statement_if}
 use Rattle.c_front.specs.Grammar.{statement_while, statement_for, statement_return, statement_simple, else_none, else_some}
-use Rattle.c_front.specs.Grammar.{simple_none, simple_some, expression_none, expression_some, first, is_jump, is_the}
+use Rattle.c_front.specs.Grammar.{simple_none, simple_some, expression_none, expression_some, first, is_name, is_jump, is_the}
 use Rattle.c_front.specs.Reading.{Reads, read_nothing, read_token, read_phrase, Stuck, stuck_past, stuck_phrase, stuck_inside}
 use Rattle.c_front.specs.Choosing.{Choice, chosen_rule, one_choice, EndsItems}
 use Rattle.c_front.specs.declared.cursor.ParseStop.{ParseStop}
@@ -28,8 +28,8 @@ use Rattle.c_front.proofs.Completing.{else-none}
 use Rattle.c_front.proofs.Reading.{derived}
 use Rattle.c_front.proofs.Deriving.{type-starts}
 use Rattle.c_front.proofs.Paths.{followed, whole}
-use Rattle.c_front.proofs.Steps.{missing-first, name-missing-first, past-mark, past-name, past-phrase, past-ended, first-ended, inside, mark-then}
-use Rattle.c_front.proofs.Steps.{mark-end, name-then, ended-then}
+use Rattle.c_front.proofs.Steps.{missing-first, name-missing-first, past-token, past-phrase, past-ended, first-ended, inside, token-then, taken, begun}
+use Rattle.c_front.proofs.Steps.{by-first, mark-end, ended-then}
 
 -- items after some others
 abbrev pub after_items : Items → Items → Items
@@ -43,19 +43,13 @@ pub record GoesOnItems (ts middle : List Token) (all : Items) : Type 0 where
   pub shorter : length middle ≤ length ts
 
 pub empty-read : (ts a : List Token) → ts ≡ The Semicolon ∷ a → IsRead a_statement ts a empty
-empty-read ts a e = let P : List Token → Type 0 = λ x. IsRead a_statement x a empty in
-    subst P (sym e) (whole statement_empty refl (read_token is_the read_nothing))
-
-chosen-block : (ts a : List Token) → ts ≡ The LeftBrace ∷ a → one_choice a_statement (first ts) ≡ Some
-    (T (the LeftBrace) ∷ N items ∷ T (the RightBrace) ∷ [], statement_block)
-chosen-block ts a e = ap (λ (x : List Token). one_choice a_statement (first x)) e
+empty-read ts a e = taken statement_empty is_the e refl read_nothing
 
 pub block-read : (ts a c : List Token) (m : Items) → ts ≡ The LeftBrace ∷ a → IsEndedRead items RightBrace a c m → IsRead a_statement ts c (block m)
-block-read ts a c m e d = whole statement_block (chosen-block ts a e) (mark-then e d)
+block-read ts a c m e d = taken statement_block is_the e refl d
 
 pub block-stuck : (ts a : List Token) (s : ParseStop) → ts ≡ The LeftBrace ∷ a → IsEndedStuck items RightBrace a s → IsStuck a_statement ts s
-block-stuck ts a s e h =
-    inside statement_block ts s (chosen-block ts a e) (λ z. z) (past-mark LeftBrace (N items ∷ T (the RightBrace) ∷ []) ts a s e h)
+block-stuck ts a s e h = begun statement_block is_the ts a s e refl (λ z. z) h
 
 pub if-read : (ts a b : List Token) (s : Statement) → ts ≡ The If ∷ a → IsBranchRead a b s → IsRead a_statement ts b s
 if-read ts a b s e h =
@@ -63,21 +57,14 @@ if-read ts a b s e h =
     subst P (sym e) (read_phrase statement_if refl (read_token is_the h.3) h.4 read_nothing)
 
 pub if-stuck : (ts a : List Token) (s : ParseStop) → ts ≡ The If ∷ a → IsBranchStuck a s → IsStuck a_statement ts s
-if-stuck ts a (Syntax rest) e h = λ symbols.
-    let P : List Token → Type 0 = λ x. Stuck (N a_statement ∷ symbols) x rest.now in
-    subst P (sym e) (stuck_inside statement_if refl (λ z. absurd z) (stuck_past is_the (h symbols)))
-if-stuck ts a NoMemory e h = tt
-
-simple-chosen : (ts a : List Token) (x : Identifier) → ts ≡ Name x ∷ a → one_choice a_statement (first ts) ≡ Some
-    (N simple ∷ T (the Semicolon) ∷ [], statement_simple)
-simple-chosen ts a x e = ap (λ (y : List Token). one_choice a_statement (first y)) e
+if-stuck ts a s e h = begun statement_if is_the ts a s e refl (λ z. z) h
 
 pub simply-read : (ts a c : List Token) (x : Identifier) (v : Simple) → ts ≡ Name x ∷ a → IsEndedRead simple Semicolon ts c v
     → IsRead a_statement ts c (simply v)
-simply-read ts a c x v e d = whole statement_simple (simple-chosen ts a x e) d
+simply-read ts a c x v e d = whole statement_simple (by-first a_statement e) d
 
 pub simply-stuck : (ts a : List Token) (x : Identifier) (s : ParseStop) → ts ≡ Name x ∷ a → IsEndedStuck simple Semicolon ts s → IsStuck a_statement ts s
-simply-stuck ts a x s e h = inside statement_simple ts s (simple-chosen ts a x e) (λ z. z) h
+simply-stuck ts a x s e h = inside statement_simple ts s (by-first a_statement e) (λ z. z) h
 
 pub no-statement : (ts rest : List Token) (t : Token) → ts ≡ t ∷ rest → one_choice a_statement (Some t) ≡ None → (symbols : List Symbol)
     → Stuck (N a_statement ∷ symbols) ts ts
@@ -97,36 +84,23 @@ pub condition-open-stuck : (ts : List Token) (s : ParseStop) → IsMissing LeftP
 condition-open-stuck ts s h = missing-first LeftParen (N an_expression ∷ T (the RightParen) ∷ []) ts s h
 
 pub condition-inner-stuck : (ts a : List Token) (s : ParseStop) → StartsWith LeftParen ts a → IsClosedStuck RightParen a s → IsConditionStuck ts s
-condition-inner-stuck ts a (Syntax rest) e h = λ symbols.
-    let P : List Token → Type 0 = λ y. Stuck (T (the LeftParen) ∷ N an_expression ∷ T (the RightParen) ∷ symbols) y rest.now in
-    subst P (sym e) (stuck_past is_the (h symbols))
-condition-inner-stuck ts a NoMemory e h = tt
+condition-inner-stuck ts a s e h = past-token is_the (N an_expression ∷ T (the RightParen) ∷ []) ts a s e h
 
 pub condition-read : (ts a b : List Token) (v : Expression) → StartsWith LeftParen ts a → IsClosedRead RightParen a b v → IsConditionRead ts b v
-condition-read ts a b v e d =
-    let P : List Token → Type 0 = λ y. IsConditionRead y b v in
-    subst P (sym e) (read_token is_the d)
+condition-read ts a b v e d = token-then is_the e d
 
 condition-then : {symbols : List Symbol} {ts a rest : List Token} {e : Expression} {m : PhraseTrees symbols} → IsConditionRead ts a e → Reads symbols a rest m →
     Reads (T (the LeftParen) ∷ N an_expression ∷ T (the RightParen) ∷ symbols) ts rest (tt, (e, (tt, m)))
 condition-then (read_token i (read_phrase r c d q (read_token j read_nothing))) z = read_token i (read_phrase r c d q (read_token j z))
 
-pub if_then-test-stuck : (ts : List Token) (s : ParseStop) → IsConditionStuck ts s → IsBranchStuck ts s
-if_then-test-stuck ts (Syntax rest) h = λ symbols. h (N a_statement ∷ N else_part ∷ symbols)
-if_then-test-stuck ts NoMemory h = tt
-
 pub if_then-first-stuck : (ts a : List Token) (e : Expression) (s : ParseStop) → IsConditionRead ts a e → IsStuck a_statement a s → IsBranchStuck ts s
 if_then-first-stuck ts a e (Syntax rest) d h = λ symbols. stuck_after d (h (N else_part ∷ symbols))
 if_then-first-stuck ts a e NoMemory d h = tt
 
-chosen-else : (ts a : List Token) → ts ≡ The Else ∷ a → one_choice else_part (first ts) ≡ Some (T (the Else) ∷ N a_statement ∷ [], else_some)
-chosen-else ts a e = ap (λ (x : List Token). one_choice else_part (first x)) e
-
 pub if_then-second-stuck : (ts a b c : List Token) (e : Expression) (v : Statement) (s : ParseStop) → IsConditionRead ts a e → IsRead a_statement a b v
     → b ≡ The Else ∷ c → IsStuck a_statement c s → IsBranchStuck ts s
 if_then-second-stuck ts a b c e v (Syntax rest) d q f h = λ symbols.
-    let P : List Token → Type 0 = λ x. Stuck (T (the Else) ∷ N a_statement ∷ symbols) x rest.now in
-    stuck_after d (stuck_after q (stuck_inside else_some (chosen-else b c f) (λ z. absurd z) (subst P (sym f) (stuck_past is_the (h symbols)))))
+    stuck_after d (stuck_after q (begun else_some is_the b c (Syntax rest) f refl (λ z. z) h symbols))
 if_then-second-stuck ts a b c e v NoMemory d q f h = tt
 
 pub if_then-alone-read : (ts a b : List Token) (e : Expression) (v : Statement) → IsConditionRead ts a e → IsRead a_statement a b v → HasNoElse b
@@ -135,20 +109,14 @@ if_then-alone-read ts a b e v d q h = (e, v, None, condition-then d (followed q 
 
 pub if_then-else-read : (ts a b c f : List Token) (e : Expression) (v w : Statement) → IsConditionRead ts a e → IsRead a_statement a b v → b ≡ The Else ∷ c
     → IsRead a_statement c f w → IsBranchRead ts f (if_then_else e v w)
-if_then-else-read ts a b c f e v w d q h z =
-    let P : List Token → Type 0 = λ x. Reads (T (the Else) ∷ N a_statement ∷ []) x f (tt, (w, tt)) in
-    (e, v, Some w, condition-then d (followed q (whole else_some (chosen-else b c h) (subst P (sym h) (read_token is_the z)))), refl)
+if_then-else-read ts a b c f e v w d q h z = (e, v, Some w, condition-then d (followed q (taken else_some is_the h refl z)), refl)
 
 -- types
 pub int-read : (ts rest : List Token) → StartsWith Int ts rest → IsRead a_type ts rest SignedInt
-int-read ts rest e = whole type_int (ap (λ (x : List Token). one_choice a_type (first x)) e) (mark-end e)
-
-chosen-unsigned : (ts a : List Token) → StartsWith Unsigned ts a → one_choice a_type (first ts) ≡ Some (T (the Unsigned) ∷ N maybe_int ∷ [], type_unsigned)
-chosen-unsigned ts a e = ap (λ (x : List Token). one_choice a_type (first x)) e
+int-read ts rest e = taken type_int is_the e refl read_nothing
 
 pub unsigned-int-read : (ts a rest : List Token) → StartsWith Unsigned ts a → StartsWith Int a rest → IsRead a_type ts rest UnsignedInt
-unsigned-int-read ts a rest e f = whole type_unsigned (chosen-unsigned ts a e)
-    (mark-then e (whole int_some (ap (λ (x : List Token). one_choice maybe_int (first x)) f) (mark-end f)))
+unsigned-int-read ts a rest e f = taken type_unsigned is_the e refl (taken int_some is_the f refl read_nothing)
 
 no-int : (next : Option Token) → next ≢ Some (The Int) → one_choice maybe_int next ≡ Some ([], int_none)
 no-int None h = refl
@@ -156,7 +124,7 @@ no-int (Some (The Int)) h = absurd (h refl)
 no-int (Some _) h = refl
 
 pub unsigned-read : (ts rest : List Token) → StartsWith Unsigned ts rest → StartsWithout Int rest → IsRead a_type ts rest UnsignedInt
-unsigned-read ts rest e h = whole type_unsigned (chosen-unsigned ts rest e) (mark-then e (whole int_none (no-int (first rest) h) read_nothing))
+unsigned-read ts rest e h = taken type_unsigned is_the e refl (whole int_none (no-int (first rest) h) read_nothing)
 
 -- the first value of a local variable
 no-value : (next : Option Token) → next ≢ Some (The Assign) → one_choice declared next ≡ Some ([], declared_none)
@@ -167,19 +135,16 @@ no-value (Some _) h = refl
 pub undeclared-read : (ts : List Token) → StartsWithout Assign ts → IsRead declared ts ts None
 undeclared-read ts h = whole declared_none (no-value (first ts) h) read_nothing
 
-chosen-value : (ts a : List Token) → StartsWith Assign ts a → one_choice declared (first ts) ≡ Some (T (the Assign) ∷ N value ∷ [], declared_some)
-chosen-value ts a e = ap (λ (x : List Token). one_choice declared (first x)) e
-
 pub declared-read : (ts a b : List Token) (v : Value) → StartsWith Assign ts a → IsRead value a b v → IsRead declared ts b (Some v)
-declared-read ts a b v e d = whole declared_some (chosen-value ts a e) (mark-then e d)
+declared-read ts a b v e d = taken declared_some is_the e refl d
 
 pub declared-stuck : (ts a : List Token) (s : ParseStop) → StartsWith Assign ts a → IsStuck value a s → IsStuck declared ts s
-declared-stuck ts a s e h = inside declared_some ts s (chosen-value ts a e) (λ z. z) (past-mark Assign (N value ∷ []) ts a s e h)
+declared-stuck ts a s e h = begun declared_some is_the ts a s e refl (λ z. z) h
 
 -- items
 pub declare-read : (ts a b d : List Token) (k : IntegerType) (x : Identifier) (v : Option Value) → IsRead a_type ts a k → StartsWithName a x b
     → IsEndedRead declared Semicolon b d v → IsRead an_item ts d (declare k x v)
-declare-read ts a b d k x v q e g = whole item_declare (type-starts (derived q)).item (followed q (name-then e g))
+declare-read ts a b d k x v q e g = whole item_declare (type-starts (derived q)).item (followed q (token-then is_name e g))
 
 declare-stuck : (ts a : List Token) (k : IntegerType) (s : ParseStop) → IsRead a_type ts a k → AreStuck (T a_name ∷ N declared ∷ T (the Semicolon) ∷ []) a s
     → IsStuck an_item ts s
@@ -191,7 +156,7 @@ declare-name-stuck ts a k s q h = declare-stuck ts a k s q (name-missing-first (
 
 pub declare-value-stuck : (ts a b : List Token) (k : IntegerType) (x : Identifier) (s : ParseStop) → IsRead a_type ts a k → StartsWithName a x b
     → IsEndedStuck declared Semicolon b s → IsStuck an_item ts s
-declare-value-stuck ts a b k x s q e h = declare-stuck ts a k s q (past-name (N declared ∷ T (the Semicolon) ∷ []) a b x s e h)
+declare-value-stuck ts a b k x s q e h = declare-stuck ts a k s q (past-token is_name (N declared ∷ T (the Semicolon) ∷ []) a b s e h)
 
 chosen-item : (next : Option Token) → next ≢ Some (The Int) → next ≢ Some (The Unsigned) → one_choice an_item next ≡ Some (N a_statement ∷ [], item_statement)
 chosen-item None h k = refl
@@ -238,7 +203,7 @@ ended-some-stuck u ts x NoMemory e k = tt
 
 -- an expression that may be missing, and the semicolon after it
 pub no-expression-read : (ts rest : List Token) → StartsWith Semicolon ts rest → IsEndedRead maybe_expression Semicolon ts rest None
-no-expression-read ts rest e = followed (whole expression_none (ap (λ (x : List Token). one_choice maybe_expression (first x)) e) read_nothing) (mark-end e)
+no-expression-read ts rest e = followed (whole expression_none (by-first maybe_expression e) read_nothing) (mark-end e)
 
 chosen-expression : (next : Option Token) → next ≢ Some (The Semicolon) → one_choice maybe_expression next ≡ Some (N an_expression ∷ [], expression_some)
 chosen-expression None h = refl
@@ -259,27 +224,27 @@ some-expression-stuck ts NoMemory h k = tt
 pub head-read : (ts a b c rest : List Token) (x : Option Simple) (y : Option Expression) (z : Option Simple) → StartsWith LeftParen ts a
     → IsEndedRead maybe_simple Semicolon a b x → IsEndedRead maybe_expression Semicolon b c y →
     IsEndedRead maybe_simple RightParen c rest z → IsHeadRead ts rest x y z
-head-read ts a b c rest x y z e f g h = mark-then e (ended-then f (ended-then g h))
+head-read ts a b c rest x y z e f g h = token-then is_the e (ended-then f (ended-then g h))
 
 pub head-open-stuck : (ts : List Token) (s : ParseStop) → IsMissing LeftParen ts s → IsHeadStuck ts s
 head-open-stuck ts s h = missing-first LeftParen (N maybe_simple ∷ T (the Semicolon) ∷ N maybe_expression ∷ T (the Semicolon) ∷ N maybe_simple ∷ T
     (the RightParen) ∷ []) ts s h
 
 pub head-first-stuck : (ts a : List Token) (s : ParseStop) → StartsWith LeftParen ts a → IsEndedStuck maybe_simple Semicolon a s → IsHeadStuck ts s
-head-first-stuck ts a s e h = past-mark LeftParen (N maybe_simple ∷ T (the Semicolon) ∷ N maybe_expression ∷ T (the Semicolon) ∷ N maybe_simple ∷ T
+head-first-stuck ts a s e h = past-token is_the (N maybe_simple ∷ T (the Semicolon) ∷ N maybe_expression ∷ T (the Semicolon) ∷ N maybe_simple ∷ T
     (the RightParen) ∷ []) ts a s e (first-ended maybe_simple Semicolon (N maybe_expression ∷ T (the Semicolon) ∷ N maybe_simple ∷ T (the RightParen) ∷ []) a s
     h)
 
 pub head-test-stuck : (ts a b : List Token) (x : Option Simple) (s : ParseStop) → StartsWith LeftParen ts a → IsEndedRead maybe_simple Semicolon a b x
     → IsEndedStuck maybe_expression Semicolon b s → IsHeadStuck ts s
-head-test-stuck ts a b x s e f h = past-mark LeftParen (N maybe_simple ∷ T (the Semicolon) ∷ N maybe_expression ∷ T (the Semicolon) ∷ N maybe_simple ∷ T
+head-test-stuck ts a b x s e f h = past-token is_the (N maybe_simple ∷ T (the Semicolon) ∷ N maybe_expression ∷ T (the Semicolon) ∷ N maybe_simple ∷ T
     (the RightParen) ∷ []) ts a s e (past-ended maybe_simple Semicolon (N maybe_expression ∷ T (the Semicolon) ∷ N maybe_simple ∷ T (the RightParen) ∷ []) a b x
     s f (first-ended maybe_expression Semicolon (N maybe_simple ∷ T (the RightParen) ∷ []) b s h))
 
 pub head-last-stuck : (ts a b c : List Token) (x : Option Simple) (y : Option Expression) (s : ParseStop) → StartsWith LeftParen ts a
     → IsEndedRead maybe_simple Semicolon a b x → IsEndedRead maybe_expression Semicolon b c y →
     IsEndedStuck maybe_simple RightParen c s → IsHeadStuck ts s
-head-last-stuck ts a b c x y s e f g h = past-mark LeftParen (N maybe_simple ∷ T (the Semicolon) ∷ N maybe_expression ∷ T (the Semicolon) ∷ N maybe_simple ∷ T
+head-last-stuck ts a b c x y s e f g h = past-token is_the (N maybe_simple ∷ T (the Semicolon) ∷ N maybe_expression ∷ T (the Semicolon) ∷ N maybe_simple ∷ T
     (the RightParen) ∷ []) ts a s e (past-ended maybe_simple Semicolon (N maybe_expression ∷ T (the Semicolon) ∷ N maybe_simple ∷ T (the RightParen) ∷ []) a b x
     s f (past-ended maybe_expression Semicolon (N maybe_simple ∷ T (the RightParen) ∷ []) b c y s g h))
 
@@ -293,7 +258,7 @@ head-then (read_token i (read_phrase r c d e (read_token i' (read_phrase r' c' d
 
 pub for-read : (ts a rest : List Token) (x : Option Simple) (y : Option Expression) (z : Option Simple) (v : Statement) → IsHeadRead ts a x y z
     → IsRead a_statement a rest v → IsRead a_statement (The For ∷ ts) rest (for_loop x y z v)
-for-read ts a rest x y z v d q = whole statement_for refl (read_token is_the (head-then d q))
+for-read ts a rest x y z v d q = taken statement_for is_the refl refl (head-then d q)
 
 pub for-head-stuck : (ts : List Token) (s : ParseStop) → IsHeadStuck ts s → IsStuck a_statement (The For ∷ ts) s
 for-head-stuck ts (Syntax rest) h = λ symbols. stuck_inside statement_for refl (λ z. absurd z) (stuck_past is_the (h (N a_statement ∷ symbols)))
@@ -306,7 +271,7 @@ for-body-stuck ts a x y z NoMemory d h = tt
 
 pub while-read : (ts a rest : List Token) (e : Expression) (v : Statement) → IsConditionRead ts a e → IsRead a_statement a rest v
     → IsRead a_statement (The While ∷ ts) rest (while_loop e v)
-while-read ts a rest e v d q = whole statement_while refl (read_token is_the (condition-then d q))
+while-read ts a rest e v d q = taken statement_while is_the refl refl (condition-then d q)
 
 pub while-test-stuck : (ts : List Token) (s : ParseStop) → IsConditionStuck ts s → IsStuck a_statement (The While ∷ ts) s
 while-test-stuck ts (Syntax rest) h = λ symbols. stuck_inside statement_while refl (λ z. absurd z) (stuck_past is_the (h (N a_statement ∷ symbols)))
@@ -322,22 +287,19 @@ pub plain-jump-read : {w : JumpWord} (r : Rule a_statement (T (a_jump w) ∷ T (
     → StartsWith Semicolon ts rest
     → chosen_rule a_statement (Some (Jump w at)) (first ts) ≡ Some (T (a_jump w) ∷ T (the Semicolon) ∷ [], r)
     → IsRead a_statement (Jump w at ∷ ts) rest (tree_of r (at, (tt, tt)))
-plain-jump-read r at ts rest e chosen = whole r chosen (read_token is_jump (mark-end e))
+plain-jump-read r at ts rest e chosen = taken r is_jump refl chosen (mark-end e)
 
 pub plain-jump-stuck : {w : JumpWord} (r : Rule a_statement (T (a_jump w) ∷ T (the Semicolon) ∷ [])) (at : ℕ) (ts : List Token) (s : ParseStop)
     → IsMissing Semicolon ts s → chosen_rule a_statement (Some (Jump w at)) (first ts) ≡ Some (T (a_jump w) ∷ T (the Semicolon) ∷ [], r)
     → IsStuck a_statement (Jump w at ∷ ts) s
-plain-jump-stuck r at ts (Syntax rest) h chosen = λ symbols. stuck_inside r chosen (λ z. absurd z)
-    (stuck_past is_jump (missing-first Semicolon [] ts (Syntax rest) h symbols))
-plain-jump-stuck r at ts NoMemory h chosen = tt
+plain-jump-stuck {w = w} r at ts s h chosen = begun r is_jump (Jump w at ∷ ts) ts s refl chosen (λ z. z) (missing-first Semicolon [] ts s h)
 
 pub return-read : (at : ℕ) (ts rest : List Token) (v : Option Expression) → IsEndedRead maybe_expression Semicolon ts rest v
     → IsRead a_statement (Jump Return at ∷ ts) rest (return_at at v)
-return-read at ts rest v d = whole statement_return refl (read_token is_jump d)
+return-read at ts rest v d = taken statement_return is_jump refl refl d
 
 pub return-stuck : (at : ℕ) (ts : List Token) (s : ParseStop) → IsEndedStuck maybe_expression Semicolon ts s → IsStuck a_statement (Jump Return at ∷ ts) s
-return-stuck at ts (Syntax rest) h = λ symbols. stuck_inside statement_return refl (λ z. absurd z) (stuck_past is_jump (h symbols))
-return-stuck at ts NoMemory h = tt
+return-stuck at ts s h = begun statement_return is_jump (Jump Return at ∷ ts) ts s refl refl (λ z. z) h
 
 pub items-go-on : (next : Option Token) → (EndsItems next → ⊥) → one_choice items next ≡ Some (N an_item ∷ N items ∷ [], items_more)
 items-go-on None h = absurd (h refl)
@@ -351,9 +313,6 @@ after-none (more_items i rest) = ap (more_items i) (after-none rest)
 after-after : (a b c : Items) → after_items (after_items a b) c ≡ after_items a (after_items b c)
 after-after no_items b c = refl
 after-after (more_items i rest) b c = ap (more_items i) (after-after rest b c)
-
-pub goes-on-items-start : (ts : List Token) → length ts ≤ length ts → GoesOnItems ts ts no_items
-goes-on-items-start ts h = record { reads = λ rest more d. d; stuck = λ rest s. s; shorter = h }
 
 pub goes-on-items-more : (ts middle next : List Token) (all : Items) (i : Item) → GoesOnItems ts middle all → (EndsItems (first middle) → ⊥)
     → IsRead an_item middle next i →
