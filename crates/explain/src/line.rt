@@ -23,60 +23,37 @@ const NO_NUMBER: &str = "registers are $0 to $31";
 
 const BLOCKS: &str = "numbers of blocks are from 0 to 1048575";
 
-/// A mnemonic, its operands, and what they may be.
-type Form = (&'static [u8], &'static str, &'static str);
+const ALONE: &str = "nothing stands behind it";
 
-const INSTRUCTIONS: [Form; 32] = [
-    (b"sll", " $rd,$rt,n", SMALL),
-    (b"srl", " $rd,$rt,n", SMALL),
-    (b"sra", " $rd,$rt,n", SMALL),
-    (b"sllv", " $rd,$rt,$rs", NO_NUMBER),
-    (b"srlv", " $rd,$rt,$rs", NO_NUMBER),
-    (b"srav", " $rd,$rt,$rs", NO_NUMBER),
-    (b"addu", " $rd,$rs,$rt", NO_NUMBER),
-    (b"subu", " $rd,$rs,$rt", NO_NUMBER),
-    (b"and", " $rd,$rs,$rt", NO_NUMBER),
-    (b"or", " $rd,$rs,$rt", NO_NUMBER),
-    (b"xor", " $rd,$rs,$rt", NO_NUMBER),
-    (b"nor", " $rd,$rs,$rt", NO_NUMBER),
-    (b"slt", " $rd,$rs,$rt", NO_NUMBER),
-    (b"sltu", " $rd,$rs,$rt", NO_NUMBER),
-    (b"addiu", " $rt,$rs,n", SIGNED),
-    (b"slti", " $rt,$rs,n", SIGNED),
-    (b"sltiu", " $rt,$rs,n", SIGNED),
-    (b"andi", " $rt,$rs,n", UNSIGNED),
-    (b"ori", " $rt,$rs,n", UNSIGNED),
-    (b"xori", " $rt,$rs,n", UNSIGNED),
-    (b"lui", " $rt,n", UNSIGNED),
-    (b"mfhi", " $rd", NO_NUMBER),
-    (b"mflo", " $rd", NO_NUMBER),
-    (b"mult", " $rs,$rt", NO_NUMBER),
-    (b"multu", " $rs,$rt", NO_NUMBER),
-    (b"div", " $rs,$rt", NO_NUMBER),
-    (b"divu", " $rs,$rt", NO_NUMBER),
-    (b"lw", " $rt,n($base)", SIGNED),
-    (b"lbu", " $rt,n($base)", SIGNED),
-    (b"sw", " $rt,n($base)", SIGNED),
-    (b"sb", " $rt,n($base)", SIGNED),
-    (b"nop", "", "nothing stands behind it"),
+/// Mnemonics, their operands, and what those may be.
+type Form = (&'static [&'static [u8]], &'static str, &'static str);
+
+#[rattlefmt::skip]
+const INSTRUCTIONS: &[Form] = &[
+    (&[b"sll", b"srl", b"sra"], " $rd,$rt,n", SMALL),
+    (&[b"sllv", b"srlv", b"srav"], " $rd,$rt,$rs", NO_NUMBER),
+    (&[b"addu", b"subu", b"and", b"or", b"xor", b"nor", b"slt", b"sltu"], " $rd,$rs,$rt", NO_NUMBER),
+    (&[b"addiu", b"slti", b"sltiu"], " $rt,$rs,n", SIGNED),
+    (&[b"andi", b"ori", b"xori"], " $rt,$rs,n", UNSIGNED),
+    (&[b"lui"], " $rt,n", UNSIGNED),
+    (&[b"mfhi", b"mflo"], " $rd", NO_NUMBER),
+    (&[b"mult", b"multu", b"div", b"divu"], " $rs,$rt", NO_NUMBER),
+    (&[b"lw", b"lbu", b"sw", b"sb"], " $rt,n($base)", SIGNED),
+    (&[b"nop"], "", ALONE),
 ];
 
-const EXITS: [Form; 11] = [
-    (b"goto", " T", BLOCKS),
-    (b"beq", " $s,$t,T,E", BLOCKS),
-    (b"bne", " $s,$t,T,E", BLOCKS),
-    (b"blez", " $s,T,E", BLOCKS),
-    (b"bgtz", " $s,T,E", BLOCKS),
-    (b"bltz", " $s,T,E", BLOCKS),
-    (b"bgez", " $s,T,E", BLOCKS),
-    (b"call", " F,N", BLOCKS),
-    (b"return", "", "nothing stands behind it"),
-    (b"out", " N", BLOCKS),
-    (b"halt", "", "nothing stands behind it"),
+#[rattlefmt::skip]
+const EXITS: &[Form] = &[
+    (&[b"goto"], " T", BLOCKS),
+    (&[b"beq", b"bne"], " $s,$t,T,E", BLOCKS),
+    (&[b"blez", b"bgtz", b"bltz", b"bgez"], " $s,T,E", BLOCKS),
+    (&[b"call"], " F,N", BLOCKS),
+    (&[b"out"], " N", BLOCKS),
+    (&[b"return", b"halt"], "", ALONE),
 ];
 
 /// What assemblers have and check texts haven't, with what to write.
-const OTHERS: [(&[u8], &str); 14] = [
+const OTHERS: &[(&[u8], &str)] = &[
     (b"add", "write addu, which doesn't trap"),
     (b"addi", "write addiu, which doesn't trap"),
     (b"sub", "write subu, which doesn't trap"),
@@ -107,35 +84,41 @@ enum Stage {
     Nothing,
 }
 
-/// Returns what stands before the first space of a line.
-fn mnemonic<'t>(line: &'t [u8]) -> &'t [u8] {
-    for (length, byte) in line.iter().enumerate() {
-        if *byte == b' ' {
-            return line.get(..length).unwrap_or(line);
-        }
+/// Returns what stands before the first such byte, and what follows it.
+fn cut<'t>(text: &'t [u8], mark: u8) -> (&'t [u8], &'t [u8]) {
+    match text.iter().position(|byte| *byte == mark) {
+        Some(k) => (
+            text.get(..k).unwrap_or(text),
+            text.get(k.saturating_add(1)..).unwrap_or(b""),
+        ),
+        None => (text, b""),
     }
-    line
+}
+
+fn mnemonic<'t>(line: &'t [u8]) -> &'t [u8] {
+    cut(line, b' ').0
 }
 
 fn shown_word<'t>(bytes: &'t [u8]) -> &'t str {
     str::from_utf8(bytes).unwrap_or("?")
 }
 
-fn form(table: &[Form], word: &[u8]) -> Option<Form> {
-    for form in table {
-        if form.0 == word {
-            return Some(*form);
+/// Returns the operands of a mnemonic and what they may be, if a table has it.
+fn form(table: &[Form], word: &[u8]) -> Option<(&'static str, &'static str)> {
+    for (words, operands, range) in table {
+        if words.contains(&word) {
+            return Some((*operands, *range));
         }
     }
     None
 }
 
-fn instruction(word: &[u8]) -> Option<Form> {
-    form(&INSTRUCTIONS, word)
+fn instruction(word: &[u8]) -> Option<(&'static str, &'static str)> {
+    form(INSTRUCTIONS, word)
 }
 
-fn exit(word: &[u8]) -> Option<Form> {
-    form(&EXITS, word)
+fn exit(word: &[u8]) -> Option<(&'static str, &'static str)> {
+    form(EXITS, word)
 }
 
 fn is_exit(line: &[u8]) -> bool {
@@ -144,7 +127,7 @@ fn is_exit(line: &[u8]) -> bool {
 
 /// Returns what to write in place of a mnemonic that assemblers have and check texts haven't.
 fn other(word: &[u8]) -> Option<&'static str> {
-    for (other, hint) in &OTHERS {
+    for (other, hint) in OTHERS {
         if *other == word {
             return Some(*hint);
         }
@@ -170,23 +153,15 @@ fn stage_after(stage: Stage, line: &[u8]) -> Stage {
 
 /// Returns what has to stand at a line, counted from 1, and the line; None if the text has no such line.
 fn stage_at<'t>(text: &'t [u8], line: u32) -> (Stage, Option<&'t [u8]>) {
-    let (mut stage, mut number, mut start) = (Stage::Block, 1u32, 0usize);
-    for (k, byte) in text.iter().enumerate() {
-        if *byte == b'\n' {
-            let bytes = text.get(start..k).unwrap_or(b"");
-            if number >= line {
-                return (stage, Some(bytes));
-            }
-            stage = stage_after(stage, bytes);
-            number = number.saturating_add(1);
-            start = k + 1;
+    let (mut stage, mut rest) = (Stage::Block, text);
+    for _ in 1..line {
+        if !rest.is_empty() {
+            let (first, after) = cut(rest, b'\n');
+            stage = stage_after(stage, first);
+            rest = after;
         }
     }
-    match text.get(start..) {
-        Some(last) if !last.is_empty() && number >= line => (stage, Some(last)),
-        Some(last) if !last.is_empty() => (stage_after(stage, last), None),
-        _ => (stage, None),
-    }
+    (stage, (!rest.is_empty()).then_some(cut(rest, b'\n').0))
 }
 
 /// Returns what is said of a line that should be an instruction or an exit.
@@ -205,42 +180,29 @@ fn explain_instruction(alloc: Global, line: &[u8]) -> Result<Explanation, AllocE
         );
     }
     match instruction(word).or(exit(word)) {
-        Some(form) => explain_operands(alloc, line, form),
+        Some((operands, range)) => explain_operands(alloc, line, operands, range),
         None => explain_unknown(alloc, word),
     }
 }
 
-/// Returns what is said of a line whose mnemonic has this form.
-fn explain_operands(alloc: Global, line: &[u8], form: Form) -> Result<Explanation, AllocError>
+/// Returns what is said of a line whose mnemonic has these operands.
+fn explain_operands(
+    alloc: Global,
+    line: &[u8],
+    operands: &str,
+    range: &str,
+) -> Result<Explanation, AllocError>
     ensures { IfOk result IsPrintableExplanation }
 {
     if line.starts_with(b"lw $0,") || line.starts_with(b"lbu $0,") {
         return Explanation::new(alloc, "register 0 can't be loaded", None);
     }
-    let (word, operands, range) = form;
+    let word = mnemonic(line);
     let name = shown_word(word);
     let message = format!(in alloc; "expected {name}{operands}")?;
     match hint_of_operands(alloc, word, line)? {
         Some(hint) => Explanation::new(alloc, message.as_str(), Some(hint.as_str())),
         None => Explanation::new(alloc, message.as_str(), Some(range)),
-    }
-}
-
-/// Returns what is said of a line by how it begins or ends; None if that is right.
-fn fault_of_ends(line: &[u8]) -> Option<(&'static str, &'static str)> {
-    match line {
-        [.., b'\r'] => Some((
-            "the line ends with a carriage return",
-            "save the text with LF at the ends of its lines",
-        )),
-        [b' ' | b'\t', ..] => Some(("a line begins with a blank", "leave it out")),
-        _ if line.contains(&b'\r') => {
-            Some((
-                "a line has a carriage return",
-                "end each line by a line feed alone",
-            ))
-        }
-        _ => None,
     }
 }
 
@@ -281,6 +243,26 @@ fn expected_line(stage: Stage) -> &'static str {
     }
 }
 
+/// Returns what is said of a line where no instruction or exit is wanted, or by how it begins or ends, and what to do; else None.
+fn fault_of(stage: Stage, line: &[u8]) -> Option<(&'static str, Option<&'static str>)> {
+    match (stage, line) {
+        (_, [.., b'\r']) => Some((
+            "the line ends with a carriage return",
+            Some("save the text with LF at the ends of its lines"),
+        )),
+        (_, [b' ' | b'\t', ..]) => Some(("a line begins with a blank", Some("leave it out"))),
+        _ if line.contains(&b'\r') => Some((
+            "a line has a carriage return",
+            Some("end each line by a line feed alone"),
+        )),
+        (Stage::InBlock(_) | Stage::InOrder(_), _) => None,
+        (Stage::Slot, [b's', b'l', b'o', b't', b' ', ..]) => None,
+        (Stage::NoSlot, [b's', b'l', b'o', b't', ..]) => Some(("out and halt have no slot", None)),
+        (Stage::NoSlot | Stage::Nothing, _) => Some(("nothing can stand behind the order", None)),
+        _ => Some((expected_line(stage), None)),
+    }
+}
+
 /// Returns what is said of the first line, counted from 1, that can't stand in its place.
 pub fn explain_line(alloc: Global, text: &[u8], line: u32) -> Result<Explanation, AllocError>
     ensures { IfOk result IsPrintableExplanation }
@@ -291,26 +273,12 @@ pub fn explain_line(alloc: Global, text: &[u8], line: u32) -> Result<Explanation
         let message = format!(in alloc; "{wanted} at the text's end")?;
         return Explanation::new(alloc, message.as_str(), None);
     };
-    if let Some((message, hint)) = fault_of_ends(bytes) {
-        return Explanation::new(alloc, message, Some(hint));
+    if let Some((message, hint)) = fault_of(stage, bytes) {
+        return Explanation::new(alloc, message, hint);
     }
     match stage {
         Stage::InBlock(before) => explain_inside(alloc, bytes, before, BLOCK, "a block"),
         Stage::InOrder(before) => explain_inside(alloc, bytes, before, ORDER, "an order"),
-        Stage::Slot if bytes.starts_with(b"slot ") => explain_instruction(
-            alloc,
-            bytes.get(5..).unwrap_or(b""),
-        ),
-        Stage::NoSlot if bytes.starts_with(b"slot") => Explanation::new(
-            alloc,
-            "out and halt have no slot",
-            None,
-        ),
-        Stage::NoSlot | Stage::Nothing => Explanation::new(
-            alloc,
-            "nothing can stand behind the order",
-            None,
-        ),
-        _ => Explanation::new(alloc, expected_line(stage), None),
+        _ => explain_instruction(alloc, bytes.get(5..).unwrap_or(b"")),
     }
 }

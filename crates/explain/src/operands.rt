@@ -3,41 +3,13 @@
 use std::alloc::{AllocError, Global};
 use std::str;
 
-/// Registers as assemblers name them.
-const REGISTERS: &[(&[u8], u8)] = &[
-    (b"$zero", 0),
-    (b"$at", 1),
-    (b"$v0", 2),
-    (b"$v1", 3),
-    (b"$a0", 4),
-    (b"$a1", 5),
-    (b"$a2", 6),
-    (b"$a3", 7),
-    (b"$t0", 8),
-    (b"$t1", 9),
-    (b"$t2", 10),
-    (b"$t3", 11),
-    (b"$t4", 12),
-    (b"$t5", 13),
-    (b"$t6", 14),
-    (b"$t7", 15),
-    (b"$s0", 16),
-    (b"$s1", 17),
-    (b"$s2", 18),
-    (b"$s3", 19),
-    (b"$s4", 20),
-    (b"$s5", 21),
-    (b"$s6", 22),
-    (b"$s7", 23),
-    (b"$t8", 24),
-    (b"$t9", 25),
-    (b"$k0", 26),
-    (b"$k1", 27),
-    (b"$gp", 28),
-    (b"$sp", 29),
-    (b"$fp", 30),
-    (b"$s8", 30),
-    (b"$ra", 31),
+/// Registers as assemblers name them, by their numbers; `$s8` is `$fp`.
+#[rattlefmt::skip]
+const REGISTERS: &[&[u8]] = &[
+    b"$zero", b"$at", b"$v0", b"$v1", b"$a0", b"$a1", b"$a2", b"$a3",
+    b"$t0", b"$t1", b"$t2", b"$t3", b"$t4", b"$t5", b"$t6", b"$t7",
+    b"$s0", b"$s1", b"$s2", b"$s3", b"$s4", b"$s5", b"$s6", b"$s7",
+    b"$t8", b"$t9", b"$k0", b"$k1", b"$gp", b"$sp", b"$fp", b"$ra",
 ];
 
 /// Instructions of three registers, those that have a number in place of the third, and the least and greatest one.
@@ -54,13 +26,11 @@ const WITH_NUMBER: &[(&[u8], &str, i32, i32)] = &[
 ];
 
 /// Returns the number of a register that assemblers name so.
-fn register_number(operand: &[u8]) -> Option<u8> {
-    for (name, number) in REGISTERS {
-        if *name == operand {
-            return Some(*number);
-        }
+fn register_number(operand: &[u8]) -> Option<usize> {
+    match operand {
+        b"$s8" => Some(30),
+        _ => REGISTERS.iter().position(|name| *name == operand),
     }
-    None
 }
 
 /// Returns the value of a number that is written in hexadecimal, and whether a minus stands before it.
@@ -110,39 +80,13 @@ fn operands_of<'t>(alloc: Global, line: &'t [u8]) -> Result<Vec<&'t [u8]>, Alloc
 /// Returns the instruction that takes the number that stands in place of a third register.
 fn with_number(word: &[u8], operands: &[&[u8]]) -> Option<&'static str> {
     let [_, _, last] = operands else { return None };
-    let Ok(number) = str::from_utf8(*last).unwrap_or("").parse::<i32>() else {
-        return None;
-    };
+    let number = str::from_utf8(*last).ok()?.parse::<i32>().ok()?;
     for (name, other, least, greatest) in WITH_NUMBER {
         if *name == word && *least <= number && number <= *greatest {
             return Some(*other);
         }
     }
     None
-}
-
-/// Returns the first of the hints about these operands.
-fn first_hint(alloc: Global, operands: &[&[u8]]) -> Result<Option<String>, AllocError> {
-    for operand in operands {
-        if let Some(hint) = hint_of_operand(alloc, *operand)? {
-            return Ok(Some(hint));
-        }
-    }
-    Ok(None)
-}
-
-/// Returns the hint to write the instruction that takes the number, where one stands in place of a third register.
-fn number_hint(
-    alloc: Global,
-    word: &[u8],
-    line: &[u8],
-    operands: &[&[u8]],
-) -> Result<Option<String>, AllocError> {
-    let Some(other) = with_number(word, operands) else {
-        return Ok(None);
-    };
-    let rest = str::from_utf8(line.get(word.len()..).unwrap_or(b"")).unwrap_or("");
-    Ok(Some(format!(in alloc; "write {other}{rest}")?))
 }
 
 /// Returns what to write in place of a line with this mnemonic, where one of its operands is an assembler's.
@@ -152,8 +96,14 @@ pub(crate) fn hint_of_operands(
     line: &[u8],
 ) -> Result<Option<String>, AllocError> {
     let operands = operands_of(alloc, line)?;
-    match first_hint(alloc, operands.as_slice())? {
-        Some(hint) => Ok(Some(hint)),
-        None => number_hint(alloc, word, line, operands.as_slice()),
+    for operand in &operands {
+        if let Some(hint) = hint_of_operand(alloc, *operand)? {
+            return Ok(Some(hint));
+        }
     }
+    let Some(other) = with_number(word, operands.as_slice()) else {
+        return Ok(None);
+    };
+    let rest = str::from_utf8(line.get(word.len()..).unwrap_or(b"")).unwrap_or("");
+    Ok(Some(format!(in alloc; "write {other}{rest}")?))
 }
