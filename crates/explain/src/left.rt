@@ -1,20 +1,21 @@
 //! What a block or an order leaves, place by place.
 
-use crate::term::{pair_sign, root_page, width_name, zero_sign};
-use crate::terms::{Code, Left, ReadFault, left_of};
+use crate::term::{pair_sign, root_page, zero_sign};
+use crate::terms::{Code, Left, left_of};
 use block_validator::Place;
-use mblock::{Block, BlockNumber, Order};
-use mips_isa::NonzeroReg;
+use mblock::{Block, BlockNumber};
+use mips_isa::{Mnemonic, NonzeroReg};
 use std::alloc::{AllocError, Global};
 use sym_exec::{Guard, TermExit};
 use sym_terms::{Label, Origin};
 use text::{Page, Writer};
-use words::Sign;
+use words::Width;
 
-/// What stands before each line.
-const MARGIN: &str = "    ";
+/// The places besides registers.
+#[rattlefmt::skip]
+const OTHERS: [Place; 5] = [Place::Hi, Place::Lo, Place::Memory, Place::Exit, Place::Guards];
 
-/// The number of the root of each place that has one.
+/// The number of the root of each place that has one, behind those of the registers, and of what the exit reads.
 const HI: usize = 32;
 
 const LO: usize = 33;
@@ -97,133 +98,118 @@ fn exit_page(alloc: Global, left: &mut Left, depth: u32) -> Result<Page, AllocEr
     out.end()
 }
 
-/// Returns a guard, the first of whose roots has this number.
+fn width_name(width: Width) -> &'static str {
+    match width {
+        Width::Word => "word",
+        Width::Byte => "byte",
+    }
+}
+
+/// Returns a guard, the first of whose roots has this number, and how many roots it has.
 fn guard_page(
     alloc: Global,
     left: &mut Left,
     guard: &Guard,
     root: usize,
     depth: u32,
-) -> Result<Page, AllocError> {
+) -> Result<(Page, usize), AllocError> {
     let first = root_page(alloc, &mut left.reader, root, depth)?;
     let mut out = Writer::new(alloc);
-    match guard {
+    let roots = match guard {
         Guard::Address { width, .. } => {
             out.text(width_name(*width));
             out.text(" at ");
             out.page(&first);
+            1
         }
         Guard::Division { sign, .. } => {
             let second = root_page(alloc, &mut left.reader, root.saturating_add(1), depth)?;
-            out.text(division_name(*sign));
+            out.text(Mnemonic::Divide(*sign).name());
+            out.text(" ");
             out.page(&first);
             out.text(" by ");
             out.page(&second);
+            2
         }
-    }
-    out.end()
+    };
+    Ok((out.end()?, roots))
 }
 
-fn division_name(sign: Sign) -> &'static str {
-    match sign {
-        Sign::Signed => "div ",
-        Sign::Unsigned => "divu ",
-    }
-}
-
-fn roots_of(guard: &Guard) -> usize {
-    match guard {
-        Guard::Address { .. } => 1,
-        Guard::Division { .. } => 2,
-    }
-}
-
-/// Adds one more page, unless it is there.
-fn add(pages: &mut Vec<Page>, page: Page) -> Result<(), AllocError> {
-    for other in pages.iter() {
+/// Reports whether a page is among these.
+fn has_page(pages: &[Page], page: &Page) -> bool {
+    for other in pages {
         if other.bytes() == page.bytes() {
-            return Ok(());
+            return true;
         }
     }
-    pages.push(page)?;
-    Ok(())
+    false
 }
 
-/// Returns all guards, each of them once.
-fn guard_pages(alloc: Global, left: &mut Left, depth: u32) -> Result<Vec<Page>, AllocError> {
-    let mut pages: Vec<Page> = Vec::new(alloc);
+/// Returns all guards one after another, each of them once.
+fn guards_page(alloc: Global, left: &mut Left, depth: u32) -> Result<Page, AllocError> {
+    let mut pages = Vec::new(alloc);
+    let mut out = Writer::new(alloc);
     let mut root = operands_of(&left.exit).saturating_add(OPERANDS);
     for k in 0..left.guards.len() {
         let Some(guard) = left.guards.get(k).copied() else {
             break;
         };
-        add(&mut pages, guard_page(alloc, left, &guard, root, depth)?)?;
-        root = root.saturating_add(roots_of(&guard));
+        let (page, roots) = guard_page(alloc, left, &guard, root, depth)?;
+        root = root.saturating_add(roots);
+        if !has_page(&pages, &page) {
+            out.text(if pages.is_empty() { "" } else { "; " });
+            out.page(&page);
+            pages.push(page)?;
+        }
     }
-    Ok(pages)
-}
-
-/// Writes guards one after another.
-fn put_guards(out: &mut Writer, pages: &[Page]) {
     if pages.is_empty() {
         out.text("none");
     }
-    let mut between = "";
-    for page in pages {
-        out.text(between);
-        out.page(page);
-        between = "; ";
-    }
-}
-
-fn guards_page(alloc: Global, left: &mut Left, depth: u32) -> Result<Page, AllocError> {
-    let pages = guard_pages(alloc, left, depth)?;
-    let mut out = Writer::new(alloc);
-    put_guards(&mut out, pages.as_slice());
     out.end()
 }
 
-fn place_in(alloc: Global, left: &mut Left, place: Place, depth: u32) -> Result<Page, AllocError> {
+/// Returns what is left in a place, as its term is written, cut at a depth.
+pub(crate) fn place_page(
+    alloc: Global,
+    left: &mut Left,
+    place: Place,
+    depth: u32,
+) -> Result<Page, AllocError> {
     match place {
-        Place::Register(r) => root_page(alloc, &mut left.reader, usize::from(r.index()), depth),
-        Place::Hi => root_page(alloc, &mut left.reader, HI, depth),
-        Place::Lo => root_page(alloc, &mut left.reader, LO, depth),
-        Place::Memory => root_page(alloc, &mut left.reader, MEMORY, depth),
         Place::Exit => exit_page(alloc, left, depth),
         Place::Guards => guards_page(alloc, left, depth),
+        _ => root_page(alloc, &mut left.reader, root_of(place), depth),
     }
 }
 
-/// Returns what is left in a place.
-fn place_page(alloc: Global, code: Code<'_>, place: Place, depth: u32) -> Result<Page, ReadFault> {
-    let mut left = left_of(alloc, code)?;
-    let page = place_in(alloc, &mut left, place, depth)?;
-    Ok(page)
+/// Returns the number of a place's root, or of the first of them.
+fn root_of(place: Place) -> usize {
+    match place {
+        Place::Register(r) => usize::from(r.index()),
+        Place::Hi => HI,
+        Place::Lo => LO,
+        Place::Memory => MEMORY,
+        Place::Exit | Place::Guards => OPERANDS,
+    }
 }
 
-/// Returns what a block leaves in a place, as its term is written, cut at a depth.
-pub(crate) fn block_place(
-    alloc: Global,
-    block: &Block,
-    place: Place,
-    depth: u32,
-) -> Result<Page, ReadFault> {
-    place_page(alloc, Code::Block(block), place, depth)
+/// Returns what a place has at the start; None for exit and guards.
+fn start_label(place: Place) -> Option<Label> {
+    match place {
+        Place::Register(r) => Some(Label::Init(Origin::Register(r))),
+        Place::Hi => Some(Label::Init(Origin::Hi)),
+        Place::Lo => Some(Label::Init(Origin::Lo)),
+        Place::Memory => Some(Label::Mem0),
+        Place::Exit | Place::Guards => None,
+    }
 }
 
-/// Returns the same of an order.
-pub(crate) fn order_place(
-    alloc: Global,
-    order: &Order,
-    place: Place,
-    depth: u32,
-) -> Result<Page, ReadFault> {
-    place_page(alloc, Code::Order(order), place, depth)
-}
-
-/// Reports whether a root's term is what was there at the start.
-fn is_start(left: &mut Left, root: usize, label: Label) -> Result<bool, AllocError> {
-    if !left.reader.start(root)? {
+/// Reports whether a place keeps what was there at the start.
+fn is_kept(left: &mut Left, place: Place) -> Result<bool, AllocError> {
+    let Some(label) = start_label(place) else {
+        return Ok(false);
+    };
+    if !left.reader.start(root_of(place))? {
         return Ok(true);
     }
     match left.reader.next()? {
@@ -232,99 +218,59 @@ fn is_start(left: &mut Left, root: usize, label: Label) -> Result<bool, AllocErr
     }
 }
 
-/// Writes one place on a line, after its name, unless it keeps what was there.
-fn put_place(
+/// Writes the name of a place.
+pub fn put_place(out: &mut Writer, place: Place) {
+    match place {
+        Place::Register(r) => out.put(&r),
+        Place::Hi => out.text("hi"),
+        Place::Lo => out.text("lo"),
+        Place::Memory => out.text("mem"),
+        Place::Exit => out.text("exit"),
+        Place::Guards => out.text("guards"),
+    }
+}
+
+/// Writes a line for a place, unless it keeps what was there.
+fn put_line(
     alloc: Global,
     out: &mut Writer,
     left: &mut Left,
-    root: usize,
-    label: Label,
+    place: Place,
     depth: u32,
 ) -> Result<(), AllocError> {
-    if !is_start(left, root, label)? {
-        out.text(MARGIN);
-        put_name(out, root);
-        put_end(
-            out,
-            " = ",
-            &root_page(alloc, &mut left.reader, root, depth)?,
-        );
+    if is_kept(left, place)? {
+        return Ok(());
     }
-    Ok(())
-}
-
-/// Writes the name of a root's place.
-fn put_name(out: &mut Writer, root: usize) {
-    match root {
-        HI => out.text("hi"),
-        LO => out.text("lo"),
-        MEMORY => out.text("mem"),
-        _ => {
-            out.text("$");
-            out.put(&root);
-        }
-    }
-}
-
-/// Writes the end of a line: a page after some words.
-fn put_end(out: &mut Writer, before: &str, page: &Page) {
-    out.text(before);
-    out.page(page);
+    out.text("    ");
+    put_place(out, place);
+    out.text(match place {
+        Place::Exit | Place::Guards => ": ",
+        _ => " = ",
+    });
+    out.page(&place_page(alloc, left, place, depth)?);
     out.text("\n");
-}
-
-/// Writes a line for each register that changes.
-fn put_registers(
-    alloc: Global,
-    out: &mut Writer,
-    left: &mut Left,
-    depth: u32,
-) -> Result<(), AllocError> {
-    for r in 1..32u8 {
-        if let Some(register) = NonzeroReg::new(r) {
-            let label = Label::Init(Origin::Register(register));
-            put_place(alloc, out, left, usize::from(r), label, depth)?;
-        }
-    }
     Ok(())
-}
-
-/// Writes a line for each of HI, LO and memory that changes, one for the exit and one for the guards.
-fn put_others(
-    alloc: Global,
-    out: &mut Writer,
-    left: &mut Left,
-    depth: u32,
-) -> Result<(), AllocError> {
-    put_place(alloc, out, left, HI, Label::Init(Origin::Hi), depth)?;
-    put_place(alloc, out, left, LO, Label::Init(Origin::Lo), depth)?;
-    put_place(alloc, out, left, MEMORY, Label::Mem0, depth)?;
-    out.text(MARGIN);
-    put_end(out, "exit: ", &exit_page(alloc, left, depth)?);
-    out.text(MARGIN);
-    put_end(out, "guards: ", &guards_page(alloc, left, depth)?);
-    Ok(())
-}
-
-fn put_lines(
-    alloc: Global,
-    out: &mut Writer,
-    left: &mut Left,
-    depth: u32,
-) -> Result<(), AllocError> {
-    put_registers(alloc, out, left, depth)?;
-    put_others(alloc, out, left, depth)
 }
 
 /// Writes what a block leaves: a line for each register, HI, LO and memory that changes, its term cut at a depth. The exit has one line,
-/// and so have the guards.
+/// and so have the guards. Where the table has no room, one line says so.
 pub fn put_left(
     alloc: Global,
     out: &mut Writer,
     block: &Block,
     depth: u32,
-) -> Result<(), ReadFault> {
-    let mut left = left_of(alloc, Code::Block(block))?;
-    put_lines(alloc, out, &mut left, depth)?;
+) -> Result<(), AllocError> {
+    let Some(mut left) = left_of(alloc, Code::Block(block))? else {
+        out.text("    full\n");
+        return Ok(());
+    };
+    for r in 1..32u8 {
+        if let Some(register) = NonzeroReg::new(r) {
+            put_line(alloc, out, &mut left, Place::Register(register), depth)?;
+        }
+    }
+    for place in OTHERS {
+        put_line(alloc, out, &mut left, place, depth)?;
+    }
     Ok(())
 }

@@ -18,8 +18,8 @@ mod terms;
 mod verdict;
 mod witness;
 
-pub use left::put_left;
+pub use left::{put_left, put_place};
 pub use line::explain_line;
-pub use terms::ReadFault;
+pub use terms::{Room, table_of};
 pub use verdict::{put_differing, put_unclean};
 pub use witness::put_found;

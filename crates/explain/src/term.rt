@@ -1,38 +1,17 @@
 //! Terms as text.
 
 use crate::terms::TermReader;
-use mips_isa::{PairTest, ZeroTest};
+use mips_isa::{Mnemonic, PairTest, ZeroTest};
 use std::alloc::{AllocError, Global};
 use sym_terms::{Label, Origin};
 use text::{Page, Writer};
-use words::{Operator, Width};
+use words::Operator;
 
 /// What stands for the parts of a term that are cut off.
 const CUT: &str = "..";
 
 /// The parts of a term that are shown at most.
 const MOST: u32 = 200;
-
-pub(crate) fn load_name(width: Width) -> &'static str {
-    match width {
-        Width::Word => "lw",
-        Width::Byte => "lbu",
-    }
-}
-
-fn store_name(width: Width) -> &'static str {
-    match width {
-        Width::Word => "sw",
-        Width::Byte => "sb",
-    }
-}
-
-pub(crate) fn width_name(width: Width) -> &'static str {
-    match width {
-        Width::Word => "word",
-        Width::Byte => "byte",
-    }
-}
 
 pub(crate) fn pair_sign(test: PairTest) -> &'static str {
     match test {
@@ -50,23 +29,15 @@ pub(crate) fn zero_sign(test: ZeroTest) -> &'static str {
     }
 }
 
-/// Returns the sign between operands, of those that have one in C.
-fn sign(operator: Operator) -> Option<&'static str> {
-    match operator {
-        Operator::Addu => Some(" + "),
-        Operator::Subu => Some(" - "),
-        Operator::And => Some(" & "),
-        Operator::Or => Some(" | "),
-        Operator::Xor => Some(" ^ "),
-        Operator::Sll => Some(" << "),
-        _ => None,
-    }
-}
-
-/// Returns the sign between the operands of a term, if its label has one.
+/// Returns the sign between the operands of a term, if its operator has one in C.
 fn infix(label: &Label) -> Option<&'static str> {
     match label {
-        Label::Op(operator) => sign(*operator),
+        Label::Op(Operator::Addu) => Some(" + "),
+        Label::Op(Operator::Subu) => Some(" - "),
+        Label::Op(Operator::And) => Some(" & "),
+        Label::Op(Operator::Or) => Some(" | "),
+        Label::Op(Operator::Xor) => Some(" ^ "),
+        Label::Op(Operator::Sll) => Some(" << "),
         _ => None,
     }
 }
@@ -98,10 +69,7 @@ fn operator_name(operator: Operator) -> &'static str {
 
 fn put_origin(out: &mut Writer, origin: &Origin) {
     match origin {
-        Origin::Register(register) => {
-            out.text("$");
-            out.put(&register.index());
-        }
+        Origin::Register(register) => out.put(register),
         Origin::Hi => out.text("hi"),
         Origin::Lo => out.text("lo"),
         Origin::Link => out.text("link"),
@@ -115,22 +83,9 @@ fn put_label(out: &mut Writer, label: &Label) {
         Label::Mem0 => out.text("mem"),
         Label::Const(word) => out.put(&word.cast_signed()),
         Label::Op(operator) => out.text(operator_name(*operator)),
-        Label::Load(width) => out.text(load_name(*width)),
-        Label::Store(width) => out.text(store_name(*width)),
+        Label::Load(width) => out.text(Mnemonic::Load(*width).name()),
+        Label::Store(width) => out.text(Mnemonic::Store(*width).name()),
     }
-}
-
-fn label_page(alloc: Global, label: &Label) -> Result<Page, AllocError> {
-    let mut out = Writer::new(alloc);
-    put_label(&mut out, label);
-    out.end()
-}
-
-/// Returns what stands for a term that is cut off.
-fn cut_page(alloc: Global) -> Result<Page, AllocError> {
-    let mut out = Writer::new(alloc);
-    out.text(CUT);
-    out.end()
 }
 
 /// Writes the operands, the last of which stands first, between parentheses and with this between them.
@@ -145,18 +100,15 @@ fn put_operands(out: &mut Writer, operands: &[Page], between: &str) {
     out.text(")");
 }
 
-/// Returns a term of a label and its operands, the last of which stands first. The label stands before them, or as a sign between them.
-fn term_page(alloc: Global, label: &Label, operands: &[Page]) -> Result<Page, AllocError> {
-    let mut out = Writer::new(alloc);
-    let between = match infix(label) {
-        Some(sign) => sign,
+/// Writes a term of a label and its operands, the last of which stands first. The label stands before them, or as a sign between them.
+fn put_term(out: &mut Writer, label: &Label, operands: &[Page]) {
+    match infix(label) {
+        Some(sign) => put_operands(out, operands, sign),
         None => {
-            put_label(&mut out, label);
-            ", "
+            put_label(out, label);
+            put_operands(out, operands, ", ");
         }
-    };
-    put_operands(&mut out, operands, between);
-    out.end()
+    }
 }
 
 /// Returns the term that is next, cut at a depth, and where so many parts were shown.
@@ -166,22 +118,25 @@ fn next_page(
     depth: u32,
     left: &mut u32,
 ) -> Result<Page, AllocError> {
+    let mut out = Writer::new(alloc);
     let Some((label, count)) = reader.next()? else {
-        return cut_page(alloc);
+        out.text(CUT);
+        return out.end();
     };
     if count == 0 {
-        return label_page(alloc, &label);
-    }
-    if depth == 0 || *left == 0 {
+        put_label(&mut out, &label);
+    } else if depth == 0 || *left == 0 {
         reader.skip(count);
-        return cut_page(alloc);
+        out.text(CUT);
+    } else {
+        *left = left.saturating_sub(1);
+        let mut operands = Vec::new(alloc);
+        for _ in 0..count {
+            operands.push(next_page(alloc, reader, depth - 1, left)?)?;
+        }
+        put_term(&mut out, &label, operands.as_slice());
     }
-    *left = left.saturating_sub(1);
-    let mut operands = Vec::new(alloc);
-    for _ in 0..count {
-        operands.push(next_page(alloc, reader, depth - 1, left)?)?;
-    }
-    term_page(alloc, &label, operands.as_slice())
+    out.end()
 }
 
 /// Returns a root's term, cut at a depth; empty where there is no such root.

@@ -12,30 +12,6 @@ use sym_exec::{Guard, SymState, TermExit, TermPlaces, run_block, run_order};
 use sym_terms::Label;
 use term_table::{Node, Pass, TableFull, TermTable, Ticket};
 
-/// How many terms a table has room for.
-#[derive(Clone, Copy)]
-enum Room {
-    /// 4,096, more than most blocks have.
-    Few,
-    /// 65,536.
-    Many,
-}
-
-/// Why there is nothing to read.
-#[derive(Clone, Copy, Debug, PartialEq, Eq)]
-pub enum ReadFault {
-    /// The block has more terms than the table has room for.
-    Full,
-    /// Memory was refused.
-    NoMemory,
-}
-
-impl From<AllocError> for ReadFault {
-    fn from(_refused: AllocError) -> ReadFault {
-        ReadFault::NoMemory
-    }
-}
-
 /// A table with its pass, the tickets of all places, and those that are to be read, the last one first.
 #[derive(Drop)]
 pub(crate) struct Open {
@@ -63,22 +39,31 @@ impl Model for TermReader {
     ghost invariant = { λ r. IsReader r.open };
 }
 
-/// Returns a table of so many terms and chains, for one pass.
-fn tables(alloc: Global, nodes: u64, heads: u64) -> Option<(TermTable, Vec<Pass>)>
-    ensures { IfSome result (λ t. All (IsOf t.0) t.1.items) }
-{
-    TermTable::open(alloc, 1, nodes, heads).ok()
+/// How many terms a table has room for.
+#[derive(Clone, Copy)]
+pub enum Room {
+    /// 4,096, more than most blocks have.
+    Few,
+    /// 65,536.
+    Many,
 }
 
-/// Returns a table for one pass, and its pass; none if memory runs out.
-fn table_of(alloc: Global, room: Room) -> Option<(TermTable, Pass)>
-    ensures { IfSome result (λ t. IsOf t.0 t.1) }
+/// Returns a table of some room.
+fn tables(alloc: Global, room: Room) -> Option<(TermTable, Vec<Pass>)>
+    ensures { IfSome result (λ t. All (IsOf t.0) t.1.items) }
 {
     let (nodes, heads) = match room {
         Room::Few => (4096, 64),
         Room::Many => (65536, 1024),
     };
-    let (table, mut passes) = tables(alloc, nodes, heads)?;
+    TermTable::open(alloc, 1, nodes, heads).ok()
+}
+
+/// Returns a table for one pass, and its pass; none if memory runs out.
+pub fn table_of(alloc: Global, room: Room) -> Option<(TermTable, Pass)>
+    ensures { IfSome result (λ t. IsOf t.0 t.1) }
+{
+    let (table, mut passes) = tables(alloc, room)?;
     let pass = passes.pop()?;
     Some((table, pass))
 }
@@ -112,16 +97,15 @@ fn put_exit(roots: &mut Vec<Ticket>, exit: &TermExit, pass: &Pass) -> Result<(),
     ensures { All (HasSeen pass.now) roots.new.items }
 {
     match *exit {
-        TermExit::Goto(_) => Ok(()),
+        TermExit::Goto(_) | TermExit::Call { .. } => Ok(()),
         TermExit::BranchPair { a, b, .. } => {
             put(roots, a, pass)?;
             put(roots, b, pass)
         }
-        TermExit::BranchZero { a, .. } => put(roots, a, pass),
-        TermExit::Call { .. } => Ok(()),
-        TermExit::Return(a) => put(roots, a, pass),
+        TermExit::BranchZero { a, .. } | TermExit::Return(a) | TermExit::Halt(a) => {
+            put(roots, a, pass)
+        }
         TermExit::Out { word, .. } => put(roots, word, pass),
-        TermExit::Halt(a) => put(roots, a, pass),
     }
 }
 
@@ -175,7 +159,7 @@ pub(crate) struct Left {
 }
 
 /// Returns the reader of a state that a pass has seen.
-fn left_by(alloc: Global, table: TermTable, pass: Pass, state: SymState) -> Result<Left, ReadFault>
+fn left_by(alloc: Global, table: TermTable, pass: Pass, state: SymState) -> Result<Left, AllocError>
     requires own { IsOf table pass }
     requires seen { IsSeenState pass state.places state.exit state.guards.items }
 {
@@ -218,22 +202,22 @@ fn run(
     }
 }
 
-/// Returns what a block or an order leaves, over a table of some room.
-fn left_in(alloc: Global, code: Code<'_>, size: Room) -> Result<Left, ReadFault> {
-    let Some((table, mut pass)) = table_of(alloc, size) else {
-        return Err(ReadFault::NoMemory);
+/// Returns what a block or an order leaves, over a table of some room; None if that is too little.
+fn left_in(alloc: Global, code: Code<'_>, room: Room) -> Result<Option<Left>, AllocError> {
+    let Some((table, mut pass)) = table_of(alloc, room) else {
+        return Err(AllocError);
     };
     match run(alloc, &table, &mut pass, code)? {
-        Ok(state) => left_by(alloc, table, pass, state),
-        Err(_) => Err(ReadFault::Full),
+        Ok(state) => Ok(Some(left_by(alloc, table, pass, state)?)),
+        Err(_) => Ok(None),
     }
 }
 
-/// Returns what a block or an order leaves.
-pub(crate) fn left_of(alloc: Global, code: Code<'_>) -> Result<Left, ReadFault> {
-    match left_in(alloc, code, Room::Few) {
-        Err(ReadFault::Full) => left_in(alloc, code, Room::Many),
-        left => left,
+/// Returns what a block or an order leaves; None if it has more terms than a table has room for.
+pub(crate) fn left_of(alloc: Global, code: Code<'_>) -> Result<Option<Left>, AllocError> {
+    match left_in(alloc, code, Room::Few)? {
+        None => left_in(alloc, code, Room::Many),
+        left => Ok(left),
     }
 }
 

@@ -1,19 +1,18 @@
 //! Why an order is rejected: the terms that differ, or the rule that is broken and the words that break it.
 
-use crate::left::{block_place, order_place};
-use crate::terms::ReadFault;
+use crate::left::place_page;
+use crate::terms::{Code, Left, left_of};
 use crate::witness::put_found;
 use block_text::{ExitLine, put_insts};
 use block_validator::Place;
-use mblock::{Block, Exit, Order, Unclean};
+use mblock::{Block, Order, Unclean};
 use mips_isa::{Action, Plain, Reg};
 use std::alloc::{AllocError, Global};
 use text::{Page, Writer};
 
-/// How deep terms are shown, from the least that tells them apart.
-const DEPTHS: [u32; 5] = [4, 6, 8, 12, 16];
+/// How deep terms are shown: the least that tells them apart, or the deepest.
+const DEPTHS: [u32; 6] = [4, 6, 8, 12, 16, DEEPEST];
 
-/// How deep they are shown where none of these does.
 const DEEPEST: u32 = 24;
 
 /// Returns a delay rule in words.
@@ -40,14 +39,14 @@ fn loaded_register(inst: &Plain) -> Option<Reg> {
     }
 }
 
-/// Returns the first instruction that touches what the one before it loads; its number.
-fn load_use(insts: &[Plain]) -> Option<usize> {
+/// Returns the first instruction that touches what the one before it loads: the places of the two.
+fn load_use(insts: &[Plain]) -> Option<(usize, usize)> {
     for (k, inst) in insts.iter().enumerate() {
         if let Some(register) = loaded_register(inst)
             && let Some(next) = insts.get(k + 1)
             && next.action().touches(register)
         {
-            return Some(k);
+            return Some((k, k + 1));
         }
     }
     None
@@ -67,63 +66,41 @@ fn word_at(order: &Order, place: usize) -> Option<Plain> {
 }
 
 fn is_product_at(order: &Order, place: usize) -> bool {
-    match word_at(order, place) {
-        Some(inst) => inst.action().is_product(),
-        None => false,
-    }
+    matches!(word_at(order, place), Some(inst) if inst.action().is_product())
 }
 
 /// Returns the first product that comes too soon after a move: the places of the two.
 fn early_product(order: &Order) -> Option<(usize, usize)> {
     for (k, inst) in order.insts().iter().enumerate() {
-        if !inst.action().is_move() {
-            continue;
-        }
-        for place in [k.saturating_add(1), k.saturating_add(2)] {
-            if is_product_at(order, place) {
-                return Some((k, place));
+        if inst.action().is_move() {
+            for place in [k.saturating_add(1), k.saturating_add(2)] {
+                if is_product_at(order, place) {
+                    return Some((k, place));
+                }
             }
         }
     }
     None
 }
 
-fn put_word(out: &mut Writer, order: &Order, place: usize) {
-    match word_at(order, place) {
-        Some(inst) => put_insts(out, &[inst], "  ", "\n"),
-        None => put_left(out, order.exit()),
+/// Returns the places of the two words that break a rule, if they are found.
+fn breaking(rule: Unclean, order: &Order) -> Option<(usize, usize)> {
+    let exit = order.insts().len();
+    match rule {
+        Unclean::LoadUse => load_use(order.insts()),
+        Unclean::ProductAfterMove => early_product(order),
+        Unclean::SlotLoadOrMove => Some((exit, exit.saturating_add(1))),
+        Unclean::ExitLoad => Some((exit.saturating_sub(1), exit)),
     }
 }
 
-fn put_left(out: &mut Writer, exit: Exit) {
-    out.text("  ");
-    out.put(&ExitLine(exit));
-    out.text("\n");
-}
-
-/// Writes the words that break a rule.
-fn put_breaking(out: &mut Writer, rule: Unclean, order: &Order) {
-    let count = order.insts().len();
-    match rule {
-        Unclean::LoadUse => {
-            if let Some(k) = load_use(order.insts()) {
-                put_word(out, order, k);
-                put_word(out, order, k.saturating_add(1));
-            }
-        }
-        Unclean::ProductAfterMove => {
-            if let Some((first, second)) = early_product(order) {
-                put_word(out, order, first);
-                put_word(out, order, second);
-            }
-        }
-        Unclean::SlotLoadOrMove => {
-            put_left(out, order.exit());
-            put_word(out, order, count.saturating_add(1));
-        }
-        Unclean::ExitLoad => {
-            put_word(out, order, count.saturating_sub(1));
-            put_left(out, order.exit());
+fn put_word(out: &mut Writer, order: &Order, place: usize) {
+    match word_at(order, place) {
+        Some(inst) => put_insts(out, &[inst], "  ", "\n"),
+        None => {
+            out.text("  ");
+            out.put(&ExitLine(order.exit()));
+            out.text("\n");
         }
     }
 }
@@ -132,33 +109,27 @@ fn put_breaking(out: &mut Writer, rule: Unclean, order: &Order) {
 pub fn put_unclean(out: &mut Writer, rule: Unclean, order: &Order) {
     out.text(rule_words(rule));
     out.text(":\n");
-    put_breaking(out, rule, order);
+    if let Some((first, second)) = breaking(rule, order) {
+        put_word(out, order, first);
+        put_word(out, order, second);
+    }
 }
 
-/// Returns what is left in a place, or what stands for it where the table has no room.
-fn read_page(alloc: Global, page: Result<Page, ReadFault>) -> Result<Page, AllocError> {
-    match page {
-        Ok(page) => Ok(page),
-        Err(ReadFault::Full) => {
+/// Returns what is left in a place, at a depth; `?` where the table had no room for it.
+fn page_at(
+    alloc: Global,
+    left: &mut Option<Left>,
+    place: &Place,
+    depth: u32,
+) -> Result<Page, AllocError> {
+    match left {
+        Some(left) => place_page(alloc, left, *place, depth),
+        None => {
             let mut out = Writer::new(alloc);
             out.text("?");
             out.end()
         }
-        Err(ReadFault::NoMemory) => Err(AllocError),
     }
-}
-
-/// Returns what block and order leave in a place, at a depth.
-fn pages_at(
-    alloc: Global,
-    block: &Block,
-    order: &Order,
-    place: &Place,
-    depth: u32,
-) -> Result<(Page, Page), AllocError> {
-    let first = read_page(alloc, block_place(alloc, block, *place, depth))?;
-    let second = read_page(alloc, order_place(alloc, order, *place, depth))?;
-    Ok((first, second))
 }
 
 fn put_pair(out: &mut Writer, block: &Page, order: &Page) {
@@ -177,15 +148,16 @@ fn put_terms(
     block: &Block,
     order: &Order,
 ) -> Result<(), AllocError> {
+    let mut first = left_of(alloc, Code::Block(block))?;
+    let mut second = left_of(alloc, Code::Order(order))?;
     for depth in DEPTHS {
-        let (first, second) = pages_at(alloc, block, order, place, depth)?;
-        if first.bytes() != second.bytes() {
-            put_pair(out, &first, &second);
-            return Ok(());
+        let one = page_at(alloc, &mut first, place, depth)?;
+        let other = page_at(alloc, &mut second, place, depth)?;
+        if one.bytes() != other.bytes() || depth == DEEPEST {
+            put_pair(out, &one, &other);
+            break;
         }
     }
-    let (first, second) = pages_at(alloc, block, order, place, DEEPEST)?;
-    put_pair(out, &first, &second);
     Ok(())
 }
 

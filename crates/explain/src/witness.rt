@@ -47,10 +47,7 @@ fn put_word(out: &mut Writer, word: u32) {
 
 /// Reports whether it is the register in which the two differ, which one of them may leave as it was.
 fn is_left(difference: &Difference, register: NonzeroReg) -> bool {
-    match *difference {
-        Difference::Register(r) => r == register.reg(),
-        _ => false,
-    }
+    matches!(*difference, Difference::Register(r) if r == register.reg())
 }
 
 /// Writes the registers that are read or left, with their words at the start.

@@ -1,9 +1,18 @@
 //! The edges of a graph that go back to a node on the way from the first node, by a depth-first walk. So a loop is entered at its head.
 
 use std::alloc::{AllocError, Global};
+use text::Page;
 
 /// Where the edges of a node lead.
 pub(crate) type Edges = [Option<usize>; 2];
+
+/// A block of a graph: its number, its lines, and the places of the blocks to which it leads.
+#[derive(Drop)]
+pub(crate) struct Node {
+    pub(crate) number: usize,
+    pub(crate) lines: Page,
+    pub(crate) edges: Edges,
+}
 
 /// How far the walk is with a node.
 #[derive(Clone, Copy, PartialEq, Eq)]
@@ -17,20 +26,16 @@ enum Visit {
 /// A walk through a graph.
 #[derive(Drop)]
 struct Walk<'a> {
-    edges: &'a [Edges],
+    nodes: &'a [Node],
     visits: Vec<Visit>,
     way: Vec<usize>,
     back: Vec<[bool; 2]>,
 }
 
 impl<'a> Walk<'a> {
-    fn new(alloc: Global, edges: &'a [Edges]) -> Result<Walk<'a>, AllocError> {
-        Ok(Walk {
-            edges,
-            visits: vec![in alloc; Visit::Unseen; edges.len()]?,
-            way: Vec::new(alloc),
-            back: vec![in alloc; [false; 2]; edges.len()]?,
-        })
+    /// Returns where an edge of a node leads.
+    fn target(&self, node: usize, edge: usize) -> Option<usize> {
+        *self.nodes.get(node)?.edges.get(edge)?
     }
 
     fn visit(&self, node: usize) -> Visit {
@@ -45,12 +50,7 @@ impl<'a> Walk<'a> {
 
     /// Takes an edge of a node: to a new node, or marks it where it goes back.
     fn take(&mut self, node: usize, edge: usize) -> Result<(), AllocError> {
-        let Some(to) = self
-            .edges
-            .get(node)
-            .and_then(|edges| edges.get(edge).copied())
-            .flatten()
-        else {
+        let Some(to) = self.target(node, edge) else {
             return Ok(());
         };
         match self.visit(to) {
@@ -95,7 +95,7 @@ impl<'a> Walk<'a> {
         }
         self.set(root, Visit::Open(0));
         self.way.push(root)?;
-        for _ in 0..self.edges.len().saturating_mul(3) {
+        for _ in 0..self.nodes.len().saturating_mul(3) {
             if self.way.is_empty() {
                 break;
             }
@@ -106,9 +106,14 @@ impl<'a> Walk<'a> {
 }
 
 /// Finds the edges that go back.
-pub(crate) fn back_edges(alloc: Global, edges: &[Edges]) -> Result<Vec<[bool; 2]>, AllocError> {
-    let mut walk = Walk::new(alloc, edges)?;
-    for root in 0..edges.len() {
+pub(crate) fn back_edges(alloc: Global, nodes: &[Node]) -> Result<Vec<[bool; 2]>, AllocError> {
+    let mut walk = Walk {
+        nodes,
+        visits: vec![in alloc; Visit::Unseen; nodes.len()]?,
+        way: Vec::new(alloc),
+        back: vec![in alloc; [false; 2]; nodes.len()]?,
+    };
+    for root in 0..nodes.len() {
         walk.walk_from(root)?;
     }
     Ok(walk.back)

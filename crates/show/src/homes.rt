@@ -4,11 +4,6 @@ use crate::names::Names;
 use mips_homes::{Frame, Home};
 use text::Writer;
 
-fn put_register(out: &mut Writer, number: u8) {
-    out.text("$");
-    out.put(&number);
-}
-
 fn put_slot(out: &mut Writer, slot: u32) {
     out.text("slot ");
     out.put(&slot);
@@ -17,12 +12,12 @@ fn put_slot(out: &mut Writer, slot: u32) {
 /// Writes a home, and the register that holds a copy of a slot's word, if one does.
 fn put_home(out: &mut Writer, home: Home) {
     match home {
-        Home::Reg(r) => put_register(out, r.index()),
+        Home::Reg(r) => out.put(&r),
         Home::Slot(slot) => put_slot(out, slot),
         Home::Copied(r, slot) => {
             put_slot(out, slot);
             out.text(", copied in ");
-            put_register(out, r.index());
+            out.put(&r);
         }
     }
 }
@@ -30,8 +25,8 @@ fn put_home(out: &mut Writer, home: Home) {
 fn put_saved(out: &mut Writer, saved: &[u8]) {
     out.text("  saved:");
     for number in saved {
-        out.text(" ");
-        put_register(out, *number);
+        out.text(" $");
+        out.put(number);
     }
     if saved.is_empty() {
         out.text(" none");

@@ -12,8 +12,6 @@
 mod asm;
 mod assembler;
 mod back_edges;
-mod blocks;
-mod check;
 mod dot;
 mod homes;
 mod listing;
@@ -22,8 +20,6 @@ mod numbers;
 mod orders;
 mod program;
 mod rtl_text;
-mod stage;
-mod terms;
 mod wanted;
 
 pub use assembler::assembler_source;

@@ -1,10 +1,8 @@
 //! The listing of an image, with the functions and the blocks of its code, and the globals of its data.
 
-use crate::blocks::{callee, put_heading, put_line};
 use crate::names::Names;
-use crate::numbers::{Range, is_wanted};
+use crate::program::View;
 use mblock::{Exit, Order};
-use rtl::RGlobal;
 use std::str::Lines;
 use text::Writer;
 
@@ -19,18 +17,6 @@ fn exit_words(exit: Exit) -> usize {
 /// Returns how many words of code an order has.
 pub(crate) fn order_words(order: &Order) -> usize {
     order.insts().len().saturating_add(exit_words(order.exit()))
-}
-
-/// What the parts of a listing are called.
-#[derive(Clone, Copy)]
-pub(crate) struct ListingView<'a> {
-    pub(crate) names: &'a Names<'a>,
-    pub(crate) ranges: &'a [Range],
-    pub(crate) globals: &'a [RGlobal],
-    /// The function that is shown alone, by its number among the ranges.
-    pub(crate) only: Option<usize>,
-    /// The block that is shown alone.
-    pub(crate) block: Option<usize>,
 }
 
 /// Writes the lines of so many words, shown or left out.
@@ -53,36 +39,33 @@ fn put_rest(out: &mut Writer, lines: &mut Lines<'_>) {
     }
 }
 
-impl<'a> ListingView<'a> {
-    fn put_function(
+impl<'a> View<'a> {
+    fn list_function(
         &self,
         out: &mut Writer,
         lines: &mut Lines<'_>,
         number: usize,
         orders: &[Order],
     ) {
-        let Some(range) = self.ranges.get(number).copied() else {
-            return;
-        };
-        let is_shown = self.only.is_none() || self.only == Some(number);
+        let range = self.range(number);
+        let is_shown = self.wanted.only.is_none_or(|only| only == number);
         if is_shown {
-            put_title(out, self.names, number);
+            put_title(out, &self.names, number);
         }
-        let mut k = range.from;
-        for order in range.of(orders) {
-            let is_shown = is_shown && is_wanted(self.block, k);
+        for (k, order) in range.of(orders).iter().enumerate() {
+            let k = range.from.saturating_add(k);
+            let is_shown = is_shown && self.wanted.has_block(k);
             if is_shown {
-                put_heading(out, k, callee(self.names, self.ranges, order.exit()));
+                put_heading(out, k, self.callee(order.exit()));
                 out.text("\n");
             }
             put_words(out, lines, order_words(order), is_shown);
-            k = k.saturating_add(1);
         }
     }
 
     /// Writes the lines of data, under the global's name.
-    fn put_data(&self, out: &mut Writer, lines: &mut Lines<'_>) {
-        for (k, global) in self.globals.iter().enumerate() {
+    fn list_data(&self, out: &mut Writer, lines: &mut Lines<'_>) {
+        for (k, global) in self.shown.rtl.globals().iter().enumerate() {
             out.text("data ");
             out.text(self.names.global(k));
             out.text("\n");
@@ -92,14 +75,14 @@ impl<'a> ListingView<'a> {
         put_rest(out, lines);
     }
 
-    /// Writes the whole listing, function by function.
-    pub(crate) fn put(&self, out: &mut Writer, orders: &[Order], listing: &str) {
+    /// Writes the listing of an image, function by function.
+    pub(crate) fn put_listing(&self, out: &mut Writer, orders: &[Order], listing: &str) {
         let mut lines = listing.lines();
         for number in 0..self.ranges.len() {
-            self.put_function(out, &mut lines, number, orders);
+            self.list_function(out, &mut lines, number, orders);
         }
-        if self.only.is_none() {
-            self.put_data(out, &mut lines);
+        if self.wanted.only.is_none() {
+            self.list_data(out, &mut lines);
         }
     }
 }
@@ -113,4 +96,22 @@ pub(crate) fn put_title(out: &mut Writer, names: &Names<'_>, number: usize) {
         out.text(names.function(number - 1));
         out.text("\n");
     }
+}
+
+/// Writes the line over a block: its number, and the function that it calls.
+pub(crate) fn put_heading(out: &mut Writer, number: usize, called: Option<&str>) {
+    out.text("  block ");
+    out.put(&number);
+    if let Some(name) = called {
+        out.text(" (calls ");
+        out.text(name);
+        out.text(")");
+    }
+}
+
+/// Writes a line of a block, after a margin.
+fn put_line(out: &mut Writer, line: &str) {
+    out.text("    ");
+    out.text(line);
+    out.text("\n");
 }

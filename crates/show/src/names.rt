@@ -27,16 +27,7 @@ fn is_type(token: Option<Token>) -> bool {
     )
 }
 
-/// Returns how many brackets are open after a token.
-fn open_after(token: Token, open: usize) -> usize {
-    match token {
-        Token::The(Mark::LeftParen | Mark::LeftBrace) => open.saturating_add(1),
-        Token::The(Mark::RightParen | Mark::RightBrace) => open.saturating_sub(1),
-        _ => open,
-    }
-}
-
-fn is_paren(token: Option<Token>) -> bool {
+fn is_paren(token: Option<&Token>) -> bool {
     matches!(token, Some(Token::The(Mark::LeftParen)))
 }
 
@@ -62,12 +53,14 @@ impl<'t> Names<'t> {
         let mut before = None;
         let mut open = 0usize;
         for (k, token) in tokens.iter().enumerate() {
-            if let Token::Name(name) = *token
-                && is_type(before)
-            {
-                names.declare(alloc, name, open, is_paren(tokens.get(k + 1).copied()))?;
+            match *token {
+                Token::Name(name) if is_type(before) => {
+                    names.declare(alloc, name, open, is_paren(tokens.get(k + 1)))?;
+                }
+                Token::The(Mark::LeftParen | Mark::LeftBrace) => open = open.saturating_add(1),
+                Token::The(Mark::RightParen | Mark::RightBrace) => open = open.saturating_sub(1),
+                _ => {}
             }
-            open = open_after(*token, open);
             before = Some(*token);
         }
         Ok(names)

@@ -22,11 +22,6 @@ impl Range {
     }
 }
 
-/// Reports whether a number is the one that is asked for, if one is.
-pub(crate) fn is_wanted(asked: Option<usize>, number: usize) -> bool {
-    asked.is_none_or(|only| only == number)
-}
-
 /// Returns the functions of a unit: the code that calls main, and then those of the program in their order.
 pub(crate) fn functions_of(alloc: Global, unit: &Unit) -> Result<Vec<Range>, AllocError> {
     let mut ranges = Vec::new(alloc);

@@ -1,70 +1,22 @@
 //! Orders as the scheduler proposes them, and what the validator says of them.
 
-ghost use Rattle.std.specs.Prelude.{All, IfSome};
-ghost use Rattle.term_table.specs.Passes.{IsOf};
-
 use block_text::{ExitLine, put_insts, put_order};
-use block_validator::{Place, Verdict, validate};
-use explain::put_found;
+use block_validator::{Verdict, validate};
+use explain::{Room, put_found, put_place, table_of};
 use list_scheduler::{FilledOrder, ListOrder, Reorder};
 use mblock::{Block, Order, plain};
 use std::alloc::{AllocError, Global};
-use term_table::{Pass, TermTable};
 use text::Writer;
 
-/// How many terms a table has, and how many chains.
-#[derive(Clone, Copy)]
-struct Size {
-    nodes: u64,
-    heads: u64,
-}
-
-/// Opened in no time, and enough for all but the longest blocks.
-const SMALL: Size = Size {
-    nodes: 4096,
-    heads: 256,
-};
-
-/// As `mcc build` has it for each worker, if nothing else is said.
-const LARGE: Size = Size {
-    nodes: 65536,
-    heads: 1024,
-};
-
-fn tables(alloc: Global, size: Size) -> Option<(TermTable, Vec<Pass>)>
-    ensures { IfSome result (λ t. All (IsOf t.0) t.1.items) }
-{
-    TermTable::open(alloc, 1, size.nodes, size.heads).ok()
-}
-
-fn open_table(alloc: Global, size: Size) -> Option<(TermTable, Pass)>
-    ensures { IfSome result (λ t. IsOf t.0 t.1) }
-{
-    let (table, mut passes) = tables(alloc, size)?;
-    let pass = passes.pop()?;
-    Some((table, pass))
-}
-
-fn put_place(out: &mut Writer, place: Place) {
-    match place {
-        Place::Register(r) => out.put(&r),
-        Place::Hi => out.text("hi"),
-        Place::Lo => out.text("lo"),
-        Place::Memory => out.text("mem"),
-        Place::Exit => out.text("exit"),
-        Place::Guards => out.text("guards"),
-    }
-}
-
 /// Returns the order that the scheduler gives a block.
-pub(crate) fn proposed_order(alloc: Global, block: &Block) -> Result<Order, AllocError> {
+fn proposed_order(alloc: Global, block: &Block) -> Result<Order, AllocError> {
     FilledOrder(ListOrder).reorder(alloc, block)
 }
 
-/// Returns the verdict on the order that is proposed for a block, by a table of this size.
-fn verdict_by<'a>(alloc: Global, block: &'a Block, size: Size) -> Result<Verdict<'a>, AllocError> {
+/// Returns the verdict on the order that is proposed for a block, by a table of some room.
+fn verdict_by<'a>(alloc: Global, block: &'a Block, room: Room) -> Result<Verdict<'a>, AllocError> {
     let order = proposed_order(alloc, block)?;
-    let Some((table, mut pass)) = open_table(alloc, size) else {
+    let Some((table, mut pass)) = table_of(alloc, room) else {
         return Err(AllocError);
     };
     Ok(validate(alloc, &table, &mut pass, block, order))
@@ -72,31 +24,10 @@ fn verdict_by<'a>(alloc: Global, block: &'a Block, size: Size) -> Result<Verdict
 
 /// Returns the verdict on the order that is proposed for a block.
 fn verdict_on<'a>(alloc: Global, block: &'a Block) -> Result<Verdict<'a>, AllocError> {
-    match verdict_by(alloc, block, SMALL)? {
-        Verdict::Full => verdict_by(alloc, block, LARGE),
+    match verdict_by(alloc, block, Room::Few)? {
+        Verdict::Full => verdict_by(alloc, block, Room::Many),
         verdict => Ok(verdict),
     }
-}
-
-/// Writes a verdict in the words of `mcc check`, and returns the order that is taken, if it is.
-fn put_verdict(out: &mut Writer, verdict: Verdict<'_>) -> Result<Option<Order>, AllocError> {
-    match verdict {
-        Verdict::Same(checked) => {
-            out.text("same");
-            return Ok(Some(checked.into_order()));
-        }
-        Verdict::Unclean(rule) => {
-            out.text("unclean ");
-            out.put(&rule);
-        }
-        Verdict::Differs(place) => {
-            out.text("differs ");
-            put_place(out, place);
-        }
-        Verdict::Full => out.text("full"),
-        Verdict::NoMemory => return Err(AllocError),
-    }
-    Ok(None)
 }
 
 /// Writes a block after a margin, without its Nops: a block has no delays, so they do nothing.
@@ -122,19 +53,41 @@ fn put_refused(alloc: Global, out: &mut Writer, block: &Block) -> Result<(), All
     Ok(())
 }
 
-/// Writes the verdict on the order that is proposed for a block, and the order that is taken; the one that was refused before it.
+/// Writes the verdict on the order that is proposed for a block, in the words of `mcc check`, and the order that is taken; the one that
+/// was refused before it.
 pub(crate) fn put_settled(
     alloc: Global,
     out: &mut Writer,
     block: &Block,
 ) -> Result<(), AllocError> {
-    let verdict = verdict_on(alloc, block)?;
     out.text(": ");
-    let taken = put_verdict(out, verdict)?;
-    out.text("\n");
-    match taken {
-        Some(order) => put_order(out, &order, "    ", "\n"),
-        None => put_refused(alloc, out, block)?,
+    match verdict_on(alloc, block)? {
+        Verdict::Same(checked) => {
+            out.text("same\n");
+            put_order(out, &checked.into_order(), "    ", "\n");
+            return Ok(());
+        }
+        Verdict::Unclean(rule) => {
+            out.text("unclean ");
+            out.put(&rule);
+        }
+        Verdict::Differs(place) => {
+            out.text("differs ");
+            put_place(out, place);
+        }
+        Verdict::Full => out.text("full"),
+        Verdict::NoMemory => return Err(AllocError),
     }
+    out.text("\n");
+    put_refused(alloc, out, block)
+}
+
+/// Writes a block without its Nops and the order that is proposed for it, as `mcc check` reads them.
+pub(crate) fn put_check(alloc: Global, out: &mut Writer, block: &Block) -> Result<(), AllocError> {
+    let order = proposed_order(alloc, block)?;
+    out.text("block\n");
+    put_needed(out, block, "", "\n");
+    out.text("order\n");
+    put_order(out, &order, "", "\n");
     Ok(())
 }

@@ -3,29 +3,28 @@
 ghost use Rattle.std.specs.Prelude.{All, IfOk};
 ghost use Rattle.text.specs.Shown.{IsShown};
 
-use crate::asm::labels_of;
 use crate::assembler::put_source;
-use crate::blocks::{callee, put_heading};
-use crate::check::put_check;
-use crate::dot::{put_blocks, put_rtl_blocks};
+use crate::back_edges::Node;
+use crate::dot::{exit_places, put_nodes, rtl_places};
 use crate::homes::put_homes;
-use crate::listing::{ListingView, put_title};
+use crate::listing::{put_heading, put_title};
 use crate::names::Names;
-use crate::numbers::{Range, functions_of, is_wanted, rtl_blocks_of};
-use crate::orders::{put_needed, put_settled};
+use crate::numbers::{Range, functions_of, rtl_blocks_of};
+use crate::orders::{put_check, put_needed, put_settled};
 use crate::rtl_text::RtlView;
-use crate::stage::Stage;
-use crate::terms::put_terms;
-use crate::wanted::{Asked, ShowFault, Wanted};
-use image::Image;
+use crate::wanted::{Asked, ShowFault, Stage, Wanted};
+use explain::put_left;
 use list_scheduler::{FilledOrder, ListOrder};
-use mblock::{Block, BlockNumber, Order, Unit};
+use mblock::{Block, BlockNumber, Exit, Unit};
 use mips_asm::{assemble, list};
-use mips_homes::{Frame, Homed, place};
-use rtl::Rtl;
-use sched_phase::{PhaseOpts, Scheduled, schedule_one};
+use mips_homes::{Frame, place};
+use rtl::{RBlock, Rtl};
+use sched_phase::{PhaseOpts, schedule_one};
 use std::alloc::{AllocError, Global};
 use text::{Page, WIDTH, Writer};
+
+/// How deep terms are shown.
+const DEPTH: u32 = 8;
 
 /// A program at its stages, with the text that it is of.
 #[derive(Clone, Copy)]
@@ -37,51 +36,38 @@ pub struct Shown<'a> {
     pub numbers: &'a [BlockNumber],
 }
 
-/// Returns the frames of a program's functions, if their homes are wanted: otherwise none.
-fn frames_of(alloc: Global, rtl: &Rtl, wanted: &Wanted) -> Result<Vec<Frame>, AllocError> {
-    if wanted.dot || wanted.stage != Some(Stage::Homes) {
-        return Ok(Vec::new(alloc));
-    }
-    let Homed { frames, .. } = place(alloc, rtl)?;
-    Ok(frames)
-}
-
-/// Returns a program's image, each block in its order; none if memory ran out to one of them, which would keep its own.
-fn image_of(alloc: Global, scheduled: &Scheduled<'_>) -> Result<Image, ShowFault> {
-    if scheduled.report().no_memory > 0 {
-        return Err(ShowFault::NoMemory);
-    }
-    let image = assemble(alloc, scheduled)?;
-    Ok(image)
-}
-
-/// A program with its names, its functions, and the frames that are wanted.
+/// A program with what is asked of it, its names, its functions, and the frames that are wanted.
 #[derive(Drop)]
-struct View<'a> {
-    alloc: Global,
-    shown: Shown<'a>,
-    names: Names<'a>,
-    ranges: Vec<Range>,
+pub(crate) struct View<'a> {
+    pub(crate) alloc: Global,
+    pub(crate) shown: Shown<'a>,
+    pub(crate) wanted: Wanted,
+    pub(crate) names: Names<'a>,
+    pub(crate) ranges: Vec<Range>,
     /// The functions' blocks of RTL.
     rtl_ranges: Vec<Range>,
     frames: Vec<Frame>,
-    /// The block that is shown alone.
-    block: Option<usize>,
 }
 
 impl<'a> View<'a> {
-    fn range(&self, number: usize) -> Range {
+    pub(crate) fn range(&self, number: usize) -> Range {
         self.ranges.get(number).copied().unwrap_or_default()
     }
 
-    /// Writes RTL of the function of this number among the ranges, the first of which is none of the program's.
-    fn put_rtl(&self, out: &mut Writer, number: usize, is_graph: bool) -> Result<(), AllocError> {
-        let Some(number) = number.checked_sub(1) else {
-            return Ok(());
+    /// Returns the name of the function that a call goes to; none if the block is left otherwise.
+    pub(crate) fn callee(&self, exit: Exit) -> Option<&'a str> {
+        let Exit::Call { function, .. } = exit else {
+            return None;
         };
-        let Some(function) = self.shown.rtl.functions().get(number) else {
-            return Ok(());
-        };
+        let first = function.number() as usize;
+        let found = self.ranges.iter().position(|range| range.from == first)?;
+        Some(self.names.function(found.saturating_sub(1)))
+    }
+
+    /// Returns RTL of the function of this number among the ranges, the first of which is none of the program's.
+    fn rtl(&self, number: usize) -> Option<(RtlView<'_>, &'a [RBlock])> {
+        let number = number.checked_sub(1)?;
+        let blocks = self.shown.rtl.functions().get(number)?.blocks.as_slice();
         let range = self.rtl_ranges.get(number).copied().unwrap_or_default();
         let view = RtlView {
             names: &self.names,
@@ -89,48 +75,30 @@ impl<'a> View<'a> {
             globals: self.shown.rtl.globals(),
             numbers: range.of(self.shown.numbers),
         };
-        let blocks = function.blocks.as_slice();
-        if is_graph {
-            return put_rtl_blocks(self.alloc, out, &view, blocks);
-        }
-        view.blocks(out, blocks, self.block);
-        Ok(())
-    }
-
-    fn put_homes(&self, out: &mut Writer, number: usize) {
-        if number > 0
-            && let Some(frame) = self.frames.get(number - 1)
-        {
-            put_homes(out, &self.names, number - 1, frame);
-        }
+        Some((view, blocks))
     }
 
     /// Writes a block in one of the stages of blocks.
-    fn put_stage(&self, out: &mut Writer, stage: Stage, block: &Block) -> Result<(), AllocError> {
-        match stage {
-            Stage::Orders => put_settled(self.alloc, out, block),
-            Stage::Terms => {
-                out.text("\n");
-                put_terms(self.alloc, out, block)
-            }
-            _ => {
-                out.text("\n");
-                put_needed(out, block, "    ", "\n");
-                Ok(())
-            }
+    fn put_block(&self, out: &mut Writer, stage: Stage, block: &Block) -> Result<(), AllocError> {
+        if stage == Stage::Orders {
+            return put_settled(self.alloc, out, block);
         }
+        out.text("\n");
+        if stage == Stage::Terms {
+            return put_left(self.alloc, out, block, DEPTH);
+        }
+        put_needed(out, block, "    ", "\n");
+        Ok(())
     }
 
     fn put_blocks(&self, out: &mut Writer, stage: Stage, number: usize) -> Result<(), AllocError> {
         let range = self.range(number);
-        let mut k = range.from;
-        for block in range.of(self.shown.unit.blocks()) {
-            if is_wanted(self.block, k) {
-                let called = callee(&self.names, self.ranges.as_slice(), block.exit());
-                put_heading(out, k, called);
-                self.put_stage(out, stage, block)?;
+        for (k, block) in range.of(self.shown.unit.blocks()).iter().enumerate() {
+            let k = range.from.saturating_add(k);
+            if self.wanted.has_block(k) {
+                put_heading(out, k, self.callee(block.exit()));
+                self.put_block(out, stage, block)?;
             }
-            k = k.saturating_add(1);
         }
         Ok(())
     }
@@ -144,76 +112,99 @@ impl<'a> View<'a> {
     ) -> Result<(), AllocError> {
         put_title(out, &self.names, number);
         match stage {
-            Stage::Rtl => self.put_rtl(out, number, false)?,
-            Stage::Homes => self.put_homes(out, number),
+            Stage::Rtl => {
+                if let Some((view, blocks)) = self.rtl(number) {
+                    view.blocks(out, blocks, &self.wanted);
+                }
+            }
+            Stage::Homes => {
+                if number > 0
+                    && let Some(frame) = self.frames.get(number - 1)
+                {
+                    put_homes(out, &self.names, number - 1, frame);
+                }
+            }
             _ => self.put_blocks(out, stage, number)?,
         }
         Ok(())
     }
 
-    /// Writes a function's graph, as a cluster.
-    fn put_graph(&self, out: &mut Writer, is_rtl: bool, number: usize) -> Result<(), AllocError> {
-        let name = if number == 0 {
-            "start"
-        } else {
-            self.names.function(number - 1)
+    /// Returns the graph of a function's blocks.
+    fn nodes(&self, number: usize) -> Result<Vec<Node>, AllocError> {
+        let range = self.range(number);
+        let mut nodes = Vec::new(self.alloc);
+        for (k, block) in range.of(self.shown.unit.blocks()).iter().enumerate() {
+            let mut lines = Writer::new(self.alloc);
+            put_needed(&mut lines, block, "", "\\l");
+            nodes.push(Node {
+                number: range.from.saturating_add(k),
+                lines: lines.end()?,
+                edges: exit_places(block.exit(), range.from),
+            })?;
+        }
+        Ok(nodes)
+    }
+
+    /// Returns the graph of a function's blocks of RTL.
+    fn rtl_nodes(&self, number: usize) -> Result<Vec<Node>, AllocError> {
+        let mut nodes = Vec::new(self.alloc);
+        let Some((view, blocks)) = self.rtl(number) else {
+            return Ok(nodes);
         };
+        for (k, block) in blocks.iter().enumerate() {
+            let mut lines = Writer::new(self.alloc);
+            view.lines(&mut lines, block, "", "\\l");
+            nodes.push(Node {
+                number: view.number(k),
+                lines: lines.end()?,
+                edges: rtl_places(&block.exit),
+            })?;
+        }
+        Ok(nodes)
+    }
+
+    /// Writes a function's graph, as a cluster.
+    fn put_graph(&self, out: &mut Writer, number: usize) -> Result<(), AllocError> {
         out.text("  subgraph cluster_");
         out.put(&number);
         out.text(" {\n    label=\"");
-        out.text(name);
-        out.text("\";\n");
-        if is_rtl {
-            self.put_rtl(out, number, true)?;
+        out.text(if number == 0 {
+            "start"
         } else {
-            let range = self.range(number);
-            let blocks = range.of(self.shown.unit.blocks());
-            put_blocks(self.alloc, out, range.from, blocks)?;
-        }
+            self.names.function(number - 1)
+        });
+        out.text("\";\n");
+        let nodes = match self.wanted.stage {
+            Some(Stage::Rtl) => self.rtl_nodes(number)?,
+            _ => self.nodes(number)?,
+        };
+        put_nodes(self.alloc, out, &nodes)?;
         out.text("  }\n");
         Ok(())
     }
 
-    fn put_listing(
-        &self,
-        out: &mut Writer,
-        orders: &[Order],
-        image: &Image,
-        only: Option<usize>,
-    ) -> Result<(), AllocError> {
-        let listing = list(self.alloc, image)?;
-        let view = ListingView {
-            names: &self.names,
-            ranges: self.ranges.as_slice(),
-            globals: self.shown.rtl.globals(),
-            only,
-            block: self.block,
-        };
-        view.put(out, orders, listing.as_str());
-        Ok(())
-    }
-
-    /// Writes what is made of the whole image.
-    fn put_image(&self, out: &mut Writer, wanted: &Wanted) -> Result<(), ShowFault> {
+    /// Writes what is made of the whole image, each block in its order; a fault if memory ran out to one of them, which would keep its own.
+    fn put_image(&self, out: &mut Writer) -> Result<(), ShowFault> {
         let Some(options) = PhaseOpts::new(1, 65536, 1024) else {
             return Ok(());
         };
         let scheduler = FilledOrder(ListOrder);
         let scheduled = schedule_one(self.alloc, self.shown.unit, options, &scheduler)?;
-        let image = image_of(self.alloc, &scheduled)?;
-        if wanted.stage == Some(Stage::Asm) {
-            let globals = self.shown.rtl.globals();
-            let (ranges, orders) = (self.ranges.as_slice(), scheduled.orders());
-            let labels = labels_of(self.alloc, &self.names, ranges, orders, globals)?;
-            put_source(self.alloc, out, &image, labels.as_slice())?;
+        if scheduled.report().no_memory > 0 {
+            return Err(ShowFault::NoMemory);
+        }
+        let image = assemble(self.alloc, &scheduled)?;
+        let orders = scheduled.orders();
+        if self.wanted.stage == Some(Stage::Asm) {
+            put_source(self.alloc, out, &image, self.labels(orders)?.as_slice())?;
         } else {
-            self.put_listing(out, scheduled.orders(), &image, wanted.only)?;
+            self.put_listing(out, orders, list(self.alloc, &image)?.as_str());
         }
         Ok(())
     }
 
-    fn put_check(&self, out: &mut Writer, wanted: &Wanted) -> Result<(), AllocError> {
-        let number = wanted.checked(self.ranges.as_slice());
+    fn put_checked(&self, out: &mut Writer) -> Result<(), AllocError> {
+        let number = self.wanted.checked(self.ranges.as_slice());
         match self.shown.unit.blocks().get(number) {
             Some(block) => put_check(self.alloc, out, block),
             None => Ok(()),
@@ -233,64 +224,58 @@ impl<'a> View<'a> {
     }
 
     /// Writes all that is asked of a function.
-    fn put_asked(
-        &self,
-        out: &mut Writer,
-        wanted: &Wanted,
-        number: usize,
-    ) -> Result<(), AllocError> {
-        if wanted.dot {
-            return self.put_graph(out, wanted.stage == Some(Stage::Rtl), number);
+    fn put_asked(&self, out: &mut Writer, number: usize) -> Result<(), AllocError> {
+        if self.wanted.dot {
+            return self.put_graph(out, number);
         }
-        match wanted.stage {
+        match self.wanted.stage {
             Some(stage) => self.put_function(out, stage, number),
             None => self.put_stages(out, number),
         }
     }
 
-    fn put_all(&self, out: &mut Writer, wanted: &Wanted) -> Result<(), AllocError> {
-        if wanted.dot {
+    /// Returns the first function that is shown: the code that calls main has neither RTL nor homes.
+    fn first(&self) -> usize {
+        match self.wanted.stage {
+            Some(Stage::Rtl | Stage::Homes) => 1,
+            _ => 0,
+        }
+    }
+
+    fn put_all(&self, out: &mut Writer) -> Result<(), AllocError> {
+        if self.wanted.dot {
             out.text("digraph blocks {\n  node [shape=box fontname=monospace];\n");
         }
-        let (first, end) = match wanted.only {
+        let (first, end) = match self.wanted.only {
             Some(number) => (number, number.saturating_add(1)),
-            None => (first_of(wanted), self.ranges.len()),
+            None => (self.first(), self.ranges.len()),
         };
         for number in first..end {
-            self.put_asked(out, wanted, number)?;
+            self.put_asked(out, number)?;
         }
-        if wanted.dot {
+        if self.wanted.dot {
             out.text("}\n");
         }
         Ok(())
     }
 
-    /// Returns what is asked for.
-    fn page(&self, wanted: &Wanted) -> Result<Page, ShowFault>
+    /// Returns what is asked for. Lines that another program reads aren't cut.
+    fn page(&self) -> Result<Page, ShowFault>
         ensures { IfOk result (All IsShown) }
     {
         let mut out = Writer::new(self.alloc);
-        match wanted.stage {
-            Some(Stage::Listing | Stage::Asm) if !wanted.dot => self.put_image(&mut out, wanted)?,
-            Some(Stage::Check) if !wanted.dot => self.put_check(&mut out, wanted)?,
-            _ => self.put_all(&mut out, wanted)?,
+        match self.wanted.stage {
+            _ if self.wanted.dot => self.put_all(&mut out)?,
+            Some(Stage::Listing | Stage::Asm) => self.put_image(&mut out)?,
+            Some(Stage::Check) => self.put_checked(&mut out)?,
+            _ => self.put_all(&mut out)?,
         }
         let page = out.end()?;
-        Ok(page)
+        if self.wanted.dot || self.wanted.stage == Some(Stage::Asm) {
+            return Ok(page);
+        }
+        Ok(page.cut(self.alloc, WIDTH)?)
     }
-}
-
-/// Returns the first function that is shown: the code that calls main has neither RTL nor homes.
-fn first_of(wanted: &Wanted) -> usize {
-    match wanted.stage {
-        Some(Stage::Rtl | Stage::Homes) => 1,
-        _ => 0,
-    }
-}
-
-/// Reports whether long lines are cut: those that another program reads aren't.
-fn is_cut(wanted: &Wanted) -> bool {
-    !wanted.dot && !matches!(wanted.stage, Some(Stage::Asm))
 }
 
 /// Returns what is asked for of a program: lines of printable ASCII, of at most 120 bytes but for graphs and assembler source.
@@ -300,19 +285,19 @@ pub fn show(alloc: Global, shown: Shown<'_>, asked: &Asked<'_>) -> Result<Page, 
     let names = Names::read(alloc, shown.text)?;
     let ranges = functions_of(alloc, shown.unit)?;
     let wanted = Wanted::of(&names, ranges.as_slice(), asked)?;
+    let frames = if wanted.stage == Some(Stage::Homes) {
+        place(alloc, shown.rtl)?.frames
+    } else {
+        Vec::new(alloc)
+    };
     let view = View {
         alloc,
         shown,
+        wanted,
         names,
         ranges,
         rtl_ranges: rtl_blocks_of(alloc, shown.rtl.functions())?,
-        frames: frames_of(alloc, shown.rtl, &wanted)?,
-        block: wanted.block,
+        frames,
     };
-    let page = view.page(&wanted)?;
-    if is_cut(&wanted) {
-        Ok(page.cut(alloc, WIDTH)?)
-    } else {
-        Ok(page)
-    }
+    view.page()
 }

@@ -1,8 +1,8 @@
 //! RTL as text.
 
-use crate::blocks::put_heading;
+use crate::listing::put_heading;
 use crate::names::Names;
-use crate::numbers::is_wanted;
+use crate::wanted::Wanted;
 use mblock::BlockNumber;
 use rtl::{Op, RBlock, RExit, RGlobal, RInst, Register};
 use text::Writer;
@@ -163,11 +163,11 @@ impl<'a> RtlView<'a> {
         out.text(end);
     }
 
-    /// Writes the blocks of a function, or the one with this number.
-    pub(crate) fn blocks(&self, out: &mut Writer, blocks: &[RBlock], only: Option<usize>) {
+    /// Writes the blocks of a function, or the one that is asked for.
+    pub(crate) fn blocks(&self, out: &mut Writer, blocks: &[RBlock], wanted: &Wanted) {
         for (k, block) in blocks.iter().enumerate() {
             let number = self.number(k);
-            if is_wanted(only, number) {
+            if wanted.has_block(number) {
                 put_heading(out, number, None);
                 out.text("\n");
                 self.lines(out, block, "    ", "\n");

@@ -2,7 +2,6 @@
 
 use crate::names::Names;
 use crate::numbers::Range;
-use crate::stage::Stage;
 use mips_asm::AsmFault;
 use std::alloc::AllocError;
 
@@ -49,6 +48,42 @@ impl From<AsmFault> for ShowFault {
     }
 }
 
+/// What is shown of a program.
+#[derive(Clone, Copy, PartialEq, Eq)]
+pub(crate) enum Stage {
+    Rtl,
+    /// Where pseudo-registers live.
+    Homes,
+    /// The machine's blocks, each in its plain order.
+    Blocks,
+    /// As scheduled.
+    Orders,
+    /// A block and its order as a check text.
+    Check,
+    /// What each block leaves.
+    Terms,
+    Listing,
+    /// Assembler source.
+    Asm,
+}
+
+impl Stage {
+    /// Returns the stage of this name.
+    pub(crate) fn from_name(name: &str) -> Option<Stage> {
+        match name {
+            "rtl" => Some(Stage::Rtl),
+            "homes" => Some(Stage::Homes),
+            "blocks" => Some(Stage::Blocks),
+            "orders" => Some(Stage::Orders),
+            "check" => Some(Stage::Check),
+            "terms" => Some(Stage::Terms),
+            "listing" => Some(Stage::Listing),
+            "asm" => Some(Stage::Asm),
+            _ => None,
+        }
+    }
+}
+
 /// What is asked for, by what it stands for.
 #[derive(Clone, Copy)]
 pub(crate) struct Wanted {
@@ -57,22 +92,6 @@ pub(crate) struct Wanted {
     pub(crate) only: Option<usize>,
     pub(crate) block: Option<usize>,
     pub(crate) dot: bool,
-}
-
-fn stage_of(asked: &Asked<'_>) -> Result<Option<Stage>, ShowFault> {
-    let Some(name) = asked.stage else {
-        return Ok(None);
-    };
-    let stage = Stage::from_name(name).ok_or(ShowFault::NoStage)?;
-    Ok(Some(stage))
-}
-
-fn function_of(names: &Names<'_>, asked: &Asked<'_>) -> Result<Option<usize>, ShowFault> {
-    let Some(name) = asked.function else {
-        return Ok(None);
-    };
-    let number = names.function_named(name).ok_or(ShowFault::NoFunction)?;
-    Ok(Some(number.saturating_add(1)))
 }
 
 /// Returns the blocks of a function, or of all.
@@ -88,25 +107,14 @@ fn blocks_of(ranges: &[Range], only: Option<usize>) -> Range {
 
 /// Returns the block that is asked for, if it is one of these.
 fn block_of(asked: &Asked<'_>, blocks: Range) -> Result<Option<usize>, ShowFault> {
-    let Some(number) = asked.block else {
-        return Ok(None);
-    };
-    let number = number as usize;
-    if blocks.has(number) {
-        return Ok(Some(number));
+    match asked.block {
+        Some(number) if !blocks.has(number as usize) => Err(ShowFault::NoBlock {
+            first: blocks.from,
+            last: blocks.to.saturating_sub(1),
+        }),
+        Some(number) => Ok(Some(number as usize)),
+        None => Ok(None),
     }
-    Err(ShowFault::NoBlock {
-        first: blocks.from,
-        last: blocks.to.saturating_sub(1),
-    })
-}
-
-/// Returns the function that is shown alone: the one that is named, or that of the block.
-fn shown_alone(ranges: &[Range], only: Option<usize>, block: Option<usize>) -> Option<usize> {
-    let Some(block) = block else {
-        return only;
-    };
-    only.or(ranges.iter().position(|range| range.has(block)))
 }
 
 impl Wanted {
@@ -116,15 +124,33 @@ impl Wanted {
         ranges: &[Range],
         asked: &Asked<'_>,
     ) -> Result<Wanted, ShowFault> {
-        let stage = stage_of(asked)?;
-        let only = function_of(names, asked)?;
-        let block = block_of(asked, blocks_of(ranges, only))?;
+        let stage = match asked.stage {
+            Some(name) => Some(Stage::from_name(name).ok_or(ShowFault::NoStage)?),
+            None => None,
+        };
+        let named = match asked.function {
+            Some(name) => {
+                let number = names.function_named(name).ok_or(ShowFault::NoFunction)?;
+                Some(number.saturating_add(1))
+            }
+            None => None,
+        };
+        let block = block_of(asked, blocks_of(ranges, named))?;
+        let only = match block {
+            Some(block) => named.or(ranges.iter().position(|range| range.has(block))),
+            None => named,
+        };
         Ok(Wanted {
             stage,
-            only: shown_alone(ranges, only, block),
+            only,
             block,
             dot: asked.dot,
         })
+    }
+
+    /// Reports whether the block of this number is shown.
+    pub(crate) fn has_block(&self, number: usize) -> bool {
+        self.block.is_none_or(|only| only == number)
     }
 
     /// Returns the block of a check text: the one that is named, or the function's first, or the first of all.
