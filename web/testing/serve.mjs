@@ -46,7 +46,7 @@ function answer(words, folder) {
 
 // The program names its file where the module has a name of its own.
 function told({ status, text, why = '' }, words, folder) {
-  const named = lines => lines.replace(/^(program\.c|order\.check)(?=:\d+:\d+:|: in function)/m, wordsOf(words).files[0]);
+  const named = lines => lines.replace(/^(program\.c|program\.image|order\.check)(?=:\d+:\d+:|: in function|: error:)/m, wordsOf(words).files[0]);
   return status === 1 ? { status, out: '', err: named(text) } : { status, out: text, err: named(why) };
 }
 
