@@ -8,8 +8,4 @@ use Rattle.block_text.specs.Stages.{stage_parts}
 
 pub not_at_end : (p : Stage) (b : BlockParts) (o : OrderParts) → ((x : BlockParts) (y : OrderParts) → p ≡ stages.Done x y → ⊥) → Done b o ≡ stage_parts p → ⊥
 not_at_end (stages.Done x y) b o f e = f x y refl
-not_at_end stages.AtBlock b o f e = cc
-not_at_end (stages.InBlock is) b o f e = cc
-not_at_end (stages.AtOrder a) b o f e = cc
-not_at_end (stages.InOrder a is) b o f e = cc
-not_at_end (stages.AtSlot a is x) b o f e = cc
+not_at_end _ b o f e = cc

@@ -9,8 +9,8 @@ use Rattle.mips_isa.specs.declared.inst.AluOp.TheVariants.{Addu, Subu, And, Or, 
 use Rattle.mips_isa.specs.declared.inst.ImmOp.TheVariants.{Addiu, Slti, Sltiu}
 use Rattle.mips_isa.specs.declared.inst.LogicOp.TheVariants.{Andi, Ori, Xori}
 use Rattle.mips_isa.specs.declared.inst.HiLo.TheVariants.{Hi, Lo}
-use Rattle.mips_isa.specs.declared.inst.PairTest.TheVariants.{Equal, NotEqual}
-use Rattle.mips_isa.specs.declared.inst.ZeroTest.TheVariants.{AtMostZero, AboveZero, BelowZero, AtLeastZero}
+use Rattle.mips_isa.specs.declared.inst.PairTest.TheVariants.{Equal}
+use Rattle.mips_isa.specs.declared.inst.ZeroTest.TheVariants.{AtMostZero}
 use Rattle.mips_isa.specs.declared.text.Mnemonic.{Mnemonic}
 use Rattle.mips_isa.specs.declared.text.Mnemonic.TheVariants as mnemonics
 use Rattle.mips_isa.specs.Texts.{mnemonic_text}
@@ -60,15 +60,9 @@ found_by word n e = ap (λ w. first_named (λ m. mnemonic_text m) w MNEMONICS.no
 
 -- and each exit's name, which has no space
 each_exit : (n : ExitName) → (first_named (λ m. exit_name_text m) (exit_name_text n) EXIT_NAMES.now ≡ Some n) × (lacks 32 (exit_name_text n) ≡ true)
-each_exit names.Goto = (refl, refl)
 each_exit (names.BranchPair Equal) = (refl, refl)
-each_exit (names.BranchPair NotEqual) = (refl, refl)
 each_exit (names.BranchZero AtMostZero) = (refl, refl)
-each_exit (names.BranchZero AboveZero) = (refl, refl)
-each_exit (names.BranchZero BelowZero) = (refl, refl)
-each_exit (names.BranchZero AtLeastZero) = (refl, refl)
-each_exit names.Call = (refl, refl)
-each_exit names.Out = (refl, refl)
+each_exit _ = (refl, refl)
 
 pub name_lacks : (n : ExitName) → lacks 32 (exit_name_text n) ≡ true
 name_lacks n = (each_exit n).1

@@ -16,12 +16,10 @@ stage_parts (stages.Done b o) = Done b o
 
 -- the limits that a place keeps
 abbrev pub Fits : Stage → Type 0
-Fits stages.AtBlock = Unit {0}
 Fits (stages.InBlock is) = length is.items ≤ BLOCK_INSTS
-Fits (stages.AtOrder b) = Unit {0}
 Fits (stages.InOrder b is) = length is.items ≤ ORDER_INSTS
 Fits (stages.AtSlot b is e) = (length is.items ≤ ORDER_INSTS) × (is_slotted e ≡ true)
-Fits (stages.Done b o) = Unit {0}
+Fits _ = Unit {0}
 
 abbrev pub parts_after : Option Stage → Option StageParts
 parts_after None = None

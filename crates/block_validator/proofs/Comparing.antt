@@ -79,12 +79,7 @@ exit_from Halts [] = None
 
 exit_back : (e : TermExit) → exit_from (shape_of e) (tickets_of e) ≡ Some e
 exit_back (exits.Goto t) = refl
-exit_back (exits.BranchPair test a b t e) = refl
-exit_back (exits.BranchZero test a t e) = refl
-exit_back (exits.Call f n) = refl
-exit_back (exits.Return a) = refl
-exit_back (exits.Out a n) = refl
-exit_back (exits.Halt a) = refl
+exit_back _ = refl
 
 same_exit : (e f : TermExit) → shape_of e ≡ shape_of f → tickets_of e ≡ tickets_of f → e ≡ f
 same_exit e f s t = same_Some e f (sym (exit_back e) ∙ (λ i. exit_from (s i) (t i)) ∙ exit_back f)

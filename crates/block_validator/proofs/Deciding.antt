@@ -18,9 +18,6 @@ not_clean o ExitLoad b c = b.3 c.last
 
 one_rule : (o : OrderParts) (r q : Unclean) → BreaksFirst r o → BreaksFirst q o → r ≡ q
 one_rule o LoadUse LoadUse b c = refl
-one_rule o LoadUse ProductAfterMove b c = absurd (b c.0)
-one_rule o LoadUse SlotLoadOrMove b c = absurd (b c.0)
-one_rule o LoadUse ExitLoad b c = absurd (b c.0)
 one_rule o ProductAfterMove LoadUse b c = absurd (c b.0)
 one_rule o ProductAfterMove ProductAfterMove b c = refl
 one_rule o ProductAfterMove SlotLoadOrMove b c = absurd (b.1 c.1)
@@ -33,6 +30,7 @@ one_rule o ExitLoad LoadUse b c = absurd (c b.0)
 one_rule o ExitLoad ProductAfterMove b c = absurd (c.1 b.1)
 one_rule o ExitLoad SlotLoadOrMove b c = absurd (c.2 b.2)
 one_rule o ExitLoad ExitLoad b c = refl
+one_rule o LoadUse _ b c = absurd (b c.0)
 
 -- places of one rank are one
 same_rank : (p q : Place) → IsPlace p → IsPlace q → place_rank p ≡ place_rank q → p ≡ q
@@ -72,11 +70,10 @@ one_place x y p q a b = ⊎_elim
 
 pub one_decision : OneDecision
 one_decision b o same same h k = refl
-one_decision b o same (unclean r) h k = absurd (not_clean o r k h.0)
 one_decision b o same (differs p) h k = absurd (k.1.differs (h.1 p k.1.place))
 one_decision b o (unclean r) same h k = absurd (not_clean o r h k.0)
 one_decision b o (unclean r) (unclean q) h k = ap unclean (one_rule o r q h k)
 one_decision b o (unclean r) (differs p) h k = absurd (not_clean o r h k.0)
 one_decision b o (differs p) same h k = absurd (h.1.differs (k.1 p h.1.place))
-one_decision b o (differs p) (unclean r) h k = absurd (not_clean o r k h.0)
 one_decision b o (differs p) (differs q) h k = ap differs (one_place (block_trees b) (order_trees o) p q h.1 k.1)
+one_decision b o _ (unclean r) h k = absurd (not_clean o r k h.0)

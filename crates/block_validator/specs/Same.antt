@@ -30,11 +30,7 @@ place_rank places.Guards = 36
 -- register 0 is no place. In specs a variable ranges over every number
 abbrev pub IsPlace : Place → Type 0
 IsPlace (places.Register r) = (0 < r) × (r < 32)
-IsPlace places.Hi = Unit {0}
-IsPlace places.Lo = Unit {0}
-IsPlace places.Memory = Unit {0}
-IsPlace places.Exit = Unit {0}
-IsPlace places.Guards = Unit {0}
+IsPlace _ = Unit {0}
 
 -- equal trees in every place
 abbrev pub SameTrees : CodeTrees → CodeTrees → Type 0

@@ -10,11 +10,11 @@ use Rattle.c_front.specs.Grammar.{Sort, a_name, a_constant, a_jump, the, Level, 
 use Rattle.c_front.specs.Grammar.{a_declaration, a_type, maybe_int, after_global, initial, function_rest, parameters, more_parameters, items, an_item, declared}
 use Rattle.c_front.specs.Grammar.{a_statement, else_part, maybe_simple, maybe_expression, simple, value, a_call, arguments, more_arguments, an_expression}
 use Rattle.c_front.specs.Grammar.{choice, operands, more_operands, Symbol, T, N, SortTree, Rule, program_rule, declarations_end, declarations_more}
-use Rattle.c_front.specs.Grammar.{declaration_typed, declaration_bytes, declaration_void, type_int, type_unsigned, int_none, int_some, global_plain}
-use Rattle.c_front.specs.Grammar.{global_initial, global_array}
-use Rattle.c_front.specs.Grammar.{global_function, initial_plain, initial_negative, function_rule, parameters_void, parameters_some, more_parameters_end}
+use Rattle.c_front.specs.Grammar.{declaration_typed, declaration_void, type_int, type_unsigned, int_none, global_plain}
+use Rattle.c_front.specs.Grammar.{global_initial}
+use Rattle.c_front.specs.Grammar.{global_function, initial_plain, function_rule, parameters_void, parameters_some, more_parameters_end}
 use Rattle.c_front.specs.Grammar.{more_parameters_more, items_end, items_more, item_declare, item_statement, declared_none, declared_some, statement_empty}
-use Rattle.c_front.specs.Grammar.{statement_block, statement_if, statement_while, statement_for, statement_break, statement_continue, statement_return}
+use Rattle.c_front.specs.Grammar.{statement_block, statement_if, statement_while, statement_for, statement_return}
 use Rattle.c_front.specs.Grammar.{statement_simple, else_none, else_some, simple_none, simple_some, expression_none, expression_some, simple_assign}
 use Rattle.c_front.specs.Grammar.{simple_assign_at, simple_call, value_plain, value_call, call_rule, arguments_none, arguments_some, more_arguments_end}
 use Rattle.c_front.specs.Grammar.{more_arguments_more, expression_rule, choice_none, choice_some, operands_rule, operands_end, operands_more, operand_constant}
@@ -39,32 +39,20 @@ sample (a_jump w) = Jump w 0
 sample (the t) = The t
 
 abbrev pub least : Nonterminal → List Token
-least a_program = []
-least declarations = []
 least a_declaration = The Int ∷ Name some_name ∷ The Semicolon ∷ []
 least a_type = The Int ∷ []
-least maybe_int = []
 least after_global = The Semicolon ∷ []
 least initial = Constant zero_literal ∷ []
 least function_rest = The LeftParen ∷ The Void ∷ The RightParen ∷ The LeftBrace ∷ The RightBrace ∷ []
 least parameters = The Void ∷ []
-least more_parameters = []
-least items = []
 least an_item = The Semicolon ∷ []
-least declared = []
 least a_statement = The Semicolon ∷ []
-least else_part = []
-least maybe_simple = []
-least maybe_expression = []
 least simple = Name some_name ∷ The Assign ∷ Constant zero_literal ∷ []
 least value = Constant zero_literal ∷ []
 least a_call = Name some_name ∷ The LeftParen ∷ The RightParen ∷ []
-least arguments = []
-least more_arguments = []
 least an_expression = Constant zero_literal ∷ []
-least choice = []
 least (operands l) = Constant zero_literal ∷ []
-least (more_operands l) = []
+least _ = []
 
 abbrev pub completion : List Symbol → List Token
 completion [] = []
@@ -78,30 +66,23 @@ Ends n next r = one_choice n next ≡ Some ([], r)
 abbrev pub IsClosed : Nonterminal → Option Token → Type 0
 IsClosed a_program next = Ends declarations next declarations_end
 IsClosed declarations next = Ends declarations next declarations_end
-IsClosed a_declaration next = Unit {0}
 IsClosed a_type next = Ends maybe_int next int_none
 IsClosed maybe_int next = Ends maybe_int next int_none
-IsClosed after_global next = Unit {0}
-IsClosed initial next = Unit {0}
-IsClosed function_rest next = Unit {0}
 IsClosed parameters next = Ends more_parameters next more_parameters_end
 IsClosed more_parameters next = Ends more_parameters next more_parameters_end
 IsClosed items next = Ends items next items_end
-IsClosed an_item next = Unit {0}
 IsClosed declared next = Ends declared next declared_none × (12 ≤ rank_of next)
-IsClosed a_statement next = Unit {0}
-IsClosed else_part next = Unit {0}
 IsClosed maybe_simple next = Ends maybe_simple next simple_none × (12 ≤ rank_of next)
 IsClosed maybe_expression next = Ends maybe_expression next expression_none × (12 ≤ rank_of next)
 IsClosed simple next = 12 ≤ rank_of next
 IsClosed value next = 12 ≤ rank_of next
-IsClosed a_call next = Unit {0}
 IsClosed arguments next = Ends arguments next arguments_none × Ends more_arguments next more_arguments_end × (12 ≤ rank_of next)
 IsClosed more_arguments next = Ends more_arguments next more_arguments_end × (12 ≤ rank_of next)
 IsClosed an_expression next = 12 ≤ rank_of next
 IsClosed choice next = 12 ≤ rank_of next
 IsClosed (operands l) next = rank l ≤ rank_of next
 IsClosed (more_operands l) next = suc (rank l) ≤ rank_of next
+IsClosed _ next = Unit {0}
 
 -- the token may follow a phrase, which then can't go on, not with an `else` either
 abbrev pub MayFollow : Nonterminal → Option Token → Type 0
@@ -117,9 +98,8 @@ Fit (T s ∷ symbols) = Fit symbols
 Fit (N n ∷ symbols) = MayFollow n (first (completion symbols)) × Fit symbols
 
 pub else-none : (next : Option Token) → next ≢ Some (The Else) → one_choice else_part next ≡ Some ([], else_none)
-else-none None h = refl
 else-none (Some (The Else)) h = absurd (h refl)
-else-none (Some _) h = refl
+else-none _ h = refl
 
 end-not-else : {next : Option Token} → Ends items next items_end → next ≢ Some (The Else)
 end-not-else h e =
@@ -135,46 +115,27 @@ end-not-else h e =
 fit-parts : {n : Nonterminal} {inner : List Symbol} → Rule n inner → (symbols : List Symbol) → MayFollow n (first (completion symbols)) → Fit symbols
     → Fit (inner ++ symbols)
 fit-parts program_rule symbols h f = (h, f)
-fit-parts declarations_end symbols h f = f
 fit-parts declarations_more symbols h f = (tt, (h, f))
 fit-parts declaration_typed symbols h f = (refl, (tt, f))
-fit-parts declaration_bytes symbols h f = f
 fit-parts declaration_void symbols h f = (tt, f)
-fit-parts type_int symbols h f = f
 fit-parts type_unsigned symbols h f = (h, f)
-fit-parts int_none symbols h f = f
-fit-parts int_some symbols h f = f
-fit-parts global_plain symbols h f = f
 fit-parts global_initial symbols h f = (tt, f)
-fit-parts global_array symbols h f = f
 fit-parts global_function symbols h f = (tt, f)
-fit-parts initial_plain symbols h f = f
-fit-parts initial_negative symbols h f = f
 fit-parts function_rule symbols h f = (refl, (refl, f))
-fit-parts parameters_void symbols h f = f
 fit-parts parameters_some symbols h f = (refl, (h, f))
-fit-parts more_parameters_end symbols h f = f
 fit-parts more_parameters_more symbols h f = (refl, (h, f))
-fit-parts items_end symbols h f = f
 fit-parts items_more symbols h f = (end-not-else h, (h, f))
 fit-parts item_declare symbols h f = (refl, ((refl, lit≤ tt), f))
 fit-parts item_statement symbols h f = (h, f)
-fit-parts declared_none symbols h f = f
 fit-parts declared_some symbols h f = (h.1, f)
-fit-parts statement_empty symbols h f = f
 fit-parts statement_block symbols h f = (refl, f)
 fit-parts statement_if symbols h f = (lit≤ tt, (h, (h, f)))
 fit-parts statement_while symbols h f = (lit≤ tt, (h, f))
 fit-parts statement_for symbols h f = ((refl, lit≤ tt), ((refl, lit≤ tt), ((refl, lit≤ tt), (h, f))))
-fit-parts statement_break symbols h f = f
-fit-parts statement_continue symbols h f = f
 fit-parts statement_return symbols h f = ((refl, lit≤ tt), f)
 fit-parts statement_simple symbols h f = (lit≤ tt, f)
-fit-parts else_none symbols h f = f
 fit-parts else_some symbols h f = (h, f)
-fit-parts simple_none symbols h f = f
 fit-parts simple_some symbols h f = (h.1, f)
-fit-parts expression_none symbols h f = f
 fit-parts expression_some symbols h f = (h.1, f)
 fit-parts simple_assign symbols h f = (h, f)
 fit-parts simple_assign_at symbols h f = (lit≤ tt, (h, f))
@@ -182,21 +143,16 @@ fit-parts simple_call symbols h f = (tt, f)
 fit-parts value_plain symbols h f = (h, f)
 fit-parts value_call symbols h f = (tt, f)
 fit-parts call_rule symbols h f = ((refl, refl, lit≤ tt), f)
-fit-parts arguments_none symbols h f = f
 fit-parts arguments_some symbols h f = (h.2, ((h.1, h.2), f))
-fit-parts more_arguments_end symbols h f = f
 fit-parts more_arguments_more symbols h f = (h.1, (h, f))
 fit-parts expression_rule symbols h f = (omega (arith, h), (h, f))
-fit-parts choice_none symbols h f = f
 fit-parts choice_some symbols h f = (lit≤ tt, (h, f))
 fit-parts (operands_rule {l = l}) symbols h f = (omega (arith, h), (h, f))
-fit-parts operands_end symbols h f = f
 fit-parts (operands_more {l = l} r) symbols h f = (omega (arith, h), (h, f))
-fit-parts operand_constant symbols h f = f
-fit-parts operand_name symbols h f = f
 fit-parts operand_index symbols h f = (lit≤ tt, f)
 fit-parts (operand_unary r) symbols h f = (h, f)
 fit-parts operand_paren symbols h f = (lit≤ tt, f)
+fit-parts _ symbols h f = f
 
 abbrev Start : Nonterminal → Type 0
 Start n = (rest : List Token) → MayFollow n (first rest) → CanRead (N n ∷ []) (least n ++ rest) rest
@@ -263,14 +219,12 @@ start (more_operands l) rest h = more-start l rest h
 -- a name alone is an operand, where no index or argument follows
 pub name-chosen : (x : Identifier) (next : Option Token) → 1 ≤ rank_of next
     → chosen_rule (operands unary_expressions) (Some (Name x)) next ≡ Some (T a_name ∷ [], operand_name)
-name-chosen x None h = refl
 name-chosen x (Some (The LeftBracket)) h = absurd (omega (arith, h))
-name-chosen x (Some _) h = refl
+name-chosen x _ h = refl
 
 pub name-plain : (x : Identifier) (next : Option Token) → 1 ≤ rank_of next → chosen_rule value (Some (Name x)) next ≡ Some (N an_expression ∷ [], value_plain)
-name-plain x None h = refl
 name-plain x (Some (The LeftParen)) h = absurd (omega (arith, h))
-name-plain x (Some _) h = refl
+name-plain x _ h = refl
 
 pub rank-positive : (l : Level) → 1 ≤ rank l
 rank-positive unary_expressions = lit≤ tt

@@ -43,9 +43,8 @@ pub negative-stuck : (ts a : List Token) (s : ParseStop) → StartsWith Minus ts
 negative-stuck ts a s e h = begun initial_negative is_the ts a s e refl (λ z. z) (constant-missing-first [] a s h)
 
 chosen-plain : (next : Option Token) → next ≢ Some (The Minus) → one_choice initial next ≡ Some (T a_constant ∷ [], initial_plain)
-chosen-plain None h = refl
 chosen-plain (Some (The Minus)) h = absurd (h refl)
-chosen-plain (Some _) h = refl
+chosen-plain _ h = refl
 
 pub plain-read : (ts rest : List Token) (k : Literal) → StartsWithout Minus ts → StartsWithConstant ts k rest
     → IsRead initial ts rest (record { negative = false; literal = k })
@@ -56,10 +55,9 @@ plain-stuck ts s h k = inside initial_plain ts s (chosen-plain (first ts) h) (λ
 
 -- parameters
 no-type : (next : Option Token) → next ≢ Some (The Int) → next ≢ Some (The Unsigned) → one_choice a_type next ≡ None
-no-type None h k = refl
 no-type (Some (The Int)) h k = absurd (h refl)
 no-type (Some (The Unsigned)) h k = absurd (k refl)
-no-type (Some _) h k = refl
+no-type _ h k = refl
 
 pub type-missing : (ts : List Token) → HasNoType ts → (symbols : List Symbol) → Stuck (N a_type ∷ symbols) ts ts
 type-missing ts h symbols = stuck_phrase (λ after. no-type (first ts) h.0 h.1)
@@ -86,14 +84,12 @@ no-parameters-read ts rest e = taken parameters_void is_the e refl read_nothing
 
 some-parameters : (next : Option Token) → next ≢ Some (The Void) → one_choice parameters next ≡ Some
     (N a_type ∷ T a_name ∷ N more_parameters ∷ [], parameters_some)
-some-parameters None h = refl
 some-parameters (Some (The Void)) h = absurd (h refl)
-some-parameters (Some _) h = refl
+some-parameters _ h = refl
 
 no-more-parameters : (next : Option Token) → next ≢ Some (The Comma) → EndsParameters next
-no-more-parameters None h = refl
 no-more-parameters (Some (The Comma)) h = absurd (h refl)
-no-more-parameters (Some _) h = refl
+no-more-parameters _ h = refl
 
 parameter-then : {symbols : List Symbol} {ts a rest : List Token} {p : Parameter} {m : PhraseTrees symbols} → IsParameterRead ts a p → Reads symbols a rest m
     → Reads (N a_type ∷ T a_name ∷ symbols) ts rest (p.integer_type, (p.name, m))
@@ -235,11 +231,10 @@ bytes-read ts a b rest x n e f d = (x, n, token-then is_name e (token-then is_th
 
 chosen-function : (next : Option Token) → next ≢ Some (The Semicolon) → next ≢ Some (The Assign) → next ≢ Some (The LeftBracket)
     → one_choice after_global next ≡ Some (N function_rest ∷ [], global_function)
-chosen-function None a b c = refl
 chosen-function (Some (The Semicolon)) a b c = absurd (a refl)
 chosen-function (Some (The Assign)) a b c = absurd (b refl)
 chosen-function (Some (The LeftBracket)) a b c = absurd (c refl)
-chosen-function (Some _) a b c = refl
+chosen-function _ a b c = refl
 
 pub tail-function-stuck : (ts : List Token) (s : ParseStop) → StartsWithout Semicolon ts → StartsWithout Assign ts → StartsWithout LeftBracket ts
     → IsStuck function_rest ts s → IsStuck after_global ts s

@@ -12,7 +12,7 @@ use Rattle.c_tree.specs.declared.tree.BinaryOp.{BinaryOp}
 use Rattle.c_front.specs.Grammar.{a_name, the, Level, unary_expressions, above, ors, Nonterminal, an_expression, choice, operands, more_operands, Symbol, T, N}
 use Rattle.c_front.specs.Grammar.{PhraseTree, PhraseTrees, Operator, multiply, divide, remainder, add, subtract, shift_left, shift_right, less}
 use Rattle.c_front.specs.Grammar.{greater, less_or_equal, greater_or_equal, equal, not_equal, bit_and, bit_xor, bit_or, logical_and, logical_or, Prefix, negate}
-use Rattle.c_front.specs.Grammar.{identity, complement, not, Rule, expression_rule, choice_none, choice_some, operands_rule, operands_end, operands_more}
+use Rattle.c_front.specs.Grammar.{Rule, expression_rule, choice_none, choice_some, operands_rule, operands_end, operands_more}
 use Rattle.c_front.specs.Grammar.{operand_constant, operand_name, operand_index, operand_unary, operand_paren, grouping_of, tree_of, first, second}
 use Rattle.c_front.specs.Grammar.{is_name, is_constant, is_the}
 use Rattle.c_front.specs.Reading.{Reads, read_nothing, read_token, read_phrase, Stuck, stuck_past, stuck_phrase, stuck_inside}
@@ -217,9 +217,8 @@ condition-stuck ts (Syntax rest) h = λ symbols. stuck_inside expression_rule re
 condition-stuck ts NoMemory h = tt
 
 no-choice : (next : Option Token) → next ≢ Some (The Question) → EndsChoice next
-no-choice None h = refl
 no-choice (Some (The Question)) h = absurd (h refl)
-no-choice (Some _) h = refl
+no-choice _ h = refl
 
 pub expression-alone : (ts rest : List Token) (c : Expression) → IsRead (operands ors) ts rest c → StartsWithout Question rest → IsRead an_expression ts rest c
 expression-alone ts rest c d h = whole expression_rule refl (followed d (whole choice_none (no-choice (first rest) h) read_nothing))
@@ -240,9 +239,8 @@ constant-read ts rest k e = taken operand_constant is_constant e refl read_nothi
 
 no-index : (x : Identifier) (next : Option Token) → next ≢ Some (The LeftBracket)
     → chosen_rule (operands unary_expressions) (Some (Name x)) next ≡ Some (T a_name ∷ [], operand_name)
-no-index x None h = refl
 no-index x (Some (The LeftBracket)) h = absurd (h refl)
-no-index x (Some _) h = refl
+no-index x _ h = refl
 
 pub name-read : (ts rest : List Token) (x : Identifier) → ts ≡ Name x ∷ rest → StartsWithout LeftBracket rest
     → IsRead (operands unary_expressions) ts rest (name x)
@@ -269,9 +267,7 @@ index-stuck ts rest after x NoMemory e f h = tt
 chosen-prefix : {o : UnaryOp} {t : Mark} (r : Prefix o t) (after : Option Token)
     → chosen_rule (operands unary_expressions) (Some (The t)) after ≡ Some (T (the t) ∷ N (operands unary_expressions) ∷ [], operand_unary r)
 chosen-prefix negate after = refl
-chosen-prefix identity after = refl
-chosen-prefix complement after = refl
-chosen-prefix not after = refl
+chosen-prefix _ after = refl
 
 pub prefix-read : (ts rest end : List Token) (t : Mark) (o : UnaryOp) (e : Expression) → ts ≡ The t ∷ rest → Prefix o t
     → IsRead (operands unary_expressions) rest end e → IsRead (operands unary_expressions) ts end (unary o e)

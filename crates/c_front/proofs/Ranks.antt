@@ -7,9 +7,8 @@ use Rattle.c_tokens.specs.declared.token.Mark.TheVariants.{LeftParen, LeftBracke
 use Rattle.c_tokens.specs.declared.token.Mark.TheVariants.{Ampersand, EqualEqual, BangEqual, LessSign, GreaterSign, LessEqual, GreaterEqual, LessLess}
 use Rattle.c_tokens.specs.declared.token.Mark.TheVariants.{GreaterGreater}
 use Rattle.c_tree.specs.declared.tree.BinaryOp.{BinaryOp}
-use Rattle.c_front.specs.Grammar.{the, Level, unary_expressions, above, operands, more_operands, T, N, Operator, multiply, divide, remainder, add, subtract}
-use Rattle.c_front.specs.Grammar.{shift_left, shift_right, less, greater, less_or_equal, greater_or_equal, equal, not_equal, bit_and, bit_xor, bit_or}
-use Rattle.c_front.specs.Grammar.{logical_and, logical_or, operands_end, operands_more}
+use Rattle.c_front.specs.Grammar.{the, Level, unary_expressions, above, operands, more_operands, T, N, Operator, multiply}
+use Rattle.c_front.specs.Grammar.{operands_end, operands_more}
 use Rattle.c_front.specs.Choosing.{operator_at, more_choice, one_choice, EndsOperands, EndsChoice}
 
 -- an index or an argument binds tightest, then each level of operators, then a condition, then all that ends an expression
@@ -43,43 +42,11 @@ rank (above l) = suc (rank l)
 
 pub operator-rank : {l : Level} {o : BinaryOp} {t : Mark} → Operator l o t → rank_of (Some (The t)) ≡ rank l
 operator-rank multiply = refl
-operator-rank divide = refl
-operator-rank remainder = refl
-operator-rank add = refl
-operator-rank subtract = refl
-operator-rank shift_left = refl
-operator-rank shift_right = refl
-operator-rank less = refl
-operator-rank greater = refl
-operator-rank less_or_equal = refl
-operator-rank greater_or_equal = refl
-operator-rank equal = refl
-operator-rank not_equal = refl
-operator-rank bit_and = refl
-operator-rank bit_xor = refl
-operator-rank bit_or = refl
-operator-rank logical_and = refl
-operator-rank logical_or = refl
+operator-rank _ = refl
 
 pub operator-found : {l : Level} {o : BinaryOp} {t : Mark} (r : Operator l o t) → operator_at l t ≡ Some (o, r)
 operator-found multiply = refl
-operator-found divide = refl
-operator-found remainder = refl
-operator-found add = refl
-operator-found subtract = refl
-operator-found shift_left = refl
-operator-found shift_right = refl
-operator-found less = refl
-operator-found greater = refl
-operator-found less_or_equal = refl
-operator-found greater_or_equal = refl
-operator-found equal = refl
-operator-found not_equal = refl
-operator-found bit_and = refl
-operator-found bit_xor = refl
-operator-found bit_or = refl
-operator-found logical_and = refl
-operator-found logical_or = refl
+operator-found _ = refl
 
 pub chosen-operator : {l : Level} {o : BinaryOp} {t : Mark} (r : Operator l o t) →
     one_choice (more_operands l) (Some (The t)) ≡ Some (T (the t) ∷ N (operands l) ∷ N (more_operands l) ∷ [], operands_more r)
@@ -92,11 +59,9 @@ no-more l t h (Some r) = absurd (h (operator-rank r.1))
 
 -- a token of another rank ends the operands of a level
 pub ends-operands : (l : Level) (next : Option Token) → rank_of next ≢ rank l → EndsOperands l next
-ends-operands l None h = refl
 ends-operands l (Some (The t)) h = no-more l t h (operator_at l t)
-ends-operands l (Some _) h = refl
+ends-operands l _ h = refl
 
 pub ends-choice : (next : Option Token) → 12 ≤ rank_of next → EndsChoice next
-ends-choice None h = refl
 ends-choice (Some (The Question)) h = absurd (omega (arith, h))
-ends-choice (Some _) h = refl
+ends-choice _ h = refl

@@ -44,21 +44,16 @@ reads-within (read_token i d) = let a = reads-within d in omega (arith, a)
 reads-within (read_phrase r c d e d') = let a = reads-within d in let b = reads-within d' in omega (arith, a, b)
 
 pub stuck-within : {symbols : List Symbol} {ts rest : List Token} → Stuck symbols ts rest → length rest ≤ length ts
-stuck-within stuck_extra = omega arith
-stuck-within (stuck_token h) = omega arith
 stuck-within (stuck_past i s) = let a = stuck-within s in omega (arith, a)
-stuck-within (stuck_phrase c) = omega arith
 stuck-within (stuck_inside {inner = inner} r c k s) = stuck-within s
+stuck-within _ = omega arith
 
 -- operands have a token at least
 pub operands-take : {l : Level} {symbols : List Symbol} {ts rest : List Token} {m : PhraseTrees (N (operands l) ∷ symbols)}
     → Reads (N (operands l) ∷ symbols) ts rest m → length rest < length ts
 operands-take (read_phrase operands_rule c d e d') = let a = operands-take d in let b = reads-within d' in omega (arith, a, b)
 operands-take (read_phrase operand_constant c (read_token i d) e d') = let a = reads-within d in let b = reads-within d' in omega (arith, a, b)
-operands-take (read_phrase operand_name c (read_token i d) e d') = let a = reads-within d in let b = reads-within d' in omega (arith, a, b)
-operands-take (read_phrase operand_index c (read_token i d) e d') = let a = reads-within d in let b = reads-within d' in omega (arith, a, b)
-operands-take (read_phrase (operand_unary r) c (read_token i d) e d') = let a = reads-within d in let b = reads-within d' in omega (arith, a, b)
-operands-take (read_phrase operand_paren c (read_token i d) e d') = let a = reads-within d in let b = reads-within d' in omega (arith, a, b)
+operands-take (read_phrase _ c (read_token i d) e d') = let a = reads-within d in let b = reads-within d' in omega (arith, a, b)
 
 expression-takes : {symbols : List Symbol} {ts rest : List Token} {m : PhraseTrees (N an_expression ∷ symbols)} → Reads (N an_expression ∷ symbols) ts rest m
     → length rest < length ts

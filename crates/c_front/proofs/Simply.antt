@@ -52,14 +52,12 @@ expressions_of-append [] e = refl
 expressions_of-append (x ∷ xs) e = ap (λ (y : List Tree.Expression). expression_of x ∷ y) (expressions_of-append xs e)
 
 some-chosen : (next : Option Token) → next ≢ Some (The RightParen) → one_choice arguments next ≡ Some (N an_expression ∷ N more_arguments ∷ [], arguments_some)
-some-chosen None h = refl
 some-chosen (Some (The RightParen)) h = absurd (h refl)
-some-chosen (Some _) h = refl
+some-chosen _ h = refl
 
 none-more : (next : Option Token) → next ≢ Some (The Comma) → EndsArguments next
-none-more None h = refl
 none-more (Some (The Comma)) h = absurd (h refl)
-none-more (Some _) h = refl
+none-more _ h = refl
 
 paren-then : {ts end : List Token} {es : List Tree.Expression} (middle : List Token) → IsRead arguments ts middle es → StartsWith RightParen middle end
     → IsArgumentsRead ts end es
@@ -172,9 +170,8 @@ value-plain-read ts end e h d = whole value_plain (plain-chosen (first ts) (seco
 
 peeked-name : (ts rest : List Token) (next : Option Token) → first ts ≡ next → ((x : Identifier) → first ts ≡ Some (Name x) → length rest < length ts)
     → Peeks value next → length rest < length ts
-peeked-name ts rest None e h k = absurd k
 peeked-name ts rest (Some (Name x)) e h k = h x e
-peeked-name ts rest (Some _) e h k = absurd k
+peeked-name ts rest _ e h k = absurd k
 
 pub value-plain-stuck : (ts : List Token) (s : ParseStop) → StartsNoCall ts → IsStuck an_expression ts s → IsStuck value ts s
 value-plain-stuck ts (Syntax rest) h k = λ symbols.
@@ -189,11 +186,6 @@ assigned-sign-stuck ts s h = missing-first Assign (N value ∷ []) ts s h
 
 pub assigned-value-stuck : (ts a : List Token) (s : ParseStop) → StartsWith Assign ts a → IsStuck value a s → IsAssignedStuck ts s
 assigned-value-stuck ts a s e h = past-token is_the (N value ∷ []) ts a s e h
-
-no-simple : (next : Option Token) → ((x : Identifier) → next ≢ Some (Name x)) → (after : Option Token) → chosen_rule simple next after ≡ None
-no-simple None h after = refl
-no-simple (Some (Name x)) h after = absurd (h x refl)
-no-simple (Some _) h after = refl
 
 pub simple-call-read : (ts rest after end : List Token) (x : Identifier) (es : List Tree.Expression) → StartsWithName ts x rest
     → StartsWith LeftParen rest after → IsArgumentsRead after end es → IsRead simple ts end (call_statement (call x es))
@@ -242,10 +234,9 @@ assign-at-value-stuck ts rest after close start x e s f g d k h = assign-at-stuc
 
 assign-chosen : (x : Identifier) (after : Option Token) → after ≢ Some (The LeftParen) → after ≢ Some (The LeftBracket)
     → chosen_rule simple (Some (Name x)) after ≡ Some (T a_name ∷ T (the Assign) ∷ N value ∷ [], simple_assign)
-assign-chosen x None h k = refl
 assign-chosen x (Some (The LeftParen)) h k = absurd (h refl)
 assign-chosen x (Some (The LeftBracket)) h k = absurd (k refl)
-assign-chosen x (Some _) h k = refl
+assign-chosen x _ h k = refl
 
 pub assign-read : (ts rest end : List Token) (x : Identifier) (v : Value) → StartsWithName ts x rest → StartsWithout LeftParen rest
     → StartsWithout LeftBracket rest → IsAssignedRead rest end v → IsRead simple ts end (assign x v)

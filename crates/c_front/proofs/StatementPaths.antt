@@ -119,18 +119,16 @@ pub unsigned-int-read : (ts a rest : List Token) → StartsWith Unsigned ts a �
 unsigned-int-read ts a rest e f = taken type_unsigned is_the e refl (taken int_some is_the f refl read_nothing)
 
 no-int : (next : Option Token) → next ≢ Some (The Int) → one_choice maybe_int next ≡ Some ([], int_none)
-no-int None h = refl
 no-int (Some (The Int)) h = absurd (h refl)
-no-int (Some _) h = refl
+no-int _ h = refl
 
 pub unsigned-read : (ts rest : List Token) → StartsWith Unsigned ts rest → StartsWithout Int rest → IsRead a_type ts rest UnsignedInt
 unsigned-read ts rest e h = taken type_unsigned is_the e refl (whole int_none (no-int (first rest) h) read_nothing)
 
 -- the first value of a local variable
 no-value : (next : Option Token) → next ≢ Some (The Assign) → one_choice declared next ≡ Some ([], declared_none)
-no-value None h = refl
 no-value (Some (The Assign)) h = absurd (h refl)
-no-value (Some _) h = refl
+no-value _ h = refl
 
 pub undeclared-read : (ts : List Token) → StartsWithout Assign ts → IsRead declared ts ts None
 undeclared-read ts h = whole declared_none (no-value (first ts) h) read_nothing
@@ -159,10 +157,9 @@ pub declare-value-stuck : (ts a b : List Token) (k : IntegerType) (x : Identifie
 declare-value-stuck ts a b k x s q e h = declare-stuck ts a k s q (past-token is_name (N declared ∷ T (the Semicolon) ∷ []) a b s e h)
 
 chosen-item : (next : Option Token) → next ≢ Some (The Int) → next ≢ Some (The Unsigned) → one_choice an_item next ≡ Some (N a_statement ∷ [], item_statement)
-chosen-item None h k = refl
 chosen-item (Some (The Int)) h k = absurd (h refl)
 chosen-item (Some (The Unsigned)) h k = absurd (k refl)
-chosen-item (Some _) h k = refl
+chosen-item _ h k = refl
 
 pub item-statement-read : (ts a : List Token) (s : Statement) → HasNoType ts → IsRead a_statement ts a s → IsRead an_item ts a (statement s)
 item-statement-read ts a s h d = whole item_statement (chosen-item (first ts) h.0 h.1) d
@@ -172,9 +169,8 @@ item-statement-stuck ts s h k = inside item_statement ts s (chosen-item (first t
 
 -- a simple statement that may be missing, and the mark after it
 no-simple : (next : Option Token) → ((x : Identifier) → next ≢ Some (Name x)) → one_choice maybe_simple next ≡ Some ([], simple_none)
-no-simple None h = refl
 no-simple (Some (Name x)) h = absurd (h x refl)
-no-simple (Some _) h = refl
+no-simple _ h = refl
 
 no-simple-read : (ts : List Token) → StartsUnnamed ts → IsRead maybe_simple ts ts None
 no-simple-read ts h = whole simple_none (no-simple (first ts) h) read_nothing
@@ -206,9 +202,8 @@ pub no-expression-read : (ts rest : List Token) → StartsWith Semicolon ts rest
 no-expression-read ts rest e = followed (whole expression_none (by-first maybe_expression e) read_nothing) (mark-end e)
 
 chosen-expression : (next : Option Token) → next ≢ Some (The Semicolon) → one_choice maybe_expression next ≡ Some (N an_expression ∷ [], expression_some)
-chosen-expression None h = refl
 chosen-expression (Some (The Semicolon)) h = absurd (h refl)
-chosen-expression (Some _) h = refl
+chosen-expression _ h = refl
 
 pub some-expression-read : (ts rest : List Token) (e : Expression) → StartsWithout Semicolon ts → IsClosedRead Semicolon ts rest e
     → IsEndedRead maybe_expression Semicolon ts rest (Some e)

@@ -76,7 +76,6 @@ one_choice declarations None = Some (_, declarations_end)
 one_choice declarations (Some _) = Some (_, declarations_more)
 one_choice a_type (Some (The Int)) = Some (_, type_int)
 one_choice a_type (Some (The Unsigned)) = Some (_, type_unsigned)
-one_choice a_type _ = None
 one_choice maybe_int (Some (The Int)) = Some (_, int_some)
 one_choice maybe_int _ = Some (_, int_none)
 one_choice after_global (Some (The Semicolon)) = Some (_, global_plain)
@@ -107,7 +106,6 @@ one_choice a_statement (Some (Jump Break at)) = Some (_, statement_break)
 one_choice a_statement (Some (Jump Continue at)) = Some (_, statement_continue)
 one_choice a_statement (Some (Jump Return at)) = Some (_, statement_return)
 one_choice a_statement (Some (Name x)) = Some (_, statement_simple)
-one_choice a_statement _ = None
 one_choice maybe_simple (Some (Name x)) = Some (_, simple_some)
 one_choice maybe_simple _ = Some (_, simple_none)
 one_choice maybe_expression (Some (The Semicolon)) = Some (_, expression_none)
@@ -126,10 +124,7 @@ one_choice (operands (above l)) _ = Some (_, operands_rule)
 one_choice (more_operands l) None = Some (_, operands_end)
 one_choice (more_operands l) (Some (The t)) = Some (more_choice l t (operator_at l t))
 one_choice (more_operands l) (Some _) = Some (_, operands_end)
-one_choice a_declaration _ = None
-one_choice simple _ = None
-one_choice value _ = None
-one_choice (operands unary_expressions) _ = None
+one_choice _ _ = None
 
 abbrev pub declaration_choice : Option Token → Option Token → Option (Choice a_declaration)
 declaration_choice (Some (The Void)) _ = Some (_, declaration_void)

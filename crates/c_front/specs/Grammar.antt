@@ -282,7 +282,6 @@ typed_declaration k x (function_tail ps is) = function (Some k) x ps is
 -- the tree of a phrase from those of its parts
 abbrev pub tree_of : {n : Nonterminal} {symbols : List Symbol} → Rule n symbols → PhraseTrees symbols → PhraseTree n
 tree_of program_rule m = m.0
-tree_of declarations_end m = []
 tree_of declarations_more m = m.0 ∷ m.1.0
 tree_of declaration_typed m = typed_declaration m.0 m.1.0 m.1.1.0
 tree_of declaration_bytes m = array Byte SignedInt m.1.1.0 m.1.1.1.1.0
@@ -298,9 +297,7 @@ tree_of global_function m = function_tail m.0.0 m.0.1
 tree_of initial_plain m = record { negative = false; literal = m.0 }
 tree_of initial_negative m = record { negative = true; literal = m.1.0 }
 tree_of function_rule m = (m.1.0, m.1.1.1.1.0)
-tree_of parameters_void m = []
 tree_of parameters_some m = record { integer_type = m.0; name = m.1.0 } ∷ m.1.1.0
-tree_of more_parameters_end m = []
 tree_of more_parameters_more m = record { integer_type = m.1.0; name = m.1.1.0 } ∷ m.1.1.1.0
 tree_of items_end m = no_items
 tree_of items_more m = more_items m.0 m.1.0
@@ -329,21 +326,19 @@ tree_of simple_call m = call_statement m.0
 tree_of value_plain m = plain m.0
 tree_of value_call m = called m.0
 tree_of call_rule m = call m.0 m.1.1.0
-tree_of arguments_none m = []
 tree_of arguments_some m = m.0 ∷ m.1.0
-tree_of more_arguments_end m = []
 tree_of more_arguments_more m = m.1.0 ∷ m.1.1.0
 tree_of expression_rule m = conditional_of m.0 m.1.0
 tree_of choice_none m = None
 tree_of choice_some m = Some (m.1.0, m.1.1.1.0)
 tree_of operands_rule m = grouping_of m.0 m.1.0
-tree_of operands_end m = []
 tree_of (operands_more r) m = (operator_of_rule r, m.1.0) ∷ m.1.1.0
 tree_of operand_constant m = constant m.0
 tree_of operand_name m = name m.0
 tree_of operand_index m = index m.0 m.1.1.0
 tree_of (operand_unary r) m = unary (prefix_of_rule r) m.1.0
 tree_of operand_paren m = m.1.0
+tree_of _ m = []
 
 abbrev pub first : List Token → Option Token
 first [] = None

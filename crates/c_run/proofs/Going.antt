@@ -12,9 +12,9 @@ use Rattle.runs.proofs.Running.{by-step}
 use Rattle.c_typed.specs.declared.tree.Destination.{Destination}
 use Rattle.c_typed.specs.declared.tree.Destination.TheVariants.{Local, Global as Variable}
 use Rattle.c_typed.specs.declared.tree.Global.{Global}
-use Rattle.c_typed.specs.Trees.{TypedProgram, TypedFunction, empty, block, unset, assign, store, call, output, if_else, loop, break_loop, continue_loop, return_with}
+use Rattle.c_typed.specs.Trees.{TypedProgram, TypedFunction, assign, store, call, output, if_else, loop, return_with}
 use Rattle.c_typed.specs.Values.{value_of, values_of}
-use Rattle.c_typed.specs.Meaning.{Todo, Do, Next, Going, Frame, Run, before_all, next_point, argument_places, elements_with, with_assignment, state_after_call}
+use Rattle.c_typed.specs.Meaning.{Todo, Do, Going, Frame, Run, before_all, next_point, argument_places, elements_with, with_assignment, state_after_call}
 use Rattle.c_typed.specs.Meaning.{state_after_return, step_at, source_step, source_steps}
 use Rattle.c_run.specs.Portions.{WentOn, after_output, emptied, run_behind}
 
@@ -57,13 +57,6 @@ module _ (out : List ℕ) where
 
   at_same : (p : TypedProgram) (depth : ℕ) (l : Places) (todo : List Todo) (to : Option Destination) (frames : List Frame) (g : Arrays) (own : List ℕ)
       → step_at p depth l todo to frames g (out ++ own) ≡ put out (step_at p depth l todo to frames g own)
-  at_same p depth l [] to frames g own = refl
-  at_same p depth l (Next last again ∷ k) to frames g own = refl
-  at_same p depth l (Do empty ∷ k) to frames g own = refl
-  at_same p depth l (Do (block all) ∷ k) to frames g own = refl
-  at_same p depth l (Do (unset x) ∷ k) to frames g own = refl
-  at_same p depth l (Do break_loop ∷ k) to frames g own = refl
-  at_same p depth l (Do continue_loop ∷ k) to frames g own = refl
   at_same p depth l (Do (assign x e) ∷ k) to frames g own =
       value_same (value_of e l g) own _ _ (λ v. assignment_same p.globals x v l g own _ _ (λ l' g'. refl))
   at_same p depth l (Do (store a i e) ∷ k) to frames g own =
@@ -79,13 +72,12 @@ module _ (out : List ℕ) where
   at_same p depth l (Do (return_with None) ∷ k) to frames g own = return_same p.globals None to frames g own
   at_same p depth l (Do (return_with (Some e)) ∷ k) to frames g own =
       value_same (value_of e l g) own _ _ (λ v. return_same p.globals (Some v) to frames g own)
+  at_same p depth l _ to frames g own = refl
 
   step_same : (p : TypedProgram) (depth : ℕ) (s : Run) → source_step p depth (put out s) ≡ put out (source_step p depth s)
-  step_same p depth (Running [] g own) = refl
   step_same p depth (Running (f ∷ frames) g own) =
       let at = next_point Going f.locals f.todo in at_same p depth at.locals at.todo f.result_to frames g own
-  step_same p depth (Ended w own) = refl
-  step_same p depth (Failed own) = refl
+  step_same p depth _ = refl
 
   steps_same : (p : TypedProgram) (depth n : ℕ) (s : Run) → source_steps p depth n (put out s) ≡ put out (source_steps p depth n s)
   steps_same p depth zero s = refl
@@ -94,8 +86,7 @@ module _ (out : List ℕ) where
 
   outcome_same : (s : Run) → outcome (put out s) ≡ after_output out (outcome s)
   outcome_same (Running calls g own) = refl
-  outcome_same (Ended w own) = refl
-  outcome_same (Failed own) = refl
+  outcome_same _ = refl
 
 own_put : (s : Run) → s ≡ put (outcome s).output (emptied s)
 own_put (Running calls g own) = ap (λ o. Running calls g o) (sym (append-nil own))
@@ -117,8 +108,7 @@ below_or k n lt = grind arith
 behind_step : (p : TypedProgram) (depth n : ℕ) (r : Reached) (end : Option End) (t : Run) → end_of r ≡ end
     → outcome_after r (outcome (source_steps p depth n t)) (outcome t).output ≡ run_behind p depth end t n
 behind_step p depth n Reach.Going end t e = ap (λ e. run_behind p depth e t n) e
-behind_step p depth n (Reach.Ended w) end t e = ap (λ e. run_behind p depth e t n) e
-behind_step p depth n Reach.Failed end t e = ap (λ e. run_behind p depth e t n) e
+behind_step p depth n _ end t e = ap (λ e. run_behind p depth e t n) e
 
 module _ (p : TypedProgram) (depth asked : ℕ) (old : Run) where
   more_before : (s : Run) (done k : ℕ) → WentOn p depth asked old s None done → (outcome s).end ≡ More → (k < done) ⊎ (k ≡ done + 0)

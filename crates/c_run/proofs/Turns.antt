@@ -10,7 +10,7 @@ use Rattle.c_typed.specs.Trees as Trees
 use Rattle.c_typed.specs.Trees.{TypedStatements, empty, block, unset, assign, store, call, output, if_else, loop, break_loop, continue_loop, return_with}
 use Rattle.c_typed.specs.Trees.{no_statements, more_statements}
 use Rattle.c_typed.specs.Shape.{statement_of, statements_of}
-use Rattle.c_typed.specs.Meaning.{Todo, Do, Next, before, before_all, next_point, Going, Breaking, Continuing}
+use Rattle.c_typed.specs.Meaning.{Todo, Do, before, before_all, next_point, Going, Breaking, Continuing}
 use Rattle.c_run.specs.Turns.{past_turn, at_turn}
 use Rattle.c_run.specs.Interpreter.{with_pending, todo_list_of, waiting_of, with_part, with_head}
 use Rattle.c_run.specs.declared.pending.Head.{Head}
@@ -23,14 +23,12 @@ pub waiting-push : (ts : List Pending) (t : Pending) → waiting_of (ts ++ t ∷
 waiting-push ts t = ap todo_list_of (reverse-append ts (t ∷ []))
 
 pub leaves : (k : List Todo) (l : Places) → next_point Breaking l k ≡ next_point Going l (past_turn k)
-leaves [] l = refl
 leaves (Do s ∷ k) l = leaves k l
-leaves (Next last again ∷ k) l = refl
+leaves _ l = refl
 
 pub continues : (k : List Todo) (l : Places) → next_point Continuing l k ≡ next_point Going l (at_turn k)
-continues [] l = refl
 continues (Do s ∷ k) l = continues k l
-continues (Next last again ∷ k) l = refl
+continues _ l = refl
 
 -- what passes over each statement passes over those that a statement comes to
 mutual
@@ -135,14 +133,12 @@ pub continue_settles : (old mid new : List Todo) (l : Places) → old ≡ Do con
 continue_settles old mid new l e n = ap (next_point Going l) n ∙ sym (continues mid l) ∙ sym (ap (next_point Going l) e)
 
 past-shorter : (k : List Todo) → length (past_turn k) ≤ length k
-past-shorter [] = omega arith
 past-shorter (Do s ∷ k) = omega (arith, past-shorter k)
-past-shorter (Next last again ∷ k) = omega arith
+past-shorter _ = omega arith
 
 at-shorter : (k : List Todo) → length (at_turn k) ≤ length k
-at-shorter [] = omega arith
 at-shorter (Do s ∷ k) = omega (arith, at-shorter k)
-at-shorter (Next last again ∷ k) = omega arith
+at-shorter _ = omega arith
 
 pub break-shorter : (old mid new : List Todo) → old ≡ Do break_loop ∷ mid → new ≡ past_turn mid → length new < length old
 break-shorter old mid new e n = omega (arith, past-shorter mid, ap length n, ap length e)

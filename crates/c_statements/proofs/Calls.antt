@@ -2,7 +2,7 @@
 use Rattle.std.proofs.Common.{◌≡◌, ◌≢◌, ◌≤◌, ℕ, Option, Some, Bool, true, false, subst, arith}
 use Rattle.c_tokens.specs.declared.token.Identifier.{Identifier}
 use Rattle.c_statements.specs.declared.names.Named.{Named}
-use Rattle.c_statements.specs.declared.names.Named.TheVariants.{Local, Global, Array, Function, Out}
+use Rattle.c_statements.specs.declared.names.Named.TheVariants.{Local, Global, Array}
 use Rattle.c_statements.specs.declared.call.Target.{Target}
 use Rattle.c_statements.specs.declared.fault.TypeFaultKind.{TypeFaultKind}
 use Rattle.c_statements.specs.declared.fault.TypeFaultKind.TheVariants.{Kind as KindFault, Count}
@@ -23,8 +23,7 @@ no-function : (m : Named) (c : ℕ) (w : Bool) → IsNoFunction m → IsWrong (S
 no-function (Local n k) c w h = local_called
 no-function (Global n k) c w h = global_called
 no-function (Array n k) c w h = array_called
-no-function (Function f n r) c w h = absurd h
-no-function Out c w h = absurd h
+no-function _ c w h = absurd h
 
 void-wrong : (m : Named) (t : Target) (n : ℕ) (r : Bool) (c : ℕ) → Signs m t n r → r ≡ false → IsWrong (Some m) (as_call c true) KindFault
 void-wrong m t n r c function_signs e = rw e void_used
@@ -36,12 +35,7 @@ count-wrong m t n r c w out_signs h = other_count_out h
 
 call-least : (m : Named) (c : ℕ) (w : Bool) (j : TypeFaultKind) → IsWrong (Some m) (as_call c w) j → 12 ≤ number_of j
 call-least m c w j local_called = omega arith
-call-least m c w j global_called = omega arith
-call-least m c w j array_called = omega arith
-call-least m c w j void_used = omega arith
-call-least m c w j out_used = omega arith
-call-least m c w j (other_count h) = omega arith
-call-least m c w j (other_count_out h) = omega arith
+call-least m c w j _ = omega arith
 
 count-least : (m : Named) (t : Target) (n : ℕ) (r : Bool) (c : ℕ) (w : Bool) (j : TypeFaultKind) → Signs m t n r → Serves w r
     → IsWrong (Some m) (as_call c w) j → 13 ≤ number_of j

@@ -91,18 +91,6 @@ both-none p q h l k at b = elim b [ inl x ↦ h k at x | inr y ↦ l k at y ]
 pub ok-at : {A : Type 0} (P : A → Type 0) (r : Result A TypeStop) (x : A) → r ≡ Ok x → IfOk r P → P x
 ok-at P r x e h = let Q : Result _ TypeStop → Type 0 = λ s. IfOk s P in subst Q e h
 
-both-ok : {A B : Type 0} (p q : Faults) (a : Result A TypeStop) (b : Result B TypeStop) (c : Result (A × B) TypeStop)
-    → IfOk a (λ x. HasNone p) → IfOk b (λ x. HasNone q) → IfOk c (λ r. (a ≡ Ok r.0) × (b ≡ Ok r.1))
-    → IfOk c (λ x. HasNone (Both p q))
-both-ok p q a b (Ok r) h l e = both-none p q (ok-at (λ x. HasNone p) a r.0 e.0 h) (ok-at (λ x. HasNone q) b r.1 e.1 l)
-both-ok p q a b (Err s) h l e = tt
-
-both-err : {A B : Type 0} (p q : Faults) (a : Result A TypeStop) (b : Result B TypeStop) (c : Result (A × B) TypeStop)
-    → IfOk a (λ x. HasNone p) → IfErr a (StopsAtFirst p) → IfOk b (λ x. HasNone q) → IfErr b (StopsAtFirst q)
-    → IfErr c (StopsBoth a b) → IfErr c (StopsAtFirst (Both p q))
-both-err p q a b (Ok r) n h m l e = tt
-both-err p q a b (Err s) n h m l e = both-stop p q a b s n h m l e
-
 -- two sets with the same members
 pub record Same (p q : Faults) : Type 0 where
   pub to : (k : TypeFaultKind) (at : ℕ) → p k at → q k at

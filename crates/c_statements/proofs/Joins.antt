@@ -5,7 +5,6 @@ use Rattle.std.specs.declared.alloc.Global.{Global}
 use Rattle.c_tree.specs.Tree as Tree
 use Rattle.c_tree.specs.Tree.{Items}
 use Rattle.c_statements.specs.declared.fault.TypeStop.{TypeStop}
-use Rattle.c_statements.specs.declared.fault.TypeStop.TheVariants.{Fault, NoMemory}
 use Rattle.c_typed.specs.declared.tree.TypedStatement.{TypedStatement, Block}
 use Rattle.c_statements.specs.Faults.{Answers, Faults, StopsAtFirst, HasNone, StopsBoth, StopsTwo, both_of, first_of}
 use Rattle.c_statements.specs.Made.{MadeOfTwo, MadeOfThree}
@@ -106,26 +105,6 @@ pub tells-second : {A B : Type 0} (p q : Faults) (a : Result A TypeStop) (b r : 
     → IfOk r (λ y. (x : A) × (a ≡ Ok x) × (b ≡ Ok y)) → IfErr r (StopsBoth a b) → Tells (Both p q) r
 tells-second p q a b (Ok y) h l o e = (both-none p q (ok-at (λ x. HasNone p) a o.0 o.1 h.0) (ok-at (λ x. HasNone q) b y o.2 l.0), tt)
 tells-second p q a b (Err s) h l o e = (tt, both-stop p q a b s h.0 h.1 l.0 l.1 e)
-
--- want of memory in a part is want of memory in the whole
-memory-right : {A B : Type 0} (a : Result A TypeStop) (b : Result B TypeStop) (s : TypeStop) → b ≡ Err NoMemory → StopsBoth a b s → s ≡ NoMemory
-memory-right a (Ok y) s e h = cc
-memory-right (Ok x) (Err t) s e h = let g : t ≡ NoMemory = cc in h ∙ g
-memory-right (Err (Fault f)) (Err (Fault g)) s e h = cc
-memory-right (Err (Fault f)) (Err NoMemory) s e h = h
-memory-right (Err NoMemory) (Err t) s e h = h
-
-memory-both : {A B : Type 0} (a : Result A TypeStop) (b : Result B TypeStop) → (a ≡ Err NoMemory) ⊎ (b ≡ Err NoMemory) → both_of a b ≡ Err NoMemory
-memory-both (Ok x) (Ok y) (inl e) = cc
-memory-both (Ok x) (Ok y) (inr e) = cc
-memory-both (Ok x) (Err t) (inl e) = cc
-memory-both (Ok x) (Err t) (inr e) = cc
-memory-both (Err t) (Ok y) (inl e) = cc
-memory-both (Err t) (Ok y) (inr e) = cc
-memory-both (Err (Fault f)) (Err t) (inl e) = cc
-memory-both (Err (Fault f)) (Err (Fault g)) (inr e) = cc
-memory-both (Err (Fault f)) (Err NoMemory) (inr e) = refl
-memory-both (Err NoMemory) (Err t) h = refl
 
 -- a block of two statements
 pub block-of-two : (v : Vec TypedStatement Global) (first second : TypedStatement) → v.items ≡ first ∷ second ∷ []

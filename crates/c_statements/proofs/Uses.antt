@@ -5,7 +5,7 @@ use Rattle.c_tokens.specs.declared.token.IntegerType.{IntegerType}
 use Rattle.c_statements.specs.declared.names.Named.{Named}
 use Rattle.c_statements.specs.declared.names.Named.TheVariants.{Local, Global, Array, Function, Out}
 use Rattle.c_statements.specs.declared.fault.TypeFaultKind.{TypeFaultKind}
-use Rattle.c_statements.specs.declared.fault.TypeFaultKind.TheVariants.{Undeclared, Kind as KindFault, Count}
+use Rattle.c_statements.specs.declared.fault.TypeFaultKind.TheVariants.{Undeclared, Kind as KindFault}
 use Rattle.c_statements.specs.declared.fault.TypeStop.{TypeStop}
 use Rattle.c_statements.specs.declared.fault.TypeStop.TheVariants.{Fault}
 use Rattle.c_statements.specs.Faults.{number_of, Faults, IsFirstFault, StopsAtFirst, Answers}
@@ -28,9 +28,7 @@ first-misuse scope x u k w l = record {
 
 least : (m : Option Named) (u : Use) (j : TypeFaultKind) → IsWrong m u j → 10 ≤ number_of j
 least m u Undeclared w = omega arith
-least m u KindFault w = omega arith
-least m u Count w = omega arith
-least m u j w = omega arith
+least m u _ w = omega arith
 
 pub undeclared-first : (scope : Environment) (x : Identifier) (u : Use) → scope x ≡ None → IsFirstFault (Misused scope x u) Undeclared x.at
 undeclared-first scope x u e = first-misuse scope x u Undeclared (rw e not_declared) (λ j w. least (scope x) u j w)
@@ -42,14 +40,11 @@ undeclared-told IsRight scope x u r s e (h, k) = rw e (told-first IsRight (Misus
 
 index-least : (m : Named) (j : TypeFaultKind) → IsWrong (Some m) with_index j → 12 ≤ number_of j
 index-least m j local_indexed = omega arith
-index-least m j global_indexed = omega arith
-index-least m j function_indexed = omega arith
-index-least m j out_indexed = omega arith
+index-least m j _ = omega arith
 
 value-least : (m : Named) (j : TypeFaultKind) → IsWrong (Some m) as_value j → 12 ≤ number_of j
 value-least m j array_alone = omega arith
-value-least m j function_alone = omega arith
-value-least m j out_alone = omega arith
+value-least m j _ = omega arith
 
 index-wrong : (m : Named) → ((n : ℕ) (k : IntegerType) → m ≡ Array n k → ⊥) → IsWrong (Some m) with_index KindFault
 index-wrong (Local n k) h = local_indexed

@@ -1,7 +1,7 @@
 -- What a call goes to.
 use Rattle.std.specs.Prelude.{ℕ, Option, Some, Bool, false}
 use Rattle.c_statements.specs.declared.names.Named.{Named}
-use Rattle.c_statements.specs.declared.names.Named.TheVariants.{Local, Global, Array, Function, Out}
+use Rattle.c_statements.specs.declared.names.Named.TheVariants.{Function, Out}
 use Rattle.c_statements.specs.declared.call.Target.{Target}
 use Rattle.c_statements.specs.declared.call.Target.TheVariants.{Function as ToFunction, Out as ToOut}
 
@@ -16,8 +16,6 @@ pub data Signs : Named → Target → ℕ → Bool → Type 0 where
   out_signs : Signs Out ToOut 1 false
 
 abbrev pub IsNoFunction : Named → Type 0
-IsNoFunction (Local n k) = Unit {0}
-IsNoFunction (Global n k) = Unit {0}
-IsNoFunction (Array n k) = Unit {0}
 IsNoFunction (Function f n r) = ⊥
 IsNoFunction Out = ⊥
+IsNoFunction _ = Unit {0}

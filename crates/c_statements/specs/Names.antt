@@ -3,8 +3,8 @@ use Rattle.std.specs.Prelude.{ℕ, suc, ◌+◌, List, [], ◌∷◌, Option, So
 use Rattle.c_tokens.specs.declared.token.Identifier.{Identifier}
 use Rattle.c_tokens.specs.declared.token.IntegerType.{IntegerType}
 use Rattle.c_tree.specs.Texts.{spelling_of}
-use Rattle.c_tree.specs.Tree.{Statement, empty, block, if_then, if_then_else, while_loop, for_loop, break_at, continue_at, return_at}
-use Rattle.c_tree.specs.Tree.{simply, Item, declare, statement, Items, no_items, more_items}
+use Rattle.c_tree.specs.Tree.{Statement, block, if_then, if_then_else, while_loop, for_loop}
+use Rattle.c_tree.specs.Tree.{Item, declare, statement, Items, no_items, more_items}
 use Rattle.c_statements.specs.declared.names.Named.{Named}
 use Rattle.c_statements.specs.declared.names.Named.TheVariants.{Local}
 
@@ -84,16 +84,12 @@ with_local text s k x = record {
 -- how many locals a statement declares
 abbrev mutual
   pub declared_in : Statement → ℕ
-  declared_in empty = 0
   declared_in (block all) = declared_in_all all
   declared_in (if_then c s) = declared_in s
   declared_in (if_then_else c s t) = declared_in s + declared_in t
   declared_in (while_loop c s) = declared_in s
   declared_in (for_loop f c l s) = declared_in s
-  declared_in (break_at at) = 0
-  declared_in (continue_at at) = 0
-  declared_in (return_at at e) = 0
-  declared_in (simply s) = 0
+  declared_in _ = 0
 
   pub declared_by : Item → ℕ
   declared_by (declare k x v) = 1

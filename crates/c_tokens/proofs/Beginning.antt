@@ -5,7 +5,7 @@ use Rattle.std.proofs.lemmas.List.{drop_more}
 use Rattle.std.proofs.Common.{arith, ◌≡◌, ◌+◌, ◌<◌, ◌≤◌, ℕ, List, [], ◌∷◌, Bool, true, false, Option, Some, None, refl, sym, ap, ◌∙◌, if◌then◌else◌, nat_eq}
 use Rattle.std.proofs.Common.{◌&&◌, length, drop, map, get_or}
 use Rattle.c_tokens.specs.declared.keywords.Reserved.{Reserved}
-use Rattle.c_tokens.specs.declared.keywords.Reserved.TheVariants.{Marked, Jumping, Unused}
+use Rattle.c_tokens.specs.declared.keywords.Reserved.TheVariants.{Unused}
 use Rattle.c_tokens.specs.Texts.{Fits}
 use Rattle.c_tokens.specs.Lexing.{same_bytes, entry_in, word_lexeme, keywords}
 use Rattle.c_tokens.specs.Fronts.{may_begin, kept_if, beginning}
@@ -56,7 +56,5 @@ no-keyword (b ∷ []) h = refl
 no-keyword (b ∷ c ∷ bs) h = absurd (omega (arith, h))
 
 pub word-fits : (x : Option Reserved) (n m : ℕ) → 0 < n → n ≤ m → Fits (word_lexeme x n) m
-word-fits None n m h k = (h, k)
-word-fits (Some (Marked w)) n m h k = (h, k)
-word-fits (Some (Jumping w)) n m h k = (h, k)
 word-fits (Some Unused) n m h k = omega arith
+word-fits _ n m h k = (h, k)

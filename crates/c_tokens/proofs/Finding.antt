@@ -217,12 +217,11 @@ pub record Closes (bs : List ℕ) (n : ℕ) : Type 0 where
   pub longest : (m : ℕ) → n < m → m ≤ length bs → IsClosed (take m bs) ⊎ IsOpen (take m bs) → ⊥
 
 longer-pair : (cs : List ℕ) (m : ℕ) → 2 < m → m ≤ length (42 ∷ 47 ∷ cs) → IsClosed (take m (42 ∷ 47 ∷ cs)) ⊎ IsOpen (take m (42 ∷ 47 ∷ cs)) → ⊥
-longer-pair cs zero h l p = omega (arith, h)
-longer-pair cs (suc zero) h l p = omega (arith, h)
 longer-pair cs (suc (suc zero)) h l p = omega (arith, h)
 longer-pair [] (suc (suc (suc m))) h l p = omega (arith, l)
 longer-pair (d ∷ ds) (suc (suc (suc m))) h l (inl (closed_later k w)) = cc
 longer-pair (d ∷ ds) (suc (suc (suc m))) h l (inr (open_more k w)) = cc
+longer-pair cs _ h l p = omega (arith, h)
 
 closed-tail : (b : ℕ) (xs : List ℕ) → is_front (codes "*/") (b ∷ xs) ≡ false → IsClosed (b ∷ xs) ⊎ IsOpen (b ∷ xs) → IsClosed xs ⊎ IsOpen xs
 closed-tail b xs h (inl closed_here) = cc

@@ -30,11 +30,10 @@ mark-there (b ∷ bs) mark n h d = by (entry_in signs (b ∷ [])) refl
         apart b d = grind (arith, nat_tests, d)
 
     by : (x : Option (Option Mark)) → entry_in signs (b ∷ []) ≡ x → lexeme_of (b ∷ bs) ≡ Sign mark n
-    by None e = absurd (no-mark (ap mark_of e))
-    by (Some None) e = absurd (no-mark (ap mark_of e))
     by (Some (Some m)) e =
         let q = operator-begins b [] (Some m) e in
         sign-front b bs q.space q.letter q.digit (no-comment 42) (no-comment 47) ∙ ap sign_lexeme h
+    by _ e = absurd (no-mark (ap mark_of e))
 
 pub mark-step : (at : ℕ) (text : List ℕ) (mark : Mark) (n : ℕ) → lexeme_of text ≡ Sign mark n → IsStep at text (Take (The mark) n)
 mark-step at text mark n h =

@@ -133,11 +133,9 @@ step-fits p depth l (Do (return_with (Some e)) ∷ k) to frames g out h =
 step-fits p depth l _ to frames g out h = tt
 
 pub source-step-fits : (p : TypedProgram) (depth : ℕ) (s : Run) → RunFits p.globals s → RunFits p.globals (source_step p depth s)
-source-step-fits p depth (Running [] g out) h = tt
 source-step-fits p depth (Running (f ∷ frames) g out) h =
     step-fits p depth (next_point Going f.locals f.todo).locals (next_point Going f.locals f.todo).todo f.result_to frames g out h
-source-step-fits p depth (Ended w out) h = tt
-source-step-fits p depth (Failed out) h = tt
+source-step-fits p depth _ h = tt
 
 first-fits : (globals : List Global) → ElementsFit globals (map first_words globals)
 first-fits globals a x vs at there =

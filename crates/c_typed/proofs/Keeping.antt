@@ -130,8 +130,7 @@ source-step-words p depth (Running [] g out) h = h.1.1
 source-step-words p depth (Running (f ∷ frames) g out) h =
     step-words p depth (next_point Going f.locals f.todo).locals (next_point Going f.locals f.todo).todo f.result_to frames g out
     (next_point-words Going f.locals f.todo (All-head FrameHoldsWords f frames h.0)) (All-tail FrameHoldsWords f frames h.0) h.1.0 h.1.1
-source-step-words p depth (Ended w out) h = h
-source-step-words p depth (Failed out) h = h
+source-step-words p depth _ h = h
 
 globals-words : (all : List Global) → ArraysHoldWords (map first_words all)
 globals-words [] = All-nil (All IsWord)

@@ -52,8 +52,7 @@ binary-word NotEqual s x y v a b e = truth-word (not (x == y)) v e
 binary-word BitAnd s x y v a b e = let is : bit_and x y ≡ v = same_Some (bit_and x y) v e in let le = and_le_l x y in omega arith
 binary-word BitXor s x y v a b e = subst IsWord (same_Some (bit_xor x y) v e) (xor_of_32 x y a b)
 binary-word BitOr s x y v a b e = subst IsWord (same_Some (bit_or x y) v e) (or_of_32 x y a b)
-binary-word LogicalAnd s x y v a b e = truth-word (not (y == 0)) v e
-binary-word LogicalOr s x y v a b e = truth-word (not (y == 0)) v e
+binary-word _ s x y v a b e = truth-word (not (y == 0)) v e
 
 -- a value that is a word, where there is one
 abbrev GivesWord : Option ℕ → Type 0

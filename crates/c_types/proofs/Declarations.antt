@@ -189,10 +189,8 @@ none-so-far text p e f =
 
 pub globals-grow : (n : Counts) (d : Tree.Declaration) → (counts_after n d).globals ≤ n.globals + 1
 globals-grow n (Tree.variable k x i) = omega arith
-globals-grow n (Tree.array w k x l) = omega arith
-globals-grow n (Tree.function r x ps body) = omega arith
+globals-grow n _ = omega arith
 
 pub functions-grow : (n : Counts) (d : Tree.Declaration) → (counts_after n d).functions ≤ n.functions + 1
 functions-grow n (Tree.variable k x i) = omega arith
-functions-grow n (Tree.array w k x l) = omega arith
-functions-grow n (Tree.function r x ps body) = omega arith
+functions-grow n _ = omega arith

@@ -21,25 +21,16 @@ is_zero n h = grind (arith, h)
 
 place : {text : List ℕ} {f : File} {d : Declaration} {j : TypeFaultKind} {n : ℕ} → FaultyName text f d j n → (name_of d).at ≡ n
 place (declared_again h) = refl
-place (other_main h i) = refl
-place (array_of_nothing h) = refl
-place (too_many_words h l) = refl
-place (too_many_functions h) = refl
+place _ = refl
 
 least : {text : List ℕ} {f : File} {d : Declaration} {j : TypeFaultKind} {n : ℕ} → FaultyName text f d j n → 11 ≤ number_of j
 least (declared_again h) = omega arith
-least (other_main h i) = omega arith
-least (array_of_nothing h) = omega arith
-least (too_many_words h l) = omega arith
-least (too_many_functions h) = omega arith
+least _ = omega arith
 
 least-new : {text : List ℕ} {f : File} {d : Declaration} {j : TypeFaultKind} {n : ℕ} → f.names (spelling_in text (name_of d)) ≡ None
     → FaultyName text f d j n → 12 ≤ number_of j
 least-new e (declared_again h) = absurd (h e)
-least-new e (other_main h i) = omega arith
-least-new e (array_of_nothing h) = omega arith
-least-new e (too_many_words h l) = omega arith
-least-new e (too_many_functions h) = omega arith
+least-new e _ = omega arith
 
 exceeds : {text : List ℕ} {f : File} {d : Declaration} {j : TypeFaultKind} {n : ℕ} → f.names (spelling_in text (name_of d)) ≡ None
     → (IsOtherKind text d → ⊥) → FaultyName text f d j n → Exceeds f.counts d × (20 ≤ number_of j)
@@ -58,17 +49,15 @@ again-first text f d h = record { has = declared_again h; first = λ j n w. inr 
 wrong-kind : (text : List ℕ) (f : File) (d : Declaration) → IsOtherKind text d → FaultyName text f d KindFault (name_of d).at
 wrong-kind text f d (inr h) = other_main h.0 h.1
 wrong-kind text f (array w k x n) (inl h) = array_of_nothing (zero n.value h)
-wrong-kind text f (variable k x i) (inl h) = cc
-wrong-kind text f (function r x ps body) (inl h) = cc
+wrong-kind text f _ (inl h) = cc
 
 pub kind-first : (text : List ℕ) (f : File) (d : Declaration) → f.names (spelling_in text (name_of d)) ≡ None → IsOtherKind text d
     → IsFirstFault (FaultyName text f d) KindFault (name_of d).at
 kind-first text f d e h = record { has = wrong-kind text f d h; first = λ j n w. inr (place w, least-new e w) }
 
 too-many : (text : List ℕ) (f : File) (d : Declaration) → Exceeds f.counts d → FaultyName text f d Limit (name_of d).at
-too-many text f (variable k x i) h = too_many_words h.0 h.1
-too-many text f (array w k x n) h = too_many_words h.0 h.1
 too-many text f (function r x ps body) h = too_many_functions h
+too-many text f _ h = too_many_words h.0 h.1
 
 pub limit-first : (text : List ℕ) (f : File) (d : Declaration) → f.names (spelling_in text (name_of d)) ≡ None → (IsOtherKind text d → ⊥)
     → Exceeds f.counts d → IsFirstFault (FaultyName text f d) Limit (name_of d).at

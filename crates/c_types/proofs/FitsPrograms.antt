@@ -69,10 +69,7 @@ fits-closing p n false (Some k) h = tt
 
 wider : (p : TypedProgram) (n : ℕ) (m : Named) → IsThere p 0 m → IsThere p n m
 wider p n (Local x k) h = absurd (omega (arith, h))
-wider p n (Global x k) h = h
-wider p n (Array x k) h = h
-wider p n (Function f m r) h = h
-wider p n Out h = h
+wider p n _ h = h
 
 at-file : (p : TypedProgram) (n : ℕ) (m : Option Named) (i : Named) → ((j : Named) → m ≡ Some j → IsThere p 0 j) → hides m None ≡ Some i → IsThere p n i
 at-file p n (Some j) i h e = wider p n i (h i e)

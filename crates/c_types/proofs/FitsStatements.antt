@@ -220,7 +220,6 @@ no-more text sc x few none = let other : sc.locals ≢ 128 = λ e. none Limit x.
 mutual
   locals-fit : (text : List ℕ) (g l : Bool) (sc : Scopes) (s : Tree.Statement) → sc.locals ≤ 128 → HasNone (FaultyStatement text g l sc s)
       → sc.locals + declared_in s ≤ 128
-  locals-fit text g l sc Tree.empty few none = omega (arith, few)
   locals-fit text g l sc (Tree.block all) few none = all-locals-fit text g l (within sc) all few none
   locals-fit text g l sc (Tree.if_then c s) few none = locals-fit text g l sc s few (λ k at w. none k at (inr w))
   locals-fit text g l sc (Tree.if_then_else c s t) few none =
@@ -229,10 +228,7 @@ mutual
       omega (arith, second)
   locals-fit text g l sc (Tree.while_loop c s) few none = locals-fit text g true sc s few (λ k at w. none k at (inr w))
   locals-fit text g l sc (Tree.for_loop f c last s) few none = locals-fit text g true sc s few (λ k at w. none k at (inr (inr (inr w))))
-  locals-fit text g l sc (Tree.break_at at) few none = omega (arith, few)
-  locals-fit text g l sc (Tree.continue_at at) few none = omega (arith, few)
-  locals-fit text g l sc (Tree.return_at at e) few none = omega (arith, few)
-  locals-fit text g l sc (Tree.simply s) few none = omega (arith, few)
+  locals-fit text g l sc _ few none = omega (arith, few)
 
   pub all-locals-fit : (text : List ℕ) (g l : Bool) (sc : Scopes) (is : Tree.Items) → sc.locals ≤ 128 → HasNone (FaultyItems text g l sc is)
       → sc.locals + declared_in_all is ≤ 128

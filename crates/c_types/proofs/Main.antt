@@ -23,8 +23,6 @@ abbrev pub IsMainOr : Bindings → Type 0
 IsMainOr names = (names main_name ≡ None) ⊎ ((n : ℕ) × (names main_name ≡ Some (Function n 0 true)))
 
 is-main : (f : File) (d : Tree.Declaration) → (IsNotMain d → ⊥) → (n : ℕ) × (named_by f.counts d ≡ Function n 0 true)
-is-main f (Tree.variable k x i) h = absurd (h tt)
-is-main f (Tree.array w k x n) h = absurd (h tt)
 is-main f (Tree.function None x ps body) h = absurd (h (inl (λ e. none-some _ e)))
 is-main f (Tree.function (Some UnsignedInt) x ps body) h = absurd (h (inl other))
   where
@@ -35,6 +33,7 @@ is-main f (Tree.function (Some SignedInt) x (p ∷ ps) body) h = absurd (h (inr 
   where
     some : (p ∷ ps) ≢ []
     some e = cc
+is-main f _ h = absurd (h tt)
 
 step-by : (text : List ℕ) (f : File) (d : Tree.Declaration) (b : Bool) → bytes_eq (spelling_in text (name_of d)) main_name ≡ b
     → IsMainOr f.names → HasNone (FaultyName text f d)

@@ -3,24 +3,16 @@ use Rattle.std.proofs.Common.{◌≡◌, ℕ, true, false, Option, Some, None, r
 use Rattle.mips_isa.specs.declared.inst.Plain.{Plain}
 use Rattle.mips_isa.specs.Flows.{Flow}
 use Rattle.mblock.specs.declared.exit.Exit.{Exit}
-use Rattle.mblock.specs.declared.exit.Exit.TheVariants.{Goto, BranchPair, BranchZero, Call, Return, Out, Halt}
+use Rattle.mblock.specs.declared.exit.Exit.TheVariants.{Out, Halt}
 use Rattle.mblock.specs.Slots.{is_slotted}
 use Rattle.mblock.specs.OrderMeaning.{jump, order_end_effect}
 
 pub jumps : (exit : Exit) (slot : Option Plain) (f : Flow) (link : ℕ) → is_slotted exit ≡ true → order_end_effect exit slot f link ≡ jump exit slot f link
-jumps (Goto t) slot f link e = refl
-jumps (BranchPair test a b t x) slot f link e = refl
-jumps (BranchZero test a t x) slot f link e = refl
-jumps (Call g n) slot f link e = refl
-jumps Return slot f link e = refl
 jumps (Out n) slot f link e = absurd (true≢false (sym e))
 jumps Halt slot f link e = absurd (true≢false (sym e))
+jumps _ slot f link e = refl
 
 pub has_none : (exit : Exit) (i : Plain) (f : Flow) (link : ℕ) → is_slotted exit ≡ false → order_end_effect exit (Some i) f link ≡ None
-has_none (Goto t) i f link e = absurd (true≢false e)
-has_none (BranchPair test a b t x) i f link e = absurd (true≢false e)
-has_none (BranchZero test a t x) i f link e = absurd (true≢false e)
-has_none (Call g n) i f link e = absurd (true≢false e)
-has_none Return i f link e = absurd (true≢false e)
 has_none (Out n) i f link e = refl
 has_none Halt i f link e = refl
+has_none _ i f link e = absurd (true≢false e)

@@ -1,6 +1,6 @@
 -- A refuted order doesn't mean its block.
-use Rattle.std.proofs.Common.{◌≡◌, ◌≢◌, ℕ, Option, Some, None, sym, ap, ◌∙◌}
-use Rattle.std.specs.Prelude.{Result, Ok, Err, IfOk, IfSome}
+use Rattle.std.proofs.Common.{◌≡◌, ◌≢◌, ℕ, Option, Some, sym, ap, ◌∙◌}
+use Rattle.std.specs.Prelude.{Result, Ok, IfOk, IfSome}
 use Rattle.std.specs.declared.alloc.AllocError.{AllocError}
 use Rattle.mips_isa.specs.States.{State}
 use Rattle.mblock.specs.Parts.{BlockParts, OrderParts}
@@ -34,12 +34,10 @@ disagrees b o s link d h agrees = not_same d h.left _ h.differs (agrees h.left h
 -- what is found refutes, and so the order doesn't mean its block
 pub no_meaning : (b : BlockParts) (o : OrderParts) (s : State) (link : ℕ) (r : Result (Option Difference) AllocError)
     → IfOk r (λ x. IfSome x (λ d. Refutes b o s link d)) → IfOk r (λ x. IfSome x (λ d. Means b o → ⊥))
-no_meaning b o s link (Ok None) h = tt
 no_meaning b o s link (Ok (Some d)) h = refuted b o s link d h
-no_meaning b o s link (Err e) h = tt
+no_meaning b o s link _ h = tt
 
 pub witness_no_meaning : (b : BlockParts) (o : OrderParts) (r : Result (Option Witness) AllocError)
     → IfOk r (λ x. IfSome x (λ w. Refutes b o (start_of w.start) w.link w.difference)) → IfOk r (λ x. IfSome x (λ w. Means b o → ⊥))
-witness_no_meaning b o (Ok None) h = tt
 witness_no_meaning b o (Ok (Some w)) h = refuted b o (start_of w.start) w.link w.difference h
-witness_no_meaning b o (Err e) h = tt
+witness_no_meaning b o _ h = tt

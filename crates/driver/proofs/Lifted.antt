@@ -45,8 +45,7 @@ fault_shows a xs = subst (λ (s : ℕ). fold worse s xs ≡ 1) (sym (worse_one a
 without_fault : (a : ℕ) (said : Said) (statuses : List ℕ) (told : List (List ℕ)) → fold worse (worse a (said_status said)) statuses ≢ 1
     → told ≡ [] → told_of said ++ told ≡ []
 without_fault a (says.Answer answer) statuses told other none = none
-without_fault a (says.Text fault) statuses told other none = absurd (other (fault_shows a statuses))
-without_fault a (says.Host fault) statuses told other none = absurd (other (fault_shows a statuses))
+without_fault a _ statuses told other none = absurd (other (fault_shows a statuses))
 
 -- without the worst status no file had a fault
 no_faults : (a : ℕ) (files : List CheckedFile) → fold worse a (map status_of files) ≢ 1 → flat_map faults_of files ≡ []

@@ -41,12 +41,10 @@ pub record IsWritten (s : ScheduledParts) (b : Built) : Type 0 where
 
 -- why a scheduled unit has no image: it would be too long, or memory was refused
 abbrev pub IsUnwritten : ScheduledParts → BuildFault → Type 0
-IsUnwritten s (faults.Source f) = ⊥
-IsUnwritten s (faults.Limit limits.Lowering) = ⊥
-IsUnwritten s (faults.Limit limits.Selection) = ⊥
 IsUnwritten s (faults.Limit limits.Assembly) =
     IsScheduled s × ((IsWithin (slice_index s.unit.owner) s.orders → ⊥) × (FUNCTION_WORDS < 2052 * length s.orders))
 IsUnwritten s faults.NoMemory = Unit {0}
+IsUnwritten s _ = ⊥
 
 -- the same of a schedule, to which memory may have been refused
 abbrev pub IsWrittenOf : {E : Type 0} → Result ScheduledParts E → Built → Type 0

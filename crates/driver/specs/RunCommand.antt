@@ -7,7 +7,6 @@ use Rattle.image.specs.declared.fault.ImageFault.{ImageFault}
 use Rattle.mips_code.specs.Machines.{MachineOutcome}
 use Rattle.host.specs.Numbers.{word_text}
 use Rattle.host.specs.declared.numbers.WordForm.{WordForm}
-use Rattle.host.specs.declared.numbers.WordForm.TheVariants.{Unsigned}
 use Rattle.host.specs.OneFile.{FileMeaning, IsRefused, TookPrint}
 use Rattle.text.specs.Shown.{IsShown}
 use Rattle.driver.specs.RunTexts.{ending_text, ending_status}
@@ -20,9 +19,6 @@ use Rattle.driver.specs.declared.run_command.remarks.Counted.TheVariants.{Words,
 -- each word of output in its form on a line, by default in decimal
 abbrev pub words_in : WordForm → List ℕ → List ℕ
 words_in form words = flat_map (λ w. word_text form w ++ 10 ∷ []) words
-
-abbrev pub words_text : List ℕ → List ℕ
-words_text words = words_in Unsigned words
 
 -- what is printed of an image's run: its output, and how it ended
 abbrev pub PrintsMachine : WordForm → MachineOutcome → List ℕ → Type 0

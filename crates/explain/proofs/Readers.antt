@@ -1,5 +1,5 @@
 -- What a pass that ran a block has seen, and that a reader goes on.
-use Rattle.std.proofs.Common.{◌≡◌, ℕ, List, [], ◌∷◌, ◌++◌, Option, Result, Ok, Err, All, sym, subst}
+use Rattle.std.proofs.Common.{◌≡◌, ℕ, List, [], ◌∷◌, ◌++◌, Option, Result, Ok, All, sym, subst}
 use Rattle.std.specs.Prelude.{IfOk}
 use Rattle.std.specs.declared.alloc.AllocError.{AllocError}
 use Rattle.std.specs.Option.{option_to_list}
@@ -46,18 +46,14 @@ waiting_more {p} {q} e before after new slice children popped is seen kids lent 
 
 seen_exit : (p : PassState) (e : TermExit) (xs : List Tree) → AllHave p (tickets_of e) xs → IsSeenExit p e
 seen_exit p (Goto t) xs h = tt
-seen_exit p (BranchPair test a b t e) [] h = absurd h
 seen_exit p (BranchPair test a b t e) (x ∷ []) h = absurd h.1
 seen_exit p (BranchPair test a b t e) (x ∷ y ∷ xs) h = (tree_seen h.0, tree_seen h.1.0)
-seen_exit p (BranchZero test a t e) [] h = absurd h
 seen_exit p (BranchZero test a t e) (x ∷ xs) h = tree_seen h.0
 seen_exit p (Call f n) xs h = tt
-seen_exit p (Return a) [] h = absurd h
 seen_exit p (Return a) (x ∷ xs) h = tree_seen h.0
-seen_exit p (Out a n) [] h = absurd h
 seen_exit p (Out a n) (x ∷ xs) h = tree_seen h.0
-seen_exit p (Halt a) [] h = absurd h
 seen_exit p (Halt a) (x ∷ xs) h = tree_seen h.0
+seen_exit p _ [] h = absurd h
 
 seen_guard : (p : PassState) (g : Guard) (x : GuardTree) → IsGuard p g x → IsSeenGuard p g
 seen_guard p (Address w t) (AtAddress v x) h = tree_seen h.1
@@ -88,5 +84,4 @@ pub seen_run : (p : PassState) (r : Result (Result SymState TableFull) AllocErro
     → IfOk r (λ run. IfOk run (λ s. StandsFor p s.places s.exit s.guards.items c))
     → IfOk r (λ run. IfOk run (λ s. IsSeenState p s.places s.exit s.guards.items))
 seen_run p (Ok (Ok s)) c h = seen_state p s.places s.exit s.guards.items c h
-seen_run p (Ok (Err full)) c h = tt
-seen_run p (Err refused) c h = tt
+seen_run p _ c h = tt

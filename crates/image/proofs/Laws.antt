@@ -46,15 +46,13 @@ words_again (w ∷ ws) rest h = ap₂ (λ x xs. x ∷ xs) (word_again w (words_b
 
 words_back : (n : ℕ) (bytes : List ℕ) → IsBytes bytes → 4 * n ≤ length bytes → words_bytes (words_of n bytes) ≡ take (4 * n) bytes
 words_back zero bytes h le = refl
-words_back (suc n) [] h le = absurd (omega arith)
 words_back (suc n) (a ∷ []) h le = absurd (omega arith)
-words_back (suc n) (a ∷ b ∷ []) h le = absurd (omega arith)
-words_back (suc n) (a ∷ b ∷ c ∷ []) h le = absurd (omega arith)
 words_back (suc n) (a ∷ b ∷ c ∷ d ∷ rest) h le =
     let four : suc (suc (suc (suc (4 * n)))) ≡ 4 * suc n = omega arith in
     let below = words_back n rest (λ i. h (suc (suc (suc (suc i))))) (omega arith) in
     ap₂ (λ x y. x ++ y) (word_back a b c d (h 0) (h 1) (h 2) (h 3)) below
     ∙ ap (λ k. take k (a ∷ b ∷ c ∷ d ∷ rest)) four
+words_back (suc n) _ h le = absurd (omega arith)
 
 length-words_of : (n : ℕ) (bytes : List ℕ) → length (words_of n bytes) ≡ n
 length-words_of zero bytes = refl

@@ -7,7 +7,7 @@ use Rattle.std.proofs.lemmas.List.{append-nil, take_all, take_more}
 use Rattle.std.proofs.lemmas.Option.{same_Some, none-some}
 use Rattle.mips_isa.specs.declared.inst.Plain.{Plain}
 use Rattle.mips_isa.specs.declared.action.Action.{Action}
-use Rattle.mips_isa.specs.declared.action.Action.TheVariants.{Computes, Sets, Loads, Stores, Multiplies, Divides, MovesHigh, MovesLow}
+use Rattle.mips_isa.specs.declared.action.Action.TheVariants.{Loads, MovesHigh, MovesLow}
 use Rattle.mips_isa.specs.States.{State, is_register}
 use Rattle.mips_isa.specs.Actions.{nop, action_of, state_after, touches, loads, is_load, is_move, is_product}
 use Rattle.mblock.specs.declared.exit.Exit.{Exit}
@@ -24,23 +24,11 @@ pads l m = cond l (nop ∷ []) (cond m (nop ∷ nop ∷ []) [])
 
 pub loads_load : (a : Action) (r : ℕ) → loads a r ≡ true → is_load a ≡ true
 loads_load (Loads w d base offset) r e = refl
-loads_load (Computes d op x y) r e = e
-loads_load (Stores w q base offset) r e = e
-loads_load (Sets d w) r e = e
-loads_load (Multiplies sign x y) r e = e
-loads_load (Divides sign x y) r e = e
-loads_load (MovesHigh d) r e = e
-loads_load (MovesLow d) r e = e
+loads_load _ r e = e
 
 loads_register : (a : Action) (r : ℕ) → loads a r ≡ true → is_register r ≡ true
 loads_register (Loads w d base offset) r e = (Rattle.std.proofs.lemmas.Bool.and_parts (is_register r) _ e).0
-loads_register (Computes d op x y) r e = absurd (true≢false (sym e))
-loads_register (Stores w q base offset) r e = absurd (true≢false (sym e))
-loads_register (Sets d w) r e = absurd (true≢false (sym e))
-loads_register (Multiplies sign x y) r e = absurd (true≢false (sym e))
-loads_register (Divides sign x y) r e = absurd (true≢false (sym e))
-loads_register (MovesHigh d) r e = absurd (true≢false (sym e))
-loads_register (MovesLow d) r e = absurd (true≢false (sym e))
+loads_register _ r e = absurd (true≢false (sym e))
 
 nop_touches : (r : ℕ) → is_register r ≡ true → touches (action_of nop) r ≡ false
 nop_touches zero e = absurd (true≢false (sym e))
@@ -107,14 +95,9 @@ pads_keep x true m rest tail el em k = record {
     below = nop_keeps rest tail k
 
     still : (a : Action) → is_load a ≡ true → is_move a ≡ false
-    still (Loads w d base offset) e = refl
-    still (Computes d op u v) e = refl
-    still (Stores w q base offset) e = refl
-    still (Sets d w) e = refl
-    still (Multiplies sign u v) e = refl
-    still (Divides sign u v) e = refl
     still (MovesHigh d) e = absurd (true≢false (sym e))
     still (MovesLow d) e = absurd (true≢false (sym e))
+    still _ e = refl
 pads_keep x false true rest tail el em k = record {
   apart = apart_more x (nop ∷ nop ∷ rest) (λ r b eb e. absurd (true≢false (sym (loads_load (action_of x) r e) ∙ el))) below.apart;
   behind = behind_more (Some (action_of x)) (kinds_of (nop ∷ nop ∷ rest) tail) (λ a b ea m eb. ⊎_elim (nop_at b) (nop_at b) eb) below.behind;

@@ -5,7 +5,7 @@ use Rattle.words.specs.declared.operator.Operator.TheVariants.{Addu}
 use Rattle.words.specs.Operators.{op_value}
 use Rattle.mips_isa.specs.declared.inst.Plain.{Plain}
 use Rattle.mips_isa.specs.declared.action.Action.{Action}
-use Rattle.mips_isa.specs.declared.action.Action.TheVariants.{Computes, Sets, Loads, Stores, Multiplies, Divides, MovesHigh, MovesLow}
+use Rattle.mips_isa.specs.declared.action.Action.TheVariants.{Loads}
 use Rattle.mips_isa.specs.States.{State, is_register, read, put}
 use Rattle.mips_isa.specs.Actions.{action_of, is_safe, state_after, touches, loads, is_load, is_move, is_product}
 use Rattle.mips_isa.specs.Flows.{Pending, Nothing, Loaded, Flow, state_with_pending, pending_of, on_pending, flow_after, quiet}
@@ -48,13 +48,7 @@ pending_apart (Loads w d base offset) s test h = go (is_register d) refl
     go : (b : Bool) → is_register d ≡ b → (b && test d) ≡ false
     go false e = refl
     go true e = h d (ap₂ (λ x y. x && y) e (eq-eqb d d refl))
-pending_apart (Computes d op x y) s test h = refl
-pending_apart (Sets d v) s test h = refl
-pending_apart (Stores w r base offset) s test h = refl
-pending_apart (Multiplies sign x y) s test h = refl
-pending_apart (Divides sign x y) s test h = refl
-pending_apart (MovesHigh d) s test h = refl
-pending_apart (MovesLow d) s test h = refl
+pending_apart _ s test h = refl
 
 product_ready : (p : Bool) (hold : ℕ) → (0 < hold → p ≡ false) → (p && nat_lt 0 hold) ≡ false
 product_ready false hold h = refl
@@ -110,24 +104,20 @@ exited exit link s = record s { regs = exit_puts link 1 10 (exit_shape exit) s.r
 
 exit_late : (exit : Exit) (link : ℕ) (s : State) (q w : ℕ) → exit_touches exit q ≡ false
     → state_with_pending (Loaded q w) (exited exit link s) ≡ exited exit link (state_with_pending (Loaded q w) s)
-exit_late (Goto t) link s q w e = refl
-exit_late (BranchPair test a b t n) link s q w e = refl
-exit_late (BranchZero test a t n) link s q w e = refl
 exit_late (Call g n) link s q w e = ap (λ f. record s { regs = f }) (sym (put-put s.regs q w 31 link e))
-exit_late Return link s q w e = refl
 exit_late (Out n) link s q w e = ap (λ f. record s { regs = f }) (sym (put-put s.regs q w 2 1 (or_left _ _ e)))
 exit_late Halt link s q w e = ap (λ f. record s { regs = f }) (sym (put-put s.regs q w 2 10 (or_left _ _ e)))
+exit_late _ link s q w e = refl
 
 reads_late : (exit : Exit) (s : State) (q w : ℕ) → is_slotted exit ≡ true → exit_touches exit q ≡ false
     → map (read 0 s.regs) (exit_reads exit) ≡ map (read 0 (put s.regs q w)) (exit_reads exit)
-reads_late (Goto t) s q w slot e = refl
 reads_late (BranchPair test a b t n) s q w slot e =
     ap₂ (λ x y. x ∷ y ∷ []) (sym (read-put 0 s.regs q w a (or_left _ _ e))) (sym (read-put 0 s.regs q w b (or_right _ _ e)))
 reads_late (BranchZero test a t n) s q w slot e = ap (λ x. x ∷ []) (sym (read-put 0 s.regs q w a e))
-reads_late (Call g n) s q w slot e = refl
 reads_late Return s q w slot e = ap (λ x. x ∷ []) (sym (read-put 0 s.regs q w 31 e))
 reads_late (Out n) s q w slot e = absurd (true≢false (sym slot))
 reads_late Halt s q w slot e = absurd (true≢false (sym slot))
+reads_late _ s q w slot e = refl
 
 exit_settled : (p : Pending) (exit : Exit) (link : ℕ) (s : State) → on_pending p (exit_touches exit) ≡ false
     → state_with_pending p (exited exit link s) ≡ exited exit link (state_with_pending p s)
@@ -209,15 +199,10 @@ exit_runs : (exit : Exit) (slot : Option Plain) (f : Flow) (link : ℕ) → is_s
     → Ready [] exit (None ∷ map Some (slot_actions slot)) f → AllSafe (slot_actions slot) (exited exit link (settled_state f))
     → order_end_effect exit slot f link ≡ Some (leaves_total exit (slot_actions slot) link (settled_state f))
 exit_runs (Goto t) (Some i) f link fits kind h safe = jump_runs (Goto t) i f link refl h (kind i refl) safe.0
-exit_runs (Goto t) None f link fits kind h safe = absurd (true≢false (sym fits))
 exit_runs (BranchPair test a b t n) (Some i) f link fits kind h safe = jump_runs (BranchPair test a b t n) i f link refl h (kind i refl) safe.0
-exit_runs (BranchPair test a b t n) None f link fits kind h safe = absurd (true≢false (sym fits))
 exit_runs (BranchZero test a t n) (Some i) f link fits kind h safe = jump_runs (BranchZero test a t n) i f link refl h (kind i refl) safe.0
-exit_runs (BranchZero test a t n) None f link fits kind h safe = absurd (true≢false (sym fits))
 exit_runs (Call g n) (Some i) f link fits kind h safe = jump_runs (Call g n) i f link refl h (kind i refl) safe.0
-exit_runs (Call g n) None f link fits kind h safe = absurd (true≢false (sym fits))
 exit_runs Return (Some i) f link fits kind h safe = jump_runs Return i f link refl h (kind i refl) safe.0
-exit_runs Return None f link fits kind h safe = absurd (true≢false (sym fits))
 exit_runs (Out n) None f link fits kind h safe =
     call_runs (Out n) 1 f (exited (Out n) link (settled_state f)) (h.end refl)
     (ap (λ v. record (settled_state f) { regs = put (settled_state f).regs 2 v }) one_value)
@@ -226,6 +211,7 @@ exit_runs Halt None f link fits kind h safe =
     call_runs Halt 10 f (exited Halt link (settled_state f)) (h.end refl)
     (ap (λ v. record (settled_state f) { regs = put (settled_state f).regs 2 v }) ten_value)
 exit_runs Halt (Some i) f link fits kind h safe = absurd (true≢false fits)
+exit_runs _ None f link fits kind h safe = absurd (true≢false (sym fits))
 
 -- nothing holds an order up at its start
 start_ready : (o : OrderParts) (s : State) → IsClean o → (length o.insts ≡ 0 → Unit {0})

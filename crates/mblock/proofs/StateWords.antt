@@ -6,7 +6,7 @@ use Rattle.mips_isa.specs.declared.action.Action.{Action}
 use Rattle.mips_isa.specs.Actions.{action_of, is_safe, state_after}
 use Rattle.mips_isa.proofs.StateWords.{put_below, after_words}
 use Rattle.mblock.specs.declared.exit.Exit.{Exit}
-use Rattle.mblock.specs.BlockMeaning.{Shape, Goes, ChoosesPair, ChoosesZero, Calls, Returns, Prints, Halts, exit_shape, exit_puts}
+use Rattle.mblock.specs.BlockMeaning.{Shape, Calls, Prints, Halts, exit_shape, exit_puts}
 use Rattle.mblock.specs.BlockMeaning.{exit_effect, exit_effect_after, run}
 use Rattle.mblock.specs.Orders.{EachBlockKeepsWords}
 
@@ -19,13 +19,10 @@ run_words (a ∷ rest) s s' h e = go (run_words rest (state_after a s) s' (after
     go next false r = absurd (none-some s' r)
 
 puts_below : (shape : Shape) (link : ℕ) (f : ℕ → ℕ) → link < 2 ^ 32 → ((r : ℕ) → f r < 2 ^ 32) → (r : ℕ) → exit_puts link 1 10 shape f r < 2 ^ 32
-puts_below (Goes t) link f l h r = h r
-puts_below (ChoosesPair x t e) link f l h r = h r
-puts_below (ChoosesZero x t e) link f l h r = h r
 puts_below (Calls g n) link f l h r = put_below f 31 link h l r
-puts_below Returns link f l h r = h r
 puts_below (Prints n) link f l h r = put_below f 2 1 h (omega arith) r
 puts_below Halts link f l h r = put_below f 2 10 h (omega arith) r
+puts_below _ link f l h r = h r
 
 pub leave_words : (exit : Exit) (s : State) (link : ℕ) → IsWords s → link < 2 ^ 32 → IsWords (exit_effect exit s link).state
 leave_words exit s link h l = record { regs = puts_below (exit_shape exit) link s.regs l h.regs; hi = h.hi; lo = h.lo; memory = h.memory }

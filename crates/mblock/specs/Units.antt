@@ -26,13 +26,9 @@ GoesBelow n Halt = Unit {0}
 
 -- a branch goes to blocks of this owner
 abbrev pub BranchesWithin : List ℕ → ℕ → Exit → Type 0
-BranchesWithin owner o (Goto t) = Unit {0}
 BranchesWithin owner o (BranchPair test a b t e) = (slice_get owner t ≡ Some o) × (slice_get owner e ≡ Some o)
 BranchesWithin owner o (BranchZero test a t e) = (slice_get owner t ≡ Some o) × (slice_get owner e ≡ Some o)
-BranchesWithin owner o (Call f next) = Unit {0}
-BranchesWithin owner o Return = Unit {0}
-BranchesWithin owner o (Out next) = Unit {0}
-BranchesWithin owner o Halt = Unit {0}
+BranchesWithin owner o _ = Unit {0}
 
 -- block i is the first of its function, or of the function of the block before it
 abbrev pub Continues : List ℕ → ℕ → ℕ → Type 0

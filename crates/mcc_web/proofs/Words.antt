@@ -1,8 +1,6 @@
 -- One word more.
 use Rattle.std.proofs.Common.{List, length, slice_set, ◌≡◌, ◌≢◌, ◌≤◌, ◌<◌, ◌⊎◌, inl, inr, sym, subst, ℕ, suc, ◌+◌, Option, Some, None, is_some, false, refl, ap, ◌∙◌, arith}
 use Rattle.mips_code.specs.Machines.{Code, Machine, step_of}
-use Rattle.mips_code.specs.declared.steps.Ending.{Ending}
-use Rattle.mips_code.specs.declared.steps.Ending.TheVariants as endings
 use Rattle.mips_machine.specs.Views.{stepped_of}
 use Rattle.std.proofs.lemmas.Bool.{cases_eq}
 use Rattle.std.proofs.lemmas.List.{get_or-set_other, get_or-set_same}
@@ -17,11 +15,6 @@ pub behind_more : (code : Code) (k : ℕ) (m now next : Machine) → behind code
 behind_more code k m now next so_far step =
     let n : k + 1 ≡ suc k = omega arith in
     ap (λ j. behind code j m) n ∙ ap (one_more code) so_far ∙ ap going step
-
-ends : (end : Ending) (m : Machine) → (end ≡ endings.More → ⊥) → going (stepped_of (Some end) m) ≡ None
-ends (endings.Halt w) m h = refl
-ends (endings.Stuck r) m h = refl
-ends endings.More m h = absurd (h refl)
 
 pub none_of : {A : Type 0} → (o : Option A) → is_some o ≡ false → o ≡ None
 none_of None e = refl

@@ -46,9 +46,8 @@ use Rattle.mips_asm.specs.declared.limits.TheConstants.{CODE_WORDS}
 -- ---- ends
 
 abbrev pub is_wrong_end : End → Bool
-is_wrong_end (Done w) = false
 is_wrong_end Wrong = true
-is_wrong_end More = false
+is_wrong_end _ = false
 
 abbrev pub is_wrong : Outcome → Bool
 is_wrong o = is_wrong_end o.end
@@ -205,12 +204,7 @@ returned links word u k (b ∷ rest) e = go (returned links word u (suc k) rest)
 
 shape_call : (x : Exit) (f u : ℕ) → exit_shape x ≡ Calls f u → x ≡ Call f u
 shape_call (Call g n) f u e = cc
-shape_call (Goto t) f u e = cc
-shape_call (BranchPair test a b t n) f u e = cc
-shape_call (BranchZero test a t n) f u e = cc
-shape_call Return f u e = cc
-shape_call (Out n) f u e = cc
-shape_call Halt f u e = cc
+shape_call _ f u e = cc
 
 -- behind a call's slot stands the jump to where it goes on
 call_words : (code : List Inst) (start : ℕ → ℕ) (p u f : ℕ) (exit : Exit) (slot : Option Plain) → exit ≡ Call f u
@@ -402,12 +396,7 @@ shape_size (Call f n) y e c = go y e
   where
     go : (y : Exit) → Calls f n ≡ exit_shape y → exit_size y ≡ 4
     go y e = ap exit_size (shape_call y f n (sym e))
-shape_size (Goto t) y e c = absurd (true≢false (sym c))
-shape_size (BranchPair test a b t n) y e c = absurd (true≢false (sym c))
-shape_size (BranchZero test a t n) y e c = absurd (true≢false (sym c))
-shape_size Return y e c = absurd (true≢false (sym c))
-shape_size (Out n) y e c = absurd (true≢false (sym c))
-shape_size Halt y e c = absurd (true≢false (sym c))
+shape_size _ y e c = absurd (true≢false (sym c))
 
 module _ (blocks : List BlockParts) (orders : List OrderParts) (h : AreOrders blocks orders) (room : length (layout orders) ≤ CODE_WORDS) where
   -- a call before another has the lesser link

@@ -54,17 +54,13 @@ slot_length None e = absurd (true≢false (sym e))
 exit_length : (start : ℕ → ℕ) (here : ℕ) (exit : Exit) (slot : Option Plain) → is_some slot ≡ is_slotted exit
     → length (exit_insts start here exit slot) ≡ exit_size exit
 exit_length start here (Goto t) (Some i) e = refl
-exit_length start here (Goto t) None e = absurd (true≢false (sym e))
 exit_length start here (BranchPair test a b t n) (Some i) e = refl
-exit_length start here (BranchPair test a b t n) None e = absurd (true≢false (sym e))
 exit_length start here (BranchZero test a t n) (Some i) e = refl
-exit_length start here (BranchZero test a t n) None e = absurd (true≢false (sym e))
 exit_length start here (Call f n) (Some i) e = refl
-exit_length start here (Call f n) None e = absurd (true≢false (sym e))
 exit_length start here Return (Some i) e = refl
-exit_length start here Return None e = absurd (true≢false (sym e))
 exit_length start here (Out n) slot e = refl
 exit_length start here Halt slot e = refl
+exit_length start here _ None e = absurd (true≢false (sym e))
 
 pub map_length : (l : List Plain) → length (map I.Plain l) ≡ length l
 map_length [] = refl

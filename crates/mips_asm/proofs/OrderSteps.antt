@@ -16,7 +16,7 @@ use Rattle.mips_isa.specs.declared.inst.Control.TheVariants as controls
 use Rattle.mips_isa.specs.declared.inst.Inst.{Inst}
 use Rattle.mips_isa.specs.declared.inst.Inst.TheVariants as I
 use Rattle.mips_isa.specs.declared.action.Action.{Action}
-use Rattle.mips_isa.specs.declared.action.Action.TheVariants.{Computes, Sets, Loads, Stores, Multiplies, Divides, MovesHigh, MovesLow}
+use Rattle.mips_isa.specs.declared.action.Action.TheVariants.{Loads}
 use Rattle.mips_isa.specs.States.{State, read, put}
 use Rattle.mips_isa.specs.Actions.{action_of, is_load, is_move}
 use Rattle.mips_isa.specs.Flows.{Nothing, Flow, state_with_pending, pending_of, shown_state, on_pending, flow_after, quiet}
@@ -66,13 +66,7 @@ words_hold (i ∷ rest) f f' le e = go (λ g h r. words_hold rest g f' h r) (is_
 
 pending_none : (a : Action) (s : State) → is_load a ≡ false → pending_of a s ≡ Nothing
 pending_none (Loads w d base offset) s e = absurd (true≢false e)
-pending_none (Computes d op x y) s e = refl
-pending_none (Stores w q base offset) s e = refl
-pending_none (Sets d w) s e = refl
-pending_none (Multiplies sign x y) s e = refl
-pending_none (Divides sign x y) s e = refl
-pending_none (MovesHigh d) s e = refl
-pending_none (MovesLow d) s e = refl
+pending_none _ s e = refl
 
 -- behind a slot nothing is pending and nothing waits
 slot_quiet : (a : Action) (s : State) (h : ℕ) → (is_load a || is_move a) ≡ false → h ≤ 2

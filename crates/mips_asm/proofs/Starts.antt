@@ -12,7 +12,7 @@ use Rattle.mips_isa.specs.declared.inst.Inst.{Inst}
 use Rattle.mips_isa.specs.declared.inst.Inst.TheVariants as I
 use Rattle.mips_isa.specs.Ranges.{IsInst}
 use Rattle.mblock.specs.declared.exit.Exit.{Exit}
-use Rattle.mblock.specs.declared.exit.Exit.TheVariants.{Goto, BranchPair, BranchZero, Call, Return, Out, Halt}
+use Rattle.mblock.specs.declared.exit.Exit.TheVariants.{Goto, BranchPair, BranchZero, Call, Out}
 use Rattle.mblock.specs.Parts.{OrderParts}
 use Rattle.mblock.specs.Units.{GoesBelow}
 use Rattle.mips_asm.specs.Layout.{size, place, slot_insts, hop, jump_to, branch_offset, set_number, address_of_place, exit_insts}
@@ -44,9 +44,8 @@ module _ (n : ℕ) (s s' : ℕ → ℕ) (h : (t : ℕ) → t < n → s t ≡ s' 
       ap₂ (λ p q. I.Control (controls.BranchZero test a (branch_offset here p)) ∷ (slot_insts slot ++ hop q)) (h t there.0) (h e there.1)
   same_exit here (Call f m) slot there =
       ap₂ (λ p q. I.Control (controls.JumpTo JumpAndLink (address_of_place p / 4)) ∷ (slot_insts slot ++ hop q)) (h f there.0) (h m there.1)
-  same_exit here Return slot there = refl
   same_exit here (Out m) slot there = ap (λ q. set_number (Rattle.std.specs.Prelude.pos 1) ∷ I.Control controls.SystemCall ∷ hop q) (h m there)
-  same_exit here Halt slot there = refl
+  same_exit here _ slot there = refl
 
   same_insts : (os : List OrderParts) (here : ℕ) → ((k : ℕ) (o : OrderParts) → slice_get os k ≡ Some o → GoesBelow n o.exit)
       → insts_of s here os ≡ insts_of s' here os
@@ -91,17 +90,13 @@ all_small os le = All-from_recursion (λ p. p ≤ CODE_WORDS) (places_from 0 os)
 
 near_exit : (owner : ℕ → ℕ) (os : List OrderParts) → AreFunctions (length os) owner → FunctionsFit owner os → (k : ℕ) (o : OrderParts)
     → slice_get os k ≡ Some o → (x : Exit) → GoesBelow (length os) x → IsOwn owner k x → IsNear (start_of (places_from 0 os)) (place os k + length o.insts) x
-near_exit owner os f fit k o e (Goto t) there own = tt
 near_exit owner os f fit k o e (BranchPair test a b t z) there own =
     subst (λ p. FitsSigned w16 (branch_offset (place os k + length o.insts) p)) (sym (same_starts os t there.0))
     (offset_near owner os f fit k t o e there.0 own)
 near_exit owner os f fit k o e (BranchZero test a t z) there own =
     subst (λ p. FitsSigned w16 (branch_offset (place os k + length o.insts) p)) (sym (same_starts os t there.0))
     (offset_near owner os f fit k t o e there.0 own)
-near_exit owner os f fit k o e (Call g m) there own = tt
-near_exit owner os f fit k o e Return there own = tt
-near_exit owner os f fit k o e (Out m) there own = tt
-near_exit owner os f fit k o e Halt there own = tt
+near_exit owner os f fit k o e _ there own = tt
 
 pub all_near : (owner : ℕ → ℕ) (os : List OrderParts) → AreUnits owner os → FunctionsFit owner os → AllNear (start_of (places_from 0 os)) os
 all_near owner os u fit k o e = near_exit owner os u.functions fit k o e o.exit (u.there k o e) (u.own k o e)

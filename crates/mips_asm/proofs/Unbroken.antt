@@ -6,7 +6,7 @@ use Rattle.mips_isa.specs.declared.inst.Control.{Control}
 use Rattle.mips_isa.specs.declared.inst.Control.TheVariants.{SystemCall}
 use Rattle.mips_isa.specs.declared.inst.Inst.TheVariants as I
 use Rattle.mips_isa.specs.declared.rule.Rule.{Rule}
-use Rattle.mips_isa.specs.declared.rule.Rule.TheVariants.{M1, M2, M3, M4, M5, M6, M7, M8, M9}
+use Rattle.mips_isa.specs.declared.rule.Rule.TheVariants.{M1, M3, M9}
 use Rattle.mips_isa.specs.Actions.{action_of}
 use Rattle.mips_isa.specs.Flows.{on_pending}
 use Rattle.mips_isa.specs.Controls.{control_touches, goes_elsewhere, calls_another}
@@ -23,14 +23,9 @@ control_keeps : (c : Control) (m : Machine) → on_pending m.flow.pending (contr
     → (goes_elsewhere c && is_some m.target) ≡ false → calls_another c m.flow.state ≡ false
     → (r : Rule) → control_breaks r c (is_some m.target) m.flow ≡ false
 control_keeps c m free outside fine M1 = free
-control_keeps c m free outside fine M2 = refl
 control_keeps c m free outside fine M3 = outside
-control_keeps c m free outside fine M4 = refl
-control_keeps c m free outside fine M5 = refl
-control_keeps c m free outside fine M6 = refl
-control_keeps c m free outside fine M7 = refl
-control_keeps c m free outside fine M8 = refl
 control_keeps c m free outside fine M9 = fine
+control_keeps c m free outside fine _ = refl
 
 -- a branch or a jump outside a slot
 pub control_goes : (c : Control) (m : Machine) → goes_elsewhere c ≡ true → on_pending m.flow.pending (control_touches c) ≡ false

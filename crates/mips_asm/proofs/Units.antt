@@ -9,9 +9,9 @@ use Rattle.mips_isa.specs.Ranges.{IsInst}
 use Rattle.mips_code.specs.Words.{inst_word}
 use Rattle.mips_code.proofs.Bounds.{words_below}
 use Rattle.mblock.specs.declared.exit.Exit.{Exit}
-use Rattle.mblock.specs.declared.exit.Exit.TheVariants.{Goto, BranchPair, BranchZero, Call, Return, Out, Halt}
+use Rattle.mblock.specs.declared.exit.Exit.TheVariants.{Goto, BranchPair, BranchZero}
 use Rattle.mblock.specs.Parts.{BlockParts, OrderParts}
-use Rattle.mblock.specs.BlockMeaning.{Shape, Goes, ChoosesPair, ChoosesZero, Calls, Returns, Prints, Halts, exit_shape}
+use Rattle.mblock.specs.BlockMeaning.{Shape, Goes, ChoosesPair, ChoosesZero, Calls, Prints, exit_shape}
 use Rattle.mblock.specs.Clean.{FitsSlot}
 use Rattle.mblock.specs.PlainOrders.{plain_order_of}
 use Rattle.mblock.specs.Orders.{AreOrders}
@@ -36,27 +36,17 @@ BelowShape n (Goes t) = t < n
 BelowShape n (ChoosesPair x t e) = (t < n) × (e < n)
 BelowShape n (ChoosesZero x t e) = (t < n) × (e < n)
 BelowShape n (Calls f m) = (f < n) × (m < n)
-BelowShape n Returns = Unit {0}
 BelowShape n (Prints m) = m < n
-BelowShape n Halts = Unit {0}
+BelowShape n _ = Unit {0}
 
 below_shape : (n : ℕ) (exit : Exit) → (GoesBelow n exit → BelowShape n (exit_shape exit)) × (BelowShape n (exit_shape exit) → GoesBelow n exit)
 below_shape n (Goto t) = (λ h. h, λ h. h)
-below_shape n (BranchPair x a b t e) = (λ h. h, λ h. h)
-below_shape n (BranchZero x a t e) = (λ h. h, λ h. h)
-below_shape n (Call f m) = (λ h. h, λ h. h)
-below_shape n Return = (λ h. h, λ h. h)
-below_shape n (Out m) = (λ h. h, λ h. h)
-below_shape n Halt = (λ h. h, λ h. h)
+below_shape n _ = (λ h. h, λ h. h)
 
 abbrev OwnShape : (ℕ → ℕ) → ℕ → Shape → Type 0
-OwnShape owner k (Goes t) = Unit {0}
 OwnShape owner k (ChoosesPair x t e) = owner t ≡ owner k
 OwnShape owner k (ChoosesZero x t e) = owner t ≡ owner k
-OwnShape owner k (Calls f m) = Unit {0}
-OwnShape owner k Returns = Unit {0}
-OwnShape owner k (Prints m) = Unit {0}
-OwnShape owner k Halts = Unit {0}
+OwnShape owner k _ = Unit {0}
 
 read_at : (xs : List ℕ) (i x : ℕ) → slice_get xs i ≡ Some x → slice_index xs i ≡ x
 read_at [] i x e = absurd (none-some x e)
@@ -65,22 +55,13 @@ read_at (y ∷ xs) (suc i) x e = read_at xs i x e
 
 branches_within : (owner : List ℕ) (k o : ℕ) (exit : Exit) → slice_get owner k ≡ Some o → BranchesWithin owner o exit
     → OwnShape (slice_index owner) k (exit_shape exit)
-branches_within owner k o (Goto t) at h = tt
 branches_within owner k o (BranchPair x a b t e) at h = read_at owner t o h.0 ∙ sym (read_at owner k o at)
 branches_within owner k o (BranchZero x a t e) at h = read_at owner t o h.0 ∙ sym (read_at owner k o at)
-branches_within owner k o (Call f m) at h = tt
-branches_within owner k o Return at h = tt
-branches_within owner k o (Out m) at h = tt
-branches_within owner k o Halt at h = tt
+branches_within owner k o _ at h = tt
 
 is_own : (owner : ℕ → ℕ) (k : ℕ) (exit : Exit) → OwnShape owner k (exit_shape exit) → IsOwn owner k exit
 is_own owner k (Goto t) h = h
-is_own owner k (BranchPair x a b t e) h = h
-is_own owner k (BranchZero x a t e) h = h
-is_own owner k (Call f m) h = h
-is_own owner k Return h = h
-is_own owner k (Out m) h = h
-is_own owner k Halt h = h
+is_own owner k _ h = h
 
 -- ---- units
 
@@ -131,12 +112,7 @@ insts_length start (x ∷ rest) here fits =
 
 two_words : (exit : Exit) → 2 ≤ exit_size exit
 two_words (Goto t) = omega arith
-two_words (BranchPair x a b t e) = omega arith
-two_words (BranchZero x a t e) = omega arith
-two_words (Call f m) = omega arith
-two_words Return = omega arith
-two_words (Out m) = omega arith
-two_words Halt = omega arith
+two_words _ = omega arith
 
 some_words : (os : List OrderParts) → 0 < length os → 1 ≤ place os (length os)
 some_words os lt =

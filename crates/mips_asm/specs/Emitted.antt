@@ -4,7 +4,7 @@ use Rattle.std.specs.List.{AllByRecursion}
 use Rattle.mips_isa.specs.declared.inst.Inst.{Inst}
 use Rattle.mips_isa.specs.Ranges.{IsInst}
 use Rattle.mblock.specs.declared.exit.Exit.{Exit}
-use Rattle.mblock.specs.declared.exit.Exit.TheVariants.{Goto, BranchPair, BranchZero, Call, Return, Out, Halt}
+use Rattle.mblock.specs.declared.exit.Exit.TheVariants.{BranchPair, BranchZero}
 use Rattle.mblock.specs.declared.limits.TheConstants.{UNIT_BLOCKS}
 use Rattle.mblock.specs.Parts.{OrderParts}
 use Rattle.mblock.specs.Units.{GoesBelow}
@@ -31,13 +31,9 @@ AllThere orders = (k : ℕ) (o : OrderParts) → slice_get orders k ≡ Some o �
 
 -- the place that a branch takes is near enough for its 16 bits
 abbrev pub IsNear : (ℕ → ℕ) → ℕ → Exit → Type 0
-IsNear start here (Goto t) = Unit {0}
 IsNear start here (BranchPair test a b t e) = FitsSigned w16 (branch_offset here (start t))
 IsNear start here (BranchZero test a t e) = FitsSigned w16 (branch_offset here (start t))
-IsNear start here (Call f m) = Unit {0}
-IsNear start here Return = Unit {0}
-IsNear start here (Out m) = Unit {0}
-IsNear start here Halt = Unit {0}
+IsNear start here _ = Unit {0}
 
 -- and so is that of each order
 abbrev pub AllNear : (ℕ → ℕ) → List OrderParts → Type 0
@@ -45,13 +41,9 @@ AllNear start orders = (k : ℕ) (o : OrderParts) → slice_get orders k ≡ Som
 
 -- a branch takes a block of its function
 abbrev pub IsOwn : (ℕ → ℕ) → ℕ → Exit → Type 0
-IsOwn owner k (Goto t) = Unit {0}
 IsOwn owner k (BranchPair test a b t e) = owner t ≡ owner k
 IsOwn owner k (BranchZero test a t e) = owner t ≡ owner k
-IsOwn owner k (Call f m) = Unit {0}
-IsOwn owner k Return = Unit {0}
-IsOwn owner k (Out m) = Unit {0}
-IsOwn owner k Halt = Unit {0}
+IsOwn owner k _ = Unit {0}
 
 -- a unit's orders: functions one after the other, targets that are there, branches within their function
 pub record AreUnits (owner : ℕ → ℕ) (orders : List OrderParts) : Type 0 where

@@ -1,24 +1,13 @@
 -- The word of an instruction is below 2 ^ 32.
 use Rattle.std.proofs.Common.{ℕ, ◌^◌, ◌<◌, List, [], ◌∷◌, map, All, arith}
-use Rattle.std.specs.Prelude.{FitsSigned, ℤ}
-use Rattle.std.specs.Int.{w16}
 use Rattle.std.specs.List.{AllByRecursion}
-use Rattle.std.proofs.lemmas.Int.{ints}
 use Rattle.std.proofs.lemmas.List.Elements.{All-from_recursion, recursion_from_All}
-use Rattle.words.specs.declared.sign.Sign.TheVariants.{Signed, Unsigned}
-use Rattle.words.specs.declared.width.Width.TheVariants.{Word, Byte}
-use Rattle.mips_isa.specs.declared.inst.ShiftOp.TheVariants.{Sll, Srl, Sra}
-use Rattle.mips_isa.specs.declared.inst.AluOp.TheVariants.{Addu, Subu, And, Or, Xor, Nor, Slt, Sltu}
-use Rattle.mips_isa.specs.declared.inst.ImmOp.TheVariants.{Addiu, Slti, Sltiu}
-use Rattle.mips_isa.specs.declared.inst.LogicOp.TheVariants.{Andi, Ori, Xori}
-use Rattle.mips_isa.specs.declared.inst.HiLo.TheVariants.{Hi, Lo}
-use Rattle.mips_isa.specs.declared.inst.PairTest.TheVariants.{Equal, NotEqual}
 use Rattle.mips_isa.specs.declared.inst.ZeroTest.TheVariants.{AtMostZero, AboveZero, BelowZero, AtLeastZero}
-use Rattle.mips_isa.specs.declared.inst.JumpOp.TheVariants.{Jump, JumpAndLink}
+use Rattle.mips_isa.specs.declared.inst.JumpOp.TheVariants.{Jump}
 use Rattle.mips_isa.specs.declared.inst.Plain.{Plain}
 use Rattle.mips_isa.specs.declared.inst.Plain.TheVariants.{Shift, ShiftBy, Alu, Imm, Logic, LoadUpper, MoveFrom, Multiply, Divide, Load, Store}
 use Rattle.mips_isa.specs.declared.inst.Control.{Control}
-use Rattle.mips_isa.specs.declared.inst.Control.TheVariants.{BranchPair, BranchZero, JumpTo, JumpRegister, SystemCall}
+use Rattle.mips_isa.specs.declared.inst.Control.TheVariants.{BranchPair, BranchZero, JumpTo, JumpRegister}
 use Rattle.mips_isa.specs.declared.inst.Inst.{Inst}
 use Rattle.mips_isa.specs.declared.inst.Inst.TheVariants as insts
 use Rattle.mips_isa.specs.Ranges.{IsPlain, IsControl, IsInst}
@@ -76,9 +65,8 @@ control_below (BranchZero test rs offset) h =
     (λ o. zero_field o < 32)
     [ AtMostZero ↦ omega arith | AboveZero ↦ omega arith | BelowZero ↦ omega arith | AtLeastZero ↦ omega arith ]) (half-fits offset h.1)
 control_below (JumpTo Jump target) h = omega arith
-control_below (JumpTo JumpAndLink target) h = omega arith
 control_below (JumpRegister rs) h = register_below rs 0 0 0 8 h (omega arith) (omega arith) (omega arith) (omega arith)
-control_below SystemCall h = omega arith
+control_below _ h = omega arith
 
 pub word_below : (i : Inst) → IsInst i → inst_word i < 2 ^ 32
 word_below (insts.Plain i) h = plain_below i h

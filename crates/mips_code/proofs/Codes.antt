@@ -8,13 +8,13 @@ use Rattle.words.specs.declared.sign.Sign.TheVariants.{Signed, Unsigned}
 use Rattle.words.specs.declared.width.Width.{Width}
 use Rattle.words.specs.declared.width.Width.TheVariants.{Word, Byte}
 use Rattle.mips_isa.specs.declared.inst.ShiftOp.{ShiftOp}
-use Rattle.mips_isa.specs.declared.inst.ShiftOp.TheVariants.{Sll, Srl, Sra}
+use Rattle.mips_isa.specs.declared.inst.ShiftOp.TheVariants.{Sll}
 use Rattle.mips_isa.specs.declared.inst.AluOp.{AluOp}
-use Rattle.mips_isa.specs.declared.inst.AluOp.TheVariants.{Addu, Subu, And, Or, Xor, Nor, Slt, Sltu}
+use Rattle.mips_isa.specs.declared.inst.AluOp.TheVariants.{Addu}
 use Rattle.mips_isa.specs.declared.inst.ImmOp.{ImmOp}
-use Rattle.mips_isa.specs.declared.inst.ImmOp.TheVariants.{Addiu, Slti, Sltiu}
+use Rattle.mips_isa.specs.declared.inst.ImmOp.TheVariants.{Addiu}
 use Rattle.mips_isa.specs.declared.inst.LogicOp.{LogicOp}
-use Rattle.mips_isa.specs.declared.inst.LogicOp.TheVariants.{Andi, Ori, Xori}
+use Rattle.mips_isa.specs.declared.inst.LogicOp.TheVariants.{Andi}
 use Rattle.mips_isa.specs.declared.inst.HiLo.{HiLo}
 use Rattle.mips_isa.specs.declared.inst.HiLo.TheVariants.{Hi, Lo}
 use Rattle.mips_isa.specs.declared.inst.PairTest.{PairTest}
@@ -26,33 +26,23 @@ use Rattle.mips_code.specs.Words.{load_code, store_code, pair_code, jump_code}
 
 pub shift-fits : (o : ShiftOp) → shift_code o < 64
 shift-fits Sll = omega arith
-shift-fits Srl = omega arith
-shift-fits Sra = omega arith
+shift-fits _ = omega arith
 
 pub shift_by-fits : (o : ShiftOp) → shift_by_code o < 64
 shift_by-fits Sll = omega arith
-shift_by-fits Srl = omega arith
-shift_by-fits Sra = omega arith
+shift_by-fits _ = omega arith
 
 pub alu-fits : (o : AluOp) → alu_code o < 64
 alu-fits Addu = omega arith
-alu-fits Subu = omega arith
-alu-fits And = omega arith
-alu-fits Or = omega arith
-alu-fits Xor = omega arith
-alu-fits Nor = omega arith
-alu-fits Slt = omega arith
-alu-fits Sltu = omega arith
+alu-fits _ = omega arith
 
 pub imm-fits : (o : ImmOp) → imm_code o < 64
 imm-fits Addiu = omega arith
-imm-fits Slti = omega arith
-imm-fits Sltiu = omega arith
+imm-fits _ = omega arith
 
 pub logic-fits : (o : LogicOp) → logic_code o < 64
 logic-fits Andi = omega arith
-logic-fits Ori = omega arith
-logic-fits Xori = omega arith
+logic-fits _ = omega arith
 
 pub move-fits : (o : HiLo) → move_code o < 64
 move-fits Hi = omega arith

@@ -15,15 +15,15 @@ use Rattle.mips_isa.specs.declared.inst.Plain.{Plain}
 use Rattle.mips_isa.specs.States.{State, read}
 use Rattle.mips_isa.specs.Controls.{pair_passes, zero_passes}
 use Rattle.rtl.specs.declared.operator.Op.{Op}
-use Rattle.rtl.specs.declared.operator.Op.TheVariants.{Add, Sub, Mul, DivS, DivU, RemS, RemU, And, Or, Xor, Shl, ShrU, ShrS, Eq, Ne, LtS, LtU, LeS, LeU}
+use Rattle.rtl.specs.declared.operator.Op.TheVariants.{Eq, Ne, LtS, LtU, LeS, LeU}
 use Rattle.rtl.specs.declared.instruction.RInst.{RInst}
-use Rattle.rtl.specs.declared.instruction.RInst.TheVariants.{Const, Move, Bin, Load, Store}
+use Rattle.rtl.specs.declared.instruction.RInst.TheVariants.{Bin}
 use Rattle.rtl.specs.declared.block.RGlobal.{RGlobal}
 use Rattle.rtl.specs.Operators.{truth_word, op_result}
 use Rattle.rtl.proofs.Results.{result-word}
 use Rattle.mips_homes.specs.HomedRun.{cells, is_callee_saved, in_home, Run, Failed, with_value, write_at, read_home, with_inst}
 use Rattle.mips_homes.specs.declared.homed.Home.{Home}
-use Rattle.mips_homes.specs.declared.homed.Home.TheVariants.{Reg, Slot, Copied}
+use Rattle.mips_homes.specs.declared.homed.Home.TheVariants.{Reg}
 use Rattle.mips_emit.specs.declared.location.Source.{Source}
 use Rattle.mips_emit.specs.declared.comparison.Form.{Form}
 use Rattle.mips_emit.specs.declared.comparison.Form.TheVariants.{Known, OnPair, OnLeft, OnRight, ByResult, ByOpposite, InResult}
@@ -84,14 +84,11 @@ not_true false e = refl
 -- what is one with an exit is what the exit asks for, in the form that it has there
 asked_for : (at : Locations) (facts : Facts) (asked : Asked) (i : RInst) (m : Comparison) → comparison_of at facts asked i ≡ Some m
     → (is_asked asked m.result ≡ true) × (form_for asked m.op m.left.known m.right.known ≡ Some m.form)
-asked_for at facts asked (Const d w) m e = absurd (none-some m e)
-asked_for at facts asked (Move d a) m e = absurd (none-some m e)
-asked_for at facts asked (Load d a i) m e = absurd (none-some m e)
-asked_for at facts asked (Store a i b) m e = absurd (none-some m e)
 asked_for at facts asked (Bin op d a b) m e = go (is_asked asked d && is_caller_saved (at d)) refl e
   where
     l : Operand
     l = operand_with at facts a
+asked_for at facts asked _ m e = absurd (none-some m e)
 
     r : Operand
     r = operand_with at facts b
@@ -264,19 +261,7 @@ module _ (most total : ℕ) (gs : List RGlobal) (starts : ℕ → ℕ) where
       decides LtU form is e = subst (Given LtU) (same_Some _ form is) (less e (is_immediate LeU k))
       decides LeS form is e = subst (Given LeS) (same_Some _ form is) (signed_at_most e (is_known_zero l) (is_known_zero k) (not (is_immediate LeS l)) refl refl)
       decides LeU form is e = subst (Given LeU) (same_Some _ form is) (at_most e (not (is_immediate LeU l)))
-      decides Add form is e = absurd (none-some form is)
-      decides Sub form is e = absurd (none-some form is)
-      decides Mul form is e = absurd (none-some form is)
-      decides DivS form is e = absurd (none-some form is)
-      decides DivU form is e = absurd (none-some form is)
-      decides RemS form is e = absurd (none-some form is)
-      decides RemU form is e = absurd (none-some form is)
-      decides And form is e = absurd (none-some form is)
-      decides Or form is e = absurd (none-some form is)
-      decides Xor form is e = absurd (none-some form is)
-      decides Shl form is e = absurd (none-some form is)
-      decides ShrU form is e = absurd (none-some form is)
-      decides ShrS form is e = absurd (none-some form is)
+      decides _ form is e = absurd (none-some form is)
 
       -- both are known, and so is the truth
       known : (op : Op) (b : Bool) → b ≡ not (nat_eq u 0) → Given op (Known b)
@@ -351,9 +336,6 @@ module _ (most total : ℕ) (gs : List RGlobal) (starts : ℕ → ℕ) where
             (operand_with (slice_get top.homes) facts b)) form (operand (slice_get top.homes) facts a) (operand (slice_get top.homes) facts b) u
             → (o : Option Home) → slice_get top.homes d ≡ o → is_caller_saved o ≡ true
             → P (with_value o out (λ h. write_at h registers top.slots u (λ r s. go r s g)))
-        write u below z None at passes_by = absurd (true≢false (sym passes_by))
-        write u below z (Some (Slot j)) at passes_by = absurd (true≢false (sym passes_by))
-        write u below z (Some (Copied r j)) at passes_by = absurd (true≢false (sym passes_by))
         write u below z (Some (Reg q)) at passes_by =
             let there : read_home top.homes (places_with registers q (Some u)) top.slots d ≡ Some u =
             ap (λ o. chain o (in_home (places_with registers q (Some u)) top.slots)) at ∙ ap (λ b. if b then Some u else registers q) (eq-eqb q q refl) in
@@ -370,21 +352,19 @@ module _ (most total : ℕ) (gs : List RGlobal) (starts : ℕ → ℕ) where
                   subst (λ (n : Comparison). is_result n.form ≡ true → read_home top.homes (places_with registers q (Some u)) top.slots n.result ≡ Some c → (z.to).regs 2 ≡ c)
                   (same_Some m n same) (λ it here. z.result it ∙ same_Some u c (sym there ∙ here)) is_it holds;
             })
+        write u below z _ at passes_by = absurd (true≢false (sym passes_by))
 
     pub compares : (i : RInst) (facts : Facts) (asked : Asked) (m : Comparison) (registers : Places) (top : Stored) (s : State)
         (go : Places → Places → Arrays → Run) → comparison_of (slice_get top.homes) facts asked i ≡ Some m
         → AreFrameHomes top.homes top.count → IsKnown (known_in facts) top.homes registers top.slots → AreDeferred facts.deferred registers
         → Stands most total gs starts (hide facts.deferred registers) g (top ∷ fs) s → Leaves facts registers top s go m
         → P (with_inst gs i (cells top.homes registers top.slots) g out go)
-    compares (Const d w) facts asked m registers top s go e ok k lz h f = absurd (none-some m e)
-    compares (Move d a) facts asked m registers top s go e ok k lz h f = absurd (none-some m e)
-    compares (Load d a i) facts asked m registers top s go e ok k lz h f = absurd (none-some m e)
-    compares (Store a i b) facts asked m registers top s go e ok k lz h f = absurd (none-some m e)
     compares (Bin op d a b) facts asked m registers top s go e ok k lz h f =
         go1 (is_asked asked d && is_caller_saved (slice_get top.homes d)) refl e
       where
         Goal : Type 0
         Goal = P (with_inst gs (Bin op d a b) (cells top.homes registers top.slots) g out go)
+    compares _ facts asked m registers top s go e ok k lz h f = absurd (none-some m e)
 
         go2 : is_caller_saved (slice_get top.homes d) ≡ true → (o : Option Form) → form_for asked op (known_in facts a) (known_in facts b) ≡ o
             → operator_comparison d op (operand_with (slice_get top.homes) facts a) (operand_with (slice_get top.homes) facts b) o ≡ Some m → Goal

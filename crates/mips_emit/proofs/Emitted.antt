@@ -5,7 +5,7 @@ use Rattle.std.specs.Prelude.{if◌then◌else◌}
 use Rattle.std.proofs.lemmas.List.{append_assoc, at_drop_more}
 use Rattle.mips_isa.specs.declared.inst.Plain.{Plain}
 use Rattle.rtl.specs.declared.instruction.RInst.{RInst}
-use Rattle.rtl.specs.declared.instruction.RInst.TheVariants.{Const, Move, Bin, Load, Store}
+use Rattle.rtl.specs.declared.instruction.RInst.TheVariants.{Const}
 use Rattle.mips_emit.specs.declared.facts.Last.{Last}
 use Rattle.mips_emit.specs.declared.comparison.Comparison.{Comparison}
 use Rattle.mips_emit.specs.declared.comparison.Asked.{Asked}
@@ -79,10 +79,7 @@ insts_step c asked asks i left insts d m fresh facts facts' all_facts last last'
 -- no instruction before others is a comparison
 pub none_asked : (at : Locations) (facts : Facts) (i : RInst) → None ≡ comparison_of at facts Nothing i
 none_asked at facts (Const d w) = refl
-none_asked at facts (Move d a) = refl
-none_asked at facts (Bin op d a b) = refl
-none_asked at facts (Load d a i) = refl
-none_asked at facts (Store a i b) = refl
+none_asked at facts _ = refl
 
 -- what an exit can use is of the last of them alone
 last_free : (at : Locations) (asked : Asked) (facts : Facts) (is : List RInst) (last other : Last) → 0 < length is

@@ -34,13 +34,13 @@ use Rattle.mips_emit.specs.declared.location.Source.TheVariants.{Zero, Word, Fro
 use Rattle.mips_emit.specs.declared.facts.Fact.{Fact}
 use Rattle.mips_emit.specs.Frames.{AreFrameHomes}
 use Rattle.mips_emit.specs.Locations.{Facts, known_of, known_in, with_fact, learned}
-use Rattle.mips_emit.specs.Locations.{last_of, inner_of, word_source, operand, index_register, index_of, kept_with}
+use Rattle.mips_emit.specs.Locations.{last_of, inner_of, operand, index_register, index_of, kept_with}
 use Rattle.mips_emit.specs.declared.facts.Kept.{Kept}
 use Rattle.mips_emit.specs.declared.element.Reach.{Reach}
 use Rattle.mips_emit.specs.declared.element.Reach.TheVariants.{ByPointer, ByScratch, ByKept, ByNew}
 use Rattle.mips_emit.specs.declared.offset.Offset.{Offset}
 use Rattle.mips_emit.specs.Offsets.{addend, offset_from, offset_of, sum_offset, or_offset, offset_past, offset_in, index_with}
-use Rattle.rtl.specs.declared.operator.Op.TheVariants.{Add, Sub, Mul, DivS, DivU, RemS, RemU, And, Or, Xor, Shl, ShrU, ShrS, Eq, Ne, LtS, LtU, LeS, LeU}
+use Rattle.rtl.specs.declared.operator.Op.TheVariants.{Add, Sub}
 use Rattle.std.proofs.lemmas.Bool.{eqb-false}
 use Rattle.mips_emit.specs.Elements.{width_of, width_bytes, element_place, place_in, address_of_place, data_middle, near, base_code}
 use Rattle.mips_emit.specs.Elements.{base_offset, base_word, shares_base, base_index, shifted_offset, reach_by, element_base, element_offset}
@@ -107,13 +107,6 @@ into_target hs count x ok = go (slice_get hs x) refl
     go (Some (Slot k)) e = inner_target (Some (Slot k))
     go (Some (Copied r k)) e = (let range = (ok.copied).range x r k e in record { low = omega (arith, range.0); high = omega (arith, range.1) })
 
-word_means : (count w v : ℕ) (s : State) → w ≡ v → w < 2 ^ 32 → Denotes count s (word_source w) v
-word_means count w v s e lt = go (nat_eq w 0) refl
-  where
-    go : (b : Bool) → nat_eq w 0 ≡ b → Denotes count s (if b then Zero else Word w) v
-    go true t = sym e ∙ eqb-true w 0 t
-    go false t = (e, lt)
-
 pub and_first : (a b : Bool) → (a && b) ≡ true → a ≡ true
 and_first true b e = refl
 and_first false b e = absurd (true≢false (sym e))
@@ -124,11 +117,9 @@ and_second false b e = absurd (true≢false (sym e))
 
 -- an operand away from the lower registers isn't shown by register 2
 operand_register_apart : (x : Source) → IsAway x → operand_register 1 x ≢ 2
-operand_register_apart Zero away = λ e. absurd (omega (arith, e))
-operand_register_apart (Word w) away = λ e. absurd (omega (arith, e))
 operand_register_apart (From (Reg r)) away = λ e. absurd (omega (arith, e, away.0))
-operand_register_apart (From (Slot k)) away = λ e. absurd (omega (arith, e))
 operand_register_apart (From (Copied r k)) away = λ e. absurd (omega (arith, e, away.0))
+operand_register_apart _ away = λ e. absurd (omega (arith, e))
 
 -- what an operator with a known word adds
 difference : (v w : ℕ) → wrap (v + (2 ^ 32 - w)) ≡ wrap (v + wrap (2 ^ 32 - w))
@@ -137,30 +128,12 @@ difference v w = omega arith
 sums_to : (op : Op) (v w u c : ℕ) → op_result op v w ≡ Some u → addend op w ≡ Some c → u ≡ wrap (v + c)
 sums_to Add v w u c e is = sym (same_Some (wrap (v + w)) u e) ∙ ap (λ c. wrap (v + c)) (same_Some w c is)
 sums_to Sub v w u c e is = sym (same_Some (wrap (v + (2 ^ 32 - w))) u e) ∙ difference v w ∙ ap (λ c. wrap (v + c)) (same_Some (wrap (2 ^ 32 - w)) c is)
-sums_to Mul v w u c e is = absurd (none-some c is)
-sums_to DivS v w u c e is = absurd (none-some c is)
-sums_to DivU v w u c e is = absurd (none-some c is)
-sums_to RemS v w u c e is = absurd (none-some c is)
-sums_to RemU v w u c e is = absurd (none-some c is)
-sums_to And v w u c e is = absurd (none-some c is)
-sums_to Or v w u c e is = absurd (none-some c is)
-sums_to Xor v w u c e is = absurd (none-some c is)
-sums_to Shl v w u c e is = absurd (none-some c is)
-sums_to ShrU v w u c e is = absurd (none-some c is)
-sums_to ShrS v w u c e is = absurd (none-some c is)
-sums_to Eq v w u c e is = absurd (none-some c is)
-sums_to Ne v w u c e is = absurd (none-some c is)
-sums_to LtS v w u c e is = absurd (none-some c is)
-sums_to LtU v w u c e is = absurd (none-some c is)
-sums_to LeS v w u c e is = absurd (none-some c is)
-sums_to LeU v w u c e is = absurd (none-some c is)
+sums_to _ v w u c e is = absurd (none-some c is)
 
 -- a register that is a home
 abbrev IsRegister : Option Home → Type 0
-IsRegister None = Unit {0}
 IsRegister (Some (Reg r)) = (4 ≤ r) × (r < 28)
-IsRegister (Some (Slot k)) = Unit {0}
-IsRegister (Some (Copied r k)) = Unit {0}
+IsRegister _ = Unit {0}
 
 home_register : (hs : List Home) (count x : ℕ) → AreFrameHomes hs count → IsRegister (slice_get hs x)
 home_register hs count x ok = go (slice_get hs x) refl

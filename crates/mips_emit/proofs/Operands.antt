@@ -157,8 +157,7 @@ known_register known hs count registers slots x r v o ok there is h = record { b
 -- what a home holds is in its cell
 pub in_cell : (registers slots : Places) (h : Home) → in_home registers slots h ≡ in_home registers slots (cell h)
 in_cell registers slots (Reg r) = refl
-in_cell registers slots (Slot k) = refl
-in_cell registers slots (Copied r k) = refl
+in_cell registers slots _ = refl
 
 pub known_slot : (known : Places) (hs : List Home) (count : ℕ) (registers slots : Places) (x k v : ℕ) (o : Option ℕ) (h : Home) → AreFrameHomes hs count
     → slice_get hs x ≡ Some h → cell h ≡ Slot k → ((w : ℕ) → o ≡ Some w → w ≡ v) → IsKnown known hs registers slots
@@ -245,17 +244,14 @@ Denotes count s (From (Slot k)) v = (k < count) × (word_at s (s.regs 29 + 4 * k
 -- an operand that is in no register but one of homes and copies
 abbrev pub IsAway : Source → Type 0
 IsAway (From (Reg r)) = (4 ≤ r) × (r < 28)
-IsAway (From (Slot k)) = Unit {0}
 IsAway (From (Copied r k)) = (4 ≤ r) × (r < 28)
-IsAway Zero = Unit {0}
-IsAway (Word w) = Unit {0}
+IsAway _ = Unit {0}
 
 pub operand_register_kept : (x : Source) (t u : ℕ) (f f' : ℕ → ℕ) → IsAway x → t ≢ u → u < 4 → ((r : ℕ) → r ≢ u → f' r ≡ f r) → read 0 f' (operand_register t x) ≡ read 0 f (operand_register t x)
 operand_register_kept Zero t u f f' away ne low same = refl
-operand_register_kept (Word w) t u f f' away ne low same = read_other f f' t (λ _. same t ne)
 operand_register_kept (From (Reg r)) t u f f' away ne low same = read_other f f' r (λ _. same r (omega (arith, away.0, low)))
 operand_register_kept (From (Copied r k)) t u f f' away ne low same = read_other f f' r (λ _. same r (omega (arith, away.0, low)))
-operand_register_kept (From (Slot k)) t u f f' away ne low same = read_other f f' t (λ _. same t ne)
+operand_register_kept _ t u f f' away ne low same = read_other f f' t (λ _. same t ne)
 
 pub longer : (a b : List Plain) → 1 ≤ length a → 1 ≤ length (a ++ b)
 longer a b h = omega (arith, h, length-append a b)
@@ -277,34 +273,28 @@ li_some t w = go (is_small w) (nat_lt' w) (nat_eq (w % 65536) 0)
     go false false false = omega arith
 
 pub bring_some : (t : ℕ) (x : Source) → 1 ≤ length (bring t x)
-bring_some t Zero = omega arith
 bring_some t (Word w) = li_some t w
 bring_some t (From (Reg r)) = omega arith
-bring_some t (From (Slot k)) = omega arith
-bring_some t (From (Copied r k)) = omega arith
+bring_some t _ = omega arith
 
 -- an operand that isn't in register t, and what it means after a write of that
 abbrev pub IsApart : ℕ → Source → Type 0
 IsApart t (From (Reg r)) = r ≢ t
-IsApart t (From (Slot k)) = Unit {0}
 IsApart t (From (Copied r k)) = r ≢ t
-IsApart t Zero = Unit {0}
-IsApart t (Word w) = Unit {0}
+IsApart t _ = Unit {0}
 
 pub denotes_kept : (count t v : ℕ) (x : Source) (s : State) (f : ℕ → ℕ) → t ≢ 29 → IsApart t x → ((q : ℕ) → q ≢ t → f q ≡ s.regs q)
     → Denotes count s x v → Denotes count (record s { regs = f }) x v
-denotes_kept count t v Zero s f ne apart same d = d
-denotes_kept count t v (Word w) s f ne apart same d = d
 denotes_kept count t v (From (Reg r)) s f ne apart same d = read_other s.regs f r (λ _. same r apart) ∙ d
 denotes_kept count t v (From (Copied r k)) s f ne apart same d = read_other s.regs f r (λ _. same r apart) ∙ d
 denotes_kept count t v (From (Slot k)) s f ne apart same d = (d.0, ap (λ p. word_at s (p + 4 * k)) (same 29 (λ e. ne (sym e))) ∙ d.1)
+denotes_kept count t v _ s f ne apart same d = d
 
 -- a register that isn't the home itself
 abbrev pub IsElsewhere : Option Home → ℕ → Type 0
-IsElsewhere None q = Unit {0}
 IsElsewhere (Some (Reg r)) q = q ≢ r
-IsElsewhere (Some (Slot k)) q = Unit {0}
 IsElsewhere (Some (Copied r k)) q = q ≢ r
+IsElsewhere _ q = Unit {0}
 
 -- ---- the base that is kept
 
@@ -340,10 +330,8 @@ pub record Keeps (l : Option Home) (f f' : ℕ → ℕ) : Type 0 where
 
 -- what a write leaves in a register
 abbrev pub Holds : Option Home → (ℕ → ℕ) → ℕ → Type 0
-Holds None f v = Unit {0}
 Holds (Some (Reg r)) f v = f r ≡ v
-Holds (Some (Slot k)) f v = Unit {0}
-Holds (Some (Copied r k)) f v = Unit {0}
+Holds _ f v = Unit {0}
 
 -- it is one of this global and this index
 pub kept_here : (gs : List RGlobal) (starts : ℕ → ℕ) (a : ℕ) (o : Offset) (f : ℕ → ℕ) → 4 ≤ o.register → 4 ≤ o.base
@@ -518,8 +506,7 @@ frame_homes most f ok = ok.homes
 -- homes within reach of the stack pointer
 home_fits : (slots : ℕ) (h : Home) → 4 * slots ≤ FRAME_BYTES → IsHome slots h → FitsHome h
 home_fits slots (Reg r) few ok = tt
-home_fits slots (Slot k) few ok = omega (arith, few, ok)
-home_fits slots (Copied r k) few ok = omega (arith, few, ok)
+home_fits slots _ few ok = omega (arith, few, ok)
 
 pub place_fits : (f : Frame) → IsReachable f → (x : ℕ) → FitsPlace (slice_get f.homes.items x)
 place_fits f ok x = by (slice_get f.homes.items x) refl

@@ -287,19 +287,8 @@ symmetric Or v w e = ap Some (or_comm v w)
 symmetric Xor v w e = ap Some (xor_comm v w)
 symmetric Eq v w e = ap (λ b. Some (truth_word b)) (turned v w)
 symmetric Ne v w e = ap (λ b. Some (truth_word (not b))) (turned v w)
-symmetric Sub v w e = absurd (true≢false (sym e))
 symmetric Mul v w e = ap (λ n. Some (wrap n)) (turned_product v w)
-symmetric DivS v w e = absurd (true≢false (sym e))
-symmetric DivU v w e = absurd (true≢false (sym e))
-symmetric RemS v w e = absurd (true≢false (sym e))
-symmetric RemU v w e = absurd (true≢false (sym e))
-symmetric Shl v w e = absurd (true≢false (sym e))
-symmetric ShrU v w e = absurd (true≢false (sym e))
-symmetric ShrS v w e = absurd (true≢false (sym e))
-symmetric LtS v w e = absurd (true≢false (sym e))
-symmetric LtU v w e = absurd (true≢false (sym e))
-symmetric LeS v w e = absurd (true≢false (sym e))
-symmetric LeU v w e = absurd (true≢false (sym e))
+symmetric _ v w e = absurd (true≢false (sym e))
 
 -- ---- with a word in the instruction
 
@@ -433,8 +422,6 @@ module _ (s : State) (d q c v u : ℕ) (i : Plain) (ok : IsTarget d) (left : rea
       (ap (op_value operators.Sltu 0) left ∙ is_some v ∙ ap (λ c. truth_word (not (v == c))) (sym zero_is) ∙ same_Some (truth_word (not (v == c))) u e))
   immediate_gives LtS is e = small_gives Slti is e
   immediate_gives LtU is e = small_gives Sltiu is e
-  immediate_gives DivS is e = absurd (none-some i is)
-  immediate_gives RemS is e = absurd (none-some i is)
   immediate_gives LeS is e =
       let f = if_some (is_small (next_word c)) (Imm Slti d q (half (next_word c))) i is in
       given (Imm Slti d q (half (next_word c))) f.1
@@ -471,6 +458,7 @@ module _ (s : State) (d q c v u : ℕ) (i : Plain) (ok : IsTarget d) (left : rea
           let low : bit_and v (c - 1) ≡ v % c = ap (λ n. bit_and v (n - 1)) (sym power) ∙ and_mask v (exponent c % 32) ∙ ap (λ n. v % n) power in
           given (Logic Andi d q (c - 1)) f.1
           (logic_gives Andi s d q v (c - 1) u ok left (ltb-true (c - 1) 65536 f.0) (ap Some low ∙ prefix_of (has_quotient Unsigned v c) (v % c) u e))
+  immediate_gives _ is e = absurd (none-some i is)
 
 -- a test that is turned behind
 turned_word : (b : Bool) → op_value operators.Xor (truth_word b) (wrap 1) ≡ truth_word (not b)

@@ -1,6 +1,6 @@
 -- Code of which refused memory leaves a beginning.
 use Rattle.std.proofs.Common.{◌≡◌, ℕ, suc, ◌+◌, ◌-◌, ◌<◌, inl, inr, List, ◌++◌, ◌∷◌, length, take, drop, get_or, Option, false, true, ap, ap₂, sym, subst, ◌∙◌, arith, nat_eq}
-use Rattle.std.specs.Prelude.{if◌then◌else◌, Result, Ok, Err, OnErr}
+use Rattle.std.specs.Prelude.{if◌then◌else◌, Result, Ok, Err}
 use Rattle.std.specs.Result.{IsErr}
 use Rattle.std.proofs.Common.{length-append, append_assoc}
 use Rattle.std.proofs.Math.Seq.{take-append-add}
@@ -32,18 +32,10 @@ prefix_before was now a b f = grind (arith, common_steps)
 pub prefix_among : (was mid now a b c : List Plain) → mid ≡ was ++ a → EmitsPrefix mid b now → EmitsPrefix was (a ++ (b ++ c)) now
 prefix_among was mid now a b c e f = prefix_behind was mid now a (b ++ c) e (prefix_before mid now b c f)
 
--- all of it
-pub prefix_all : (was now all : List Plain) → now ≡ was ++ all → EmitsPrefix was all now
-prefix_all was now all e = grind (arith, common_steps)
-
 -- what a call leaves that returns the Err of one that it makes
 pub at_prefix : {A E : Type 0} (r : Result A E) (was all now : List Plain) → IsErr r → EmitsPrefix was all now → Emits r was all now
 at_prefix (Ok x) was all now is_err some = let no : false ≡ true = is_err in cc
 at_prefix (Err e) was all now is_err some = some
-
-pub at_err : {A E : Type 0} (r : Result A E) {P : Type 0} → P → OnErr r P
-at_err (Ok x) p = tt
-at_err (Err e) p = p
 
 -- code in two parts
 pub in_two : (was mid now a b : List Plain) → mid ≡ was ++ a → now ≡ mid ++ b → now ≡ was ++ (a ++ b)

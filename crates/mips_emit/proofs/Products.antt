@@ -12,7 +12,7 @@ use Rattle.mips_isa.specs.declared.inst.ShiftOp.TheVariants.{Sll}
 use Rattle.mips_isa.specs.declared.inst.AluOp.TheVariants.{Addu, Subu}
 use Rattle.mips_isa.specs.Actions.{alu_operator}
 use Rattle.rtl.specs.declared.operator.Op.{Op}
-use Rattle.rtl.specs.declared.operator.Op.TheVariants.{Add, Sub, Mul, DivS, DivU, RemS, RemU, And, Or, Xor, Shl, ShrU, ShrS, Eq, Ne, LtS, LtU, LeS, LeU}
+use Rattle.rtl.specs.declared.operator.Op.TheVariants.{Mul}
 use Rattle.rtl.specs.Operators.{op_result}
 use Rattle.mips_emit.specs.declared.product.ShiftedSum.{ShiftedSum}
 use Rattle.mips_emit.specs.Code.{next_word, exponent, is_power, is_symmetric, multiple, multiple_of}
@@ -72,24 +72,7 @@ multiple_is m c v u lv lc is e = by (is_power c) (is_power (c - 1)) (is_power (n
 -- it is done for products alone
 is_product : (op : Op) (o : Option ℕ) (m : ShiftedSum) → multiple_of op o ≡ Some m → op ≡ Mul
 is_product Mul o m is = refl
-is_product Add o m is = absurd (none-some m is)
-is_product Sub o m is = absurd (none-some m is)
-is_product DivS o m is = absurd (none-some m is)
-is_product DivU o m is = absurd (none-some m is)
-is_product RemS o m is = absurd (none-some m is)
-is_product RemU o m is = absurd (none-some m is)
-is_product And o m is = absurd (none-some m is)
-is_product Or o m is = absurd (none-some m is)
-is_product Xor o m is = absurd (none-some m is)
-is_product Shl o m is = absurd (none-some m is)
-is_product ShrU o m is = absurd (none-some m is)
-is_product ShrS o m is = absurd (none-some m is)
-is_product Eq o m is = absurd (none-some m is)
-is_product Ne o m is = absurd (none-some m is)
-is_product LtS o m is = absurd (none-some m is)
-is_product LtU o m is = absurd (none-some m is)
-is_product LeS o m is = absurd (none-some m is)
-is_product LeU o m is = absurd (none-some m is)
+is_product _ o m is = absurd (none-some m is)
 
 -- of a word and one that is known
 pub multiplied : (op : Op) (o : Option ℕ) (m : ShiftedSum) (v w u : ℕ) → ((c : ℕ) → o ≡ Some c → c ≡ w) → v < 2 ^ 32 → w < 2 ^ 32 → multiple_of op o ≡ Some m

@@ -28,7 +28,5 @@ no_sum (Some (Reg t)) op (Some c) (From (Copied r k)) none = refl
 
 -- nor is one left where the right operand is no known word
 pub no_sum_of_unknown : (place : Option Home) (op : Op) (x : Source) → sum_offset place op None x ≡ None
-no_sum_of_unknown None op x = refl
 no_sum_of_unknown (Some (Reg t)) op x = refl
-no_sum_of_unknown (Some (Slot k)) op x = refl
-no_sum_of_unknown (Some (Copied r k)) op x = refl
+no_sum_of_unknown _ op x = refl

@@ -22,7 +22,7 @@ use Rattle.mips_isa.specs.Actions.{sign_extension, imm_operator, alu_operator, a
 use Rattle.mips_isa.proofs.Memory.{load_same, load-past-store}
 use Rattle.mips_isa.proofs.StateWords as words
 use Rattle.mips_homes.specs.declared.homed.Home.{Home}
-use Rattle.mips_homes.specs.declared.homed.Home.TheVariants.{Reg, Slot, Copied}
+use Rattle.mips_homes.specs.declared.homed.Home.TheVariants.{Reg}
 use Rattle.mips_emit.specs.Locations.{inner_of}
 use Rattle.mips_emit.specs.Elements.{width_bytes, address_of_place, data_middle, near, page, low, scaled, scaled_register, base_sum}
 use Rattle.mips_emit.specs.Elements.{base_code, base_offset, base_word, shifted_place, base_index, shifted_offset}
@@ -70,8 +70,7 @@ first_inner = record { low = omega arith; high = omega arith; apart = λ e. absu
 pub inner_is : (l : Option Home) → IsInner (inner_of l)
 inner_is None = first_inner
 inner_is (Some (Reg r)) = record { low = omega arith; high = omega arith; apart = λ e. absurd (omega (arith, e)) }
-inner_is (Some (Slot k)) = record { low = omega arith; high = omega arith; apart = λ e. absurd (omega (arith, e)) }
-inner_is (Some (Copied r k)) = record { low = omega arith; high = omega arith; apart = λ e. absurd (omega (arith, e)) }
+inner_is (Some _) = record { low = omega arith; high = omega arith; apart = λ e. absurd (omega (arith, e)) }
 
 pub inner_target : (l : Option Home) → IsTarget (inner_of l)
 inner_target l = (let is = inner_is l in record { low = is.low; high = omega (arith, is.high) })

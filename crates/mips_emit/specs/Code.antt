@@ -80,11 +80,9 @@ move_code t r = Alu alu.Addu t r 0
 
 -- an operand: what stands before, and the register that shows it then
 abbrev pub fetch : ℕ → Source → List Plain
-fetch t Zero = []
 fetch t (Word w) = li t w
-fetch t (From (Reg r)) = []
 fetch t (From (Slot k)) = load_word_at t (4 * k) ∷ []
-fetch t (From (Copied r k)) = []
+fetch t _ = []
 
 abbrev pub operand_register : ℕ → Source → ℕ
 operand_register t Zero = 0
@@ -103,11 +101,9 @@ bring t (From (Copied r k)) = move_code t r ∷ []
 
 -- the same, but nothing where the operand is in that register
 abbrev pub stays : ℕ → Source → Bool
-stays t Zero = false
-stays t (Word w) = false
 stays t (From (Reg r)) = nat_eq r t
-stays t (From (Slot k)) = false
 stays t (From (Copied r k)) = nat_eq r t
+stays t _ = false
 
 abbrev pub carry : ℕ → Source → List Plain
 carry t x = if stays t x then [] else bring t x

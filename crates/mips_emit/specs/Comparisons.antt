@@ -10,11 +10,11 @@ use Rattle.rtl.specs.declared.operator.Op.{Op}
 use Rattle.rtl.specs.declared.operator.Op.TheVariants.{Eq, Ne, LtS, LtU, LeS, LeU}
 use Rattle.rtl.specs.Operators.{op_result}
 use Rattle.rtl.specs.declared.instruction.RInst.{RInst}
-use Rattle.rtl.specs.declared.instruction.RInst.TheVariants.{Const, Move, Bin, Load, Store}
+use Rattle.rtl.specs.declared.instruction.RInst.TheVariants.{Bin}
 use Rattle.mips_homes.specs.declared.convention.TheConstants.{SCRATCH_1, SCRATCH_3, RESULT}
 use Rattle.mips_homes.specs.Convention.{is_callee_saved}
 use Rattle.mips_homes.specs.declared.homed.Home.{Home}
-use Rattle.mips_homes.specs.declared.homed.Home.TheVariants.{Reg, Slot, Copied}
+use Rattle.mips_homes.specs.declared.homed.Home.TheVariants.{Reg}
 use Rattle.mips_emit.specs.declared.location.Source.{Source}
 use Rattle.mips_emit.specs.declared.comparison.Form.{Form}
 use Rattle.mips_emit.specs.declared.comparison.Form.TheVariants.{Known, OnPair, OnLeft, OnRight, ByResult, ByOpposite, InResult}
@@ -125,10 +125,8 @@ form_for (Returned c) op l r = Some InResult
 
 -- a home that no other block reads
 abbrev pub is_caller_saved : Option Home → Bool
-is_caller_saved None = false
 is_caller_saved (Some (Reg r)) = not (is_callee_saved r)
-is_caller_saved (Some (Slot k)) = false
-is_caller_saved (Some (Copied r k)) = false
+is_caller_saved _ = false
 
 abbrev pub operator_comparison : ℕ → Op → (left right : Operand) → Option Form → Option Comparison
 operator_comparison d op l r None = None
@@ -136,14 +134,11 @@ operator_comparison d op l r (Some form) = Some (record { result = d; op = op; f
 
 -- an instruction that is one with the branch after it, which goes by the pseudo-register asked for
 abbrev pub comparison_of : Locations → Facts → Asked → RInst → Option Comparison
-comparison_of at facts asked (Const d w) = None
-comparison_of at facts asked (Move d a) = None
 comparison_of at facts asked (Bin op d a b) =
     if is_asked asked d && is_caller_saved (at d)
     then operator_comparison d op (operand_with at facts a) (operand_with at facts b) (form_for asked op (known_in facts a) (known_in facts b))
     else None
-comparison_of at facts asked (Load d a i) = None
-comparison_of at facts asked (Store a i b) = None
+comparison_of at facts asked _ = None
 
 abbrev pub FitsComparison : Option Comparison → Type 0
 FitsComparison None = Unit {0}

@@ -147,6 +147,4 @@ element_offset w start (ByNew q c) = shifted_offset w start c
 -- the global pointer reaches the place
 abbrev pub IsInReach : Reach → Type 0
 IsInReach (ByPointer p) = p < 65536
-IsInReach ByScratch = Unit {0}
-IsInReach (ByKept c) = Unit {0}
-IsInReach (ByNew q c) = Unit {0}
+IsInReach _ = Unit {0}

@@ -96,10 +96,8 @@ word_source w = if nat_eq w 0 then Zero else Word w
 
 -- what a home should hold but doesn't yet
 abbrev pub deferred_at : Places → Option Home → Option ℕ
-deferred_at deferred None = None
 deferred_at deferred (Some (Reg r)) = deferred r
-deferred_at deferred (Some (Slot k)) = None
-deferred_at deferred (Some (Copied r k)) = None
+deferred_at deferred _ = None
 
 abbrev pub deferred_source : Option ℕ → Source → Source
 deferred_source None x = x
@@ -199,17 +197,13 @@ no_facts = record { known = []; deferred = λ q. None; kept = None; offset = Non
 
 -- a pseudo-register in a slot, whose word is in its inner temporary when it has been written
 abbrev pub in_slot : Option Home → ℕ → Option ℕ
-in_slot None x = None
-in_slot (Some (Reg r)) x = None
 in_slot (Some (Slot k)) x = Some x
-in_slot (Some (Copied r k)) x = None
+in_slot _ x = None
 
 abbrev pub fresh_of : Locations → RInst → Option ℕ
-fresh_of at (Const d w) = None
-fresh_of at (Move d a) = None
 fresh_of at (Bin op d a b) = in_slot (at d) d
 fresh_of at (Load d a i) = in_slot (at d) d
-fresh_of at (Store a i b) = None
+fresh_of at _ = None
 
 abbrev pub last_of : Locations → Facts → RInst → Last
 last_of at facts i = record { fresh = fresh_of at i; comparison = None }

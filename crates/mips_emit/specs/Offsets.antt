@@ -34,10 +34,8 @@ offset_of t op (Some c) (From (Copied r k)) = None
 
 -- what an operator on operand x and what is known of the right one leaves in a home
 abbrev pub sum_offset : Option Home → Op → (right : Option ℕ) → Source → Option Offset
-sum_offset None op right x = None
 sum_offset (Some (Reg t)) op right x = offset_of t op right x
-sum_offset (Some (Slot k)) op right x = None
-sum_offset (Some (Copied r k)) op right x = None
+sum_offset _ op right x = None
 
 abbrev pub or_offset : Option Offset → Option Offset → Option Offset
 or_offset None old = old

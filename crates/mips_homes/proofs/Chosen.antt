@@ -204,9 +204,8 @@ home_callee_saved r low high = ap₂ (λ a b. a && b) (lt-ltb 15 r (omega (arith
 
 -- a home without a copy is its cell
 pub plain : (h : Home) → ((r k : ℕ) → h ≡ Copied r k → ⊥) → cell h ≡ h
-plain (Reg r) none = refl
-plain (Slot k) none = refl
 plain (Copied r k) none = absurd (none r k refl)
+plain _ none = refl
 
 pub plain_apart : (hs : List Home) → ((x : ℕ) (h : Home) → slice_get hs x ≡ Some h → cell h ≡ h)
     → ((x y : ℕ) (h : Home) → slice_get hs x ≡ Some h → slice_get hs y ≡ Some h → x ≡ y) → AreApart hs

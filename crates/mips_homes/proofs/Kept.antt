@@ -8,7 +8,7 @@ use Rattle.words.specs.Words.{wrap}
 use Rattle.rtl.specs.declared.block.RGlobal.{RGlobal}
 use Rattle.rtl.specs.Operators.{op_result}
 use Rattle.rtl.specs.Meaning.{code_of, kept_in, first_values}
-use Rattle.mips_homes.specs.HomedRun.{cells, around, rules, is_callee_saved, callee_saved, Activation, new_activation, Run, Running, Ended, Failed, with_value, read_home, read_homes}
+use Rattle.mips_homes.specs.HomedRun.{cells, around, rules, is_callee_saved, callee_saved, Activation, new_activation, Run, Running, Failed, with_value, read_home, read_homes}
 use Rattle.mips_homes.specs.HomedRun.{write_at, write_home, write_homes, is_in, registers_at_entry, registers_at_return, with_inst, at_code}
 use Rattle.mips_homes.specs.HomedRun.{state_at_block, with_result, state_after_return, state_after_call, state_after_exit, step_at}
 use Rattle.mips_homes.specs.HomedRun.{exit_keeping, code_keeping, step_keeping, steps_keeping, remembering_run, homed_step, homed_steps, homed_start}
@@ -44,8 +44,7 @@ AllKeep (a ∷ ws) = Keeps a × AllKeep ws
 
 abbrev pub RunKeeps : Run → Type 0
 RunKeeps (Running registers ws g out) = OnlyCalleeSaved registers × AllKeep ws
-RunKeeps (Ended v out) = Unit {0}
-RunKeeps (Failed out) = Unit {0}
+RunKeeps _ = Unit {0}
 
 value_keeps : {A : Type 0} (o : Option A) (out : List ℕ) (go : A → Run) → ((v : A) → o ≡ Some v → RunKeeps (go v)) → RunKeeps (with_value o out go)
 value_keeps None out go f = tt
@@ -185,10 +184,8 @@ module _ (h : Homed) (is : AreChoices h) where
       (e', (record { homes = k.homes; aside = k.aside }, all)))
 
   step_keeps : (depth : ℕ) (run : Run) → RunKeeps run → RunKeeps (homed_step h depth run)
-  step_keeps depth (Running r [] g out) k = tt
   step_keeps depth (Running r (a ∷ ws) g out) k = code_keeps depth a.code.insts a.code.exit a r ws g out k.1.0 k.0 k.1.1
-  step_keeps depth (Ended v out) k = tt
-  step_keeps depth (Failed out) k = tt
+  step_keeps depth _ k = tt
 
   steps_keep : (depth n : ℕ) (run : Run) → RunKeeps run → RunKeeps (homed_steps h depth n run)
   steps_keep depth zero run k = k
@@ -211,8 +208,7 @@ module _ (h : Homed) (is : AreChoices h) where
 
 forgets_nothing : (run : Run) → RunKeeps run → ForgetsNothing run
 forgets_nothing (Running r ws g out) k = k.0
-forgets_nothing (Ended v out) k = tt
-forgets_nothing (Failed out) k = tt
+forgets_nothing _ k = tt
 
 pub never_forgets : EachChoiceNeverForgets
 never_forgets h is depth n = forgets_nothing (homed_steps h depth n (homed_start h)) (steps_keep h is depth n (homed_start h) (start_keeps h is))
@@ -238,15 +234,13 @@ same_exit keep keep' h depth (Out x next) a r ws g out e = ap
     with_value (read_home a.frame.homes.items r a.slots x) out (λ v. state_at_block next a a.slots (around p ws g (out ++ v ∷ [])))) e
 
 same_step : (h : Homed) (depth : ℕ) (run : Run) → RunKeeps run → step_keeping (λ r. r) h depth run ≡ homed_step h depth run
-same_step h depth (Running r [] g out) k = refl
 same_step h depth (Running r (a ∷ ws) g out) k = code a.code.insts
   where
     code : (insts : List RInst)
         → code_keeping (rules (λ r. r) h depth) insts a.code.exit a (around r ws g out) ≡ code_keeping (rules callee_saved h depth) insts a.code.exit a (around r ws g out)
     code [] = same_exit (λ r. r) callee_saved h depth a.code.exit a r ws g out (sym k.0)
     code (i ∷ insts) = refl
-same_step h depth (Ended v out) k = refl
-same_step h depth (Failed out) k = refl
+same_step h depth _ k = refl
 
 same_steps : (h : Homed) → AreChoices h → (depth n : ℕ) (run : Run) → RunKeeps run → steps_keeping (λ r. r) h depth n run ≡ homed_steps h depth n run
 same_steps h is depth zero run k = refl

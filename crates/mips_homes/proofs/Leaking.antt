@@ -7,7 +7,7 @@ use denote.RawPtr.{null_ptr}
 use Rattle.std.specs.declared.alloc.Global.{Global}
 use Rattle.std.specs.declared.vec.Vec.{Vec}
 use Rattle.runs.specs.declared.ran.End.{End}
-use Rattle.runs.specs.declared.ran.End.TheVariants.{Done, Wrong, More}
+use Rattle.runs.specs.declared.ran.End.TheVariants.{Wrong, More}
 use Rattle.runs.specs.Runs.{Outcome}
 use Rattle.rtl.specs.Programs.{Program, IsProgram, IsFunction, IsBlock, IsInst}
 use Rattle.rtl.specs.Meaning.{rtl_run}
@@ -134,8 +134,7 @@ module _ (g : Global) where
 
       number : Home → ℕ
       number (Reg r) = r
-      number (Slot k) = 0
-      number (Copied r k) = 0
+      number _ = 0
 
       registers : (r : ℕ) → Reg 16 ≡ Reg r → ((16 ≤ r) × (r < 24)) × (is_in (16 ∷ []) r ≡ true)
       registers r e = let same : 16 ≡ r = ap number e in
@@ -174,9 +173,8 @@ module _ (g : Global) where
   remembers = refl
 
   abbrev is_more : End → Bool
-  is_more (Done s) = false
-  is_more Wrong = false
   is_more More = true
+  is_more _ = false
 
   not_the_run : KeepsRtlRuns remembering_run leaking → ⊥
   not_the_run all = absurd (true≢false (ap (λ (o : Outcome). is_more o.end) (all 2 3)))

@@ -1,9 +1,8 @@
 -- Places serve, as homes do.
 use Rattle.std.proofs.Common.{◌≡◌, ℕ, zero, suc, ◌+◌, ◌<◌, ◌≤◌, ◌⊎◌, inl, inr, Bool, true, false, ◌&&◌, List, [], ◌∷◌, ◌++◌}
-use Rattle.std.proofs.Common.{Some, refl, sym, ap, ap₂, ◌∙◌, subst, arith, length, nat_eq, nat_lt, true≢false, eqb-true, ltb-true, leb-true, eq-eqb, drop}
+use Rattle.std.proofs.Common.{Some, refl, sym, ap, ◌∙◌, subst, arith, length, nat_eq, nat_lt, true≢false, eqb-true, ltb-true, leb-true, eq-eqb}
 use Rattle.std.specs.Prelude.{if◌then◌else◌, ◌||◌, max, Option, None, nat_le, not, slice_get}
 use Rattle.std.proofs.lemmas.Bool.{and_parts, ltb-false}
-use Rattle.std.proofs.lemmas.List.{append_assoc}
 use Rattle.std.proofs.lemmas.Option.{slice_get_within, same_Some, none-some}
 use Rattle.rtl.specs.Names.{blocks_names, how_many, optional}
 use Rattle.mips_homes.specs.HomedRun.{is_in, is_callee_saved, homed_run}
@@ -15,7 +14,7 @@ use Rattle.mips_homes.specs.Preferences.{reach_from, exit_reach, blocks_reach, r
 use Rattle.mips_homes.specs.Convention.{temporaries}
 use Rattle.mips_homes.specs.Copies.{unused}
 use Rattle.mips_homes.specs.Places.{first_free, free_register, home_or, also, places_from, is_register, lives_in, still_saved, is_slot, some_slot, IsPlaced, ArePlaced}
-use Rattle.mips_homes.proofs.Choosing.{at_index, drop_at}
+use Rattle.mips_homes.proofs.Choosing.{at_index}
 use Rattle.rtl.proofs.Names.{bound_least}
 use Rattle.mips_homes.proofs.Chosen.{home_callee_saved, home_at, named_below, plain}
 use Rattle.mips_homes.proofs.Copying.{copied_get, copied_long}
@@ -28,19 +27,6 @@ use Rattle.rtl.specs.declared.block.RBlock.{RBlock}
 use Rattle.rtl.specs.declared.block.RFunc.{RFunc}
 
 -- ---- the loop over homes
-
--- one more home
-pub place_step : (local : ℕ → Bool) (preference : ℕ → Option ℕ) (hs : List Home) (x : ℕ) (taken taken' : List ℕ) (h : Home) (r : Option ℕ)
-    (out out' all : List Home) → slice_get hs x ≡ Some h → r ≡ (if local x then free_register taken (preference x) else None) → taken' ≡ also taken r
-    → out' ≡ out ++ home_or r h ∷ [] → out ++ places_from local preference x taken (drop x hs) ≡ all
-    → out' ++ places_from local preference (x + 1) taken' (drop (x + 1) hs) ≡ all
-place_step local preference hs x taken taken' h r out out' all there is more e before =
-    let next : x + 1 ≡ suc x = omega arith in
-    let chosen : Option ℕ = (if local x then free_register taken (preference x) else None) in
-    ap₂ (λ l t. l ++ places_from local preference (x + 1) t (drop (x + 1) hs)) e more
-    ∙ append_assoc out (home_or r h ∷ []) (places_from local preference (x + 1) (also taken r) (drop (x + 1) hs))
-    ∙ ap₂ (λ i c. out ++ home_or c h ∷ places_from local preference i (also taken c) (drop (x + 1) hs)) next is
-    ∙ ap (λ l. out ++ places_from local preference x taken l) (sym (drop_at hs x h there)) ∙ before
 
 -- ---- what places are
 

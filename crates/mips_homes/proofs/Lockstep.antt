@@ -75,10 +75,8 @@ named_block hs bs b block n e =
 
 -- a home that doesn't outlive a block
 abbrev pub is_caller_saved : Option Home → Bool
-is_caller_saved None = false
 is_caller_saved (Some (Reg r)) = if is_callee_saved r then false else true
-is_caller_saved (Some (Slot k)) = false
-is_caller_saved (Some (Copied r k)) = false
+is_caller_saved _ = false
 
 -- what is in such a home matters if it is wanted
 abbrev pub matters : List Home → (ℕ → Bool) → ℕ → Bool
@@ -218,8 +216,7 @@ writes hs saved blocks aside registers slots regs d v out go t wanted wanted' ok
 
     reg_other : (r : ℕ) (k : Home) → cell k ≢ Reg r → in_home (places_with registers r (Some v)) slots k ≡ in_home registers slots k
     reg_other r (Reg q) ne = other registers r (Some v) q (λ e. ne (ap Reg e))
-    reg_other r (Slot q) ne = refl
-    reg_other r (Copied p q) ne = refl
+    reg_other r _ ne = refl
 
     slot_other : (s : ℕ) (k : Home) → cell k ≢ Slot s → in_home registers (places_with slots s (Some v)) k ≡ in_home registers slots k
     slot_other s (Reg q) ne = refl
@@ -430,13 +427,12 @@ both_true false b e = absurd (true≢false (sym e))
 -- a function begins with all its homes unset
 home_unset : (hs : List Home) (saved : List ℕ) (bs : List RBlock) (registers : Places) → AreHomes hs saved bs → (x : ℕ) (h : Home)
     → slice_get hs x ≡ Some h → in_home (registers_at_entry saved (callee_saved registers)) unset_places h ≡ None
-home_unset hs saved bs registers ok x (Slot k) e = refl
-home_unset hs saved bs registers ok x (Copied r k) e = refl
 home_unset hs saved bs registers ok x (Reg r) e = by (is_callee_saved r) refl
   where
     none : (c : Bool) → (if c then None else (if false then registers r else None)) ≡ None
     none true = refl
     none false = refl
+home_unset hs saved bs registers ok x _ e = refl
 
     by : (l : Bool) → is_callee_saved r ≡ l → (if is_in saved r then None else (if is_callee_saved r then registers r else None)) ≡ None
     by true l = ap (λ c. if c then None else callee_saved registers r) (ok.kept x r e l)
@@ -567,8 +563,6 @@ code_alike h all depth (i ∷ is) exit a registers regs ws rs g out ok ag code d
     (subst (λ p. Stack p ws rs) (sym e) st))
 
 steps_alike : (h : Homed) → AreAllHomes h → (depth : ℕ) (s : Run) (t : Meaning.Run) → Alike s t → Alike (homed_step h depth s) (rtl_step (h.rtl.now) depth t)
-steps_alike h all depth (Ended v out) t m = ap (rtl_step (h.rtl.now) depth) m
-steps_alike h all depth (Failed out) t m = ap (rtl_step (h.rtl.now) depth) m
 steps_alike h all depth (Running registers [] g out) t m = empty m.0 m.1 m.2
   where
     empty : (rs : List Places) → t ≡ Runs.Running (plain [] rs) g out → Stack registers [] rs → rtl_step (h.rtl.now) depth t ≡ Runs.Failed out
@@ -581,11 +575,11 @@ steps_alike h all depth (Running registers (a ∷ ws) g out) t m = one m.0 m.1 m
     one (r ∷ rs) e st =
         subst (λ t. Alike (homed_step h depth (Running registers (a ∷ ws) g out)) (rtl_step (h.rtl.now) depth t)) (sym e)
         (code_alike h all depth a.code.insts a.code.exit a registers r ws rs g out (st.0).homes (st.0).agrees (st.0).code st.1 st.2)
+steps_alike h all depth _ t m = ap (rtl_step (h.rtl.now) depth) m
 
 same_ran : (s : Run) (t : Meaning.Run) → Alike s t → outcome s ≡ Runs.outcome t
 same_ran (Running registers ws g out) t m = sym (ap Runs.outcome m.1)
-same_ran (Ended v out) t m = sym (ap Runs.outcome m)
-same_ran (Failed out) t m = sym (ap Runs.outcome m)
+same_ran _ t m = sym (ap Runs.outcome m)
 
 runs_alike : (h : Homed) → AreAllHomes h → (depth n : ℕ) (s : Run) (t : Meaning.Run) → Alike s t
     → outcome (homed_steps h depth n s) ≡ Runs.outcome (rtl_steps (h.rtl.now) depth n t)
@@ -618,8 +612,7 @@ starts_alike h all =
 
     empty : (h : Home) → in_home unset_places unset_places h ≡ None
     empty (Reg r) = refl
-    empty (Slot k) = refl
-    empty (Copied r k) = refl
+    empty _ = refl
 
     unset : (hs : List Home) (x : ℕ) → read_home hs unset_places unset_places x ≡ None
     unset hs x = at (slice_get hs x)

@@ -1,7 +1,7 @@
 -- Copies of slots, in registers that a function without calls has to spare: no pseudo-register lives there, and no function keeps them.
 use Rattle.std.specs.Prelude.{ℕ, Bool, true, false, List, [], ◌∷◌, Option, None, Some, drop, nat_eq, if◌then◌else◌, slice_get}
 use Rattle.rtl.specs.declared.instruction.RExit.{RExit}
-use Rattle.rtl.specs.declared.instruction.RExit.TheVariants.{Goto, Branch, Call, Return, Out}
+use Rattle.rtl.specs.declared.instruction.RExit.TheVariants.{Call}
 use Rattle.rtl.specs.declared.block.RBlock.{RBlock}
 use Rattle.mips_homes.specs.declared.homed.Home.{Home}
 use Rattle.mips_homes.specs.declared.homed.Home.TheVariants.{Reg, Slot, Copied}
@@ -25,10 +25,7 @@ lives_in (h ∷ hs) r = if is_register h r then true else lives_in hs r
 -- a function without calls
 abbrev pub calls_none : RExit → Bool
 calls_none (Call g xs d next) = false
-calls_none (Goto b) = true
-calls_none (Branch c t e) = true
-calls_none (Return o) = true
-calls_none (Out x next) = true
+calls_none _ = true
 
 abbrev pub is_leaf : List RBlock → Bool
 is_leaf [] = true

@@ -1,7 +1,7 @@
 -- In which registers pseudo-registers are passed on.
 use Rattle.std.specs.Prelude.{ℕ, suc, ◌+◌, ◌-◌, ◌&&◌, List, [], ◌∷◌, Option, Some, None, max, nat_eq, nat_lt, nat_le, if◌then◌else◌}
 use Rattle.rtl.specs.declared.instruction.RExit.{RExit}
-use Rattle.rtl.specs.declared.instruction.RExit.TheVariants.{Goto, Branch, Call, Return, Out}
+use Rattle.rtl.specs.declared.instruction.RExit.TheVariants.{Call, Out}
 use Rattle.rtl.specs.declared.block.RBlock.{RBlock}
 use Rattle.mips_homes.specs.declared.convention.TheConstants.{FIRST_ARGUMENT}
 
@@ -12,11 +12,9 @@ reach_from n (y ∷ ys) x = max (if nat_eq x y then suc n else 0) (reach_from (s
 
 -- what `out` prints is passed as one argument
 abbrev pub exit_reach : RExit → ℕ → ℕ
-exit_reach (Goto b) x = 0
-exit_reach (Branch c t e) x = 0
 exit_reach (Call g xs d next) x = reach_from 0 xs.items x
-exit_reach (Return o) x = 0
 exit_reach (Out y next) x = reach_from 0 (y ∷ []) x
+exit_reach _ x = 0
 
 -- up to the last at any exit
 abbrev pub blocks_reach : List RBlock → ℕ → ℕ

@@ -40,14 +40,10 @@ module _ (s : State) (q w : ℕ) where
   two_late f a b e = ap₂ f (read-put 0 s.regs q w a (or_left _ _ e)) (read-put 0 s.regs q w b (or_right _ _ e))
 
   safe_late : (a : Action) → touches a q ≡ false → is_safe a late ≡ is_safe a s
-  safe_late (Computes d op x y) e = refl
-  safe_late (Sets d v) e = refl
   safe_late (Loads v d base offset) e = ap (is_open v s.mapped) (address_late base offset (or_right _ _ e))
   safe_late (Stores v r base offset) e = ap (is_open v s.mapped) (address_late base offset (or_right _ _ e))
-  safe_late (Multiplies sign x y) e = refl
   safe_late (Divides sign x y) e = two_late (has_quotient sign) x y e
-  safe_late (MovesHigh d) e = refl
-  safe_late (MovesLow d) e = refl
+  safe_late _ e = refl
 
   -- the action first and the register then, or the other way round
   after_late : (a : Action) → touches a q ≡ false
@@ -72,13 +68,7 @@ module _ (s : State) (q w : ℕ) where
 -- with nothing pending
 after_now : (a : Action) (s : State) → state_with_pending (pending_of a s) (shown_state a s) ≡ state_after a s
 after_now (Computes d op x y) s = refl
-after_now (Loads v d base offset) s = refl
-after_now (Stores v r base offset) s = refl
-after_now (Sets d v) s = refl
-after_now (Multiplies sign x y) s = refl
-after_now (Divides sign x y) s = refl
-after_now (MovesHigh d) s = refl
-after_now (MovesLow d) s = refl
+after_now _ s = refl
 
 -- the state once what is pending shows
 abbrev pub settled_state : Flow → State

@@ -20,10 +20,6 @@ no_register f d r v false e = refl
 pub put_lost : {A : Type 0} (f : ℕ → A) (d : ℕ) (v : A) → is_register d ≡ false → put f d v ≡ f
 put_lost f d v e = fun_ext (λ r. no_register f d r v (is_register d) e)
 
-and-false : (a : Bool) → (a && false) ≡ false
-and-false true = refl
-and-false false = refl
-
 -- what stands outside the registers stays
 pub put_outside : {A : Type 0} (f : ℕ → A) (d : ℕ) (v : A) (r : ℕ) → is_register r ≡ false → put f d v r ≡ f r
 put_outside f d v r e = go (is_register d) (r == d) refl refl

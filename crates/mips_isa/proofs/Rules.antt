@@ -5,7 +5,7 @@ use Rattle.std.specs.Prelude.{find, is_some}
 use Rattle.std.proofs.lemmas.Bool.{cases_lt}
 use Rattle.std.proofs.lemmas.Option.{same_Some, none-some}
 use Rattle.mips_isa.specs.declared.action.Action.{Action}
-use Rattle.mips_isa.specs.declared.action.Action.TheVariants.{Computes, Sets, Loads, Stores, Multiplies, Divides, MovesHigh, MovesLow}
+use Rattle.mips_isa.specs.declared.action.Action.TheVariants.{Sets, Loads, Stores, Divides, MovesHigh, MovesLow}
 use Rattle.mips_isa.specs.declared.rule.Rule.{Rule}
 use Rattle.mips_isa.specs.declared.rule.Rule.TheVariants.{M1, M2, M3, M4, M5, M6, M7, M8, M9}
 use Rattle.mips_isa.specs.States.{is_aligned, read}
@@ -23,14 +23,7 @@ rule_at n = cond (n == 1) M1
 
 rule_back : (r : Rule) → rule_at (rule_number r) ≡ r
 rule_back M1 = refl
-rule_back M2 = refl
-rule_back M3 = refl
-rule_back M4 = refl
-rule_back M5 = refl
-rule_back M6 = refl
-rule_back M7 = refl
-rule_back M8 = refl
-rule_back M9 = refl
+rule_back _ = refl
 
 one_number : (q r : Rule) → rule_number q ≡ rule_number r → q ≡ r
 one_number q r e = sym (rule_back q) ∙ ap rule_at e ∙ rule_back r
@@ -124,14 +117,10 @@ divides true = refl
 divides false = refl
 
 pub safe_is : SafeActionsKeepTheirRules
-safe_is (Computes d op x y) f = refl
-safe_is (Sets d w) f = refl
 safe_is (Loads w d base offset) f = let x = address f.state base offset in opens (is_aligned w x) (f.state.mapped x)
 safe_is (Stores w r base offset) f = let x = address f.state base offset in opens (is_aligned w x) (f.state.mapped x)
-safe_is (Multiplies sign x y) f = refl
 safe_is (Divides sign x y) f = divides (has_quotient sign (read 0 f.state.regs x) (read 0 f.state.regs y))
-safe_is (MovesHigh d) f = refl
-safe_is (MovesLow d) f = refl
+safe_is _ f = refl
 
 not_either : (a b c : Bool) → not (a || (b || c)) ≡ true → (a ≡ false) × (b ≡ false) × (c ≡ false)
 not_either true b c e = absurd (true≢false (sym e))
@@ -179,11 +168,7 @@ or-false true = refl
 or-false false = refl
 
 pub touches_is : ReadsAndWritesAreTouched
-touches_is (Computes d op x y) r = refl
 touches_is (Sets d w) r = or-false (d == r)
-touches_is (Loads w d base offset) r = refl
-touches_is (Stores w q base offset) r = refl
-touches_is (Multiplies sign x y) r = refl
-touches_is (Divides sign x y) r = refl
 touches_is (MovesHigh d) r = or-false (d == r)
 touches_is (MovesLow d) r = or-false (d == r)
+touches_is _ r = refl

@@ -43,10 +43,8 @@ unfolding load_byte
 byte_loaded_below mapped memory a h = either_byte (is_open Byte mapped a) (memory a) 0 (h a) (omega arith)
 
 pub byte_below : (v k : ℕ) → byte_of v k < 2 ^ 8
-byte_below v zero = omega arith
-byte_below v (suc zero) = omega arith
 byte_below v (suc (suc zero)) = omega arith
-byte_below v (suc (suc (suc k))) = omega arith
+byte_below v _ = omega arith
 
 pub store_below : (w : Width) (mapped : ℕ → Bool) (memory : ℕ → ℕ) (a v : ℕ) → ((b : ℕ) → memory b < 2 ^ 8) → (b : ℕ)
     → store_at w mapped memory a v b < 2 ^ 8

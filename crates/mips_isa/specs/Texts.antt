@@ -98,18 +98,7 @@ plain_text i = mnemonic_text (mnemonic_of i) ++ (codes " " ++ operands_text i)
 -- the word 0
 abbrev pub is_nop : Plain → Bool
 is_nop (Shift Sll rd rt amount) = (rd == 0) && ((rt == 0) && (amount == 0))
-is_nop (Shift Srl rd rt amount) = false
-is_nop (Shift Sra rd rt amount) = false
-is_nop (ShiftBy op rd rt rs) = false
-is_nop (Alu op rd rs rt) = false
-is_nop (Imm op rt rs imm) = false
-is_nop (Logic op rt rs imm) = false
-is_nop (LoadUpper rt imm) = false
-is_nop (MoveFrom place rd) = false
-is_nop (Multiply sign rs rt) = false
-is_nop (Divide sign rs rt) = false
-is_nop (Load w rt base offset) = false
-is_nop (Store w rt base offset) = false
+is_nop _ = false
 
 -- as an instruction is printed
 abbrev pub instruction_text : Plain → List ℕ

@@ -4,7 +4,7 @@ use Rattle.std.specs.Prelude.{slice_get}
 use Rattle.std.proofs.lemmas.Option.{slice_get_within}
 use Rattle.runs.specs.Runs.{Outcome}
 use Rattle.mblock.specs.declared.exit.Exit.{Exit}
-use Rattle.mblock.specs.declared.exit.Exit.TheVariants.{Goto, BranchPair, BranchZero, Call, Return, Out, Halt}
+use Rattle.mblock.specs.declared.exit.Exit.TheVariants.{Goto}
 use Rattle.mblock.specs.Parts.{BlockParts}
 use Rattle.mips_isa.specs.States.{State}
 use Rattle.mblock.specs.UnitRuns.{is_call, TellsApart, ComesTo}
@@ -15,12 +15,7 @@ use Rattle.mips_select.proofs.Places.{has_whole, has_pieces, last_piece, last_th
 
 call_stays : (place : ℕ → ℕ) (exit : Exit) → is_call (renumbered_exit place exit) ≡ is_call exit
 call_stays place (Goto t) = refl
-call_stays place (BranchPair test a b t e) = refl
-call_stays place (BranchZero test a t e) = refl
-call_stays place (Call f n) = refl
-call_stays place Return = refl
-call_stays place (Out n) = refl
-call_stays place Halt = refl
+call_stays place _ = refl
 
 module _ (most : ℕ) (blocks : List BlockParts) where
   record Last (n : ℕ) (b : BlockParts) : Type 0 where

@@ -22,7 +22,7 @@ use Rattle.mips_homes.specs.declared.homed.Frame.{Frame}
 use Rattle.mips_homes.specs.declared.homed.Home.TheVariants.{Reg, Slot, Copied}
 use Rattle.mips_emit.specs.Frames.{HaveNoCopies}
 use Rattle.mips_emit.specs.declared.location.Source.{Source}
-use Rattle.mips_emit.specs.declared.location.Source.TheVariants.{Zero, Word as Known, From}
+use Rattle.mips_emit.specs.declared.location.Source.TheVariants.{Word as Known, From}
 use Rattle.mips_emit.specs.declared.comparison.Asked.{Asked}
 use Rattle.mips_emit.specs.declared.comparison.Comparison.{Comparison}
 use Rattle.mips_emit.specs.declared.comparison.Form.{Form}
@@ -30,7 +30,7 @@ use Rattle.mips_emit.specs.declared.comparison.Form.TheVariants.{Known, OnPair, 
 use Rattle.mips_emit.specs.declared.facts.Last.{Last}
 use Rattle.mips_emit.specs.Locations.{Locations, Facts, locations, known_in, learned, operand, last_operand, inner_of, word_source}
 use Rattle.mips_emit.specs.declared.element.Reach.{Reach}
-use Rattle.mips_emit.specs.declared.element.Reach.TheVariants.{ByPointer, ByScratch, ByKept, ByNew}
+use Rattle.mips_emit.specs.declared.element.Reach.TheVariants.{ByScratch, ByNew}
 use Rattle.mips_emit.specs.Elements.{scaled, base_sum, scaled_register, width_of, page, address_of_place}
 use Rattle.mips_emit.specs.Code.{constant, is_small, half, li, fetch, operand_register, bring, stays, carry, into, finish, put_at, arrive, operation, code_by_less}
 use Rattle.mips_emit.specs.declared.operation.Operand.{Operand}
@@ -71,27 +71,21 @@ li_few t w = by (is_small w) (nat_lt w 65536) (nat_eq (w % 65536) 0)
     by false false false = omega arith
 
 fetch_few : (t : ℕ) (x : Source) → length (fetch t x) ≤ 2
-fetch_few t Zero = omega arith
 fetch_few t (Known w) = li_few t w
 fetch_few t (From (Reg r)) = omega arith
-fetch_few t (From (Slot k)) = omega arith
-fetch_few t (From (Copied r k)) = omega arith
+fetch_few t _ = omega arith
 
 bring_few : (t : ℕ) (x : Source) → length (bring t x) ≤ 2
-bring_few t Zero = omega arith
 bring_few t (Known w) = li_few t w
 bring_few t (From (Reg r)) = omega arith
-bring_few t (From (Slot k)) = omega arith
-bring_few t (From (Copied r k)) = omega arith
+bring_few t _ = omega arith
 
 carry_few : (t : ℕ) (x : Source) → length (carry t x) ≤ 2
 carry_few t x = either (stays t x) 2 [] (bring t x) (omega arith) (bring_few t x)
 
 finish_few : (o : Option Home) → length (finish o) ≤ 1
-finish_few None = omega arith
 finish_few (Some (Reg r)) = omega arith
-finish_few (Some (Slot k)) = omega arith
-finish_few (Some (Copied r k)) = omega arith
+finish_few _ = omega arith
 
 put_few : (o : Option Home) (x : Source) → length (put_at o x) ≤ 8
 put_few None x = omega arith
@@ -101,11 +95,10 @@ put_few (Some (Slot k)) x = one_behind _ 2 8 (fetch (inner_of (Some (Slot k))) x
 
 -- two, of which the second is the store of a copy
 arrive_few : (o : Option Home) (t : ℕ) → length (arrive o t) ≤ 2
-arrive_few None t = omega arith
 arrive_few (Some (Reg r)) t = either (stays r (From (Reg t))) 2 [] (bring r (From (Reg t))) (omega arith) (omega arith)
-arrive_few (Some (Slot k)) t = omega arith
 arrive_few (Some (Copied r k)) t =
     one_behind _ 1 2 (carry r (From (Reg t))) (either (stays r (From (Reg t))) 1 [] (bring r (From (Reg t))) (omega arith) (omega arith)) (omega arith)
+arrive_few _ t = omega arith
 
 -- and one where no slot has a copy
 arrive_one : (hs : List Home) (x t : ℕ) → HaveNoCopies hs → length (arrive (slice_get hs x) t) ≤ 1
@@ -121,24 +114,7 @@ arrive_one hs x t none = by (slice_get hs x) refl
 
 operation_few : (op : Op) (d a b : ℕ) → length (operation op d a b) ≤ 2
 operation_few ops.Add d a b = omega arith
-operation_few ops.Sub d a b = omega arith
-operation_few ops.Mul d a b = omega arith
-operation_few ops.DivS d a b = omega arith
-operation_few ops.DivU d a b = omega arith
-operation_few ops.RemS d a b = omega arith
-operation_few ops.RemU d a b = omega arith
-operation_few ops.And d a b = omega arith
-operation_few ops.Or d a b = omega arith
-operation_few ops.Xor d a b = omega arith
-operation_few ops.Shl d a b = omega arith
-operation_few ops.ShrU d a b = omega arith
-operation_few ops.ShrS d a b = omega arith
-operation_few ops.Eq d a b = omega arith
-operation_few ops.Ne d a b = omega arith
-operation_few ops.LtS d a b = omega arith
-operation_few ops.LtU d a b = omega arith
-operation_few ops.LeS d a b = omega arith
-operation_few ops.LeU d a b = omega arith
+operation_few _ d a b = omega arith
 
 less_few : (op : Op) (t d : ℕ) (less : Option Plain) (x y : Source) → length (code_by_less op t d less x y) ≤ 6
 less_few op t d None x y =
@@ -186,8 +162,7 @@ element_few w start ByScratch x =
     (joined _ 1 2 3 (scaled w 1 (operand_register 1 x)) (scaled_few w 1 (operand_register 1 x)) (sum_few 1 start (scaled_register w 1 (operand_register 1 x))) (omega arith)) (omega arith)
 element_few w start (ByNew q c) x =
     joined _ 1 2 5 (scaled w 30 q) (scaled_few w 30 q) (sum_few 30 start (scaled_register w 30 q)) (omega arith)
-element_few w start (ByPointer p) x = omega arith
-element_few w start (ByKept c) x = omega arith
+element_few w start _ x = omega arith
 
 const_few : (o : Option Home) (w : ℕ) → length (const_code o w) ≤ 8
 const_few None w = omega arith
@@ -330,10 +305,7 @@ return_few false x = carry_few 2 x
 -- what stands behind the block of a call
 abbrev pub behind_most : RExit → ℕ
 behind_most (Call g xs d next) = 2
-behind_most (Goto b) = 0
-behind_most (Branch c t e) = 0
-behind_most (Return o) = 0
-behind_most (Out x next) = 0
+behind_most _ = 0
 
 ten_most : (leaf : Bool) (n : ℕ) → n ≤ 10 → n ≤ exit_most leaf
 ten_most true n le = omega (arith, le)

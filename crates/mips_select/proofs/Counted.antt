@@ -68,10 +68,7 @@ module _ (l : Linking) (p : Planning) (eight : length p.frame.saved.items ≤ 8)
       by : (b : Bool) → Few (if b then [] else after_block p.frame d (p.place next) ∷ []) 1 2
       by true = record { blocks_few = omega arith; words_few = omega arith }
       by false = let m = result_few (locations p.frame) d in record { blocks_few = omega arith; words_few = omega (arith, m) }
-  behind_few (Goto b) = record { blocks_few = omega arith; words_few = omega arith }
-  behind_few (Branch c t e) = record { blocks_few = omega arith; words_few = omega arith }
-  behind_few (Return o) = record { blocks_few = omega arith; words_few = omega arith }
-  behind_few (Out x next) = record { blocks_few = omega arith; words_few = omega arith }
+  behind_few _ = record { blocks_few = omega arith; words_few = omega arith }
 
   own_few : (j m : ℕ) (b : RBlock) → HasFewArguments b.exit
       → length (own_block l p.placing (head_code p (p.heads j)) m b).insts + behind_most b.exit
@@ -88,10 +85,7 @@ module _ (l : Linking) (p : Planning) (eight : length p.frame.saved.items ≤ 8)
 
   one_or_more : (x : RExit) → 1 ≤ exit_blocks x
   one_or_more (Call g xs d next) = omega arith
-  one_or_more (Goto b) = omega arith
-  one_or_more (Branch c t e) = omega arith
-  one_or_more (Return o) = omega arith
-  one_or_more (Out x next) = omega arith
+  one_or_more _ = omega arith
 
   -- a block, and what is behind it
   one_few : (k j : ℕ) (b : RBlock) (bs : List RBlock) (blocks words : ℕ) → HasFewArguments b.exit
@@ -125,11 +119,8 @@ module _ (l : Linking) (p : Planning) (eight : length p.frame.saved.items ≤ 8)
   -- the prologue is in a block of its own, or at the head of the first
   lead_few : (o : Option Naming) → (length (lead_blocks p (head_at 0 o)) ≤ 1)
       × (words_in (lead_blocks p (head_at 0 o)) + length (head_code p (head_at 0 o)) ≤ prologue_most p.leaf)
-  lead_few None = let m = prologue_few p.leaf p.frame p.parameters eight four alone in (omega arith, omega (arith, m))
-  lead_few (Some Unnamed) = let m = prologue_few p.leaf p.frame p.parameters eight four alone in (omega arith, omega (arith, m))
   lead_few (Some (Called None)) = let m = prologue_few p.leaf p.frame p.parameters eight four alone in (omega arith, omega (arith, m))
-  lead_few (Some (Called (Some d))) = let m = prologue_few p.leaf p.frame p.parameters eight four alone in (omega arith, omega (arith, m))
-  lead_few (Some Jumped) = let m = prologue_few p.leaf p.frame p.parameters eight four alone in (omega arith, omega (arith, m))
+  lead_few _ = let m = prologue_few p.leaf p.frame p.parameters eight four alone in (omega arith, omega (arith, m))
 
 later_head : (p : Planning) (names : List Naming) (j : ℕ) → length (head_code p (head_at (suc j) (slice_get names (suc j)))) ≤ 2
 later_head p names j = by (slice_get names (suc j))

@@ -11,12 +11,12 @@ use Rattle.mblock.specs.BlockMeaning.{exit_effect}
 use Rattle.mblock.specs.UnitRuns.{items, outcome_at_block, outcome_of_departure}
 use Rattle.rtl.specs.declared.instruction.RInst.{RInst}
 use Rattle.rtl.specs.declared.instruction.RExit.{RExit}
-use Rattle.rtl.specs.declared.instruction.RExit.TheVariants.{Goto, Branch, Call, Return, Out}
+use Rattle.rtl.specs.declared.instruction.RExit.TheVariants.{Branch, Return}
 use Rattle.mips_homes.specs.HomedRun.{read_home, read_homes, callee_saved}
 use Rattle.mips_homes.specs.declared.homed.Frame.{Frame}
 use Rattle.mips_homes.specs.declared.homed.Home.{Home}
 use Rattle.mips_emit.specs.declared.comparison.Form.{Form}
-use Rattle.mips_emit.specs.declared.comparison.Form.TheVariants.{Known, OnPair, OnLeft, OnRight, ByResult, ByOpposite, InResult}
+use Rattle.mips_emit.specs.declared.comparison.Form.TheVariants.{Known}
 use Rattle.mips_emit.specs.declared.comparison.Asked.TheVariants.{Branched}
 use Rattle.mips_emit.specs.declared.comparison.Comparison.{Comparison}
 use Rattle.mips_emit.specs.declared.location.Source.{Source}
@@ -77,12 +77,7 @@ pub goes_by : (blocks : List BlockParts) (links : ℕ → ℕ) (form : Form) (x 
     (exit_effect (exit_by_form form x y t e) s (links k)).state out
     ≡ outcome_at_block (if passes form x y s then t else e) (slice_get blocks (if passes form x y s then t else e)) (items blocks links n) s out
 goes_by blocks links (Known b) x y t e k s out n = refl
-goes_by blocks links (OnPair test) x y t e k s out n = refl
-goes_by blocks links (OnLeft test) x y t e k s out n = refl
-goes_by blocks links (OnRight test) x y t e k s out n = refl
-goes_by blocks links ByResult x y t e k s out n = refl
-goes_by blocks links ByOpposite x y t e k s out n = refl
-goes_by blocks links InResult x y t e k s out n = refl
+goes_by blocks links _ x y t e k s out n = refl
 
 -- behind a comparison the exit doesn't go by what is known
 asked_test : (at : Locations) (facts : Facts) (c : ℕ) (i : RInst) (m : Comparison) → comparison_of at facts (Branched c) i ≡ Some m
@@ -96,11 +91,8 @@ same_exit l p facts known known' i m n (Branch c t e) is =
     let test = asked_test (locations p.frame) facts c i m is in
     ap (λ o. branch_exit o (known_in known c) (last_operand (locations p.frame) known None c) (p.place t) (p.place e)) test
     ∙ sym (ap (λ o. branch_exit o (known_in known' c) (last_operand (locations p.frame) known' None c) (p.place t) (p.place e)) test)
-same_exit l p facts known known' i m n (Goto b) is = absurd (none_asked (locations p.frame) facts i m is)
-same_exit l p facts known known' i m n (Call g xs d next) is = absurd (none_asked (locations p.frame) facts i m is)
-same_exit l p facts known known' i m n (Return None) is = absurd (none_asked (locations p.frame) facts i m is)
 same_exit l p facts known known' i m n (Return (Some x)) is = refl
-same_exit l p facts known known' i m n (Out b next) is = absurd (none_asked (locations p.frame) facts i m is)
+same_exit l p facts known known' i m n _ is = absurd (none_asked (locations p.frame) facts i m is)
 
 pub same_code : (leaf : Bool) (f : Frame) (facts known known' : Facts) (i : RInst) (m : Comparison) (x : RExit)
     → comparison_of (locations f) facts (asked_of x) i ≡ Some m
@@ -109,11 +101,8 @@ same_code leaf f facts known known' i m (Branch c t e) is =
     let test = asked_test (locations f) facts c i m is in
     ap (λ o. branch_code o (known_in known c) (last_operand (locations f) known None c)) test
     ∙ sym (ap (λ o. branch_code o (known_in known' c) (last_operand (locations f) known' None c)) test)
-same_code leaf f facts known known' i m (Goto b) is = absurd (none_asked (locations f) facts i m is)
-same_code leaf f facts known known' i m (Call g xs d next) is = absurd (none_asked (locations f) facts i m is)
-same_code leaf f facts known known' i m (Return None) is = absurd (none_asked (locations f) facts i m is)
 same_code leaf f facts known known' i m (Return (Some x)) is =
     let test = returned_result (locations f) facts x i m is in
     ap (λ b. return_code b (last_operand (locations f) known None x) ++ epilogue leaf f) test
     ∙ sym (ap (λ b. return_code b (last_operand (locations f) known' None x) ++ epilogue leaf f) test)
-same_code leaf f facts known known' i m (Out b next) is = absurd (none_asked (locations f) facts i m is)
+same_code leaf f facts known known' i m _ is = absurd (none_asked (locations f) facts i m is)

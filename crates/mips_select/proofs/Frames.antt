@@ -177,10 +177,8 @@ module _ (most total : ℕ) (gs : List RGlobal) (starts : ℕ → ℕ) where
       held false q v is = is
 
       by : (l : Option Home) (q v : ℕ) → registers q ≡ Some v → hide (deferred_none l (λ q. None)) registers q ≡ Some v
-      by None q v is = is
-      by (Some (Slot k)) q v is = is
-      by (Some (Copied r k)) q v is = is
       by (Some (Reg r)) q v is = held (nat_eq q r) q v is
+      by _ q v is = is
 
   pub record Arguments (registers : Places) (g : Arrays) (fs : List Stored) (s : State) (hs : List Home) (facts : Facts) (t : ℕ) (xs vs : List ℕ) : Type 0 where
     pub regs : ℕ → ℕ
@@ -228,9 +226,7 @@ module _ (most total : ℕ) (gs : List RGlobal) (starts : ℕ → ℕ) where
       by : (b : Bool) → IsApart t (if b then Zero else Word w)
       by true = tt
       by false = tt
-  operand_apart None None None t t' lt few behind = tt
   operand_apart (Some (Reg r)) None None t t' lt few behind = λ e. absurd (omega (arith, lt, behind, e))
-  operand_apart (Some (Slot j)) None None t t' lt few behind = tt
   operand_apart (Some (Copied r j)) None None t t' lt few behind = λ e. absurd (omega (arith, few, behind, e))
   operand_apart l None (Some w) t t' lt few behind = by l behind (nat_eq w 0)
     where
@@ -240,6 +236,7 @@ module _ (most total : ℕ) (gs : List RGlobal) (starts : ℕ → ℕ) where
       by (Some (Reg r)) behind false = λ e. absurd (omega (arith, lt, behind, e))
       by (Some (Slot j)) behind false = tt
       by (Some (Copied r j)) behind false = λ e. absurd (omega (arith, few, behind, e))
+  operand_apart _ None None t t' lt few behind = tt
 
   -- the arguments that are left, after a register below theirs was written
   still_denote : (count t v : ℕ) (s : State) (f : ℕ → ℕ) (hs : List Home) (facts : Facts) (t' : ℕ) (xs vs : List ℕ) → t < t' → t < 8
@@ -291,11 +288,10 @@ module _ (most total : ℕ) (gs : List RGlobal) (starts : ℕ → ℕ) where
 
   -- a parameter's location isn't the register of a later one
   elsewhere : (l : Option Home) (t q : ℕ) → t < q → q < 8 → IsClear l t → IsElsewhere l q
-  elsewhere None t q lt few clear = tt
   elsewhere (Some (Reg r)) t q lt few (inl le) = λ e. absurd (omega (arith, lt, le, e))
   elsewhere (Some (Reg r)) t q lt few (inr le) = λ e. absurd (omega (arith, few, le, e))
-  elsewhere (Some (Slot k)) t q lt few clear = tt
   elsewhere (Some (Copied r k)) t q lt few le = λ e. absurd (omega (arith, few, le, e))
+  elsewhere _ t q lt few clear = tt
 
   module _ (g : Arrays) (fs : List Stored) (P : Run → Type 0) (out : List ℕ) (failed : P (Failed out)) where
     pub parameters : (vs : List ℕ) (t x : ℕ) (registers : Places) (top : Stored) (s : State) (go : Places → Places → Run) → AreFrameHomes top.homes top.count

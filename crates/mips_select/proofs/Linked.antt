@@ -16,7 +16,7 @@ use Rattle.mips_homes.specs.declared.homed.Homed.{Homed}
 use Rattle.mips_emit.specs.declared.facts.Last.{Last}
 use Rattle.mips_emit.specs.declared.location.Source.{Source}
 use Rattle.mips_emit.specs.declared.comparison.Form.{Form}
-use Rattle.mips_emit.specs.declared.comparison.Form.TheVariants.{Known, OnPair, OnLeft, OnRight, ByResult, ByOpposite, InResult}
+use Rattle.mips_emit.specs.declared.comparison.Form.TheVariants.{Known}
 use Rattle.mips_emit.specs.declared.comparison.Comparison.{Comparison}
 use Rattle.mips_emit.specs.Locations.{Facts, known_in, known_after, no_facts, locations, last_operand}
 use Rattle.mips_emit.specs.Comparisons.{exit_by_form, last_after, no_last, tested, branch_exit}
@@ -37,10 +37,7 @@ behind_length p (Call g xs d next) = go (resumes d (p.heads next))
     go : (b : Bool) → suc (length (if b then [] else after_block p.frame d (p.place next) ∷ [])) ≡ (if b then 1 else 2)
     go true = refl
     go false = refl
-behind_length p (Goto b) = refl
-behind_length p (Branch c t e) = refl
-behind_length p (Return o) = refl
-behind_length p (Out x next) = refl
+behind_length p _ = refl
 
 -- each block takes a number
 pub one_at_least : (heads : ℕ → Head) (x : RExit) → 1 ≤ count heads x
@@ -49,10 +46,7 @@ one_at_least heads (Call g xs d next) = go (resumes d (heads next))
     go : (b : Bool) → 1 ≤ (if b then 1 else 2)
     go true = omega arith
     go false = omega arith
-one_at_least heads (Goto b) = omega arith
-one_at_least heads (Branch c t e) = omega arith
-one_at_least heads (Return o) = omega arith
-one_at_least heads (Out x next) = omega arith
+one_at_least heads _ = omega arith
 
 pub blocks_length : (l : Linking) (p : Planning) (k j : ℕ) (bs : List RBlock) → length (blocks_from l p k j bs) ≡ size_of_blocks p.heads bs
 blocks_length l p k j [] = refl
@@ -64,8 +58,7 @@ blocks_length l p k j (b ∷ bs) =
 
 pub lead_length : (p : Planning) (head : Head) → length (lead_blocks p head) ≡ lead_of head
 lead_length p Bare = refl
-lead_length p Enters = refl
-lead_length p (Takes d) = refl
+lead_length p _ = refl
 
 pub function_length : (l : Linking) (k : ℕ) (func : RFunc) (f : Frame)
     → length (function_blocks l k func f) ≡ function_size func
@@ -109,12 +102,7 @@ module _ (l : Linking) (functions : List RFunc) (bound : ℕ) (entry_below : (g 
     compared_goes : (form : Form) (x y : Source) (t e : ℕ) → IsFrom start size t → IsFrom start size e → GoesWithin bound start size (exit_by_form form x y t e)
     compared_goes (Known true) x y t e at_t at_e = from_below t at_t
     compared_goes (Known false) x y t e at_t at_e = from_below e at_e
-    compared_goes (OnPair test) x y t e at_t at_e = (at_t, at_e)
-    compared_goes (OnLeft test) x y t e at_t at_e = (at_t, at_e)
-    compared_goes (OnRight test) x y t e at_t at_e = (at_t, at_e)
-    compared_goes ByResult x y t e at_t at_e = (at_t, at_e)
-    compared_goes ByOpposite x y t e at_t at_e = (at_t, at_e)
-    compared_goes InResult x y t e at_t at_e = (at_t, at_e)
+    compared_goes _ x y t e at_t at_e = (at_t, at_e)
 
     known_goes : (b : Bool) (t e : ℕ) → IsFrom start size t → IsFrom start size e → (if b then e else t) < bound
     known_goes true t e at_t at_e = from_below e at_e
@@ -148,10 +136,6 @@ module _ (l : Linking) (functions : List RFunc) (bound : ℕ) (entry_below : (g 
     behind_goes : (x : RExit) → IsExit functions blocks x → (rest : List BlockParts) → ((i : ℕ) (b : BlockParts) → slice_get rest i ≡ Some b
         → GoesWithin bound start size b.exit) → (i : ℕ) (b : BlockParts) → slice_get (behind p x ++ rest) i ≡ Some b
         → GoesWithin bound start size b.exit
-    behind_goes (Goto t) ok rest goes i b there = goes i b there
-    behind_goes (Branch c t e) ok rest goes i b there = goes i b there
-    behind_goes (Return o) ok rest goes i b there = goes i b there
-    behind_goes (Out x next) ok rest goes i b there = goes i b there
     behind_goes (Call g xs d next) ok rest goes i b there = go (resumes d (p.heads next)) i there
       where
         go : (r : Bool) (i : ℕ) → slice_get ((if r then [] else after_block p.frame d (p.place next) ∷ []) ++ rest) i ≡ Some b → GoesWithin bound start size b.exit
@@ -159,6 +143,7 @@ module _ (l : Linking) (functions : List RFunc) (bound : ℕ) (entry_below : (g 
         go false zero there = subst (λ (b : BlockParts). GoesWithin bound start size b.exit) (same_Some (after_block p.frame d (p.place next)) b there)
             (place_below next ((ok.1).1).1)
         go false (suc i) there = goes i b there
+    behind_goes _ ok rest goes i b there = goes i b there
 
     blocks_go : (k j : ℕ) (bs : List RBlock) → k + size_of_blocks p.heads bs ≤ bound → ((i : ℕ) (b : RBlock) → slice_get bs i ≡ Some b
         → IsExit functions blocks b.exit) → (i : ℕ) (b : BlockParts) → slice_get (blocks_from l p k j bs) i ≡ Some b

@@ -14,8 +14,7 @@ use Rattle.mips_select.specs.Heads.{naming_with_call, note, namings, head_at, he
 -- what heads the exit allows
 abbrev pub NamedJump : Head → Type 0
 NamedJump Bare = Unit {0}
-NamedJump Enters = ⊥
-NamedJump (Takes d) = ⊥
+NamedJump _ = ⊥
 
 abbrev pub NamedCall : Option ℕ → Head → Type 0
 NamedCall d Bare = Unit {0}
@@ -31,16 +30,14 @@ Named heads (Out x next) = NamedJump (heads next)
 
 -- the same of the table
 abbrev IsJumped : Option Naming → Type 0
-IsJumped None = Unit {0}
 IsJumped (Some Unnamed) = ⊥
 IsJumped (Some (Called d)) = ⊥
-IsJumped (Some Jumped) = Unit {0}
+IsJumped _ = Unit {0}
 
 abbrev IsCalled : Option ℕ → Option Naming → Type 0
-IsCalled d None = Unit {0}
 IsCalled d (Some Unnamed) = ⊥
 IsCalled d (Some (Called e)) = d ≡ e
-IsCalled d (Some Jumped) = Unit {0}
+IsCalled d _ = Unit {0}
 
 set_keeps : (Q : Option Naming → Type 0) (v : Option Naming → Naming) → ((o : Naming) → Q (Some o) → Q (Some (v (Some o)))) → (l : List Naming) (t b : ℕ)
     → Q (slice_get l b) → Q (slice_get (slice_set l t (v (slice_get l t))) b)
@@ -70,36 +67,30 @@ module _ (Q : Option Naming → Type 0) (jumps : (o : Naming) → Q (Some o) →
   namings_keep (x ∷ bs) l b q = namings_keep bs (note x.exit l) b (note_keeps x.exit l b q)
 
 jumped_stays : (d : Option ℕ) (o : Naming) → IsJumped (Some o) → IsJumped (Some (naming_with_call d (Some o)))
-jumped_stays d Unnamed q = absurd q
-jumped_stays d (Called e) q = absurd q
 jumped_stays d Jumped q = tt
+jumped_stays d _ q = absurd q
 
 called_stays : (e d : Option ℕ) (o : Naming) → IsCalled e (Some o) → IsCalled e (Some (naming_with_call d (Some o)))
 called_stays e d Unnamed q = absurd q
-called_stays e d (Called c) q = tt
-called_stays e d Jumped q = tt
+called_stays e d _ q = tt
 
 called_now : (d : Option ℕ) (o : Naming) → IsCalled d (Some (naming_with_call d (Some o)))
 called_now d Unnamed = refl
-called_now d (Called e) = tt
-called_now d Jumped = tt
+called_now d _ = tt
 
 jump_head : (b : ℕ) (o : Option Naming) → IsJumped o → NamedJump (head_at b o)
-jump_head b None q = tt
 jump_head b (Some Unnamed) q = absurd q
 jump_head b (Some (Called d)) q = absurd q
-jump_head b (Some Jumped) q = tt
+jump_head b _ q = tt
 
 call_head : (d : Option ℕ) (b : ℕ) (o : Option Naming) → IsCalled d o → NamedCall d (head_at b o)
-call_head d b None q = tt
 call_head d b (Some Unnamed) q = absurd q
-call_head d b (Some (Called None)) q = tt
-call_head d b (Some Jumped) q = tt
 call_head d b (Some (Called (Some e))) q = go (nat_eq b 0)
   where
     go : (t : Bool) → NamedCall d (if t then Bare else Takes e)
     go true = tt
     go false = q
+call_head d b _ q = tt
 
 jumped_after : (bs : List RBlock) (l : List Naming) (t : ℕ) → IsJumped (slice_get l t) → NamedJump (heads_in (namings bs l) t)
 jumped_after bs l t q = jump_head t (slice_get (namings bs l) t) (namings_keep IsJumped (λ o q. tt) jumped_stays bs l t q)

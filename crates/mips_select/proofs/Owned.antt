@@ -5,7 +5,7 @@ use Rattle.std.specs.Prelude.{slice_get, replicate}
 use Rattle.std.proofs.lemmas.List.{length-replicate}
 use Rattle.std.proofs.lemmas.Option.{same_Some, slice_get_within}
 use Rattle.mblock.specs.declared.exit.Exit.{Exit}
-use Rattle.mblock.specs.declared.exit.Exit.TheVariants.{Goto, BranchPair, BranchZero, Call, Return, Out, Halt}
+use Rattle.mblock.specs.declared.exit.Exit.TheVariants.{BranchPair, BranchZero, Return, Halt}
 use Rattle.mblock.specs.Parts.{BlockParts}
 use Rattle.mblock.specs.Units.{GoesBelow, BranchesWithin, Continues, AreLinked, AreOwners}
 use Rattle.mips_select.specs.Functions.{blocks_of, owners_of, IsFrom, GoesWithin, IsFunctionAt, AreFunctions}
@@ -74,22 +74,16 @@ module _ (bound : ℕ) (blocks : List BlockParts) (owner : List ℕ) where
       ap (slice_get owner) here ∙ owned.by (t - start) start (get_replicate n start (t - start) (omega (arith, low, high)))
 
   below : (start n : ℕ) → start + n ≤ bound → (exit : Exit) → GoesWithin bound start n exit → GoesBelow bound exit
-  below start n fits (Goto t) at = at
   below start n fits (BranchPair test a b t e) at = (let lt = at.0.1 in let lt' = at.1.1 in (omega (arith, fits, lt), omega (arith, fits, lt')))
   below start n fits (BranchZero test a t e) at = (let lt = at.0.1 in let lt' = at.1.1 in (omega (arith, fits, lt), omega (arith, fits, lt')))
-  below start n fits (Call f next) at = at
   below start n fits Return at = tt
-  below start n fits (Out next) at = at
   below start n fits Halt at = tt
+  below start n fits _ at = at
 
   inside : (start n : ℕ) → HasAt owner start (replicate n start) → (exit : Exit) → GoesWithin bound start n exit → BranchesWithin owner start exit
-  inside start n owned (Goto t) at = tt
   inside start n owned (BranchPair test a b t e) at = (owned_from start n owned t at.0, owned_from start n owned e at.1)
   inside start n owned (BranchZero test a t e) at = (owned_from start n owned t at.0, owned_from start n owned e at.1)
-  inside start n owned (Call f next) at = tt
-  inside start n owned Return at = tt
-  inside start n owned (Out next) at = tt
-  inside start n owned Halt at = tt
+  inside start n owned _ at = tt
 
   -- the exit of a block keeps to its function
   exit_within : (i : ℕ) (b : BlockParts) (at : InFunction i) → slice_get blocks i ≡ Some b → GoesWithin bound at.start (length at.code) b.exit

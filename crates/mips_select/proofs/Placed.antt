@@ -22,7 +22,7 @@ use Rattle.mips_emit.specs.Frames.{HaveNoCopies, IsFrame}
 use Rattle.mips_emit.specs.Locations.{locations}
 use Rattle.mips_select.proofs.Places.{HasAt, has_head, has_tail, has_front, has_back}
 use Rattle.mips_select.specs.declared.heads.Naming.{Naming}
-use Rattle.mips_select.specs.declared.heads.Naming.TheVariants.{Unnamed, Called, Jumped}
+use Rattle.mips_select.specs.declared.heads.Naming.TheVariants.{Called}
 use Rattle.mips_select.specs.declared.heads.Head.{Head}
 use Rattle.mips_select.specs.declared.heads.Head.TheVariants.{Bare, Enters, Takes}
 use Rattle.mips_select.specs.declared.limits.TheConstants.{STACK_BYTES}
@@ -38,8 +38,7 @@ use Rattle.mips_select.proofs.Named.{NamedJump, NamedCall, Named, named}
 
 no_head_code : (p : Planning) (x : Head) → NamedJump x → head_code p x ≡ []
 no_head_code p Bare ok = refl
-no_head_code p Enters ok = absurd ok
-no_head_code p (Takes d) ok = absurd ok
+no_head_code p _ ok = absurd ok
 
 -- a home below 8 is in a register in which no argument is passed behind it, and where a parameter comes
 abbrev pub AreSeated : RFunc → Frame → Type 0
@@ -69,17 +68,13 @@ are_clear func f range seated t x (suc n) at few =
     comes r (inr is) = (let same = is.1 (omega (arith, few)) in inl (omega (arith, same, at)))
 
     here : (o : Option Home) → slice_get f.homes.items x ≡ o → IsClear o t
-    here None e = tt
     here (Some (Reg r)) e = comes r (seated x r e)
-    here (Some (Slot k)) e = tt
     here (Some (Copied r k)) e = (range x r k e).0
+    here _ e = tt
 
 abbrev IsOrdered : Frame → RExit → Type 0
 IsOrdered f (Call g xs d next) = AreInOrder (locations f) 4 xs.items
-IsOrdered f (Goto b) = Unit {0}
-IsOrdered f (Branch c t e) = Unit {0}
-IsOrdered f (Return o) = Unit {0}
-IsOrdered f (Out x next) = Unit {0}
+IsOrdered f _ = Unit {0}
 
 ordered : (functions : List RFunc) (globals blocks : ℕ) (func : RFunc) (f : Frame) (x : RExit)
     → ((x r k : ℕ) → slice_get f.homes.items x ≡ Some (Copied r k) → (8 ≤ r) × (r < 28)) → AreSeated func f
@@ -96,18 +91,12 @@ ordered functions globals blocks func f (Call g xs d next) range seated covers a
         → (8 ≤ r) ⊎ ((blocks_reach func.blocks.items y + 3 ≤ r) × (y < func.parameters → r ≡ 4 + y)) → 4 + j ≤ r
     behind j y r lt one two (inl high) = omega (arith, lt, high)
     behind j y r lt one two (inr is) = (let le = is.0 in omega (arith, one, two, le))
-ordered functions globals blocks func f (Goto b) range seated covers all ok = tt
-ordered functions globals blocks func f (Branch c t e) range seated covers all ok = tt
-ordered functions globals blocks func f (Return o) range seated covers all ok = tt
-ordered functions globals blocks func f (Out x next) range seated covers all ok = tt
+ordered functions globals blocks func f _ range seated covers all ok = tt
 
 -- a leaf has no call
 abbrev IsFine : Bool → RExit → Type 0
 IsFine leaf (Call g xs d next) = leaf ≡ false
-IsFine leaf (Goto b) = Unit {0}
-IsFine leaf (Branch c t e) = Unit {0}
-IsFine leaf (Return o) = Unit {0}
-IsFine leaf (Out x next) = Unit {0}
+IsFine leaf _ = Unit {0}
 
 leaf_fine : (bs : List RBlock) (b : ℕ) (block : RBlock) → slice_get bs b ≡ Some block → IsFine (is_leaf bs) block.exit
 leaf_fine [] b block there = absurd (none-some block there)
@@ -232,11 +221,8 @@ no_take bs d e = go (slice_get (namings bs (unnamed bs)) 0) e
     takes (Takes d) = true
 
     go : (o : Option Naming) → head_at 0 o ≡ Takes d → ⊥
-    go None e = true≢false (sym (ap takes e))
-    go (Some Unnamed) e = true≢false (sym (ap takes e))
     go (Some (Called None)) e = true≢false (sym (ap takes e))
-    go (Some (Called (Some c))) e = true≢false (sym (ap takes e))
-    go (Some Jumped) e = true≢false (sym (ap takes e))
+    go _ e = true≢false (sym (ap takes e))
 
 pub program_selected : (h : Homed) (depth most : ℕ) → IsProgram h.rtl.now → ((g : ℕ) (f : Frame) → slice_get h.frames.items g ≡ Some f → IsFrame most f)
     → ((g : ℕ) (func : RFunc) (f : Frame) → slice_get (h.rtl.now).functions g ≡ Some func → slice_get h.frames.items g ≡ Some f → AreSeated func f)

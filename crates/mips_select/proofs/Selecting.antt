@@ -10,7 +10,7 @@ use Rattle.mblock.specs.declared.limits.TheConstants.{UNIT_BLOCKS, UNIT_BYTES, B
 use Rattle.mblock.specs.Parts.{BlockParts}
 use Rattle.mblock.specs.Units.{UnitParts, unit_parts, AreLinked, AreOwners}
 use Rattle.rtl.specs.declared.instruction.RExit.{RExit}
-use Rattle.rtl.specs.declared.instruction.RExit.TheVariants.{Goto, Branch, Call, Return, Out}
+use Rattle.rtl.specs.declared.instruction.RExit.TheVariants.{Call}
 use Rattle.rtl.specs.declared.block.RFunc.{RFunc}
 use Rattle.rtl.specs.declared.block.RGlobal.{RGlobal}
 use Rattle.rtl.specs.declared.limits.TheConstants.{MAX_BLOCKS}
@@ -45,10 +45,7 @@ few_arguments functions globals blocks (Call g xs d next) all ok =
     let few = (all_at (IsFunction functions globals) functions g callee.callee all callee.there).parameters in
     let takes = callee.takes in
     omega (arith, few, takes)
-few_arguments functions globals blocks (Goto b) all ok = tt
-few_arguments functions globals blocks (Branch c t e) all ok = tt
-few_arguments functions globals blocks (Return o) all ok = tt
-few_arguments functions globals blocks (Out x next) all ok = tt
+few_arguments functions globals blocks _ all ok = tt
 
 few_blocks : (functions : List RFunc) (g : ℕ) (func : RFunc) → slice_get functions g ≡ Some func → length func.blocks.items ≤ sum_by block_count functions
 few_blocks [] g func there = absurd (none-some func there)

@@ -766,9 +766,8 @@ module _ (h : Homed) (depth : ℕ) (blocks : List BlockParts) (ok : IsSelected h
 
   stays : (run : Run) (p : Point) → MatchRun run p → Reach 0 p run
   stays (Running r [] g out) p m = absurd m
-  stays (Running r (a ∷ ws) g out) p m = record { to = p; count = 0; enough = omega arith; leads = leads_nowhere blocks links p; match = m }
-  stays (Ended v out) p m = record { to = p; count = 0; enough = omega arith; leads = leads_nowhere blocks links p; match = m }
   stays (Failed out) p m = tt
+  stays _ p m = record { to = p; count = 0; enough = omega arith; leads = leads_nowhere blocks links p; match = m }
 
   -- one step, and then more
   after_one : (n : ℕ) (p : Point) (run : Run) → Reach 1 p run → ((run : Run) (q : Point) → MatchRun run q → Reach n q (homed_steps h depth n run))

@@ -5,7 +5,7 @@ use Rattle.std.specs.Prelude.{slice_get, slice_index, replicate}
 use Rattle.std.proofs.lemmas.List.{length-replicate}
 use Rattle.std.proofs.lemmas.Option.{same_Some, none-some, slice_get_within}
 use Rattle.mblock.specs.declared.exit.Exit.{Exit}
-use Rattle.mblock.specs.declared.exit.Exit.TheVariants.{Goto, BranchPair, BranchZero, Call, Return, Out, Halt}
+use Rattle.mblock.specs.declared.exit.Exit.TheVariants.{Goto, BranchPair, BranchZero, Call, Out}
 use Rattle.mblock.specs.Parts.{BlockParts}
 use Rattle.mblock.specs.Units.{GoesBelow, BranchesWithin, Continues, AreLinked, AreOwners}
 use Rattle.mips_select.specs.Split.{renumbered_exit, more_pieces, pieces, count_of, firsts, first_piece_of, split_at_most, owners_from, total}
@@ -105,9 +105,8 @@ module _ (most : ℕ) (some : 0 < most) (blocks : List BlockParts) where
   goes_below (BranchPair test a b t e) low = (place_below t low.0, place_below e low.1)
   goes_below (BranchZero test a t e) low = (place_below t low.0, place_below e low.1)
   goes_below (Call f n) low = (place_below f low.0, place_below n low.1)
-  goes_below Return low = tt
   goes_below (Out n) low = place_below n low
-  goes_below Halt low = tt
+  goes_below _ low = tt
 
   pub pieces_linked : AreLinked blocks → AreLinked whole
   pieces_linked linked = record { by = λ i p there. by_piece i p (piece_of i p there) }
@@ -143,13 +142,9 @@ module _ (most : ℕ) (some : 0 < most) (blocks : List BlockParts) where
         ap (slice_get owned) here ∙ piece_owner t o b.0 b.1 is 0 (omega arith)
 
     stays_within : (o : ℕ) (exit : Exit) → BranchesWithin owner o exit → BranchesWithin owned (place o) (renumbered_exit place exit)
-    stays_within o (Goto t) in_o = tt
     stays_within o (BranchPair test a b t e) in_o = (owner_moved t o in_o.0, owner_moved e o in_o.1)
     stays_within o (BranchZero test a t e) in_o = (owner_moved t o in_o.0, owner_moved e o in_o.1)
-    stays_within o (Call f n) in_o = tt
-    stays_within o Return in_o = tt
-    stays_within o (Out n) in_o = tt
-    stays_within o Halt in_o = tt
+    stays_within o _ in_o = tt
 
     -- a place among the pieces, with the owner of its block
     record Owned (i : ℕ) : Type 0 where

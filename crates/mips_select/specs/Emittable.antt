@@ -1,7 +1,7 @@
 -- What the code of a block asks of it.
 use Rattle.std.specs.Prelude.{◌≡◌, ℕ, ◌≤◌, List, All, length, Some, slice_get}
 use Rattle.rtl.specs.declared.instruction.RExit.{RExit}
-use Rattle.rtl.specs.declared.instruction.RExit.TheVariants.{Goto, Branch, Call, Return, Out}
+use Rattle.rtl.specs.declared.instruction.RExit.TheVariants.{Call}
 use Rattle.rtl.specs.declared.block.RBlock.{RBlock}
 use Rattle.rtl.specs.declared.block.RFunc.{RFunc}
 use Rattle.rtl.specs.declared.limits.TheConstants.{MAX_BLOCKS, MAX_PARAMETERS}
@@ -11,10 +11,7 @@ use Rattle.mips_emit.specs.Frames.{IsReachable}
 
 abbrev pub HasFewArguments : RExit → Type 0
 HasFewArguments (Call g xs d next) = length xs.items ≤ MAX_PARAMETERS
-HasFewArguments (Goto b) = Unit {0}
-HasFewArguments (Branch c t e) = Unit {0}
-HasFewArguments (Return o) = Unit {0}
-HasFewArguments (Out x next) = Unit {0}
+HasFewArguments _ = Unit {0}
 
 -- its instructions name globals that are there, and a call has few arguments
 pub record IsEmittable (globals : ℕ) (b : RBlock) : Type 0 where

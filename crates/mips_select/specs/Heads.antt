@@ -68,10 +68,7 @@ resumes (Some d) (Takes e) = true
 -- how many blocks stand for a block that is left so
 abbrev pub count : (ℕ → Head) → RExit → ℕ
 count heads (Call g xs d next) = if resumes d (heads next) then 1 else 2
-count heads (Goto b) = 1
-count heads (Branch c t e) = 1
-count heads (Return o) = 1
-count heads (Out x next) = 1
+count heads _ = 1
 
 abbrev pub lead_of : Head → ℕ
 lead_of Bare = 1

@@ -2,7 +2,7 @@
 use Rattle.std.specs.Prelude.{◌≡◌, ℕ, ◌+◌, ◌*◌, ◌/◌, ◌≤◌, ◌<◌, List, [], ◌∷◌, length, max, Option, None, Some}
 use Rattle.mblock.specs.declared.limits.TheConstants.{BLOCK_INSTS}
 use Rattle.rtl.specs.declared.instruction.RExit.{RExit}
-use Rattle.rtl.specs.declared.instruction.RExit.TheVariants.{Goto, Branch, Call, Return, Out}
+use Rattle.rtl.specs.declared.instruction.RExit.TheVariants.{Call}
 use Rattle.rtl.specs.declared.block.RBlock.{RBlock}
 use Rattle.rtl.specs.declared.block.RFunc.{RFunc}
 use Rattle.rtl.specs.Names.{how_many}
@@ -50,10 +50,7 @@ insts_in (b ∷ bs) = length b.insts.items + insts_in bs
 -- a block has one, and a second after it only if it ends with a call
 abbrev pub exit_blocks : RExit → ℕ
 exit_blocks (Call g xs d next) = 2
-exit_blocks (Goto b) = 1
-exit_blocks (Branch c t e) = 1
-exit_blocks (Return o) = 1
-exit_blocks (Out x next) = 1
+exit_blocks _ = 1
 
 abbrev pub exits_blocks : List RBlock → ℕ
 exits_blocks [] = 0

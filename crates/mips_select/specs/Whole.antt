@@ -5,7 +5,7 @@ use Rattle.mblock.specs.declared.limits.TheConstants.{BLOCK_INSTS}
 use Rattle.mblock.specs.Parts.{BlockParts}
 use Rattle.mblock.specs.Units.{UnitParts, unit_parts}
 use Rattle.rtl.specs.declared.instruction.RExit.{RExit}
-use Rattle.rtl.specs.declared.instruction.RExit.TheVariants.{Goto, Branch, Call, Return, Out}
+use Rattle.rtl.specs.declared.instruction.RExit.TheVariants.{Call}
 use Rattle.rtl.specs.declared.block.RBlock.{RBlock}
 use Rattle.rtl.specs.declared.block.RFunc.{RFunc}
 use Rattle.rtl.specs.Programs.{Program}
@@ -32,18 +32,12 @@ numbers heads k (b ∷ bs) = k ∷ numbers heads (k + count heads b.exit) bs
 -- where the call at the end of block k goes on
 abbrev pub next_of : Planning → (k : ℕ) → RExit → ℕ
 next_of p k (Call g xs d next) = if resumes d (p.heads next) then p.place next else suc k
-next_of p k (Goto b) = 0
-next_of p k (Branch c t e) = 0
-next_of p k (Return o) = 0
-next_of p k (Out x next) = 0
+next_of p k _ = 0
 
 -- the block after a call, where there is one
 abbrev pub behind : Planning → RExit → List BlockParts
 behind p (Call g xs d next) = if resumes d (p.heads next) then [] else after_block p.frame d (p.place next) ∷ []
-behind p (Goto b) = []
-behind p (Branch c t e) = []
-behind p (Return o) = []
-behind p (Out x next) = []
+behind p _ = []
 
 -- the blocks for block j, the first of which has the number k
 abbrev pub blocks_for : Linking → Planning → (k j : ℕ) → RBlock → List BlockParts

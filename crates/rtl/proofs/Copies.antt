@@ -15,8 +15,8 @@ use Rattle.rtl.specs.declared.block.RFunc.{RFunc}
 use Rattle.rtl.specs.declared.block.RGlobal.{RGlobal}
 use Rattle.rtl.specs.Meaning.{Code, code_of}
 use Rattle.rtl.specs.Names.{is_in, goes_to, some_go_to}
-use Rattle.rtl.specs.Programs.{Program, IsInst, IsCallee, IsExit, IsBlock, IsFunction, IsRegister, IsProgram, program_of, block_count}
-use Rattle.rtl.specs.Tails.{writes_first, constant_of, spare_constant, is_short, again, joined, joined_if, with_tail, tailed_by, tailed, AreTailed, is_reached, shortest, empty_code, AreKept, AreMade, HasTails, HaveTails, IsTailed}
+use Rattle.rtl.specs.Programs.{IsInst, IsCallee, IsExit, IsBlock, IsFunction, IsRegister, IsProgram, program_of, block_count}
+use Rattle.rtl.specs.Tails.{writes_first, constant_of, spare_constant, is_short, again, joined, joined_if, with_tail, tailed_by, tailed, AreTailed, is_reached, shortest, empty_code, AreKept, AreMade, HasTails, HaveTails}
 
 -- the code of a block that goes to another of some blocks, with a copy of that one
 pub record Tail (bs : List RBlock) (c c' : Code) : Type 0 where
@@ -43,10 +43,7 @@ constant_first all (Const x w ∷ is) d e = by (writes_first all x) refl (λ f. 
         → (if b then Some x else constant_of all is) ≡ Some d → writes_first all d ≡ true
     by true f rest e = subst (λ d. writes_first all d ≡ true) (same_Some x d e) f
     by false f rest e = rest e
-constant_first all (Move x a ∷ is) d e = constant_first all is d e
-constant_first all (Bin op x a b ∷ is) d e = constant_first all is d e
-constant_first all (Load x g i ∷ is) d e = constant_first all is d e
-constant_first all (Store g i a ∷ is) d e = constant_first all is d e
+constant_first all _ d e = constant_first all is d e
 
 again_same : (x e : RExit) → again x ≡ Some e → e ≡ x
 again_same (Goto b) e is = sym (same_Some (Goto b) e is)
@@ -264,10 +261,7 @@ all_at P (y ∷ xs) (suc i) x all is = all_at P xs i x (All-tail P y xs all) is
 -- what holds of a register that an instruction sets to a constant
 abbrev pub HoldsOfConstant : (ℕ → Type 0) → RInst → Type 0
 HoldsOfConstant P (Const x w) = P x
-HoldsOfConstant P (Move x a) = Unit {0}
-HoldsOfConstant P (Bin op x a b) = Unit {0}
-HoldsOfConstant P (Load x g i) = Unit {0}
-HoldsOfConstant P (Store g i a) = Unit {0}
+HoldsOfConstant P _ = Unit {0}
 
 pub constant_holds : (P : ℕ → Type 0) (Q : RInst → Type 0) (of : (i : RInst) → Q i → HoldsOfConstant P i) (all is : List RInst) (d : ℕ) → All Q is
     → constant_of all is ≡ Some d → P d
@@ -284,21 +278,15 @@ constant_holds P Q of all (Store g i a ∷ is) d holds e = constant_holds P Q of
 
 constant_fits : (g : ℕ) (i : RInst) → IsInst g i → HoldsOfConstant IsRegister i
 constant_fits g (Const x w) fits = fits
-constant_fits g (Move x a) fits = tt
-constant_fits g (Bin op x a b) fits = tt
-constant_fits g (Load x a i) fits = tt
-constant_fits g (Store a i b) fits = tt
+constant_fits g _ fits = tt
 
 module _ (fs new : List RFunc) (h : HaveTails fs new) (g count : ℕ) where
   callee_fits : (f n : ℕ) → IsCallee fs f n → IsCallee new f n
   callee_fits f n c = let m = function_at fs new h f c.callee c.there in record { callee = m.0; there = m.1; takes = m.2.parameters ∙ c.takes }
 
   exit_fits : (x : RExit) → IsExit fs count x → IsExit new count x
-  exit_fits (Goto b) fits = fits
-  exit_fits (Branch c t e) fits = fits
   exit_fits (Call f xs d next) fits = (callee_fits f (length xs.items) fits.0, fits.1)
-  exit_fits (Return o) fits = fits
-  exit_fits (Out x next) fits = fits
+  exit_fits _ fits = fits
 
   block_fits : (before : List RBlock) (b c : RBlock) → All (IsBlock fs g count) before → IsBlock fs g count b → Copy before (code_of b) (code_of c)
       → IsBlock new g count c

@@ -1,9 +1,9 @@
 -- What comes of programs whose blocks have their tails.
-use Rattle.std.proofs.Common.{◌≡◌, ℕ, zero, suc, ◌+◌, ◌<◌, ◌≤◌, List, [], ◌∷◌, ◌++◌, length, take, get_or, refl, ap, subst, sym, ◌∙◌, arith}
+use Rattle.std.proofs.Common.{◌≡◌, ℕ, zero, suc, ◌+◌, ◌<◌, ◌≤◌, List, [], ◌∷◌, ◌++◌, length, take, get_or, refl, ap, sym, ◌∙◌, arith}
 use Rattle.std.specs.Prelude.{Bool, true, false, ◌||◌, if◌then◌else◌}
 use Rattle.std.proofs.Math.Seq.{take-suc}
 use Rattle.rtl.specs.declared.instruction.RInst.{RInst}
-use Rattle.rtl.specs.declared.instruction.RInst.TheVariants.{Const, Move, Bin, Load, Store}
+use Rattle.rtl.specs.declared.instruction.RInst.TheVariants.{Const}
 use Rattle.rtl.specs.declared.block.RBlock.{RBlock}
 use Rattle.rtl.specs.Names.{is_in, goes_to, some_go_to}
 use Rattle.rtl.specs.Tails.{weight, operations, Marks}
@@ -24,10 +24,7 @@ operations_next xs i n w d lt so_far one =
 
 weight_small : (x : RInst) → weight x ≤ 1
 weight_small (Const d w) = omega arith
-weight_small (Move d a) = omega arith
-weight_small (Bin op d a b) = omega arith
-weight_small (Load d g i) = omega arith
-weight_small (Store g i a) = omega arith
+weight_small _ = omega arith
 
 pub weight_at : (w : ℕ) (x : RInst) → w ≡ weight x → w ≤ 1
 weight_at w x is = let small = weight_small x in omega (arith, is, small)

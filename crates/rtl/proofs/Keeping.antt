@@ -126,8 +126,7 @@ step-words p depth (Running [] g out) h = h.1.1
 step-words p depth (Running (f ∷ frames) g out) h =
     at-words p depth f.code.insts f.code.exit f.blocks f.registers f.result_to frames g out (All-head FrameHoldsWords f frames h.0)
     (All-tail FrameHoldsWords f frames h.0) h.1.0 h.1.1
-step-words p depth (Ended w out) h = h
-step-words p depth (Failed out) h = h
+step-words p depth _ h = h
 
 elements-words : (w : Width) (vs : List ℕ) → All IsWord (map (λ v. kept w (wrap v)) vs)
 elements-words w [] = All-nil IsWord

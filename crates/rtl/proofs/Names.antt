@@ -1,10 +1,10 @@
 -- The greatest register that is named, and that a program with tails names no greater one.
-use Rattle.std.proofs.Common.{◌≡◌, ℕ, suc, ◌<◌, ◌≤◌, ◌⊎◌, inl, inr, Bool, true, false, List, [], ◌∷◌, ◌++◌, Option, Some, None, refl, ap, subst, sym, arith, nat_lt, ltb-true}
+use Rattle.std.proofs.Common.{◌≡◌, ℕ, suc, ◌<◌, ◌≤◌, ◌⊎◌, inl, inr, Bool, true, false, List, [], ◌∷◌, ◌++◌, refl, ap, subst, sym, arith, nat_lt, ltb-true}
 use Rattle.std.specs.Prelude.{All, if◌then◌else◌}
 use Rattle.std.proofs.lemmas.Bool.{ltb-false}
 use Rattle.std.proofs.lemmas.List.Elements.{All-nil, All-cons, All-head, All-tail, All-append}
 use Rattle.rtl.specs.declared.instruction.RInst.{RInst}
-use Rattle.rtl.specs.declared.instruction.RInst.TheVariants.{Const, Move, Bin, Load, Store}
+use Rattle.rtl.specs.declared.instruction.RInst.TheVariants.{Const}
 use Rattle.rtl.specs.declared.instruction.RExit.{RExit}
 use Rattle.rtl.specs.declared.instruction.RExit.TheVariants.{Goto, Branch, Call, Return, Out}
 use Rattle.rtl.specs.declared.block.RBlock.{RBlock}
@@ -92,10 +92,7 @@ each_inst m (i ∷ is) all =
 
 constant_below : (m : ℕ) (i : RInst) → Below m (inst_names i) → HoldsOfConstant (λ x. x < m) i
 constant_below m (Const x w) all = All-head (λ x. x < m) x [] all
-constant_below m (Move x a) all = tt
-constant_below m (Bin op x a b) all = tt
-constant_below m (Load x g i) all = tt
-constant_below m (Store g i a) all = tt
+constant_below m _ all = tt
 
 block_below : (m : ℕ) (before : List RBlock) (b c : RBlock) → All (BlockBelow m) before → BlockBelow m b → Copy before (code_of b) (code_of c)
     → BlockBelow m c

@@ -1,8 +1,7 @@
 -- With tails a program comes to the same, step for step.
 use Rattle.std.proofs.Common.{◌≡◌, ◌≢◌, ℕ, zero, suc, ◌+◌, ◌<◌, ◌≤◌, ◌⊎◌, inl, inr, Bool, true, false, List, [], ◌∷◌, ◌++◌, Option, Some, None}
-use Rattle.std.proofs.Common.{length, nat_eq, nat_lt, refl, ap, ap₂, subst, sym, ◌∙◌, arith}
+use Rattle.std.proofs.Common.{length, nat_eq, nat_lt, refl, ap, ap₂, subst, sym, ◌∙◌}
 use Rattle.std.specs.Prelude.{slice_get, map, ◌&&◌, ◌||◌, ◌==◌, if◌then◌else◌}
-use Rattle.std.proofs.lemmas.Option.{none-some}
 use Rattle.std.proofs.Common.{eqb-true, eq-eqb, true≢false}
 use Rattle.words.specs.Words.{wrap}
 use Rattle.runs.specs.Stores.{Places, unset_places, places_with, Arrays, chain, element_at, arrays_with}
@@ -16,10 +15,10 @@ use Rattle.rtl.specs.declared.block.RFunc.{RFunc}
 use Rattle.rtl.specs.declared.block.RGlobal.{RGlobal}
 use Rattle.rtl.specs.Operators.{op_result}
 use Rattle.rtl.specs.Programs.{Program}
-use Rattle.rtl.specs.Meaning.{Code, Frame, Run, code_of, words_in, argument_registers, kept_in, with_inst, state_at_block, with_result, state_after_return}
+use Rattle.rtl.specs.Meaning.{Code, Frame, Run, code_of, words_in, argument_registers, kept_in, with_inst, state_at_block, state_after_return}
 use Rattle.rtl.specs.Meaning.{state_after_call, state_after_exit, step_at, rtl_step, rtl_steps, rtl_start, first_values}
 use Rattle.rtl.specs.Names.{is_in, inst_reads, inst_writes}
-use Rattle.rtl.specs.Tails.{writes_first, joined, is_reached, AreMade, HasTails, HaveTails, IsTailed, RunsAlike}
+use Rattle.rtl.specs.Tails.{writes_first, joined, is_reached, AreMade, HasTails, IsTailed, RunsAlike}
 use Rattle.rtl.proofs.Copies.{Tail, Copy, Leads, found, not_found, function_at, no_function_at}
 
 -- ---- configurations
@@ -467,8 +466,7 @@ module _ (p q : Program) (are : IsTailed p q) (depth : ℕ) where
       some : (fs' : List Frame) → Stack (f ∷ fs) fs' → Alike (rtl_step p depth (Running (f ∷ fs) g out)) (rtl_step q depth (Running fs' g out))
       some [] w = absurd w
       some (f' ∷ fs') w = alike_frame f f' fs fs' g out w.0 w.1
-  alike_step (Ended v out) s' h = ap (rtl_step q depth) h
-  alike_step (Failed out) s' h = ap (rtl_step q depth) h
+  alike_step _ s' h = ap (rtl_step q depth) h
 
   alike_steps : (n : ℕ) (s s' : Run) → Alike s s' → Alike (rtl_steps p depth n s) (rtl_steps q depth n s')
   alike_steps zero s s' h = h
@@ -492,8 +490,7 @@ module _ (p q : Program) (are : IsTailed p q) (depth : ℕ) where
 
 same_outcome : (s s' : Run) → Alike s s' → outcome s' ≡ outcome s
 same_outcome (Running fs g out) s' h = ap outcome h.is
-same_outcome (Ended w out) s' h = ap outcome h
-same_outcome (Failed out) s' h = ap outcome h
+same_outcome _ s' h = ap outcome h
 
 pub runs_alike : (p q : Program) → IsTailed p q → RunsAlike p q
 runs_alike p q are depth n =

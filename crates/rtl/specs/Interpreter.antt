@@ -14,7 +14,7 @@ use Rattle.rtl.specs.declared.block.RGlobal.{RGlobal}
 use Rattle.rtl.specs.Operators.{op_result}
 use Rattle.rtl.specs.Programs.{Program}
 use Rattle.rtl.specs.Meaning as Meaning
-use Rattle.rtl.specs.Meaning.{Run, Code, code_of, with_inst, words_in}
+use Rattle.rtl.specs.Meaning.{Run, code_of, with_inst, words_in}
 use Rattle.rtl.specs.Meaning.{state_at_block, state_after_call, state_after_return, state_after_exit}
 use Rattle.rtl.specs.declared.interpreter.Frame.{Frame}
 

@@ -36,10 +36,7 @@ spare_constant all = constant_of all all
 -- how many instructions aren't constants
 abbrev pub weight : RInst → ℕ
 weight (Const d w) = 0
-weight (Move d a) = 1
-weight (Bin op d a b) = 1
-weight (Load d g i) = 1
-weight (Store g i a) = 1
+weight _ = 1
 
 abbrev pub operations : List RInst → ℕ
 operations [] = 0

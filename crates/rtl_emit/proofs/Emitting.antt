@@ -284,9 +284,8 @@ combined_size a free = record {
 prefix_size : (o : UnaryOp) (k : IntegerType) (a : TypedExpression) (free n : ℕ) → o ≢ U.Identity
     → (o ≡ U.Not → by_branches a ≡ false) → value_size (unary o k a) free n ≡ combined_size a free
 prefix_size U.Identity k a free n ne plain = absurd (ne refl)
-prefix_size U.Negate k a free n ne plain = refl
-prefix_size U.Complement k a free n ne plain = refl
 prefix_size U.Not k a free n ne plain = rw (plain refl)
+prefix_size _ k a free n ne plain = refl
 
 pub prefix_emits : (old new : List RBlock) (o : UnaryOp) (with : Combination) (k : IntegerType) (a : TypedExpression)
     (b : Bool) (d free : ℕ) (opened : OpenBlock) (after : Spot) (w : Result Waiting LowerFault) (x : Result OpenBlock LowerFault)

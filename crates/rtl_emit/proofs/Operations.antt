@@ -3,15 +3,14 @@ use Rattle.std.proofs.Common.{◌≡◌, ℕ, Bool, true, false, Some, refl, sym
 use Rattle.std.specs.Prelude.{not, ◌==◌, ◌-◌, ◌^◌, if◌then◌else◌}
 use Rattle.c_tree.specs.declared.tree.BinaryOp.{BinaryOp}
 use Rattle.c_tree.specs.declared.tree.BinaryOp.TheVariants as B
-use Rattle.c_tree.specs.declared.tree.UnaryOp.TheVariants as U
 use Rattle.words.specs.declared.sign.Sign.{Sign}
 use Rattle.words.specs.declared.sign.Sign.TheVariants.{Signed, Unsigned}
 use Rattle.words.specs.C.{is_below}
 use Rattle.c_typed.specs.Values.{truth, binary_of}
 use Rattle.rtl.specs.declared.operator.Op.{Op}
 use Rattle.rtl.specs.declared.operator.Op.TheVariants as O
-use Rattle.rtl.proofs.Computing.{sum-is, difference-is, product-is, left_shift-is, right_shift-is, negation-is, complement-is}
-use Rattle.rtl_emit.specs.Operations.{by_sign, result_of, EvaluatesBoth, Computes, ComputesPrefix, ComputesContrary}
+use Rattle.rtl.proofs.Computing.{sum-is, difference-is, product-is, left_shift-is, right_shift-is}
+use Rattle.rtl_emit.specs.Operations.{by_sign, result_of, EvaluatesBoth, Computes, ComputesContrary}
 use Rattle.rtl_emit.specs.declared.operation.Operation.{Operation}
 
 abbrev pub straight_op : Op → Operation

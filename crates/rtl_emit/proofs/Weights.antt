@@ -5,17 +5,15 @@ use Rattle.c_tree.specs.declared.tree.UnaryOp.{UnaryOp}
 use Rattle.c_typed.specs.declared.tree.TypedExpression as Tree
 use Rattle.c_typed.specs.Shape.{typed_expression_of}
 use Rattle.c_tokens.specs.declared.token.IntegerType.{IntegerType}
-use Rattle.c_typed.specs.Trees.{TypedExpression, constant, local, global, element, unary, binary, conditional}
+use Rattle.c_typed.specs.Trees.{TypedExpression, element, unary, binary, conditional}
 
 -- nine for each operator, so that the calls for one expression have numbers of their own
 abbrev pub weight : TypedExpression → ℕ
-weight (constant c) = 0
-weight (local x k) = 0
-weight (global x k) = 0
 weight (element x k i) = weight i + 9
 weight (unary o k e) = weight e + 9
 weight (binary o k l r) = weight l + weight r + 9
 weight (conditional k c a b) = weight c + weight a + weight b + 9
+weight _ = 0
 
 -- the weight of an expression by those of its parts, as they are found
 pub element_weight : {e : TypedExpression} {k : IntegerType} {p q : ℕ × Tree.TypedExpression} → e ≡ element p.0 k (typed_expression_of p.1) → q ≡ p

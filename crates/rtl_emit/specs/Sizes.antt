@@ -38,9 +38,6 @@ by_branches _ = false
 abbrev mutual
   -- of the value of an expression, with so many for what comes after it
   pub value_blocks : TypedExpression → ℕ → ℕ
-  value_blocks (constant c) n = 0
-  value_blocks (local x k) n = 0
-  value_blocks (global x k) n = 0
   value_blocks (element x k i) n = value_blocks i 1
   value_blocks (unary U.Identity k e) n = value_blocks e n
   value_blocks (unary U.Not k e) n = if by_branches e then n + 2 + condition_blocks e else value_blocks e 1
@@ -48,12 +45,10 @@ abbrev mutual
   value_blocks (binary o k l r) n =
       if is_logical o then n + 2 + condition_blocks r + 1 + condition_blocks l else value_blocks r 1 + value_blocks l 1
   value_blocks (conditional k c a b) n = n + value_blocks a 0 + 1 + value_blocks b 0 + 1 + condition_blocks c
+  value_blocks _ n = 0
 
   -- of the branches of a condition
   pub condition_blocks : TypedExpression → ℕ
-  condition_blocks (constant c) = 0
-  condition_blocks (local x k) = 0
-  condition_blocks (global x k) = 0
   condition_blocks (element x k i) = value_blocks i 1
   condition_blocks (unary U.Identity k e) = condition_blocks e
   condition_blocks (unary U.Not k e) = condition_blocks e
@@ -61,6 +56,7 @@ abbrev mutual
   condition_blocks (binary o k l r) = if is_logical o then condition_blocks r + 1 + condition_blocks l
       else value_blocks r 1 + value_blocks l 1
   condition_blocks (conditional k c a b) = condition_blocks a + 1 + condition_blocks b + 1 + condition_blocks c
+  condition_blocks _ = 0
 
 -- at most how many instructions the value of an expression takes, and the branches of a condition
 abbrev mutual

@@ -14,8 +14,8 @@ use Rattle.c_typed.specs.declared.tree.Destination.TheVariants.{Local, Global as
 use Rattle.c_typed.specs.declared.tree.Function.{Function}
 use Rattle.c_typed.specs.declared.tree.Global.{Global}
 use Rattle.c_typed.specs.Shape.{function_of, functions_of}
-use Rattle.c_typed.specs.Trees.{TypedExpression, TypedStatement, TypedStatements, TypedFunction, TypedProgram, constant, local, global, element, unary, binary}
-use Rattle.c_typed.specs.Trees.{conditional, empty, block, unset, assign, store, call, output, if_else, loop, break_loop, continue_loop, return_with}
+use Rattle.c_typed.specs.Trees.{TypedExpression, TypedStatement, TypedStatements, TypedFunction, TypedProgram, global, element, unary, binary}
+use Rattle.c_typed.specs.Trees.{conditional, block, assign, store, call, output, if_else, loop, continue_loop, return_with}
 use Rattle.c_typed.specs.Trees.{no_statements, more_statements}
 use Rattle.c_typed.specs.WellFormed.{FitsExpression, FitsAll, FitsMaybe, FitsPlace, FitsTarget, FitsStatement, FitsStatements}
 use Rattle.c_typed.specs.WellFormed.{FitsFunction, IsWellFormed, words_in}
@@ -123,19 +123,12 @@ or_none false b e f = f
 
 mutual
   no_continue : (p : TypedProgram) (n : ℕ) (gives : Bool) (s : TypedStatement) → FitsStatement p n gives false s → continues s ≡ false
-  no_continue p n gives empty f = refl
   no_continue p n gives (block all) f = no_continues p n gives all f
-  no_continue p n gives (unset x) f = refl
-  no_continue p n gives (assign to e) f = refl
-  no_continue p n gives (store a i e) f = refl
-  no_continue p n gives (call to g es) f = refl
-  no_continue p n gives (output e) f = refl
   no_continue p n gives (if_else c a b) f =
       or_none (continues a) (continues b) (no_continue p n gives a f.1.0) (no_continue p n gives b f.1.1)
   no_continue p n gives (loop c last body) f = no_continue p n gives last f.1.0
-  no_continue p n gives break_loop f = refl
   no_continue p n gives continue_loop f = sym f
-  no_continue p n gives (return_with e) f = refl
+  no_continue p n gives _ f = refl
 
   no_continues : (p : TypedProgram) (n : ℕ) (gives : Bool) (all : TypedStatements) → FitsStatements p n gives false all → any_continues all ≡ false
   no_continues p n gives no_statements f = refl
@@ -145,8 +138,6 @@ mutual
 -- numbers of globals and functions
 
 pub expression_numbers : (p : TypedProgram) (n : ℕ) (e : TypedExpression) → FitsExpression p n e → globals_named e ≤ length p.globals
-expression_numbers p n (constant c) f = omega arith
-expression_numbers p n (local x k) f = omega arith
 expression_numbers p n (global x k) f = omega (arith, f)
 expression_numbers p n (element x k e) f = let r = expression_numbers p n e f.1 in let h = f.0 in omega (arith, h, r)
 expression_numbers p n (unary o k e) f = expression_numbers p n e f.1
@@ -157,6 +148,7 @@ expression_numbers p n (conditional k c a b) f =
     let ra = expression_numbers p n a f.1.1.0 in
     let rb = expression_numbers p n b f.1.1.1 in
     omega (arith, rc, ra, rb)
+expression_numbers p n _ f = omega arith
 
 pub list_numbers : (p : TypedProgram) (n : ℕ) (es : List TypedExpression) → FitsAll p n es → globals_named_in es ≤ length p.globals
 list_numbers p n [] f = omega arith
@@ -177,9 +169,7 @@ maybe_numbers p n (Some e) f = expression_numbers p n e f
 mutual
   statement_numbers : (p : TypedProgram) (n : ℕ) (gives inside : Bool) (s : TypedStatement) → FitsStatement p n gives inside s
       → numbers_named s ≤ length p.globals + length p.functions
-  statement_numbers p n gives inside empty f = omega arith
   statement_numbers p n gives inside (block all) f = statements_numbers p n gives inside all f
-  statement_numbers p n gives inside (unset x) f = omega arith
   statement_numbers p n gives inside (assign to e) f =
       let a = place_number p n to f.0 in let b = expression_numbers p n e f.1 in omega (arith, a, b)
   statement_numbers p n gives inside (store x i e) f =
@@ -198,9 +188,8 @@ mutual
       let ra = statement_numbers p n gives false last f.1.0 in
       let rb = statement_numbers p n gives true body f.1.1 in
       omega (arith, re, ra, rb)
-  statement_numbers p n gives inside break_loop f = omega arith
-  statement_numbers p n gives inside continue_loop f = omega arith
   statement_numbers p n gives inside (return_with e) f = let a = maybe_numbers p n e f.1 in omega (arith, a)
+  statement_numbers p n gives inside _ f = omega arith
 
   statements_numbers : (p : TypedProgram) (n : ℕ) (gives inside : Bool) (all : TypedStatements) → FitsStatements p n gives inside all
       → numbers_named_in all ≤ length p.globals + length p.functions

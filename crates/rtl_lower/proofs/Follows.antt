@@ -4,7 +4,7 @@ use Rattle.std.proofs.Common.{nat_eq}
 use Rattle.std.specs.Prelude.{if◌then◌else◌}
 use Rattle.runs.specs.Stores.{Places, Arrays, places_with}
 use Rattle.runs.proofs.Words.{written-words}
-use Rattle.c_typed.specs.declared.tree.Destination.TheVariants.{Local, Global as Variable}
+use Rattle.c_typed.specs.declared.tree.Destination.TheVariants.{Local}
 use Rattle.c_typed.specs.Trees.{TypedStatement, TypedStatements, TypedProgram, empty, block, unset, assign, store, call, output, if_else, loop}
 use Rattle.c_typed.specs.Trees.{break_loop, continue_loop, return_with, no_statements, more_statements}
 use Rattle.c_typed.specs.WellFormed.{FitsStatement, FitsStatements}
@@ -75,16 +75,11 @@ mutual
   there_coded bs n (block all) leave next from after t c th = there_all bs n all leave next from after t c th
   there_coded bs n (unset x) leave next from after t c th = subst (λ s. IsThere bs s) (sym c) th
   there_coded bs n (assign (Local x) e) leave next from after t c th = subst (λ s. IsThere bs s) (sym c.is) tt
-  there_coded bs n (assign (Variable x) e) leave next from after t c th = subst (λ s. IsThere bs s) (sym c.is) tt
-  there_coded bs n (store a i e) leave next from after t c th = subst (λ s. IsThere bs s) (sym c.is) tt
-  there_coded bs n (call to f es) leave next from after t c th = subst (λ s. IsThere bs s) (sym c.is) tt
   there_coded bs n (output e) leave next from after t c th = subst (λ s. IsThere bs s) (sym c.leaves.is) tt
-  there_coded bs n (if_else e a b) leave next from after t c th = subst (λ s. IsThere bs s) (sym c.is) tt
-  there_coded bs n (loop e last body) leave next from after t c th = subst (λ s. IsThere bs s) (sym c.is) tt
   there_coded bs n break_loop leave next from after t c th = subst (λ s. IsThere bs s) (sym c) t.leaves
   there_coded bs n continue_loop leave next from after t c th = subst (λ s. IsThere bs s) (sym c.2) (t.continues c.0 c.1)
   there_coded bs n (return_with None) leave next from after t c th = subst (λ s. IsThere bs s) (sym c) tt
-  there_coded bs n (return_with (Some e)) leave next from after t c th = subst (λ s. IsThere bs s) (sym c.is) tt
+  there_coded bs n _ leave next from after t c th = subst (λ s. IsThere bs s) (sym c.is) tt
 
   pub there_all : (bs : List RBlock) (n : ℕ) (all : TypedStatements) (leave : ℕ) (next : Option ℕ) (from after : Spot) → Targets bs leave next
       → CodedAll bs n all leave next from after → IsThere bs after → IsThere bs from

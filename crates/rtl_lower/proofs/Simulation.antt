@@ -16,14 +16,14 @@ use Rattle.runs.proofs.Words.{at-index}
 use Rattle.c_typed.specs.declared.tree.Destination.{Destination}
 use Rattle.c_typed.specs.declared.tree.Destination.TheVariants.{Local, Global as Variable}
 use Rattle.c_typed.specs.declared.tree.Global.{Global}
-use Rattle.c_typed.specs.Trees.{TypedExpression, TypedStatement, TypedFunction, TypedProgram, empty, block, unset, assign, store, call, output}
+use Rattle.c_typed.specs.Trees.{TypedExpression, TypedStatement, TypedFunction, TypedProgram, block, assign, store, call, output}
 use Rattle.c_typed.specs.Trees.{if_else, loop}
-use Rattle.c_typed.specs.Trees.{break_loop, continue_loop, return_with}
+use Rattle.c_typed.specs.Trees.{return_with}
 use Rattle.c_typed.specs.WellFormed.{FitsFunction, FitsTarget, IsWellFormed}
 use Rattle.c_typed.specs.Values.{value_of, values_of}
 use Rattle.c_typed.specs.Meaning as Src
 use Rattle.c_typed.specs.Meaning.{Todo, Do, Next, Going, before, before_all, next_point, todo_of_test, step_at, source_step, source_steps}
-use Rattle.c_typed.specs.Meaning.{source_start, source_run, first_words}
+use Rattle.c_typed.specs.Meaning.{source_start, first_words}
 use Rattle.c_typed.specs.Laws.{FrameHoldsWords, RunHoldsWords}
 use Rattle.c_typed.proofs.Keeping.{source-start-words, source-step-words}
 use Rattle.rtl.specs.declared.instruction.RInst.TheVariants as I
@@ -33,7 +33,7 @@ use Rattle.rtl.specs.declared.block.RFunc.{RFunc}
 use Rattle.rtl.specs.declared.block.RGlobal.{RGlobal}
 use Rattle.rtl.specs.Programs.{Program}
 use Rattle.rtl.specs.Meaning as Blk
-use Rattle.rtl.specs.Meaning.{Code, code_of, kept_in, state_at_block, words_in, rtl_step, rtl_steps, rtl_start, rtl_run, first_values, argument_registers}
+use Rattle.rtl.specs.Meaning.{Code, code_of, kept_in, state_at_block, words_in, rtl_step, rtl_steps, rtl_start, first_values, argument_registers}
 use Rattle.rtl_emit.specs.Blocks.{exit_code, first, Spot, Block, Line, line_of, At}
 use Rattle.rtl_emit.specs.Runs.{at_code, at, Surroundings, Goes, Moves, Holds}
 use Rattle.rtl_emit.specs.Expressions.{IsPlace, Fetches, Decides}
@@ -450,11 +450,6 @@ module _ (src : TypedProgram) (p : Program) (ok : IsCodeOfProgram src p) (well :
     acts_at : (s : TypedStatement) (k : List Todo) (leave : ℕ) (next : Option ℕ) (from after : Spot) (code : Code) → Targets bs leave next
         → Sits bs from code → Coded bs n s leave next from after → Fits src n s → Follows src bs n k leave next after
         → Advance src p depth (at_code bs r code d ws g out) (step_at src depth l (Do s ∷ k) place fs g out)
-    acts_at empty k leave next from after code t si c sc f = advance_failed src p depth _ out
-    acts_at (block all) k leave next from after code t si c sc f = advance_failed src p depth _ out
-    acts_at (unset x) k leave next from after code t si c sc f = advance_failed src p depth _ out
-    acts_at break_loop k leave next from after code t si c sc f = advance_failed src p depth _ out
-    acts_at continue_loop k leave next from after code t si c sc f = advance_failed src p depth _ out
     acts_at (assign (Local x) e) k leave next from after code t si c sc f =
         in_line from c.code code _ c.is si (advance_value src p depth _ (value_of e l g) out _ (λ v is.
         let y = c.value.by around l r v h is in
@@ -572,14 +567,14 @@ module _ (src : TypedProgram) (p : Program) (ok : IsCodeOfProgram src p) (well :
     acts_at (return_with (Some e)) k leave next from after code t si c sc f =
         in_line from c.code code _ c.is si (with_operand e c.p c.next c.code _ _ c.is_place c.value (λ v is r' rv same held.
         returns (Some v) place d fs ws g out _ m (with_some (r' c.p) v out (λ v. Blk.state_after_return (Some v) d ws g out) rv)))
+    acts_at _ k leave next from after code t si c sc f = advance_failed src p depth _ out
 
     acts : (k : List Todo) (leave : ℕ) (next : Option ℕ) (from : Spot) (code : Code) → Targets bs leave next → Sits bs from code
         → Follows src bs n k leave next from → Advance src p depth (at_code bs r code d ws g out) (step_at src depth l k place fs g out)
-    acts [] leave next from code t si f = advance_failed src p depth _ out
-    acts (Next last again ∷ k) leave next from code t si f = advance_failed src p depth _ out
     acts (Do s ∷ k) leave next from code t si f =
         let x = f.comes.by code si p depth r d ws g out in
         advance_after src p depth _ (at_code bs r x.0 d ws g out) _ x.2 (acts_at s k leave next f.at f.middle x.0 t x.1 f.coded f.fits f.rest)
+    acts _ leave next from code t si f = advance_failed src p depth _ out
 
   -- a step of the source
   advances : (s : Src.Run) (t : Blk.Run) → RunHoldsWords s → MatchRun src s t → Advance src p depth t (source_step src depth s)

@@ -14,8 +14,8 @@ use Rattle.c_typed.specs.declared.limits.TheConstants.{MAX_GLOBAL_WORDS}
 use Rattle.c_typed.specs.declared.tree.Function.{Function}
 use Rattle.c_types.specs.Shape.{TypedParts, program_of}
 use Rattle.c_typed.specs.Shape.{functions_of}
-use Rattle.c_typed.specs.Trees.{TypedExpression, TypedStatement, TypedFunction, TypedProgram}
-use Rattle.c_typed.specs.WellFormed.{FitsExpression, FitsAll, FitsStatement, FitsFunction, IsWellFormed, words_in}
+use Rattle.c_typed.specs.Trees.{TypedExpression, TypedFunction, TypedProgram}
+use Rattle.c_typed.specs.WellFormed.{FitsExpression, FitsAll, FitsFunction, IsWellFormed, words_in}
 use Rattle.rtl.specs.Programs as Programs
 use Rattle.rtl.specs.Programs.{IsRegister, IsMaybeRegister, IsInst, IsExit, IsCallee, IsBlock, IsFunction, IsGlobal, IsProgram, block_count, word_count}
 use Rattle.rtl.specs.Names.{inst_names, optional, exit_names, insts_names, blocks_names, bound}
@@ -24,7 +24,7 @@ use Rattle.rtl.specs.declared.limits.TheConstants.{MAX_REGISTERS}
 use Rattle.rtl.specs.declared.instruction.RInst.{RInst}
 use Rattle.rtl.specs.declared.instruction.RInst.TheVariants.{Const, Move, Bin, Load, Store}
 use Rattle.rtl.specs.declared.instruction.RExit.{RExit}
-use Rattle.rtl.specs.declared.instruction.RExit.TheVariants.{Goto, Branch, Call, Return, Out}
+use Rattle.rtl.specs.declared.instruction.RExit.TheVariants.{Goto, Call, Return}
 use Rattle.rtl.specs.declared.block.RBlock.{RBlock}
 use Rattle.rtl.specs.declared.block.RFunc.{RFunc}
 use Rattle.rtl.specs.declared.block.RGlobal.{RGlobal}
@@ -139,11 +139,10 @@ maybe_is s (Some x) le h = omega (arith, le, h)
 
 exit_is : (s : Scope) (x : RExit) → s.registers ≤ MAX_REGISTERS → IsSoundExit s x → IsExit s.functions s.blocks x
 exit_is s (Goto b) le h = h
-exit_is s (Branch a t e) le h = (omega (arith, le, h.0), h.1)
 exit_is s (Call f args d next) le h =
     (h.0, (All-weaker (λ x. x < s.registers) IsRegister (λ x lt. omega (arith, le, lt)) args.items h.1.0, (maybe_is s d le h.1.1.0, h.1.1.1)))
 exit_is s (Return a) le h = maybe_is s a le h
-exit_is s (Out a next) le h = (omega (arith, le, h.0), h.1)
+exit_is s _ le h = (omega (arith, le, h.0), h.1)
 
 blocks_are : (s : Scope) (bs : List RBlock) → s.registers ≤ MAX_REGISTERS → AreSound s bs → All (IsBlock s.functions s.globals s.blocks) bs
 blocks_are s [] le a = All-nil (IsBlock s.functions s.globals s.blocks)
@@ -177,11 +176,10 @@ maybe_below s (Some x) h = (h, tt)
 
 exit_below : (s : Scope) (x : RExit) → IsSoundExit s x → AllByRecursion (λ x. x < s.registers) (exit_names x)
 exit_below s (Goto b) h = tt
-exit_below s (Branch a t e) h = (h.0, tt)
 exit_below s (Call f args d next) h =
     all_names s.registers args.items (optional d) (recursion_from_All (λ x. x < s.registers) args.items h.1.0) (maybe_below s d h.1.1.0)
 exit_below s (Return a) h = maybe_below s a h
-exit_below s (Out a next) h = (h.0, tt)
+exit_below s _ h = (h.0, tt)
 
 blocks_below : (s : Scope) (bs : List RBlock) → AreSound s bs → AllByRecursion (λ x. x < s.registers) (blocks_names bs)
 blocks_below s [] a = tt

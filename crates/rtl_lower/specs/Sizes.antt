@@ -73,9 +73,7 @@ receiver_registers (Some (Variable g)) free = free + 2
 -- the blocks beside those that what comes after it has
 abbrev mutual
   pub statement_blocks : TypedStatement → ℕ → ℕ
-  statement_blocks empty n = 0
   statement_blocks (block all) n = statements_blocks all n
-  statement_blocks (unset x) n = 0
   statement_blocks (assign (Local x) e) n = value_blocks e n
   statement_blocks (assign (Variable g) e) n = value_blocks e 1
   statement_blocks (store a i e) n = value_blocks e 1 + value_blocks i 1
@@ -86,10 +84,8 @@ abbrev mutual
   statement_blocks (loop e last body) n =
       n + 1 + condition_blocks e + statement_blocks last 1 + (if continues body then statement_joint last 1 else 0)
       + statement_blocks body (if continues body then 0 else statement_joint last 1) + condition_blocks e
-  statement_blocks break_loop n = 0
-  statement_blocks continue_loop n = 0
-  statement_blocks (return_with None) n = 0
   statement_blocks (return_with (Some e)) n = value_blocks e 1
+  statement_blocks _ n = 0
 
   pub statements_blocks : TypedStatements → ℕ → ℕ
   statements_blocks no_statements n = 0

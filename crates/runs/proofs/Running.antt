@@ -47,8 +47,7 @@ one-less old n i lt =
 pub goes-on : (old new : ℕ → Outcome) (whole : Outcome) (n i : ℕ) (r : Reached) (out : List ℕ) → i < n → old (n - i) ≡ whole
     → ((k : ℕ) → old (suc k) ≡ outcome_after r (new k) out) → end_of r ≡ None → new (n - (i + 1)) ≡ whole
 goes-on old new whole n i Going out lt left step e = sym (step (n - (i + 1))) ∙ sym (one-less old n i lt) ∙ left
-goes-on old new whole n i (Ended w) out lt left step e = cc
-goes-on old new whole n i Failed out lt left step e = cc
+goes-on old new whole n i _ out lt left step e = cc
 
 pub ends : (old new : ℕ → Outcome) (whole : Outcome) (n i : ℕ) (r : Reached) (out : List ℕ) (end : End) → i < n → old (n - i) ≡ whole
     → ((k : ℕ) → old (suc k) ≡ outcome_after r (new k) out) → end_of r ≡ Some end → record { end = end; output = out } ≡ whole

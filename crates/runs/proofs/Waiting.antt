@@ -1,11 +1,10 @@
 -- The calls that are active: kept with the latest one last, and meant with the latest one first.
-use Rattle.std.proofs.Common.{◌≡◌, ℕ, Bool, List, Option, Some, None, ◌∙◌, refl, ap, length, map, nat_lt}
+use Rattle.std.proofs.Common.{◌≡◌, ℕ, Bool, List, ◌∙◌, ap, length, map, nat_lt}
 use Rattle.std.proofs.lemmas.List.{length-map}
 use Rattle.std.specs.declared.vec.Vec.{Vec}
 use Rattle.std.specs.declared.alloc.Global.{Global}
 use Rattle.runs.specs.Kept.{arrays}
-use Rattle.runs.specs.Runs.{Configuration, Running, Ended, with_value}
-use Rattle.runs.specs.Steps.{last_reached, after_step}
+use Rattle.runs.specs.Runs.{Running}
 use Rattle.runs.specs.Calls.{calls_of, state_by}
 use Rattle.runs.specs.declared.interpreter.Interpreter.{Interpreter}
 
@@ -23,9 +22,3 @@ with-calls call_of m new calls is globals output =
     ap (λ cs. Running (map call_of cs) (arrays new.globals.items) new.output.items) is
     ∙ ap (λ (g : Vec (Vec ℕ Global) Global). Running (map call_of calls) (arrays g.items) new.output.items) globals
     ∙ ap (λ (out : Vec ℕ Global). Running (map call_of calls) (arrays m.globals.items) out.items) output
-
--- a return of the last call, with a word or without
-pub last-return : {Call : Type 0} (v : Option ℕ) (s : Configuration Call) (out : List ℕ)
-    → with_value v out (λ w. Ended w out) ≡ after_step (last_reached v) s out
-last-return None s out = refl
-last-return (Some w) s out = refl

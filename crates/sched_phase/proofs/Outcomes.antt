@@ -40,9 +40,7 @@ one_order : (proposes : Proposals) → ProposesOne proposes → (b : BlockParts)
 one_order proposes one b o p same h g = one b o p h.0 g.0
 one_order proposes one b o p unclean h g = h.0 ∙ sym g.0
 one_order proposes one b o p differs h g = h.0 ∙ sym g.0
-one_order proposes one b o p full h g = h ∙ sym g
-one_order proposes one b o p no_memory h g = h ∙ sym g
-one_order proposes one b o p missed h g = h ∙ sym g
+one_order proposes one b o p _ h g = h ∙ sym g
 
 zero_each : (f : Kind → ℕ) (ks : List Kind) → sum_by f ks ≡ 0 → (i : ℕ) (k : Kind) → slice_get ks i ≡ Some k → f k ≡ 0
 zero_each f [] h i k at = absurd (none-some k at)

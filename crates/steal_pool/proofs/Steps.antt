@@ -24,9 +24,6 @@ sum_set f (u ∷ us) (suc port) v w at =
     let c = sum_set f us port v w at in
     omega arith
 
-at_end : (l : List View) (a b : View) (j : ℕ) → get_elem? l j ≢ some b → get_elem? (l ++ a ∷ []) j ≡ some b → a ≡ b
-at_end l a b j not at = ⊎_elim (λ x. absurd (not x)) (λ (is : a ≡ b). is) (at_snoc l a b j at)
-
 -- the one pass that may put knows what was put
 abbrev pub Knows : List ℕ → ℕ → View → Type 0
 Knows put port v = v.puts ≡ true → (port ≡ 0) × (v.put ≡ put)

@@ -1,17 +1,11 @@
 -- The turn of a member: each deque of the pool, its own first.
 use Rattle.std.specs.Prelude.{◌≡◌, ℕ, ◌+◌, ◌%◌, ◌<◌, List, Some, length, slice_get}
-use Rattle.std.specs.List.{sum_by}
 use Rattle.std.specs.declared.alloc.Global.{Global}
 use Rattle.atomic_blocks.specs.Lent.{RowsId}
 use Rattle.steal_pool.specs.declared.view.View.{View}
 use Rattle.steal_pool.specs.declared.member.Member.{Member}
-use Rattle.steal_pool.specs.Rule.{times}
 use Rattle.steal_pool.specs.Shares.{IsShare}
 use Rattle.steal_pool.specs.Members.{deques_of, views_of}
-
--- how often the passes with these views took x
-abbrev pub times_taken : ℕ → List View → ℕ
-times_taken x views = sum_by (λ (v : View). times x v.taken) views
 
 module _ {K : Type 0} where
   -- The member takes from all of these deques and no others, first from the one at place w. Each of its passes knows that

@@ -6,10 +6,10 @@ use Rattle.words.specs.declared.operator.Operator.TheVariants.{Addu}
 use Rattle.mips_isa.specs.declared.inst.Plain.{Plain}
 use Rattle.mips_isa.specs.declared.action.Operand.TheVariants.{Held, Fixed}
 use Rattle.mips_isa.specs.declared.action.Action.{Action}
-use Rattle.mips_isa.specs.declared.action.Action.TheVariants.{Computes, Sets, Loads, Stores, Multiplies, Divides, MovesHigh, MovesLow}
+use Rattle.mips_isa.specs.declared.action.Action.TheVariants.{Computes, Loads, Stores}
 use Rattle.mips_isa.specs.Actions.{action_of}
 use Rattle.mblock.specs.declared.exit.Exit.TheVariants.{Goto}
-use Rattle.mblock.specs.BlockMeaning.{Shape, Goes, ChoosesPair, ChoosesZero, Calls, Returns, Prints, Halts, exit_shape}
+use Rattle.mblock.specs.BlockMeaning.{Shape, Goes, exit_shape}
 use Rattle.sym_terms.specs.NormalForms.{is_addition}
 use Rattle.sym_exec.specs.Growth.{growth_by, stores_after, all_stores, growth_by_all, growth_by_shape, code_growth, GrowthHasBound}
 use Rattle.sym_exec.proofs.Tracking.{drop_here}
@@ -35,23 +35,11 @@ two_or_one false = omega arith
 growth_low : (a : Action) (k : ℕ) → growth_by a k ≤ k + 3
 growth_low (Computes d op a (Held r)) k = let low = two_or_one (is_addition op) in omega (arith, low)
 growth_low (Computes d op a (Fixed w)) k = let low = two_or_one (is_addition op) in omega (arith, low)
-growth_low (Sets d w) k = omega arith
-growth_low (Loads w d base offset) k = omega arith
-growth_low (Stores w r base offset) k = omega arith
-growth_low (Multiplies sign a b) k = omega arith
-growth_low (Divides sign a b) k = omega arith
-growth_low (MovesHigh d) k = omega arith
-growth_low (MovesLow d) k = omega arith
+growth_low _ k = omega arith
 
 stores_low : (a : Action) (k : ℕ) → stores_after a k ≤ suc k
 stores_low (Computes d op a b) k = omega arith
-stores_low (Sets d w) k = omega arith
-stores_low (Loads w d base offset) k = omega arith
-stores_low (Stores w r base offset) k = omega arith
-stores_low (Multiplies sign a b) k = omega arith
-stores_low (Divides sign a b) k = omega arith
-stores_low (MovesHigh d) k = omega arith
-stores_low (MovesLow d) k = omega arith
+stores_low _ k = omega arith
 
 all_stores_low : (acts : List Action) (k : ℕ) → all_stores acts k ≤ k + length acts
 all_stores_low [] k = omega arith
@@ -71,12 +59,7 @@ all_low (a ∷ rest) k m few =
 
 shape_low : (shape : Shape) → growth_by_shape shape ≤ 1
 shape_low (Goes t) = omega arith
-shape_low (ChoosesPair x t e) = omega arith
-shape_low (ChoosesZero x t e) = omega arith
-shape_low (Calls f n) = omega arith
-shape_low Returns = omega arith
-shape_low (Prints n) = omega arith
-shape_low Halts = omega arith
+shape_low _ = omega arith
 
 sum_is : (a b : ℕ) → (a + b) + (a * (a + b + 3) + b * (a + b + 3)) ≡ (a + b) * (a + b + 4)
 sum_is a b = grind arith

@@ -4,8 +4,8 @@ use Rattle.std.proofs.Math.Seq.{take-suc}
 use Rattle.std.proofs.lemmas.List.{append-nil}
 use Rattle.std.proofs.lemmas.List.Elements.{filter-append}
 use Rattle.mips_isa.specs.declared.inst.Plain.{Plain}
-use Rattle.mips_isa.specs.declared.inst.Plain.TheVariants.{Shift, ShiftBy, Alu, Imm, Logic, LoadUpper, MoveFrom, Multiply, Divide, Load, Store}
-use Rattle.mips_isa.specs.declared.inst.ShiftOp.TheVariants.{Sll, Srl, Sra}
+use Rattle.mips_isa.specs.declared.inst.Plain.TheVariants.{Shift}
+use Rattle.mips_isa.specs.declared.inst.ShiftOp.TheVariants.{Sll}
 use Rattle.mips_isa.specs.Actions.{nop, action_of}
 use Rattle.mips_isa.specs.Texts.{is_nop}
 use Rattle.sym_exec.specs.Symbolic.{TreeState, trees_after, all_trees}
@@ -23,18 +23,7 @@ nop_is (Shift Sll rd rt amount) is =
     let rest = both (rt == 0) (amount == 0) first.1 in
     ap (λ d. Shift Sll d rt amount) (eqb-true rd 0 first.0) ∙ (ap (λ s. Shift Sll 0 s amount) (eqb-true rt 0 rest.0)
     ∙ ap (Shift Sll 0 0) (eqb-true amount 0 rest.1))
-nop_is (Shift Srl rd rt amount) is = absurd (true≢false (sym is))
-nop_is (Shift Sra rd rt amount) is = absurd (true≢false (sym is))
-nop_is (ShiftBy op rd rt rs) is = absurd (true≢false (sym is))
-nop_is (Alu op rd rs rt) is = absurd (true≢false (sym is))
-nop_is (Imm op rt rs imm) is = absurd (true≢false (sym is))
-nop_is (Logic op rt rs imm) is = absurd (true≢false (sym is))
-nop_is (LoadUpper rt imm) is = absurd (true≢false (sym is))
-nop_is (MoveFrom place rd) is = absurd (true≢false (sym is))
-nop_is (Multiply sign rs rt) is = absurd (true≢false (sym is))
-nop_is (Divide sign rs rt) is = absurd (true≢false (sym is))
-nop_is (Load w rt base offset) is = absurd (true≢false (sym is))
-nop_is (Store w rt base offset) is = absurd (true≢false (sym is))
+nop_is _ is = absurd (true≢false (sym is))
 
 -- so it leaves trees and stores as they are
 pub nop_keeps : (x : Plain) → is_nop x ≡ true → (t : TreeState) → trees_after (action_of x) t ≡ t

@@ -4,7 +4,7 @@ use Rattle.std.proofs.Common.{slice_index_or, Some, None, refl, sym, ap, ap₂, 
 use Rattle.words.specs.declared.operator.Operator.TheVariants.{Addu}
 use Rattle.words.specs.Words.{wrap}
 use Rattle.sym_terms.specs.declared.label.Label.{Label}
-use Rattle.sym_terms.specs.declared.label.Label.TheVariants.{Init, Mem0, Const, Op, Load, Store}
+use Rattle.sym_terms.specs.declared.label.Label.TheVariants.{Op}
 use Rattle.sym_terms.specs.Trees.{Tree, Trees, node, none, more, leaf, binary}
 use Rattle.sym_terms.specs.NormalForms.{label_constant, constant_of, is_sum, at_base, sum_address, address_of, tree_plus, const_tree, op_tree}
 use Rattle.sym_terms.proofs.Sameness.{operator-is}
@@ -40,10 +40,8 @@ pub address-other : {p : PassState} {l : Label} (ks : List ℕ) {x : Tree} → I
 address-other {p} {l} ks {x} n e = go n.trees n.tree
   where
     at : (ts : Trees) → address_of (node l ts) ≡ at_base (node l ts)
-    at none = refl
-    at (more a none) = refl
     at (more a (more b none)) = ap (λ t. sum_address t (binary l a b) a (constant_of b)) e
-    at (more a (more b (more c rest))) = refl
+    at _ = refl
 
     go : (ts : Trees) → x ≡ node l ts → address_of x ≡ at_base x
     go ts is = subst (λ y. address_of y ≡ at_base y) (sym is) (at ts)
@@ -52,21 +50,16 @@ pub address-few : {p : PassState} {l : Label} (ks : List ℕ) {x : Tree} → IsN
 address-few {p} {l} ks {x} n many = go ks many n.trees n.tree n.have
   where
     go : (js : List ℕ) → length js ≢ 2 → (ts : Trees) → x ≡ node l ts → HaveTrees p js ts → address_of x ≡ at_base x
-    go js other none is h = subst (λ y. address_of y ≡ at_base y) (sym is) refl
-    go js other (more a none) is h = subst (λ y. address_of y ≡ at_base y) (sym is) refl
     go js other (more a (more b (more c rest))) is h = subst (λ y. address_of y ≡ at_base y) (sym is) refl
     go (j ∷ k ∷ []) other (more a (more b none)) is h = absurd (other refl)
     go [] other (more a (more b none)) is h = absurd h
     go (j ∷ []) other (more a (more b none)) is h = absurd h.1
     go (j ∷ k ∷ i ∷ rest) other (more a (more b none)) is h = absurd h.1.1
+    go js other _ is h = subst (λ y. address_of y ≡ at_base y) (sym is) refl
 
 sum-is : (l : Label) → is_sum l ≡ true → l ≡ Op Addu
 sum-is (Op op) h = ap Op (operator-is op Addu h)
-sum-is (Init p) h = absurd (true≢false (sym h))
-sum-is Mem0 h = absurd (true≢false (sym h))
-sum-is (Const w) h = absurd (true≢false (sym h))
-sum-is (Load w) h = absurd (true≢false (sym h))
-sum-is (Store w) h = absurd (true≢false (sym h))
+sum-is _ h = absurd (true≢false (sym h))
 
 pub summands-of : {p : PassState} {l : Label} {left right : ℕ} {x : Tree} → IsNode p l (left ∷ right ∷ []) x → is_sum l ≡ true → AreSummands p left right x
 summands-of {p} {l} {left} {right} {x} n e = go n.trees n.tree n.have

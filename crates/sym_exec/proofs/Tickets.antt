@@ -71,9 +71,6 @@ get_seen {p} {s} {v} {r} h e lt = subst (HasSeen p) (sym e) (h.regs r lt)
 pub get_tree : {p : PassState} {s : TermRegisters} {t : TreeState} {v r : ℕ} → Hold p s t → v ≡ slice_index s.regs r → r < 32 → HasTree p v (register_tree t r)
 get_tree {p} {s} {t} {v} {r} h e lt = subst (λ n. HasTree p n (register_tree t r)) (sym e) (h.regs r lt)
 
-written : List ℕ → ℕ → ℕ → List ℕ
-written regs d v = cond (d == 0) regs (slice_set regs d v)
-
 -- a place after a write: the new ticket, or the one that was there
 written_at : (P : ℕ → ℕ → Type 0) (regs : List ℕ) (d v r : ℕ) → d < length regs → (d ≡ 0 → P r (slice_index regs r))
     → ((r == d) ≡ true → 0 < d → P r v) → ((r == d) ≡ false → P r (slice_index regs r)) → P r (slice_index (cond (d == 0) regs (slice_set regs d v)) r)

@@ -11,7 +11,7 @@ use Rattle.mips_isa.specs.declared.action.Action.TheVariants.{Computes, Sets, Lo
 use Rattle.mips_isa.specs.States.{State, IsWords, is_register, read, put, is_open, load_at, store_at}
 use Rattle.mips_isa.specs.Actions.{operand, address, is_safe, state_after, product_high, product_low, quotient_operator, remainder_operator}
 use Rattle.mips_isa.proofs.Registers.{put-value, put_outside}
-use Rattle.mblock.specs.BlockMeaning.{Shape, Goes, ChoosesPair, ChoosesZero, Calls, Returns, Prints, Halts, exit_puts}
+use Rattle.mblock.specs.BlockMeaning.{Shape, Calls, Prints, Halts, exit_puts}
 use Rattle.mblock.proofs.Runs.{total, AllSafe}
 use Rattle.sym_terms.specs.declared.label.Origin.TheVariants.{Link}
 use Rattle.sym_terms.specs.declared.label.Label.TheVariants.{Init}
@@ -83,13 +83,10 @@ module _ (s : State) (link : ℕ) (words : IsWords s) (low : link < 2 ^ 32) wher
   pub puts-value : (shape : Shape) (f : ℕ → Tree)
       → (λ r. tree_word (exit_puts (leaf (Init Link)) (const_tree 1) (const_tree 10) shape f r) s link) ≡ exit_puts link 1 10 shape
       (λ r. tree_word (f r) s link)
-  puts-value (Goes t) f = refl
-  puts-value (ChoosesPair x t e) f = refl
-  puts-value (ChoosesZero x t e) f = refl
   puts-value (Calls g n) f = put-value (λ x. tree_word x s link) f 31 _ _ refl
-  puts-value Returns f = refl
   puts-value (Prints n) f = put-value (λ x. tree_word x s link) f 2 _ _ refl
   puts-value Halts f = put-value (λ x. tree_word x s link) f 2 _ _ refl
+  puts-value _ f = refl
 
   -- each guard holds
   abbrev pub AllGood : List GuardTree → Type 0
@@ -107,25 +104,17 @@ module _ (s : State) (link : ℕ) (words : IsWords s) (low : link < 2 ^ 32) wher
 
   -- the guards of one action say that it is safe
   pub guards_down : (a : Action) (t : TreeState) → AllGood (trees_after a t).guards → (is_safe a (values s link t) ≡ true) × AllGood t.guards
-  guards_down (Computes d op a b) t h = (refl, h)
-  guards_down (Sets d w) t h = (refl, h)
   guards_down (Loads w d base offset) t h = (ap (is_open w s.mapped) (sym (address-value t base offset)) ∙ good_head _ t.guards h, good_tail _ t.guards h)
   guards_down (Stores w r base offset) t h = (ap (is_open w s.mapped) (sym (address-value t base offset)) ∙ good_head _ t.guards h, good_tail _ t.guards h)
-  guards_down (Multiplies sign a b) t h = (refl, h)
   guards_down (Divides sign a b) t h =
       (ap₂ (has_quotient sign) (sym (register_tree-value t a)) (sym (register_tree-value t b)) ∙ good_head _ t.guards h, good_tail _ t.guards h)
-  guards_down (MovesHigh d) t h = (refl, h)
-  guards_down (MovesLow d) t h = (refl, h)
+  guards_down _ t h = (refl, h)
 
   pub guards_up : (a : Action) (t : TreeState) → is_safe a (values s link t) ≡ true → AllGood t.guards → AllGood (trees_after a t).guards
-  guards_up (Computes d op a b) t e h = h
-  guards_up (Sets d w) t e h = h
   guards_up (Loads w d base offset) t e h = good_more _ t.guards (ap (is_open w s.mapped) (address-value t base offset) ∙ e) h
   guards_up (Stores w r base offset) t e h = good_more _ t.guards (ap (is_open w s.mapped) (address-value t base offset) ∙ e) h
-  guards_up (Multiplies sign a b) t e h = h
   guards_up (Divides sign a b) t e h = good_more _ t.guards (ap₂ (has_quotient sign) (register_tree-value t a) (register_tree-value t b) ∙ e) h
-  guards_up (MovesHigh d) t e h = h
-  guards_up (MovesLow d) t e h = h
+  guards_up _ t e h = h
 
   pub all_down : (acts : List Action) (t : TreeState) → AllGood (all_trees acts t).guards → AllSafe acts (values s link t) × AllGood t.guards
   all_down [] t h = (tt, h)
@@ -144,21 +133,16 @@ pub after_outside : (a : Action) (t : TreeState) (r : ℕ) → is_register r ≡
 after_outside (Computes d op a b) t r e = put_outside t.regs d _ r e
 after_outside (Sets d w) t r e = put_outside t.regs d _ r e
 after_outside (Loads w d base offset) t r e = put_outside t.regs d _ r e
-after_outside (Stores w q base offset) t r e = refl
-after_outside (Multiplies sign a b) t r e = refl
-after_outside (Divides sign a b) t r e = refl
 after_outside (MovesHigh d) t r e = put_outside t.regs d _ r e
 after_outside (MovesLow d) t r e = put_outside t.regs d _ r e
+after_outside _ t r e = refl
 
 pub all_outside : (acts : List Action) (t : TreeState) (r : ℕ) → is_register r ≡ false → (all_trees acts t).regs r ≡ t.regs r
 all_outside [] t r e = refl
 all_outside (a ∷ rest) t r e = all_outside rest (trees_after a t) r e ∙ after_outside a t r e
 
 pub puts_outside : (shape : Shape) (f : ℕ → Tree) (r : ℕ) → is_register r ≡ false → exit_puts (leaf (Init Link)) (const_tree 1) (const_tree 10) shape f r ≡ f r
-puts_outside (Goes t) f r e = refl
-puts_outside (ChoosesPair x t n) f r e = refl
-puts_outside (ChoosesZero x t n) f r e = refl
 puts_outside (Calls g n) f r e = put_outside f 31 _ r e
-puts_outside Returns f r e = refl
 puts_outside (Prints n) f r e = put_outside f 2 _ r e
 puts_outside Halts f r e = put_outside f 2 _ r e
+puts_outside _ f r e = refl

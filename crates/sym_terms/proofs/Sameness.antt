@@ -3,8 +3,7 @@ use Rattle.std.proofs.Common.{◌≡◌, ◌&&◌, ◌==◌, true, false, Some, 
 use Rattle.std.proofs.lemmas.Bool.{and_parts}
 use Rattle.std.proofs.lemmas.Option.{same_Some}
 use Rattle.words.specs.declared.operator.Operator.{Operator}
-use Rattle.words.specs.declared.operator.Operator.TheVariants.{Addu, Subu, And, Or, Xor, Nor, Slt, Sltu, Sll, Srl, Sra, MultHigh, MultLow}
-use Rattle.words.specs.declared.operator.Operator.TheVariants.{MultuHigh, MultuLow, DivQuotient, DivRemainder, DivuQuotient, DivuRemainder}
+use Rattle.words.specs.declared.operator.Operator.TheVariants.{Addu}
 use Rattle.words.specs.declared.width.Width.{Width}
 use Rattle.words.specs.declared.width.Width.TheVariants.{Word, Byte}
 use Rattle.sym_terms.specs.declared.label.Origin.{Origin}
@@ -17,24 +16,7 @@ use Rattle.sym_terms.specs.Sameness.{same_origins, same_labels, are_same, all_sa
 
 operator_back : (op : Operator) → operator_at (operator_code op) ≡ Some op
 operator_back Addu = refl
-operator_back Subu = refl
-operator_back And = refl
-operator_back Or = refl
-operator_back Xor = refl
-operator_back Nor = refl
-operator_back Slt = refl
-operator_back Sltu = refl
-operator_back Sll = refl
-operator_back Srl = refl
-operator_back Sra = refl
-operator_back MultHigh = refl
-operator_back MultLow = refl
-operator_back MultuHigh = refl
-operator_back MultuLow = refl
-operator_back DivQuotient = refl
-operator_back DivRemainder = refl
-operator_back DivuQuotient = refl
-operator_back DivuRemainder = refl
+operator_back _ = refl
 
 pub operator-is : (a b : Operator) → operator_code a == operator_code b ≡ true → a ≡ b
 operator-is a b h =
@@ -122,9 +104,7 @@ mutual
 
 same-origin-self : (a : Origin) → same_origins a a ≡ true
 same-origin-self (Register r) = eq-eqb r r refl
-same-origin-self Hi = refl
-same-origin-self Lo = refl
-same-origin-self Link = refl
+same-origin-self _ = refl
 
 same-label-self : (l : Label) → same_labels l l ≡ true
 same-label-self (Init a) = same-origin-self a

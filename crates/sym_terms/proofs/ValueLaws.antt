@@ -15,7 +15,7 @@ use Rattle.mips_isa.proofs.Memory.{load-past-store, stores-commute}
 use Rattle.mips_isa.proofs.StateWords.{load_below, store_below}
 use Rattle.sym_terms.specs.declared.label.Origin.TheVariants.{Register, Hi, Lo, Link}
 use Rattle.sym_terms.specs.declared.label.Label.{Label}
-use Rattle.sym_terms.specs.declared.label.Label.TheVariants.{Init, Mem0, Const, Op, Load, Store}
+use Rattle.sym_terms.specs.declared.label.Label.TheVariants.{Init, Const, Op, Load, Store}
 use Rattle.sym_terms.specs.Trees.{Tree, node, none, more, leaf, binary, ternary}
 use Rattle.sym_terms.specs.Values.{tree_word, tree_memory, leaf_value, binary_value, ternary_memory}
 use Rattle.sym_terms.specs.Sameness.{are_same}
@@ -30,19 +30,11 @@ no e = absurd (true≢false (sym e))
 -- a sum's label is that of an addition
 sum-label : (l : Label) → is_sum l ≡ true → l ≡ Op Addu
 sum-label (Op op) h = ap Op (operator-is op Addu h)
-sum-label (Init p) h = no h
-sum-label Mem0 h = no h
-sum-label (Const w) h = no h
-sum-label (Load w) h = no h
-sum-label (Store w) h = no h
+sum-label _ h = no h
 
 constant-label : (l : Label) (c : ℕ) → label_constant l ≡ Some c → l ≡ Const c
 constant-label (Const w) c h = ap Const (same_Some w c h)
-constant-label (Init p) c h = absurd (none-some c h)
-constant-label Mem0 c h = absurd (none-some c h)
-constant-label (Op op) c h = absurd (none-some c h)
-constant-label (Load w) c h = absurd (none-some c h)
-constant-label (Store w) c h = absurd (none-some c h)
+constant-label _ c h = absurd (none-some c h)
 
 constant-is : (t : Tree) (c : ℕ) → constant_of t ≡ Some c → t ≡ const_tree c
 constant-is (node l none) c h = ap leaf (constant-label l c h)
@@ -68,11 +60,7 @@ apart-at Word Byte x a b la lb h = let far = leb-true 4 (distance b a) h in omeg
 
 store-passed : (l : Label) (a : Address) (w : Width) (b : Address) → is_passed l a w b ≡ true → (v : Width) × (l ≡ Store v) × (are_apart v a w b ≡ true)
 store-passed (Store v) a w b h = (v, refl, h)
-store-passed (Init p) a w b h = no h
-store-passed Mem0 a w b h = no h
-store-passed (Const c) a w b h = no h
-store-passed (Op op) a w b h = no h
-store-passed (Load v) a w b h = no h
+store-passed _ a w b h = no h
 
 module _ (s : State) (link : ℕ) (words : IsWords s) (low : link < 2 ^ 32) where
   leaf-fits : (l : Label) → leaf_value l s link < 2 ^ 32
@@ -80,43 +68,28 @@ module _ (s : State) (link : ℕ) (words : IsWords s) (low : link < 2 ^ 32) wher
   leaf-fits (Init Hi) = words.hi
   leaf-fits (Init Lo) = words.lo
   leaf-fits (Init Link) = low
-  leaf-fits (Const w) = omega arith
-  leaf-fits Mem0 = omega arith
-  leaf-fits (Op op) = omega arith
-  leaf-fits (Load w) = omega arith
-  leaf-fits (Store w) = omega arith
+  leaf-fits _ = omega arith
 
   binary-fits : (l : Label) (m : ℕ → ℕ) (a b : ℕ) → ((c : ℕ) → m c < 2 ^ 8) → a < 2 ^ 32 → b < 2 ^ 32 → binary_value l s.mapped m a b < 2 ^ 32
   binary-fits (Op op) m a b h ha hb = op_words op a b ha hb
   binary-fits (Load w) m a b h ha hb = load_below w s.mapped m b h
-  binary-fits (Init p) m a b h ha hb = omega arith
-  binary-fits (Const w) m a b h ha hb = omega arith
-  binary-fits Mem0 m a b h ha hb = omega arith
-  binary-fits (Store w) m a b h ha hb = omega arith
+  binary-fits _ m a b h ha hb = omega arith
 
   ternary-fits : (l : Label) (m : ℕ → ℕ) (a v : ℕ) → ((c : ℕ) → m c < 2 ^ 8) → (c : ℕ) → ternary_memory l s.mapped m a v c < 2 ^ 8
   ternary-fits (Store w) m a v h c = store_below w s.mapped m a v h c
-  ternary-fits (Op op) m a v h c = h c
-  ternary-fits (Load w) m a v h c = h c
-  ternary-fits (Init p) m a v h c = h c
-  ternary-fits (Const w) m a v h c = h c
-  ternary-fits Mem0 m a v h c = h c
+  ternary-fits _ m a v h c = h c
 
   mutual
     word-fits : (t : Tree) → tree_word t s link < 2 ^ 32
     word-fits (node l none) = leaf-fits l
-    word-fits (node l (more a none)) = omega arith
     word-fits (node l (more a (more b none))) =
         binary-fits l (tree_memory a s link) (tree_word a s link) (tree_word b s link) (memory-fits a) (word-fits a) (word-fits b)
-    word-fits (node l (more a (more b (more c rest)))) = omega arith
+    word-fits (node l (more a _)) = omega arith
 
     memory-fits : (t : Tree) (c : ℕ) → tree_memory t s link c < 2 ^ 8
-    memory-fits (node l none) c = words.memory c
-    memory-fits (node l (more a none)) c = words.memory c
-    memory-fits (node l (more a (more b none))) c = words.memory c
     memory-fits (node l (more a (more b (more v none)))) c =
         ternary-fits l (tree_memory a s link) (tree_word b s link) (tree_word v s link) (memory-fits a) c
-    memory-fits (node l (more a (more b (more v (more d rest))))) c = words.memory c
+    memory-fits (node l _) c = words.memory c
 
   plain-address : (t : Tree) → tree_word t s link ≡ wrap (tree_word t s link + 0)
   plain-address t = let h = word-fits t in omega (arith, h)
@@ -135,15 +108,13 @@ module _ (s : State) (link : ℕ) (words : IsWords s) (low : link < 2 ^ 32) wher
       go false o eb eo = plain-address (binary l x y)
 
   offset-fits : (t : Tree) → (address_of t).offset < 2 ^ 32
-  offset-fits (node l none) = omega arith
-  offset-fits (node l (more x none)) = omega arith
-  offset-fits (node l (more x (more y (more z rest)))) = omega arith
   offset-fits (node l (more x (more y none))) = go (is_sum l) (constant_of y)
     where
       go : (b : Bool) (o : Option ℕ) → (sum_address b (binary l x y) x o).offset < 2 ^ 32
       go true (Some c) = omega arith
       go true None = omega arith
       go false o = omega arith
+  offset-fits (node l _) = omega arith
 
   plus-value : (x : Tree) (c : ℕ) → c < 2 ^ 32 → tree_word (tree_plus x c) s link ≡ wrap (tree_word x s link + c)
   plus-value x c lt = go (c == 0) refl
@@ -186,9 +157,6 @@ module _ (s : State) (link : ℕ) (words : IsWords s) (low : link < 2 ^ 32) wher
 
   load-value : (w : Width) (m b : Tree) → tree_word (load_tree w m b) s link ≡ load_at w s.mapped (tree_memory m s link) (tree_word b s link)
   unfolding load_tree
-  load-value w (node l none) b = refl
-  load-value w (node l (more x none)) b = refl
-  load-value w (node l (more x (more y none))) b = refl
   load-value w (node l (more m (more a (more y none)))) b =
       go (load-value w m b) (is_passed l (address_of a) w (address_of b)) refl
     where
@@ -203,14 +171,11 @@ module _ (s : State) (link : ℕ) (words : IsWords s) (low : link < 2 ^ 32) wher
           ∙ (sym (load-past-store p.0 w s.mapped (tree_memory m s link) (tree_word a s link) (tree_word y s link) (tree_word b s link)
           (apart-values p.0 w a b p.2))
           ∙ ap (λ k. load_at w s.mapped (tree_memory (ternary k m a y) s link) (tree_word b s link)) (sym p.1))
-  load-value w (node l (more x (more y (more z (more u rest))))) b = refl
+  load-value w (node l _) b = refl
 
   store-value : (w : Width) (m b x : Tree)
       → tree_memory (store_tree w m b x) s link ≡ store_at w s.mapped (tree_memory m s link) (tree_word b s link) (tree_word x s link)
   unfolding store_tree
-  store-value w (node l none) b x = refl
-  store-value w (node l (more m none)) b x = refl
-  store-value w (node l (more m (more a none))) b x = refl
   store-value w (node l (more m (more a (more y none)))) b x =
       go (store-value w m b x) (is_passed_inward l (address_of a) w (address_of b)) refl
     where
@@ -229,7 +194,7 @@ module _ (s : State) (link : ℕ) (words : IsWords s) (low : link < 2 ^ 32) wher
           ∙ (ap (λ k. ternary_memory k s.mapped (store_at w s.mapped mem there (tree_word x s link)) at (tree_word y s link)) p.1
           ∙ (sym (stores-commute p.0 w s.mapped mem at (tree_word y s link) there (tree_word x s link) (apart-values p.0 w a b p.2))
           ∙ ap (λ k. store_at w s.mapped (ternary_memory k s.mapped mem at (tree_word y s link)) there (tree_word x s link)) (sym p.1)))
-  store-value w (node l (more m (more a (more v (more u rest))))) b x = refl
+  store-value w (node l _) b x = refl
 
 pub op_tree-value : OpTreesHaveValues
 op_tree-value op a b s link words low = op-value s link words low op a b

@@ -69,9 +69,7 @@ origin_at n =
 -- the number in an origin is a register's, 1 to 31
 abbrev pub is_origin : Origin → Bool
 is_origin (Register r) = nat_lt 0 r && nat_lt r 32
-is_origin Hi = true
-is_origin Lo = true
-is_origin Link = true
+is_origin _ = true
 
 abbrev pub width_code : Width → ℕ
 width_code Word = 0
@@ -92,11 +90,8 @@ label_word (Store w) = 6 * 2 ^ 32 + width_code w
 -- the numbers in the label are within their ranges, as those of each running label are
 abbrev pub is_label : Label → Bool
 is_label (Init origin) = is_origin origin
-is_label Mem0 = true
 is_label (Const n) = nat_lt n (2 ^ 32)
-is_label (Op operator) = true
-is_label (Load w) = true
-is_label (Store w) = true
+is_label _ = true
 
 abbrev pub label_if : {A : Type 0} → (A → Label) → Option A → Option Label
 label_if label None = None
@@ -115,12 +110,10 @@ label_with w = label_in (w / 2 ^ 32) (w % 2 ^ 32)
 
 -- how many children each label stands over
 abbrev pub label_arity : Label → ℕ
-label_arity (Init origin) = 0
-label_arity Mem0 = 0
-label_arity (Const n) = 0
 label_arity (Op operator) = 2
 label_arity (Load w) = 2
 label_arity (Store w) = 3
+label_arity _ = 0
 
 abbrev pub label_coding : Coding Label
 label_coding = record { word = label_word; is_label = is_label; label_with = label_with; arity = label_arity }

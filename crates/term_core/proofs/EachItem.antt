@@ -8,7 +8,7 @@ use mathlib.Core.Option as O
 use lib.ListN.{get_elem?}
 use Rattle.term_core.specs.declared.Entry.{Entry}
 use Rattle.term_core.specs.declared.Call.{Call}
-use Rattle.term_core.specs.declared.Call.TheVariants.{Intern, Find, Read}
+use Rattle.term_core.specs.declared.Call.TheVariants.{Intern}
 use Rattle.term_core.specs.declared.Stage.{Stage}
 use Rattle.term_core.specs.declared.Stage.TheVariants.{Idle, Looking, AtLink, AtContent, Writing, Linking, Reading}
 use Rattle.term_core.specs.declared.Walker.{Walker}
@@ -37,13 +37,8 @@ set_else (x ∷ xs) (suc i) zero a n = refl
 set_else (x ∷ xs) (suc i) (suc j) a n = set_else xs i j a (λ e. n (ap suc e))
 
 idle_loads : (g : Stage) → is_idle g ≡ true → link_loads g ≡ 0
-idle_loads Idle e = refl
-idle_loads (Looking k) e = refl
 idle_loads (AtLink c w a) e = absurd cc
-idle_loads (AtContent c w n i) e = refl
-idle_loads (Writing c a i) e = refl
-idle_loads (Linking c a) e = refl
-idle_loads (Reading t xs) e = refl
+idle_loads _ e = refl
 
 chosen_seen : (s : Shape) (choice : Choice) (v : Walker) → (call_start s choice v).seen ≡ v.seen
 chosen_seen s (begins c) v =
@@ -56,13 +51,11 @@ begun_seen s choice v g = step_start_has (λ (u : Walker). u.seen ≡ v.seen) s 
 
 asks_first : (s : Shape) (c : Call) → Asks (first_stage s c)
 asks_first s (Intern l ks) = tt
-asks_first s (Find l ks) = tt
-asks_first s (Read t) = tt
+asks_first s _ = tt
 
 busy_first : (s : Shape) (c : Call) → is_idle (first_stage s c) ≡ false
 busy_first s (Intern l ks) = refl
-busy_first s (Find l ks) = refl
-busy_first s (Read t) = refl
+busy_first s _ = refl
 
 asks_if : (s : Shape) (c : Call) (v : Walker) (k : Bool) → v.stage ≡ Idle
     → is_idle (cond k (record v { stage = first_stage s c; probes = 0 }) v).stage ≡ false
@@ -75,12 +68,8 @@ asks_begun : (s : Shape) (words : List ℕ) (ps : List Pair) (chains : ℕ → L
     → is_idle (step_start_at s choice v g).stage ≡ false → Asks (step_start_at s choice v g).stage
 asks_begun s words ps chains (begins c) v Idle i k e = asks_if s c v (may_begin v.seen c) i e
 asks_begun s words ps chains (looks n) v Idle i k e = tt
-asks_begun s words ps chains choice v (Looking m) i k e = subst Asks (sym i) tt
 asks_begun s words ps chains choice v (AtLink c w a) i k e = subst Asks (sym i) k.walk.searches
-asks_begun s words ps chains choice v (AtContent c w m j) i k e = subst Asks (sym i) tt
-asks_begun s words ps chains choice v (Writing c a j) i k e = subst Asks (sym i) tt
-asks_begun s words ps chains choice v (Linking c a) i k e = subst Asks (sym i) tt
-asks_begun s words ps chains choice v (Reading t xs) i k e = subst Asks (sym i) tt
+asks_begun s words ps chains choice v _ i k e = subst Asks (sym i) tt
 
 idle_if : (s : Shape) (c : Call) (v : Walker) (k : Bool)
     → is_idle (cond k (record v { stage = first_stage s c; probes = 0 }) v).stage ≡ true
@@ -93,11 +82,7 @@ idle_begun : (s : Shape) (choice : Choice) (v : Walker) (g : Stage) → is_idle 
 idle_begun s (begins c) v Idle e = idle_if s c v (may_begin v.seen c) e
 idle_begun s (looks n) v Idle e = absurd cc
 idle_begun s choice v (Looking k) e = refl
-idle_begun s choice v (AtLink c w a) e = refl
-idle_begun s choice v (AtContent c w k i) e = refl
-idle_begun s choice v (Writing c a i) e = refl
-idle_begun s choice v (Linking c a) e = refl
-idle_begun s choice v (Reading t xs) e = refl
+idle_begun s choice v _ e = refl
 
 module _ (s : Shape) (w : World) (by : ℕ) (b : Walker) where
   abbrev t : Turn
@@ -263,8 +248,7 @@ module _ (s : Shape) (w : World) (inv : Inv s w) (i : Item) (v : Walker) (here :
     (low : place s v < length w.words) where
   first_words : (c : Call) → slice_index (steps s w i.by (record v { stage = first_stage s c; probes = 0 })).words a ≡ slice_index w.words a
   first_words (Intern l ks) = loads_only w.words _ a
-  first_words (Find l ks) = loads_only w.words _ a
-  first_words (Read t) = loads_only w.words _ a
+  first_words _ = loads_only w.words _ a
 
   fine_if : (c : Call) (k : Bool) → v.stage ≡ Idle → is_idle (cond k (record v { stage = first_stage s c; probes = 0 }) v).stage ≡ false
       → slice_index (steps s w i.by (cond k (record v { stage = first_stage s c; probes = 0 }) v)).words a ≡ slice_index w.words a
@@ -279,12 +263,7 @@ module _ (s : Shape) (w : World) (inv : Inv s w) (i : Item) (v : Walker) (here :
   fine_busy : (g : Stage) → v.stage ≡ g → is_idle (step_start_at s i.choice v g).stage ≡ false
       → Fine s w inv i.by v (inv.passes i.by v here) a low (steps s w i.by (step_start_at s i.choice v g))
   fine_busy Idle e busy = inl (fine_chosen i.choice e busy)
-  fine_busy (Looking k) e busy = of_stage s w inv i.by v (inv.passes i.by v here) a low v.stage refl (inv.passes i.by v here).spot
-  fine_busy (AtLink c x y) e busy = of_stage s w inv i.by v (inv.passes i.by v here) a low v.stage refl (inv.passes i.by v here).spot
-  fine_busy (AtContent c x y z) e busy = of_stage s w inv i.by v (inv.passes i.by v here) a low v.stage refl (inv.passes i.by v here).spot
-  fine_busy (Writing c x y) e busy = of_stage s w inv i.by v (inv.passes i.by v here) a low v.stage refl (inv.passes i.by v here).spot
-  fine_busy (Linking c x) e busy = of_stage s w inv i.by v (inv.passes i.by v here) a low v.stage refl (inv.passes i.by v here).spot
-  fine_busy (Reading x y) e busy = of_stage s w inv i.by v (inv.passes i.by v here) a low v.stage refl (inv.passes i.by v here).spot
+  fine_busy _ e busy = of_stage s w inv i.by v (inv.passes i.by v here) a low v.stage refl (inv.passes i.by v here).spot
 
   fine : (k : Bool) → is_idle (step_start s i.choice v).stage ≡ k
       → Fine s w inv i.by v (inv.passes i.by v here) a low (cond k w (steps s w i.by (step_start s i.choice v)))

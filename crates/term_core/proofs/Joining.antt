@@ -8,7 +8,7 @@ use mathlib.Core.Logic.{dite}
 use mathlib.Core.Option.{some}
 use lib.ListN.{get_elem?}
 use Rattle.term_core.specs.declared.Call.{Call}
-use Rattle.term_core.specs.declared.Call.TheVariants.{Intern, Find, Read}
+use Rattle.term_core.specs.declared.Call.TheVariants.{Intern}
 use Rattle.term_core.specs.declared.Answer.TheVariants.{Ticket}
 use Rattle.term_core.specs.declared.Entry.{Entry}
 use Rattle.term_core.specs.declared.Walker.{Walker}
@@ -27,15 +27,13 @@ adds_new : (ps : List Pair) (by : ℕ) (c : Call) (t : ℕ) (x : Tree) → Inter
     → tree_over ps (label_of c) (kids_of c) ≡ Some x → adds ps by c (Ticket t) ≡ record { tree = x; ticket = t; by = by } ∷ []
 adds_new ps by (Intern l ks) t x i vacant covers = ap (λ (o : Option Tree). cond (is_there o) [] (pair_if (tree_over ps l ks) t by)) vacant
     ∙ ap (λ (o : Option Tree). pair_if o t by) covers
-adds_new ps by (Find l ks) t x i vacant covers = absurd i
-adds_new ps by (Read k) t x i vacant covers = absurd i
+adds_new ps by _ t x i vacant covers = absurd i
 
 answers_new : (n : ℕ) (ps : List Pair) (by : ℕ) (c : Call) (t : ℕ) (x : Tree) → Interns c → tree_at ps t ≡ None
     → tree_over ps (label_of c) (kids_of c) ≡ Some x → (Has ps x → ⊥) → added_by by ps < n
     → Rattle.term_core.specs.Terms.MayAnswer n ps by c (Ticket t)
 answers_new n ps by (Intern l ks) t x i vacant covers missed room = (x, covers, inr (missed, vacant, room))
-answers_new n ps by (Find l ks) t x i vacant covers missed room = absurd i
-answers_new n ps by (Read k) t x i vacant covers missed room = absurd i
+answers_new n ps by _ t x i vacant covers missed room = absurd i
 
 module _ (s : Shape) (ok : IsShape s) (w : World) (inv : Inv s w) (p : ℕ) (v : Walker) (at : get_elem? w.passes p ≡ some v) (b : Walker)
     (same_room : b.room ≡ v.room) (st : Stands s w.words w.history inv.chains p b)

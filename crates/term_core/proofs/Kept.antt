@@ -8,7 +8,7 @@ use Rattle.term_core.specs.declared.Call.{Call}
 use Rattle.term_core.specs.declared.Call.TheVariants.{Intern, Find, Read}
 use Rattle.term_core.specs.declared.Entry.{Entry}
 use Rattle.term_core.specs.declared.Stage.{Stage}
-use Rattle.term_core.specs.declared.Stage.TheVariants.{Idle, Looking, AtLink, AtContent, Writing, Linking, Reading}
+use Rattle.term_core.specs.declared.Stage.TheVariants.{Idle, AtLink, AtContent, Writing, Linking, Reading}
 use Rattle.term_core.specs.declared.Walker.{Walker}
 use Rattle.term_core.specs.declared.TheConstants.{CONTENT_WORDS}
 use Rattle.term_labels.specs.WordTrees.{Tree, Trees, node}
@@ -65,14 +65,12 @@ kids_of (Find l ks) = ks
 kids_of (Read t) = []
 
 abbrev pub Searches : Call → Type 0
-Searches (Intern l ks) = Unit {0}
-Searches (Find l ks) = Unit {0}
 Searches (Read t) = ⊥
+Searches _ = Unit {0}
 
 abbrev pub Interns : Call → Type 0
 Interns (Intern l ks) = Unit {0}
-Interns (Find l ks) = ⊥
-Interns (Read t) = ⊥
+Interns _ = ⊥
 
 abbrev pub chain_of : Shape → Call → ℕ
 chain_of s c = s.chain (label_of c) (kids_of c)
@@ -130,13 +128,12 @@ pub record OnReading (s : Shape) (words : List ℕ) (ps : List Pair) (v : Walker
   pub probes : v.probes ≡ 0
 
 abbrev pub Spot : Shape → List ℕ → List Pair → (ℕ → List ℕ) → Walker → Stage → Type 0
-Spot s words ps chains v Idle = Unit {0}
-Spot s words ps chains v (Looking k) = Unit {0}
 Spot s words ps chains v (AtLink c w a) = OnLink s words ps chains v c w a
 Spot s words ps chains v (AtContent c w k i) = OnContent s words ps chains v c w k i
 Spot s words ps chains v (Writing c a i) = OnWriting s words ps chains v c a i
 Spot s words ps chains v (Linking c a) = OnLinking s words ps chains v c a
 Spot s words ps chains v (Reading t xs) = OnReading s words ps v t xs
+Spot s words ps chains v _ = Unit {0}
 
 -- the part of the nodes that a pass has for its own
 pub record Owns (s : Shape) (by id own room : ℕ) : Type 0 where
@@ -184,12 +181,7 @@ at_stage s words h chains by v g q few k st = stands_at s words words h chains b
 pub step_start_has : (P : Walker → Type 0) (s : Shape) (choice : Choice) (v : Walker) (g : Stage) → P v → P (call_start s choice v)
     → P (step_start_at s choice v g)
 step_start_has P s choice v Idle on begun = begun
-step_start_has P s choice v (Looking n) on begun = on
-step_start_has P s choice v (AtLink c w a) on begun = on
-step_start_has P s choice v (AtContent c w n i) on begun = on
-step_start_has P s choice v (Writing c a i) on begun = on
-step_start_has P s choice v (Linking c a) on begun = on
-step_start_has P s choice v (Reading t xs) on begun = on
+step_start_has P s choice v _ on begun = on
 
 abbrev pub rooms : List Walker → ℕ
 rooms [] = 0
@@ -268,8 +260,6 @@ module _ (s : Shape) (p : ℕ) (words words' : List ℕ) (h h' : List Entry) (ch
     own_stays some_room i lt = d.contents v.own (inr (far v.own (omega arith) (omega arith))) i lt
 
     spot_stays : (g : Stage) → Spot s words (pairs_of h) chains v g → Spot s words' (pairs_of h') chains' v g
-    spot_stays Idle k = tt
-    spot_stays (Looking n) k = tt
     spot_stays (AtLink c w a) k = record {
       pre = k.pre;
       post = k.post ++ (d.grows (chain_of s c)).0;
@@ -313,6 +303,7 @@ module _ (s : Shape) (p : ℕ) (words words' : List ℕ) (h h' : List Entry) (ch
       alike = λ j lt. let b = k.below in k.alike j lt ∙ sym (d.contents t (inl k.there) j (omega arith));
       probes = k.probes;
     }
+    spot_stays _ k = tt
 
     pub stands_still : Stands s words' h' chains' q v
     stands_still = record {

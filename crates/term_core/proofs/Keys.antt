@@ -1,7 +1,7 @@
 -- A tree is there exactly where a node of its chain has its content.
 use Rattle.std.proofs.Common.{◌≡◌, ℕ, Bool, true, false, List, [], ◌∷◌, ◌++◌, Some, refl, sym, ap, subst, ◌∙◌, append-nil, arith}
 use Rattle.term_core.specs.declared.Call.{Call}
-use Rattle.term_core.specs.declared.Call.TheVariants.{Intern, Find, Read}
+use Rattle.term_core.specs.declared.Call.TheVariants.{Read}
 use Rattle.term_core.specs.declared.Walker.{Walker}
 use Rattle.term_labels.specs.WordTrees.{Tree, node}
 use Rattle.term_core.specs.Terms.{Pair, tree_at, trees_at, tree_over, node_if, Has}
@@ -14,16 +14,12 @@ abbrev kids_back_from : List ℕ → List ℕ
 kids_back_from ks = kid_in (kid_word ks 0) (kid_in (kid_word ks 1) (kid_in (kid_word ks 2) []))
 
 pub kids_back : (ks : List ℕ) → at_most_three ks ≡ true → kids_back_from ks ≡ ks
-kids_back [] h = refl
-kids_back (a ∷ []) h = refl
-kids_back (a ∷ b ∷ []) h = refl
-kids_back (a ∷ b ∷ c ∷ []) h = refl
 kids_back (a ∷ b ∷ c ∷ d ∷ ks) h = absurd (let k : false ≡ true = h in cc)
+kids_back _ h = refl
 
 pub content_is : (c : Call) → Searches c → content c ≡ content_of (label_of c) (kids_of c)
-content_is (Intern l ks) h = refl
-content_is (Find l ks) h = refl
 content_is (Read t) h = absurd h
+content_is _ h = refl
 
 module _ (s : Shape) (words : List ℕ) (t : ℕ) (l : ℕ) (ks : List ℕ) (three : at_most_three ks ≡ true)
     (same : SameAs s words t (content_of l ks)) where

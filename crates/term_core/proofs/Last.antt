@@ -4,7 +4,7 @@ use Rattle.std.proofs.Common.{subst, ◌∙◌, ⊎_elim, eq-eqb, arith}
 use Rattle.term_core.specs.declared.Call.{Call}
 use Rattle.term_core.specs.declared.Call.TheVariants.{Intern, Find, Read}
 use Rattle.term_core.specs.declared.Answer.{Answer}
-use Rattle.term_core.specs.declared.Answer.TheVariants.{Ticket, Full, Found, Missing, Node}
+use Rattle.term_core.specs.declared.Answer.TheVariants.{Ticket, Full}
 use Rattle.term_core.specs.declared.Entry.{Entry}
 use Rattle.term_labels.specs.WordTrees.{Tree}
 use Rattle.term_core.specs.Terms.{Pair, tree_at, tree_over, Has, added_by, is_there, pair_if, adds, pairs_after, pairs_from, pairs_of}
@@ -63,11 +63,9 @@ adds_low n ps by q (Intern l ks) (Ticket t) ans low =
     one true e row less = let few : added_by by ps < n = subst (λ (k : ℕ). added_by k ps < n) (eqb_eq q by e) less in omega arith
     one false e row less = omega arith
 adds_low n ps by q (Intern l ks) Full ans low = silent n ps by low
-adds_low n ps by q (Intern l ks) (Found u) ans low = absurd ans
-adds_low n ps by q (Intern l ks) Missing ans low = absurd ans
-adds_low n ps by q (Intern l ks) (Node k js) ans low = absurd ans
 adds_low n ps by q (Find l ks) a ans low = silent n ps by low
 adds_low n ps by q (Read u) a ans low = silent n ps by low
+adds_low n ps by q (Intern l ks) _ ans low = absurd ans
 
 low_from : (n : ℕ) (ps : List Pair) (by : ℕ) (h : List Entry) → added_by by ps ≤ n → legal_from n ps h → added_by by (pairs_from ps h) ≤ n
 low_from n ps by [] low l = low

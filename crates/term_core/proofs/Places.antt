@@ -2,7 +2,7 @@
 use Rattle.std.proofs.Common.{◌≡◌, ℕ, List, ◌++◌, length, refl, sym, ◌∙◌, subst, inl, inr, ⊎_elim, arith}
 use Rattle.term_core.specs.declared.Call.{Call}
 use Rattle.term_core.specs.declared.Stage.{Stage}
-use Rattle.term_core.specs.declared.Stage.TheVariants.{Idle, Looking, AtLink, AtContent, Writing, Linking, Reading}
+use Rattle.term_core.specs.declared.Stage.TheVariants.{AtLink, AtContent, Writing, Linking, Reading}
 use Rattle.term_core.specs.declared.Walker.{Walker}
 use Rattle.term_core.specs.Terms.{pairs_of}
 use Rattle.term_core.specs.World.{Shape, IsShape, World, link_of, kind, place_at, step_start, world_of}
@@ -27,8 +27,6 @@ module _ (s : Shape) (ok : IsShape s) (w : World) (inv : Inv s w) where
 
   at_place : (by : ℕ) (v : Walker) → Stands s w.words w.history inv.chains by v → (g : Stage)
       → Spot s w.words (pairs_of w.history) inv.chains v g → IsPlaceOf s w v (kind g) (place_at s v g)
-  at_place by v st Idle k = inl ok.0
-  at_place by v st (Looking n) k = inl ok.0
   at_place by v st (AtLink c wr a) k = end_reached c k.pre k.post a k.walk.split k.place_is
   at_place by v st (AtContent c wr n i) k =
       let t = there_in (chain_of s c) n (subst (Mem n) (sym k.walk.split) (mem_here n k.pre k.post)) in
@@ -38,6 +36,7 @@ module _ (s : Shape) (ok : IsShape s) (w : World) (inv : Inv s w) where
   at_place by v st (Linking c a) k = end_reached c k.pre k.post a k.walk.split k.place_is
   at_place by v st (Reading t xs) k =
       record { node = t; tree = k.there.0; linked = k.there.1; index = length xs; below = k.below; place = refl }
+  at_place by v st _ k = inl ok.0
 
 pub each_step_has_its_place : EachStepHasItsPlace
 each_step_has_its_place s items i v ok here =

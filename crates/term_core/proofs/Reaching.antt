@@ -9,7 +9,7 @@ use Rattle.term_core.specs.declared.Call.{Call}
 use Rattle.term_core.specs.declared.Call.TheVariants.{Intern, Find, Read}
 use Rattle.term_core.specs.declared.Entry.{Entry}
 use Rattle.term_core.specs.declared.Stage.{Stage}
-use Rattle.term_core.specs.declared.Stage.TheVariants.{Idle, Looking, AtLink, AtContent, Writing, Linking, Reading}
+use Rattle.term_core.specs.declared.Stage.TheVariants.{Looking, AtLink, AtContent, Writing, Linking, Reading}
 use Rattle.term_core.specs.declared.Walker.{Walker}
 use Rattle.term_labels.specs.WordTrees.{Trees}
 use Rattle.term_core.specs.Terms.{Pair, tree_at, trees_at, added_by, pairs_of}
@@ -212,8 +212,6 @@ module _ (s : Shape) (ok : IsShape s) (w : World) (inv : Inv s w) (p : ℕ) (v :
       (end_cases s (chain_of s c) pre)
 
   within : (g : Stage) → Spot s w.words (pairs_of w.history) inv.chains v g → place_at s v g < word_count s
-  within Idle k = let h = ok.0 in omega arith
-  within (Looking n) k = let h = ok.0 in omega arith
   within (AtLink c wr a) k = subst (λ (x : ℕ). x < word_count s) (sym k.place_is)
       (end_below c k.pre k.post k.walk.split)
   within (AtContent c wr n i) k = let l =
@@ -223,6 +221,7 @@ module _ (s : Shape) (ok : IsShape s) (w : World) (inv : Inv s w) (p : ℕ) (v :
   within (Linking c a) k = subst (λ (x : ℕ). x < word_count s) (sym k.place_is)
       (end_below c k.pre k.post k.walk.split)
   within (Reading t xs) k = let h = k.there in let l = (inv.shared.there t h.0 h.1).0.low in let b = k.below in omega arith
+  within _ k = let h = ok.0 in omega arith
 
   rest_silent : calls_by p st.begins.0 ≡ []
   rest_silent = append_cancel_left v.mine (calls_by p st.begins.0) []

@@ -28,13 +28,8 @@ call_in (Reading t xs) = Some (Read t)
 
 -- the loads of a link that a call's next step makes
 abbrev pub link_loads : Stage → ℕ
-link_loads Idle = 0
-link_loads (Looking k) = 0
 link_loads (AtLink c w a) = 1
-link_loads (AtContent c w n i) = 0
-link_loads (Writing c a i) = 0
-link_loads (Linking c a) = 0
-link_loads (Reading t xs) = 0
+link_loads _ = 0
 
 -- A pass that was inside the call `c`, and is b before and v after: the call goes on and nothing is said. Or it ends: its entry is the
 -- last of the history, which its pass has then seen whole

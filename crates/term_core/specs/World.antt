@@ -65,11 +65,8 @@ all_occur h [] = true
 all_occur h (t ∷ ts) = occurs h t && all_occur h ts
 
 abbrev pub at_most_three : List ℕ → Bool
-at_most_three [] = true
-at_most_three (a ∷ []) = true
-at_most_three (a ∷ b ∷ []) = true
-at_most_three (a ∷ b ∷ c ∷ []) = true
 at_most_three (a ∷ b ∷ c ∷ d ∷ ks) = false
+at_most_three _ = true
 
 -- the caller's condition
 abbrev pub may_begin : List Entry → Call → Bool

@@ -93,10 +93,9 @@ module _ {L V E : Type 0} {a : Algebra L V E} {p : PassState} where
 
 -- two values, where d is any value
 pub two_values : {V : Type 0} (d : V) (vs : List V) → length vs ≡ 2 → get_or vs 0 d ∷ get_or vs 1 d ∷ [] ≡ vs
-two_values d [] two = absurd (omega (arith, two))
 two_values d (v ∷ []) two = absurd (omega (arith, two))
 two_values d (v ∷ w ∷ []) two = refl
-two_values d (v ∷ w ∷ x ∷ vs) two = absurd (omega (arith, two))
+two_values d _ two = absurd (omega (arith, two))
 
 module _ {L V E : Type 0} {a : Algebra L V E} {p q : PassState} {l : L} {ts : List ℕ} {t : ℕ} where
   -- what the clause `tree` of an intern or a find says of tickets with these meanings

@@ -10,8 +10,8 @@ use native.Mathlib.Nat.{div-le_self, mod-le}
 use Rattle.words.specs.declared.sign.Sign.{Sign}
 use Rattle.words.specs.declared.sign.Sign.TheVariants.{Signed, Unsigned}
 use Rattle.words.specs.declared.operator.Operator.{Operator}
-use Rattle.words.specs.declared.operator.Operator.TheVariants.{Addu, Subu, And, Or, Xor, Nor, Slt, Sltu, Sll, Srl, Sra, MultHigh, MultLow}
-use Rattle.words.specs.declared.operator.Operator.TheVariants.{MultuHigh, MultuLow, DivQuotient, DivRemainder, DivuQuotient, DivuRemainder}
+use Rattle.words.specs.declared.operator.Operator.TheVariants.{And, Or, Xor, Slt, Sltu, Srl, Sra, MultHigh}
+use Rattle.words.specs.declared.operator.Operator.TheVariants.{MultuHigh, DivQuotient, DivRemainder, DivuQuotient, DivuRemainder}
 use Rattle.words.specs.Words.{signed}
 use Rattle.words.specs.Operators.{op_value, or_zero, product, has_quotient, quotient, remainder, srl}
 
@@ -73,23 +73,18 @@ remainder_below Unsigned a b la = let q = mod-le a b in omega arith
 -- every operator gives a word at two words
 pub op_words : (op : Operator) (a b : ℕ) → a < 2 ^ 32 → b < 2 ^ 32 → op_value op a b < 2 ^ 32
 unfolding op_value
-op_words Addu a b la lb = omega arith
-op_words Subu a b la lb = omega arith
 op_words And a b la lb = let le = and_le_l a b in omega arith
 op_words Or a b la lb = or_of_32 a b la lb
 op_words Xor a b la lb = xor_of_32 a b la lb
-op_words Nor a b la lb = omega arith
 op_words Slt a b la lb = either_below (int_lt (signed a) (signed b)) 1 0 (omega arith) (omega arith)
 op_words Sltu a b la lb = either_below (nat_lt a b) 1 0 (omega arith) (omega arith)
-op_words Sll a b la lb = omega arith
 op_words Srl a b la lb = let le = div-le_self a (2 ^ (b % 32)) in omega arith
 op_words Sra a b la lb = let le = div-le_self a (2 ^ (b % 32)) in
     either_below (nat_lt a (2 ^ 31)) (srl a b) (2 ^ 32 - 1 - srl (2 ^ 32 - 1 - a) b) (omega arith) (omega arith)
 op_words MultHigh a b la lb = let p = product_below Signed a b la lb in omega arith
-op_words MultLow a b la lb = omega arith
 op_words MultuHigh a b la lb = let p = product_below Unsigned a b la lb in omega arith
-op_words MultuLow a b la lb = omega arith
 op_words DivQuotient a b la lb = if_below (has_quotient Signed a b) (quotient Signed a b) (quotient_below Signed a b la)
 op_words DivRemainder a b la lb = if_below (has_quotient Signed a b) (remainder Signed a b) (remainder_below Signed a b la)
 op_words DivuQuotient a b la lb = if_below (has_quotient Unsigned a b) (quotient Unsigned a b) (quotient_below Unsigned a b la)
 op_words DivuRemainder a b la lb = if_below (has_quotient Unsigned a b) (remainder Unsigned a b) (remainder_below Unsigned a b la)
+op_words _ a b la lb = omega arith

@@ -60,18 +60,12 @@ fewer (f ∷ fs) (n ∷ ns) t =
 
 two : (x : RExit) → exit_blocks x ≤ 2
 two (Call g xs d next) = omega arith
-two (Goto b) = omega arith
-two (Branch c t e) = omega arith
-two (Return o) = omega arith
-two (Out x next) = omega arith
+two _ = omega arith
 
 -- no call is copied
 one : (x : RExit) → again x ≡ Some x → exit_blocks x ≤ 1
 one (Call g xs d next) is = absurd (none-some (Call g xs d next) is)
-one (Goto b) is = omega arith
-one (Branch c t e) is = omega arith
-one (Return o) is = omega arith
-one (Out x next) is = omega arith
+one _ is = omega arith
 
 short : (is : List RInst) → is_short is ≡ true → length is ≤ 8
 short is h = leb-true (length is) 8 (first (nat_le (length is) 8) (nat_le (operations is) 4) h)
@@ -125,10 +119,7 @@ kept_weighs keeps n (c ∷ cs) (d ∷ ds) t =
 
     some : (x : RExit) → 1 ≤ exit_blocks x
     some (Call g xs d next) = omega arith
-    some (Goto b) = omega arith
-    some (Branch c t e) = omega arith
-    some (Return o) = omega arith
-    some (Out x next) = omega arith
+    some _ = omega arith
 
     by : (b : Bool) → code_of d ≡ (if b then code_of c else empty_code c)
         → 512 * exit_blocks d.exit + 8 * length d.insts.items ≤ 512 * exit_blocks c.exit + 8 * length c.insts.items

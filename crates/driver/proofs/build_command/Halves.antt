@@ -71,9 +71,6 @@ scheduled_build Suits m (Err e) suits w = tt
 -- a unit of the text's program that has no image
 fault_of : (text : List ℕ) (depth : ℕ) (u : UnitParts) (s : ScheduledParts) (e : BuildFault) → IsUnitOf text depth u → s.unit ≡ u → IsUnwritten s e
     → IsBuildFault text depth e
-fault_of text depth u s (faults.Source f) of same h = absurd h
-fault_of text depth u s (faults.Limit limits.Lowering) of same h = absurd h
-fault_of text depth u s (faults.Limit limits.Selection) of same h = absurd h
 fault_of text depth u s (faults.Limit limits.Assembly) of same h = record {
   program = of.program;
   spelled = of.spelled;
@@ -85,6 +82,7 @@ fault_of text depth u s (faults.Limit limits.Assembly) of same h = record {
       omega (arith, fit, few, unit, long, many);
 }
 fault_of text depth u s faults.NoMemory of same h = (of.program, of.spelled)
+fault_of text depth u s _ of same h = absurd h
 
 pub unwritten : {E : Type 0} (u : UnitParts) (m : Result ScheduledParts E) (r : Result Built BuildFault) → IfOk m (λ s. s.unit ≡ u)
     → IfErr r (IsUnwrittenOf m) → IfErr r (λ f. (text : List ℕ) (depth : ℕ) → IsUnitOf text depth u → IsBuildFault text depth f)

@@ -26,8 +26,7 @@ after_one t n (says.Answer (answers.Unclean rule)) room =
 after_one t n (says.Answer (answers.Differs place)) room =
     (ap (λ (k : ℕ). record t { differs = k }) (kept_is t.differs (omega (arith, room))), omega (arith, room))
 after_one t n (says.Answer answers.Full) room = (ap (λ (k : ℕ). record t { full = k }) (kept_is t.full (omega (arith, room))), omega (arith, room))
-after_one t n (says.Text fault) room = (ap (λ (k : ℕ). record t { faulty = k }) (kept_is t.faulty (omega (arith, room))), omega (arith, room))
-after_one t n (says.Host fault) room = (ap (λ (k : ℕ). record t { faulty = k }) (kept_is t.faulty (omega (arith, room))), omega (arith, room))
+after_one t n _ room = (ap (λ (k : ℕ). record t { faulty = k }) (kept_is t.faulty (omega (arith, room))), omega (arith, room))
 
 kept_by : (t : Totals) (files : List CheckedFile) → HasRoom t (length files) → totals_by kept_more t files ≡ totals_by exact t files
 kept_by t [] room = refl

@@ -1,4 +1,4 @@
-use Rattle.std.proofs.Common.{◌≡◌, ◌+◌, ◌++◌, ◌≤◌, ℕ, length, map, drop, sym, ap, subst, ◌∙◌, arith}
+use Rattle.std.proofs.Common.{◌≡◌, ◌+◌, ◌++◌, ◌≤◌, ℕ, length, map, drop, sym, subst, ◌∙◌, arith}
 use Rattle.mips_code.specs.Words.{inst_word}
 use Rattle.mips_asm.specs.Layout.{place, insts_of}
 use Rattle.mips_asm.specs.Emitted.{Fit, IsNear, start_of}

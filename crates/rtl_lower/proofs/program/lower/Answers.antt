@@ -3,7 +3,7 @@ use Rattle.std.specs.Prelude.{All}
 use Rattle.c_types.specs.Shape.{program_of}
 use Rattle.c_typed.specs.Shape.{functions_of}
 use Rattle.rtl.specs.Programs as Programs
-use Rattle.rtl.specs.Programs.{IsProgram, Program}
+use Rattle.rtl.specs.Programs.{Program}
 use Rattle.rtl_lower.specs.Coded.{AreGlobalsOf}
 use Rattle.rtl_lower.specs.Sizes.{IsPlain, HaveRoom}
 use Rattle.rtl_lower.proofs.Functions.{program_made}

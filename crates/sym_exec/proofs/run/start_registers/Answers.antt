@@ -1,4 +1,4 @@
-use Rattle.std.proofs.Common.{rules, ◌≡◌, ℕ, zero, suc, ◌<◌, ◌+◌, length, sym, ap, ◌∙◌, subst, arith, ⊎_elim}
+use Rattle.std.proofs.Common.{rules, ◌≡◌, ℕ, zero, ◌<◌, ◌+◌, length, ◌∙◌, subst, arith}
 use Rattle.std.specs.Prelude.{slice_index, replicate}
 use Rattle.sym_exec.specs.MipsTerms.{HasTree}
 use Rattle.sym_exec.proofs.MipsTerms.{still_tree, tree_seen}

@@ -1,4 +1,4 @@
-use Rattle.std.proofs.Common.{refl, subst, sym}
+use Rattle.std.proofs.Common.{refl, subst}
 use Rattle.rtl.specs.Programs.{program_of}
 use Rattle.rtl.specs.Tails.{IsTailed}
 use Rattle.rtl.proofs.Copies.{program_fits}
