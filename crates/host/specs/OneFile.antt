@@ -18,8 +18,8 @@ IsRefused fault = fault ≡ CannotWrite
 abbrev pub TookPrint : Option (List ℕ) → Option (List ℕ) → (List ℕ → Type 0) → Type 0
 TookPrint old new Prints = (printed : List ℕ) × Appends old new printed × Prints printed
 
--- a command's own parts: the answers and the faults that bytes may have, what an answer prints, its status, what is told beside an answer
--- of a status, a fault's line, why an answer may be left unprinted, and whether it prints while it works
+-- A command's own parts: the answers and faults that bytes may have, what an answer prints, its status, and a fault's line.
+-- Besides: what is told after a status, why an answer may be left unprinted, and whether it prints while it works.
 pub record FileMeaning (A B : Type 0) : Type 1 where
   pub Answers : List ℕ → A → Type 0
   pub Faults : List ℕ → B → Type 0

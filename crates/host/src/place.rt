@@ -194,7 +194,7 @@ fn rest_of(alloc: Global, about: &Explanation) -> Result<Page, AllocError> {
     out.end()
 }
 
-/// What is told below a fault: the place and the message, the line of the text with its caret, the hint and what else is wrong.
+/// What is told below a fault: the place and the message, the line with its caret, the hint, and what else is wrong.
 #[derive(Drop)]
 struct Below {
     head: Page,

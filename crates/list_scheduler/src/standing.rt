@@ -1,5 +1,5 @@
-//! Blocks whose instructions stand as the list scheduler would list them. Each one's way to the end is at least as long as that of the
-//! next one, and none has to wait for the word before it. These need no graph. A store beside another load or store does.
+//! Blocks whose instructions stand as the list scheduler would list them. Each one's way to the end is at least as long as the
+//! next one's, and none has to wait for the word before it. These need no graph. A store beside another load or store does.
 use crate::node::{Facts, Memory};
 use crate::resources::Resources;
 use mblock::Exit;

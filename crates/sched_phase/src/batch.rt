@@ -1,4 +1,4 @@
-//! The batches in which a phase goes through the blocks of a unit, the runs of blocks in them, and the sizes of the tables that they need.
+//! The batches in which a phase goes through a unit's blocks, the runs of blocks in them, and the sizes of their tables.
 //!
 //! A batch's table has room for the terms that its blocks are likely to have. No contract rests on that, since a block that finds the table
 //! full is judged again over tables of its own.

@@ -12,8 +12,8 @@ use std::alloc::Global;
 use steal_pool::{Gate, Job};
 use term_table::{MAX_NODES, Pass};
 
-/// A batch: the blocks of a unit from `first` to before `end`, which workers take in runs of `length`, the terms that they share, who
-/// proposes orders, and who is told of each block.
+/// A batch: the blocks of a unit from `first` to before `end`, which workers take in runs of `length`. It has the
+/// terms that they share, who proposes orders, and who is told of each block.
 #[derive(Drop)]
 pub(crate) struct BlockJob<'a, 't, R, G> {
     pub(crate) alloc: Global,
