@@ -216,22 +216,16 @@ never_forgets h is depth n = forgets_nothing (homed_steps h depth n (homed_start
 -- ---- the run that forgets nothing
 
 -- of what an exit keeps only the registers count that it leaves here
+exit_kept : (keep : Places → Places) (h : Homed) (depth : ℕ) (x : RExit) (a : Activation) (r : Places) (ws : List Activation) (g : Arrays) (out : List ℕ)
+    → exit_keeping (rules keep h depth) x a (around r ws g out) ≡ exit_keeping (rules (λ _. keep r) h depth) x a (around r ws g out)
+exit_kept keep h depth (Return None) a r ws g out = refl
+exit_kept keep h depth _ a r ws g out = refl
+
 same_exit : (keep keep' : Places → Places) (h : Homed) (depth : ℕ) (x : RExit) (a : Activation) (r : Places) (ws : List Activation) (g : Arrays)
     (out : List ℕ) → keep r ≡ keep' r → exit_keeping (rules keep h depth) x a (around r ws g out) ≡ exit_keeping (rules keep' h depth) x a (around r ws g out)
-same_exit keep keep' h depth (Goto b) a r ws g out e = ap (λ (p : Places). state_at_block b a a.slots (around p ws g out)) e
-same_exit keep keep' h depth (Branch c t f) a r ws g out e = ap
-    (λ (p : Places).
-    with_value (read_home a.frame.homes.items r a.slots c) out (λ v. state_at_block (if v == 0 then f else t) a a.slots (around p ws g out))) e
-same_exit keep keep' h depth (Call f xs dest next) a r ws g out e = ap
-    (λ (p : Places).
-    with_value (read_homes a.frame.homes.items r a.slots xs.items) out (λ vs. with_value (slice_get a.blocks next) out (λ block.
-    state_after_call h depth f vs dest (around p (at_code a a.slots (code_of block) ∷ ws) g out)))) e
-same_exit keep keep' h depth (Return None) a r ws g out e = ap (λ (p : Places). state_after_return None a p ws g out) e
-same_exit keep keep' h depth (Return (Some x)) a r ws g out e =
-    ap (λ (p : Places). with_value (read_home a.frame.homes.items r a.slots x) out (λ v. state_after_return (Some v) a p ws g out)) e
-same_exit keep keep' h depth (Out x next) a r ws g out e = ap
-    (λ (p : Places).
-    with_value (read_home a.frame.homes.items r a.slots x) out (λ v. state_at_block next a a.slots (around p ws g (out ++ v ∷ [])))) e
+same_exit keep keep' h depth x a r ws g out e =
+    exit_kept keep h depth x a r ws g out ∙ ap (λ (p : Places). exit_keeping (rules (λ _. p) h depth) x a (around r ws g out)) e
+    ∙ sym (exit_kept keep' h depth x a r ws g out)
 
 same_step : (h : Homed) (depth : ℕ) (run : Run) → RunKeeps run → step_keeping (λ r. r) h depth run ≡ homed_step h depth run
 same_step h depth (Running r (a ∷ ws) g out) k = code a.code.insts

@@ -26,8 +26,6 @@ use Rattle.mips_homes.specs.declared.homed.Homed.{Homed}
 use Rattle.rtl.specs.declared.block.RBlock.{RBlock}
 use Rattle.rtl.specs.declared.block.RFunc.{RFunc}
 
--- ---- the loop over homes
-
 -- ---- what places are
 
 -- homes that outlive blocks
@@ -324,11 +322,11 @@ blocks_cover (k ∷ bs) (suc b) block x e = let rest = blocks_cover bs b block x
 
 pub lives : (hs : List Home) (x r : ℕ) → slice_get hs x ≡ Some (Reg r) → lives_in hs r ≡ true
 lives [] x r e = absurd (none-some (Reg r) e)
-lives (h ∷ hs) zero r e = ap (λ h. if is_register h r then true else lives_in hs r) (same_Some h (Reg r) e)
-    ∙ ap (λ c. if c then true else lives_in hs r) (eq-eqb r r refl)
+lives (h ∷ hs) zero r e = ap (λ h. is_register h r || lives_in hs r) (same_Some h (Reg r) e)
+    ∙ ap (λ c. c || lives_in hs r) (eq-eqb r r refl)
 lives (h ∷ hs) (suc x) r e = by (is_register h r) (lives hs x r e)
   where
-    by : (c : Bool) → lives_in hs r ≡ true → (if c then true else lives_in hs r) ≡ true
+    by : (c : Bool) → lives_in hs r ≡ true → (c || lives_in hs r) ≡ true
     by true rest = refl
     by false rest = rest
 
@@ -366,10 +364,10 @@ still_few hs (q ∷ rs) = by (still_few hs rs) (lives_in hs q)
 
 pub has_slot : (hs : List Home) (x : ℕ) (h : Home) → slice_get hs x ≡ Some h → is_slot h ≡ true → some_slot hs ≡ true
 has_slot [] x g e slot = absurd (none-some g e)
-has_slot (h ∷ hs) zero g e slot = ap (λ c. if c then true else some_slot hs) (ap is_slot (same_Some h g e) ∙ slot)
+has_slot (h ∷ hs) zero g e slot = ap (λ c. c || some_slot hs) (ap is_slot (same_Some h g e) ∙ slot)
 has_slot (h ∷ hs) (suc x) g e slot = by (is_slot h) (has_slot hs x g e slot)
   where
-    by : (c : Bool) → some_slot hs ≡ true → (if c then true else some_slot hs) ≡ true
+    by : (c : Bool) → some_slot hs ≡ true → (c || some_slot hs) ≡ true
     by true rest = refl
     by false rest = rest
 
@@ -408,43 +406,33 @@ module _ (func : RFunc) (c f : Frame) (ok : IsChoice func c) (p : IsPlaced func.
   pub case_of : (x : ℕ) (h : Home) → slice_get f.homes.items x ≡ Some h → (slice_get c.homes.items x ≡ Some (cell h)) ⊎ GetsTemporaryIn x (cell h)
   case_of x h e = case_before x (cell h) (before_copy x h e)
 
-  -- a register below 8 is that of the preference: no argument is passed behind it, and a parameter comes in it
-  pub seated : (x r : ℕ) → slice_get f.homes.items x ≡ Some (Reg r)
-      → (8 ≤ r) ⊎ ((blocks_reach func.blocks.items x + 3 ≤ r) × (x < func.parameters → r ≡ 4 + x))
-  seated x r e = by (case_of x (Reg r) e)
+  -- all are among 4 to 27; one below 8 is that of the preference: no argument is passed behind it, and a parameter comes in it
+  seat : (x r : ℕ) → slice_get f.homes.items x ≡ Some (Reg r)
+      → (4 ≤ r) × (r < 28) × ((8 ≤ r) ⊎ ((blocks_reach func.blocks.items x + 3 ≤ r) × (x < func.parameters → r ≡ 4 + x)))
+  seat x r e = by (case_of x (Reg r) e)
     where
       preferred : (q : ℕ) → r ≡ q → (preference func.parameters func.blocks.items x ≡ Some q) ⊎ IsTemporary q
-          → (8 ≤ r) ⊎ ((blocks_reach func.blocks.items x + 3 ≤ r) × (x < func.parameters → r ≡ 4 + x))
+          → (4 ≤ r) × (r < 28) × ((8 ≤ r) ⊎ ((blocks_reach func.blocks.items x + 3 ≤ r) × (x < func.parameters → r ≡ 4 + x)))
       preferred q same (inl e) =
           let is = preference_is func.parameters func.blocks.items x q e in
-          let behind = is.2 in
-          inr (omega (arith, behind, same), λ lt. same ∙ is.3 lt)
-      preferred q same (inr range) = (let low = range.0 in inl (omega (arith, low, same)))
+          (omega (arith, is.0, same), omega (arith, is.1, same), inr (omega (arith, is.2, same), λ lt. same ∙ is.3 lt))
+      preferred q same (inr range) = (omega (arith, range.0, same), omega (arith, range.1, same), inl (omega (arith, range.0, same)))
 
       by : (slice_get c.homes.items x ≡ Some (Reg r)) ⊎ GetsTemporaryIn x (Reg r)
-          → (8 ≤ r) ⊎ ((blocks_reach func.blocks.items x + 3 ≤ r) × (x < func.parameters → r ≡ 4 + x))
-      by (inl home) = (let low = (ok.registers x r home).0.0 in inl (omega (arith, low)))
+          → (4 ≤ r) × (r < 28) × ((8 ≤ r) ⊎ ((blocks_reach func.blocks.items x + 3 ≤ r) × (x < func.parameters → r ≡ 4 + x)))
+      by (inl home) =
+          let range = (ok.registers x r home).0 in
+          (omega (arith, range.0), omega (arith, range.1), inl (omega (arith, range.0)))
       by (inr q) =
           preferred q.r (same_register r q.r q.is)
           (temporary_range (is_local func.blocks.items) (preference func.parameters func.blocks.items) (preferences_range func.parameters func.blocks.items) x [] (Reg r) q)
 
-  -- and all are among 4 to 27
+  pub seated : (x r : ℕ) → slice_get f.homes.items x ≡ Some (Reg r)
+      → (8 ≤ r) ⊎ ((blocks_reach func.blocks.items x + 3 ≤ r) × (x < func.parameters → r ≡ 4 + x))
+  seated x r e = (seat x r e).2
+
   pub within : (x r : ℕ) → slice_get f.homes.items x ≡ Some (Reg r) → (4 ≤ r) × (r < 28)
-  within x r e = by (case_of x (Reg r) e)
-    where
-      preferred : (q : ℕ) → r ≡ q → (preference func.parameters func.blocks.items x ≡ Some q) ⊎ IsTemporary q → (4 ≤ r) × (r < 28)
-      preferred q same (inl e) =
-          let is = preference_is func.parameters func.blocks.items x q e in
-          let low = is.0 in
-          let high = is.1 in
-          (omega (arith, low, same), omega (arith, high, same))
-      preferred q same (inr range) = (let low = range.0 in let high = range.1 in (omega (arith, low, same), omega (arith, high, same)))
-
-      by : (slice_get c.homes.items x ≡ Some (Reg r)) ⊎ GetsTemporaryIn x (Reg r) → (4 ≤ r) × (r < 28)
-      by (inl home) = (let range = (ok.registers x r home).0 in let low = range.0 in let high = range.1 in (omega (arith, low), omega (arith, high)))
-      by (inr q) =
-          preferred q.r (same_register r q.r q.is)
-          (temporary_range (is_local func.blocks.items) (preference func.parameters func.blocks.items) (preferences_range func.parameters func.blocks.items) x [] (Reg r) q)
+  within x r e = let range = seat x r e in (range.0, range.1)
 
   pub places_long_as : length f.homes.items ≡ how_many func
   places_long_as = ap length p.homes ∙ copied_long func.blocks.items uncopied ∙ places_long (is_local func.blocks.items) (preference func.parameters func.blocks.items) 0 [] c.homes.items ∙ ok.long

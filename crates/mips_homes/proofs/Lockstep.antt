@@ -432,11 +432,11 @@ home_unset hs saved bs registers ok x (Reg r) e = by (is_callee_saved r) refl
     none : (c : Bool) → (if c then None else (if false then registers r else None)) ≡ None
     none true = refl
     none false = refl
-home_unset hs saved bs registers ok x _ e = refl
 
     by : (l : Bool) → is_callee_saved r ≡ l → (if is_in saved r then None else (if is_callee_saved r then registers r else None)) ≡ None
     by true l = ap (λ c. if c then None else callee_saved registers r) (ok.kept x r e l)
     by false l = ap (λ l. if is_in saved r then None else (if l then registers r else None)) l ∙ none (is_in saved r)
+home_unset hs saved bs registers ok x _ e = refl
 
 all_unset : (hs : List Home) (saved : List ℕ) (bs : List RBlock) (registers : Places) → AreHomes hs saved bs
     → Agrees hs (registers_at_entry saved (callee_saved registers)) unset_places unset_places (λ x. true)

@@ -6,7 +6,7 @@ use Rattle.std.proofs.lemmas.List.{append_assoc, at_drop_more}
 use Rattle.std.proofs.lemmas.Option.{none-some}
 use Rattle.mips_homes.specs.HomedRun.{is_in}
 use Rattle.mips_homes.specs.Best.{IsHome, AreHomesOf, AreFirst}
-use Rattle.mips_homes.specs.Places.{free_register, home_or, also, places_from, lives_in, still_saved}
+use Rattle.mips_homes.specs.Places.{free_register, home_or, also, places_from}
 use Rattle.mips_homes.proofs.Choosing.{one_if, got_push, length_one, is_in_at}
 use Rattle.mips_homes.specs.declared.homed.Home.{Home}
 use Rattle.mips_homes.specs.declared.homed.Home.TheVariants.{Reg, Slot}
@@ -74,23 +74,3 @@ places_step local preference x taken taken' homes out out' all d h register with
     ∙ ap₂ (λ n t. out ++ home_or register (get_or homes x d) ∷ places_from local preference n t rest) next taken_is
     ∙ ap (λ r. out ++ home_or r (get_or homes x d) ∷ places_from local preference (suc x) (also taken r) rest) register_is
     ∙ sym (at_drop_more (λ hs. out ++ places_from local preference x taken hs) homes x d within) ∙ before
-
--- one more saved register, which is still a home or isn't
-saved_next : (homes : List Home) (saved kept : List ℕ) (i : ℕ) (b : Bool) → i < length saved → lives_in homes (get_or saved i 0) ≡ b
-    → kept ++ still_saved homes (drop i saved)
-    ≡ kept ++ (if b then get_or saved i 0 ∷ still_saved homes (drop (i + 1) saved) else still_saved homes (drop (i + 1) saved))
-saved_next homes saved kept i b within is =
-    let rest = still_saved homes (drop (i + 1) saved) in
-    at_drop_more (λ rs. kept ++ still_saved homes rs) saved i 0 within ∙ ap (λ b. kept ++ (if b then get_or saved i 0 ∷ rest else rest)) is
-
-pub saved_then : (homes : List Home) (saved kept kept' all : List ℕ) (i : ℕ) → i < length saved → lives_in homes (get_or saved i 0) ≡ true
-    → kept' ≡ kept ++ get_or saved i 0 ∷ [] → kept ++ still_saved homes (drop i saved) ≡ all
-    → kept' ++ still_saved homes (drop (i + 1) saved) ≡ all
-saved_then homes saved kept kept' all i within is more before =
-    let rest = still_saved homes (drop (i + 1) saved) in
-    ap (λ l. l ++ rest) more ∙ append_assoc kept (get_or saved i 0 ∷ []) rest ∙ sym (saved_next homes saved kept i true within is) ∙ before
-
-pub saved_else : (homes : List Home) (saved kept kept' all : List ℕ) (i : ℕ) → i < length saved → lives_in homes (get_or saved i 0) ≡ false
-    → kept' ≡ kept → kept ++ still_saved homes (drop i saved) ≡ all → kept' ++ still_saved homes (drop (i + 1) saved) ≡ all
-saved_else homes saved kept kept' all i within is same before =
-    ap (λ l. l ++ still_saved homes (drop (i + 1) saved)) same ∙ sym (saved_next homes saved kept i false within is) ∙ before

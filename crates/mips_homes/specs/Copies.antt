@@ -1,5 +1,6 @@
 -- Copies of slots, in registers that a function without calls has to spare: no pseudo-register lives there, and no function keeps them.
-use Rattle.std.specs.Prelude.{ℕ, Bool, true, false, List, [], ◌∷◌, Option, None, Some, drop, nat_eq, if◌then◌else◌, slice_get}
+use Rattle.std.specs.Prelude.{ℕ, Bool, true, false, List, [], ◌∷◌, Option, Some, drop, nat_eq, if◌then◌else◌, slice_get}
+use Rattle.std.specs.List.{list_any, list_all}
 use Rattle.rtl.specs.declared.instruction.RExit.{RExit}
 use Rattle.rtl.specs.declared.instruction.RExit.TheVariants.{Call}
 use Rattle.rtl.specs.declared.block.RBlock.{RBlock}
@@ -9,18 +10,15 @@ use Rattle.mips_homes.specs.Convention.{temporaries}
 
 abbrev pub is_register : Home → ℕ → Bool
 is_register (Reg q) r = nat_eq q r
-is_register (Slot k) r = false
-is_register (Copied q k) r = false
+is_register _ r = false
 
 abbrev pub is_slot : Home → Bool
 is_slot (Reg q) = false
-is_slot (Slot k) = true
-is_slot (Copied q k) = true
+is_slot _ = true
 
 -- whether one lives in a register
 abbrev pub lives_in : List Home → ℕ → Bool
-lives_in [] r = false
-lives_in (h ∷ hs) r = if is_register h r then true else lives_in hs r
+lives_in hs r = list_any (λ h. is_register h r) hs
 
 -- a function without calls
 abbrev pub calls_none : RExit → Bool
@@ -28,8 +26,7 @@ calls_none (Call g xs d next) = false
 calls_none _ = true
 
 abbrev pub is_leaf : List RBlock → Bool
-is_leaf [] = true
-is_leaf (b ∷ bs) = if calls_none b.exit then is_leaf bs else false
+is_leaf bs = list_all (λ (b : RBlock). calls_none b.exit) bs
 
 -- those of some registers in which no pseudo-register lives
 abbrev pub unused : List Home → List ℕ → List ℕ
@@ -38,10 +35,8 @@ unused hs (r ∷ rs) = if lives_in hs r then unused hs rs else r ∷ unused hs r
 
 -- a slot gets a copy where there is a register for it
 abbrev pub with_copy : Home → (register : Option ℕ) → Home
-with_copy (Reg q) o = Reg q
-with_copy (Slot k) None = Slot k
 with_copy (Slot k) (Some r) = Copied r k
-with_copy (Copied q k) o = Copied q k
+with_copy h o = h
 
 -- homes whose slots have copies, as far as there are registers
 abbrev pub copied_onto : (free : List ℕ) → List Home → List Home

@@ -1,5 +1,6 @@
 -- Where pseudo-registers are put: at their homes, or, if they are local to blocks, in registers that no function keeps.
 use Rattle.std.specs.Prelude.{◌≡◌, ℕ, suc, Bool, true, false, List, [], ◌∷◌, ◌++◌, Option, None, Some, if◌then◌else◌}
+use Rattle.std.specs.List.{list_any, filter}
 use Rattle.rtl.specs.Names.{optional}
 use Rattle.rtl.specs.declared.block.RBlock.{RBlock}
 use Rattle.rtl.specs.declared.block.RFunc.{RFunc}
@@ -41,13 +42,11 @@ places_from local preference x taken (h ∷ hs) =
 
 -- the registers that are still homes
 abbrev pub still_saved : List Home → List ℕ → List ℕ
-still_saved hs [] = []
-still_saved hs (r ∷ rs) = if lives_in hs r then r ∷ still_saved hs rs else still_saved hs rs
+still_saved hs rs = filter (lives_in hs) rs
 
 -- whether one lives in a slot
 abbrev pub some_slot : List Home → Bool
-some_slot [] = false
-some_slot (h ∷ hs) = if is_slot h then true else some_slot hs
+some_slot hs = list_any is_slot hs
 
 -- the frame of a choice in a function with n parameters, with local pseudo-registers in registers that no function keeps, and with copies
 pub record IsPlaced (n : ℕ) (bs : List RBlock) (c f : Frame) : Type 0 where

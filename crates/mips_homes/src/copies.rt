@@ -15,25 +15,14 @@ use std::alloc::{AllocError, Global};
 fn calls_none(exit: &RExit) -> bool
     ensures { result ≡ calls_none exit.now }
 {
-    match exit {
-        RExit::Call(_, _, _, _) => false,
-        RExit::Goto(_) => true,
-        RExit::Branch(_, _, _) => true,
-        RExit::Return(_) => true,
-        RExit::Out(_, _) => true,
-    }
+    !matches!(exit, RExit::Call(_, _, _, _))
 }
 
 /// Reports whether a function calls none.
 pub fn is_leaf(blocks: &[RBlock]) -> bool
     ensures { result ≡ is_leaf blocks.now }
 {
-    for b in blocks {
-        if !calls_none(&b.exit) {
-            return false;
-        }
-    }
-    true
+    blocks.iter().all(|b| calls_none(&b.exit))
 }
 
 /// Returns those of some registers in which no pseudo-register lives.
@@ -61,23 +50,17 @@ fn register_at(registers: &[u8], n: usize) -> Option<NonzeroReg>
     requires { (j r : ℕ) → slice_get registers.now j ≡ Some r → (0 < r) × (r < 32) }
     ensures { result ≡ slice_get registers.now n }
 {
-    match registers.get(n) {
-        Some(r) => Some(register(*r)),
-        None => None,
-    }
+    let r = registers.get(n)?;
+    Some(register(*r))
 }
 
 /// Returns a home, with a copy in a register if it is a slot.
 fn with_copy(home: Home, register: Option<NonzeroReg>) -> Home
     ensures { result ≡ with_copy home register }
 {
-    match home {
-        Home::Reg(_) => home,
-        Home::Copied(_, _) => home,
-        Home::Slot(k) => match register {
-            Some(r) => Home::Copied(r, k),
-            None => home,
-        },
+    match (home, register) {
+        (Home::Slot(k), Some(r)) => Home::Copied(r, k),
+        _ => home,
     }
 }
 

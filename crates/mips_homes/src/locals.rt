@@ -78,14 +78,6 @@ fn see_write(sights: &mut Vec<Sight>, k: usize, x: Register) -> Result<(), Alloc
     Ok(())
 }
 
-/// Records that block k reads two.
-fn see_reads(sights: &mut Vec<Sight>, k: usize, x: Register, y: Register) -> Result<(), AllocError>
-    ensures { OnOk result (Sees k sights.old.items sights.new.items (x ∷ y ∷ []) []) }
-{
-    see_read(sights, k, x)?;
-    see_read(sights, k, y)
-}
-
 /// Records that block k reads all of these.
 fn see_all(sights: &mut Vec<Sight>, k: usize, xs: &[Register]) -> Result<(), AllocError>
     ensures { OnOk result (Sees k sights.old.items sights.new.items xs.now []) }
@@ -96,25 +88,16 @@ fn see_all(sights: &mut Vec<Sight>, k: usize, xs: &[Register]) -> Result<(), All
     Ok(())
 }
 
-/// Records that block k reads one and then writes one.
-fn see_move(sights: &mut Vec<Sight>, k: usize, d: Register, x: Register) -> Result<(), AllocError>
-    ensures { OnOk result (Sees k sights.old.items sights.new.items (x ∷ []) (d ∷ [])) }
-{
-    see_read(sights, k, x)?;
-    see_write(sights, k, d)
-}
-
-/// Records that block k reads two and then writes one.
+/// Records that block k reads some and then writes one.
 fn see_operation(
     sights: &mut Vec<Sight>,
     k: usize,
     d: Register,
-    x: Register,
-    y: Register,
+    xs: &[Register],
 ) -> Result<(), AllocError>
-    ensures { OnOk result (Sees k sights.old.items sights.new.items (x ∷ y ∷ []) (d ∷ [])) }
+    ensures { OnOk result (Sees k sights.old.items sights.new.items xs.now (d ∷ [])) }
 {
-    see_reads(sights, k, x, y)?;
+    see_all(sights, k, xs)?;
     see_write(sights, k, d)
 }
 
@@ -124,10 +107,10 @@ fn see_inst(sights: &mut Vec<Sight>, k: usize, inst: &RInst) -> Result<(), Alloc
 {
     match inst {
         RInst::Const(d, _) => see_write(sights, k, *d),
-        RInst::Move(d, a) => see_move(sights, k, *d, *a),
-        RInst::Bin(_, d, a, b) => see_operation(sights, k, *d, *a, *b),
-        RInst::Load(d, _, i) => see_move(sights, k, *d, *i),
-        RInst::Store(_, i, a) => see_reads(sights, k, *i, *a),
+        RInst::Move(d, a) => see_operation(sights, k, *d, &[*a]),
+        RInst::Bin(_, d, a, b) => see_operation(sights, k, *d, &[*a, *b]),
+        RInst::Load(d, _, i) => see_operation(sights, k, *d, &[*i]),
+        RInst::Store(_, i, a) => see_all(sights, k, &[*i, *a]),
     }
 }
 
@@ -180,8 +163,5 @@ pub(crate) fn sights(alloc: Global, blocks: &[RBlock]) -> Result<Vec<Sight>, All
 pub(crate) fn is_local(sights: &[Sight], x: usize) -> bool
     ensures { result ≡ not (is_read_first sights.now x) }
 {
-    match sights.get(x) {
-        Some(sight) => !sight.read_first,
-        None => true,
-    }
+    !sights.get(x).is_some_and(|sight| sight.read_first)
 }

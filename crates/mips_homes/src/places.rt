@@ -53,10 +53,8 @@ fn free_register(taken: &[u8], preference: Option<NonzeroReg>) -> Option<Nonzero
             return Some(r);
         }
     }
-    match first_free(taken, &TEMPORARIES) {
-        Some(r) => Some(register(r)),
-        None => None,
-    }
+    let r = first_free(taken, &TEMPORARIES)?;
+    Some(register(r))
 }
 
 /// Returns the register of a pseudo-register, if it gets one.
@@ -74,10 +72,7 @@ fn register_for(local: bool, taken: &[u8], preference: Option<NonzeroReg>) -> Op
 fn home_or(register: Option<NonzeroReg>, home: Home) -> Home
     ensures { result ≡ home_or register home }
 {
-    match register {
-        Some(r) => Home::Reg(r),
-        None => home,
-    }
+    register.map_or(home, Home::Reg)
 }
 
 /// Adds one more register to those taken.
@@ -138,59 +133,39 @@ fn places(
 fn is_register(home: Home, r: u8) -> bool
     ensures { result ≡ is_register home r }
 {
-    match home {
-        Home::Reg(q) => q.index() == r,
-        Home::Slot(_) => false,
-        Home::Copied(_, _) => false,
-    }
+    matches!(home, Home::Reg(q) if q.index() == r)
 }
 
 /// Reports whether one lives in a register.
 pub(crate) fn lives_in(homes: &[Home], r: u8) -> bool
     ensures { result ≡ lives_in homes.now r }
 {
-    for home in homes {
-        if is_register(*home, r) {
-            return true;
-        }
-    }
-    false
+    homes.iter().any(|home| is_register(*home, r))
 }
 
 /// Returns the registers that are still homes.
 fn still_saved(alloc: Global, homes: &[Home], saved: &[u8]) -> Result<Vec<u8>, AllocError>
     ensures { IfOk result (λ rs. rs.items ≡ still_saved homes.now saved.now) }
 {
-    let mut kept = Vec::new(alloc);
-    for r in saved {
-        if lives_in(homes, *r) {
-            kept.push(*r)?;
-        }
-    }
-    Ok(kept)
+    saved
+        .iter()
+        .copied()
+        .filter(|r| lives_in(homes, *r))
+        .collect(alloc)
 }
 
 /// Reports whether a home is a slot, with or without a copy.
 pub(crate) fn is_slot(home: Home) -> bool
     ensures { result ≡ is_slot home }
 {
-    match home {
-        Home::Reg(_) => false,
-        Home::Slot(_) => true,
-        Home::Copied(_, _) => true,
-    }
+    !matches!(home, Home::Reg(_))
 }
 
 /// Reports whether one lives in a slot.
 fn some_slot(homes: &[Home]) -> bool
     ensures { result ≡ some_slot homes.now }
 {
-    for home in homes {
-        if is_slot(*home) {
-            return true;
-        }
-    }
-    false
+    homes.iter().any(|home| is_slot(*home))
 }
 
 /// Returns the frame of a choice, with local pseudo-registers in temporaries.

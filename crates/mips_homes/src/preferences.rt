@@ -37,11 +37,9 @@ fn raise_at(reaches: &mut Vec<u64>, exit: &RExit) -> Result<(), AllocError>
     ensures { OnOk result ((y : ℕ) → slice_index reaches.new.items y ≡ max (slice_index reaches.old.items y) (exit_reach exit.now y)) }
 {
     match exit {
-        RExit::Goto(_) => Ok(()),
-        RExit::Branch(_, _, _) => Ok(()),
         RExit::Call(_, xs, _, _) => raise_all(reaches, xs.as_slice()),
-        RExit::Return(_) => Ok(()),
         RExit::Out(x, _) => raise(reaches, *x, 1),
+        _ => Ok(()),
     }
 }
 
@@ -71,10 +69,7 @@ fn register_of(arguments: u64) -> Option<NonzeroReg>
 pub(crate) fn reach_of(reaches: &[u64], x: usize) -> u64
     ensures { result ≡ slice_index reaches.now x }
 {
-    match reaches.get(x) {
-        Some(reach) => *reach,
-        None => 0,
-    }
+    reaches.get(x).copied().unwrap_or(0)
 }
 
 /// Returns the preference of a pseudo-register in a function with so many parameters.
