@@ -1,10 +1,11 @@
 -- A block is as it was, or ends with a copy of another; and what is named is there.
 use Rattle.std.proofs.Common.{◌≡◌, ℕ, zero, suc, ◌+◌, ◌<◌, ◌≤◌, ◌⊎◌, inl, inr, Bool, true, false, List, [], ◌∷◌, ◌++◌, Option, Some, None}
-use Rattle.std.proofs.Common.{length, nat_eq, refl, ap, subst, sym, ◌∙◌, arith}
+use Rattle.std.proofs.Common.{length, nat_eq, refl, ap, subst, sym, ◌∙◌, append_assoc, arith}
 use Rattle.std.specs.Prelude.{All, ◌||◌, slice_get, sum_by, if◌then◌else◌}
-use Rattle.std.proofs.lemmas.Option.{same_Some, none-some}
+use Rattle.std.proofs.lemmas.Option.{same_Some, none-some, slice_get_past}
 use Rattle.std.proofs.lemmas.List.Elements.{All-nil, All-cons, All-head, All-tail, All-append}
 use Rattle.std.proofs.lemmas.List.Sums.{sum_by-cons}
+use Rattle.runs.proofs.Words.{at-index}
 use Rattle.rtl.specs.declared.limits.TheConstants.{MAX_PARAMETERS, MAX_BLOCKS}
 use Rattle.rtl.specs.declared.instruction.RInst.{RInst}
 use Rattle.rtl.specs.declared.instruction.RInst.TheVariants.{Const, Move, Bin, Load, Store}
@@ -18,32 +19,38 @@ use Rattle.rtl.specs.Names.{is_in, goes_to, some_go_to}
 use Rattle.rtl.specs.Programs.{IsInst, IsCallee, IsExit, IsBlock, IsFunction, IsRegister, IsProgram, program_of, block_count}
 use Rattle.rtl.specs.Tails.{writes_first, constant_of, spare_constant, is_short, again, joined, joined_if, with_tail, tailed_by, tailed, AreTailed, is_reached, shortest, empty_code, AreKept, AreMade, HasTails, HaveTails}
 
+-- a block that may be copied, by way of a constant for d
+pub record Spare (block : RBlock) (d : ℕ) : Type 0 where
+  pub short : is_short block.insts.items ≡ true
+  pub first : writes_first block.insts.items d ≡ true
+  pub sets : spare_constant block.insts.items ≡ Some d
+  pub same : again block.exit ≡ Some block.exit
+
 -- the code of a block that goes to another of some blocks, with a copy of that one
 pub record Tail (bs : List RBlock) (c c' : Code) : Type 0 where
   pub number : ℕ
   pub block : RBlock
   pub d : ℕ
   pub there : slice_get bs number ≡ Some block
-  pub short : is_short block.insts.items ≡ true
   pub goes : c.exit ≡ Goto number
-  pub first : writes_first block.insts.items d ≡ true
-  pub sets : spare_constant block.insts.items ≡ Some d
-  pub same : again block.exit ≡ Some block.exit
+  pub spare : Spare block d
+  pub open spare use *
   pub is : c' ≡ joined c d block.insts.items block.exit
 
 abbrev pub Copy : List RBlock → Code → Code → Type 0
 Copy bs c c' = (c' ≡ c) ⊎ Tail bs c c'
 
--- it is written before it is read
-constant_first : (all is : List RInst) (d : ℕ) → constant_of all is ≡ Some d → writes_first all d ≡ true
-constant_first all [] d e = absurd (none-some d e)
-constant_first all (Const x w ∷ is) d e = by (writes_first all x) refl (λ f. constant_first all is d f) e
+-- an instruction sets it to a constant, and it is written before it is read
+pub constant_holds : (P : RInst → Type 0) (all is : List RInst) (d : ℕ) → All P is → constant_of all is ≡ Some d
+    → (w : ℕ) × P (Const d w) × (writes_first all d ≡ true)
+constant_holds P all [] d holds e = absurd (none-some d e)
+constant_holds P all (Const x w ∷ is) d holds e = by (writes_first all x) refl (λ f. constant_holds P all is d (All-tail P (Const x w) is holds) f) e
   where
-    by : (b : Bool) → writes_first all x ≡ b → (constant_of all is ≡ Some d → writes_first all d ≡ true)
-        → (if b then Some x else constant_of all is) ≡ Some d → writes_first all d ≡ true
-    by true f rest e = subst (λ d. writes_first all d ≡ true) (same_Some x d e) f
+    by : (b : Bool) → writes_first all x ≡ b → (constant_of all is ≡ Some d → (w : ℕ) × P (Const d w) × (writes_first all d ≡ true))
+        → (if b then Some x else constant_of all is) ≡ Some d → (w : ℕ) × P (Const d w) × (writes_first all d ≡ true)
+    by true f rest e = subst (λ d. (w : ℕ) × P (Const d w) × (writes_first all d ≡ true)) (same_Some x d e) (w, All-head P (Const x w) is holds, f)
     by false f rest e = rest e
-constant_first all _ d e = constant_first all is d e
+constant_holds P all (i ∷ is) d holds e = constant_holds P all is d (All-tail P i is holds) e
 
 again_same : (x e : RExit) → again x ≡ Some e → e ≡ x
 again_same (Goto b) e is = sym (same_Some (Goto b) e is)
@@ -78,11 +85,13 @@ copy_of_code bs c = by c.exit refl
                       block = t;
                       d = d;
                       there = there;
-                      short = short;
                       goes = goes;
-                      first = constant_first t.insts.items t.insts.items d target;
-                      sets = target;
-                      same = same ∙ ap Some is;
+                      spare = record {
+                        short = short;
+                        first = (constant_holds (λ _. Unit {0}) t.insts.items t.insts.items d (λ k d lt. tt) target).2;
+                        sets = target;
+                        same = same ∙ ap Some is;
+                      };
                       is = ap (joined c d t.insts.items) is;
                     })
     by (Branch x t e) goes = inl refl
@@ -103,17 +112,10 @@ wider bs more c c' (inr t) = inr (record {
   block = t.block;
   d = t.d;
   there = get_before bs more t.number t.block t.there;
-  short = t.short;
   goes = t.goes;
-  first = t.first;
-  sets = t.sets;
-  same = t.same;
+  spare = t.spare;
   is = t.is;
 })
-
-append_one : (xs : List RBlock) (y : RBlock) (ys : List RBlock) → (xs ++ y ∷ []) ++ ys ≡ xs ++ y ∷ ys
-append_one [] y ys = refl
-append_one (x ∷ xs) y ys = ap (λ l. x ∷ l) (append_one xs y ys)
 
 -- each block, and that which stands for it
 pub record Stands (all new : List RBlock) (i : ℕ) (b : RBlock) : Type 0 where
@@ -132,20 +134,12 @@ stands_from before (a ∷ bs) (c ∷ cs) h zero b is = record {
 }
 stands_from before (a ∷ bs) (c ∷ cs) h (suc i) b is =
     let s = stands_from (before ++ a ∷ []) bs cs h.1 i b is in
-    record { block = s.block; there = s.there; copy = subst (λ all. Copy all (code_of b) (code_of s.block)) (append_one before a bs) s.copy }
-
-none_from : (before bs new : List RBlock) → AreTailed before bs new → (i : ℕ) → slice_get bs i ≡ None → slice_get new i ≡ None
-none_from before [] [] h i is = is
-none_from before [] (c ∷ cs) h i is = absurd h
-none_from before (a ∷ bs) [] h i is = absurd h
-none_from before (a ∷ bs) (c ∷ cs) h zero is = absurd (none-some a (sym is))
-none_from before (a ∷ bs) (c ∷ cs) h (suc i) is = none_from (before ++ a ∷ []) bs cs h.1 i is
+    record { block = s.block; there = s.there; copy = subst (λ all. Copy all (code_of b) (code_of s.block)) (append_assoc before (a ∷ []) bs) s.copy }
 
 same_length : (before bs new : List RBlock) → AreTailed before bs new → length new ≡ length bs
 same_length before [] [] h = refl
-same_length before [] (c ∷ cs) h = absurd h
-same_length before (a ∷ bs) [] h = absurd h
 same_length before (a ∷ bs) (c ∷ cs) h = ap suc (same_length (before ++ a ∷ []) bs cs h.1)
+same_length before _ _ h = absurd h
 
 -- ---- those that nothing goes to are empty
 
@@ -162,18 +156,10 @@ kept_at keeps n (a ∷ cs) (d ∷ ds) h zero c is keep =
 kept_at keeps n (a ∷ cs) (d ∷ ds) h (suc i) c is keep =
     kept_at keeps (suc n) cs ds h.1 i c is (subst (λ k. keeps k ≡ true) (let s : n + suc i ≡ suc n + i = omega arith in s) keep)
 
-none_kept : (keeps : ℕ → Bool) (n : ℕ) (cs ds : List RBlock) → AreKept keeps n cs ds → (i : ℕ) → slice_get cs i ≡ None → slice_get ds i ≡ None
-none_kept keeps n [] [] h i is = is
-none_kept keeps n [] (d ∷ ds) h i is = absurd h
-none_kept keeps n (a ∷ cs) [] h i is = absurd h
-none_kept keeps n (a ∷ cs) (d ∷ ds) h zero is = absurd (none-some a (sym is))
-none_kept keeps n (a ∷ cs) (d ∷ ds) h (suc i) is = none_kept keeps (suc n) cs ds h.1 i is
-
 kept_length : (keeps : ℕ → Bool) (n : ℕ) (cs ds : List RBlock) → AreKept keeps n cs ds → length ds ≡ length cs
 kept_length keeps n [] [] h = refl
-kept_length keeps n [] (d ∷ ds) h = absurd h
-kept_length keeps n (c ∷ cs) [] h = absurd h
 kept_length keeps n (c ∷ cs) (d ∷ ds) h = ap suc (kept_length keeps (suc n) cs ds h.1)
+kept_length keeps n _ _ h = absurd h
 
 -- an exit of one of these blocks leads to what is reached
 pub goes_block : (bs : List RBlock) (b : ℕ) (block : RBlock) → slice_get bs b ≡ Some block → (t : ℕ) → is_in (goes_to block.exit) t ≡ true
@@ -218,24 +204,44 @@ found bs new m i b is keep =
           (sym (ap (λ (c : Code). is_in (goes_to c.exit) t) k.2) ∙ go));
     }
 
-pub not_found : (bs new : List RBlock) → AreMade bs new → (i : ℕ) → slice_get bs i ≡ None → slice_get new i ≡ None
-not_found bs new m i is = none_kept (is_reached m.with_tails) 0 m.with_tails new m.kept i (none_from [] bs m.with_tails m.tailed i is)
-
 pub as_many : (bs new : List RBlock) → AreMade bs new → length new ≡ length bs
 as_many bs new m = kept_length (is_reached m.with_tails) 0 m.with_tails new m.kept ∙ same_length [] bs m.with_tails m.tailed
 
+none_past : (bs : List RBlock) (i : ℕ) → slice_get bs i ≡ None → length bs ≤ i
+none_past [] i is = omega arith
+none_past (b ∷ bs) zero is = absurd (none-some b (sym is))
+none_past (b ∷ bs) (suc i) is = let rest = none_past bs i is in omega (arith, rest)
+
+pub not_found : (bs new : List RBlock) → AreMade bs new → (i : ℕ) → slice_get bs i ≡ None → slice_get new i ≡ None
+not_found bs new m i is = let many = as_many bs new m in let past = none_past bs i is in slice_get_past new i (omega (arith, many, past))
+
 -- what holds of blocks with their tails and of an empty one
-pub all_kept : (P : RBlock → Type 0) (keeps : ℕ → Bool) (n : ℕ) (cs ds : List RBlock)
+all_kept : (P : RBlock → Type 0) (keeps : ℕ → Bool) (n : ℕ) (cs ds : List RBlock)
     → ((c d : RBlock) → P c → (code_of d ≡ code_of c) ⊎ (code_of d ≡ empty_code c) → P d) → AreKept keeps n cs ds → All P cs → All P ds
 all_kept P keeps n [] [] of h all = All-nil P
-all_kept P keeps n [] (d ∷ ds) of h all = absurd h
-all_kept P keeps n (c ∷ cs) [] of h all = absurd h
 all_kept P keeps n (c ∷ cs) (d ∷ ds) of h all =
     All-cons P d ds (of c d (All-head P c cs all) (by (keeps n) h.0)) (all_kept P keeps (suc n) cs ds of h.1 (All-tail P c cs all))
   where
     by : (b : Bool) → code_of d ≡ (if b then code_of c else empty_code c) → (code_of d ≡ code_of c) ⊎ (code_of d ≡ empty_code c)
     by true is = inl is
     by false is = inr is
+all_kept P keeps n _ _ of h all = absurd h
+
+-- what holds of each block, or its code with that of one before it, holds behind
+all_tailed : (P Q : RBlock → Type 0) → ((before : List RBlock) (b c : RBlock) → All P before → P b → Copy before (code_of b) (code_of c) → Q c)
+    → (before bs cs : List RBlock) → All P before → All P bs → AreTailed before bs cs → All Q cs
+all_tailed P Q of before [] [] all rest t = All-nil Q
+all_tailed P Q of before (b ∷ bs) (c ∷ cs) all rest t =
+    let one = All-head P b bs rest in
+    All-cons Q c cs (of before b c all one (subst (Copy before (code_of b)) (sym t.0) (copy_of_code before (code_of b))))
+    (all_tailed P Q of (before ++ b ∷ []) bs cs (All-append P before (b ∷ []) all (All-cons P b [] one (All-nil P))) (All-tail P b bs rest) t.1)
+all_tailed P Q of before _ _ all rest t = absurd t
+
+pub all_made : (P Q : RBlock → Type 0) → ((before : List RBlock) (b c : RBlock) → All P before → P b → Copy before (code_of b) (code_of c) → Q c)
+    → ((c d : RBlock) → Q c → (code_of d ≡ code_of c) ⊎ (code_of d ≡ empty_code c) → Q d) → (bs new : List RBlock) → AreMade bs new → All P bs
+    → All Q new
+all_made P Q copied kept bs new m all =
+    all_kept Q (is_reached m.with_tails) 0 m.with_tails new kept m.kept (all_tailed P Q copied [] bs m.with_tails (All-nil P) all m.tailed)
 
 -- ---- what is named is there
 
@@ -248,37 +254,9 @@ function_at (g ∷ fs) (n ∷ ns) h (suc i) f is = function_at fs ns h.1 i f is
 
 pub no_function_at : (fs new : List RFunc) → HaveTails fs new → (i : ℕ) → slice_get fs i ≡ None → slice_get new i ≡ None
 no_function_at [] [] h i is = is
-no_function_at [] (n ∷ ns) h i is = absurd h
-no_function_at (g ∷ fs) [] h i is = absurd h
 no_function_at (g ∷ fs) (n ∷ ns) h zero is = absurd (none-some g (sym is))
 no_function_at (g ∷ fs) (n ∷ ns) h (suc i) is = no_function_at fs ns h.1 i is
-
-pub all_at : {A : Type 0} (P : A → Type 0) (xs : List A) (i : ℕ) (x : A) → All P xs → slice_get xs i ≡ Some x → P x
-all_at P [] i x all is = absurd (none-some x is)
-all_at P (y ∷ xs) zero x all is = subst P (same_Some y x is) (All-head P y xs all)
-all_at P (y ∷ xs) (suc i) x all is = all_at P xs i x (All-tail P y xs all) is
-
--- what holds of a register that an instruction sets to a constant
-abbrev pub HoldsOfConstant : (ℕ → Type 0) → RInst → Type 0
-HoldsOfConstant P (Const x w) = P x
-HoldsOfConstant P _ = Unit {0}
-
-pub constant_holds : (P : ℕ → Type 0) (Q : RInst → Type 0) (of : (i : RInst) → Q i → HoldsOfConstant P i) (all is : List RInst) (d : ℕ) → All Q is
-    → constant_of all is ≡ Some d → P d
-constant_holds P Q of all [] d holds e = absurd (none-some d e)
-constant_holds P Q of all (Const x w ∷ is) d holds e = by (writes_first all x) (λ f. constant_holds P Q of all is d (All-tail Q (Const x w) is holds) f) e
-  where
-    by : (b : Bool) → (constant_of all is ≡ Some d → P d) → (if b then Some x else constant_of all is) ≡ Some d → P d
-    by true rest e = subst P (same_Some x d e) (of (Const x w) (All-head Q (Const x w) is holds))
-    by false rest e = rest e
-constant_holds P Q of all (Move x a ∷ is) d holds e = constant_holds P Q of all is d (All-tail Q (Move x a) is holds) e
-constant_holds P Q of all (Bin op x a b ∷ is) d holds e = constant_holds P Q of all is d (All-tail Q (Bin op x a b) is holds) e
-constant_holds P Q of all (Load x g i ∷ is) d holds e = constant_holds P Q of all is d (All-tail Q (Load x g i) is holds) e
-constant_holds P Q of all (Store g i a ∷ is) d holds e = constant_holds P Q of all is d (All-tail Q (Store g i a) is holds) e
-
-constant_fits : (g : ℕ) (i : RInst) → IsInst g i → HoldsOfConstant IsRegister i
-constant_fits g (Const x w) fits = fits
-constant_fits g _ fits = tt
+no_function_at _ _ h i is = absurd h
 
 module _ (fs new : List RFunc) (h : HaveTails fs new) (g count : ℕ) where
   callee_fits : (f n : ℕ) → IsCallee fs f n → IsCallee new f n
@@ -288,34 +266,20 @@ module _ (fs new : List RFunc) (h : HaveTails fs new) (g count : ℕ) where
   exit_fits (Call f xs d next) fits = (callee_fits f (length xs.items) fits.0, fits.1)
   exit_fits _ fits = fits
 
+  fits_code : (c : RBlock) (k : Code) → code_of c ≡ k → All (IsInst g) k.insts → IsExit new count k.exit → IsBlock new g count c
+  fits_code c k is insts exit = record {
+    insts = subst (λ (k : Code). All (IsInst g) k.insts) (sym is) insts;
+    exit = subst (λ (k : Code). IsExit new count k.exit) (sym is) exit;
+  }
+
   block_fits : (before : List RBlock) (b c : RBlock) → All (IsBlock fs g count) before → IsBlock fs g count b → Copy before (code_of b) (code_of c)
       → IsBlock new g count c
-  block_fits before b c all fits (inl is) = record {
-    insts = subst (All (IsInst g)) (sym (ap (λ (k : Code). k.insts) is)) fits.insts;
-    exit = subst (IsExit new count) (sym (ap (λ (k : Code). k.exit) is)) (exit_fits b.exit fits.exit);
-  }
+  block_fits before b c all fits (inl is) = fits_code c (code_of b) is fits.insts (exit_fits b.exit fits.exit)
   block_fits before b c all fits (inr t) =
-      let tail = all_at (IsBlock fs g count) before t.number t.block all t.there in
-      let target = constant_holds IsRegister (IsInst g) (constant_fits g) t.block.insts.items t.block.insts.items t.d tail.insts t.sets in
-      record {
-        insts = subst (All (IsInst g)) (sym (ap (λ (k : Code). k.insts) t.is))
-            (All-append (IsInst g) b.insts.items (Const t.d 0 ∷ t.block.insts.items) fits.insts
-            (All-cons (IsInst g) (Const t.d 0) t.block.insts.items target tail.insts));
-        exit = subst (IsExit new count) (sym (ap (λ (k : Code). k.exit) t.is)) (exit_fits t.block.exit tail.exit);
-      }
-
-  blocks_fit_from : (before bs cs : List RBlock) → All (IsBlock fs g count) before → All (IsBlock fs g count) bs → AreTailed before bs cs
-      → All (IsBlock new g count) cs
-  blocks_fit_from before [] [] all rest t = All-nil (IsBlock new g count)
-  blocks_fit_from before [] (c ∷ cs) all rest t = absurd t
-  blocks_fit_from before (b ∷ bs) [] all rest t = absurd t
-  blocks_fit_from before (b ∷ bs) (c ∷ cs) all rest t =
-      let one = All-head (IsBlock fs g count) b bs rest in
-      let copy = subst (Copy before (code_of b)) (sym t.0) (copy_of_code before (code_of b)) in
-      All-cons (IsBlock new g count) c cs (block_fits before b c all one copy)
-      (blocks_fit_from (before ++ b ∷ []) bs cs
-      (All-append (IsBlock fs g count) before (b ∷ []) all (All-cons (IsBlock fs g count) b [] one (All-nil (IsBlock fs g count))))
-      (All-tail (IsBlock fs g count) b bs rest) t.1)
+      let tail = at-index (IsBlock fs g count) before t.number t.block all t.there in
+      let target = (constant_holds (IsInst g) t.block.insts.items t.block.insts.items t.d tail.insts t.sets).1 in
+      fits_code c _ t.is (All-append (IsInst g) b.insts.items (Const t.d 0 ∷ t.block.insts.items) fits.insts
+      (All-cons (IsInst g) (Const t.d 0) t.block.insts.items target tail.insts)) (exit_fits t.block.exit tail.exit)
 
   shortest_fits : (x : RExit) → IsExit new count x → IsExit new count (shortest x)
   shortest_fits (Goto b) fits = fits
@@ -326,14 +290,8 @@ module _ (fs new : List RFunc) (h : HaveTails fs new) (g count : ℕ) where
 
   -- as it was, or empty
   kept_fits : (c d : RBlock) → IsBlock new g count c → (code_of d ≡ code_of c) ⊎ (code_of d ≡ empty_code c) → IsBlock new g count d
-  kept_fits c d fits (inl is) = record {
-    insts = subst (All (IsInst g)) (sym (ap (λ (k : Code). k.insts) is)) fits.insts;
-    exit = subst (IsExit new count) (sym (ap (λ (k : Code). k.exit) is)) fits.exit;
-  }
-  kept_fits c d fits (inr is) = record {
-    insts = subst (All (IsInst g)) (sym (ap (λ (k : Code). k.insts) is)) (All-nil (IsInst g));
-    exit = subst (IsExit new count) (sym (ap (λ (k : Code). k.exit) is)) (shortest_fits c.exit fits.exit);
-  }
+  kept_fits c d fits (inl is) = fits_code d (code_of c) is fits.insts fits.exit
+  kept_fits c d fits (inr is) = fits_code d (empty_code c) is (All-nil (IsInst g)) (shortest_fits c.exit fits.exit)
 
 module _ (fs new : List RFunc) (h : HaveTails fs new) (g : ℕ) where
   function_fits : (f n : RFunc) → HasTails f n → IsFunction fs g f → IsFunction new g n
@@ -343,30 +301,26 @@ module _ (fs new : List RFunc) (h : HaveTails fs new) (g : ℕ) where
         parameters = subst (λ k. k ≤ MAX_PARAMETERS) (sym t.parameters) fits.parameters;
         entry = subst (λ k. 0 < k) (sym many) fits.entry;
         blocks = subst (λ k. All (IsBlock new g k) n.blocks.items) (sym many)
-            (all_kept (IsBlock new g (length f.blocks.items)) (is_reached t.blocks.with_tails) 0 t.blocks.with_tails n.blocks.items
-            (λ c d fits same. kept_fits fs new h g (length f.blocks.items) c d fits same) t.blocks.kept
-            (blocks_fit_from fs new h g (length f.blocks.items) [] f.blocks.items t.blocks.with_tails
-            (All-nil (IsBlock fs g (length f.blocks.items))) fits.blocks t.blocks.tailed));
+            (all_made (IsBlock fs g (length f.blocks.items)) (IsBlock new g (length f.blocks.items)) (block_fits fs new h g (length f.blocks.items))
+            (kept_fits fs new h g (length f.blocks.items)) f.blocks.items n.blocks.items t.blocks fits.blocks);
       }
 
   functions_fit : (xs ys : List RFunc) → HaveTails xs ys → All (IsFunction fs g) xs → All (IsFunction new g) ys
   functions_fit [] [] t all = All-nil (IsFunction new g)
-  functions_fit [] (y ∷ ys) t all = absurd t
-  functions_fit (x ∷ xs) [] t all = absurd t
   functions_fit (x ∷ xs) (y ∷ ys) t all =
       All-cons (IsFunction new g) y ys (function_fits x y t.0 (All-head (IsFunction fs g) x xs all))
       (functions_fit xs ys t.1 (All-tail (IsFunction fs g) x xs all))
+  functions_fit _ _ t all = absurd t
 
 same_count : (xs ys : List RFunc) → HaveTails xs ys → sum_by block_count ys ≡ sum_by block_count xs
 same_count [] [] t = refl
-same_count [] (y ∷ ys) t = absurd t
-same_count (x ∷ xs) [] t = absurd t
 same_count (x ∷ xs) (y ∷ ys) t =
     let one = as_many x.blocks.items y.blocks.items t.0.blocks in
     let rest = same_count xs ys t.1 in
     let a = sum_by-cons block_count x xs in
     let b = sum_by-cons block_count y ys in
     omega (arith, one, rest, a, b)
+same_count _ _ t = absurd t
 
 pub program_fits : (fs new : List RFunc) (globals : List RGlobal) (main : ℕ) → HaveTails fs new → IsProgram (program_of fs globals main)
     → IsProgram (program_of new globals main)

@@ -24,6 +24,7 @@ use Rattle.rtl.specs.Programs.{Program}
 use Rattle.rtl.specs.Meaning.{Frame, Run, code_of, words_in, argument_registers, kept_in, with_inst, state_at_block, state_after_return}
 use Rattle.rtl.specs.Meaning.{state_after_call, state_after_exit, step_at, rtl_step, rtl_start, first_values}
 use Rattle.rtl.specs.Laws.{FrameHoldsWords, RunHoldsWords}
+use Rattle.rtl.proofs.Calls.{frame_with}
 use Rattle.rtl.proofs.Results.{result-word}
 
 kept-in-word : (globals : List RGlobal) (a v w : ℕ) → IsWord v → kept_in globals a v ≡ Some w → IsWord w
@@ -31,27 +32,23 @@ kept-in-word globals a v w h e =
     let s = chain-some (slice_get globals a) (λ (global : RGlobal). Some (kept global.width v)) w e in
     subst IsWord (same_Some (kept s.0.width v) w s.2) (kept_below s.0.width v h)
 
+valued : {A : Type 0} (o : Option A) (out : List ℕ) (go : A → Run) → All IsWord out → ((a : A) → o ≡ Some a → RunHoldsWords (go a))
+    → RunHoldsWords (with_value o out go)
+valued o out go h k = with-words FrameHoldsWords o out go h k
+
 inst-words : (globals : List RGlobal) (i : RInst) (r : Places) (g : Arrays) (out : List ℕ) (go : Places → Arrays → Run) → PlacesHoldWords r
     → ArraysHoldWords g → All IsWord out → ((r : Places) (g : Arrays) → PlacesHoldWords r → ArraysHoldWords g → RunHoldsWords (go r g))
     → RunHoldsWords (with_inst globals i r g out go)
-inst-words globals (Const d w) r g out go a b c k = k (places_with r d (Some (wrap w))) g (set-words r d (wrap w) a (wrap_below w)) b
-inst-words globals (Move d x) r g out go a b c k =
-    with-words FrameHoldsWords (r x) out (λ v. go (places_with r d (Some v)) g) c (λ v e. k (places_with r d (Some v)) g (set-words r d v a (a x v e)) b)
+inst-words globals (Const d w) r g out go a b c k = k _ g (set-words r d (wrap w) a (wrap_below w)) b
+inst-words globals (Move d x) r g out go a b c k = valued (r x) out _ c (λ v e. k _ g (set-words r d v a (a x v e)) b)
 inst-words globals (Bin op d x y) r g out go a b c k =
-    with-words FrameHoldsWords (r x) out (λ v. with_value (r y) out (λ w. with_value (op_result op v w) out (λ u. go (places_with r d (Some u)) g))) c
-    (λ v e. with-words FrameHoldsWords (r y) out (λ w. with_value (op_result op v w) out (λ u. go (places_with r d (Some u)) g)) c
-    (λ w f. with-words FrameHoldsWords (op_result op v w) out (λ u. go (places_with r d (Some u)) g) c
-    (λ u is. k (places_with r d (Some u)) g (set-words r d u a (result-word op v w u (a x v e) (a y w f) is)) b)))
+    valued (r x) out _ c (λ v e. valued (r y) out _ c (λ w f. valued (op_result op v w) out _ c (λ u is.
+    k _ g (set-words r d u a (result-word op v w u (a x v e) (a y w f) is)) b)))
 inst-words globals (Load d x i) r g out go a b c k =
-    with-words FrameHoldsWords (r i) out (λ j. with_value (element_at g x j) out (λ v. go (places_with r d (Some v)) g)) c
-    (λ j e. with-words FrameHoldsWords (element_at g x j) out (λ v. go (places_with r d (Some v)) g) c
-    (λ v is. k (places_with r d (Some v)) g (set-words r d v a (element-at g x j v b is)) b))
+    valued (r i) out _ c (λ j e. valued (element_at g x j) out _ c (λ v is. k _ g (set-words r d v a (element-at g x j v b is)) b))
 inst-words globals (Store x i y) r g out go a b c k =
-    with-words FrameHoldsWords (r i) out (λ j. with_value (r y) out (λ v. with_value (kept_in globals x v) out (λ w. with_value (arrays_with g x j w) out (λ g'. go r g')))) c
-    (λ j e. with-words FrameHoldsWords (r y) out (λ v. with_value (kept_in globals x v) out (λ w. with_value (arrays_with g x j w) out (λ g'. go r g'))) c
-    (λ v f. with-words FrameHoldsWords (kept_in globals x v) out (λ w. with_value (arrays_with g x j w) out (λ g'. go r g')) c
-    (λ w is. with-words FrameHoldsWords (arrays_with g x j w) out (λ g'. go r g') c
-    (λ g' s. k r g' a (stored-words g x j w g' b (kept-in-word globals x v w (a y v f) is) s)))))
+    valued (r i) out _ c (λ j e. valued (r y) out _ c (λ v f. valued (kept_in globals x v) out _ c (λ w is.
+    valued (arrays_with g x j w) out _ c (λ g' s. k r g' a (stored-words g x j w g' b (kept-in-word globals x v w (a y v f) is) s)))))
 
 read-words : (r : Places) (xs vs : List ℕ) → PlacesHoldWords r → words_in r xs ≡ Some vs → All IsWord vs
 read-words r [] vs h e = subst (All IsWord) (same_Some [] vs e) (All-nil IsWord)
@@ -63,16 +60,13 @@ read-words r (x ∷ xs) vs h e =
 block-words : (bs : List RBlock) (b : ℕ) (r : Places) (to : Option ℕ) (frames : List Frame) (g : Arrays) (out : List ℕ) → PlacesHoldWords r
     → All FrameHoldsWords frames → ArraysHoldWords g → All IsWord out → RunHoldsWords (state_at_block bs b r to frames g out)
 block-words bs b r to frames g out a h c d =
-    with-words FrameHoldsWords (slice_get bs b) out (λ block. Running (record { blocks = bs; registers = r; code = code_of block; result_to = to } ∷ frames) g out) d
-    (λ block e. running-words FrameHoldsWords (record { blocks = bs; registers = r; code = code_of block; result_to = to }) frames g out a h c d)
+    valued (slice_get bs b) out _ d (λ block e. running-words FrameHoldsWords (frame_with bs r (code_of block) to) frames g out a h c d)
 
 called-words : (p : Program) (depth f : ℕ) (vs : List ℕ) (to : Option ℕ) (frames : List Frame) (g : Arrays) (out : List ℕ) → All IsWord vs
     → All FrameHoldsWords frames → ArraysHoldWords g → All IsWord out
     → RunHoldsWords (state_after_call p depth f vs to frames g out)
 called-words p depth f vs to frames g out a b c d =
-    with-words FrameHoldsWords (slice_get p.functions f) out (λ function. if nat_lt (length frames) depth && (length vs == function.parameters)
-    then state_at_block function.blocks.items 0 (argument_registers vs) to frames g out else Failed out) d
-    (λ function e. by function (nat_lt (length frames) depth && (length vs == function.parameters)))
+    valued (slice_get p.functions f) out _ d (λ function e. by function (nat_lt (length frames) depth && (length vs == function.parameters)))
   where
     by : (function : RFunc) (t : Bool)
         → RunHoldsWords (if t then state_at_block function.blocks.items 0 (argument_registers vs) to frames g out else Failed out)
@@ -81,52 +75,38 @@ called-words p depth f vs to frames g out a b c d =
 
 returned-words : (v to : Option ℕ) (frames : List Frame) (g : Arrays) (out : List ℕ) → ((w : ℕ) → v ≡ Some w → IsWord w)
     → All FrameHoldsWords frames → ArraysHoldWords g → All IsWord out → RunHoldsWords (state_after_return v to frames g out)
-returned-words v to [] g out a b c d = with-words FrameHoldsWords v out (λ w. Ended w out) d (λ w e. (a w e, d))
+returned-words v to [] g out a b c d = valued v out _ d (λ w e. (a w e, d))
 returned-words v None (f ∷ frames) g out a b c d = (b, (c, d))
 returned-words v (Some x) (f ∷ frames) g out a b c d =
-    with-words FrameHoldsWords v out (λ w. Running (record { blocks = f.blocks; registers = places_with f.registers x (Some w); code = f.code; result_to = f.result_to } ∷ frames)
-    g out) d
-    (λ w e. running-words FrameHoldsWords (record { blocks = f.blocks; registers = places_with f.registers x (Some w); code = f.code; result_to = f.result_to }) frames g out
+    valued v out _ d (λ w e. running-words FrameHoldsWords (frame_with f.blocks (places_with f.registers x (Some w)) f.code f.result_to) frames g out
     (set-words f.registers x w (All-head FrameHoldsWords f frames b) (a w e)) (All-tail FrameHoldsWords f frames b) c d)
 
-exit-words : (p : Program) (depth : ℕ) (exit : RExit) (bs : List RBlock) (r : Places) (to : Option ℕ) (frames : List Frame) (g : Arrays) (out : List ℕ)
-    → PlacesHoldWords r → All FrameHoldsWords frames → ArraysHoldWords g → All IsWord out
-    → RunHoldsWords (state_after_exit p depth exit bs r to frames g out)
-exit-words p depth (Goto b) bs r to frames g out a h c d = block-words bs b r to frames g out a h c d
-exit-words p depth (Branch x t e) bs r to frames g out a h c d =
-    with-words FrameHoldsWords (r x) out (λ v. state_at_block bs (if v == 0 then e else t) r to frames g out) d
-    (λ v is. block-words bs (if v == 0 then e else t) r to frames g out a h c d)
-exit-words p depth (Call f args x next) bs r to frames g out a h c d =
-    with-words FrameHoldsWords (words_in r args.items) out (λ vs. with_value (slice_get bs next) out (λ block.
-    state_after_call p depth f vs x (record { blocks = bs; registers = r; code = code_of block; result_to = to } ∷ frames) g out)) d
-    (λ vs is. with-words FrameHoldsWords (slice_get bs next) out (λ block.
-    state_after_call p depth f vs x (record { blocks = bs; registers = r; code = code_of block; result_to = to } ∷ frames) g out) d
-    (λ block there. called-words p depth f vs x (record { blocks = bs; registers = r; code = code_of block; result_to = to } ∷ frames) g out
-    (read-words r args.items vs a is)
-    (All-cons FrameHoldsWords (record { blocks = bs; registers = r; code = code_of block; result_to = to }) frames a h) c d))
-exit-words p depth (Return None) bs r to frames g out a h c d = returned-words None to frames g out (λ w e. absurd (none-some w e)) h c d
-exit-words p depth (Return (Some x)) bs r to frames g out a h c d =
-    with-words FrameHoldsWords (r x) out (λ v. state_after_return (Some v) to frames g out) d
-    (λ v is. returned-words (Some v) to frames g out (λ w same. subst IsWord (same_Some v w same) (a x v is)) h c d)
-exit-words p depth (Out x next) bs r to frames g out a h c d =
-    with-words FrameHoldsWords (r x) out (λ v. state_at_block bs next r to frames g (out ++ v ∷ [])) d
-    (λ v is. block-words bs next r to frames g (out ++ v ∷ []) a h c (All-push IsWord out v d (a x v is)))
+module _ (p : Program) (depth : ℕ) (bs : List RBlock) (r : Places) (to : Option ℕ) (frames : List Frame) (g : Arrays) (out : List ℕ)
+    (a : PlacesHoldWords r) (h : All FrameHoldsWords frames) (c : ArraysHoldWords g) (d : All IsWord out) where
+  exit-words : (exit : RExit) → RunHoldsWords (state_after_exit p depth exit bs r to frames g out)
+  exit-words (Goto b) = block-words bs b r to frames g out a h c d
+  exit-words (Branch x t e) = valued (r x) out _ d (λ v is. block-words bs (if v == 0 then e else t) r to frames g out a h c d)
+  exit-words (Call f args x next) =
+      valued (words_in r args.items) out _ d (λ vs is. valued (slice_get bs next) out _ d (λ block there.
+      called-words p depth f vs x (frame_with bs r (code_of block) to ∷ frames) g out (read-words r args.items vs a is)
+      (All-cons FrameHoldsWords (frame_with bs r (code_of block) to) frames a h) c d))
+  exit-words (Return None) = returned-words None to frames g out (λ w e. absurd (none-some w e)) h c d
+  exit-words (Return (Some x)) =
+      valued (r x) out _ d (λ v is. returned-words (Some v) to frames g out (λ w same. subst IsWord (same_Some v w same) (a x v is)) h c d)
+  exit-words (Out x next) = valued (r x) out _ d (λ v is. block-words bs next r to frames g (out ++ v ∷ []) a h c (All-push IsWord out v d (a x v is)))
 
-at-words : (p : Program) (depth : ℕ) (insts : List RInst) (exit : RExit) (bs : List RBlock) (r : Places) (to : Option ℕ) (frames : List Frame) (g : Arrays)
-    (out : List ℕ) → PlacesHoldWords r → All FrameHoldsWords frames → ArraysHoldWords g → All IsWord out
-    → RunHoldsWords (step_at p depth insts exit bs r to frames g out)
-at-words p depth [] exit bs r to frames g out a h c d = exit-words p depth exit bs r to frames g out a h c d
-at-words p depth (i ∷ rest) exit bs r to frames g out a h c d =
-    inst-words p.globals i r g out (λ r' g'.
-    Running (record { blocks = bs; registers = r'; code = record { insts = rest; exit = exit }; result_to = to } ∷ frames) g' out) a c d
-    (λ r' g' a' c'. running-words FrameHoldsWords (record { blocks = bs; registers = r'; code = record { insts = rest; exit = exit }; result_to = to }) frames g' out a' h c' d)
+  at-words : (insts : List RInst) (exit : RExit) → RunHoldsWords (step_at p depth insts exit bs r to frames g out)
+  at-words [] exit = exit-words exit
+  at-words (i ∷ rest) exit = inst-words p.globals i r g out _ a c d (λ r' g' a' c'.
+      running-words FrameHoldsWords (frame_with bs r' (record { insts = rest; exit = exit }) to) frames g' out a' h c' d)
 
 pub step-words : (p : Program) (depth : ℕ) (s : Run) → RunHoldsWords s → RunHoldsWords (rtl_step p depth s)
 step-words p depth (Running [] g out) h = h.1.1
 step-words p depth (Running (f ∷ frames) g out) h =
-    at-words p depth f.code.insts f.code.exit f.blocks f.registers f.result_to frames g out (All-head FrameHoldsWords f frames h.0)
-    (All-tail FrameHoldsWords f frames h.0) h.1.0 h.1.1
-step-words p depth _ h = h
+    at-words p depth f.blocks f.registers f.result_to frames g out (All-head FrameHoldsWords f frames h.0) (All-tail FrameHoldsWords f frames h.0)
+    h.1.0 h.1.1 f.code.insts f.code.exit
+step-words p depth (Ended w out) h = h
+step-words p depth (Failed out) h = h
 
 elements-words : (w : Width) (vs : List ℕ) → All IsWord (map (λ v. kept w (wrap v)) vs)
 elements-words w [] = All-nil IsWord
@@ -137,8 +117,6 @@ globals-words [] = All-nil (All IsWord)
 globals-words (a ∷ rest) = All-cons (All IsWord) (first_values a) (map first_values rest) (elements-words a.width a.first.items) (globals-words rest)
 
 pub start-words : (p : Program) → RunHoldsWords (rtl_start p)
-start-words p =
-    with-words FrameHoldsWords (slice_get p.functions p.main) [] (λ main. state_at_block main.blocks.items 0 unset_places None [] (map first_values p.globals) [])
-    (All-nil IsWord)
-    (λ main e. block-words main.blocks.items 0 unset_places None [] (map first_values p.globals) [] unset-words (All-nil FrameHoldsWords)
+start-words p = valued (slice_get p.functions p.main) [] _ (All-nil IsWord) (λ main e.
+    block-words main.blocks.items 0 unset_places None [] (map first_values p.globals) [] unset-words (All-nil FrameHoldsWords)
     (globals-words p.globals) (All-nil IsWord))

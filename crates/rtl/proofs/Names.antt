@@ -3,6 +3,7 @@ use Rattle.std.proofs.Common.{◌≡◌, ℕ, suc, ◌<◌, ◌≤◌, ◌⊎◌
 use Rattle.std.specs.Prelude.{All, if◌then◌else◌}
 use Rattle.std.proofs.lemmas.Bool.{ltb-false}
 use Rattle.std.proofs.lemmas.List.Elements.{All-nil, All-cons, All-head, All-tail, All-append}
+use Rattle.runs.proofs.Words.{at-index}
 use Rattle.rtl.specs.declared.instruction.RInst.{RInst}
 use Rattle.rtl.specs.declared.instruction.RInst.TheVariants.{Const}
 use Rattle.rtl.specs.declared.instruction.RExit.{RExit}
@@ -11,8 +12,8 @@ use Rattle.rtl.specs.declared.block.RBlock.{RBlock}
 use Rattle.rtl.specs.declared.block.RFunc.{RFunc}
 use Rattle.rtl.specs.Meaning.{Code, code_of}
 use Rattle.rtl.specs.Names.{inst_names, exit_names, insts_names, blocks_names, bound, how_many}
-use Rattle.rtl.specs.Tails.{AreTailed, is_reached, shortest, empty_code, HasTails}
-use Rattle.rtl.proofs.Copies.{Copy, copy_of_code, all_at, all_kept, HoldsOfConstant, constant_holds}
+use Rattle.rtl.specs.Tails.{shortest, empty_code, HasTails}
+use Rattle.rtl.proofs.Copies.{Copy, all_made, constant_holds}
 
 pub bound_one : (n x : ℕ) → (n ≤ (if nat_lt x n then n else suc x)) × (x < (if nat_lt x n then n else suc x))
 bound_one n x = by (nat_lt x n) refl
@@ -90,37 +91,21 @@ each_inst m [] all = All-nil (λ i. Below m (inst_names i))
 each_inst m (i ∷ is) all =
     All-cons (λ i. Below m (inst_names i)) i is (left m (inst_names i) (insts_names is) all) (each_inst m is (right m (inst_names i) (insts_names is) all))
 
-constant_below : (m : ℕ) (i : RInst) → Below m (inst_names i) → HoldsOfConstant (λ x. x < m) i
-constant_below m (Const x w) all = All-head (λ x. x < m) x [] all
-constant_below m _ all = tt
+below_code : (m : ℕ) (c : RBlock) (k : Code) → code_of c ≡ k → Below m (insts_names k.insts) → Below m (exit_names k.exit) → BlockBelow m c
+below_code m c k is insts exit = record {
+  insts = subst (λ (k : Code). Below m (insts_names k.insts)) (sym is) insts;
+  exit = subst (λ (k : Code). Below m (exit_names k.exit)) (sym is) exit;
+}
 
 block_below : (m : ℕ) (before : List RBlock) (b c : RBlock) → All (BlockBelow m) before → BlockBelow m b → Copy before (code_of b) (code_of c)
     → BlockBelow m c
-block_below m before b c all below (inl is) = record {
-  insts = subst (λ l. Below m (insts_names l)) (sym (ap (λ (k : Code). k.insts) is)) below.insts;
-  exit = subst (λ x. Below m (exit_names x)) (sym (ap (λ (k : Code). k.exit) is)) below.exit;
-}
+block_below m before b c all below (inl is) = below_code m c (code_of b) is below.insts below.exit
 block_below m before b c all below (inr t) =
-    let tail = all_at (BlockBelow m) before t.number t.block all t.there in
-    let lt = constant_holds (λ x. x < m) (λ i. Below m (inst_names i)) (constant_below m) t.block.insts.items t.block.insts.items t.d
-    (each_inst m t.block.insts.items tail.insts) t.sets in
-    record {
-      insts = subst (λ l. Below m (insts_names l)) (sym (ap (λ (k : Code). k.insts) t.is))
-          (names_join m b.insts.items (Const t.d 0 ∷ t.block.insts.items) below.insts
-          (All-cons (λ x. x < m) t.d (insts_names t.block.insts.items) lt tail.insts));
-      exit = subst (λ x. Below m (exit_names x)) (sym (ap (λ (k : Code). k.exit) t.is)) tail.exit;
-    }
-
-blocks_below : (m : ℕ) (before bs cs : List RBlock) → All (BlockBelow m) before → All (BlockBelow m) bs → AreTailed before bs cs → All (BlockBelow m) cs
-blocks_below m before [] [] all rest t = All-nil (BlockBelow m)
-blocks_below m before [] (c ∷ cs) all rest t = absurd t
-blocks_below m before (b ∷ bs) [] all rest t = absurd t
-blocks_below m before (b ∷ bs) (c ∷ cs) all rest t =
-    let one = All-head (BlockBelow m) b bs rest in
-    let copy = subst (Copy before (code_of b)) (sym t.0) (copy_of_code before (code_of b)) in
-    All-cons (BlockBelow m) c cs (block_below m before b c all one copy)
-    (blocks_below m (before ++ b ∷ []) bs cs
-    (All-append (BlockBelow m) before (b ∷ []) all (All-cons (BlockBelow m) b [] one (All-nil (BlockBelow m)))) (All-tail (BlockBelow m) b bs rest) t.1)
+    let tail = at-index (BlockBelow m) before t.number t.block all t.there in
+    let is = t.block.insts.items in
+    let lt = (constant_holds (λ i. Below m (inst_names i)) is is t.d (each_inst m is tail.insts) t.sets).1 in
+    below_code m c _ t.is (names_join m b.insts.items (Const t.d 0 ∷ is) below.insts
+    (All-cons (λ x. x < m) t.d (insts_names is) (All-head (λ x. x < m) t.d [] lt) tail.insts)) tail.exit
 
 -- as it was, or empty
 nothing_below : {m : ℕ} (x : RExit) → Below m (exit_names (shortest x))
@@ -131,22 +116,13 @@ nothing_below {m} (Return o) = All-nil (λ x. x < m)
 nothing_below {m} (Out x next) = All-nil (λ x. x < m)
 
 kept_below : (m : ℕ) (c d : RBlock) → BlockBelow m c → (code_of d ≡ code_of c) ⊎ (code_of d ≡ empty_code c) → BlockBelow m d
-kept_below m c d below (inl is) = record {
-  insts = subst (λ l. Below m (insts_names l)) (sym (ap (λ (k : Code). k.insts) is)) below.insts;
-  exit = subst (λ x. Below m (exit_names x)) (sym (ap (λ (k : Code). k.exit) is)) below.exit;
-}
-kept_below m c d below (inr is) = record {
-  insts = subst (λ l. Below m (insts_names l)) (sym (ap (λ (k : Code). k.insts) is)) (All-nil (λ x. x < m));
-  exit = subst (λ x. Below m (exit_names x)) (sym (ap (λ (k : Code). k.exit) is)) (nothing_below c.exit);
-}
+kept_below m c d below (inl is) = below_code m d (code_of c) is below.insts below.exit
+kept_below m c d below (inr is) = below_code m d (empty_code c) is (All-nil (λ x. x < m)) (nothing_below c.exit)
 
 pub no_more_names : (f n : RFunc) → HasTails f n → how_many n ≤ how_many f
 no_more_names f n t =
     let m = how_many f in
     let few = bound_least f.parameters (blocks_names f.blocks.items) in
     bound_most n.parameters m (blocks_names n.blocks.items) (subst (λ k. k ≤ m) (sym t.parameters) few)
-    (all_below m n.blocks.items
-    (all_kept (BlockBelow m) (is_reached t.blocks.with_tails) 0 t.blocks.with_tails n.blocks.items (λ c d below same. kept_below m c d below same)
-    t.blocks.kept
-    (blocks_below m [] f.blocks.items t.blocks.with_tails (All-nil (BlockBelow m))
-    (each_below m f.blocks.items (bound_names f.parameters (blocks_names f.blocks.items))) t.blocks.tailed)))
+    (all_below m n.blocks.items (all_made (BlockBelow m) (BlockBelow m) (block_below m) (kept_below m) f.blocks.items n.blocks.items t.blocks
+    (each_below m f.blocks.items (bound_names f.parameters (blocks_names f.blocks.items)))))

@@ -19,6 +19,7 @@ use Rattle.rtl.specs.Meaning.{Code, Frame, Run, code_of, words_in, argument_regi
 use Rattle.rtl.specs.Meaning.{state_after_call, state_after_exit, step_at, rtl_step, rtl_steps, rtl_start, first_values}
 use Rattle.rtl.specs.Names.{is_in, inst_reads, inst_writes}
 use Rattle.rtl.specs.Tails.{writes_first, joined, is_reached, AreMade, HasTails, IsTailed, RunsAlike}
+use Rattle.rtl.proofs.Calls.{frame_with}
 use Rattle.rtl.proofs.Copies.{Tail, Copy, Leads, found, not_found, function_at, no_function_at}
 
 -- ---- configurations
@@ -50,15 +51,13 @@ record Begins (f f' : Frame) : Type 0 where
 
 abbrev Wait : List Frame → List Frame → Type 0
 Wait [] [] = Unit {0}
-Wait [] (f' ∷ fs') = ⊥
-Wait (f ∷ fs) [] = ⊥
 Wait (f ∷ fs) (f' ∷ fs') = Waits f f' × Wait fs fs'
+Wait _ _ = ⊥
 
 abbrev Stack : List Frame → List Frame → Type 0
 Stack [] [] = Unit {0}
-Stack [] (f' ∷ fs') = ⊥
-Stack (f ∷ fs) [] = ⊥
 Stack (f ∷ fs) (f' ∷ fs') = (Waits f f' ⊎ Begins f f') × Wait fs fs'
+Stack _ _ = ⊥
 
 record Both (fs : List Frame) (g : Arrays) (out : List ℕ) (s' : Run) : Type 0 where
   frames : List Frame
@@ -78,18 +77,7 @@ alike_value None o' out go go' e k = subst (λ o'. Alike (Failed out) (with_valu
 alike_value (Some a) o' out go go' e k = subst (λ o'. Alike (go a) (with_value o' out go')) (sym e) (k a)
 
 same_with : (r r' : Places) (d : ℕ) (v : Option ℕ) → Same r r' → Same (places_with r d v) (places_with r' d v)
-same_with r r' d v same x = by (nat_eq x d)
-  where
-    by : (b : Bool) → (if b then v else r' x) ≡ (if b then v else r x)
-    by true = refl
-    by false = same x
-
-same_set : (r r' : Places) (d : ℕ) (v : Option ℕ) → SameBut d r r' → Same (places_with r d v) (places_with r' d v)
-same_set r r' d v same x = by (nat_eq x d) refl
-  where
-    by : (b : Bool) → nat_eq x d ≡ b → (if b then v else r' x) ≡ (if b then v else r x)
-    by true e = refl
-    by false e = same x e
+same_with r r' d v same x = ap (λ w. if nat_eq x d then v else w) (same x)
 
 but_set : (r r' : Places) (d : ℕ) (v : Option ℕ) → Same r r' → SameBut d r (places_with r' d v)
 but_set r r' d v same x other = ap (λ (b : Bool). if b then v else r' x) other ∙ same x
@@ -97,163 +85,9 @@ but_set r r' d v same x other = ap (λ (b : Bool). if b then v else r' x) other 
 same_words : (r r' : Places) (xs : List ℕ) → Same r r' → words_in r' xs ≡ words_in r xs
 same_words r r' [] same = refl
 same_words r r' (x ∷ xs) same =
-    ap (λ o. chain o (λ v. chain (words_in r' xs) (λ vs. Some (v ∷ vs)))) (same x)
-    ∙ ap (λ o. chain (r x) (λ v. chain o (λ vs. Some (v ∷ vs)))) (same_words r r' xs same)
+    ap₂ (λ (o : Option ℕ) (vs : Option (List ℕ)). chain o (λ v. chain vs (λ vs. Some (v ∷ vs)))) (same x) (same_words r r' xs same)
 
 -- ---- instructions
-
-module _ (globals : List RGlobal) (g : Arrays) (out : List ℕ) where
-  alike_inst : (i : RInst) (r r' : Places) (go go' : Places → Arrays → Run) → Same r r'
-      → ((q q' : Places) (h : Arrays) → Same q q' → Alike (go q h) (go' q' h))
-      → Alike (with_inst globals i r g out go) (with_inst globals i r' g out go')
-  alike_inst (Const d w) r r' go go' same k = k (places_with r d (Some (wrap w))) (places_with r' d (Some (wrap w))) g (same_with r r' d (Some (wrap w)) same)
-  alike_inst (Move d a) r r' go go' same k =
-      alike_value (r a) (r' a) out (λ v. go (places_with r d (Some v)) g) (λ v. go' (places_with r' d (Some v)) g) (same a)
-      (λ v. k (places_with r d (Some v)) (places_with r' d (Some v)) g (same_with r r' d (Some v) same))
-  alike_inst (Bin op d a b) r r' go go' same k =
-      alike_value (r a) (r' a) out (λ x. with_value (r b) out (λ y. with_value (op_result op x y) out (λ v. go (places_with r d (Some v)) g)))
-      (λ x. with_value (r' b) out (λ y. with_value (op_result op x y) out (λ v. go' (places_with r' d (Some v)) g))) (same a)
-      (λ x. alike_value (r b) (r' b) out (λ y. with_value (op_result op x y) out (λ v. go (places_with r d (Some v)) g))
-      (λ y. with_value (op_result op x y) out (λ v. go' (places_with r' d (Some v)) g)) (same b)
-      (λ y. alike_value (op_result op x y) (op_result op x y) out (λ v. go (places_with r d (Some v)) g) (λ v. go' (places_with r' d (Some v)) g) refl
-      (λ v. k (places_with r d (Some v)) (places_with r' d (Some v)) g (same_with r r' d (Some v) same))))
-  alike_inst (Load d a i) r r' go go' same k =
-      alike_value (r i) (r' i) out (λ x. with_value (element_at g a x) out (λ v. go (places_with r d (Some v)) g))
-      (λ x. with_value (element_at g a x) out (λ v. go' (places_with r' d (Some v)) g)) (same i)
-      (λ x. alike_value (element_at g a x) (element_at g a x) out (λ v. go (places_with r d (Some v)) g) (λ v. go' (places_with r' d (Some v)) g) refl
-      (λ v. k (places_with r d (Some v)) (places_with r' d (Some v)) g (same_with r r' d (Some v) same)))
-  alike_inst (Store a i b) r r' go go' same k =
-      alike_value (r i) (r' i) out
-      (λ x. with_value (r b) out (λ v. with_value (kept_in globals a v) out (λ w. with_value (arrays_with g a x w) out (λ h. go r h))))
-      (λ x. with_value (r' b) out (λ v. with_value (kept_in globals a v) out (λ w. with_value (arrays_with g a x w) out (λ h. go' r' h)))) (same i)
-      (λ x. alike_value (r b) (r' b) out (λ v. with_value (kept_in globals a v) out (λ w. with_value (arrays_with g a x w) out (λ h. go r h)))
-      (λ v. with_value (kept_in globals a v) out (λ w. with_value (arrays_with g a x w) out (λ h. go' r' h))) (same b)
-      (λ v. alike_value (kept_in globals a v) (kept_in globals a v) out (λ w. with_value (arrays_with g a x w) out (λ h. go r h))
-      (λ w. with_value (arrays_with g a x w) out (λ h. go' r' h)) refl
-      (λ w. alike_value (arrays_with g a x w) (arrays_with g a x w) out (λ h. go r h) (λ h. go' r' h) refl (λ h. k r r' h same))))
-
-  -- an instruction that doesn't read d
-  parts : (b c : Bool) → (b || c) ≡ false → (b ≡ false) × (c ≡ false)
-  parts false false e = (refl, refl)
-  parts false true e = cc
-  parts true c e = cc
-
-  turned : (d a : ℕ) → nat_eq d a ≡ false → nat_eq a d ≡ false
-  turned d a e = by (nat_eq a d) refl
-    where
-      by : (b : Bool) → nat_eq a d ≡ b → b ≡ false
-      by false is = refl
-      by true is = (let same = eqb-true a d is in sym (subst (λ a. nat_eq d a ≡ true) (sym same) (eq-eqb d d refl)) ∙ e)
-
-  unread_one : (d a : ℕ) (r r' : Places) → is_in (a ∷ []) d ≡ false → SameBut d r r' → r' a ≡ r a
-  unread_one d a r r' e same = same a (turned d a (parts (nat_eq d a) false e).0)
-
-  unread_two : (d a b : ℕ) (r r' : Places) → is_in (a ∷ b ∷ []) d ≡ false → SameBut d r r' → (r' a ≡ r a) × (r' b ≡ r b)
-  unread_two d a b r r' e same =
-      let apart = parts (nat_eq d a) (nat_eq d b || false) e in
-      (same a (turned d a apart.0), same b (turned d b (parts (nat_eq d b) false apart.1).0))
-
-  -- behind one that writes x: the same again, if that is d
-  abbrev Now : (d : ℕ) → (written : Bool) → Places → Places → Type 0
-  Now d true q q' = Same q q'
-  Now d false q q' = SameBut d q q'
-
-  now_with : (d x : ℕ) (r r' : Places) (v : Option ℕ) → SameBut d r r' → Now d (is_in (x ∷ []) d) (places_with r x v) (places_with r' x v)
-  now_with d x r r' v same = by (nat_eq d x) refl
-    where
-      by : (b : Bool) → nat_eq d x ≡ b → Now d (b || false) (places_with r x v) (places_with r' x v)
-      by true e = same_set r r' x v (subst (λ d. SameBut d r r') (eqb-true d x e) same)
-      by false e = λ y other. (at y (nat_eq y x) other)
-        where
-          at : (y : ℕ) (c : Bool) → nat_eq y d ≡ false → (if c then v else r' y) ≡ (if c then v else r y)
-          at y true other = refl
-          at y false other = same y other
-
-  alike_first : (i : RInst) (d : ℕ) (r r' : Places) (go go' : Places → Arrays → Run) → is_in (inst_reads i) d ≡ false → SameBut d r r'
-      → ((q q' : Places) (h : Arrays) → Now d (is_in (inst_writes i) d) q q' → Alike (go q h) (go' q' h))
-      → Alike (with_inst globals i r g out go) (with_inst globals i r' g out go')
-  alike_first (Const x w) d r r' go go' un same k =
-      k (places_with r x (Some (wrap w))) (places_with r' x (Some (wrap w))) g (now_with d x r r' (Some (wrap w)) same)
-  alike_first (Move x a) d r r' go go' un same k =
-      alike_value (r a) (r' a) out (λ v. go (places_with r x (Some v)) g) (λ v. go' (places_with r' x (Some v)) g) (unread_one d a r r' un same)
-      (λ v. k (places_with r x (Some v)) (places_with r' x (Some v)) g (now_with d x r r' (Some v) same))
-  alike_first (Bin op x a b) d r r' go go' un same k =
-      let both = unread_two d a b r r' un same in
-      alike_value (r a) (r' a) out (λ y. with_value (r b) out (λ z. with_value (op_result op y z) out (λ v. go (places_with r x (Some v)) g)))
-      (λ y. with_value (r' b) out (λ z. with_value (op_result op y z) out (λ v. go' (places_with r' x (Some v)) g))) both.0
-      (λ y. alike_value (r b) (r' b) out (λ z. with_value (op_result op y z) out (λ v. go (places_with r x (Some v)) g))
-      (λ z. with_value (op_result op y z) out (λ v. go' (places_with r' x (Some v)) g)) both.1
-      (λ z. alike_value (op_result op y z) (op_result op y z) out (λ v. go (places_with r x (Some v)) g) (λ v. go' (places_with r' x (Some v)) g) refl
-      (λ v. k (places_with r x (Some v)) (places_with r' x (Some v)) g (now_with d x r r' (Some v) same))))
-  alike_first (Load x a i) d r r' go go' un same k =
-      alike_value (r i) (r' i) out (λ y. with_value (element_at g a y) out (λ v. go (places_with r x (Some v)) g))
-      (λ y. with_value (element_at g a y) out (λ v. go' (places_with r' x (Some v)) g)) (unread_one d i r r' un same)
-      (λ y. alike_value (element_at g a y) (element_at g a y) out (λ v. go (places_with r x (Some v)) g) (λ v. go' (places_with r' x (Some v)) g) refl
-      (λ v. k (places_with r x (Some v)) (places_with r' x (Some v)) g (now_with d x r r' (Some v) same)))
-  alike_first (Store a i b) d r r' go go' un same k =
-      let both = unread_two d i b r r' un same in
-      alike_value (r i) (r' i) out
-      (λ x. with_value (r b) out (λ v. with_value (kept_in globals a v) out (λ w. with_value (arrays_with g a x w) out (λ h. go r h))))
-      (λ x. with_value (r' b) out (λ v. with_value (kept_in globals a v) out (λ w. with_value (arrays_with g a x w) out (λ h. go' r' h)))) both.0
-      (λ x. alike_value (r b) (r' b) out (λ v. with_value (kept_in globals a v) out (λ w. with_value (arrays_with g a x w) out (λ h. go r h)))
-      (λ v. with_value (kept_in globals a v) out (λ w. with_value (arrays_with g a x w) out (λ h. go' r' h))) both.1
-      (λ v. alike_value (kept_in globals a v) (kept_in globals a v) out (λ w. with_value (arrays_with g a x w) out (λ h. go r h))
-      (λ w. with_value (arrays_with g a x w) out (λ h. go' r' h)) refl
-      (λ w. alike_value (arrays_with g a x w) (arrays_with g a x w) out (λ h. go r h) (λ h. go' r' h) refl (λ h. k r r' h same))))
-
--- ---- blocks
-
--- where activations wait, there are as many
-same_depth : (fs fs' : List Frame) → Wait fs fs' → length fs' ≡ length fs
-same_depth [] [] w = refl
-same_depth [] (f' ∷ fs') w = absurd w
-same_depth (f ∷ fs) [] w = absurd w
-same_depth (f ∷ fs) (f' ∷ fs') w = ap suc (same_depth fs fs' w.1)
-
-alike_block : (bs bs' : List RBlock) (b : ℕ) (r r' : Places) (to : Option ℕ) (fs fs' : List Frame) (g : Arrays) (out : List ℕ)
-    → (t : AreMade bs bs') → is_reached t.with_tails b ≡ true → Same r r' → Wait fs fs' → Alike (state_at_block bs b r to fs g out) (state_at_block bs' b r' to fs' g out)
-alike_block bs bs' b r r' to fs fs' g out t reached same w = by (slice_get bs b) refl
-  where
-    go : RBlock → Run
-    go block = Running ((let f : Frame = record { blocks = bs; registers = r; code = code_of block; result_to = to } in f) ∷ fs) g out
-
-    go' : RBlock → Run
-    go' block = Running ((let f : Frame = record { blocks = bs'; registers = r'; code = code_of block; result_to = to } in f) ∷ fs') g out
-
-    by : (o : Option RBlock) → slice_get bs b ≡ o → Alike (with_value o out go) (with_value (slice_get bs' b) out go')
-    by None e = subst (λ o. Alike (Failed out) (with_value o out go')) (sym (not_found bs bs' t b e)) refl
-    by (Some block) e = (let s = found bs bs' t b block e reached in subst (λ o. Alike (go block) (with_value o out go')) (sym s.there) (record {
-      frames = (let f : Frame = record { blocks = bs'; registers = r'; code = code_of s.block; result_to = to } in f) ∷ fs';
-      is = refl;
-      stack = (inl (record { blocks = t; to = refl; same = same; copy = s.copy; leads = s.leads }), w);
-    }))
-
-alike_return : (v to : Option ℕ) (fs fs' : List Frame) (g : Arrays) (out : List ℕ) → Wait fs fs'
-    → Alike (state_after_return v to fs g out) (state_after_return v to fs' g out)
-alike_return v to [] [] g out w = alike_value v v out (λ w. Ended w out) (λ w. Ended w out) refl (λ a. refl)
-alike_return v to [] (f' ∷ fs') g out w = absurd w
-alike_return v to (f ∷ fs) [] g out w = absurd w
-alike_return v None (f ∷ fs) (f' ∷ fs') g out w = record { frames = f' ∷ fs'; is = refl; stack = (inl w.0, w.1) }
-alike_return v (Some d) (f ∷ fs) (f' ∷ fs') g out w =
-    alike_value v v out
-    (λ a. Running ((let f : Frame = record { blocks = f.blocks; registers = places_with f.registers d (Some a); code = f.code; result_to = f.result_to } in f) ∷ fs) g out)
-    (λ a. Running ((let f : Frame = record { blocks = f'.blocks; registers = places_with f'.registers d (Some a); code = f'.code; result_to = f'.result_to } in f) ∷ fs') g out)
-    refl (λ a. record {
-      frames = (let f : Frame = record { blocks = f'.blocks; registers = places_with f'.registers d (Some a); code = f'.code; result_to = f'.result_to } in f) ∷ fs';
-      is = refl;
-      stack = (
-        inl (record {
-          blocks = (w.0).blocks;
-          to = (w.0).to;
-          same = same_with f.registers f'.registers d (Some a) (w.0).same;
-          copy = (w.0).copy;
-          leads = (w.0).leads;
-        }),
-        w.1,
-      );
-    })
-
--- ---- steps
 
 -- a number is in a list that begins with it, or with one other
 here : (b : ℕ) (rest : List ℕ) → is_in (b ∷ rest) b ≡ true
@@ -266,227 +100,255 @@ behind a b = by (nat_eq b a) (here b [])
     by true e = refl
     by false e = e
 
+-- the registers behind an instruction that writes a value
+abbrev behind_inst : RInst → Places → Option ℕ → Places
+behind_inst (Const d w) r v = places_with r d v
+behind_inst (Move d a) r v = places_with r d v
+behind_inst (Bin op d a b) r v = places_with r d v
+behind_inst (Load d a i) r v = places_with r d v
+behind_inst (Store a i b) r v = r
+
+-- where an instruction reads the same, whatever holds behind it
+alike_inst : (gs gs' : List RGlobal) → gs' ≡ gs → (g : Arrays) (out : List ℕ) (i : RInst) (r r' : Places) (go go' : Places → Arrays → Run)
+    (After : Places → Places → Type 0) → ((x : ℕ) → is_in (inst_reads i) x ≡ true → r' x ≡ r x)
+    → ((v : Option ℕ) → After (behind_inst i r v) (behind_inst i r' v))
+    → ((q q' : Places) (h : Arrays) → After q q' → Alike (go q h) (go' q' h))
+    → Alike (with_inst gs i r g out go) (with_inst gs' i r' g out go')
+alike_inst gs gs' is g out (Const d w) r r' go go' After reads put k = k _ _ g (put (Some (wrap w)))
+alike_inst gs gs' is g out (Move d a) r r' go go' After reads put k =
+    alike_value (r a) _ out _ _ (reads a (here a [])) (λ v. k _ _ g (put (Some v)))
+alike_inst gs gs' is g out (Bin op d a b) r r' go go' After reads put k =
+    alike_value (r a) _ out _ _ (reads a (here a (b ∷ []))) (λ x.
+    alike_value (r b) _ out _ _ (reads b (behind a b)) (λ y.
+    alike_value (op_result op x y) _ out _ _ refl (λ v. k _ _ g (put (Some v)))))
+alike_inst gs gs' is g out (Load d a i) r r' go go' After reads put k =
+    alike_value (r i) _ out _ _ (reads i (here i [])) (λ x.
+    alike_value (element_at g a x) _ out _ _ refl (λ v. k _ _ g (put (Some v))))
+alike_inst gs gs' is g out (Store a i b) r r' go go' After reads put k =
+    alike_value (r i) _ out _ _ (reads i (here i (b ∷ []))) (λ x.
+    alike_value (r b) _ out _ _ (reads b (behind i b)) (λ v.
+    alike_value (kept_in gs a v) _ out _ _ (ap (λ gs. kept_in gs a v) is) (λ w.
+    alike_value (arrays_with g a x w) _ out _ _ refl (λ h. k _ _ h (put None)))))
+
+put_same : (i : RInst) (r r' : Places) → Same r r' → (v : Option ℕ) → Same (behind_inst i r v) (behind_inst i r' v)
+put_same (Store a i b) r r' same v = same
+put_same (Const d w) r r' same v = same_with r r' d v same
+put_same (Move d a) r r' same v = same_with r r' d v same
+put_same (Bin op d a b) r r' same v = same_with r r' d v same
+put_same (Load d a i) r r' same v = same_with r r' d v same
+
+-- an instruction that doesn't read d reads the same
+unread : (xs : List ℕ) (d x : ℕ) → is_in xs d ≡ false → is_in xs x ≡ true → nat_eq x d ≡ false
+unread xs d x un read = by (nat_eq x d) refl
+  where
+    by : (b : Bool) → nat_eq x d ≡ b → b ≡ false
+    by false e = refl
+    by true e = sym read ∙ ap (is_in xs) (eqb-true x d e) ∙ un
+
+-- behind one that writes x: the same again, if that is d
+abbrev Now : (d : ℕ) → (written : Bool) → Places → Places → Type 0
+Now d true q q' = Same q q'
+Now d false q q' = SameBut d q q'
+
+now_with : (d x : ℕ) (r r' : Places) (v : Option ℕ) → SameBut d r r' → Now d (is_in (x ∷ []) d) (places_with r x v) (places_with r' x v)
+now_with d x r r' v same = by (nat_eq d x) refl
+  where
+    at : (y : ℕ) (c : Bool) → nat_eq y x ≡ c → (c ≡ false → r' y ≡ r y) → (if c then v else r' y) ≡ (if c then v else r y)
+    at y true e k = refl
+    at y false e k = k refl
+
+    by : (b : Bool) → nat_eq d x ≡ b → Now d (b || false) (places_with r x v) (places_with r' x v)
+    by true e = λ y. at y (nat_eq y x) refl (λ ne. same y (subst (λ x. nat_eq y x ≡ false) (sym (eqb-true d x e)) ne))
+    by false e = λ y other. at y (nat_eq y x) refl (λ ne. same y other)
+
+put_now : (i : RInst) (d : ℕ) (r r' : Places) → SameBut d r r' → (v : Option ℕ)
+    → Now d (is_in (inst_writes i) d) (behind_inst i r v) (behind_inst i r' v)
+put_now (Store a i b) d r r' same v = same
+put_now (Const x w) d r r' same v = now_with d x r r' v same
+put_now (Move x a) d r r' same v = now_with d x r r' v same
+put_now (Bin op x a b) d r r' same v = now_with d x r r' v same
+put_now (Load x a i) d r r' same v = now_with d x r r' v same
+
+-- ---- blocks
+
+-- where activations wait, there are as many
+same_depth : (fs fs' : List Frame) → Wait fs fs' → length fs' ≡ length fs
+same_depth [] [] w = refl
+same_depth (f ∷ fs) (f' ∷ fs') w = ap suc (same_depth fs fs' w.1)
+same_depth _ _ w = absurd w
+
+alike_running : (f f' : Frame) (fs fs' : List Frame) (g : Arrays) (out : List ℕ) → Waits f f' ⊎ Begins f f' → Wait fs fs'
+    → Alike (Running (f ∷ fs) g out) (Running (f' ∷ fs') g out)
+alike_running f f' fs fs' g out top w = record { frames = f' ∷ fs'; is = refl; stack = (top, w) }
+
+alike_return : (v to : Option ℕ) (fs fs' : List Frame) (g : Arrays) (out : List ℕ) → Wait fs fs'
+    → Alike (state_after_return v to fs g out) (state_after_return v to fs' g out)
+alike_return v to [] [] g out w = alike_value v v out (λ w. Ended w out) (λ w. Ended w out) refl (λ a. refl)
+alike_return v None (f ∷ fs) (f' ∷ fs') g out w = alike_running f f' fs fs' g out (inl w.0) w.1
+alike_return v (Some d) (f ∷ fs) (f' ∷ fs') g out w =
+    alike_value v v out _ _ refl (λ a. alike_running _ (frame_with f'.blocks (places_with f'.registers d (Some a)) f'.code f'.result_to) fs fs' g out
+    (inl (record {
+      blocks = w.0.blocks;
+      to = w.0.to;
+      same = same_with f.registers f'.registers d (Some a) w.0.same;
+      copy = w.0.copy;
+      leads = w.0.leads;
+    })) w.1)
+alike_return v to _ _ g out w = absurd w
+
+module _ (bs bs' : List RBlock) (t : AreMade bs bs') (out : List ℕ) where
+  alike_found : (b : ℕ) (go go' : RBlock → Run) → is_reached t.with_tails b ≡ true
+      → ((x x' : RBlock) → Copy bs (code_of x) (code_of x') → Leads t.with_tails x'.exit → Alike (go x) (go' x'))
+      → Alike (with_value (slice_get bs b) out go) (with_value (slice_get bs' b) out go')
+  alike_found b go go' reached k = by (slice_get bs b) refl
+    where
+      by : (o : Option RBlock) → slice_get bs b ≡ o → Alike (with_value o out go) (with_value (slice_get bs' b) out go')
+      by None e = rw (not_found bs bs' t b e) refl
+      by (Some x) e = let s = found bs bs' t b x e reached in rw s.there (k x s.block s.copy s.leads)
+
+  alike_block : (b : ℕ) (r r' : Places) (to : Option ℕ) (fs fs' : List Frame) (g : Arrays) → is_reached t.with_tails b ≡ true → Same r r'
+      → Wait fs fs' → Alike (state_at_block bs b r to fs g out) (state_at_block bs' b r' to fs' g out)
+  alike_block b r r' to fs fs' g reached same w = alike_found b _ _ reached (λ x x' copy leads.
+      alike_running (frame_with bs r (code_of x) to) (frame_with bs' r' (code_of x') to) fs fs' g out
+      (inl (record { blocks = t; to = refl; same = same; copy = copy; leads = leads })) w)
+
+-- ---- steps
+
 module _ (p q : Program) (are : IsTailed p q) (depth : ℕ) where
+  alike_function : (i : ℕ) (out : List ℕ) (go go' : RFunc → Run) → ((n m : RFunc) → HasTails n m → Alike (go n) (go' m))
+      → Alike (with_value (slice_get p.functions i) out go) (with_value (slice_get q.functions i) out go')
+  alike_function i out go go' k = by (slice_get p.functions i) refl
+    where
+      by : (o : Option RFunc) → slice_get p.functions i ≡ o → Alike (with_value o out go) (with_value (slice_get q.functions i) out go')
+      by None e = rw (no_function_at p.functions q.functions are.functions i e) refl
+      by (Some n) e = let m = function_at p.functions q.functions are.functions i n e in rw m.1 (k n m.0 m.2)
+
   alike_call : (f : ℕ) (vs : List ℕ) (to : Option ℕ) (fs fs' : List Frame) (g : Arrays) (out : List ℕ) → Wait fs fs'
       → Alike (state_after_call p depth f vs to fs g out) (state_after_call q depth f vs to fs' g out)
-  alike_call f vs to fs fs' g out w = by (slice_get p.functions f) refl
+  alike_call f vs to fs fs' g out w = alike_function f out _ _ (λ n m h.
+      rw (same_depth fs fs' w, h.parameters) (room n m h (nat_lt (length fs) depth && (length vs == n.parameters))))
     where
-      go : RFunc → Run
-      go n = if nat_lt (length fs) depth && (length vs == n.parameters) then state_at_block n.blocks.items 0 (argument_registers vs) to fs g out
-          else Failed out
-
-      go' : RFunc → Run
-      go' n = if nat_lt (length fs') depth && (length vs == n.parameters) then state_at_block n.blocks.items 0 (argument_registers vs) to fs' g out
-          else Failed out
-
-      room : (n m : RFunc) (b : Bool) → HasTails n m
+      room : (n m : RFunc) → HasTails n m → (b : Bool)
           → Alike (if b then state_at_block n.blocks.items 0 (argument_registers vs) to fs g out else Failed out)
           (if b then state_at_block m.blocks.items 0 (argument_registers vs) to fs' g out else Failed out)
-      room n m true h = alike_block n.blocks.items m.blocks.items 0 (argument_registers vs) (argument_registers vs) to fs fs' g out h.blocks refl (λ x. refl) w
-      room n m false h = refl
+      room n m h true =
+          alike_block n.blocks.items m.blocks.items h.blocks out 0 (argument_registers vs) (argument_registers vs) to fs fs' g refl (λ x. refl) w
+      room n m h false = refl
 
-      by : (o : Option RFunc) → slice_get p.functions f ≡ o → Alike (with_value o out go) (with_value (slice_get q.functions f) out go')
-      by None e = subst (λ o. Alike (Failed out) (with_value o out go')) (sym (no_function_at p.functions q.functions are.functions f e)) refl
-      by (Some n) e = (
-          let m = function_at p.functions q.functions are.functions f n e in
-          let same : (nat_lt (length fs') depth && (length vs == (m.0).parameters)) ≡ (nat_lt (length fs) depth && (length vs == n.parameters)) =
-          ap₂ (λ k c. nat_lt k depth && (length vs == c)) (same_depth fs fs' w) (m.2).parameters in
-          subst (λ o. Alike (go n) (with_value o out go')) (sym m.1)
-          (subst (λ b. Alike (go n) (if b then state_at_block (m.0).blocks.items 0 (argument_registers vs) to fs' g out else Failed out)) (sym same)
-          (room n m.0 (nat_lt (length fs) depth && (length vs == n.parameters)) m.2)))
+  module _ (bs bs' : List RBlock) (t : AreMade bs bs') (to : Option ℕ) (fs fs' : List Frame) (w : Wait fs fs') (g : Arrays) (out : List ℕ) where
+    alike_exit : (x : RExit) (r r' : Places) → Leads t.with_tails x → Same r r'
+        → Alike (state_after_exit p depth x bs r to fs g out) (state_after_exit q depth x bs' r' to fs' g out)
+    alike_exit (Goto b) r r' leads same = alike_block bs bs' t out b r r' to fs fs' g (leads b (here b [])) same w
+    alike_exit (Branch c y n) r r' leads same =
+        alike_value (r c) _ out _ _ (same c) (λ v. alike_block bs bs' t out (if v == 0 then n else y) r r' to fs fs' g (either (v == 0)) same w)
+      where
+        either : (b : Bool) → is_reached t.with_tails (if b then n else y) ≡ true
+        either true = leads n (behind y n)
+        either false = leads y (here y (n ∷ []))
+    alike_exit (Call f args d next) r r' leads same =
+        alike_value (words_in r args.items) _ out _ _ (same_words r r' args.items same) (λ vs.
+        alike_found bs bs' t out next _ _ (leads next (here next [])) (λ x x' copy leads.
+        alike_call f vs d (frame_with bs r (code_of x) to ∷ fs) (frame_with bs' r' (code_of x') to ∷ fs') g out
+        (record { blocks = t; to = refl; same = same; copy = copy; leads = leads }, w)))
+    alike_exit (Return None) r r' leads same = alike_return None to fs fs' g out w
+    alike_exit (Return (Some x)) r r' leads same = alike_value (r x) _ out _ _ (same x) (λ v. alike_return (Some v) to fs fs' g out w)
+    alike_exit (Out x next) r r' leads same = alike_value (r x) _ out _ _ (same x) (λ v.
+        alike_block bs bs' t (out ++ v ∷ []) next r r' to fs fs' g (leads next (here next [])) same w)
 
-  alike_exit : (x : RExit) (bs bs' : List RBlock) (r r' : Places) (to : Option ℕ) (fs fs' : List Frame) (g : Arrays) (out : List ℕ)
-      → (t : AreMade bs bs') → Leads t.with_tails x → Same r r' → Wait fs fs' → Alike (state_after_exit p depth x bs r to fs g out) (state_after_exit q depth x bs' r' to fs' g out)
-  alike_exit (Goto b) bs bs' r r' to fs fs' g out t leads same w = alike_block bs bs' b r r' to fs fs' g out t (leads b (here b [])) same w
-  alike_exit (Branch c likely other) bs bs' r r' to fs fs' g out t leads same w =
-      alike_value (r c) (r' c) out (λ v. state_at_block bs (if v == 0 then other else likely) r to fs g out)
-      (λ v. state_at_block bs' (if v == 0 then other else likely) r' to fs' g out) (same c)
-      (λ v. alike_block bs bs' (if v == 0 then other else likely) r r' to fs fs' g out t (either (v == 0)) same w)
-    where
-      either : (b : Bool) → is_reached t.with_tails (if b then other else likely) ≡ true
-      either true = leads other (behind likely other)
-      either false = leads likely (here likely (other ∷ []))
-  alike_exit (Call f args d next) bs bs' r r' to fs fs' g out t leads same w =
-      alike_value (words_in r args.items) (words_in r' args.items) out
-      (λ vs. with_value (slice_get bs next) out (go vs)) (λ vs. with_value (slice_get bs' next) out (go' vs)) (same_words r r' args.items same)
-      (λ vs. by vs (slice_get bs next) refl)
-    where
-      go : List ℕ → RBlock → Run
-      go vs block = state_after_call p depth f vs d ((let f : Frame = record { blocks = bs; registers = r; code = code_of block; result_to = to } in f) ∷ fs) g out
+    -- behind an instruction, where code goes on
+    alike_on : (c c' : Code) → Leads t.with_tails c'.exit → Copy bs c c' → (r r' : Places) (g : Arrays) → Same r r'
+        → Alike (Running (frame_with bs r c to ∷ fs) g out) (Running (frame_with bs' r' c' to ∷ fs') g out)
+    alike_on c c' leads copy r r' g same =
+        alike_running (frame_with bs r c to) (frame_with bs' r' c' to) fs fs' g out
+        (inl (record { blocks = t; to = refl; same = same; copy = copy; leads = leads })) w
 
-      go' : List ℕ → RBlock → Run
-      go' vs block = state_after_call q depth f vs d ((let f : Frame = record { blocks = bs'; registers = r'; code = code_of block; result_to = to } in f) ∷ fs') g out
+    -- in code that is the same
+    alike_at : (is : List RInst) (x : RExit) (r r' : Places) → Leads t.with_tails x → Same r r'
+        → Alike (step_at p depth is x bs r to fs g out) (step_at q depth is x bs' r' to fs' g out)
+    alike_at [] x r r' leads same = alike_exit x r r' leads same
+    alike_at (i ∷ is) x r r' leads same =
+        alike_inst p.globals q.globals are.globals g out i r r' _ _ Same (λ x _. same x) (put_same i r r' same)
+        (alike_on (record { insts = is; exit = x }) (record { insts = is; exit = x }) leads (inl refl))
 
-      by : (vs : List ℕ) (o : Option RBlock) → slice_get bs next ≡ o → Alike (with_value o out (go vs)) (with_value (slice_get bs' next) out (go' vs))
-      by vs None e = subst (λ o. Alike (Failed out) (with_value o out (go' vs))) (sym (not_found bs bs' t next e)) refl
-      by vs (Some block) e = (let s = found bs bs' t next block e (leads next (here next [])) in
-          subst (λ o. Alike (go vs block) (with_value o out (go' vs))) (sym s.there)
-          (alike_call f vs d ((let f : Frame = record { blocks = bs; registers = r; code = code_of block; result_to = to } in f) ∷ fs)
-          ((let f : Frame = record { blocks = bs'; registers = r'; code = code_of s.block; result_to = to } in f) ∷ fs') g out
-          (record { blocks = t; to = refl; same = same; copy = s.copy; leads = s.leads }, w)))
-  alike_exit (Return None) bs bs' r r' to fs fs' g out t leads same w = alike_return None to fs fs' g out w
-  alike_exit (Return (Some x)) bs bs' r r' to fs fs' g out t leads same w =
-      alike_value (r x) (r' x) out (λ v. state_after_return (Some v) to fs g out) (λ v. state_after_return (Some v) to fs' g out) (same x)
-      (λ v. alike_return (Some v) to fs fs' g out w)
-  alike_exit (Out x next) bs bs' r r' to fs fs' g out t leads same w =
-      alike_value (r x) (r' x) out (λ v. state_at_block bs next r to fs g (out ++ v ∷ [])) (λ v. state_at_block bs' next r' to fs' g (out ++ v ∷ [])) (same x)
-      (λ v. alike_block bs bs' next r r' to fs fs' g (out ++ v ∷ []) t (leads next (here next [])) same w)
+    -- in a copy that is still to write d
+    alike_begin : (is : List RInst) (x : RExit) (d : ℕ) (r r' : Places) → Leads t.with_tails x → writes_first is d ≡ true → SameBut d r r'
+        → Alike (step_at p depth is x bs r to fs g out) (step_at q depth is x bs' r' to fs' g out)
+    alike_begin [] x d r r' leads first same = absurd (true≢false (sym first))
+    alike_begin (i ∷ is) x d r r' leads first same = reads (is_in (inst_reads i) d) refl first
+      where
+        after : (b : Bool) → (if b then true else writes_first is d) ≡ true → (a a' : Places) (h : Arrays) → Now d b a a'
+            → Alike (Running (frame_with bs a (record { insts = is; exit = x }) to ∷ fs) h out)
+            (Running (frame_with bs' a' (record { insts = is; exit = x }) to ∷ fs') h out)
+        after true e a a' h now = alike_on (record { insts = is; exit = x }) (record { insts = is; exit = x }) leads (inl refl) a a' h now
+        after false e a a' h now = alike_running _ (frame_with bs' a' (record { insts = is; exit = x }) to) fs fs' h out
+            (inr (record { blocks = t; to = refl; d = d; first = e; same = now; code = refl; leads = leads })) w
 
-  -- behind an instruction, where code goes on
-  abbrev goes_on : List RInst → RExit → List RBlock → Option ℕ → List Frame → (out : List ℕ) → Places → Arrays → Run
-  goes_on is x bs to fs out r g =
-      Running ((let f : Frame = record { blocks = bs; registers = r; code = record { insts = is; exit = x }; result_to = to } in f) ∷ fs) g out
+        reads : (b : Bool) → is_in (inst_reads i) d ≡ b → (if b then false else if is_in (inst_writes i) d then true else writes_first is d) ≡ true
+            → Alike (step_at p depth (i ∷ is) x bs r to fs g out) (step_at q depth (i ∷ is) x bs' r' to fs' g out)
+        reads true un e = absurd (true≢false (sym e))
+        reads false un e =
+            alike_inst p.globals q.globals are.globals g out i r r' _ _ (Now d (is_in (inst_writes i) d))
+            (λ x read. same x (unread (inst_reads i) d x un read)) (put_now i d r r' same) (after (is_in (inst_writes i) d) e)
 
-  alike_on : (is is' : List RInst) (x x' : RExit) (bs bs' : List RBlock) (to : Option ℕ) (fs fs' : List Frame) (out : List ℕ)
-      → (t : AreMade bs bs') → Leads t.with_tails x' → Copy bs (let c : Code = record { insts = is; exit = x } in c) (let c : Code = record { insts = is'; exit = x' } in c) → Wait fs fs'
-      → (r r' : Places) (g : Arrays) → Same r r' → Alike (goes_on is x bs to fs out r g) (goes_on is' x' bs' to fs' out r' g)
-  alike_on is is' x x' bs bs' to fs fs' out t leads copy w r r' g same = record {
-    frames = (let f : Frame = record { blocks = bs'; registers = r'; code = record { insts = is'; exit = x' }; result_to = to } in f) ∷ fs';
-    is = refl;
-    stack = (inl (record { blocks = t; to = refl; same = same; copy = copy; leads = leads }), w);
-  }
-
-  -- an instruction, by the globals of either program
-  by_globals : (gs gs' : List RGlobal) (s : Run) (i : RInst) (r : Places) (g : Arrays) (out : List ℕ) (go : Places → Arrays → Run) → gs' ≡ gs
-      → Alike s (with_inst gs i r g out go) → Alike s (with_inst gs' i r g out go)
-  by_globals gs gs' s i r g out go e h = subst (λ gs. Alike s (with_inst gs i r g out go)) (sym e) h
-
-  -- in code that is the same
-  alike_at : (is : List RInst) (x : RExit) (bs bs' : List RBlock) (r r' : Places) (to : Option ℕ) (fs fs' : List Frame) (g : Arrays) (out : List ℕ)
-      → (t : AreMade bs bs') → Leads t.with_tails x → Same r r' → Wait fs fs' → Alike (step_at p depth is x bs r to fs g out) (step_at q depth is x bs' r' to fs' g out)
-  alike_at [] x bs bs' r r' to fs fs' g out t leads same w = alike_exit x bs bs' r r' to fs fs' g out t leads same w
-  alike_at (i ∷ is) x bs bs' r r' to fs fs' g out t leads same w =
-      by_globals p.globals q.globals (with_inst p.globals i r g out (goes_on is x bs to fs out)) i r' g out (goes_on is x bs' to fs' out) are.globals
-      (alike_inst p.globals g out i r r' (goes_on is x bs to fs out) (goes_on is x bs' to fs' out) same
-      (λ a a' h. alike_on is is x x bs bs' to fs fs' out t leads (inl refl) w a a' h))
-
-  -- in a copy that is still to write d
-  alike_begin : (is : List RInst) (x : RExit) (d : ℕ) (bs bs' : List RBlock) (r r' : Places) (to : Option ℕ) (fs fs' : List Frame) (g : Arrays)
-      (out : List ℕ) → (t : AreMade bs bs') → Leads t.with_tails x → writes_first is d ≡ true → SameBut d r r' → Wait fs fs'
-      → Alike (step_at p depth is x bs r to fs g out) (step_at q depth is x bs' r' to fs' g out)
-  alike_begin [] x d bs bs' r r' to fs fs' g out t leads first same w = absurd (true≢false (sym first))
-  alike_begin (i ∷ is) x d bs bs' r r' to fs fs' g out t leads first same w =
-      by_globals p.globals q.globals (with_inst p.globals i r g out (goes_on is x bs to fs out)) i r' g out (goes_on is x bs' to fs' out) are.globals
-      (reads (is_in (inst_reads i) d) refl first)
-    where
-      behind : (b : Bool) → (if b then true else writes_first is d) ≡ true → (a a' : Places) (h : Arrays) → Now p.globals g out d b a a'
-          → Alike (goes_on is x bs to fs out a h) (goes_on is x bs' to fs' out a' h)
-      behind true e a a' h now = alike_on is is x x bs bs' to fs fs' out t leads (inl refl) w a a' h now
-      behind false e a a' h now = record {
-        frames = (let f : Frame = record { blocks = bs'; registers = a'; code = record { insts = is; exit = x }; result_to = to } in f) ∷ fs';
-        is = refl;
-        stack = (inr (record { blocks = t; to = refl; d = d; first = e; same = now; code = refl; leads = leads }), w);
-      }
-
-      reads : (b : Bool) → is_in (inst_reads i) d ≡ b → (if b then false else if is_in (inst_writes i) d then true else writes_first is d) ≡ true
-          → Alike (with_inst p.globals i r g out (goes_on is x bs to fs out)) (with_inst p.globals i r' g out (goes_on is x bs' to fs' out))
-      reads true un e = absurd (true≢false (sym e))
-      reads false un e = alike_first p.globals g out i d r r' (goes_on is x bs to fs out) (goes_on is x bs' to fs' out) un same
-          (λ a a' h now. behind (is_in (inst_writes i) d) e a a' h now)
-
-  -- in code that goes to a copy, up to the goto
-  alike_tail : (is : List RInst) (x : RExit) (k : Code) (bs bs' : List RBlock) (r r' : Places) (to : Option ℕ) (fs fs' : List Frame) (g : Arrays)
-      (out : List ℕ) → (t : AreMade bs bs') → Leads t.with_tails k.exit → Tail bs (let c : Code = record { insts = is; exit = x } in c) k → Same r r' → Wait fs fs'
-      → Alike (step_at p depth is x bs r to fs g out) (step_at q depth k.insts k.exit bs' r' to fs' g out)
-  alike_tail [] x k bs bs' r r' to fs fs' g out t leads tail same w =
-      subst (λ (k : Code). Alike (step_at p depth [] x bs r to fs g out) (step_at q depth k.insts k.exit bs' r' to fs' g out)) (sym tail.is)
-      (subst (λ x. Alike (state_after_exit p depth x bs r to fs g out) next) (sym tail.goes)
-      (subst (λ o. Alike (with_value o out go) next) (sym tail.there) (record {
-        frames = (let f : Frame = record { blocks = bs'; registers = places_with r' tail.d (Some (wrap 0)); code = code_of tail.block; result_to = to } in f)
-            ∷ fs';
-        is = refl;
-        stack = (
-          inr (record {
-            blocks = t;
-            to = refl;
-            d = tail.d;
-            first = tail.first;
-            same = but_set r r' tail.d (Some (wrap 0)) same;
-            code = refl;
-            leads = subst (λ (k : Code). Leads t.with_tails k.exit) tail.is leads;
-          }),
-          w,
-        );
-      })))
-    where
-      go : RBlock → Run
-      go block = Running ((let f : Frame = record { blocks = bs; registers = r; code = code_of block; result_to = to } in f) ∷ fs) g out
-
-      next : Run
-      next = goes_on tail.block.insts.items tail.block.exit bs' to fs' out (places_with r' tail.d (Some (wrap 0))) g
-  alike_tail (i ∷ is) x k bs bs' r r' to fs fs' g out t leads tail same w =
-      let rest : Code = record { insts = is; exit = x } in
-      let rest' : Code = joined rest tail.d tail.block.insts.items tail.block.exit in
-      subst (λ (k : Code). Alike (step_at p depth (i ∷ is) x bs r to fs g out) (step_at q depth k.insts k.exit bs' r' to fs' g out)) (sym tail.is)
-      (by_globals p.globals q.globals (with_inst p.globals i r g out (goes_on is x bs to fs out)) i r' g out (goes_on rest'.insts rest'.exit bs' to fs' out)
-      are.globals
-      (alike_inst p.globals g out i r r' (goes_on is x bs to fs out) (goes_on rest'.insts rest'.exit bs' to fs' out) same
-      (λ a a' h. alike_on is rest'.insts x rest'.exit bs bs' to fs fs' out t (subst (λ (k : Code). Leads t.with_tails k.exit) tail.is leads) (inr (record {
-        number = tail.number;
-        block = tail.block;
-        d = tail.d;
-        there = tail.there;
-        short = tail.short;
-        goes = tail.goes;
-        first = tail.first;
-        sets = tail.sets;
-        same = tail.same;
-        is = refl;
-      })) w a a' h)))
+    -- in code that goes to a copy, up to the goto
+    alike_tail : (is : List RInst) (x : RExit) (k : Code) (r r' : Places) → Leads t.with_tails k.exit
+        → Tail bs (record { insts = is; exit = x }) k → Same r r'
+        → Alike (step_at p depth is x bs r to fs g out) (step_at q depth k.insts k.exit bs' r' to fs' g out)
+    alike_tail [] x k r r' leads tail same = rw (tail.is, tail.goes, tail.there)
+        (alike_running _ (frame_with bs' (places_with r' tail.d (Some (wrap 0))) (code_of tail.block) to) fs fs' g out (inr (record {
+          blocks = t;
+          to = refl;
+          d = tail.d;
+          first = tail.first;
+          same = but_set r r' tail.d (Some (wrap 0)) same;
+          code = refl;
+          leads = subst (λ (k : Code). Leads t.with_tails k.exit) tail.is leads;
+        })) w)
+    alike_tail (i ∷ is) x k r r' leads tail same =
+        let rest : Code = record { insts = is; exit = x } in
+        let rest' : Code = joined rest tail.d tail.block.insts.items tail.block.exit in
+        rw tail.is (alike_inst p.globals q.globals are.globals g out i r r' _ _ Same (λ x _. same x) (put_same i r r' same)
+        (alike_on rest rest' (subst (λ (k : Code). Leads t.with_tails k.exit) tail.is leads) (inr (record {
+          number = tail.number;
+          block = tail.block;
+          d = tail.d;
+          there = tail.there;
+          goes = tail.goes;
+          spare = tail.spare;
+          is = refl;
+        }))))
 
   alike_frame : (f f' : Frame) (fs fs' : List Frame) (g : Arrays) (out : List ℕ) → Waits f f' ⊎ Begins f f' → Wait fs fs'
       → Alike (rtl_step p depth (Running (f ∷ fs) g out)) (rtl_step q depth (Running (f' ∷ fs') g out))
-  alike_frame f f' fs fs' g out (inr b) w =
-      subst (λ to. Alike (rtl_step p depth (Running (f ∷ fs) g out)) (step_at q depth f'.code.insts f'.code.exit f'.blocks f'.registers to fs' g out)) (sym b.to)
-      (subst (λ (k : Code). Alike (rtl_step p depth (Running (f ∷ fs) g out)) (step_at q depth k.insts k.exit f'.blocks f'.registers f.result_to fs' g out)) (sym b.code)
-      (alike_begin f.code.insts f.code.exit b.d f.blocks f'.blocks f.registers f'.registers f.result_to fs fs' g out b.blocks
-      (subst (λ (k : Code). Leads b.blocks.with_tails k.exit) b.code b.leads) b.first b.same w))
-  alike_frame f f' fs fs' g out (inl h) w =
-      subst (λ to. Alike (rtl_step p depth (Running (f ∷ fs) g out)) (step_at q depth f'.code.insts f'.code.exit f'.blocks f'.registers to fs' g out)) (sym h.to)
-      (by h.copy)
+  alike_frame f f' fs fs' g out (inr b) w = rw (b.to, b.code)
+      (alike_begin f.blocks f'.blocks b.blocks f.result_to fs fs' w g out f.code.insts f.code.exit b.d f.registers f'.registers
+      (subst (λ (k : Code). Leads b.blocks.with_tails k.exit) b.code b.leads) b.first b.same)
+  alike_frame f f' fs fs' g out (inl h) w = rw h.to (by h.copy)
     where
       by : Copy f.blocks f.code f'.code
           → Alike (rtl_step p depth (Running (f ∷ fs) g out)) (step_at q depth f'.code.insts f'.code.exit f'.blocks f'.registers f.result_to fs' g out)
-      by (inl is) =
-          subst (λ (k : Code). Alike (rtl_step p depth (Running (f ∷ fs) g out)) (step_at q depth k.insts k.exit f'.blocks f'.registers f.result_to fs' g out)) (sym is)
-          (alike_at f.code.insts f.code.exit f.blocks f'.blocks f.registers f'.registers f.result_to fs fs' g out h.blocks
-          (subst (λ (k : Code). Leads h.blocks.with_tails k.exit) is h.leads) h.same w)
+      by (inl is) = rw is (alike_at f.blocks f'.blocks h.blocks f.result_to fs fs' w g out f.code.insts f.code.exit f.registers f'.registers
+          (subst (λ (k : Code). Leads h.blocks.with_tails k.exit) is h.leads) h.same)
       by (inr t) =
-          alike_tail f.code.insts f.code.exit f'.code f.blocks f'.blocks f.registers f'.registers f.result_to fs fs' g out h.blocks h.leads t h.same w
+          alike_tail f.blocks f'.blocks h.blocks f.result_to fs fs' w g out f.code.insts f.code.exit f'.code f.registers f'.registers h.leads t h.same
 
   alike_step : (s s' : Run) → Alike s s' → Alike (rtl_step p depth s) (rtl_step q depth s')
-  alike_step (Running [] g out) s' h = subst (λ s'. Alike (Failed out) (rtl_step q depth s')) (sym h.is) (none h.frames h.stack)
+  alike_step (Running fs g out) s' h = rw h.is (by fs h.frames h.stack)
     where
-      none : (fs' : List Frame) → Stack [] fs' → Alike (Failed out) (rtl_step q depth (Running fs' g out))
-      none [] w = refl
-      none (f' ∷ fs') w = absurd w
-  alike_step (Running (f ∷ fs) g out) s' h =
-      subst (λ s'. Alike (rtl_step p depth (Running (f ∷ fs) g out)) (rtl_step q depth s')) (sym h.is) (some h.frames h.stack)
-    where
-      some : (fs' : List Frame) → Stack (f ∷ fs) fs' → Alike (rtl_step p depth (Running (f ∷ fs) g out)) (rtl_step q depth (Running fs' g out))
-      some [] w = absurd w
-      some (f' ∷ fs') w = alike_frame f f' fs fs' g out w.0 w.1
-  alike_step _ s' h = ap (rtl_step q depth) h
+      by : (fs fs' : List Frame) → Stack fs fs' → Alike (rtl_step p depth (Running fs g out)) (rtl_step q depth (Running fs' g out))
+      by [] [] w = refl
+      by (f ∷ fs) (f' ∷ fs') w = alike_frame f f' fs fs' g out w.0 w.1
+      by _ _ w = absurd w
+  alike_step (Ended v out) s' h = ap (rtl_step q depth) h
+  alike_step (Failed out) s' h = ap (rtl_step q depth) h
 
   alike_steps : (n : ℕ) (s s' : Run) → Alike s s' → Alike (rtl_steps p depth n s) (rtl_steps q depth n s')
   alike_steps zero s s' h = h
   alike_steps (suc n) s s' h = alike_steps n (rtl_step p depth s) (rtl_step q depth s') (alike_step s s' h)
 
   alike_start : Alike (rtl_start p) (rtl_start q)
-  alike_start = subst (λ main. Alike (rtl_start p) (with_value (slice_get q.functions main) [] go')) (sym are.main) (by (slice_get p.functions p.main) refl)
-    where
-      go : RFunc → Run
-      go n = state_at_block n.blocks.items 0 unset_places None [] (map first_values p.globals) []
-
-      go' : RFunc → Run
-      go' n = state_at_block n.blocks.items 0 unset_places None [] (map first_values q.globals) []
-
-      by : (o : Option RFunc) → slice_get p.functions p.main ≡ o → Alike (with_value o [] go) (with_value (slice_get q.functions p.main) [] go')
-      by None e = subst (λ o. Alike (Failed []) (with_value o [] go')) (sym (no_function_at p.functions q.functions are.functions p.main e)) refl
-      by (Some n) e = (let m = function_at p.functions q.functions are.functions p.main n e in
-          subst (λ o. Alike (go n) (with_value o [] go')) (sym m.1)
-          (subst (λ gs. Alike (go n) (state_at_block (m.0).blocks.items 0 unset_places None [] (map first_values gs) [])) (sym are.globals)
-          (alike_block n.blocks.items (m.0).blocks.items 0 unset_places unset_places None [] [] (map first_values p.globals) [] (m.2).blocks refl (λ x. refl) tt)))
+  alike_start = rw (are.main, are.globals) (alike_function p.main [] _ _ (λ n m h.
+      alike_block n.blocks.items m.blocks.items h.blocks [] 0 unset_places unset_places None [] [] (map first_values p.globals) refl (λ x. refl) tt))
 
 same_outcome : (s s' : Run) → Alike s s' → outcome s' ≡ outcome s
 same_outcome (Running fs g out) s' h = ap outcome h.is

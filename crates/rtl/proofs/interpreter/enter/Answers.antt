@@ -1,7 +1,7 @@
 use Rattle.std.proofs.Common.{◌≡◌, ◌∙◌, length, sym, rules, arith}
 use Rattle.std.proofs.lemmas.List.{length-map}
 use Rattle.runs.proofs.Lookups.{past}
-use Rattle.rtl.proofs.Calls.{new-frame, entered, some-block, no-block, function-at, calls-nothing, calls-too-deep, calls-with-others, calls-no-block}
+use Rattle.rtl.proofs.Calls.{entered, some-block, no-block, function-at, calls-nothing, calls-too-deep, calls-with-others, calls-no-block}
 use Rattle.rtl.proofs.interpreter.enter.Goals as goal
 
 pub returns : goal.returns
@@ -14,11 +14,9 @@ returns c vs is =
     (rw (sym c.as_slice-blocks.ensures.value) c.block_at.ensures) c.in-Some-block_at.is in
     let same : length c.args.registers.items ≡ length vs = search (rules, length-map, is) in
     let count : length vs ≡ x.parameters = omega (arith, same, c.if-len-function.false, c.len.ensures, c.args.registers.ok.0) in
-    entered c.args.program.now c.args.depth c.args.callee.function vs c.args.callee.result_to x entry c.args.interpreter.now c.enter.new.self
-    c.first_frame-frame.result there (sym c.has_room.ensures ∙ c.if-not-has_room.false) count first c.in_ok-enter.ensures.calls
-    c.enter.ensures.globals c.enter.ensures.output
-    (new-frame c.first_frame-frame.result c.as_slice-blocks.result.now c.args.registers.items x entry c.args.callee.result_to vs
-    c.first_frame-frame.ensures is c.as_slice-blocks.ensures.value)
+    entered c.args.program.now c.args.depth c.args.callee.function vs c.args.callee.result_to c.args.interpreter.now x entry c.enter.new.self
+    c.first_frame-frame.result c.args.registers.items c.as_slice-blocks.result.now there (sym c.has_room.ensures ∙ c.if-not-has_room.false) count first
+    c.in_ok-enter.ensures.calls c.enter.ensures.globals c.enter.ensures.output c.first_frame-frame.ensures is c.as_slice-blocks.ensures.value
 
 pub returns-in_default : goal.returns-in_default
 returns-in_default c vs is =
