@@ -4,7 +4,7 @@ use Rattle.std.proofs.Common.{map, get_or, Bor, arith}
 use Rattle.std.specs.Prelude.{if◌then◌else◌, ◌&&◌, ◌==◌, is_some, IfSome}
 use Rattle.std.specs.List.{slice_get}
 use Rattle.std.specs.Option.{option_map}
-use Rattle.runs.specs.Stores.{Places, Arrays}
+use Rattle.runs.specs.Stores.{Places}
 use Rattle.runs.proofs.Kept.{places-set_to}
 use Rattle.runs.proofs.Lookups.{found}
 use Rattle.runs.specs.Calls.{calls_of, state_by}
@@ -14,7 +14,7 @@ use Rattle.rtl.specs.declared.block.RBlock.{RBlock}
 use Rattle.rtl.specs.declared.block.RFunc.{RFunc}
 use Rattle.rtl.specs.Programs.{Program}
 use Rattle.rtl.specs.Meaning as Meaning
-use Rattle.rtl.specs.Meaning.{Run, Code, code_of, argument_registers, state_at_block, state_after_call}
+use Rattle.rtl.specs.Meaning.{Run, Code, code_of, argument_registers, state_after_call}
 use Rattle.runs.specs.Kept.{places, arrays}
 use Rattle.rtl.specs.Interpreter.{Interpreter, frame_of}
 use Rattle.rtl.specs.declared.interpreter.Frame.{Frame}

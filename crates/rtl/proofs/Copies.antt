@@ -8,7 +8,7 @@ use Rattle.std.proofs.lemmas.List.Sums.{sum_by-cons}
 use Rattle.runs.proofs.Words.{at-index}
 use Rattle.rtl.specs.declared.limits.TheConstants.{MAX_PARAMETERS, MAX_BLOCKS}
 use Rattle.rtl.specs.declared.instruction.RInst.{RInst}
-use Rattle.rtl.specs.declared.instruction.RInst.TheVariants.{Const, Move, Bin, Load, Store}
+use Rattle.rtl.specs.declared.instruction.RInst.TheVariants.{Const}
 use Rattle.rtl.specs.declared.instruction.RExit.{RExit}
 use Rattle.rtl.specs.declared.instruction.RExit.TheVariants.{Goto, Branch, Call, Return, Out}
 use Rattle.rtl.specs.declared.block.RBlock.{RBlock}
@@ -16,7 +16,7 @@ use Rattle.rtl.specs.declared.block.RFunc.{RFunc}
 use Rattle.rtl.specs.declared.block.RGlobal.{RGlobal}
 use Rattle.rtl.specs.Meaning.{Code, code_of}
 use Rattle.rtl.specs.Names.{is_in, goes_to, some_go_to}
-use Rattle.rtl.specs.Programs.{IsInst, IsCallee, IsExit, IsBlock, IsFunction, IsRegister, IsProgram, program_of, block_count}
+use Rattle.rtl.specs.Programs.{IsInst, IsCallee, IsExit, IsBlock, IsFunction, IsProgram, program_of, block_count}
 use Rattle.rtl.specs.Tails.{writes_first, constant_of, spare_constant, is_short, again, joined, joined_if, with_tail, tailed_by, tailed, AreTailed, is_reached, shortest, empty_code, AreKept, AreMade, HasTails, HaveTails}
 
 -- a block that may be copied, by way of a constant for d

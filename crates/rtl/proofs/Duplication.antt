@@ -1,6 +1,7 @@
 -- What comes of programs whose blocks have their tails.
-use Rattle.std.proofs.Common.{◌≡◌, ℕ, zero, suc, ◌+◌, ◌<◌, ◌≤◌, List, [], ◌∷◌, ◌++◌, length, take, get_or, refl, ap, sym, ◌∙◌, arith}
+use Rattle.std.proofs.Common.{◌≡◌, ℕ, suc, ◌+◌, ◌<◌, ◌≤◌, List, [], ◌∷◌, ◌++◌, length, take, get_or, refl, ap, sym, ◌∙◌, arith}
 use Rattle.std.specs.Prelude.{Bool, true, false, ◌||◌, if◌then◌else◌}
+use Rattle.std.proofs.lemmas.List.{length-take}
 use Rattle.std.proofs.Math.Seq.{take-suc}
 use Rattle.rtl.specs.declared.instruction.RInst.{RInst}
 use Rattle.rtl.specs.declared.instruction.RInst.TheVariants.{Const}
@@ -33,14 +34,9 @@ operations_few : (xs : List RInst) → operations xs ≤ length xs
 operations_few [] = omega arith
 operations_few (x ∷ xs) = let rest = operations_few xs in let one = weight_small x in omega (arith, rest, one)
 
-length_take : (xs : List RInst) (i : ℕ) → length (take i xs) ≤ i
-length_take xs zero = omega arith
-length_take [] (suc i) = omega arith
-length_take (x ∷ xs) (suc i) = let rest = length_take xs i in omega (arith, rest)
-
 -- no more than have been seen
 pub operations_so_far : (xs : List RInst) (i : ℕ) → operations (take i xs) ≤ i
-operations_so_far xs i = let few = operations_few (take i xs) in let long = length_take xs i in omega (arith, few, long)
+operations_so_far xs i = let few = operations_few (take i xs) in let long = length-take i xs in omega (arith, few, long)
 
 -- ---- blocks that some exit goes to
 

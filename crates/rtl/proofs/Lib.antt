@@ -3,7 +3,6 @@ pub mod Computing
 pub mod Keeping
 pub mod Kept
 pub mod Lookups
-pub mod Loops
 pub mod Results
 pub mod Duplication
 pub mod Copies

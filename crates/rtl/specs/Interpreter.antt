@@ -16,6 +16,7 @@ use Rattle.rtl.specs.Programs.{Program}
 use Rattle.rtl.specs.Meaning as Meaning
 use Rattle.rtl.specs.Meaning.{Run, code_of, with_inst, words_in}
 use Rattle.rtl.specs.Meaning.{state_at_block, state_after_call, state_after_return, state_after_exit}
+use Rattle.rtl.specs.declared.interpreter.Callee.{Callee}
 use Rattle.rtl.specs.declared.interpreter.Frame.{Frame}
 
 -- the result of an operator at two registers, or none
@@ -52,51 +53,44 @@ abbrev pub frame_at : RBlock → Frame → Meaning.Frame
 frame_at block f =
     record { blocks = f.blocks.now; registers = places f.registers.items; code = code_of block; result_to = f.result_to }
 
--- a value, if there is one, goes to a register
-abbrev pub Puts : ℕ → Option ℕ → Interpreter → Reached → Interpreter → Type 0
-Puts x v before r after =
-    with_value v before.output.items (λ w. state_with before (places_with (places before.frame.registers.items) x (Some w))
-    (arrays before.globals.items))
-    ≡ reached_by frame_of r after
+-- what a step has come to is this
+abbrev pub Comes : Run → Reached → Interpreter → Type 0
+Comes s r m = s ≡ reached_by frame_of r m
 
--- an instruction of a program with these globals takes the interpreter before to what is reached
-abbrev pub Performs : List RGlobal → RInst → Interpreter → Reached → Interpreter → Type 0
-Performs globals i before r after =
-    with_inst globals i (places before.frame.registers.items) (arrays before.globals.items) before.output.items (state_with before)
-    ≡ reached_by frame_of r after
+-- a value, if there is one, goes to a register
+abbrev pub after_put : ℕ → Option ℕ → Interpreter → Run
+after_put x v m =
+    with_value v m.output.items (λ w. state_with m (places_with (places m.frame.registers.items) x (Some w)) (arrays m.globals.items))
+
+-- an instruction of a program with these globals
+abbrev pub after_inst : List RGlobal → RInst → Interpreter → Run
+after_inst globals i m = with_inst globals i (places m.frame.registers.items) (arrays m.globals.items) m.output.items (state_with m)
 
 -- on to a block of the same function
-abbrev pub Jumps : ℕ → Interpreter → Reached → Interpreter → Type 0
-Jumps b before r after =
-    state_at_block before.frame.blocks.now b (places before.frame.registers.items) before.frame.result_to (map frame_of (callers_of before))
-    (arrays before.globals.items) before.output.items
-    ≡ reached_by frame_of r after
+abbrev pub after_jump : ℕ → Interpreter → Run
+after_jump b m =
+    state_at_block m.frame.blocks.now b (places m.frame.registers.items) m.frame.result_to (map frame_of (callers_of m))
+    (arrays m.globals.items) m.output.items
 
 -- a function is called with these words, and its result goes there
-abbrev pub Calls : Program → (depth f : ℕ) → List ℕ → Option ℕ → Interpreter → Reached → Interpreter → Type 0
-Calls p depth f vs to before r after =
-    state_after_call p depth f vs to (map frame_of (calls_of before)) (arrays before.globals.items) before.output.items
-    ≡ reached_by frame_of r after
+abbrev pub after_call : Program → (depth : ℕ) → Callee → List ℕ → Interpreter → Run
+after_call p depth c vs m =
+    state_after_call p depth c.function vs c.result_to (map frame_of (calls_of m)) (arrays m.globals.items) m.output.items
 
--- a function is called with the words of these registers, by a caller that goes on at this block
-abbrev pub CallsFrom : Program → (depth f : ℕ) → List ℕ → Option ℕ → (next : ℕ) → Interpreter → Reached → Interpreter → Type 0
-CallsFrom p depth f args to next before r after =
-    with_value (words_in (places before.frame.registers.items) args) before.output.items (λ vs.
-    with_value (slice_get before.frame.blocks.now next) before.output.items (λ block.
-    state_after_call p depth f vs to (frame_at block before.frame
-    ∷ map frame_of (callers_of before)) (arrays before.globals.items) before.output.items))
-    ≡ reached_by frame_of r after
+-- a function is called with the words of its arguments' registers, by a caller that goes on at this block
+abbrev pub after_call_from : Program → (depth : ℕ) → Callee → (next : ℕ) → Interpreter → Run
+after_call_from p depth c next m =
+    with_value (words_in (places m.frame.registers.items) c.arguments.now) m.output.items (λ vs.
+    with_value (slice_get m.frame.blocks.now next) m.output.items (λ block.
+    state_after_call p depth c.function vs c.result_to (frame_at block m.frame ∷ map frame_of (callers_of m)) (arrays m.globals.items)
+    m.output.items))
 
 -- the activation returns, with a word or without
-abbrev pub Returns : Option ℕ → Interpreter → Reached → Interpreter → Type 0
-Returns v before r after =
-    state_after_return v before.frame.result_to (map frame_of (callers_of before)) (arrays before.globals.items) before.output.items
-    ≡ reached_by frame_of r after
+abbrev pub after_return : Option ℕ → Interpreter → Run
+after_return v m = state_after_return v m.frame.result_to (map frame_of (callers_of m)) (arrays m.globals.items) m.output.items
 
 -- the block is left by this exit
-abbrev pub Leaves : Program → (depth : ℕ) → RExit → Interpreter → Reached → Interpreter → Type 0
-Leaves p depth exit before r after =
-    state_after_exit p depth exit before.frame.blocks.now (places before.frame.registers.items) before.frame.result_to
-    (map frame_of (callers_of before))
-    (arrays before.globals.items) before.output.items
-    ≡ reached_by frame_of r after
+abbrev pub after_exit : Program → (depth : ℕ) → RExit → Interpreter → Run
+after_exit p depth exit m =
+    state_after_exit p depth exit m.frame.blocks.now (places m.frame.registers.items) m.frame.result_to (map frame_of (callers_of m))
+    (arrays m.globals.items) m.output.items

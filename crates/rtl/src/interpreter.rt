@@ -4,9 +4,9 @@ ghost use Rattle.std.specs.Option.{option_map};
 ghost use Rattle.rtl.specs.declared.instruction.RInst.TheVariants.{Store};
 ghost use Rattle.rtl.specs.Meaning.{rtl_step, code_of, words_in};
 ghost use Rattle.runs.specs.Kept.{places, arrays};
-ghost use Rattle.runs.specs.Calls.{state_by, reached_by};
-ghost use Rattle.rtl.specs.Interpreter.{result_at, load_at, frame_of, frame_at};
-ghost use Rattle.rtl.specs.Interpreter.{Puts, Performs, Jumps, Calls, CallsFrom, Returns, Leaves};
+ghost use Rattle.runs.specs.Calls.{state_by};
+ghost use Rattle.rtl.specs.Interpreter.{result_at, load_at, frame_of, frame_at, Comes, after_put, after_inst, after_jump};
+ghost use Rattle.rtl.specs.Interpreter.{after_call, after_call_from, after_return, after_exit};
 
 use crate::block::{RBlock, RGlobal};
 use crate::instruction::{BlockNumber, FunctionNumber, GlobalNumber, RExit, RInst, Register};
@@ -58,7 +58,7 @@ fn put(
     to: Register,
     value: Option<u32>,
 ) -> Result<Reached, AllocError>
-    ensures { IfOk result (λ r. Puts to value interpreter.old r interpreter.new) }
+    ensures { IfOk result (λ r. Comes (after_put to value interpreter.old) r interpreter.new) }
 {
     let Some(v) = value else {
         return Ok(Reached::Failed);
@@ -75,7 +75,7 @@ fn store_at(
     index: Register,
     from: Register,
 ) -> Reached
-    ensures { Performs globals.now (Store global index from) interpreter.old result interpreter.new }
+    ensures { Comes (after_inst globals.now (Store global index from) interpreter.old) result interpreter.new }
 {
     let Some(index) = register(&interpreter.frame.registers, index) else {
         return Reached::Failed;
@@ -99,7 +99,7 @@ fn perform(
     interpreter: &mut Interpreter,
     inst: RInst,
 ) -> Result<Reached, AllocError>
-    ensures { IfOk result (λ r. Performs globals.now inst interpreter.old r interpreter.new) }
+    ensures { IfOk result (λ r. Comes (after_inst globals.now inst interpreter.old) r interpreter.new) }
 {
     match inst {
         RInst::Const(to, word) => put(interpreter, to, Some(constant(word))),
@@ -143,7 +143,7 @@ fn go_to<'a>(frame: &mut Frame<'a>, block: &'a RBlock)
 
 /// Goes on at a block of the same function.
 fn jump(interpreter: &mut Interpreter, number: BlockNumber) -> Reached
-    ensures { Jumps number interpreter.old result interpreter.new }
+    ensures { Comes (after_jump number interpreter.old) result interpreter.new }
 {
     let Some(block) = block_at(interpreter.frame.blocks, number) else {
         return Reached::Failed;
@@ -206,9 +206,8 @@ fn enter<'a>(
     callee: Callee,
     registers: Vec<Option<u32>>,
 ) -> Result<Reached, AllocError>
-    ensures { let called = Calls program.now depth callee.entry.function in
-        IfOk result (λ r. (vs : List ℕ) → registers.items ≡ map Some vs
-        → called vs callee.entry.result_to interpreter.old r interpreter.new) }
+    ensures { IfOk result (λ r. (vs : List ℕ) → registers.items ≡ map Some vs
+        → Comes (after_call program.now depth callee.entry vs interpreter.old) r interpreter.new) }
 {
     let Some(function) = program.functions().get(callee.function as usize) else {
         return Ok(Reached::Failed);
@@ -237,8 +236,7 @@ fn call<'a>(
     callee: Callee,
     next: BlockNumber,
 ) -> Result<Reached, AllocError>
-    ensures { let called = CallsFrom program.now depth callee.entry.function in
-        IfOk result (λ r. called callee.entry.arguments.now callee.entry.result_to next interpreter.old r interpreter.new) }
+    ensures { IfOk result (λ r. Comes (after_call_from program.now depth callee.entry next interpreter.old) r interpreter.new) }
 {
     let Some(next) = block_at(interpreter.frame.blocks, next) else {
         return Ok(Reached::Failed);
@@ -256,7 +254,7 @@ fn return_word(
     interpreter: &mut Interpreter,
     result_word: Option<u32>,
 ) -> Result<Reached, AllocError>
-    ensures { IfOk result (λ r. Returns result_word interpreter.old r interpreter.new) }
+    ensures { IfOk result (λ r. Comes (after_return result_word interpreter.old) r interpreter.new) }
 {
     let Some(done) = interpreter.leave() else {
         return Ok(Reached::of_last(result_word));
@@ -275,7 +273,7 @@ fn leave<'a>(
     interpreter: &mut Interpreter<'a>,
     exit: &'a RExit,
 ) -> Result<Reached, AllocError>
-    ensures { IfOk result (λ r. Leaves program.now depth exit.now interpreter.old r interpreter.new) }
+    ensures { IfOk result (λ r. Comes (after_exit program.now depth exit.now interpreter.old) r interpreter.new) }
 {
     match exit {
         RExit::Goto(number) => Ok(jump(interpreter, *number)),
@@ -317,7 +315,7 @@ pub(crate) fn step<'a>(
     depth: u32,
     interpreter: &mut Interpreter<'a>,
 ) -> Result<Reached, AllocError>
-    ensures { IfOk result (λ r. rtl_step program.now depth (state_by frame_of interpreter.old) ≡ reached_by frame_of r interpreter.new) }
+    ensures { IfOk result (λ r. Comes (rtl_step program.now depth (state_by frame_of interpreter.old)) r interpreter.new) }
 {
     let Some((inst, rest)) = interpreter.frame.insts.split_first() else {
         let exit = interpreter.frame.exit;

@@ -105,12 +105,7 @@ fn is_exit(functions: &[RFunc], blocks: usize, exit: &RExit) -> bool
 fn are_insts(globals: usize, insts: &[RInst]) -> bool
     ensures { IsTrue result ↔ All (IsInst globals) insts.now }
 {
-    for inst in insts {
-        if !is_inst(globals, *inst) {
-            return false;
-        }
-    }
-    true
+    insts.iter().all(|&inst| is_inst(globals, inst))
 }
 
 fn is_block(functions: &[RFunc], globals: usize, blocks: usize, block: &RBlock) -> bool
@@ -122,12 +117,9 @@ fn is_block(functions: &[RFunc], globals: usize, blocks: usize, block: &RBlock) 
 fn are_blocks(functions: &[RFunc], globals: usize, count: usize, blocks: &[RBlock]) -> bool
     ensures { IsTrue result ↔ All (IsBlock functions.now globals count) blocks.now }
 {
-    for block in blocks {
-        if !is_block(functions, globals, count, block) {
-            return false;
-        }
-    }
-    true
+    blocks
+        .iter()
+        .all(|block| is_block(functions, globals, count, block))
 }
 
 fn is_function(functions: &[RFunc], globals: usize, function: &RFunc) -> bool
@@ -142,12 +134,9 @@ fn is_function(functions: &[RFunc], globals: usize, function: &RFunc) -> bool
 fn are_functions(functions: &[RFunc], globals: usize) -> bool
     ensures { IsTrue result ↔ All (IsFunction functions.now globals) functions.now }
 {
-    for function in functions {
-        if !is_function(functions, globals, function) {
-            return false;
-        }
-    }
-    true
+    functions
+        .iter()
+        .all(|function| is_function(functions, globals, function))
 }
 
 fn is_global(global: &RGlobal) -> bool
@@ -159,12 +148,7 @@ fn is_global(global: &RGlobal) -> bool
 fn are_globals(globals: &[RGlobal]) -> bool
     ensures { IsTrue result ↔ All IsGlobal globals.now }
 {
-    for global in globals {
-        if !is_global(global) {
-            return false;
-        }
-    }
-    true
+    globals.iter().all(|global| is_global(global))
 }
 
 /// Reports whether the functions have no more blocks together than a program may have.

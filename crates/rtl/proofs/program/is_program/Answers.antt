@@ -1,5 +1,9 @@
-use Rattle.rtl.proofs.Loops.{tested}
+use Rattle.std.proofs.Common.{◌≡◌, Bool, true, rules, subst, sym}
+use Rattle.std.specs.Prelude.{IsTrue, ◌↔◌}
 use Rattle.rtl.proofs.program.is_program.Goals as goal
+
+tested : {P : Type 0} (b : Bool) → IsTrue b ↔ P → b ≡ true → P
+tested b tests is_true = let yes : IsTrue true = search rules in tests.0 (subst IsTrue (sym is_true) yes)
 
 pub returns-then-is_callee : goal.returns-then-is_callee
 returns-then-is_callee c =
