@@ -4,6 +4,7 @@ use Rattle.std.proofs.Common.{subst, arith, nat_eq, eq-eqb, eqb-true, true≢fal
 use Rattle.std.specs.Prelude.{◌&&◌, not, if◌then◌else◌, slice_get}
 use Rattle.std.proofs.lemmas.Int.{ints}
 use Rattle.std.proofs.lemmas.Option.{same_Some, none-some}
+use Rattle.std.proofs.lemmas.Bool.{and_parts, not-true}
 use Rattle.words.specs.declared.sign.Sign.TheVariants.{Signed, Unsigned}
 use Rattle.words.specs.C.{is_below}
 use Rattle.runs.specs.Stores.{Places, places_with, chain, Arrays}
@@ -43,7 +44,7 @@ use Rattle.mips_emit.proofs.Operands.{passes, IsLast, none_fresh, IsKnown, Denot
 use Rattle.mips_emit.proofs.Operands.{AreDeferred, one_deferred, shown_deferred}
 use Rattle.mips_emit.proofs.Homes.{fewer_stand}
 use Rattle.mips_emit.proofs.Homes.{operand_below, operand_means, fetches, ends_stands}
-use Rattle.mips_emit.proofs.Insts.{and_first, and_second, Computed, value_or_failed, computes}
+use Rattle.mips_emit.proofs.Insts.{Computed, value_or_failed, computes}
 
 -- ---- truth words
 
@@ -77,10 +78,6 @@ known_zero : (k : Option ℕ) (v : ℕ) → ((c : ℕ) → k ≡ Some c → c �
 known_zero None v said is = absurd (true≢false (sym is))
 known_zero (Some c) v said is = sym (said c refl) ∙ eqb-true c 0 is
 
-not_true : (b : Bool) → not b ≡ true → b ≡ false
-not_true true e = absurd (true≢false (sym e))
-not_true false e = refl
-
 -- what is one with an exit is what the exit asks for, in the form that it has there
 asked_for : (at : Locations) (facts : Facts) (asked : Asked) (i : RInst) (m : Comparison) → comparison_of at facts asked i ≡ Some m
     → (is_asked asked m.result ≡ true) × (form_for asked m.op m.left.known m.right.known ≡ Some m.form)
@@ -88,7 +85,6 @@ asked_for at facts asked (Bin op d a b) m e = go (is_asked asked d && is_caller_
   where
     l : Operand
     l = operand_with at facts a
-asked_for at facts asked _ m e = absurd (none-some m e)
 
     r : Operand
     r = operand_with at facts b
@@ -104,7 +100,8 @@ asked_for at facts asked _ m e = absurd (none-some m e)
         → (if t then operator_comparison d op l r (form_for asked op l.known r.known) else None) ≡ Some m
         → (is_asked asked m.result ≡ true) × (form_for asked m.op m.left.known m.right.known ≡ Some m.form)
     go false t e = absurd (none-some m e)
-    go true t e = by (and_first (is_asked asked d) (is_caller_saved (at d)) t) (form_for asked op l.known r.known) refl e
+    go true t e = by (and_parts (is_asked asked d) (is_caller_saved (at d)) t).0 (form_for asked op l.known r.known) refl e
+asked_for at facts asked _ m e = absurd (none-some m e)
 
 -- nothing is one with a branch that doesn't stand behind it
 pub none_asked : (at : Locations) (facts : Facts) (i : RInst) (m : Comparison) → comparison_of at facts Nothing i ≡ Some m → ⊥
@@ -342,7 +339,7 @@ module _ (most total : ℕ) (gs : List RGlobal) (starts : ℕ → ℕ) where
             f q u z.to z.some z.runs
             (fewer_stand most total gs starts (hide facts.deferred registers) (hide (places_with facts.deferred q (Some u)) (places_with registers q (Some u))) g (top ∷ fs)
             z.to (λ r c e. shown_deferred facts.deferred registers q u r c e) z.stands)
-            (one_deferred facts.deferred registers q u (not_true (is_callee_saved q) passes_by) below lz)
+            (one_deferred facts.deferred registers q u (not-true (is_callee_saved q) passes_by) below lz)
             (record {
               fresh = none_fresh top.homes (places_with registers q (Some u)) top.slots z.to;
               comparison = λ n c same holds.
@@ -364,7 +361,6 @@ module _ (most total : ℕ) (gs : List RGlobal) (starts : ℕ → ℕ) where
       where
         Goal : Type 0
         Goal = P (with_inst gs (Bin op d a b) (cells top.homes registers top.slots) g out go)
-    compares _ facts asked m registers top s go e ok k lz h f = absurd (none-some m e)
 
         go2 : is_caller_saved (slice_get top.homes d) ≡ true → (o : Option Form) → form_for asked op (known_in facts a) (known_in facts b) ≡ o
             → operator_comparison d op (operand_with (slice_get top.homes) facts a) (operand_with (slice_get top.homes) facts b) o ≡ Some m → Goal
@@ -376,4 +372,5 @@ module _ (most total : ℕ) (gs : List RGlobal) (starts : ℕ → ℕ) where
             → (if t then operator_comparison d op (operand_with (slice_get top.homes) facts a) (operand_with (slice_get top.homes) facts b)
             (form_for asked op (known_in facts a) (known_in facts b)) else None) ≡ Some m → Goal
         go1 false t e = absurd (none-some m e)
-        go1 true t e = go2 (and_second (is_asked asked d) (is_caller_saved (slice_get top.homes d)) t) (form_for asked op (known_in facts a) (known_in facts b)) refl e
+        go1 true t e = go2 (and_parts (is_asked asked d) (is_caller_saved (slice_get top.homes d)) t).1 (form_for asked op (known_in facts a) (known_in facts b)) refl e
+    compares _ facts asked m registers top s go e ok k lz h f = absurd (none-some m e)

@@ -58,10 +58,9 @@ insts_step c asked asks i left insts d m fresh facts facts' all_facts last last'
     let inst = get_or insts i d in
     let is : get_or insts i d ≡ get_or insts i (get_or insts i d) = get_same insts i d (get_or insts i d) within in
     let rest = drop (i + 1) insts in
-    let count = before.0 in
     let m' : m ≡ comparison_of c.at facts (asked_last asked (drop (i + 1) insts)) (get_or insts i d) =
     m_is ∙ ap (λ a. comparison_of c.at facts a (get_or insts i d)) (asks_is ∙ asks_last asked insts i left within before.0) in (
-      omega (arith, count, within),
+      omega (arith, before.0, within),
       ap (λ l. l ++ insts_code c asked facts' rest []) e
           ∙ append_assoc code (next_code c facts m inst) (insts_code c asked facts' rest [])
           ∙ ap (λ facts'. code ++ (next_code c facts m inst ++ insts_code c asked facts' rest [])) k
@@ -105,8 +104,7 @@ insts_more c asked i left insts d facts facts' all_facts all_last code code' all
     let fresh = fresh_of c.at inst in
     let z = insts_step c asked Nothing i left insts d None fresh facts facts' all_facts no_last (last_with None fresh) all_last code code' all within
     (next_asks asked left more) (none_asked c.at facts inst) refl e k refl before in
-    let count = z.0 in
-    let some : 0 < length (drop (i + 1) insts) = omega (arith, length-drop (i + 1) insts, count, more) in
+    let some : 0 < length (drop (i + 1) insts) = omega (arith, length-drop (i + 1) insts, z.0, more) in
     (z.0, z.1, z.2, last_free c.at asked facts' (drop (i + 1) insts) no_last (last_with None fresh) some ∙ z.3)
 
 -- one more argument

@@ -2,7 +2,7 @@
 use Rattle.std.proofs.Common.{◌≡◌, ◌≢◌, ℕ, zero, suc, ◌+◌, ◌*◌, ◌%◌, ◌^◌, ◌<◌, ◌≤◌, ◌⊎◌, inl, inr, Bool, true, false, cond, ◌&&◌, ◌==◌, List, []}
 use Rattle.std.proofs.Common.{◌∷◌, Option, Some, None, refl, sym, ap, ap₂, ◌∙◌, arith, nat_eq, eqb-true, ne_eqb}
 use Rattle.std.specs.Prelude.{slice_get, slice_set}
-use Rattle.std.proofs.lemmas.Bool.{eqb-false}
+use Rattle.std.proofs.lemmas.Bool.{eqb-false, and_right}
 use Rattle.std.proofs.lemmas.Option.{same_Some, none-some}
 use Rattle.words.specs.declared.width.Width.{Width}
 use Rattle.words.specs.declared.width.Width.TheVariants.{Word, Byte}
@@ -36,14 +36,10 @@ word_past_byte mapped m a v b lt =
     ap (λ x. cond (is_open Word mapped b) x 0)
     (ap₂ (λ x y. x + y) (ap₂ (λ x y. x + y) (ap₂ (λ x y. x * 2 ^ 24 + y * 2 ^ 16) first second) (ap (λ x. x * 2 ^ 8) third)) fourth)
   where
-    and-false : (x : Bool) → (x && false) ≡ false
-    and-false true = refl
-    and-false false = refl
-
     other : (c : ℕ) → a < c → cond (is_open Byte mapped a && (c == a)) (v % 2 ^ 8) (m c) ≡ m c
     other c lt =
         let ne : c ≢ a = λ e. absurd (omega (arith, lt, e)) in
-        ap (λ x. cond (is_open Byte mapped a && x) (v % 2 ^ 8) (m c)) (ne_eqb c a ne) ∙ ap (λ x. cond x (v % 2 ^ 8) (m c)) (and-false (is_open Byte mapped a))
+        ap (λ x. cond (is_open Byte mapped a && x) (v % 2 ^ 8) (m c)) (ne_eqb c a ne) ∙ ap (λ x. cond x (v % 2 ^ 8) (m c)) (and_right (is_open Byte mapped a) false refl)
 
 -- the stack keeps its words when an element is stored
 stack_kept : (w : Width) (s : State) (p v total b : ℕ) → p + width_bytes w ≤ total → total ≤ UNIT_BYTES → stack_base ≤ b
@@ -146,7 +142,6 @@ module _ (most total : ℕ) (gs : List RGlobal) (starts : ℕ → ℕ) where
       let w = width_of gs a in
       let p = address_of_place (place_in gs starts a i) in
       let here = h.inside a i at.old at.was in
-      let low = h.room in
       let few = h.few in
       let open_at = data_open registers g fs s a i at.old at.was h in
       record {
@@ -154,7 +149,7 @@ module _ (most total : ℕ) (gs : List RGlobal) (starts : ℕ → ℕ) where
         mapped = h.mapped;
         held = h.held;
         stack = stack_same most (word_at s) (word_at (set_at w s p v)) (s.regs 29) fs
-            (λ b le. stack_kept w s (place_in gs starts a i) v total b here few (omega (arith, le, low))) h.stack;
+            (λ b le. stack_kept w s (place_in gs starts a i) v total b here few (omega (arith, le, h.room))) h.stack;
         room = h.room;
         aligned = h.aligned;
         elements = λ b j x is. value at open_at b j x (at.now b j x is);

@@ -48,6 +48,16 @@ has_no_copy hs count ok x y r k c d = other (same_Some (Slot k) (Copied r k) (sy
     other : Slot k ≡ Copied r k → ⊥
     other e = absurd cc
 
+-- one register is written
+words_changed : (s : State) (regs : ℕ → ℕ) (r v : ℕ) → IsWords s → v < 2 ^ 32 → regs r ≡ v → ((q : ℕ) → q ≢ r → regs q ≡ s.regs q)
+    → IsWords (record s { regs = regs })
+words_changed s regs r v words below is others =
+    record { regs = λ q. word q (nat_eq q r) refl; hi = words.hi; lo = words.lo; memory = words.memory }
+  where
+    word : (q : ℕ) (b : Bool) → nat_eq q r ≡ b → regs q < 2 ^ 32
+    word q true e = subst (λ v. v < 2 ^ 32) (sym (ap regs (eqb-true q r e) ∙ is)) below
+    word q false e = subst (λ v. v < 2 ^ 32) (sym (others q (eqb-false q r e))) (words.regs q)
+
 module _ (most total : ℕ) (gs : List RGlobal) (starts : ℕ → ℕ) where
   -- registers, HI and LO change, but not 28 and 29
   pub stands_with : (registers registers' : Places) (g : Arrays) (fs : List Stored) (s : State) (f : ℕ → ℕ) (hi lo : ℕ)
@@ -119,12 +129,17 @@ module _ (most total : ℕ) (gs : List RGlobal) (starts : ℕ → ℕ) where
     pub frame_open : (o : ℕ) → o % 4 ≡ 0 → o < size_of top → (s.regs 29 + o < 2 ^ 32) × (is_open widths.Word s.mapped (s.regs 29 + o) ≡ true)
     frame_open o aligned lt =
         let up = stack_top most (word_at s) (s.regs 29 + size_of top) fs h.stack.1 in
-        let a4 = h.aligned in
         let low = h.room in (
           omega (arith, up, lt),
           ap (λ m. is_open widths.Word m (s.regs 29 + o)) h.mapped
-              ∙ open_stack total (s.regs 29 + o) (omega (arith, a4, aligned)) (omega (arith, low)) (omega (arith, up, lt)),
+              ∙ open_stack total (s.regs 29 + o) (omega (arith, h.aligned, aligned)) (omega (arith, low)) (omega (arith, up, lt)),
         )
+
+    -- a register into a slot
+    stores_slot : (t k v : ℕ) → k < top.count → read 0 s.regs t ≡ v → RunsTo (store_word_at t (4 * k) ∷ []) s (set_word s (s.regs 29 + 4 * k) v)
+    stores_slot t k v lt shows =
+        let place = frame_open (4 * k) (omega arith) (omega (arith, lt)) in
+        subst (λ u. RunsTo (store_word_at t (4 * k) ∷ []) s (set_word s (s.regs 29 + 4 * k) u)) shows (stores_word s t (4 * k) place.0 place.1)
 
     -- an operand into a register
     pub brings : (t v : ℕ) (x : Source) → IsTarget t → Denotes top.count s x v → Sets (bring t x) s t v
@@ -133,8 +148,7 @@ module _ (most total : ℕ) (gs : List RGlobal) (starts : ℕ → ℕ) where
     brings t v (From (Reg r)) ok d = set_sets (move_code t r ∷ []) s t (read 0 s.regs r) v ok d (moves s t r h.words)
     brings t v (From (Copied r k)) ok d = set_sets (move_code t r ∷ []) s t (read 0 s.regs r) v ok d (moves s t r h.words)
     brings t v (From (Slot k)) ok d =
-        let lt = d.0 in
-        let at = frame_open (4 * k) (omega arith) (omega (arith, lt)) in
+        let at = frame_open (4 * k) (omega arith) (omega (arith, d.0)) in
         set_sets (load_word_at t (4 * k) ∷ []) s t (word_at s (s.regs 29 + 4 * k)) v ok d.1 (loads_word s t (4 * k) at.0 at.1)
 
     -- the same, but for an operand that is there already
@@ -192,7 +206,7 @@ module _ (most total : ℕ) (gs : List RGlobal) (starts : ℕ → ℕ) where
         → Stands most total gs starts (places_with registers r (Some v)) g (top ∷ fs) (record s { regs = regs })
     register_written r v regs low high no_copy below is others =
         stands_with registers (places_with registers r (Some v)) g (top ∷ fs) s regs s.hi s.lo
-        (record { regs = λ q. word q (nat_eq q r) refl; hi = (h.words).hi; lo = (h.words).lo; memory = (h.words).memory })
+        (words_changed s regs r v h.words below is others)
         (λ leaf. let l = h.linked leaf in record {
           link = (let ne : 31 ≢ r = omega (arith, high) in others 31 ne) ∙ l.link;
           range = l.range;
@@ -203,10 +217,6 @@ module _ (most total : ℕ) (gs : List RGlobal) (starts : ℕ → ℕ) where
         (let ne : 29 ≢ r = omega (arith, high) in others 29 ne) (let ne : 28 ≢ r = omega (arith, high) in others 28 ne)
         (λ q w ql qh at. by q w ql qh (nat_eq q r) refl at) h
       where
-        word : (q : ℕ) (b : Bool) → nat_eq q r ≡ b → regs q < 2 ^ 32
-        word q true e = subst (λ v. v < 2 ^ 32) (sym (ap regs (eqb-true q r e) ∙ is)) below
-        word q false e = subst (λ v. v < 2 ^ 32) (sym (others q (eqb-false q r e))) ((h.words).regs q)
-
         by : (q w : ℕ) → 4 ≤ q → q < 28 → (b : Bool) → nat_eq q r ≡ b → (if b then Some v else registers q) ≡ Some w → regs q ≡ w
         by q w ql qh true e at = ap regs (eqb-true q r e) ∙ is ∙ same_Some v w at
         by q w ql qh false e at = others q (eqb-false q r e) ∙ h.held q w ql qh at
@@ -216,7 +226,6 @@ module _ (most total : ℕ) (gs : List RGlobal) (starts : ℕ → ℕ) where
     slot_written k v lt below shown =
         let a = s.regs 29 + 4 * k in
         let s' = set_word s a v in
-        let low = h.room in
         let few = h.few in
         let up = stack_top most (word_at s) (s.regs 29 + size_of top) fs h.stack.1 in
         let open_at = frame_open (4 * k) (omega arith) (omega (arith, lt)) in
@@ -241,7 +250,7 @@ module _ (most total : ℕ) (gs : List RGlobal) (starts : ℕ → ℕ) where
           aligned = h.aligned;
           elements = λ b i w at.
               shown_other widths.Word (width_of gs b) s a v (address_of_place (place_in gs starts b i))
-              (stack_apart (width_of gs b) a (place_in gs starts b i) total (omega (arith, low)) (omega (arith, up, lt)) (h.inside b i w at) few)
+              (stack_apart (width_of gs b) a (place_in gs starts b i) total (omega (arith, h.room)) (omega (arith, up, lt)) (h.inside b i w at) few)
               ∙ h.elements b i w at;
           places = h.places;
           linked = λ leaf. let l = h.linked leaf in record {
@@ -311,19 +320,13 @@ module _ (most total : ℕ) (gs : List RGlobal) (starts : ℕ → ℕ) where
   module _ (registers : Places) (g : Arrays) (top : Stored) (fs : List Stored) (s : State) (h : Stands most total gs starts registers g (top ∷ fs) s)
       (ok : AreFrameHomes top.homes top.count) (x r k v : ℕ) (copy : slice_get top.homes x ≡ Some (Copied r k)) (lt : k < top.count)
       (below : v < 2 ^ 32) (regs : ℕ → ℕ) (is : regs r ≡ v) (others : (q : ℕ) → q ≢ r → regs q ≡ s.regs q) where
-    unset : Places
-    unset = places_with top.slots k None
-
-    changed : Stored
-    changed = with_slots top (places_with top.slots k None)
-
     -- the register of a copy is written: then nothing is known of the slot
     copy_changed : Stands most total gs starts registers g (with_slots top (places_with top.slots k None) ∷ fs) (record s { regs = regs })
     copy_changed =
         let l = copy_holds registers g top fs s h x r k copy in
         let range = l.range x r k copy in
         stands_with registers registers g (with_slots top (places_with top.slots k None) ∷ fs) s regs s.hi s.lo
-        (record { regs = λ q. word q (nat_eq q r) refl; hi = (h.words).hi; lo = (h.words).lo; memory = (h.words).memory })
+        (words_changed s regs r v h.words below is others)
         (λ leaf. record {
           link = (let ne : 31 ≢ r = omega (arith, range.1) in others 31 ne) ∙ l.link;
           range = l.range;
@@ -334,10 +337,6 @@ module _ (most total : ℕ) (gs : List RGlobal) (starts : ℕ → ℕ) where
         (λ q w ql qh at. others q (λ e. none-some w (sym (l.idle x r k copy) ∙ ap registers (sym e) ∙ at)) ∙ h.held q w ql qh at)
         (fewer_slots registers g top fs s h (places_with top.slots k None) (λ j w at. some j w (nat_eq j k) at))
       where
-        word : (q : ℕ) (b : Bool) → nat_eq q r ≡ b → regs q < 2 ^ 32
-        word q true e = subst (λ v. v < 2 ^ 32) (sym (ap regs (eqb-true q r e) ∙ is)) below
-        word q false e = subst (λ v. v < 2 ^ 32) (sym (others q (eqb-false q r e))) ((h.words).regs q)
-
         some : (j w : ℕ) (b : Bool) → (if b then None else top.slots j) ≡ Some w → top.slots j ≡ Some w
         some j w true at = absurd (none-some w at)
         some j w false at = at
@@ -358,11 +357,9 @@ module _ (most total : ℕ) (gs : List RGlobal) (starts : ℕ → ℕ) where
         let s1 : State = record s { regs = regs } in
         let gone = with_slots top (places_with top.slots k None) in
         let range = (ok.copied).range x r k copy in
-        let place = frame_open registers g gone fs s1 copy_changed (4 * k) (omega arith) (omega (arith, lt)) in
         let st = slot_written registers g gone fs s1 copy_changed k v lt below
         (λ y q c. ap regs (copy_once top.homes top.count ok y x q r k c copy) ∙ is) in (
-          subst (λ u. RunsTo (store_word_at r (4 * k) ∷ []) s1 (set_word s1 (s1.regs 29 + 4 * k) u))
-              (read_register regs r (omega (arith, range.0)) ∙ is) (stores_word s1 r (4 * k) place.0 place.1),
+          stores_slot registers g gone fs s1 copy_changed r k v lt (read_register regs r (omega (arith, range.0)) ∙ is),
           fewer_slots registers g (with_slots top (places_with (places_with top.slots k None) k (Some v))) fs (set_word s1 (regs 29 + 4 * k) v) st
               (places_with top.slots k (Some v)) (λ j w at. same j w (nat_eq j k) at),
         )
@@ -478,12 +475,7 @@ module _ (most total : ℕ) (gs : List RGlobal) (starts : ℕ → ℕ) where
     pub ends_stands : (is : List Plain) (s0 : State) (t v : ℕ) → t < 4 → (e : Ends is s0 s t v)
         → Stands most total gs starts registers g (top ∷ fs) (record s { regs = e.regs })
     ends_stands is s0 t v lt e = words_kept registers g (top ∷ fs) s e.regs
-        (record { regs = λ q. word q (nat_eq q t) refl; hi = (h.words).hi; lo = (h.words).lo; memory = (h.words).memory })
-        (λ r low high. e.others r (omega (arith, low, lt))) h
-      where
-        word : (q : ℕ) (b : Bool) → nat_eq q t ≡ b → e.regs q < 2 ^ 32
-        word q true is = subst (λ v. v < 2 ^ 32) (sym (ap e.regs (eqb-true q t is) ∙ e.here)) e.below
-        word q false is = subst (λ v. v < 2 ^ 32) (sym (e.others q (eqb-false q t is))) ((h.words).regs q)
+        (words_changed s e.regs t v h.words e.below e.here e.others) (λ r low high. e.others r (omega (arith, low, lt))) h
 
   module _ (deferred registers : Places) (g : Arrays) (top : Stored) (fs : List Stored) (s : State)
       (h : Stands most total gs starts (hide deferred registers) g (top ∷ fs) s) (are_deferred : AreDeferred deferred registers) where
@@ -565,10 +557,7 @@ module _ (most total : ℕ) (gs : List RGlobal) (starts : ℕ → ℕ) where
             let t = inner_of (Some (Slot j)) in
             let is_inner = inner_is (Some (Slot j)) in
             let st = ends_stands (hide deferred registers) g top fs s h is s0 t v is_inner.high e in
-            let place = frame_open (hide deferred registers) g top fs s1 st (4 * j) (omega arith) (omega (arith, lt)) in
-            let store : RunsTo (store_word_at t (4 * j) ∷ []) s1 (set_word s1 (s1.regs 29 + 4 * j) v) =
-            subst (λ u. RunsTo (store_word_at t (4 * j) ∷ []) s1 (set_word s1 (s1.regs 29 + 4 * j) u))
-            (read_register e.regs t is_inner.low ∙ e.here) (stores_word s1 t (4 * j) place.0 place.1) in
+            let store = stores_slot (hide deferred registers) g top fs s1 st t j v lt (read_register e.regs t is_inner.low ∙ e.here) in
             f registers (places_with top.slots j (Some v)) (set_word s1 (s1.regs 29 + 4 * j) v) (longer is (store_word_at t (4 * j) ∷ []) some)
             (runs_then e.runs store)
             (slot_written (hide deferred registers) g top fs s1 st j v lt e.below (λ y r c. absurd (has_no_copy top.homes top.count ok x y r j at c))) are_deferred
@@ -616,10 +605,7 @@ module _ (most total : ℕ) (gs : List RGlobal) (starts : ℕ → ℕ) where
           let is_inner = inner_is (Some (Slot j)) in
           let c = fetches (hide deferred registers) g top fs s h t v y is_inner.low is_inner.high d in
           let s1 : State = record s { regs = c.regs } in
-          let place = frame_open (hide deferred registers) g top fs s1 c.stands (4 * j) (omega arith) (omega (arith, lt)) in
-          let store : RunsTo (store_word_at (operand_register t y) (4 * j) ∷ []) s1 (set_word s1 (s1.regs 29 + 4 * j) v) =
-          subst (λ u. RunsTo (store_word_at (operand_register t y) (4 * j) ∷ []) s1 (set_word s1 (s1.regs 29 + 4 * j) u)) c.here
-          (stores_word s1 (operand_register t y) (4 * j) place.0 place.1) in
+          let store = stores_slot (hide deferred registers) g top fs s1 c.stands (operand_register t y) j v lt c.here in
           f registers (places_with top.slots j (Some v)) (set_word s1 (s1.regs 29 + 4 * j) v)
           (longer_behind (fetch t y) (store_word_at (operand_register t y) (4 * j) ∷ []) (omega arith)) (runs_then c.runs store)
           (slot_written (hide deferred registers) g top fs s1 c.stands j v lt below (λ y r c. absurd (has_no_copy top.homes top.count ok x y r j at c))) are_deferred
@@ -675,11 +661,8 @@ module _ (most total : ℕ) (gs : List RGlobal) (starts : ℕ → ℕ) where
             f registers (places_with top.slots j (Some v)) (set_word s1 (c.regs 29 + 4 * j) v) (runs_then c.runs m.0) m.1 (λ q qh ne. c.others q ne)
         by (Some (Slot j)) at f =
             let lt = ok.by x (Slot j) at in
-            let place = frame_open (hide deferred registers) g top fs s h (4 * j) (omega arith) (omega (arith, lt)) in
-            let store : RunsTo (store_word_at t (4 * j) ∷ []) s (set_word s (s.regs 29 + 4 * j) v) =
-            subst (λ u. RunsTo (store_word_at t (4 * j) ∷ []) s (set_word s (s.regs 29 + 4 * j) u)) shows
-            (stores_word s t (4 * j) place.0 place.1) in
-            f registers (places_with top.slots j (Some v)) (set_word s (s.regs 29 + 4 * j) v) store
+            f registers (places_with top.slots j (Some v)) (set_word s (s.regs 29 + 4 * j) v)
+            (stores_slot (hide deferred registers) g top fs s h t j v lt shows)
             (slot_written (hide deferred registers) g top fs s h j v lt below (λ y r c. absurd (has_no_copy top.homes top.count ok x y r j at c))) (λ q qh ne. refl)
 
     -- a constant, which needn't be put into a caller-saved register yet

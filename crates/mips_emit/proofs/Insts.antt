@@ -41,7 +41,7 @@ use Rattle.mips_emit.specs.declared.element.Reach.TheVariants.{ByPointer, ByScra
 use Rattle.mips_emit.specs.declared.offset.Offset.{Offset}
 use Rattle.mips_emit.specs.Offsets.{addend, offset_from, offset_of, sum_offset, or_offset, offset_past, offset_in, index_with}
 use Rattle.rtl.specs.declared.operator.Op.TheVariants.{Add, Sub}
-use Rattle.std.proofs.lemmas.Bool.{eqb-false}
+use Rattle.std.proofs.lemmas.Bool.{eqb-false, and_parts}
 use Rattle.mips_emit.specs.Elements.{width_of, width_bytes, element_place, place_in, address_of_place, data_middle, near, base_code}
 use Rattle.mips_emit.specs.Elements.{base_offset, base_word, shares_base, base_index, shifted_offset, reach_by, element_base, element_offset}
 use Rattle.mips_emit.specs.Code.{fetch, operand_register, into, operation, immediate_of, is_symmetric, turned_immediate_of, turned_less_of, code_by_less, code_by_left}
@@ -107,14 +107,6 @@ into_target hs count x ok = go (slice_get hs x) refl
     go (Some (Slot k)) e = inner_target (Some (Slot k))
     go (Some (Copied r k)) e = (let range = (ok.copied).range x r k e in record { low = omega (arith, range.0); high = omega (arith, range.1) })
 
-pub and_first : (a b : Bool) → (a && b) ≡ true → a ≡ true
-and_first true b e = refl
-and_first false b e = absurd (true≢false (sym e))
-
-pub and_second : (a b : Bool) → (a && b) ≡ true → b ≡ true
-and_second true b e = e
-and_second false b e = absurd (true≢false (sym e))
-
 -- an operand away from the lower registers isn't shown by register 2
 operand_register_apart : (x : Source) → IsAway x → operand_register 1 x ≢ 2
 operand_register_apart (From (Reg r)) away = λ e. absurd (omega (arith, e, away.0))
@@ -139,10 +131,8 @@ home_register : (hs : List Home) (count x : ℕ) → AreFrameHomes hs count → 
 home_register hs count x ok = go (slice_get hs x) refl
   where
     go : (o : Option Home) → slice_get hs x ≡ o → IsRegister o
-    go None e = tt
     go (Some (Reg r)) e = ok.by x (Reg r) e
-    go (Some (Slot k)) e = tt
-    go (Some (Copied r k)) e = tt
+    go _ e = tt
 
 -- what an operator leaves in a register, of which the right operand may be known
 module _ (op : Op) (v w u : ℕ) (f f' : ℕ → ℕ) (old : Option Offset) (e : op_result op v w ≡ Some u) (before : IsOffset old f) where
@@ -170,19 +160,13 @@ module _ (op : Op) (v w u : ℕ) (f f' : ℕ → ℕ) (old : Option Offset) (e :
 
       by : (right : Option ℕ) (x : Source) → IsAway x → ((r : ℕ) → x ≡ From (Reg r) → f r ≡ v) → ((c : ℕ) → right ≡ Some c → c ≡ w)
           → IsOffset (or_offset (offset_of t op right x) (offset_past (Some (Reg t)) old)) f'
-      by None x away at said = others
-      by (Some c) Zero away at said = others
-      by (Some c) (Word n) away at said = others
-      by (Some c) (From (Slot j)) away at said = others
-      by (Some c) (From (Copied r j)) away at said = others
       by (Some c) (From (Reg r)) away at said = from r c away.0 away.1 (at r refl) (said c refl) (addend op c) refl
+      by _ _ away at said = others
 
   sum_known : (l : Option Home) (right : Option ℕ) (x : Source) → IsRegister l → IsAway x → ((r : ℕ) → x ≡ From (Reg r) → f r ≡ v)
       → ((c : ℕ) → right ≡ Some c → c ≡ w) → Keeps l f f' → Holds l f' u → IsOffset (or_offset (sum_offset l op right x) (offset_past l old)) f'
-  sum_known None right x ok away at said keeps is = offset_written None old f f' keeps before
-  sum_known (Some (Slot j)) right x ok away at said keeps is = offset_written (Some (Slot j)) old f f' keeps before
-  sum_known (Some (Copied r j)) right x ok away at said keeps is = offset_written (Some (Copied r j)) old f f' keeps before
   sum_known (Some (Reg t)) right x ok away at said keeps is = sum_held t right x ok.0 ok.1 away at said keeps is
+  sum_known l right x ok away at said keeps is = offset_written l old f f' keeps before
 
 -- a register that is an operand
 held_operand : (count : ℕ) (s : State) (x : Source) (v : ℕ) → IsAway x → Denotes count s x v → (r : ℕ) → x ≡ From (Reg r) → s.regs r ≡ v
@@ -422,9 +406,7 @@ module _ (most total : ℕ) (gs : List RGlobal) (starts : ℕ → ℕ) where
           → m.regs 30 ≡ wrap (width_bytes (width_of gs a) * m.regs (base_index (width_of gs a) (starts a) (offset_in offset t)) + base_word (starts a))
           → IsKept gs starts (this t) m.regs
       now_kept t m away index base =
-          let low = away.0 in
-          let register = index.register in
-          kept_here gs starts a (offset_in offset t) m.regs (omega (arith, low, register)) index.low base
+          kept_here gs starts a (offset_in offset t) m.regs (omega (arith, away.0, index.register)) index.low base
 
       -- from a base that is made in register 30, and kept
       anew : (t : ℕ) → IsAway (From (Reg t)) → read 0 s.regs t ≡ i
@@ -435,9 +417,8 @@ module _ (most total : ℕ) (gs : List RGlobal) (starts : ℕ → ℕ) where
           let o = offset_in offset t in
           let q = base_index (width_of gs a) (starts a) o in
           let index = index_of_register t away in
-          let register = index.register in
-          let q_low : 4 ≤ q = of_index (λ q. 4 ≤ q) (width_of gs a) (starts a) o (omega (arith, low, register)) index.low in
-          let q_high : q < 28 = of_index (λ q. q < 28) (width_of gs a) (starts a) o (omega (arith, high, register)) index.high in
+          let q_low : 4 ≤ q = of_index (λ q. 4 ≤ q) (width_of gs a) (starts a) o (omega (arith, low, index.register)) index.low in
+          let q_high : q < 28 = of_index (λ q. q < 28) (width_of gs a) (starts a) o (omega (arith, high, index.register)) index.high in
           let b = made registers g (top ∷ fs) s 30 q a i v (record { low = omega arith; high = omega arith }) (λ e. absurd (omega (arith, e)))
           (λ e. absurd (omega (arith, e))) (omega (arith, q_low)) there h in
           let others : (r : ℕ) → 4 ≤ r → r ≢ 30 → b.regs r ≡ s.regs r = λ r up ne. b.others r ne (omega (arith, up)) in
@@ -456,20 +437,20 @@ module _ (most total : ℕ) (gs : List RGlobal) (starts : ℕ → ℕ) where
           → Reached (ByKept (offset_in offset t).word) (From (Reg t)) (this t)
       again t away is None same e = absurd (true≢false (sym e))
       again t away is (Some j) same e =
-          let low = away.0 in
           let o = offset_in offset t in
           let b = j.global in
           let p = base_index (width_of gs b) (starts b) j.index in
           let q = base_index (width_of gs a) (starts a) o in
-          let register : p ≡ q = eqb-true p q (and_first (nat_eq p q) (shares_base gs starts b a) e) in
-          let shares = and_second (nat_eq p q) (shares_base gs starts b a) e in
+          let shared = and_parts (nat_eq p q) (shares_base gs starts b a) e in
+          let register : p ≡ q = eqb-true p q shared.0 in
           let bytes = width_bytes (width_of gs b) in
           let bytes' = width_bytes (width_of gs a) in
           let word = base_word (starts b) in
           let word' = base_word (starts a) in
-          let same_bytes : bytes ≡ bytes' = eqb-true bytes bytes' (and_first (nat_eq bytes bytes') (nat_eq word word') shares) in
-          let same_word : word ≡ word' = eqb-true word word' (and_second (nat_eq bytes bytes') (nat_eq word word') shares) in
-          let at : s.regs t ≡ i = sym (read_register s.regs t (omega (arith, low))) ∙ is in
+          let both = and_parts (nat_eq bytes bytes') (nat_eq word word') shared.1 in
+          let same_bytes : bytes ≡ bytes' = eqb-true bytes bytes' both.0 in
+          let same_word : word ≡ word' = eqb-true word word' both.1 in
+          let at : s.regs t ≡ i = sym (read_register s.regs t (omega (arith, away.0))) ∙ is in
           let index = index_of_register t away in
           let base : s.regs 30 ≡ wrap (bytes' * s.regs q + word') =
           k.base j same ∙ ap₂ (λ n m. wrap (n * s.regs p + m)) same_bytes same_word ∙ ap (λ q. wrap (bytes' * s.regs q + word')) register in

@@ -1,8 +1,8 @@
 -- What pseudo-registers are known to hold, and what operands mean in a state.
 use Rattle.std.proofs.Common.{◌≡◌, ◌≢◌, ℕ, ◌+◌, ◌*◌, ◌/◌, ◌%◌, ◌^◌, ◌<◌, ◌≤◌, Bool, true, false, List, [], ◌∷◌, ◌++◌, length, length-append}
-use Rattle.std.proofs.Common.{Option, Some, None, refl, sym, ap, ◌∙◌, subst, arith, true≢false, eq-eqb, eqb-true, nat_eq}
+use Rattle.std.proofs.Common.{Option, Some, None, refl, sym, ap, ◌∙◌, subst, arith, true≢false, eq-eqb, eqb-true, ne_eqb, nat_eq}
 use Rattle.std.specs.Prelude.{if◌then◌else◌, not, slice_get, ◌||◌}
-use Rattle.std.proofs.lemmas.Bool.{eqb-false}
+use Rattle.std.proofs.lemmas.Bool.{eqb-false, or_parts, cond_both, cond-false}
 use Rattle.std.proofs.lemmas.Option.{same_Some, none-some}
 use Rattle.words.specs.declared.width.Width.{Width}
 use Rattle.words.specs.declared.width.Width.TheVariants as widths
@@ -128,11 +128,7 @@ shown_deferred deferred registers r v q w e = by (nat_eq q r) e
 
 -- what other places hold beside one that is written
 kept_beside : (places : Places) (r v q w : ℕ) → q ≢ r → places q ≡ Some w → places_with places r (Some v) q ≡ Some w
-kept_beside places r v q w ne e = go (nat_eq q r) refl
-  where
-    go : (b : Bool) → nat_eq q r ≡ b → (if b then Some v else places q) ≡ Some w
-    go false t = e
-    go true t = absurd (ne (eqb-true q r t))
+kept_beside places r v q w ne e = cond-false (nat_eq q r) (Some v) (places q) (ne_eqb q r ne) ∙ e
 
 -- a pseudo-register is written
 pub known_register : (known : Places) (hs : List Home) (count : ℕ) (registers slots : Places) (x r v : ℕ) (o : Option ℕ) → AreFrameHomes hs count
@@ -355,11 +351,7 @@ offset_here o f low low' high high' is = record {
 
 -- a base is made from one register or the other
 pub of_index : (P : ℕ → Type 0) (w : Width) (start : ℕ) (o : Offset) → P o.register → P o.base → P (base_index w start o)
-of_index P w start o p q = go (fits_offset w start o.word)
-  where
-    go : (b : Bool) → P (if b then o.base else o.register)
-    go true = q
-    go false = p
+of_index P w start o p q = cond_both (fits_offset w start o.word) o.base o.register P (λ _. q) (λ _. p)
 
 -- what was known of registers that are as they were
 kept_as : (gs : List RGlobal) (starts : ℕ → ℕ) (kept : Option Kept) (f f' : ℕ → ℕ) → f' 30 ≡ f 30
@@ -393,12 +385,9 @@ offset_same offset f f' same h = offset_as offset f f' (λ o e. let high = h.hig
 
 -- and past a write
 touched : (o : Offset) (r : ℕ) → touches o r ≡ false → (o.register ≢ r) × (o.base ≢ r)
-touched o r e = go (nat_eq o.register r) (nat_eq o.base r) refl refl e
-  where
-    go : (a b : Bool) → nat_eq o.register r ≡ a → nat_eq o.base r ≡ b → (a || b) ≡ false → (o.register ≢ r) × (o.base ≢ r)
-    go true b ea eb e = absurd (true≢false e)
-    go false true ea eb e = absurd (true≢false e)
-    go false false ea eb e = (eqb-false o.register r ea, eqb-false o.base r eb)
+touched o r e =
+    let parts = or_parts (nat_eq o.register r) (nat_eq o.base r) e in
+    (eqb-false o.register r parts.0, eqb-false o.base r parts.1)
 
 pub kept_written : (gs : List RGlobal) (starts : ℕ → ℕ) (l : Option Home) (kept : Option Kept) (f f' : ℕ → ℕ) → Keeps l f f' → IsKept gs starts kept f
     → IsKept gs starts (kept_past l kept) f'
@@ -470,22 +459,19 @@ pub record IsIndex (o : Offset) (t : ℕ) (f : ℕ → ℕ) : Type 0 where
 
 pub index_is : (offset : Option Offset) (t : ℕ) (f : ℕ → ℕ) → 4 ≤ t → t < 28 → f t < 2 ^ 32 → IsOffset offset f → IsIndex (offset_in offset t) t f
 index_is None t f low high below h = record { register = refl; low = low; high = high; sum = omega (arith, below) }
-index_is (Some o) t f low high below h = go (nat_eq o.register t) refl
-  where
-    go : (b : Bool) → nat_eq o.register t ≡ b → IsIndex (if b then o else no_offset t) t f
-    go true e = record { register = eqb-true o.register t e; low = (h.low o refl).1; high = (h.high o refl).1; sum = h.sum o refl }
-    go false e = record { register = refl; low = low; high = high; sum = omega (arith, below) }
+index_is (Some o) t f low high below h = cond_both (nat_eq o.register t) o (no_offset t) (λ o. IsIndex o t f)
+    (λ e. record { register = eqb-true o.register t e; low = (h.low o refl).1; high = (h.high o refl).1; sum = h.sum o refl })
+    (λ _. record { register = refl; low = low; high = high; sum = omega (arith, below) })
 
 pub index_same : (o : Offset) (t : ℕ) (f f' : ℕ → ℕ) → 4 ≤ t → t < 28 → ((q : ℕ) → 4 ≤ q → q ≢ 30 → f' q ≡ f q) → IsIndex o t f → IsIndex o t f'
 index_same o t f f' low high same h =
     let register = h.register in
-    let base = h.high in
     record {
       register = h.register;
       low = h.low;
       high = h.high;
       sum = same o.register (omega (arith, low, register)) (omega (arith, high, register)) ∙ h.sum
-          ∙ ap (λ v. wrap (v + o.word)) (sym (same o.base h.low (omega (arith, base))));
+          ∙ ap (λ v. wrap (v + o.word)) (sym (same o.base h.low (omega (arith, h.high))));
     }
 
 -- instructions that end in a write of register d, from a state m that they have reached but for it

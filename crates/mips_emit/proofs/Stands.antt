@@ -3,6 +3,7 @@ use Rattle.std.proofs.Common.{◌≡◌, ℕ, ◌+◌, ◌*◌, ◌/◌, ◌%◌
 use Rattle.std.proofs.Common.{arith, eq-eqb, lt-ltb, le-leb, Option, None, sym}
 use Rattle.std.proofs.lemmas.Option.{none-some}
 use Rattle.std.specs.Prelude.{nat_lt, nat_le, ◌||◌, slice_get}
+use Rattle.std.proofs.lemmas.Bool.{or_right}
 use Rattle.words.specs.declared.width.Width.{Width}
 use Rattle.words.specs.declared.width.Width.TheVariants.{Word, Byte}
 use Rattle.runs.specs.Stores.{Places, Arrays, element_at}
@@ -70,9 +71,8 @@ pub stack_room : (most : ℕ) (m : ℕ → ℕ) (at : ℕ) (fs : List Stored) �
 stack_room most m at [] h = omega (arith, h)
 stack_room most m at (f ∷ fs) h =
     let rest = stack_room most m (at + size_of f) fs h.1 in
-    let fits = (h.0).fits in
     let e : length (f ∷ fs) * most ≡ most + length fs * most = omega arith in
-    omega (arith, rest, fits, e)
+    omega (arith, rest, (h.0).fits, e)
 
 -- in a leaf the link is still in register 31, and registers that no home is hold the copies of slots
 pub record LeafHolds (f : Stored) (registers : Places) (regs : ℕ → ℕ) : Type 0 where
@@ -128,11 +128,7 @@ pub open_stack : (total a : ℕ) → a % 4 ≡ 0 → stack_base ≤ a → a < st
 open_stack total a aligned low high =
     ap (λ b. b && is_mapped total a) (eq-eqb (a % 4) 0 aligned)
     ∙ ap₂ (λ x y. (nat_le data_base a && nat_lt a (data_base + 4 * ((total + 3) / 4))) || (x && y)) (le-leb stack_base a low) (lt-ltb a stack_end high)
-    ∙ two (nat_le data_base a && nat_lt a (data_base + 4 * ((total + 3) / 4)))
-  where
-    two : (b : Bool) → (b || (true && true)) ≡ true
-    two true = refl
-    two false = refl
+    ∙ or_right (nat_le data_base a && nat_lt a (data_base + 4 * ((total + 3) / 4))) (true && true) refl
 
 -- an element of data
 pub element_aligned : (w : Width) (start i : ℕ) → start % 4 ≡ 0 → is_aligned w (address_of_place (element_place w start i)) ≡ true

@@ -2,7 +2,7 @@
 use Rattle.std.proofs.Common.{◌≡◌, ◌≢◌, ℕ, ℤ, pos, negsuc, zero, suc, ◌+◌, ◌-◌, ◌*◌, ◌/◌, ◌%◌, ◌^◌, ◌<◌, ◌≤◌, Bool, true, false, cond, ◌&&◌}
 use Rattle.std.proofs.Common.{List, [], ◌∷◌, Option, Some, None, refl, sym, ap, ap₂, ◌∙◌, arith, eq-eqb, eqb-true, ne_eqb, lt-ltb, ltb-true}
 use Rattle.std.specs.Prelude.{if◌then◌else◌, nat_eq, nat_lt, bit_or}
-use Rattle.std.proofs.lemmas.Bool.{ltb-false}
+use Rattle.std.proofs.lemmas.Bool.{ltb-false, and_right, cond_both}
 use Rattle.std.proofs.lemmas.Nat.{or_shifted}
 use Rattle.words.specs.declared.operator.Operator.TheVariants as operators
 use Rattle.words.specs.declared.width.Width.{Width}
@@ -81,12 +81,8 @@ target t h = ap₂ (λ x y. x && y) (lt-ltb 0 t h.low) (lt-ltb t 32 h.high)
 pub put_here : (f : ℕ → ℕ) (t v : ℕ) → IsTarget t → put f t v t ≡ v
 put_here f t v h = ap₂ (λ x y. cond (x && y) v (f t)) (target t h) (eq-eqb t t refl)
 
-and-false : (a : Bool) → (a && false) ≡ false
-and-false true = refl
-and-false false = refl
-
 pub put_other : (f : ℕ → ℕ) (t v r : ℕ) → r ≢ t → put f t v r ≡ f r
-put_other f t v r ne = ap (λ x. cond (is_register t && x) v (f r)) (ne_eqb r t ne) ∙ ap (λ x. cond x v (f r)) (and-false (is_register t))
+put_other f t v r ne = ap (λ x. cond (is_register t && x) v (f r)) (ne_eqb r t ne) ∙ ap (λ x. cond x v (f r)) (and_right (is_register t) false refl)
 
 pub read_register : (f : ℕ → ℕ) (r : ℕ) → 0 < r → read 0 f r ≡ f r
 read_register f zero lt = absurd (omega (arith, lt))
@@ -138,11 +134,7 @@ unfolding op_value
 shift_value a b = refl
 
 pub half_word : (w : ℕ) → w < 2 ^ 32 → word_of_offset (half w) ≡ w
-half_word w lt = go (nat_lt w 32768)
-  where
-    go : (b : Bool) → word_of_offset (if b then pos w else negsuc (4294967295 - w)) ≡ w
-    go true = omega (arith, lt)
-    go false = omega (arith, lt)
+half_word w lt = cond_both (nat_lt w 32768) (pos w) (negsuc (4294967295 - w)) (λ z. word_of_offset z ≡ w) (λ _. omega (arith, lt)) (λ _. omega (arith, lt))
 
 -- one register into another
 pub moves : (s : State) (t r : ℕ) → IsWords s → RunsTo (move_code t r ∷ []) s (set s t (read 0 s.regs r))

@@ -86,10 +86,9 @@ fetch t _ = []
 
 abbrev pub operand_register : ℕ → Source → ℕ
 operand_register t Zero = 0
-operand_register t (Word w) = t
 operand_register t (From (Reg r)) = r
-operand_register t (From (Slot k)) = t
 operand_register t (From (Copied r k)) = r
+operand_register t _ = t
 
 -- an operand into a register of its own
 abbrev pub bring : ℕ → Source → List Plain
@@ -257,9 +256,8 @@ multiple c =
     else None
 
 abbrev pub multiple_of : Op → (known : Option ℕ) → Option ShiftedSum
-multiple_of Mul None = None
 multiple_of Mul (Some c) = multiple c
-multiple_of _ known = None
+multiple_of _ _ = None
 
 abbrev pub multiple_code : (t d : ℕ) → ShiftedSum → Source → List Plain
 multiple_code t d m x = fetch t x ++ Shift Sll SCRATCH_2 (operand_register t x) m.amount ∷ Alu m.op d SCRATCH_2 (operand_register t x) ∷ []
@@ -289,11 +287,10 @@ context_of s = record { globals = s.globals.now; starts = slice_index s.starts.n
 
 -- whether the base that is kept is one of a global's elements at an index
 abbrev pub holds_base : List RGlobal → (starts : ℕ → ℕ) → Option Kept → (a : ℕ) → (index : Option Offset) → Bool
-holds_base globals starts None a index = false
-holds_base globals starts (Some k) a None = false
 holds_base globals starts (Some k) a (Some o) =
     nat_eq (base_index (width_of globals k.global) (starts k.global) k.index) (base_index (width_of globals a) (starts a) o)
     && shares_base globals starts k.global a
+holds_base globals starts _ a _ = false
 
 -- how an element of a global is reached, whose index may be known or in a register
 abbrev pub reach_with : List RGlobal → (starts : ℕ → ℕ) → Option Kept → (a : ℕ) → (known : Option ℕ) → (index : Option Offset) → Reach
@@ -305,10 +302,9 @@ reach_of globals starts at facts a i = reach_with globals starts facts.kept a (k
 
 -- what stands before an element is used, from the operand that is its index
 abbrev pub element_code : Width → (start : ℕ) → Reach → Source → List Plain
-element_code w start (ByPointer p) x = []
 element_code w start ByScratch x = fetch SCRATCH_1 x ++ base_code w SCRATCH_1 start (operand_register SCRATCH_1 x)
-element_code w start (ByKept c) x = []
 element_code w start (ByNew q c) x = base_code w KEPT_BASE start q
+element_code w start _ x = []
 
 abbrev pub bin_code : Locations → Facts → Op → (d a b : ℕ) → List Plain
 bin_code at facts op d a b =
@@ -335,10 +331,8 @@ nop = Shift Sll 0 0 0
 
 -- a constant: nothing yet for a caller-saved register
 abbrev pub const_code : Option Home → ℕ → List Plain
-const_code None w = []
 const_code (Some (Reg r)) w = if is_callee_saved r then bring r (word_source w) else nop ∷ []
-const_code (Some (Slot k)) w = put_at (Some (Slot k)) (word_source w)
-const_code (Some (Copied r k)) w = put_at (Some (Copied r k)) (word_source w)
+const_code l w = put_at l (word_source w)
 
 abbrev pub inst_code : List RGlobal → (starts : ℕ → ℕ) → Locations → Facts → RInst → List Plain
 inst_code globals starts at facts (Const d w) = const_code (at d) (wrap w)

@@ -1,6 +1,7 @@
 -- Operators that are one with the exit after them: comparisons with a branch on their result, any with a return of it. And the code of
 -- several instructions.
 use Rattle.std.specs.Prelude.{ℕ, Bool, true, false, not, ◌&&◌, nat_eq, if◌then◌else◌, List, [], ◌∷◌, ◌++◌, Option, Some, None}
+use Rattle.std.specs.Option.{is_some}
 use Rattle.mips_isa.specs.declared.inst.PairTest.TheVariants.{Equal, NotEqual}
 use Rattle.mips_isa.specs.declared.inst.ZeroTest.TheVariants.{AtMostZero, AboveZero, BelowZero, AtLeastZero}
 use Rattle.mips_isa.specs.declared.inst.Plain.{Plain}
@@ -32,13 +33,9 @@ abbrev pub is_known_zero : Option ℕ → Bool
 is_known_zero None = false
 is_known_zero (Some w) = nat_eq w 0
 
-abbrev pub is_there : Option Plain → Bool
-is_there None = false
-is_there (Some i) = true
-
 -- a word that an operator has in its instruction
 abbrev pub is_immediate : Op → (known : Option ℕ) → Bool
-is_immediate op known = is_there (immediate_of op SCRATCH_1 0 known)
+is_immediate op known = is_some (immediate_of op SCRATCH_1 0 known)
 
 abbrev pub opposite_if : Bool → Form
 opposite_if b = if b then ByOpposite else ByResult
@@ -63,9 +60,8 @@ truth_of None = None
 truth_of (Some u) = Some (not (nat_eq u 0))
 
 abbrev pub known_truth : Op → (left right : Option ℕ) → Option Bool
-known_truth op None r = None
-known_truth op (Some a) None = None
 known_truth op (Some a) (Some b) = truth_of (op_result op a b)
+known_truth op _ _ = None
 
 -- a comparison of known words isn't made
 abbrev pub form_with : (truth : Option Bool) → Option Form → Option Form
@@ -191,8 +187,7 @@ tested (Some m) c = if nat_eq m.result c then Some m else None
 -- a branch: on what was compared, or on an operand, where its word isn't known
 abbrev pub branch_code : (tested : Option Comparison) → (known : Option ℕ) → Source → List Plain
 branch_code None None x = fetch SCRATCH_1 x
-branch_code None (Some w) x = []
-branch_code (Some m) known x = []
+branch_code _ _ x = []
 
 abbrev pub branch_exit : (tested : Option Comparison) → (known : Option ℕ) → Source → (t e : ℕ) → Exit
 branch_exit None None x t e = BranchPair NotEqual (operand_register SCRATCH_1 x) 0 t e

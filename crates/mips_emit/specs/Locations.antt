@@ -62,25 +62,20 @@ with_fact x word facts = take KEPT_FACTS ((let f : Fact = record { register = x;
 
 -- a constant isn't put into a caller-saved register, unless that is a copy; what is put anywhere else is there
 abbrev pub deferred_const : Option Home → ℕ → Places → Places
-deferred_const None w deferred = deferred
 deferred_const (Some (Reg r)) w deferred = places_with deferred r (if is_callee_saved r then None else Some w)
-deferred_const (Some (Slot k)) w deferred = deferred
-deferred_const (Some (Copied r k)) w deferred = deferred
+deferred_const _ w deferred = deferred
 
 abbrev pub deferred_none : Option Home → Places → Places
-deferred_none None deferred = deferred
 deferred_none (Some (Reg r)) deferred = places_with deferred r None
-deferred_none (Some (Slot k)) deferred = deferred
-deferred_none (Some (Copied r k)) deferred = deferred
+deferred_none _ deferred = deferred
 
 -- ---- operands
 
 -- a word that is known, and one that a register holds besides
 abbrev pub known_source : ℕ → Option Home → Source
 known_source w (Some (Reg r)) = From (Reg r)
-known_source w (Some (Slot k)) = Word w
 known_source w (Some (Copied r k)) = From (Reg r)
-known_source w None = Word w
+known_source w _ = Word w
 
 -- an operand, from the word that it is known to hold and where it is
 abbrev pub source : (known : Option ℕ) → Option Home → Source
@@ -110,12 +105,8 @@ operand at facts x = deferred_source (deferred_at facts.deferred (at x)) (source
 
 -- the register of an index that is no known word
 abbrev pub index_register : (known : Option ℕ) → Source → Option ℕ
-index_register (Some w) x = None
-index_register None Zero = None
-index_register None (Word w) = None
 index_register None (From (Reg r)) = Some r
-index_register None (From (Slot k)) = None
-index_register None (From (Copied r k)) = None
+index_register _ _ = None
 
 abbrev pub index_of : Locations → Facts → ℕ → Option Offset
 index_of at facts i = index_with facts.offset (index_register (known_in facts i) (operand at facts i))
@@ -131,42 +122,27 @@ kept_without r None = None
 kept_without r (Some k) = if touches k.index r then None else Some k
 
 abbrev pub kept_past : Option Home → Option Kept → Option Kept
-kept_past None kept = kept
 kept_past (Some (Reg r)) kept = kept_without r kept
-kept_past (Some (Slot k)) kept = kept
 kept_past (Some (Copied r k)) kept = kept_without r kept
+kept_past _ kept = kept
+
+abbrev pub written : Option Home → ℕ → Option ℕ → Facts → Facts
+written l d word facts = record {
+  known = with_fact d word facts.known;
+  deferred = deferred_none l facts.deferred;
+  kept = kept_past l facts.kept;
+  offset = offset_past l facts.offset;
+}
 
 abbrev pub learned : Locations → RInst → Facts → Facts
-learned at (Const d w) facts = record {
-  known = with_fact d (Some (wrap w)) facts.known;
-  deferred = deferred_const (at d) (wrap w) facts.deferred;
-  kept = kept_past (at d) facts.kept;
-  offset = offset_past (at d) facts.offset;
-}
-learned at (Move d a) facts = record {
-  known = with_fact d (known_in facts a) facts.known;
-  deferred = deferred_none (at d) facts.deferred;
-  kept = kept_past (at d) facts.kept;
-  offset = offset_past (at d) facts.offset;
-}
-learned at (Bin op d a b) facts = record {
-  known = with_fact d None facts.known;
-  deferred = deferred_none (at d) facts.deferred;
-  kept = kept_past (at d) facts.kept;
+learned at (Const d w) facts =
+    record (written (at d) d (Some (wrap w)) facts) { deferred = deferred_const (at d) (wrap w) facts.deferred }
+learned at (Move d a) facts = written (at d) d (known_in facts a) facts
+learned at (Bin op d a b) facts = record (written (at d) d None facts) {
   offset = or_offset (sum_offset (at d) op (known_in facts b) (operand at facts a)) (offset_past (at d) facts.offset);
 }
-learned at (Load d a i) facts = record {
-  known = with_fact d None facts.known;
-  deferred = deferred_none (at d) facts.deferred;
-  kept = kept_past (at d) (kept_with a (index_of at facts i) facts.kept);
-  offset = offset_past (at d) facts.offset;
-}
-learned at (Store a i b) facts = record {
-  known = facts.known;
-  deferred = facts.deferred;
-  kept = kept_with a (index_of at facts i) facts.kept;
-  offset = facts.offset;
-}
+learned at (Load d a i) facts = written (at d) d None (record facts { kept = kept_with a (index_of at facts i) facts.kept })
+learned at (Store a i b) facts = record facts { kept = kept_with a (index_of at facts i) facts.kept }
 
 -- and after several
 abbrev pub known_after : Locations → List RInst → Facts → Facts
@@ -230,6 +206,5 @@ FitsPlace None = Unit {0}
 FitsPlace (Some h) = FitsHome h
 
 abbrev pub FitsSource : Source → Type 0
-FitsSource Zero = Unit {0}
-FitsSource (Word w) = Unit {0}
 FitsSource (From h) = FitsHome h
+FitsSource _ = Unit {0}

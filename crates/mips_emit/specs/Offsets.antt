@@ -25,12 +25,8 @@ offset_from t r None = None
 offset_from t r (Some c) = if nat_eq r t then None else Some (record { register = t; base = r; word = c })
 
 abbrev pub offset_of : (t : ℕ) → Op → (right : Option ℕ) → Source → Option Offset
-offset_of t op None x = None
-offset_of t op (Some c) Zero = None
-offset_of t op (Some c) (Word w) = None
 offset_of t op (Some c) (From (Reg r)) = offset_from t r (addend op c)
-offset_of t op (Some c) (From (Slot k)) = None
-offset_of t op (Some c) (From (Copied r k)) = None
+offset_of t op _ _ = None
 
 -- what an operator on operand x and what is known of the right one leaves in a home
 abbrev pub sum_offset : Option Home → Op → (right : Option ℕ) → Source → Option Offset
@@ -51,10 +47,9 @@ offset_without r (Some o) = if touches o r then None else Some o
 
 -- it is so while neither register is written
 abbrev pub offset_past : Option Home → Option Offset → Option Offset
-offset_past None o = o
 offset_past (Some (Reg r)) o = offset_without r o
-offset_past (Some (Slot k)) o = o
 offset_past (Some (Copied r k)) o = offset_without r o
+offset_past _ o = o
 
 -- what is known of a register
 abbrev pub offset_in : Option Offset → ℕ → Offset

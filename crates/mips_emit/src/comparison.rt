@@ -5,13 +5,12 @@
 ghost use Rattle.std.specs.Prelude.{◌≡◌, ◌++◌, ◌∷◌, [], Some};
 ghost use Rattle.mblock.specs.declared.exit.Exit.TheVariants.{BranchPair, BranchZero};
 ghost use Rattle.rtl.specs.declared.operator.Op.TheVariants.{LtS, LeS};
-ghost use Rattle.mips_homes.specs.declared.convention.TheConstants.{SCRATCH_1};
 ghost use Rattle.mips_emit.specs.Frames.{IsReachable};
 ghost use Rattle.mips_emit.specs.Locations.{facts_of, locations, FitsSource};
 ghost use Rattle.mips_emit.specs.Comparisons.{is_known_zero, is_immediate, opposite_if, form_of, opposite_op, known_truth, form_with};
 ghost use Rattle.mips_emit.specs.Comparisons.{comparison_code, comparison_exit, is_asked, form_for, is_caller_saved, is_result, returned};
 ghost use Rattle.mips_emit.specs.Comparisons.{operator_comparison, comparison_of, FitsComparison, tested};
-ghost use Rattle.mips_emit.specs.Code.{fetch, nop, op_code};
+ghost use Rattle.mips_emit.specs.Code.{fetch, nop};
 ghost use Rattle.mips_emit.specs.Prefixes.{Emits};
 
 use crate::constant::emit_one;
@@ -70,20 +69,14 @@ pub struct Comparison {
 fn is_known_zero(known: Option<u32>) -> bool
     ensures { result ≡ is_known_zero known }
 {
-    match known {
-        None => false,
-        Some(word) => word == 0,
-    }
+    matches!(known, Some(0))
 }
 
 /// Says whether an operator has this word in its instruction.
 fn is_immediate(op: Op, known: Option<u32>) -> bool
     ensures { result ≡ is_immediate op known }
 {
-    match immediate_of(op, register(SCRATCH_1).reg(), Reg::ZERO, known) {
-        None => false,
-        Some(_) => true,
-    }
+    immediate_of(op, register(SCRATCH_1).reg(), Reg::ZERO, known).is_some()
 }
 
 /// Returns the form by the opposite comparison, or by the comparison itself.
@@ -179,39 +172,25 @@ fn emit_tested(code: &mut Vec<Plain>, x: &Source) -> Result<(), AllocError>
     emit_one(code, Plain::nop())
 }
 
-/// Emits the operator of a comparison, whose left operand goes through the first scratch register.
-fn emit_compared(
-    code: &mut Vec<Plain>,
-    op: Op,
-    rd: Reg,
-    x: &Operand,
-    y: &Operand,
-) -> Result<(), AllocError>
-    requires left { FitsSource x.now.source }
-    requires right { FitsSource y.now.source }
-    ensures { Emits result code.old.items (op_code op SCRATCH_1 rd x.now y.now) code.new.items }
-{
-    emit_op(code, op, register(SCRATCH_1), rd, x, y)
-}
-
 /// Emits what stands before the branch; an Err means out of memory.
 pub(crate) fn emit_comparison(code: &mut Vec<Plain>, m: &Comparison) -> Result<(), AllocError>
     requires left { FitsSource m.now.left.source }
     requires right { FitsSource m.now.right.source }
     ensures { Emits result code.old.items (comparison_code m.now) code.new.items }
 {
+    let inner = register(SCRATCH_1);
     let rd = register(SCRATCH_3).reg();
     match m.form {
         Form::Known(_) => emit_one(code, Plain::nop()),
         Form::OnPair(_) => {
-            emit_fetch(code, register(SCRATCH_1), &m.left.source)?;
+            emit_fetch(code, inner, &m.left.source)?;
             emit_tested(code, &m.right.source)
         }
         Form::OnLeft(_) => emit_tested(code, &m.left.source),
         Form::OnRight(_) => emit_tested(code, &m.right.source),
-        Form::ByResult => emit_compared(code, m.op, rd, &m.left, &m.right),
-        Form::ByOpposite => emit_compared(code, opposite_op(m.op), rd, &m.right, &m.left),
-        Form::InResult => emit_compared(code, m.op, Reg::RESULT, &m.left, &m.right),
+        Form::ByResult => emit_op(code, m.op, inner, rd, &m.left, &m.right),
+        Form::ByOpposite => emit_op(code, opposite_op(m.op), inner, rd, &m.right, &m.left),
+        Form::InResult => emit_op(code, m.op, inner, Reg::RESULT, &m.left, &m.right),
     }
 }
 
@@ -268,11 +247,7 @@ pub fn comparison_exit(m: &Comparison, then: BlockNumber, other: BlockNumber) ->
 fn is_asked(asked: Asked, d: Register) -> bool
     ensures { result ≡ is_asked asked d }
 {
-    match asked {
-        Asked::Nothing => false,
-        Asked::Branched(c) => c == d,
-        Asked::Returned(c) => c == d,
-    }
+    matches!(asked, Asked::Branched(c) | Asked::Returned(c) if c == d)
 }
 
 /// Returns how an exit takes the result of an operator, if it does.
@@ -290,15 +265,7 @@ fn form_for(asked: Asked, op: Op, left: Option<u32>, right: Option<u32>) -> Opti
 fn is_caller_saved(place: Option<Home>) -> bool
     ensures { result ≡ is_caller_saved place }
 {
-    match place {
-        None => false,
-        // (rattle 13f: a nested pattern through another crate's type ends in "a bug in rattle": CONTRIBUTING.md)
-        Some(home) => match home {
-            Home::Reg(r) => !is_callee_saved(r.index()),
-            Home::Slot(_) => false,
-            Home::Copied(_, _) => false,
-        },
-    }
+    place.is_some_and(|home| matches!(home, Home::Reg(r) if !is_callee_saved(r.index())))
 }
 
 /// Makes an operator a comparison, if it is one.
@@ -314,16 +281,14 @@ fn operator_comparison(
     ensures value { result ≡ operator_comparison d op x.now y.now (form_for asked op x.now.known y.now.known) }
     ensures fits { FitsComparison result }
 {
-    match form_for(asked, op, x.known, y.known) {
-        None => None,
-        Some(form) => Some(Comparison {
-            result: d,
-            op,
-            form,
-            left: *x,
-            right: *y,
-        }),
-    }
+    let form = form_for(asked, op, x.known, y.known)?;
+    Some(Comparison {
+        result: d,
+        op,
+        form,
+        left: *x,
+        right: *y,
+    })
 }
 
 /// Returns the comparison that an instruction is, if it is one with the exit after it, which goes by the pseudo-register asked for.
@@ -338,19 +303,12 @@ pub(crate) fn comparison_of(
     ensures fits { FitsComparison result }
 {
     match inst {
-        RInst::Bin(op, d, a, b) => {
-            if is_asked(asked, *d) && is_caller_saved(locate(frame, *d)) {
-                let x = operand_with(facts, frame, *a);
-                let y = operand_with(facts, frame, *b);
-                operator_comparison(asked, *op, *d, &x, &y)
-            } else {
-                None
-            }
+        RInst::Bin(op, d, a, b) if is_asked(asked, *d) && is_caller_saved(locate(frame, *d)) => {
+            let x = operand_with(facts, frame, *a);
+            let y = operand_with(facts, frame, *b);
+            operator_comparison(asked, *op, *d, &x, &y)
         }
-        RInst::Const(_, _) => None,
-        RInst::Move(_, _) => None,
-        RInst::Load(_, _, _) => None,
-        RInst::Store(_, _, _) => None,
+        _ => None,
     }
 }
 
@@ -368,18 +326,12 @@ pub fn tested(comparison: &Option<Comparison>, c: Register) -> Option<Comparison
 fn is_result(form: Form) -> bool
     ensures { result ≡ is_result form }
 {
-    match form {
-        Form::InResult => true,
-        _ => false,
-    }
+    matches!(form, Form::InResult)
 }
 
 /// Says whether a pseudo-register is in the result's register already.
 pub fn returned(comparison: &Option<Comparison>, x: Register) -> bool
     ensures { result ≡ returned comparison.now x }
 {
-    match comparison {
-        None => false,
-        Some(m) => is_result(m.form) && m.result == x,
-    }
+    matches!(comparison, Some(m) if is_result(m.form) && m.result == x)
 }

@@ -55,17 +55,12 @@ pub(crate) fn direct(width: Width, start: u32, known: Option<u32>) -> Option<u32
     ensures value { result ≡ direct width start known }
     ensures near { IsNear result }
 {
-    match known {
-        None => None,
-        Some(index) => {
-            if index < 65_536 {
-                let place = start + bytes_of(width) * index;
-                if place < 65_536 { Some(place) } else { None }
-            } else {
-                None
-            }
-        }
+    let index = known?;
+    if index >= 65_536 {
+        return None;
     }
+    let place = start + bytes_of(width) * index;
+    if place < 65_536 { Some(place) } else { None }
 }
 
 /// Returns the way from the global pointer to a place.
@@ -171,18 +166,13 @@ pub(crate) fn reach_by(
     ensures value { result ≡ reach_by width start place index.now is_kept }
     ensures near { IsInReach result }
 {
-    match place {
-        Some(p) => Reach::ByPointer(p),
-        None => match index {
-            None => Reach::ByScratch,
-            Some(o) => {
-                if is_kept {
-                    Reach::ByKept(o.word)
-                } else {
-                    Reach::ByNew(base_index(width, start, o), o.word)
-                }
-            }
-        },
+    if let Some(p) = place {
+        return Reach::ByPointer(p);
+    }
+    match index {
+        None => Reach::ByScratch,
+        Some(o) if is_kept => Reach::ByKept(o.word),
+        Some(o) => Reach::ByNew(base_index(width, start, o), o.word),
     }
 }
 
@@ -301,9 +291,8 @@ pub(crate) fn emit_element(
     ensures { Emits result code.old.items (element_code width start by.now x.now) code.new.items }
 {
     match by {
-        Reach::ByPointer(_) => Ok(()),
+        Reach::ByPointer(_) | Reach::ByKept(_) => Ok(()),
         Reach::ByScratch => emit_scratch(code, width, start, x),
-        Reach::ByKept(_) => Ok(()),
         Reach::ByNew(q, _) => emit_base(code, width, register(KEPT_BASE), start, q.reg()),
     }
 }
@@ -315,8 +304,7 @@ fn element_base(by: &Reach) -> Reg
     match by {
         Reach::ByPointer(_) => Reg::masked(GLOBAL_POINTER),
         Reach::ByScratch => Reg::masked(SCRATCH_1),
-        Reach::ByKept(_) => Reg::masked(KEPT_BASE),
-        Reach::ByNew(_, _) => Reg::masked(KEPT_BASE),
+        Reach::ByKept(_) | Reach::ByNew(_, _) => Reg::masked(KEPT_BASE),
     }
 }
 
@@ -329,8 +317,7 @@ fn element_offset(width: Width, start: u32, by: &Reach) -> i16
     match by {
         Reach::ByPointer(p) => near(*p),
         Reach::ByScratch => base_offset(start),
-        Reach::ByKept(word) => shifted_offset(width, start, *word),
-        Reach::ByNew(_, word) => shifted_offset(width, start, *word),
+        Reach::ByKept(word) | Reach::ByNew(_, word) => shifted_offset(width, start, *word),
     }
 }
 

@@ -107,24 +107,16 @@ pub fn known_word(facts: &Knowledge, x: Register) -> Option<u32>
 fn deferred_in(table: &[Option<u32>], r: NonzeroReg) -> Option<u32>
     ensures { result ≡ word_in table.now r }
 {
-    match table.get(r.index() as usize) {
-        None => None,
-        Some(o) => *o,
-    }
+    *table.get(r.index() as usize)?
 }
 
 /// Returns the word that a home should hold but doesn't yet.
 fn deferred_at(table: &[Option<u32>], place: &Option<Home>) -> Option<u32>
     ensures { result ≡ deferred_at (word_in table.now) place.now }
 {
-    match place {
-        None => None,
-        // (rattle 13f: a nested pattern through another crate's type ends in "a bug in rattle": CONTRIBUTING.md)
-        Some(home) => match home {
-            Home::Reg(r) => deferred_in(table, *r),
-            Home::Slot(_) => None,
-            Home::Copied(_, _) => None,
-        },
+    match (*place)? {
+        Home::Reg(r) => deferred_in(table, r),
+        _ => None,
     }
 }
 
@@ -139,21 +131,10 @@ fn put_deferred(table: &mut [Option<u32>; 32], r: NonzeroReg, word: Option<u32>)
 fn defer(table: &mut [Option<u32>; 32], place: &Option<Home>, word: u32)
     ensures { word_in table.new ≡ deferred_const place.now word (word_in table.old) }
 {
-    match place {
-        None => {}
-        // (rattle 13f: a nested pattern through another crate's type ends in "a bug in rattle": CONTRIBUTING.md)
-        Some(home) => match home {
-            Home::Reg(r) => {
-                let word = if is_callee_saved(r.index()) {
-                    None
-                } else {
-                    Some(word)
-                };
-                put_deferred(table, *r, word);
-            }
-            Home::Slot(_) => {}
-            Home::Copied(_, _) => {}
-        },
+    if let Some(home) = *place {
+        if let Home::Reg(r) = home {
+            put_deferred(table, r, (!is_callee_saved(r.index())).then_some(word));
+        }
     }
 }
 
@@ -161,14 +142,10 @@ fn defer(table: &mut [Option<u32>; 32], place: &Option<Home>, word: u32)
 fn clear_deferred(table: &mut [Option<u32>; 32], place: &Option<Home>)
     ensures { word_in table.new ≡ deferred_none place.now (word_in table.old) }
 {
-    match place {
-        None => {}
-        // (rattle 13f: a nested pattern through another crate's type ends in "a bug in rattle": CONTRIBUTING.md)
-        Some(home) => match home {
-            Home::Reg(r) => put_deferred(table, *r, None),
-            Home::Slot(_) => {}
-            Home::Copied(_, _) => {}
-        },
+    if let Some(home) = *place {
+        if let Home::Reg(r) = home {
+            put_deferred(table, r, None);
+        }
     }
 }
 
@@ -185,11 +162,7 @@ fn put_fact(facts: &mut Vec<Fact>, register: Register, word: Option<u32>) -> Res
 fn forget_kept(kept: &mut Option<Kept>, r: NonzeroReg)
     ensures { kept.new ≡ kept_without r kept.old }
 {
-    let is_touched = match kept {
-        None => false,
-        Some(k) => touches(&k.index, r),
-    };
-    if is_touched {
+    if kept.is_some_and(|k| touches(&k.index, r)) {
         *kept = None;
     }
 }
@@ -198,14 +171,11 @@ fn forget_kept(kept: &mut Option<Kept>, r: NonzeroReg)
 fn pass_kept(kept: &mut Option<Kept>, place: &Option<Home>)
     ensures { kept.new ≡ kept_past place.now kept.old }
 {
-    match place {
-        None => {}
-        // (rattle 13f: a nested pattern through another crate's type ends in "a bug in rattle": CONTRIBUTING.md)
-        Some(home) => match home {
-            Home::Reg(r) => forget_kept(kept, *r),
+    if let Some(home) = *place {
+        match home {
+            Home::Reg(r) | Home::Copied(r, _) => forget_kept(kept, r),
             Home::Slot(_) => {}
-            Home::Copied(r, _) => forget_kept(kept, *r),
-        },
+        }
     }
 }
 
@@ -223,17 +193,12 @@ fn kept_with(global: GlobalNumber, index: Option<Offset>, kept: Option<Kept>) ->
 pub(crate) fn index_register(known: Option<u32>, x: &Source) -> Option<NonzeroReg>
     ensures { result ≡ index_register known x.now }
 {
-    match known {
-        Some(_) => None,
-        None => match x {
-            Source::Zero => None,
-            Source::Word(_) => None,
-            Source::From(home) => match home {
-                Home::Reg(r) => Some(*r),
-                Home::Slot(_) => None,
-                Home::Copied(_, _) => None,
-            },
+    match x {
+        Source::From(home) if known.is_none() => match home {
+            Home::Reg(r) => Some(*r),
+            _ => None,
         },
+        _ => None,
     }
 }
 
@@ -267,10 +232,8 @@ fn sum_at(
     if addend(op, 0).is_none() {
         return None;
     }
-    match known_word(facts, b) {
-        None => None,
-        Some(word) => sum_offset(place, op, Some(word), &operand(facts, frame, a)),
-    }
+    let word = known_word(facts, b)?;
+    sum_offset(place, op, Some(word), &operand(facts, frame, a))
 }
 
 /// Puts a new offset in the place of an old one, if there is a new one.
@@ -282,8 +245,7 @@ fn put_offset(offset: &mut Option<Offset>, new: Option<Offset>)
     }
 }
 
-/// Learns what is known after an instruction; an Err means out of memory, and leaves what was known. An Err means out of memory, and leaves
-/// what was known.
+/// Learns what is known after an instruction; an Err means out of memory, and leaves what was known.
 #[inline(always)]
 pub(crate) fn learn(facts: &mut Knowledge, frame: &Frame, inst: &RInst) -> Result<(), AllocError>
     requires frame { IsReachable frame.now }
@@ -362,14 +324,9 @@ pub(crate) fn operand(facts: &Knowledge, frame: &Frame, x: Register) -> Source
 fn in_slot(place: Option<Home>, x: Register) -> Option<Register>
     ensures { result ≡ in_slot place x }
 {
-    match place {
-        None => None,
-        // (rattle 13f: a nested pattern through another crate's type ends in "a bug in rattle": CONTRIBUTING.md)
-        Some(home) => match home {
-            Home::Reg(_) => None,
-            Home::Slot(_) => Some(x),
-            Home::Copied(_, _) => None,
-        },
+    match place? {
+        Home::Slot(_) => Some(x),
+        _ => None,
     }
 }
 
@@ -389,15 +346,10 @@ pub(crate) fn fresh_of(frame: &Frame, inst: &RInst) -> Option<Register>
 pub(crate) fn last_with(comparison: &Option<Comparison>, fresh: Option<Register>) -> Last
     ensures { result ≡ last_with comparison.now fresh }
 {
-    match comparison {
-        None => Last {
-            fresh,
-            comparison: None,
-        },
-        Some(m) => Last {
-            fresh: None,
-            comparison: Some(*m),
-        },
+    let fresh = if comparison.is_some() { None } else { fresh };
+    Last {
+        fresh,
+        comparison: *comparison,
     }
 }
 
@@ -413,13 +365,7 @@ pub fn last_operand(
     ensures fits { FitsSource result }
 {
     match fresh {
-        None => operand(facts, frame, x),
-        Some(y) => {
-            if y == x {
-                Source::From(Home::Reg(inner_of(&locate(frame, x))))
-            } else {
-                operand(facts, frame, x)
-            }
-        }
+        Some(y) if y == x => Source::From(Home::Reg(inner_of(&locate(frame, x)))),
+        _ => operand(facts, frame, x),
     }
 }

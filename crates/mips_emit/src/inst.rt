@@ -71,8 +71,7 @@ fn emit_const(
         // (rattle 13f: a nested pattern through another crate's type ends in "a bug in rattle": CONTRIBUTING.md)
         Some(home) => match home {
             Home::Reg(r) => emit_held(code, *r, word),
-            Home::Slot(_) => emit_put(code, &place, &word_source(word)),
-            Home::Copied(_, _) => emit_put(code, &place, &word_source(word)),
+            _ => emit_put(code, &place, &word_source(word)),
         },
     }
 }
@@ -163,10 +162,9 @@ fn emit_store(
 fn width_of(globals: &[RGlobal], a: GlobalNumber) -> Width
     ensures { result ≡ width_of globals.now a }
 {
-    match globals.get(a as usize) {
-        Some(global) => global.width,
-        None => Width::Word,
-    }
+    globals
+        .get(a as usize)
+        .map_or(Width::Word, |global| global.width)
 }
 
 /// Returns where a global begins.
@@ -190,20 +188,14 @@ fn holds_base(
 ) -> bool
     ensures { result ≡ holds_base setting.now.globals.now (slice_index setting.now.starts.now) kept.now a index.now }
 {
-    match kept {
-        None => false,
-        Some(k) => match index {
-            None => false,
-            Some(o) => {
-                let w = width_of(setting.globals, k.global);
-                let v = width_of(setting.globals, a);
-                let start = start_of(setting.starts, k.global);
-                let other = start_of(setting.starts, a);
-                base_index(w, start, &k.index) == base_index(v, other, o)
-                    && same_base(w, start, v, other)
-            }
-        },
-    }
+    let (Some(k), Some(o)) = (kept, index) else {
+        return false;
+    };
+    let w = width_of(setting.globals, k.global);
+    let v = width_of(setting.globals, a);
+    let start = start_of(setting.starts, k.global);
+    let other = start_of(setting.starts, a);
+    base_index(w, start, &k.index) == base_index(v, other, o) && same_base(w, start, v, other)
 }
 
 /// Finds how an element of a global is reached, whose index is a pseudo-register.

@@ -23,10 +23,7 @@ pub enum Source {
 fn home_at(homes: &[Home], x: usize) -> Option<Home>
     ensures { result ≡ slice_get homes.now x }
 {
-    match homes.get(x) {
-        Some(home) => Some(*home),
-        None => None,
-    }
+    homes.get(x).copied()
 }
 
 /// Returns where a pseudo-register lives, if it has a home.

@@ -44,18 +44,12 @@ fn offset_from(t: NonzeroReg, r: NonzeroReg, added: Option<u32>) -> Option<Offse
     ensures { result ≡ offset_from t r added }
 {
     match added {
-        None => None,
-        Some(word) => {
-            if r == t {
-                None
-            } else {
-                Some(Offset {
-                    register: t,
-                    base: r,
-                    word,
-                })
-            }
-        }
+        Some(word) if r != t => Some(Offset {
+            register: t,
+            base: r,
+            word,
+        }),
+        _ => None,
     }
 }
 
@@ -63,17 +57,12 @@ fn offset_from(t: NonzeroReg, r: NonzeroReg, added: Option<u32>) -> Option<Offse
 fn offset_of(t: NonzeroReg, op: Op, right: Option<u32>, x: &Source) -> Option<Offset>
     ensures { result ≡ offset_of t op right x.now }
 {
-    match right {
-        None => None,
-        Some(word) => match x {
-            Source::Zero => None,
-            Source::Word(_) => None,
-            Source::From(home) => match home {
-                Home::Reg(r) => offset_from(t, *r, addend(op, word)),
-                Home::Slot(_) => None,
-                Home::Copied(_, _) => None,
-            },
+    match x {
+        Source::From(home) => match home {
+            Home::Reg(r) => offset_from(t, *r, addend(op, right?)),
+            _ => None,
         },
+        _ => None,
     }
 }
 
@@ -86,14 +75,9 @@ pub(crate) fn sum_offset(
 ) -> Option<Offset>
     ensures { result ≡ sum_offset place.now op right x.now }
 {
-    match place {
-        None => None,
-        // (rattle 13f: a nested pattern through another crate's type ends in "a bug in rattle": CONTRIBUTING.md)
-        Some(home) => match home {
-            Home::Reg(t) => offset_of(*t, op, right, x),
-            Home::Slot(_) => None,
-            Home::Copied(_, _) => None,
-        },
+    match (*place)? {
+        Home::Reg(t) => offset_of(t, op, right, x),
+        _ => None,
     }
 }
 
@@ -108,11 +92,7 @@ pub(crate) fn touches(offset: &Offset, r: NonzeroReg) -> bool
 fn forget_offset(offset: &mut Option<Offset>, r: NonzeroReg)
     ensures { offset.new ≡ offset_without r offset.old }
 {
-    let is_touched = match offset {
-        None => false,
-        Some(o) => touches(o, r),
-    };
-    if is_touched {
+    if offset.is_some_and(|o| touches(&o, r)) {
         *offset = None;
     }
 }
@@ -121,14 +101,11 @@ fn forget_offset(offset: &mut Option<Offset>, r: NonzeroReg)
 pub(crate) fn pass_offset(offset: &mut Option<Offset>, place: &Option<Home>)
     ensures { offset.new ≡ offset_past place.now offset.old }
 {
-    match place {
-        None => {}
-        // (rattle 13f: a nested pattern through another crate's type ends in "a bug in rattle": CONTRIBUTING.md)
-        Some(home) => match home {
-            Home::Reg(r) => forget_offset(offset, *r),
+    if let Some(home) = *place {
+        match home {
+            Home::Reg(r) | Home::Copied(r, _) => forget_offset(offset, r),
             Home::Slot(_) => {}
-            Home::Copied(r, _) => forget_offset(offset, *r),
-        },
+        }
     }
 }
 
@@ -137,8 +114,8 @@ fn offset_in(offset: &Option<Offset>, t: NonzeroReg) -> Offset
     ensures { result ≡ offset_in offset.now t }
 {
     match offset {
-        None => no_offset(t),
-        Some(o) => { if o.register == t { *o } else { no_offset(t) } }
+        Some(o) if o.register == t => *o,
+        _ => no_offset(t),
     }
 }
 
@@ -146,8 +123,6 @@ fn offset_in(offset: &Option<Offset>, t: NonzeroReg) -> Offset
 pub(crate) fn index_with(offset: &Option<Offset>, register: Option<NonzeroReg>) -> Option<Offset>
     ensures { result ≡ index_with offset.now register }
 {
-    match register {
-        None => None,
-        Some(t) => Some(offset_in(offset, t)),
-    }
+    let t = register?;
+    Some(offset_in(offset, t))
 }

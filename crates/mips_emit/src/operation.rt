@@ -215,10 +215,7 @@ fn is_symmetric(op: Op) -> bool
 pub(crate) fn immediate_of(op: Op, rd: Reg, rs: Reg, known: Option<u32>) -> Option<Plain>
     ensures { result ≡ immediate_of op rd rs known }
 {
-    match known {
-        Some(word) => immediate(op, rd, rs, word),
-        None => None,
-    }
+    immediate(op, rd, rs, known?)
 }
 
 /// Returns the same with the known operand on the left.

@@ -58,10 +58,7 @@ pub(crate) fn multiple_of(op: Op, known: Option<u32>) -> Option<ShiftedSum>
     ensures { result ≡ multiple_of op known }
 {
     match op {
-        Op::Mul => match known {
-            Some(word) => multiple(word),
-            None => None,
-        },
+        Op::Mul => multiple(known?),
         _ => None,
     }
 }

@@ -22,9 +22,8 @@ pub fn emit_fetch(code: &mut Vec<Plain>, t: NonzeroReg, x: &Source) -> Result<()
         Source::Zero => Ok(()),
         Source::Word(word) => emit_li(code, t.reg(), *word),
         Source::From(home) => match home {
-            Home::Reg(_) => Ok(()),
             Home::Slot(k) => emit_load_word(code, t, 4 * *k),
-            Home::Copied(_, _) => Ok(()),
+            _ => Ok(()),
         },
     }
 }
@@ -76,13 +75,8 @@ fn stays(t: NonzeroReg, x: &Source) -> bool
     ensures { result ≡ stays t x.now }
 {
     match x {
-        Source::Zero => false,
-        Source::Word(_) => false,
-        Source::From(home) => match home {
-            Home::Reg(r) => *r == t,
-            Home::Slot(_) => false,
-            Home::Copied(r, _) => *r == t,
-        },
+        Source::From(home) => matches!(*home, Home::Reg(r) | Home::Copied(r, _) if r == t),
+        _ => false,
     }
 }
 

@@ -14,9 +14,8 @@ returns-in_err-emit_departure c =
 
 pub loop-x-preserved : goal.loop-x-preserved
 loop-x-preserved c =
-    let at = c.loop-x.invariant.0 in
     let made = c.in_ok-emit_departure.ensures in (
-      omega (arith, at),
+      omega (arith, c.loop-x.invariant.0),
       arguments_step (locations c.args.frame.now) (facts_of c.args.facts.now) c.loop-x.t c.register.result c.loop-x.x-index 0 c.args.arguments.now
           c.loop-x.code.items _ _ c.loop-x-test.true c.register.ensures made c.loop-x.invariant.1,
       λ now some. c.loop-x.invariant.2 now (arguments_more (locations c.args.frame.now) (facts_of c.args.facts.now) c.loop-x.t c.register.result

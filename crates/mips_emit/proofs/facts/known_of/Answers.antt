@@ -27,6 +27,5 @@ loop-i-preserved c =
 pub returns : goal.returns
 returns c =
     let back = reverse (take c.loop-i.i c.args.facts.now) in
-    let over = c.loop-i-test.false in
-    let none : 0 ≡ c.loop-i.i - c.saturating_sub-forgotten.result = omega (arith, over) in
+    let none : 0 ≡ c.loop-i.i - c.saturating_sub-forgotten.result = omega (arith, c.loop-i-test.false) in
     ap (λ n. known_of (take n back) c.args.x) none ∙ c.loop-i.invariant
