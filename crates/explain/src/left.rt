@@ -1,7 +1,7 @@
 //! What a block or an order leaves, place by place.
 
 use crate::term::{pair_sign, root_page, zero_sign};
-use crate::terms::{Code, Left, left_of};
+use crate::terms::{Code, Left, Root, left_of};
 use block_validator::Place;
 use mblock::{Block, BlockNumber};
 use mips_isa::{Mnemonic, NonzeroReg};
@@ -15,40 +15,15 @@ use words::Width;
 #[rattlefmt::skip]
 const OTHERS: [Place; 5] = [Place::Hi, Place::Lo, Place::Memory, Place::Exit, Place::Guards];
 
-/// The number of the root of each place that has one, behind those of the registers, and of what the exit reads.
-const HI: usize = 32;
-
-const LO: usize = 33;
-
-const MEMORY: usize = 34;
-
-const OPERANDS: usize = 35;
-
-/// Returns how many terms the exit reads.
-fn operands_of(exit: &TermExit) -> usize {
-    match exit {
-        TermExit::BranchPair { .. } => 2,
-        TermExit::Goto(_) | TermExit::Call { .. } => 0,
-        _ => 1,
-    }
-}
-
-/// Writes the number of a block after some words.
-fn put_block(out: &mut Writer, before: &str, block: BlockNumber) {
-    out.text(before);
-    out.put(&block.number());
-}
-
 /// Writes the two targets of a branch.
 fn put_sides(out: &mut Writer, then: BlockNumber, other: BlockNumber) {
-    put_block(out, " ? ", then);
-    put_block(out, " : ", other);
+    out.put(&format_args!(" ? {} : {}", then.number(), other.number()));
 }
 
 /// Writes the exit by the terms that it reads and its targets.
 fn put_exit(out: &mut Writer, exit: TermExit, first: &Page, second: &Page) {
     match exit {
-        TermExit::Goto(target) => put_block(out, "goto ", target),
+        TermExit::Goto(target) => out.put(&format_args!("goto {}", target.number())),
         TermExit::BranchPair {
             test,
             then,
@@ -71,8 +46,7 @@ fn put_exit(out: &mut Writer, exit: TermExit, first: &Page, second: &Page) {
             put_sides(out, then, other);
         }
         TermExit::Call { function, next } => {
-            put_block(out, "call ", function);
-            put_block(out, ", then ", next);
+            out.put(&format_args!("call {}, then {}", function.number(), next.number()));
         }
         TermExit::Return(_) => {
             out.text("return to ");
@@ -81,7 +55,7 @@ fn put_exit(out: &mut Writer, exit: TermExit, first: &Page, second: &Page) {
         TermExit::Out { next, .. } => {
             out.text("out ");
             out.page(first);
-            put_block(out, ", then ", next);
+            out.put(&format_args!(", then {}", next.number()));
         }
         TermExit::Halt(_) => {
             out.text("halt with ");
@@ -91,10 +65,10 @@ fn put_exit(out: &mut Writer, exit: TermExit, first: &Page, second: &Page) {
 }
 
 fn exit_page(alloc: Global, left: &mut Left, depth: u32) -> Result<Page, AllocError> {
-    let first = root_page(alloc, &mut left.reader, OPERANDS, depth)?;
-    let second = root_page(alloc, &mut left.reader, OPERANDS + 1, depth)?;
+    let first = root_page(alloc, left, Root::Exit(true), depth)?;
+    let second = root_page(alloc, left, Root::Exit(false), depth)?;
     let mut out = Writer::new(alloc);
-    put_exit(&mut out, left.exit, &first, &second);
+    put_exit(&mut out, left.exit(), &first, &second);
     out.end()
 }
 
@@ -105,58 +79,45 @@ fn width_name(width: Width) -> &'static str {
     }
 }
 
-/// Returns a guard, the first of whose roots has this number, and how many roots it has.
+/// Returns the guard of a number.
 fn guard_page(
     alloc: Global,
     left: &mut Left,
-    guard: &Guard,
-    root: usize,
+    guard: Guard,
+    number: usize,
     depth: u32,
-) -> Result<(Page, usize), AllocError> {
-    let first = root_page(alloc, &mut left.reader, root, depth)?;
+) -> Result<Page, AllocError> {
+    let first = root_page(alloc, left, Root::Guard(number, true), depth)?;
     let mut out = Writer::new(alloc);
-    let roots = match guard {
+    match guard {
         Guard::Address { width, .. } => {
-            out.text(width_name(*width));
-            out.text(" at ");
+            out.put(&format_args!("{} at ", width_name(width)));
             out.page(&first);
-            1
         }
         Guard::Division { sign, .. } => {
-            let second = root_page(alloc, &mut left.reader, root.saturating_add(1), depth)?;
-            out.text(Mnemonic::Divide(*sign).name());
-            out.text(" ");
+            let second = root_page(alloc, left, Root::Guard(number, false), depth)?;
+            out.put(&format_args!("{} ", Mnemonic::Divide(sign).name()));
             out.page(&first);
             out.text(" by ");
             out.page(&second);
-            2
-        }
-    };
-    Ok((out.end()?, roots))
-}
-
-/// Reports whether a page is among these.
-fn has_page(pages: &[Page], page: &Page) -> bool {
-    for other in pages {
-        if other.bytes() == page.bytes() {
-            return true;
         }
     }
-    false
+    out.end()
 }
 
 /// Returns all guards one after another, each of them once.
 fn guards_page(alloc: Global, left: &mut Left, depth: u32) -> Result<Page, AllocError> {
     let mut pages = Vec::new(alloc);
     let mut out = Writer::new(alloc);
-    let mut root = operands_of(&left.exit).saturating_add(OPERANDS);
-    for k in 0..left.guards.len() {
-        let Some(guard) = left.guards.get(k).copied() else {
+    for number in 0..left.guards().len() {
+        let Some(guard) = left.guards().get(number).copied() else {
             break;
         };
-        let (page, roots) = guard_page(alloc, left, &guard, root, depth)?;
-        root = root.saturating_add(roots);
-        if !has_page(&pages, &page) {
+        let page = guard_page(alloc, left, guard, number, depth)?;
+        if !pages
+            .iter()
+            .any(|other: &Page| other.bytes() == page.bytes())
+        {
             out.text(if pages.is_empty() { "" } else { "; " });
             out.page(&page);
             pages.push(page)?;
@@ -166,6 +127,17 @@ fn guards_page(alloc: Global, left: &mut Left, depth: u32) -> Result<Page, Alloc
         out.text("none");
     }
     out.end()
+}
+
+/// Returns the term of a place, and what is there at the start; None for exit and guards.
+fn root_of(place: Place) -> Option<(Root, Label)> {
+    match place {
+        Place::Register(r) => Some((Root::Register(r), Label::Init(Origin::Register(r)))),
+        Place::Hi => Some((Root::Hi, Label::Init(Origin::Hi))),
+        Place::Lo => Some((Root::Lo, Label::Init(Origin::Lo))),
+        Place::Memory => Some((Root::Memory, Label::Mem0)),
+        Place::Exit | Place::Guards => None,
+    }
 }
 
 /// Returns what is left in a place, as its term is written, cut at a depth.
@@ -178,41 +150,20 @@ pub(crate) fn place_page(
     match place {
         Place::Exit => exit_page(alloc, left, depth),
         Place::Guards => guards_page(alloc, left, depth),
-        _ => root_page(alloc, &mut left.reader, root_of(place), depth),
-    }
-}
-
-/// Returns the number of a place's root, or of the first of them.
-fn root_of(place: Place) -> usize {
-    match place {
-        Place::Register(r) => usize::from(r.index()),
-        Place::Hi => HI,
-        Place::Lo => LO,
-        Place::Memory => MEMORY,
-        Place::Exit | Place::Guards => OPERANDS,
-    }
-}
-
-/// Returns what a place has at the start; None for exit and guards.
-fn start_label(place: Place) -> Option<Label> {
-    match place {
-        Place::Register(r) => Some(Label::Init(Origin::Register(r))),
-        Place::Hi => Some(Label::Init(Origin::Hi)),
-        Place::Lo => Some(Label::Init(Origin::Lo)),
-        Place::Memory => Some(Label::Mem0),
-        Place::Exit | Place::Guards => None,
+        _ => match root_of(place) {
+            Some((root, _)) => root_page(alloc, left, root, depth),
+            None => Ok(Page::empty(alloc)),
+        },
     }
 }
 
 /// Reports whether a place keeps what was there at the start.
 fn is_kept(left: &mut Left, place: Place) -> Result<bool, AllocError> {
-    let Some(label) = start_label(place) else {
+    let Some((root, label)) = root_of(place) else {
         return Ok(false);
     };
-    if !left.reader.start(root_of(place))? {
-        return Ok(true);
-    }
-    match left.reader.next()? {
+    left.start(root)?;
+    match left.next()? {
         Some((found, _)) => Ok(found == label),
         None => Ok(true),
     }

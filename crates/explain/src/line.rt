@@ -105,12 +105,8 @@ fn shown_word<'t>(bytes: &'t [u8]) -> &'t str {
 
 /// Returns the operands of a mnemonic and what they may be, if a table has it.
 fn form(table: &[Form], word: &[u8]) -> Option<(&'static str, &'static str)> {
-    for (words, operands, range) in table {
-        if words.contains(&word) {
-            return Some((*operands, *range));
-        }
-    }
-    None
+    let found = table.iter().find(|row| row.0.contains(&word))?;
+    Some((found.1, found.2))
 }
 
 fn instruction(word: &[u8]) -> Option<(&'static str, &'static str)> {
@@ -121,28 +117,20 @@ fn exit(word: &[u8]) -> Option<(&'static str, &'static str)> {
     form(EXITS, word)
 }
 
-fn is_exit(line: &[u8]) -> bool {
-    exit(mnemonic(line)).is_some()
-}
-
 /// Returns what to write in place of a mnemonic that assemblers have and check texts haven't.
 fn other(word: &[u8]) -> Option<&'static str> {
-    for (other, hint) in OTHERS {
-        if *other == word {
-            return Some(*hint);
-        }
-    }
-    None
+    let found = OTHERS.iter().find(|row| row.0 == word)?;
+    Some(found.1)
 }
 
 /// Returns what has to stand after a line that stands in its place.
 fn stage_after(stage: Stage, line: &[u8]) -> Stage {
     match stage {
         Stage::Block => Stage::InBlock(0),
-        Stage::InBlock(_) if is_exit(line) => Stage::Order,
+        Stage::InBlock(_) if exit(mnemonic(line)).is_some() => Stage::Order,
         Stage::InBlock(n) => Stage::InBlock(n.saturating_add(1)),
         Stage::Order => Stage::InOrder(0),
-        Stage::InOrder(_) if is_exit(line) => match mnemonic(line) {
+        Stage::InOrder(_) if exit(mnemonic(line)).is_some() => match mnemonic(line) {
             b"out" | b"halt" => Stage::NoSlot,
             _ => Stage::Slot,
         },

@@ -81,12 +81,10 @@ fn operands_of<'t>(alloc: Global, line: &'t [u8]) -> Result<Vec<&'t [u8]>, Alloc
 fn with_number(word: &[u8], operands: &[&[u8]]) -> Option<&'static str> {
     let [_, _, last] = operands else { return None };
     let number = str::from_utf8(*last).ok()?.parse::<i32>().ok()?;
-    for (name, other, least, greatest) in WITH_NUMBER {
-        if *name == word && *least <= number && number <= *greatest {
-            return Some(*other);
-        }
-    }
-    None
+    let found = WITH_NUMBER
+        .iter()
+        .find(|row| row.0 == word && row.2 <= number && number <= row.3)?;
+    Some(found.1)
 }
 
 /// Returns what to write in place of a line with this mnemonic, where one of its operands is an assembler's.

@@ -1,6 +1,6 @@
 //! Terms as text.
 
-use crate::terms::TermReader;
+use crate::terms::{Left, Root};
 use mips_isa::{Mnemonic, PairTest, ZeroTest};
 use std::alloc::{AllocError, Global};
 use sym_terms::{Label, Origin};
@@ -114,7 +114,7 @@ fn put_term(out: &mut Writer, label: &Label, operands: &[Page]) {
 /// Returns the term that is next, cut at a depth, and where so many parts were shown.
 fn next_page(
     alloc: Global,
-    reader: &mut TermReader,
+    reader: &mut Left,
     depth: u32,
     left: &mut u32,
 ) -> Result<Page, AllocError> {
@@ -142,8 +142,8 @@ fn next_page(
 /// Returns a root's term, cut at a depth; empty where there is no such root.
 pub(crate) fn root_page(
     alloc: Global,
-    reader: &mut TermReader,
-    root: usize,
+    reader: &mut Left,
+    root: Root,
     depth: u32,
 ) -> Result<Page, AllocError> {
     if !reader.start(root)? {

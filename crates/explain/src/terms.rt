@@ -1,34 +1,35 @@
 //! The terms of what a block or an order leaves, read out of a table.
 
 ghost use Rattle.std.specs.Prelude.{All, IfOk, IfSome, OnOk};
-ghost use Rattle.term_table.specs.Passes.{IsOf};
-ghost use Rattle.sym_exec.specs.MipsTerms.{HasSeen};
-ghost use Rattle.explain.specs.Readers.{ArePlacesSeen, IsReader, IsSeenExit, IsSeenGuard, IsSeenState};
+ghost use Rattle.term_table.specs.Passes.{IsOf, PassState};
+ghost use Rattle.sym_exec.specs.MipsTerms.{HasSeen, HaveSeen};
+ghost use Rattle.sym_exec.specs.Standing.{tickets_of};
+ghost use Rattle.explain.specs.Readers.{IsReader, IsSeenState, guard_tickets};
 
 use mblock::{Block, Order};
+use mips_isa::NonzeroReg;
 use std::alloc::{AllocError, Global};
 use std::marker::Model;
-use sym_exec::{Guard, SymState, TermExit, TermPlaces, run_block, run_order};
+use sym_exec::{Guard, SymState, TermExit, run_block, run_order};
 use sym_terms::Label;
 use term_table::{Node, Pass, TableFull, TermTable, Ticket};
 
-/// A table with its pass, the tickets of all places, and those that are to be read, the last one first.
+/// A table with its pass, what a block or an order leaves, and the tickets that are to be read, the last one first.
 #[derive(Drop)]
 pub(crate) struct Open {
     pub(crate) table: TermTable,
     pub(crate) pass: Pass,
-    pub(crate) roots: Vec<Ticket>,
+    pub(crate) state: SymState,
     pub(crate) waiting: Vec<Ticket>,
 }
 
-/// Reads the terms of what a block or an order leaves. Its roots are, in this order, registers 0 to 31, HI, LO, memory and what the exit
-/// reads. Then come the roots of each guard: its address, or dividend and divisor.
+/// What a block or an order leaves: its terms, how it is left, and what it relies on.
 #[derive(Drop)]
-pub(crate) struct TermReader {
+pub(crate) struct Left {
     open: Open,
 }
 
-impl Model for TermReader {
+impl Model for Left {
     ghost use Rattle.explain.specs.declared.terms.Open.{Open};
     ghost use Rattle.explain.specs.Readers.{IsReader};
 
@@ -37,6 +38,19 @@ impl Model for TermReader {
     ghost view = { λ r. r.open };
 
     ghost invariant = { λ r. IsReader r.open };
+}
+
+/// A term that is left.
+#[derive(Clone, Copy)]
+pub(crate) enum Root {
+    Register(NonzeroReg),
+    Hi,
+    Lo,
+    Memory,
+    /// The first that the exit reads, or else the second.
+    Exit(bool),
+    /// The first of the guard of this number, or else the second.
+    Guard(usize, bool),
 }
 
 /// How many terms a table has room for.
@@ -68,114 +82,32 @@ pub fn table_of(alloc: Global, room: Room) -> Option<(TermTable, Pass)>
     Some((table, pass))
 }
 
-/// Adds one more root, which the pass has seen.
-fn put(roots: &mut Vec<Ticket>, ticket: Ticket, _pass: &Pass) -> Result<(), AllocError>
-    requires seen { HasSeen _pass.now ticket }
-    requires all { All (HasSeen _pass.now) roots.old.items }
-    ensures { All (HasSeen _pass.now) roots.new.items }
-{
-    roots.push(ticket)?;
-    Ok(())
-}
-
-fn put_places(roots: &mut Vec<Ticket>, places: &TermPlaces, pass: &Pass) -> Result<(), AllocError>
-    requires seen { ArePlacesSeen pass.now places.now }
-    requires all { All (HasSeen pass.now) roots.old.items }
-    ensures { All (HasSeen pass.now) roots.new.items }
-{
-    for r in 0..32u8 {
-        put(roots, places.regs[r as usize], pass)?;
-    }
-    put(roots, places.hi, pass)?;
-    put(roots, places.lo, pass)?;
-    put(roots, places.memory, pass)
-}
-
-fn put_exit(roots: &mut Vec<Ticket>, exit: &TermExit, pass: &Pass) -> Result<(), AllocError>
-    requires seen { IsSeenExit pass.now exit.now }
-    requires all { All (HasSeen pass.now) roots.old.items }
-    ensures { All (HasSeen pass.now) roots.new.items }
+/// Returns the tickets of the terms that an exit reads.
+fn exit_tickets(exit: &TermExit) -> (Option<Ticket>, Option<Ticket>)
+    ensures first { (p : PassState) → HaveSeen p (tickets_of exit.now) → IfSome result.0 (HasSeen p) }
+    ensures second { (p : PassState) → HaveSeen p (tickets_of exit.now) → IfSome result.1 (HasSeen p) }
 {
     match *exit {
-        TermExit::Goto(_) | TermExit::Call { .. } => Ok(()),
-        TermExit::BranchPair { a, b, .. } => {
-            put(roots, a, pass)?;
-            put(roots, b, pass)
-        }
-        TermExit::BranchZero { a, .. } | TermExit::Return(a) | TermExit::Halt(a) => {
-            put(roots, a, pass)
-        }
-        TermExit::Out { word, .. } => put(roots, word, pass),
+        TermExit::Goto(_) | TermExit::Call { .. } => (None, None),
+        TermExit::BranchPair { a, b, .. } => (Some(a), Some(b)),
+        TermExit::BranchZero { a, .. } | TermExit::Return(a) | TermExit::Halt(a) => (Some(a), None),
+        TermExit::Out { word, .. } => (Some(word), None),
     }
 }
 
-fn put_guard(roots: &mut Vec<Ticket>, guard: Guard, pass: &Pass) -> Result<(), AllocError>
-    requires seen { IsSeenGuard pass.now guard }
-    requires all { All (HasSeen pass.now) roots.old.items }
-    ensures { All (HasSeen pass.now) roots.new.items }
+/// Returns the tickets of a guard's terms.
+fn tickets_of_guard(guard: &Guard) -> (Option<Ticket>, Option<Ticket>)
+    ensures first { (p : PassState) → HaveSeen p (guard_tickets guard.now) → IfSome result.0 (HasSeen p) }
+    ensures second { (p : PassState) → HaveSeen p (guard_tickets guard.now) → IfSome result.1 (HasSeen p) }
 {
-    match guard {
-        Guard::Address { address, .. } => put(roots, address, pass),
+    match *guard {
+        Guard::Address { address, .. } => (Some(address), None),
         Guard::Division {
             dividend,
             divisor,
             ..
-        } => {
-            put(roots, dividend, pass)?;
-            put(roots, divisor, pass)
-        }
+        } => (Some(dividend), Some(divisor)),
     }
-}
-
-fn put_guards(roots: &mut Vec<Ticket>, guards: &[Guard], pass: &Pass) -> Result<(), AllocError>
-    requires seen { All (IsSeenGuard pass.now) guards.now }
-    requires all { All (HasSeen pass.now) roots.old.items }
-    ensures { All (HasSeen pass.now) roots.new.items }
-{
-    for guard in guards {
-        put_guard(roots, *guard, pass)?;
-    }
-    Ok(())
-}
-
-/// Returns the tickets of all places.
-fn roots_of(alloc: Global, state: &SymState, pass: &Pass) -> Result<Vec<Ticket>, AllocError>
-    requires { IsSeenState pass.now state.now.places state.now.exit state.now.guards.items }
-    ensures { IfOk result (λ v. All (HasSeen pass.now) v.items) }
-{
-    let mut roots = Vec::new(alloc);
-    put_places(&mut roots, &state.places, pass)?;
-    put_exit(&mut roots, &state.exit, pass)?;
-    put_guards(&mut roots, state.guards.as_slice(), pass)?;
-    Ok(roots)
-}
-
-/// What a block or an order leaves: its terms, how it is left, and what it relies on.
-#[derive(Drop)]
-pub(crate) struct Left {
-    pub(crate) reader: TermReader,
-    pub(crate) exit: TermExit,
-    pub(crate) guards: Vec<Guard>,
-}
-
-/// Returns the reader of a state that a pass has seen.
-fn left_by(alloc: Global, table: TermTable, pass: Pass, state: SymState) -> Result<Left, AllocError>
-    requires own { IsOf table pass }
-    requires seen { IsSeenState pass state.places state.exit state.guards.items }
-{
-    let roots = roots_of(alloc, &state, &pass)?;
-    let SymState { exit, guards, .. } = state;
-    let open = Open {
-        table,
-        pass,
-        roots,
-        waiting: Vec::new(alloc),
-    };
-    Ok(Left {
-        reader: TermReader { open },
-        exit,
-        guards,
-    })
 }
 
 /// What is run: a block or an order.
@@ -194,7 +126,7 @@ fn run(
 ) -> Result<Result<SymState, TableFull>, AllocError>
     requires { IsOf table.now pass.old }
     ensures own { OnOk result (IsOf table.now pass.new) }
-    ensures seen { IfOk result (λ run. IfOk run (λ s. IsSeenState pass.new s.places s.exit s.guards.items)) }
+    ensures seen { IfOk result (λ run. IfOk run (IsSeenState pass.new)) }
 {
     match code {
         Code::Block(block) => run_block(alloc, table, pass, block),
@@ -207,10 +139,16 @@ fn left_in(alloc: Global, code: Code<'_>, room: Room) -> Result<Option<Left>, Al
     let Some((table, mut pass)) = table_of(alloc, room) else {
         return Err(AllocError);
     };
-    match run(alloc, &table, &mut pass, code)? {
-        Ok(state) => Ok(Some(left_by(alloc, table, pass, state)?)),
-        Err(_) => Ok(None),
-    }
+    let Ok(state) = run(alloc, &table, &mut pass, code)? else {
+        return Ok(None);
+    };
+    let open = Open {
+        table,
+        pass,
+        state,
+        waiting: Vec::new(alloc),
+    };
+    Ok(Some(Left { open }))
 }
 
 /// Returns what a block or an order leaves; None if it has more terms than a table has room for.
@@ -234,19 +172,48 @@ impl Open {
         self.waiting.extend_from_slice(children.as_slice())?;
         Ok(Some((label, children.len())))
     }
+
+    /// Returns the ticket of a term that is left, if there is one.
+    fn ticket(&self, root: Root) -> Option<Ticket>
+        requires { IsReader self.now }
+        ensures { IfSome result (HasSeen self.now.pass) }
+    {
+        match root {
+            Root::Register(r) => Some(self.state.places.regs[r.index() as usize]),
+            Root::Hi => Some(self.state.places.hi),
+            Root::Lo => Some(self.state.places.lo),
+            Root::Memory => Some(self.state.places.memory),
+            Root::Exit(is_first) => {
+                let (first, second) = exit_tickets(&self.state.exit);
+                if is_first { first } else { second }
+            }
+            Root::Guard(number, is_first) => {
+                let (first, second) = tickets_of_guard(self.state.guards.get(number)?);
+                if is_first { first } else { second }
+            }
+        }
+    }
 }
 
-impl TermReader {
-    /// Goes to a root; false if there is none of this number.
-    pub(crate) fn start(&mut self, root: usize) -> Result<bool, AllocError> {
+impl Left {
+    /// Returns how it is left.
+    pub(crate) fn exit(&self) -> TermExit {
+        self.open.state.exit
+    }
+
+    /// Lends what it relies on.
+    pub(crate) fn guards(&self) -> &[Guard] {
+        self.open.state.guards.as_slice()
+    }
+
+    /// Goes to a term that is left; false if there is none.
+    pub(crate) fn start(&mut self, root: Root) -> Result<bool, AllocError> {
         self.open.waiting.clear();
-        match self.open.roots.get(root).copied() {
-            Some(ticket) => {
-                self.open.waiting.push(ticket)?;
-                Ok(true)
-            }
-            None => Ok(false),
-        }
+        let Some(ticket) = self.open.ticket(root) else {
+            return Ok(false);
+        };
+        self.open.waiting.push(ticket)?;
+        Ok(true)
     }
 
     /// Returns the label of the term that is next, and how many children it has, which are next then, the last one first. None if nothing

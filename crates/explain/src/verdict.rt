@@ -41,28 +41,19 @@ fn loaded_register(inst: &Plain) -> Option<Reg> {
 
 /// Returns the first instruction that touches what the one before it loads: the places of the two.
 fn load_use(insts: &[Plain]) -> Option<(usize, usize)> {
-    for (k, inst) in insts.iter().enumerate() {
-        if let Some(register) = loaded_register(inst)
-            && let Some(next) = insts.get(k + 1)
-            && next.action().touches(register)
-        {
-            return Some((k, k + 1));
-        }
-    }
-    None
+    let k = insts.windows(2).position(|pair| match pair {
+        [inst, next] => loaded_register(inst).is_some_and(|loaded| next.action().touches(loaded)),
+        _ => false,
+    })?;
+    Some((k, k + 1))
 }
 
 /// Returns an instruction of an order by the place of its word: the exit's first word and the slot are after the others.
 fn word_at(order: &Order, place: usize) -> Option<Plain> {
-    let count = order.insts().len();
-    if place < count {
-        return order.insts().get(place).copied();
+    if place == order.insts().len().saturating_add(1) {
+        return order.slot();
     }
-    if place == count.saturating_add(1) {
-        order.slot()
-    } else {
-        None
-    }
+    order.insts().get(place).copied()
 }
 
 fn is_product_at(order: &Order, place: usize) -> bool {
@@ -97,18 +88,13 @@ fn breaking(rule: Unclean, order: &Order) -> Option<(usize, usize)> {
 fn put_word(out: &mut Writer, order: &Order, place: usize) {
     match word_at(order, place) {
         Some(inst) => put_insts(out, &[inst], "  ", "\n"),
-        None => {
-            out.text("  ");
-            out.put(&ExitLine(order.exit()));
-            out.text("\n");
-        }
+        None => out.put(&format_args!("  {}\n", ExitLine(order.exit()))),
     }
 }
 
 /// Writes which delay rule an order breaks, and the words that break it.
 pub fn put_unclean(out: &mut Writer, rule: Unclean, order: &Order) {
-    out.text(rule_words(rule));
-    out.text(":\n");
+    out.put(&format_args!("{}:\n", rule_words(rule)));
     if let Some((first, second)) = breaking(rule, order) {
         put_word(out, order, first);
         put_word(out, order, second);
@@ -132,14 +118,6 @@ fn page_at(
     }
 }
 
-fn put_pair(out: &mut Writer, block: &Page, order: &Page) {
-    out.text("block: ");
-    out.page(block);
-    out.text("\norder: ");
-    out.page(order);
-    out.text("\n");
-}
-
 /// Writes what block and order leave in a place, at the first depth that tells them apart.
 fn put_terms(
     alloc: Global,
@@ -154,7 +132,11 @@ fn put_terms(
         let one = page_at(alloc, &mut first, place, depth)?;
         let other = page_at(alloc, &mut second, place, depth)?;
         if one.bytes() != other.bytes() || depth == DEEPEST {
-            put_pair(out, &one, &other);
+            out.text("block: ");
+            out.page(&one);
+            out.text("\norder: ");
+            out.page(&other);
+            out.text("\n");
             break;
         }
     }

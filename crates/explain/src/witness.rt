@@ -10,15 +10,10 @@ use text::Writer;
 
 /// Reports whether an instruction reads what the register holds at the start.
 fn insts_read(insts: &[Plain], register: NonzeroReg) -> bool {
-    for inst in insts {
-        if inst.reads(register.reg()) {
-            return true;
-        }
-        if inst.writes(register.reg()) {
-            return false;
-        }
-    }
-    false
+    let first = insts
+        .iter()
+        .find(|inst| inst.action().touches(register.reg()));
+    first.is_some_and(|inst| inst.reads(register.reg()))
 }
 
 /// Reports whether the exit reads the register.
@@ -40,11 +35,6 @@ fn is_read(block: &Block, order: &Order, register: NonzeroReg) -> bool {
         || exit_reads(&block.exit(), register)
 }
 
-fn put_word(out: &mut Writer, word: u32) {
-    out.text("0x");
-    out.put(&WordDigits(word));
-}
-
 /// Reports whether it is the register in which the two differ, which one of them may leave as it was.
 fn is_left(difference: &Difference, register: NonzeroReg) -> bool {
     matches!(*difference, Difference::Register(r) if r == register.reg())
@@ -62,26 +52,16 @@ fn put_start(
         if let Some(register) = NonzeroReg::new(r)
             && (is_read(block, order, register) || is_left(difference, register))
         {
-            out.text("  ");
-            out.put(&register.reg());
-            out.text(" = ");
-            put_word(out, start.regs[r as usize]);
-            out.text("\n");
+            let (register, word) = (register.reg(), WordDigits(start.regs[r as usize]));
+            out.put(&format_args!("  {register} = 0x{word}\n"));
         }
     }
 }
 
 /// Reports whether one of them moves HI or LO, before a product or a division writes both.
 fn moves_before_product(insts: &[Plain]) -> bool {
-    for inst in insts {
-        if inst.action().is_product() {
-            return false;
-        }
-        if inst.action().is_move() {
-            return true;
-        }
-    }
-    false
+    let first = insts.iter().find(|inst| inst.action().is_product() || inst.action().is_move());
+    first.is_some_and(|inst| !inst.action().is_product())
 }
 
 /// Writes HI and LO, if they are read, and the words of memory that are loaded.
@@ -93,18 +73,13 @@ fn put_rest(
     start: &Start,
 ) -> Result<(), AllocError> {
     if moves_before_product(block.insts()) || moves_before_product(order.insts()) {
-        out.text("  hi = ");
-        put_word(out, start.hi);
-        out.text("\n  lo = ");
-        put_word(out, start.lo);
-        out.text("\n");
+        let (hi, lo) = (WordDigits(start.hi), WordDigits(start.lo));
+        out.put(&format_args!("  hi = 0x{hi}\n  lo = 0x{lo}\n"));
     }
     for address in &loaded_words(alloc, block, order, start)? {
-        out.text("  the word at ");
-        put_word(out, *address);
-        out.text(" = ");
-        put_word(out, start.filling.word(*address / 4));
-        out.text("\n");
+        let word = WordDigits(start.filling.word(*address / 4));
+        let address = WordDigits(*address);
+        out.put(&format_args!("  the word at 0x{address} = 0x{word}\n"));
     }
     Ok(())
 }
@@ -112,53 +87,28 @@ fn put_rest(
 /// Writes where a side goes on.
 fn put_departs(out: &mut Writer, departs: &Departs) {
     match *departs {
-        Departs::To(t) => {
-            out.text("goes to ");
-            out.put(&t.number());
-        }
-        Departs::Calls { function, next: _ } => {
-            out.text("calls ");
-            out.put(&function.number());
-        }
-        Departs::Back(link) => {
-            out.text("returns to ");
-            put_word(out, link);
-        }
-        Departs::Prints { word, next: _ } => {
-            out.text("prints ");
-            put_word(out, word);
-        }
-        Departs::Halts(word) => {
-            out.text("ends with ");
-            put_word(out, word);
-        }
+        Departs::To(t) => out.put(&format_args!("goes to {}", t.number())),
+        Departs::Calls { function, .. } => out.put(&format_args!("calls {}", function.number())),
+        Departs::Back(link) => out.put(&format_args!("returns to 0x{}", WordDigits(link))),
+        Departs::Prints { word, .. } => out.put(&format_args!("prints 0x{}", WordDigits(word))),
+        Departs::Halts(word) => out.put(&format_args!("ends with 0x{}", WordDigits(word))),
     }
 }
 
 /// Writes what one side leaves where the two differ.
 fn put_side(out: &mut Writer, side: &str, left: &Left, difference: &Difference) {
-    out.text("  ");
-    out.text(side);
-    out.text(": ");
+    out.put(&format_args!("  {side}: "));
+    let now = &left.registers;
     match *difference {
         Difference::Register(r) => {
-            out.put(&r);
-            out.text(" = ");
-            put_word(out, left.registers.regs[r.index() as usize]);
+            let word = WordDigits(now.regs[r.index() as usize]);
+            out.put(&format_args!("{r} = 0x{word}"));
         }
-        Difference::Hi => {
-            out.text("hi = ");
-            put_word(out, left.registers.hi);
-        }
-        Difference::Lo => {
-            out.text("lo = ");
-            put_word(out, left.registers.lo);
-        }
+        Difference::Hi => out.put(&format_args!("hi = 0x{}", WordDigits(now.hi))),
+        Difference::Lo => out.put(&format_args!("lo = 0x{}", WordDigits(now.lo))),
         Difference::Memory(a) => {
-            out.text("the byte at ");
-            put_word(out, a);
-            out.text(" = ");
-            put_word(out, u32::from(left.registers.memory.byte(a)));
+            let byte = WordDigits(u32::from(now.memory.byte(a)));
+            out.put(&format_args!("the byte at 0x{} = 0x{byte}", WordDigits(a)));
         }
         Difference::Exit => put_departs(out, &left.goes),
         Difference::Stuck => out.text("isn't stuck"),
@@ -196,20 +146,16 @@ pub fn put_found(
     order: &Order,
 ) -> Result<(), AllocError> {
     // (rattle 13f: the parts are named here, or it "was not told which modules hold the type": CONTRIBUTING.md)
-    match find_start(alloc, block, order) {
-        Ok(
-            Some(
-                Witness {
-                    start,
-                    link,
-                    difference,
-                },
-            ),
-        ) => put_witness(alloc, out, block, order, &start, link, &difference),
-        Ok(None) => {
-            out.text("no start that was tried tells them apart: the terms may tell too little\n");
-            Ok(())
-        }
-        Err(error) => Err(error),
-    }
+    let Some(
+        Witness {
+            start,
+            link,
+            difference,
+        },
+    ) = find_start(alloc, block, order)?
+    else {
+        out.text("no start that was tried tells them apart: the terms may tell too little\n");
+        return Ok(());
+    };
+    put_witness(alloc, out, block, order, &start, link, &difference)
 }
