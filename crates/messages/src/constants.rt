@@ -79,9 +79,9 @@ pub(crate) fn say_constant(said: &mut Said, source: &Source<'_>, at: usize) {
     } else {
         reason(number)
     };
+    let number = shown_text(number);
     said.message
-        .texts(&[shown_text(number), " is no constant: "]);
-    said.say(why);
+        .put(&format_args!("{number} is no constant: {why}"));
     said.hint(hint);
 }
 

@@ -73,17 +73,9 @@ fn can_stand(alloc: Global, piece: &[u8], token: &[u8]) -> Result<bool, AllocErr
     text.extend_from_slice(token)?;
     match read(alloc, text.as_slice()) {
         Ok(_) => Ok(true),
-        Err(fault) => match fault.kind {
-            FrontFaultKind::Syntax => Ok(at < fault.at),
-            FrontFaultKind::NoMemory => Err(AllocError),
-            _ => Ok(false),
-        },
+        Err(fault) if fault.kind == FrontFaultKind::NoMemory => Err(AllocError),
+        Err(fault) => Ok(fault.kind == FrontFaultKind::Syntax && at < fault.at),
     }
-}
-
-/// Reports whether one of these words is told.
-fn is_told(told: &[&'static str], words: &[&'static str]) -> bool {
-    words.iter().any(|word| told.contains(word))
 }
 
 /// Returns what can stand in a token's place; nothing where that is more than four things, or the declaration is long.
@@ -98,7 +90,7 @@ pub(crate) fn expected_words(
         return Ok(all);
     }
     for (token, told, covers) in CANDIDATES {
-        if !is_told(all.as_slice(), *covers) && can_stand(alloc, piece, *token)? {
+        if !covers.iter().any(|word| all.contains(word)) && can_stand(alloc, piece, *token)? {
             all.push(*told)?;
         }
     }

@@ -2,6 +2,7 @@
 
 use c_tokens::IntegerType;
 use c_tree::{BinaryOp, UnaryOp};
+use c_typed::TypedExpression;
 use words::Sign;
 
 /// Returns how the words of a type are read.
@@ -12,23 +13,18 @@ fn sign(integer_type: IntegerType) -> Sign {
     }
 }
 
-/// Returns the value of an operator before a constant; None if it overflows, or the operand isn't known.
-pub(crate) fn folded_unary(
-    operator: UnaryOp,
-    integer_type: IntegerType,
-    value: Option<u32>,
-) -> Option<u32> {
-    let value = value?;
+/// Returns a prefix operator on a word; None if it overflows.
+fn unary_value(operator: UnaryOp, sign: Sign, x: u32) -> Option<u32> {
     match operator {
-        UnaryOp::Negate => sign(integer_type).negation(value),
-        UnaryOp::Identity => Some(value),
-        UnaryOp::Complement => Some(!value),
-        UnaryOp::Not => Some(u32::from(value == 0)),
+        UnaryOp::Negate => sign.negation(x),
+        UnaryOp::Identity => Some(x),
+        UnaryOp::Complement => Some(!x),
+        UnaryOp::Not => Some(u32::from(x == 0)),
     }
 }
 
-/// Returns the value of an operator between two words; None if it has no meaning.
-fn value_between(operator: BinaryOp, sign: Sign, x: u32, y: u32) -> Option<u32> {
+/// Returns an operator on two words, both of which are evaluated; None if it has no meaning.
+fn binary_value(operator: BinaryOp, sign: Sign, x: u32, y: u32) -> Option<u32> {
     match operator {
         BinaryOp::Multiply => sign.times(x, y),
         BinaryOp::Divide => sign.quotient(x, y),
@@ -46,29 +42,29 @@ fn value_between(operator: BinaryOp, sign: Sign, x: u32, y: u32) -> Option<u32> 
         BinaryOp::BitAnd => Some(x & y),
         BinaryOp::BitXor => Some(x ^ y),
         BinaryOp::BitOr => Some(x | y),
-        BinaryOp::LogicalAnd => Some(u32::from(x != 0 && y != 0)),
-        BinaryOp::LogicalOr => Some(u32::from(x != 0 || y != 0)),
+        BinaryOp::LogicalAnd | BinaryOp::LogicalOr => Some(u32::from(y != 0)),
     }
 }
 
-/// Reports whether an operator's left operand decides, so that the right one isn't reached.
-pub(crate) fn is_decided(operator: BinaryOp, left: Option<u32>) -> bool {
-    match (operator, left) {
-        (BinaryOp::LogicalAnd, Some(0)) => true,
-        (BinaryOp::LogicalOr, Some(value)) => value != 0,
-        _ => false,
+/// Returns the value of an expression that is a constant; None if it has no meaning.
+pub(crate) fn constant(e: &TypedExpression) -> Option<u32> {
+    match e {
+        TypedExpression::Constant(literal) => Some(literal.value),
+        TypedExpression::Unary(operator, integer_type, part) => {
+            unary_value(*operator, sign(*integer_type), constant(part)?)
+        }
+        TypedExpression::Binary(operator, integer_type, operands) => {
+            let (left, right) = &**operands;
+            match (operator, constant(left)?) {
+                (BinaryOp::LogicalAnd, 0) => Some(0),
+                (BinaryOp::LogicalOr, 1..) => Some(1),
+                (_, x) => binary_value(*operator, sign(*integer_type), x, constant(right)?),
+            }
+        }
+        TypedExpression::Conditional(_, parts) => {
+            let (test, first, second) = &**parts;
+            constant(if constant(test)? == 0 { second } else { first })
+        }
+        _ => None,
     }
-}
-
-/// Returns the value of an operator between constants, in the type that it computes in; None if it isn't known or has no meaning.
-pub(crate) fn folded_binary(
-    operator: BinaryOp,
-    integer_type: IntegerType,
-    left: Option<u32>,
-    right: Option<u32>,
-) -> Option<u32> {
-    if is_decided(operator, left) {
-        return Some(u32::from(operator == BinaryOp::LogicalOr));
-    }
-    value_between(operator, sign(integer_type), left?, right?)
 }

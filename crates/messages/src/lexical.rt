@@ -55,10 +55,9 @@ pub(crate) fn say_byte(said: &mut Said, text: &[u8], at: usize) {
     {
         return said.say_both("the text begins with a byte order mark", hint);
     }
-    said.say("the byte ");
     let byte = text.get(at).copied().unwrap_or(0);
-    said.message.number(byte as usize);
-    said.say(" can't stand in a text");
+    said.message
+        .put(&format_args!("the byte {byte} can't stand in a text"));
     said.hint("write ASCII alone: bytes 32 to 126, tab and the ends of lines");
 }
 
@@ -87,8 +86,8 @@ fn counted_name<'t>(source: &Source<'t>, at: usize) -> &'t str {
 /// Says what to do about what stands after `#`.
 fn say_directive(said: &mut Said, text: &[u8], at: usize) {
     let word = after_blanks(text, at.saturating_add(1));
-    said.message.texts(&["'#", shown_text(word), "' "]);
-    said.say(LEFT_OUT_HERE);
+    said.message
+        .put(&format_args!("'#{}' {LEFT_OUT_HERE}", shown_text(word)));
     said.hint(told_of(DIRECTIVES, word).unwrap_or(NO_DIRECTIVES));
 }
 
@@ -119,8 +118,7 @@ fn say_quoted(said: &mut Said, text: &[u8], at: usize) {
         [] => None,
     };
     if let Some(number) = number {
-        said.hint(": ");
-        said.hint.number(number as usize);
+        said.hint.put(&format_args!(": {number}"));
     }
 }
 
@@ -151,13 +149,11 @@ fn left_out(text: &[u8], at: usize) -> Option<&'static str> {
 
 /// Returns the operator and the operand that stand for `++`, `--` or an assignment with an operator.
 fn compound<'t>(sign: &'t [u8]) -> Option<(&'t [u8], &'static str)> {
+    let operator = front(sign, sign.len().saturating_sub(1));
     match sign {
-        b"++" | b"--" => Some((front(sign, 1), " 1")),
-        b"<<=" | b">>=" => Some((front(sign, 2), " ..")),
-        [b'+' | b'-' | b'*' | b'/' | b'%' | b'&' | b'|' | b'^', b'='] => Some((
-            front(sign, 1),
-            " ..",
-        )),
+        b"++" | b"--" => Some((operator, " 1")),
+        b"<<=" | b">>=" => Some((operator, " ..")),
+        [b'+' | b'-' | b'*' | b'/' | b'%' | b'&' | b'|' | b'^', b'='] => Some((operator, " ..")),
         _ => None,
     }
 }
@@ -167,10 +163,9 @@ fn say_sign(said: &mut Said, source: &Source<'_>, at: usize) {
     let sign = spelled_at(source.text, at);
     if let Some((operator, operand)) = compound(sign) {
         said.say_name(shown_text(sign), LEFT_OUT_HERE);
-        let name = counted_name(source, at);
-        said.hint.texts(&["write ", name, " = ", name, " "]);
-        said.hint(shown_text(operator));
-        said.hint(operand);
+        let (name, operator) = (counted_name(source, at), shown_text(operator));
+        said.hint
+            .put(&format_args!("write {name} = {name} {operator}{operand}"));
     } else if let Some(hint) = left_out(source.text, at) {
         said.say_name(shown_text(sign), LEFT_OUT_HERE);
         said.hint(hint);

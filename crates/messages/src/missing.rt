@@ -25,9 +25,10 @@ fn hint_brace(said: &mut Said, source: &Source<'_>, k: usize) -> bool {
     if !is_at_head(source, k) {
         return false;
     }
-    said.hint("functions don't stand in functions: the '{' of line ");
-    said.hint.number(source.spot(brace).line);
-    said.hint(" isn't closed");
+    let line = source.spot(brace).line;
+    said.hint("functions don't stand in functions: ");
+    said.hint
+        .put(&format_args!("the '{{' of line {line} isn't closed"));
     true
 }
 
@@ -52,8 +53,7 @@ fn hint_semicolon(said: &mut Said, source: &Source<'_>, k: usize, expected: &[&s
     if source.spot(k).line <= line {
         return false;
     }
-    said.hint("a ';' is missing at the end of line ");
-    said.hint.number(line);
+    said.hint.put(&format_args!("a ';' is missing at the end of line {line}"));
     true
 }
 

@@ -7,7 +7,7 @@ use crate::lexical::after_blanks;
 use crate::said::{Line, Said};
 use crate::source::{back, front, is_word, shown_text, spelled_at};
 use c_tokens::{LexFault, MAX_TEXT, Refusal, lex};
-use host::spot_of;
+use host::{Spot, spot_of};
 use std::alloc::{AllocError, Global};
 
 /// So many are named at most.
@@ -68,11 +68,9 @@ fn next_refused(
 
 /// Names one of them, with line and column.
 fn put_one(named: &mut Line, text: &[u8], at: usize) {
-    let (spot, sign) = (spot_of(text, at), spelled_at(text, at));
-    named.number(spot.line);
-    named.text(":");
-    named.number(spot.column);
-    named.texts(&[" '", shown_text(sign)]);
+    let Spot { line, column } = spot_of(text, at);
+    let sign = spelled_at(text, at);
+    named.put(&format_args!("{line}:{column} '{}", shown_text(sign)));
     if sign == b"#".as_slice() {
         named.text(shown_text(after_blanks(text, at.saturating_add(1))));
     }
@@ -108,9 +106,7 @@ pub(crate) fn say_more(
         }
     }
     if count > 0 {
-        said.more.text("and ");
-        said.more.number(count);
-        said.more.text(" more: ");
+        said.more.put(&format_args!("and {count} more: "));
         said.more.line(named)?;
         said.more.text(if count > NAMED { " .." } else { "" });
     }

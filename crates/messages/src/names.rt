@@ -38,20 +38,16 @@ pub(crate) fn names_before(
 /// Returns the token among these names that declares the name of a token, the innermost one.
 pub(crate) fn in_sight(source: &Source<'_>, names: &[usize], k: usize) -> Option<usize> {
     let name = source.spelling(k);
-    for declared in names.iter().rev() {
-        if source.spelling(*declared) == name {
-            return Some(*declared);
-        }
-    }
-    None
+    let declared = names
+        .iter()
+        .rev()
+        .find(|declared| source.spelling(**declared) == name);
+    declared.copied()
 }
 
 /// Returns the function that is declared last before a token: at a place inside a function that one.
 pub(crate) fn last_function(source: &Source<'_>, k: usize) -> Option<usize> {
-    for token in (0..k).rev() {
-        if source.is_declared(token) && source.is(after(token, 1), Mark::LeftParen) {
-            return Some(token);
-        }
-    }
-    None
+    let is_function = |token: &usize| source.is_declared(*token)
+        && source.is(after(*token, 1), Mark::LeftParen);
+    (0..k).rev().find(is_function)
 }

@@ -5,6 +5,7 @@ ghost use Rattle.text.specs.Shown.{IsPrintableExplanation};
 
 use host::Spot;
 use std::alloc::{AllocError, Global};
+use std::fmt::Display;
 use text::{Explanation, Page, Writer};
 
 /// A line that grows piece by piece.
@@ -20,14 +21,8 @@ impl Line {
         self.0.text(text);
     }
 
-    pub(crate) fn texts(&mut self, texts: &[&str]) {
-        for text in texts {
-            self.text(*text);
-        }
-    }
-
-    pub(crate) fn number(&mut self, number: usize) {
-        self.0.put(&number);
+    pub(crate) fn put<T: Display>(&mut self, value: &T) {
+        self.0.put(value);
     }
 
     /// Goes on with another line, unless memory was refused to that one.
@@ -37,10 +32,8 @@ impl Line {
     }
 
     pub(crate) fn spot(&mut self, spot: Spot) {
-        self.text("line ");
-        self.number(spot.line);
-        self.text(", column ");
-        self.number(spot.column);
+        let Spot { line, column } = spot;
+        self.put(&format_args!("line {line}, column {column}"));
     }
 }
 
@@ -84,7 +77,7 @@ impl Said {
 
     /// Begins the message by a name or a sign, in quotes.
     pub(crate) fn say_name(&mut self, name: &str, what: &str) {
-        self.message.texts(&["'", name, "' ", what]);
+        self.message.put(&format_args!("'{name}' {what}"));
     }
 
     /// Returns what was written, unless memory was refused.

@@ -48,12 +48,8 @@ pub(crate) type Told = (&'static [&'static [u8]], &'static str);
 
 /// Returns what a table tells of a word.
 pub(crate) fn told_of(table: &[Told], word: &[u8]) -> Option<&'static str> {
-    for (words, told) in table {
-        if words.contains(&word) {
-            return Some(*told);
-        }
-    }
-    None
+    let found = table.iter().find(|row| row.0.contains(&word))?;
+    Some(found.1)
 }
 
 /// Reports whether a byte can stand in a name.
@@ -69,12 +65,8 @@ fn word_length(text: &[u8]) -> usize {
 
 /// Returns how many bytes the longest sign at the front has.
 fn sign_length(text: &[u8]) -> usize {
-    for sign in LONG_SIGNS {
-        if text.starts_with(*sign) {
-            return sign.len();
-        }
-    }
-    1
+    let sign = LONG_SIGNS.iter().find(|sign| text.starts_with(**sign));
+    sign.map_or(1, |sign| sign.len())
 }
 
 /// Returns the word or the longest sign at an offset.
@@ -137,10 +129,8 @@ impl<'t> Source<'t> {
 
     /// Returns where a token begins; the text's length where there is none.
     pub(crate) fn at(&self, k: usize) -> usize {
-        match self.places.get(k) {
-            Some(place) => *place as usize,
-            None => self.text.len(),
-        }
+        let place = self.places.get(k);
+        place.map_or(self.text.len(), |place| *place as usize)
     }
 
     /// Returns the number of the first token that doesn't begin before the offset.
@@ -178,12 +168,7 @@ impl<'t> Source<'t> {
 
     /// Returns the first token that declares a name, if one does.
     pub(crate) fn declaration_of(&self, name: &[u8]) -> Option<usize> {
-        for k in 0..self.count() {
-            if self.is_declared(k) && self.spelling(k) == name {
-                return Some(k);
-            }
-        }
-        None
+        (0..self.count()).find(|k| self.is_declared(*k) && self.spelling(*k) == name)
     }
 
     /// Returns the innermost one of these brackets that is open before a token.
@@ -209,12 +194,8 @@ impl<'t> Source<'t> {
 
     /// Returns the first token of the statement or the declaration that is open before a token.
     pub(crate) fn first_of(&self, k: usize) -> usize {
-        for token in (0..k).rev() {
-            if self.is_one(token, ENDS) {
-                return after(token, 1);
-            }
-        }
-        0
+        let end = (0..k).rev().find(|token| self.is_one(*token, ENDS));
+        end.map_or(0, |token| after(token, 1))
     }
 
     /// Returns the bytes of a token.

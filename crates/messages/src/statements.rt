@@ -78,10 +78,7 @@ impl<'a> Walk<'a> {
         if let Some(first) = &parts.first {
             self.add(begin, 1, Some(start_of(first)))?;
         }
-        let at = match &parts.test {
-            Some(test) => first_name(test),
-            None => None,
-        };
+        let at = parts.test.as_ref().and_then(first_name);
         self.add(again, 0, at)?;
         if let Some(last) = &parts.last {
             self.add(step, 0, Some(start_of(last)))?;

@@ -263,7 +263,7 @@ pub(crate) fn say_syntax(said: &mut Said, source: &Source<'_>, k: usize, expecte
     } else {
         said.say("expected ");
         say_list(said, expected);
-        said.message.texts(&[" before '", found, "'"]);
+        said.message.put(&format_args!(" before '{found}'"));
     }
     if hint_missing(said, source, k, expected) {
         return;

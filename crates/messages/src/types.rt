@@ -35,8 +35,8 @@ fn say_undeclared(
     let (name, shown) = (source.spelling(k), source.token_text(k));
     said.say_name(shown, "isn't declared");
     if let Some(other) = source.declaration_of(name) {
-        said.hint.texts(&["'", shown, "' of line "]);
-        said.hint.number(source.spot(other).line);
+        let line = source.spot(other).line;
+        said.hint.put(&format_args!("'{shown}' of line {line}"));
         said.hint(if other < k {
             " ends with its block: declare it further out"
         } else {
@@ -45,7 +45,7 @@ fn say_undeclared(
     } else if let Some(told) = told_of(LIBRARY, name).or(written_for(name)) {
         said.hint(told);
     } else if let Some(near) = nearest(alloc, source, names, k)? {
-        said.hint.texts(&["did you mean '", near, "'"]);
+        said.hint.put(&format_args!("did you mean '{near}'"));
     }
     Ok(())
 }
@@ -80,7 +80,7 @@ fn say_function(said: &mut Said, name: &str, after: Option<Mark>) {
     match after {
         Some(Mark::LeftParen) => {
             said.say_name(name, "is void: its call has no value");
-            said.hint.texts(&["call it alone: ", name, "(..);"]);
+            said.hint.put(&format_args!("call it alone: {name}(..);"));
         }
         Some(Mark::LeftBracket) => said.say_name(name, "is a function: it has no elements"),
         Some(Mark::Assign) => said.say_name(name, "is a function: it can't be assigned to"),
@@ -98,31 +98,25 @@ fn say_variable(said: &mut Said, name: &str, after: Option<Mark>) {
         Some(Mark::LeftBracket) => said.say_name(name, "is no array: it has no elements"),
         _ => {
             said.say_name(name, "is an array: name one of its elements");
-            said.hint.texts(&["write ", name, "[0] or another index"]);
+            said.hint
+                .put(&format_args!("write {name}[0] or another index"));
         }
     }
 }
 
-/// Reports whether the name is a function's; `out`, which no text declares, is one.
-fn is_function(source: &Source<'_>, declared: Option<usize>) -> bool {
-    match declared {
-        Some(token) => source.is(after(token, 1), Mark::LeftParen),
-        None => true,
-    }
-}
-
+/// Says what is wrong with the use of a name; `out`, which no text declares, is a function's.
 fn say_other_kind(said: &mut Said, source: &Source<'_>, k: usize, declared: Option<usize>) {
-    let (name, after) = (source.token_text(k), source.mark(after(k, 1)));
+    let (name, next) = (source.token_text(k), source.mark(after(k, 1)));
     if let Some(Token::Jump(_, _)) = source.token(k) {
         say_return(said, source, k);
     } else if source.is_declared(k) && name == "main" {
         said.say_name(name, "has to be int main(void)");
     } else if source.is_declared(k) {
         said.say_name(name, "has length 0: an array has an element at least");
-    } else if is_function(source, declared) {
-        say_function(said, name, after);
+    } else if declared.is_none_or(|token| source.is(after(token, 1), Mark::LeftParen)) {
+        say_function(said, name, next);
     } else {
-        say_variable(said, name, after);
+        say_variable(said, name, next);
     }
 }
 
@@ -150,14 +144,11 @@ fn say_other_count(said: &mut Said, source: &Source<'_>, k: usize, declared: Opt
         said.say_name(source.token_text(function), "has more than 4 parameters");
         return said.hint("more values go through variables at file scope");
     }
-    let taken = match declared {
-        Some(token) => arguments(source, after(token, 1)),
-        None => 1,
-    };
-    said.say_name(source.token_text(k), "takes ");
+    let taken = declared.map_or(1, |token| arguments(source, after(token, 1)));
     let taken = TAKEN.get(taken).copied().unwrap_or("4 arguments");
-    said.message.texts(&[taken, ", not "]);
-    said.message.number(arguments(source, after(k, 1)));
+    let (name, count) = (source.token_text(k), arguments(source, after(k, 1)));
+    said.message
+        .put(&format_args!("'{name}' takes {taken}, not {count}"));
 }
 
 fn say_limit(said: &mut Said, source: &Source<'_>, k: usize) {

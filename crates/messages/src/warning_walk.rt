@@ -2,10 +2,10 @@
 //!
 //! A typed tree has no places. The walk comes to names and signs in the order of the text, so it finds them one by one among the tokens.
 
-use crate::folded::{folded_binary, folded_unary, is_decided};
+use crate::folded::constant;
 use crate::source::{Source, after};
 use crate::warnings::Warning;
-use c_tokens::{IntegerType, Literal, Mark};
+use c_tokens::{IntegerType, Mark};
 use c_tree::{BinaryOp, Declaration, Program};
 use c_typed::{Destination, Function, Global as Variable, TypedExpression, TypedStatement};
 use std::alloc::{AllocError, Global};
@@ -14,10 +14,12 @@ use words::Sign;
 
 /// What the walk knows of a local of the function.
 #[derive(Clone, Copy)]
-struct Local {
-    is_assigned: bool,
+enum Local {
+    Unset,
     /// The token that reads it first, if that can be reached.
-    read_at: Option<usize>,
+    Read(usize),
+    /// It is assigned somewhere.
+    Assigned,
 }
 
 #[derive(Drop)]
@@ -62,12 +64,6 @@ fn is_relation(operator: BinaryOp) -> bool {
     )
 }
 
-/// Reports whether an operator compares what an expression compared.
-fn compares_comparison(operator: BinaryOp, e: &TypedExpression) -> bool {
-    is_relation(operator)
-        && matches!(e, TypedExpression::Binary(inner, _, _) if is_relation(*inner))
-}
-
 /// Returns a word as a number of its type.
 fn number(value: u32, integer_type: IntegerType) -> i64 {
     match integer_type {
@@ -76,9 +72,18 @@ fn number(value: u32, integer_type: IntegerType) -> i64 {
     }
 }
 
+/// Reports whether an operator's right operand may be reached.
+fn reaches_right(operator: BinaryOp, left: &TypedExpression) -> bool {
+    match operator {
+        BinaryOp::LogicalAnd => outcomes(left).0,
+        BinaryOp::LogicalOr => outcomes(left).1,
+        _ => true,
+    }
+}
+
 /// Reports whether a test may come out true, and whether it may come out false.
-fn outcomes(test: Option<u32>) -> (bool, bool) {
-    match test {
+fn outcomes(test: &TypedExpression) -> (bool, bool) {
+    match constant(test) {
         Some(value) => (value != 0, value == 0),
         None => (true, true),
     }
@@ -98,17 +103,15 @@ impl<'a, 't> Walk<'a, 't> {
 
     /// Goes to the next token that is this sign, or to the next name.
     fn next(&mut self, wanted: Option<Mark>) -> usize {
-        for k in self.cursor..self.source.count() {
-            let is_wanted = match wanted {
-                Some(mark) => self.source.is(k, mark),
-                None => self.source.is_name(k),
-            };
-            if is_wanted {
-                self.cursor = after(k, 1);
-                return k;
-            }
+        let end = self.source.count();
+        let found = (self.cursor..end).find(|k| match wanted {
+            Some(mark) => self.source.is(*k, mark),
+            None => self.source.is_name(*k),
+        });
+        if let Some(k) = found {
+            self.cursor = after(k, 1);
         }
-        self.source.count()
+        found.unwrap_or(end)
     }
 
     fn next_name(&mut self) -> usize {
@@ -117,15 +120,8 @@ impl<'a, 't> Walk<'a, 't> {
 
     /// Reports whether parentheses that begin before the tokens between these two end there.
     fn closes(&self, from: usize, end: usize) -> bool {
-        let (mut opened, mut closed) = (0usize, 0usize);
-        for k in from..end {
-            match self.source.mark(k) {
-                Some(Mark::LeftParen) => opened = after(opened, 1),
-                Some(Mark::RightParen) => closed = after(closed, 1),
-                _ => {}
-            }
-        }
-        opened < closed
+        let count = |mark: Mark| (from..end).filter(|k| self.source.is(*k, mark)).count();
+        count(Mark::LeftParen) < count(Mark::RightParen)
     }
 
     /// Goes to the name that is assigned to.
@@ -134,7 +130,7 @@ impl<'a, 't> Walk<'a, 't> {
         if let Destination::Local(k) = place
             && let Some(local) = self.locals.get_mut(k)
         {
-            local.is_assigned = true;
+            *local = Local::Assigned;
         }
     }
 
@@ -143,28 +139,33 @@ impl<'a, 't> Walk<'a, 't> {
         let name = self.next_name();
         if self.is_live
             && let Some(local) = self.locals.get_mut(k)
-            && local.read_at.is_none()
+            && let Local::Unset = *local
         {
-            local.read_at = Some(name);
+            *local = Local::Read(name);
         }
     }
 
-    /// Warns of an index whose value is known.
+    /// Returns the value of an expression that is a constant and can be reached.
+    fn known(&self, e: &TypedExpression) -> Option<u32> {
+        if self.is_live { constant(e) } else { None }
+    }
+
+    /// Warns of an index that is known to lie outside.
     fn index(
         &mut self,
         name: usize,
         array: usize,
         index: &TypedExpression,
-        value: u32,
     ) -> Result<(), AllocError> {
-        let length = match self.variables.get(array) {
-            Some(variable) if variable.length <= value as usize => variable.length,
-            _ => return Ok(()),
+        let (Some(value), Some(variable)) = (self.known(index), self.variables.get(array)) else {
+            return Ok(());
         };
-        let (index, shown) = (
-            number(value, index.integer_type()),
-            self.source.token_text(name),
-        );
+        let length = variable.length;
+        if (value as usize) < length {
+            return Ok(());
+        }
+        let index = number(value, index.integer_type());
+        let shown = self.source.token_text(name);
         let elements = if length == 1 { "element" } else { "elements" };
         let message = format!(in self.alloc;
             "the index {index} is outside '{shown}', which has {length} {elements}"
@@ -172,9 +173,16 @@ impl<'a, 't> Walk<'a, 't> {
         self.warn(name, message)
     }
 
-    /// Warns of a left shift of an int, if both are known.
-    fn left_shift(&mut self, sign: usize, left: Option<u32>, count: u32) -> Result<(), AllocError> {
-        let Some(value) = left else { return Ok(()) };
+    /// Warns of a left shift of an int, if that is known.
+    fn left_shift(
+        &mut self,
+        sign: usize,
+        left: &TypedExpression,
+        count: u32,
+    ) -> Result<(), AllocError> {
+        let Some(value) = constant(left) else {
+            return Ok(())
+        };
         if Sign::Signed.left_shift(value, count).is_some() {
             return Ok(());
         }
@@ -192,22 +200,23 @@ impl<'a, 't> Walk<'a, 't> {
         &mut self,
         sign: usize,
         operator: BinaryOp,
-        integer_type: IntegerType,
-        left: Option<u32>,
-        right: Literal,
+        left: &TypedExpression,
+        right: &TypedExpression,
     ) -> Result<(), AllocError> {
+        let Some(value) = self.known(right) else {
+            return Ok(())
+        };
         let message = match operator {
-            _ if !self.is_live => return Ok(()),
-            BinaryOp::Divide if right.value == 0 => String::from_str(self.alloc, "a division by 0"),
-            BinaryOp::Remainder if right.value == 0 => {
+            BinaryOp::Divide if value == 0 => String::from_str(self.alloc, "a division by 0"),
+            BinaryOp::Remainder if value == 0 => {
                 String::from_str(self.alloc, "the remainder of a division by 0")
             }
-            BinaryOp::ShiftLeft | BinaryOp::ShiftRight if right.value >= 32 => {
-                let count = number(right.value, right.integer_type);
+            BinaryOp::ShiftLeft | BinaryOp::ShiftRight if value >= 32 => {
+                let count = number(value, right.integer_type());
                 format!(in self.alloc; "the shift count {count} isn't from 0 to 31")
             }
-            BinaryOp::ShiftLeft if integer_type == IntegerType::SignedInt => {
-                return self.left_shift(sign, left, right.value);
+            BinaryOp::ShiftLeft if left.integer_type() == IntegerType::SignedInt => {
+                return self.left_shift(sign, left, value);
             }
             _ => return Ok(()),
         };
@@ -225,88 +234,65 @@ impl<'a, 't> Walk<'a, 't> {
             None => self.cursor,
             mark => self.next(mark),
         };
-        if compares_comparison(operator, left) && !self.closes(before, sign) {
+        if is_relation(operator)
+            && matches!(left, TypedExpression::Binary(inner, _, _) if is_relation(*inner))
+            && !self.closes(before, sign)
+        {
             let message = "a comparison of a comparison: a < b < c compares 0 or 1 with c";
             self.warn(sign, String::from_str(self.alloc, message))?;
         }
         Ok(sign)
     }
 
-    /// Walks through an expression; its value where it is a constant.
+    /// Walks through an expression.
     #[cycle(expressions)]
-    fn expression(&mut self, e: &TypedExpression) -> Result<Option<u32>, AllocError> {
+    fn expression(&mut self, e: &TypedExpression) -> Result<(), AllocError> {
         match e {
-            TypedExpression::Constant(literal) => Ok(Some(literal.value)),
-            TypedExpression::Local(_, k) => {
-                self.read(*k);
-                Ok(None)
-            }
+            TypedExpression::Constant(_) => {}
+            TypedExpression::Local(_, k) => self.read(*k),
             TypedExpression::Global(_, _) => {
                 self.next_name();
-                Ok(None)
             }
             TypedExpression::Element(_, parts) => {
                 let (array, index) = &**parts;
                 self.element(*array, index)?;
-                Ok(None)
             }
-            TypedExpression::Unary(operator, integer_type, part) => {
-                let value = self.expression(part)?;
-                Ok(folded_unary(*operator, *integer_type, value))
-            }
-            TypedExpression::Binary(operator, integer_type, operands) => {
+            TypedExpression::Unary(_, _, part) => self.expression(part)?,
+            TypedExpression::Binary(operator, _, operands) => {
                 let (left, right) = &**operands;
-                let value = self.expression(left)?;
+                self.expression(left)?;
                 let sign = self.sign_after(left, *operator)?;
-                let is_reached = !is_decided(*operator, value);
-                let other = self.expression_if(is_reached, right)?;
-                if is_reached && let Some(word) = other {
-                    let right = Literal {
-                        value: word,
-                        integer_type: right.integer_type(),
-                    };
-                    self.operation(sign, *operator, *integer_type, value, right)?;
-                }
+                self.expression_if(reaches_right(*operator, left), right)?;
+                self.operation(sign, *operator, left, right)?;
                 self.sign = sign;
-                Ok(folded_binary(*operator, *integer_type, value, other))
             }
             TypedExpression::Conditional(_, parts) => {
                 let (test, first, second) = &**parts;
-                let value = self.expression(test)?;
-                let (can_hold, can_fail) = outcomes(value);
-                let first = self.expression_if(can_hold, first)?;
-                let second = self.expression_if(can_fail, second)?;
-                Ok(match value {
-                    Some(0) => second,
-                    Some(_) => first,
-                    None => None,
-                })
+                self.expression(test)?;
+                let (can_hold, can_fail) = outcomes(test);
+                self.expression_if(can_hold, first)?;
+                self.expression_if(can_fail, second)?;
             }
         }
+        Ok(())
     }
 
     /// Walks through an expression that is reached only if this holds.
     #[cycle(expressions)]
-    fn expression_if(
-        &mut self,
-        holds: bool,
-        e: &TypedExpression,
-    ) -> Result<Option<u32>, AllocError> {
+    fn expression_if(&mut self, holds: bool, e: &TypedExpression) -> Result<(), AllocError> {
         let is_live = self.is_live;
         self.is_live = is_live && holds;
-        let value = self.expression(e)?;
+        self.expression(e)?;
         self.is_live = is_live;
-        Ok(value)
+        Ok(())
     }
 
     /// Walks through an array's name and an index of it.
     #[cycle(expressions)]
     fn element(&mut self, array: usize, index: &TypedExpression) -> Result<(), AllocError> {
         let name = self.next_name();
-        match self.expression(index)? {
-            Some(value) if self.is_live => self.index(name, array, index, value),
-            _ => Ok(()),
-        }
+        self.expression(index)?;
+        self.index(name, array, index)
     }
 
     /// Walks through a call, after which nothing is reached where it never ends.
@@ -323,18 +309,9 @@ impl<'a, 't> Walk<'a, 't> {
 
     /// Walks through a test; the answer is whether what comes where it holds can be reached, and what comes where it fails.
     fn test(&mut self, test: &TypedExpression) -> Result<(bool, bool), AllocError> {
-        let (can_hold, can_fail) = outcomes(self.expression(test)?);
+        self.expression(test)?;
+        let (can_hold, can_fail) = outcomes(test);
         Ok((self.is_live && can_hold, self.is_live && can_fail))
-    }
-
-    /// Walks through a `return`.
-    fn leave(&mut self, value: &Option<TypedExpression>) -> Result<(), AllocError> {
-        if let Some(e) = value {
-            self.expression(e)?;
-        }
-        self.has_return = self.has_return || self.is_live;
-        self.is_live = false;
-        Ok(())
     }
 
     /// Walks through a statement without parts that are statements.
@@ -366,7 +343,13 @@ impl<'a, 't> Walk<'a, 't> {
                 self.is_live = false;
             }
             TypedStatement::Continue => self.is_live = false,
-            TypedStatement::Return(value) => self.leave(value)?,
+            TypedStatement::Return(value) => {
+                if let Some(e) = value {
+                    self.expression(e)?;
+                }
+                self.has_return = self.has_return || self.is_live;
+                self.is_live = false;
+            }
             _ => {}
         }
         Ok(())
@@ -376,7 +359,7 @@ impl<'a, 't> Walk<'a, 't> {
     #[cycle(statements)]
     fn statement(&mut self, s: &TypedStatement) -> Result<(), AllocError> {
         match s {
-            TypedStatement::Block(all) => self.statements(all),
+            TypedStatement::Block(all) => self.statements(all)?,
             TypedStatement::If(test, first, second) => {
                 let (holds, fails) = self.test(test)?;
                 self.is_live = holds;
@@ -384,7 +367,6 @@ impl<'a, 't> Walk<'a, 't> {
                 let goes_on = mem::replace(&mut self.is_live, fails);
                 self.statement(second)?;
                 self.is_live = self.is_live || goes_on;
-                Ok(())
             }
             TypedStatement::Loop(test, last, body) => {
                 let (holds, fails) = self.test(test)?;
@@ -394,10 +376,10 @@ impl<'a, 't> Walk<'a, 't> {
                 let outer = mem::replace(&mut self.has_break, false);
                 self.statement(body)?;
                 self.is_live = mem::replace(&mut self.has_break, outer) || fails;
-                Ok(())
             }
-            _ => self.simple(s),
+            _ => self.simple(s)?,
         }
+        Ok(())
     }
 
     /// Walks through the statements of a block or of a function's body.
@@ -415,9 +397,10 @@ impl<'a, 't> Walk<'a, 't> {
         self.next(Some(Mark::LeftBrace));
         self.locals.clear();
         for k in 0..typed.locals {
-            self.locals.push(Local {
-                is_assigned: k < typed.parameters,
-                read_at: None,
+            self.locals.push(if k < typed.parameters {
+                Local::Assigned
+            } else {
+                Local::Unset
             })?;
         }
         (self.is_live, self.has_break, self.has_return) = (true, false, false);
@@ -427,10 +410,7 @@ impl<'a, 't> Walk<'a, 't> {
     /// Warns of each local that is read and never assigned.
     fn unset_locals(&mut self) -> Result<(), AllocError> {
         for k in 0..self.locals.len() {
-            if let Some(local) = self.locals.get(k).copied()
-                && !local.is_assigned
-                && let Some(name) = local.read_at
-            {
+            if let Some(Local::Read(name)) = self.locals.get(k).copied() {
                 let shown = self.source.token_text(name);
                 let message = format!(in self.alloc; "'{shown}' is read and never assigned");
                 self.warn(name, message)?;
