@@ -100,12 +100,6 @@ fn name_at<'a>(labels: &[Label<'a>], address: u32) -> Option<&'a str> {
     Some(label.name)
 }
 
-/// Writes the label that the source itself has for an address.
-fn put_label(out: &mut Writer, address: u32) {
-    out.text("L");
-    out.put(&WordDigits(address));
-}
-
 /// Writes a branch or jump with a label in place of the address.
 fn put_control(
     alloc: Global,
@@ -121,17 +115,12 @@ fn put_control(
         out.text(before);
         match name_at(labels, target) {
             Some(name) => out.text(name),
-            None => put_label(out, target),
+            None => out.put(&format_args!("L{}", WordDigits(target))),
         }
     } else {
         out.text(text.as_str());
     }
     Ok(())
-}
-
-fn put_word(out: &mut Writer, word: u32) {
-    out.text(".word 0x");
-    out.put(&WordDigits(word));
 }
 
 /// Writes a word of the code. The word 0 is `sll $0,$0,0`, since SPIM on a bare machine knows no `nop`.
@@ -147,7 +136,7 @@ fn put_form(
         Form::Plain(plain) if plain.is_nop() => out.text("sll $0,$0,0"),
         Form::Plain(plain) => out.put(&plain),
         Form::Control(control) => put_control(alloc, out, control, address, labels)?,
-        Form::Word(word) => put_word(out, word),
+        Form::Word(word) => out.put(&format_args!(".word 0x{}", WordDigits(word))),
     }
     out.text("\n");
     Ok(())
@@ -157,11 +146,8 @@ fn put_form(
 fn put_names(out: &mut Writer, labels: &[Label<'_>], address: u32) {
     for label in labels {
         if label.is_of(address) {
-            out.text(".globl ");
-            out.text(label.name);
-            out.text("\n");
-            out.text(label.name);
-            out.text(":\n");
+            let name = label.name;
+            out.put(&format_args!(".globl {name}\n{name}:\n"));
         }
     }
 }
@@ -181,8 +167,7 @@ fn put_code(
         }
         put_names(out, labels, address);
         if *is_target && name_at(labels, address).is_none() {
-            put_label(out, address);
-            out.text(":\n");
+            out.put(&format_args!("L{}:\n", WordDigits(address)));
         }
         let form = form_of(*word, address, code.len());
         put_form(alloc, out, form, address, labels)?;
@@ -194,15 +179,11 @@ fn put_code(
 /// Writes four bytes as a word, and fewer each alone.
 fn put_bytes(out: &mut Writer, bytes: &[u8]) {
     if let [a, b, c, d] = bytes {
-        out.text("    ");
-        put_word(out, u32::from_be_bytes([*a, *b, *c, *d]));
-        out.text("\n");
-        return;
+        let word = u32::from_be_bytes([*a, *b, *c, *d]);
+        return out.put(&format_args!("    .word 0x{}\n", WordDigits(word)));
     }
     for byte in bytes {
-        out.text("    .byte 0x");
-        out.put(&ByteDigits(*byte));
-        out.text("\n");
+        out.put(&format_args!("    .byte 0x{}\n", ByteDigits(*byte)));
     }
 }
 

@@ -18,15 +18,12 @@ fn put_edge(
     let Some(node) = place.and_then(|place| nodes.get(place)) else {
         return;
     };
-    out.text("    b");
-    out.put(&from);
-    out.text(" -> b");
-    out.put(&node.number);
-    out.text(style);
-    if is_back {
-        out.text(" penwidth=2 color=blue");
-    }
-    out.text("];\n");
+    let bold = if is_back {
+        " penwidth=2 color=blue"
+    } else {
+        ""
+    };
+    out.put(&format_args!("    b{from} -> b{}{style}{bold}];\n", node.number));
 }
 
 /// Returns the places of the blocks to which an exit leads, among a function's, the first of which has this number.
@@ -56,11 +53,8 @@ pub(crate) fn rtl_places(exit: &RExit) -> Edges {
 pub(crate) fn put_nodes(alloc: Global, out: &mut Writer, nodes: &[Node]) -> Result<(), AllocError> {
     let back = back_edges(alloc, nodes)?;
     for (node, back) in nodes.iter().zip(back.iter()) {
-        out.text("    b");
-        out.put(&node.number);
-        out.text(" [label=\"block ");
-        out.put(&node.number);
-        out.text("\\l");
+        let number = node.number;
+        out.put(&format_args!("    b{number} [label=\"block {number}\\l"));
         out.page(&node.lines);
         out.text("\"];\n");
         let [first, second] = node.edges;
@@ -68,8 +62,8 @@ pub(crate) fn put_nodes(alloc: Global, out: &mut Writer, nodes: &[Node]) -> Resu
             Some(_) => (" [label=\"taken\"", " [label=\"else\" style=dashed"),
             None => (" [style=solid", ""),
         };
-        put_edge(out, nodes, node.number, first, one, back[0]);
-        put_edge(out, nodes, node.number, second, other, back[1]);
+        put_edge(out, nodes, number, first, one, back[0]);
+        put_edge(out, nodes, number, second, other, back[1]);
     }
     Ok(())
 }

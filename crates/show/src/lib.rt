@@ -23,5 +23,6 @@ mod rtl_text;
 mod wanted;
 
 pub use assembler::assembler_source;
+pub use listing::order_words;
 pub use program::{Shown, show};
 pub use wanted::{Asked, ShowFault};

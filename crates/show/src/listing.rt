@@ -15,7 +15,7 @@ fn exit_words(exit: Exit) -> usize {
 }
 
 /// Returns how many words of code an order has.
-pub(crate) fn order_words(order: &Order) -> usize {
+pub fn order_words(order: &Order) -> usize {
     order.insts().len().saturating_add(exit_words(order.exit()))
 }
 
@@ -66,9 +66,7 @@ impl<'a> View<'a> {
     /// Writes the lines of data, under the global's name.
     fn list_data(&self, out: &mut Writer, lines: &mut Lines<'_>) {
         for (k, global) in self.shown.rtl.globals().iter().enumerate() {
-            out.text("data ");
-            out.text(self.names.global(k));
-            out.text("\n");
+            out.put(&format_args!("data {}\n", self.names.global(k)));
             let words = global.width.words_of(global.length) as usize;
             put_words(out, lines, words, true);
         }
@@ -92,26 +90,19 @@ pub(crate) fn put_title(out: &mut Writer, names: &Names<'_>, number: usize) {
     if number == 0 {
         out.text("start\n");
     } else {
-        out.text("function ");
-        out.text(names.function(number - 1));
-        out.text("\n");
+        out.put(&format_args!("function {}\n", names.function(number - 1)));
     }
 }
 
 /// Writes the line over a block: its number, and the function that it calls.
 pub(crate) fn put_heading(out: &mut Writer, number: usize, called: Option<&str>) {
-    out.text("  block ");
-    out.put(&number);
+    out.put(&format_args!("  block {number}"));
     if let Some(name) = called {
-        out.text(" (calls ");
-        out.text(name);
-        out.text(")");
+        out.put(&format_args!(" (calls {name})"));
     }
 }
 
 /// Writes a line of a block, after a margin.
 fn put_line(out: &mut Writer, line: &str) {
-    out.text("    ");
-    out.text(line);
-    out.text("\n");
+    out.put(&format_args!("    {line}\n"));
 }

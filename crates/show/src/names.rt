@@ -2,8 +2,7 @@
 
 use c_tokens::{Identifier, MAX_TEXT, Mark, Token, lex};
 use std::alloc::{AllocError, Global};
-use std::str;
-use text::Writer;
+use std::{fmt, str};
 
 /// A function's name, and those of its locals, the parameters first.
 #[derive(Drop)]
@@ -97,18 +96,14 @@ impl<'t> Names<'t> {
 
     /// Returns the name of a function; `?` where there is none of this number.
     pub(crate) fn function(&self, number: usize) -> &'t str {
-        match self.functions.get(number) {
-            Some(function) => self.spelling(function.name),
-            None => "?",
-        }
+        let function = self.functions.get(number);
+        function.map_or("?", |function| self.spelling(function.name))
     }
 
     /// Returns the name of a global.
     pub(crate) fn global(&self, number: usize) -> &'t str {
-        match self.globals.get(number) {
-            Some(name) => self.spelling(*name),
-            None => "?",
-        }
+        let name = self.globals.get(number);
+        name.map_or("?", |name| self.spelling(*name))
     }
 
     /// Returns the number of the function of this name.
@@ -127,20 +122,34 @@ impl<'t> Names<'t> {
         (0..number).any(|other| self.local(function, other) == Some(name))
     }
 
-    /// Writes the pseudo-register of a function. A local has its name, with its number where an earlier one has the name too, and any other
-    /// its number alone.
-    pub(crate) fn put_register(&self, out: &mut Writer, function: usize, register: u32) {
+    /// Returns the pseudo-register of a function, as it is shown.
+    pub(crate) fn register(&self, function: usize, register: u32) -> RegisterName<'t> {
         let number = register as usize;
-        let is_named = match self.local(function, number) {
-            Some(name) => {
-                out.text(name);
-                !self.is_again(function, number, name)
-            }
-            None => false,
+        let (name, is_named) = match self.local(function, number) {
+            Some(name) => (name, !self.is_again(function, number, name)),
+            None => ("", false),
         };
-        if !is_named {
-            out.text("%");
-            out.put(&register);
+        RegisterName {
+            name,
+            number: (!is_named).then_some(register),
+        }
+    }
+}
+
+/// A pseudo-register as it is shown. A local has its name, with its number where an earlier one has the name too, and any other its number
+/// alone.
+#[derive(Clone, Copy)]
+pub(crate) struct RegisterName<'t> {
+    name: &'t str,
+    number: Option<u32>,
+}
+
+impl fmt::Display for RegisterName<'_> {
+    fn fmt<W: fmt::Write>(&self, f: &mut fmt::Formatter<W>) -> fmt::Result {
+        let name = self.name;
+        match self.number {
+            Some(number) => write!(f, "{name}%{number}"),
+            None => f.write_str(name),
         }
     }
 }

@@ -37,9 +37,7 @@ pub(crate) fn put_needed(out: &mut Writer, block: &Block, margin: &str, end: &st
             put_insts(out, &[*inst], margin, end);
         }
     }
-    out.text(margin);
-    out.put(&ExitLine(block.exit()));
-    out.text(end);
+    out.put(&format_args!("{margin}{}{end}", ExitLine(block.exit())));
 }
 
 /// Writes the order that was refused, why it is wrong, if that was found, and the plain one, which is taken.
@@ -67,10 +65,7 @@ pub(crate) fn put_settled(
             put_order(out, &checked.into_order(), "    ", "\n");
             return Ok(());
         }
-        Verdict::Unclean(rule) => {
-            out.text("unclean ");
-            out.put(&rule);
-        }
+        Verdict::Unclean(rule) => out.put(&format_args!("unclean {rule}")),
         Verdict::Differs(place) => {
             out.text("differs ");
             put_place(out, place);

@@ -165,15 +165,12 @@ impl<'a> View<'a> {
 
     /// Writes a function's graph, as a cluster.
     fn put_graph(&self, out: &mut Writer, number: usize) -> Result<(), AllocError> {
-        out.text("  subgraph cluster_");
-        out.put(&number);
-        out.text(" {\n    label=\"");
-        out.text(if number == 0 {
+        let name = if number == 0 {
             "start"
         } else {
             self.names.function(number - 1)
-        });
-        out.text("\";\n");
+        };
+        out.put(&format_args!("  subgraph cluster_{number} {{\n    label=\"{name}\";\n"));
         let nodes = match self.wanted.stage {
             Some(Stage::Rtl) => self.rtl_nodes(number)?,
             _ => self.nodes(number)?,

@@ -1,7 +1,7 @@
 //! RTL as text.
 
 use crate::listing::put_heading;
-use crate::names::Names;
+use crate::names::{Names, RegisterName};
 use crate::wanted::Wanted;
 use mblock::BlockNumber;
 use rtl::{Op, RBlock, RExit, RGlobal, RInst, Register};
@@ -42,14 +42,8 @@ fn sign(op: Op) -> &'static str {
 }
 
 impl<'a> RtlView<'a> {
-    fn register(&self, out: &mut Writer, register: Register) {
-        self.names.put_register(out, self.function, register);
-    }
-
-    /// Writes a register that becomes something.
-    fn becomes(&self, out: &mut Writer, register: Register) {
-        self.register(out, register);
-        out.text(" = ");
+    fn register(&self, register: Register) -> RegisterName<'a> {
+        self.names.register(self.function, register)
     }
 
     fn is_array(&self, global: u32) -> bool {
@@ -61,9 +55,7 @@ impl<'a> RtlView<'a> {
     fn element(&self, out: &mut Writer, global: u32, index: Register) {
         out.text(self.names.global(global as usize));
         if self.is_array(global) {
-            out.text("[");
-            self.register(out, index);
-            out.text("]");
+            out.put(&format_args!("[{}]", self.register(index)));
         }
     }
 
@@ -71,54 +63,40 @@ impl<'a> RtlView<'a> {
     fn inst(&self, out: &mut Writer, inst: RInst) {
         match inst {
             RInst::Const(to, word) => {
-                self.becomes(out, to);
-                out.put(&word.cast_signed());
+                out.put(&format_args!("{} = {}", self.register(to), word.cast_signed()));
             }
             RInst::Move(to, from) => {
-                self.becomes(out, to);
-                self.register(out, from);
+                out.put(&format_args!("{} = {}", self.register(to), self.register(from)));
             }
             RInst::Bin(op, to, left, right) => {
-                self.becomes(out, to);
-                self.register(out, left);
-                out.text(sign(op));
-                self.register(out, right);
+                let (left, sign, right) = (self.register(left), sign(op), self.register(right));
+                out.put(&format_args!("{} = {left}{sign}{right}", self.register(to)));
             }
             RInst::Load(to, global, index) => {
-                self.becomes(out, to);
+                out.put(&format_args!("{} = ", self.register(to)));
                 self.element(out, global, index);
             }
             RInst::Store(global, index, from) => {
                 self.element(out, global, index);
-                out.text(" = ");
-                self.register(out, from);
+                out.put(&format_args!(" = {}", self.register(from)));
             }
         }
     }
 
     /// Returns the number that a block has in all stages.
     pub(crate) fn number(&self, block: usize) -> usize {
-        match self.numbers.get(block) {
-            Some(number) => number.number() as usize,
-            None => 0,
-        }
-    }
-
-    fn to(&self, out: &mut Writer, before: &str, block: u32) {
-        out.text(before);
-        out.put(&self.number(block as usize));
+        let number = self.numbers.get(block);
+        number.map_or(0, |number| number.number() as usize)
     }
 
     fn call(&self, out: &mut Writer, function: u32, arguments: &[Register], to: Option<Register>) {
         if let Some(to) = to {
-            self.becomes(out, to);
+            out.put(&format_args!("{} = ", self.register(to)));
         }
-        out.text(self.names.function(function as usize));
-        out.text("(");
+        out.put(&format_args!("{}(", self.names.function(function as usize)));
         let mut before = "";
         for argument in arguments {
-            out.text(before);
-            self.register(out, *argument);
+            out.put(&format_args!("{before}{}", self.register(*argument)));
             before = ", ";
         }
         out.text(")");
@@ -126,27 +104,23 @@ impl<'a> RtlView<'a> {
 
     /// Writes how a block is left.
     fn exit(&self, out: &mut Writer, exit: &RExit) {
+        let number = |block: u32| self.number(block as usize);
         match exit {
-            RExit::Goto(block) => self.to(out, "goto ", *block),
+            RExit::Goto(block) => out.put(&format_args!("goto {}", number(*block))),
             RExit::Branch(test, then, other) => {
-                out.text("if ");
-                self.register(out, *test);
-                self.to(out, " goto ", *then);
-                self.to(out, " else ", *other);
+                let (test, then, other) = (self.register(*test), number(*then), number(*other));
+                out.put(&format_args!("if {test} goto {then} else {other}"));
             }
             RExit::Call(function, arguments, to, next) => {
                 self.call(out, *function, arguments.as_slice(), *to);
-                self.to(out, ", then ", *next);
+                out.put(&format_args!(", then {}", number(*next)));
             }
             RExit::Return(None) => out.text("return"),
             RExit::Return(Some(from)) => {
-                out.text("return ");
-                self.register(out, *from);
+                out.put(&format_args!("return {}", self.register(*from)));
             }
             RExit::Out(from, next) => {
-                out.text("out ");
-                self.register(out, *from);
-                self.to(out, ", then ", *next);
+                out.put(&format_args!("out {}, then {}", self.register(*from), number(*next)));
             }
         }
     }
