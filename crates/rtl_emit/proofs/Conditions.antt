@@ -1,5 +1,5 @@
 -- What the code of a condition does, and values that branches tell.
-use Rattle.std.proofs.Common.{◌≡◌, ◌≢◌, ℕ, ◌≤◌, Bool, true, false, List, Some, refl, sym, ◌∙◌, ap, subst, arith, nat_eq}
+use Rattle.std.proofs.Common.{◌≡◌, ◌≢◌, ℕ, ◌≤◌, Bool, true, false, List, Option, Some, refl, sym, ◌∙◌, ap, subst, arith, nat_eq}
 use Rattle.std.specs.Prelude.{if◌then◌else◌, not}
 use Rattle.words.specs.Words.{wrap}
 use Rattle.runs.specs.Stores.{Places, Arrays, places_with, chain}
@@ -32,13 +32,17 @@ branch : (w : Surroundings) (bs : List RBlock) (p yes_block no_block : ℕ) (r :
 branch w bs p yes_block no_block r v e =
     with_some (r p) v w.output (λ v. state_at_block bs (if nat_eq v 0 then no_block else yes_block) r w.result_to w.waiting w.globals w.output) e
 
+-- the code of a block, where a condition has arrived
+enters : (w : Surroundings) (bs : List RBlock) (free : ℕ) (r : Places) (from code : Code) (side : ℕ) (ar : Arrives w bs free r from side) → At bs side code
+    → Moves w.program w.depth (at w bs r from) (at w bs ar.regs code)
+enters w bs free r from code side ar a =
+    subst (λ s. Moves w.program w.depth (at w bs r from) s) (jump_to a ar.regs w.result_to w.waiting w.globals w.output) ar.moves
+
 -- on from the block that a first condition led to
 arrives_then : (w : Surroundings) (bs : List RBlock) (free : ℕ) (r : Places) (from second_code : Code) (second to : ℕ) (a : Arrives w bs free r from second)
     → At bs second second_code → Arrives w bs free a.regs second_code to → Arrives w bs free r from to
 arrives_then w bs free r from second_code second to a ats b =
-    let here : Moves w.program w.depth (at w bs r from) (at w bs a.regs second_code) =
-    subst (λ s. Moves w.program w.depth (at w bs r from) s) (jump_to ats a.regs w.result_to w.waiting w.globals w.output) a.moves in
-    record { regs = b.regs; moves = moves_then here (goes_of b.moves); kept = λ x k. b.kept x k ∙ a.kept x k }
+    record { regs = b.regs; moves = moves_then (enters w bs free r from second_code second a ats) (goes_of b.moves); kept = λ x k. b.kept x k ∙ a.kept x k }
 
 arrives_at : (w : Surroundings) (bs : List RBlock) (free : ℕ) (r : Places) (from : Code) (to to' : ℕ) → to ≡ to' → Arrives w bs free r from to
     → Arrives w bs free r from to'
@@ -125,67 +129,53 @@ second_decides bs b yes_block no_block second free from second_code ats db w l r
     (arrives_then w bs free r from second_code second _ ar ats
     (db.by w l ar.regs c.value (holds_kept free free l r ar.regs w.globals (omega arith) h ar.kept) c.is))
 
+-- by a first condition, which leads one way or the other
+by_first : {Goal : Type 0} (w : Surroundings) (bs : List RBlock) (free : ℕ) (r : Places) (from : Code) (o : Option ℕ) (yes_block no_block : ℕ)
+    (on : Bool → Option ℕ) (v : ℕ) → chain o (λ x. on (nat_eq x 0)) ≡ Some v
+    → ((x : ℕ) → o ≡ Some x → Arrives w bs free r from (if nat_eq x 0 then no_block else yes_block))
+    → (on true ≡ Some v → Arrives w bs free r from no_block → Goal) → (on false ≡ Some v → Arrives w bs free r from yes_block → Goal) → Goal
+by_first {Goal} w bs free r from o yes_block no_block on v e leads zero some =
+    let c = chained o (λ x. on (nat_eq x 0)) v e in
+    by (nat_eq c.value 0) c.then_is (leads c.value c.is)
+  where
+    by : (z : Bool) → on z ≡ Some v → Arrives w bs free r from (if z then no_block else yes_block) → Goal
+    by true = zero
+    by false = some
+
 pub and_decides : (bs : List RBlock) (k : IntegerType) (a b : TypedExpression) (yes_block no_block second free : ℕ) (from second_code : Code)
     → Decides bs a free second no_block from → At bs second second_code → Decides bs b free yes_block no_block second_code
     → Decides bs (binary B.LogicalAnd k a b) free yes_block no_block from
 and_decides bs k a b yes_block no_block second free from second_code da ats db = record {
-  by = λ w l r v h e.
-      let c = chained (value_of a l w.globals) (λ x. if nat_eq x 0 then Some 0 else chain (value_of b l w.globals)
-      (λ y. Some (truth (not (nat_eq y 0))))) v e in
-      after_first w l r v h (nat_eq c.value 0) c.then_is (da.by w l r c.value h c.is);
+  by = λ w l r v h e. by_first w bs free r from (value_of a l w.globals) second no_block
+      (λ z. if z then Some 0 else chain (value_of b l w.globals) (λ y. Some (truth (not (nat_eq y 0))))) v e (λ x is. da.by w l r x h is)
+      (λ e ar. let is : 0 ≡ v = cc in subst (λ v. Arrives w bs free r from (if nat_eq v 0 then no_block else yes_block)) is ar)
+      (second_decides bs b yes_block no_block second free from second_code ats db w l r v h);
 }
-  where
-    after_first : (w : Surroundings) (l r : Places) (v : ℕ) → Holds free l r w.globals → (z : Bool)
-        → (if z then Some 0 else chain (value_of b l w.globals) (λ y. Some (truth (not (nat_eq y 0))))) ≡ Some v
-        → Arrives w bs free r from (if z then no_block else second) → Arrives w bs free r from (if nat_eq v 0 then no_block else yes_block)
-    after_first w l r v h true e ar =
-        let is : 0 ≡ v = cc in
-        subst (λ v. Arrives w bs free r from (if nat_eq v 0 then no_block else yes_block)) is ar
-    after_first w l r v h false e ar = second_decides bs b yes_block no_block second free from second_code ats db w l r v h e ar
 
 pub or_decides : (bs : List RBlock) (k : IntegerType) (a b : TypedExpression) (yes_block no_block second free : ℕ) (from second_code : Code)
     → Decides bs a free yes_block second from → At bs second second_code → Decides bs b free yes_block no_block second_code
     → Decides bs (binary B.LogicalOr k a b) free yes_block no_block from
 or_decides bs k a b yes_block no_block second free from second_code da ats db = record {
-  by = λ w l r v h e.
-      let c = chained (value_of a l w.globals) (λ x. if nat_eq x 0 then chain (value_of b l w.globals) (λ y. Some (truth (not (nat_eq y 0)))) else
-      Some 1) v e in
-      after_first w l r v h (nat_eq c.value 0) c.then_is (da.by w l r c.value h c.is);
+  by = λ w l r v h e. by_first w bs free r from (value_of a l w.globals) yes_block second
+      (λ z. if z then chain (value_of b l w.globals) (λ y. Some (truth (not (nat_eq y 0)))) else Some 1) v e (λ x is. da.by w l r x h is)
+      (second_decides bs b yes_block no_block second free from second_code ats db w l r v h)
+      (λ e ar. let is : 1 ≡ v = cc in subst (λ v. Arrives w bs free r from (if nat_eq v 0 then no_block else yes_block)) is ar);
 }
-  where
-    after_first : (w : Surroundings) (l r : Places) (v : ℕ) → Holds free l r w.globals → (z : Bool)
-        → (if z then chain (value_of b l w.globals) (λ y. Some (truth (not (nat_eq y 0)))) else Some 1) ≡ Some v
-        → Arrives w bs free r from (if z then second else yes_block) → Arrives w bs free r from (if nat_eq v 0 then no_block else yes_block)
-    after_first w l r v h false e ar =
-        let is : 1 ≡ v = cc in
-        subst (λ v. Arrives w bs free r from (if nat_eq v 0 then no_block else yes_block)) is ar
-    after_first w l r v h true e ar = second_decides bs b yes_block no_block second free from second_code ats db w l r v h e ar
 
 pub conditional_decides : (bs : List RBlock) (k : IntegerType) (c a b : TypedExpression) (yes_block no_block y n free : ℕ) (from y_code n_code : Code)
     → Decides bs c free y n from → At bs y y_code → At bs n n_code → Decides bs a free yes_block no_block y_code
     → Decides bs b free yes_block no_block n_code
     → Decides bs (conditional k c a b) free yes_block no_block from
 conditional_decides bs k c a b yes_block no_block y n free from y_code n_code dc aty atn da db = record {
-  by = λ w l r v h e.
-      let ch = chained (value_of c l w.globals) (λ x. if nat_eq x 0 then value_of b l w.globals else value_of a l w.globals) v e in
-      after_first w l r v h (nat_eq ch.value 0) ch.then_is (dc.by w l r ch.value h ch.is);
+  by = λ w l r v h e. by_first w bs free r from (value_of c l w.globals) y n
+      (λ z. if z then value_of b l w.globals else value_of a l w.globals) v e (λ x is. dc.by w l r x h is)
+      (λ e ar. arrives_then w bs free r from n_code n _ ar atn
+      (db.by w l ar.regs v (holds_kept free free l r ar.regs w.globals (omega arith) h ar.kept) e))
+      (λ e ar. arrives_then w bs free r from y_code y _ ar aty
+      (da.by w l ar.regs v (holds_kept free free l r ar.regs w.globals (omega arith) h ar.kept) e));
 }
-  where
-    after_first : (w : Surroundings) (l r : Places) (v : ℕ) → Holds free l r w.globals → (z : Bool)
-        → (if z then value_of b l w.globals else value_of a l w.globals) ≡ Some v
-        → Arrives w bs free r from (if z then n else y) → Arrives w bs free r from (if nat_eq v 0 then no_block else yes_block)
-    after_first w l r v h true e ar =
-        arrives_then w bs free r from n_code n _ ar atn (db.by w l ar.regs v (holds_kept free free l r ar.regs w.globals (omega arith) h ar.kept) e)
-    after_first w l r v h false e ar =
-        arrives_then w bs free r from y_code y _ ar aty (da.by w l ar.regs v (holds_kept free free l r ar.regs w.globals (omega arith) h ar.kept) e)
 
 -- values by conditions
-
--- the code of a block, where a condition has arrived
-enters : (w : Surroundings) (bs : List RBlock) (free : ℕ) (r : Places) (from code : Code) (side : ℕ) (ar : Arrives w bs free r from side) → At bs side code
-    → Moves w.program w.depth (at w bs r from) (at w bs ar.regs code)
-enters w bs free r from code side ar a =
-    subst (λ s. Moves w.program w.depth (at w bs r from) s) (jump_to a ar.regs w.result_to w.waiting w.globals w.output) ar.moves
 
 -- a constant in a block, and on to a spot
 const_jump : (w : Surroundings) (bs : List RBlock) (free d x join side : ℕ) (after : Spot) (r0 : Places) (from : Code) → wrap x ≡ x → Lands bs join after
@@ -252,9 +242,10 @@ pub conditional_value : (bs : List RBlock) (k : IntegerType) (c a b : TypedExpre
     → Lands bs join after → At bs y y_code → At bs n n_code → Decides bs c free y n from
     → Evaluates bs a free d y_code (goto join) → Evaluates bs b free d n_code (goto join) → Evaluates bs (conditional k c a b) free d from (line_of after)
 conditional_value bs k c a b d join y n free from after y_code n_code aj aty atn dc ea eb = record {
-  by = λ w l r v h e.
-      let ch = chained (value_of c l w.globals) (λ x. if nat_eq x 0 then value_of b l w.globals else value_of a l w.globals) v e in
-      after_first w l r v h (nat_eq ch.value 0) ch.then_is (dc.by w l r ch.value h ch.is);
+  by = λ w l r v h e. by_first w bs free r from (value_of c l w.globals) y n
+      (λ z. if z then value_of b l w.globals else value_of a l w.globals) v e (λ x is. dc.by w l r x h is)
+      (λ e ar. through w r n_code n v atn ar (eb.by w l ar.regs v (holds_kept free free l r ar.regs w.globals (omega arith) h ar.kept) e))
+      (λ e ar. through w r y_code y v aty ar (ea.by w l ar.regs v (holds_kept free free l r ar.regs w.globals (omega arith) h ar.kept) e));
 }
   where
     through : (w : Surroundings) (r : Places) (side_code : Code) (side : ℕ) (v : ℕ) → At bs side side_code → (ar : Arrives w bs free r from side)
@@ -262,11 +253,3 @@ conditional_value bs k c a b d join y n free from after y_code n_code aj aty atn
     through w r side_code side v ats ar y =
         yields_after w bs free d r ar.regs from side_code (line_of after) v (goes_of (enters w bs free r from side_code side ar ats)) ar.kept
         (yields_then w bs free d ar.regs side_code (goto join) (line_of after) v y (joins join after aj y.regs w.result_to w.waiting w.globals w.output))
-
-    after_first : (w : Surroundings) (l r : Places) (v : ℕ) → Holds free l r w.globals → (z : Bool)
-        → (if z then value_of b l w.globals else value_of a l w.globals) ≡ Some v
-        → Arrives w bs free r from (if z then n else y) → Yields w bs free d r from (line_of after) v
-    after_first w l r v h true e ar = through w r n_code n v atn ar
-        (eb.by w l ar.regs v (holds_kept free free l r ar.regs w.globals (omega arith) h ar.kept) e)
-    after_first w l r v h false e ar = through w r y_code y v aty ar
-        (ea.by w l ar.regs v (holds_kept free free l r ar.regs w.globals (omega arith) h ar.kept) e)

@@ -100,5 +100,3 @@ truth_code b0 b1 b2 b3 d join n y after no_end no_code yes_end yes_code e1 e2 e3
       yes_at = at_equal (e4 ∙ ap (first (I.Const d 1)) e3) (s3 bs t.2);
       no_at = at_equal (e2 ∙ ap (first (I.Const d 0)) e1) (s2 bs t.1);
     }
-
--- the operands of a list

@@ -18,7 +18,7 @@ use Rattle.rtl_emit.specs.Emits.{Size, Covers, Emits, value_size, condition_size
 use Rattle.rtl_emit.specs.Emits.{EmitsValue, EmitsOperand, EmitsBranch, EmitsBoth, EmitsBranchBlock}
 use Rattle.rtl_emit.specs.Expressions.{IsPlace, IsTruth, Decides, Evaluates, Fetches, Combines}
 use Rattle.rtl_emit.specs.Operations.{IsPrefix, Computes, inst_of}
-use Rattle.rtl_emit.specs.Sizes.{logical_of, joint, Beyond, by_branches, is_logical, place_registers, next_free, value_registers, value_blocks, globals_named}
+use Rattle.rtl_emit.specs.Sizes.{spare_registers, both_registers, logical_of, joint, Beyond, by_branches, is_logical, place_registers, next_free, value_registers, value_blocks, globals_named}
 use Rattle.rtl_emit.specs.Sizes.{condition_registers, condition_blocks, combined_registers, test_registers, has_contrary}
 use Rattle.rtl_emit.specs.Sizes.{operands_registers, value_insts, condition_insts}
 use Rattle.rtl_emit.specs.Sound.{Scope, IsSound, IsSoundSpot, KeepsSound}
@@ -130,7 +130,7 @@ contrary_test_names false free p n m is le = (omega (arith, le), omega (arith, l
 
 pub contrary_ends : (likely : Bool) → likely ≡ false → (o : BinaryOp) (k : IntegerType) (l r : TypedExpression) (free next : ℕ) → is_logical o ≡ false
     → has_contrary o ≡ true → next ≡ next_free l free
-    → max (free + 1) (max (place_registers l free) (place_registers r (next_free l free))) ≤ MAX_REGISTERS
+    → max (free + 1) (both_registers l r free) ≤ MAX_REGISTERS
     → Ends (both_size l r free next) (condition_size (binary o k l r) likely free) 0
 contrary_ends true it o k l r free next plain has is room = absurd (cc)
 contrary_ends false it o k l r free next plain has is room =
@@ -144,7 +144,7 @@ contrary_ends false it o k l r free next plain has is room =
 pub held_names : (l r : TypedExpression) (free p next q last n : ℕ) → IsPlace l free p next → IsPlace r next q last
     → operands_registers (place_registers l free) (place_registers r (next_free l free)) (value_registers l free) (value_registers r (next_free l free)) ≤ n
     → (p < n) × ((q < n) × ((max (value_registers r next) (value_registers l free) ≤ n)
-    × (max (place_registers l free) (place_registers r (next_free l free)) ≤ n)))
+    × (both_registers l r free ≤ n)))
 held_names l r free p next q last n pl pr le =
     let pw = pl.counted in
     let qw = pr.counted in
@@ -163,7 +163,7 @@ contrary_names false it o k l r free n plain has le =
     subst (λ m. m ≤ n) is le
 
 pub contrary_beyond : (likely : Bool) → likely ≡ false → (o : BinaryOp) (k : IntegerType) (l r : TypedExpression) (free b : ℕ) → is_logical o ≡ false
-    → has_contrary o ≡ true → MAX_REGISTERS < max (free + 1) (max (place_registers l free) (place_registers r (next_free l free)))
+    → has_contrary o ≡ true → MAX_REGISTERS < max (free + 1) (both_registers l r free)
     → Beyond (condition_registers (binary o k l r) likely free) b (globals_named (binary o k l r))
 contrary_beyond true it o k l r free b plain has more = absurd (cc)
 contrary_beyond false it o k l r free b plain has more = rw (plain, has) (omega (arith, more))
@@ -184,21 +184,11 @@ told_size false k l r free n =
     let b : (value_size (binary B.LogicalOr k l r) free n).blocks ≡ n + 2 + s.blocks = omega arith in
     ap (λ (b : ℕ). let z : Size = record { registers = s.registers; blocks = b; insts = s.insts + 2; globals = s.globals } in z) b
 
--- an expression that is another one
-
-pub value_along : (old new : List RBlock) (e e' : TypedExpression) (d free : ℕ) (after : Spot) (x : Result OpenBlock LowerFault) → e ≡ e'
-    → EmitsValue e' d free after old new x → EmitsValue e d free after old new x
-value_along old new e e' d free after x is v = subst (λ e. EmitsValue e d free after old new x) (sym is) v
-
-pub branch_along : (old new : List RBlock) (e e' : TypedExpression) (t : Targets) (free : ℕ) (x : Result OpenBlock LowerFault) → e ≡ e'
-    → EmitsBranch (condition_size e' t.likely free) e' t free old new x → EmitsBranch (condition_size e t.likely free) e t free old new x
-branch_along old new e e' t free x is v = subst (λ e. EmitsBranch (condition_size e t.likely free) e t free old new x) (sym is) v
-
 -- values
 
-pub number_emits : (old : List RBlock) (e : TypedExpression) (c : Literal) (d free : ℕ) (from : OpenBlock) (after : Spot) → e ≡ constant c
-    → open_code from ≡ first (I.Const d c.value) (line_of after) → EmitsValue e d free after old old (Ok from)
-number_emits old e c d free from after is fe = subst (λ e. EmitsValue e d free after old old (Ok from)) (sym is) (record {
+pub number_emits : (old : List RBlock) (c : Literal) (d free : ℕ) (from : OpenBlock) (after : Spot)
+    → open_code from ≡ first (I.Const d c.value) (line_of after) → EmitsValue (constant c) d free after old old (Ok from)
+number_emits old c d free from after fe = record {
   grows = grows_same old;
   count = omega arith;
   room = omega arith;
@@ -208,25 +198,21 @@ number_emits old e c d free from after is fe = subst (λ e. EmitsValue e d free 
     (let n = ap insts_of fe in let l = line_insts after in omega (arith, n, l)),
   );
   does = λ bs h. gives_from fe (number bs c d free (line_of after));
-})
+}
 
-pub local_emits : (old : List RBlock) (e : TypedExpression) (x x' : ℕ) (k : IntegerType) (d free : ℕ) (from : OpenBlock) (after : Spot)
-    → e ≡ local x k → x' ≡ x → x' < MAX_REGISTERS → open_code from ≡ first (I.Move d x') (line_of after)
-    → EmitsValue e d free after old old (Ok from)
-local_emits old e x x' k d free from after is ix lt fe =
-    subst (λ e. EmitsValue e d free after old old (Ok from)) (sym (is ∙ ap (λ x. local x k) (sym ix))) (record {
-      grows = grows_same old;
-      count = omega arith;
-      room = omega (arith, lt);
-      limit = tt;
-      sound = (
-        λ s n g h.
-            let named : x' < s.registers = omega (arith, h.1.0.0) in
-            (g, sound_first _ fe (h.0, named) (sound_line _ h.1.1)),
-        (let n = ap insts_of fe in let l = line_insts after in omega (arith, n, l)),
-      );
-      does = λ bs h. gives_from fe (local_value bs x' k d free (line_of after));
-    })
+pub local_emits : (old : List RBlock) (x x' : ℕ) (k : IntegerType) (d free : ℕ) (from : OpenBlock) (after : Spot) → x' ≡ x → x' < MAX_REGISTERS
+    → open_code from ≡ first (I.Move d x') (line_of after) → EmitsValue (local x k) d free after old old (Ok from)
+local_emits old x x' k d free from after ix lt fe = subst (λ x. EmitsValue (local x k) d free after old old (Ok from)) ix (record {
+  grows = grows_same old;
+  count = omega arith;
+  room = omega (arith, lt);
+  limit = tt;
+  sound = (
+    λ s n g h. (g, sound_first _ fe (h.0, omega (arith, h.1.0.0)) (sound_line _ h.1.1)),
+    (let n = ap insts_of fe in let l = line_insts after in omega (arith, n, l)),
+  );
+  does = λ bs h. gives_from fe (local_value bs x' k d free (line_of after));
+})
 
 pub global_emits : (old : List RBlock) (a a' : ℕ) (k : IntegerType) (d free z : ℕ) (load from : OpenBlock) (after : Spot)
     → a' ≡ a → z ≡ free → z < MAX_REGISTERS → open_code load ≡ first (I.Load d a' z) (line_of after)
@@ -259,11 +245,9 @@ element_emits old new a k i d free after (Ok w) r pl fe room limit o err =
     (grows_same old) (omega arith)
     (λ from keeps. (
       λ s n g h.
-          let there : a < s.globals = omega (arith, h.1.0.1) in
-          let named : globals_named i ≤ s.globals = omega (arith, h.1.0.1) in
-          let few : value_registers i free ≤ s.registers = omega (arith, h.1.0.0) in
           let held : w.place.register < s.registers = (let p = pl.counted in omega (arith, p, h.1.0.0)) in
-          keeps.0 s n g (held, ((few, named), sound_first _ fe (h.0, (there, held)) (sound_line _ h.1.1))),
+          let code = sound_first _ fe (h.0, (omega (arith, h.1.0.1), held)) (sound_line _ h.1.1) in
+          keeps.0 s n g (held, ((omega (arith, h.1.0.0), omega (arith, h.1.0.1)), code)),
       (let m = keeps.1 in let n = ap insts_of fe in let l = line_insts after in omega (arith, m, n, l)),
     ))
     (λ from does bs h. element_value bs a k i d free w.place.register w.place.free (open_code from) (line_of after) pl (finds_to fe (does bs h))) o
@@ -287,54 +271,48 @@ prefix_size U.Identity k a free n ne plain = absurd (ne refl)
 prefix_size U.Not k a free n ne plain = rw (plain refl)
 prefix_size _ k a free n ne plain = refl
 
+combined_along : (old new : List RBlock) (o : UnaryOp) (k : IntegerType) (a : TypedExpression) (d free : ℕ) (after : Spot) (x : Result OpenBlock LowerFault)
+    → value_size (unary o k a) free (joint after) ≡ combined_size a free
+    → Emits (combined_size a free) old new (λ from. KeepsSound old new (λ s. (d < s.registers)
+    × (Covers (combined_size a free) s × IsSoundSpot s after)) (λ s. IsSound s (open_code from))
+    × Adds old new (insts_of (open_code from)) (insts_at after) (value_insts a + 2))
+    (λ from bs. Evaluates bs (unary o k a) free d (open_code from) (line_of after)) x → EmitsValue (unary o k a) d free after old new x
+combined_along old new o k a d free after x is e =
+    subst (λ size. Emits size old new (λ from. KeepsSound old new (λ s. (d < s.registers)
+    × (Covers size s × IsSoundSpot s after)) (λ s. IsSound s (open_code from))
+    × Adds old new (insts_of (open_code from)) (insts_at after) size.insts)
+    (λ from bs. Evaluates bs (unary o k a) free d (open_code from) (line_of after)) x) (sym is) e
+
 pub prefix_emits : (old new : List RBlock) (o : UnaryOp) (with : Combination) (k : IntegerType) (a : TypedExpression)
     (b : Bool) (d free : ℕ) (opened : OpenBlock) (after : Spot) (w : Result Waiting LowerFault) (x : Result OpenBlock LowerFault)
     → IsPrefix o b (P.Combined with) → b ≡ by_branches a → open_code opened ≡ line_of after
     → IfOk w (λ w. IsPlace a free w.place.register w.place.free)
-    → OnOk w (max (place_registers a free) (next_free a free + 1) ≤ MAX_REGISTERS)
+    → OnOk w (spare_registers a free ≤ MAX_REGISTERS)
     → IfOk w (λ w. (bs : List RBlock) (from : Code) → Fetches bs a free w.place.register from (open_code w.code)
     → Combines bs with.operation a with.word free d from (open_code opened))
     → IfOk w (λ w. insts_of (open_code w.code) ≡ insts_of (open_code opened) + 2)
-    → IfOk w (λ w. (s : Scope) → d < s.registers → max (place_registers a free) (next_free a free + 1) ≤ s.registers
+    → IfOk w (λ w. (s : Scope) → d < s.registers → spare_registers a free ≤ s.registers
     → IsSound s (open_code opened) → IsSound s (open_code w.code))
-    → IfErr w (λ f. f ≡ Limit → MAX_REGISTERS < max (place_registers a free) (next_free a free + 1))
+    → IfErr w (λ f. f ≡ Limit → MAX_REGISTERS < spare_registers a free)
     → IfOk w (λ w. EmitsOperand a w.place.register free w.code old new x) → IfErr w (λ f. (x ≡ Err f) × (new ≡ old))
     → EmitsValue (unary o k a) d free after old new x
-prefix_emits old new o with k a b d free opened after w x prefix ib fe pl room does insts sound limit v err =
-    subst (λ size. Emits size old new (λ from. KeepsSound old new (λ s. (d < s.registers)
-    × (Covers size s × IsSoundSpot s after)) (λ s. IsSound s (open_code from))
-    × Adds old new (insts_of (open_code from)) (insts_at after) size.insts)
-    (λ from bs. Evaluates bs (unary o k a) free d (open_code from) (line_of after)) x)
-    (sym (prefix_size o k a free (joint after) prefix.0 (λ io. sym ib ∙ prefix.1.0 io))) (sized w pl room does insts sound limit v err)
-  where
-    sized : (w : Result Waiting LowerFault) → IfOk w (λ w. IsPlace a free w.place.register w.place.free) → OnOk w (max (place_registers a free) (next_free a free + 1) ≤ MAX_REGISTERS)
-        → IfOk w (λ w. (bs : List RBlock) (from : Code) → Fetches bs a free w.place.register from (open_code w.code)
-        → Combines bs with.operation a with.word free d from (open_code opened))
-        → IfOk w (λ w. insts_of (open_code w.code) ≡ insts_of (open_code opened) + 2)
-        → IfOk w (λ w. (s : Scope) → d < s.registers → max (place_registers a free) (next_free a free + 1) ≤ s.registers
-        → IsSound s (open_code opened) → IsSound s (open_code w.code))
-        → IfErr w (λ f. f ≡ Limit → MAX_REGISTERS < max (place_registers a free) (next_free a free + 1))
-        → IfOk w (λ w. EmitsOperand a w.place.register free w.code old new x) → IfErr w (λ f. (x ≡ Err f) × (new ≡ old))
-        → Emits (combined_size a free) old new (λ from. KeepsSound old new (λ s. (d < s.registers)
-        × (Covers (combined_size a free) s × IsSoundSpot s after)) (λ s. IsSound s (open_code from))
-        × Adds old new (insts_of (open_code from)) (insts_at after) (value_insts a + 2))
-        (λ from bs. Evaluates bs (unary o k a) free d (open_code from) (line_of after)) x
-    sized (Ok w) pl room does insts sound limit v err =
-        ended (value_size a free 1) (combined_size a free) 0 old old new _ _ _ _ x
-        (record { blocks = omega arith; registers = omega arith; room = λ le. omega (arith, le, room); globals = omega arith })
-        (grows_same old) (omega arith)
-        (λ from keeps. (
-          λ s n g h.
-              let few : value_registers a free ≤ s.registers = omega (arith, h.1.0.0) in
-              let spare : max (place_registers a free) (next_free a free + 1) ≤ s.registers = omega (arith, h.1.0.0) in
-              let held : w.place.register < s.registers = (let p = pl.counted in omega (arith, p, spare)) in
-              keeps.0 s n g (held, ((few, h.1.0.1), sound s h.0 spare (sound_along fe (sound_line _ h.1.1)))),
-          (let m = keeps.1 in let n = ap insts_of fe in let l = line_insts after in omega (arith, m, insts, n, l)),
-        ))
-        (λ from made bs h. prefix_value bs o k with a d free (open_code from) (line_of after) prefix.1.1
-        (subst (λ c. Combines bs with.operation a with.word free d (open_code from) c) fe (does bs (open_code from) (made bs h)))) v
-    sized (Err f) pl room does insts sound limit v err =
-        refused (combined_size a free) old new _ _ f x err.0 err.1 (λ is. let more = limit is in omega (arith, more))
+prefix_emits old new o with k a b d free opened after (Ok w) x prefix ib fe pl room does insts sound limit v err =
+    combined_along old new o k a d free after x (prefix_size o k a free (joint after) prefix.0 (λ io. sym ib ∙ prefix.1.0 io))
+    (ended (value_size a free 1) (combined_size a free) 0 old old new _ _ _ _ x
+    (record { blocks = omega arith; registers = omega arith; room = λ le. omega (arith, le, room); globals = omega arith })
+    (grows_same old) (omega arith)
+    (λ from keeps. (
+      λ s n g h.
+          let spare : spare_registers a free ≤ s.registers = omega (arith, h.1.0.0) in
+          let held : w.place.register < s.registers = (let p = pl.counted in omega (arith, p, spare)) in
+          keeps.0 s n g (held, ((omega (arith, h.1.0.0), h.1.0.1), sound s h.0 spare (sound_along fe (sound_line _ h.1.1)))),
+      (let m = keeps.1 in let n = ap insts_of fe in let l = line_insts after in omega (arith, m, insts, n, l)),
+    ))
+    (λ from made bs h. prefix_value bs o k with a d free (open_code from) (line_of after) prefix.1.1
+    (subst (λ c. Combines bs with.operation a with.word free d (open_code from) c) fe (does bs (open_code from) (made bs h)))) v)
+prefix_emits old new o with k a b d free opened after (Err f) x prefix ib fe pl room does insts sound limit v err =
+    combined_along old new o k a d free after x (prefix_size o k a free (joint after) prefix.0 (λ io. sym ib ∙ prefix.1.0 io))
+    (refused (combined_size a free) old new _ _ f x err.0 err.1 (λ is. let more = limit is in omega (arith, more)))
 
 pub identity_emits : (old new : List RBlock) (o : UnaryOp) (k : IntegerType) (a : TypedExpression) (d free : ℕ) (after : Spot)
     (x : Result OpenBlock LowerFault) → o ≡ U.Identity → EmitsValue a d free after old new x → EmitsValue (unary o k a) d free after old new x
@@ -499,35 +477,27 @@ told_emits false old b0 new k l r t d free after x tr last =
     told_value old b0 new (binary B.LogicalOr k l r) t d free after x tr (or_tests k l r) (told_size false k l r free (joint after)) last
 
 -- two operands
-pub both_emits : (old mid new : List RBlock) (l r : TypedExpression) (free p next q : ℕ) (waiting middle : OpenBlock) (x : Result OpenBlock LowerFault)
-    → EmitsOperand r q next waiting old mid (Ok middle) → EmitsOperand l p free middle mid new x → EmitsBoth l r free p next q waiting old new x
-both_emits old mid new l r free p next q waiting middle x second left =
+pub both_emits : (old mid new : List RBlock) (l r : TypedExpression) (free : ℕ) (w : WaitingForTwo) (middle : OpenBlock) (x : Result OpenBlock LowerFault)
+    → EmitsOperand r w.second.register w.first.free w.code old mid (Ok middle) → EmitsOperand l w.first.register free middle mid new x
+    → EmitsBoth l r free w old new x
+both_emits old mid new l r free w middle x second left =
     let c1 : length mid ≡ length old + value_blocks r 1 = second.count in
-    let room : value_registers r next ≤ MAX_REGISTERS = second.room in
-    ended (value_size l free 1) (both_size l r free next) (value_blocks r 1) old mid new _ _ _ _ x
+    let room : value_registers r w.first.free ≤ MAX_REGISTERS = second.room in
+    ended (value_size l free 1) (both_size l r free w.first.free) (value_blocks r 1) old mid new _ _ _ _ x
     (record { blocks = omega arith; registers = omega arith; room = λ le. omega (arith, le, room); globals = omega arith }) second.grows c1
     (λ from keeps. (
       λ s n g h.
-          let in_right : value_registers r next ≤ s.registers = omega (arith, h.1.1.0.0) in
-          let in_left : value_registers l free ≤ s.registers = omega (arith, h.1.1.0.0) in
-          let of_right : globals_named r ≤ s.globals = omega (arith, h.1.1.0.1) in
-          let of_left : globals_named l ≤ s.globals = omega (arith, h.1.1.0.1) in
-          let m = second.sound.0 s (within left.grows n) g (h.1.0, ((in_right, of_right), h.1.1.1)) in
-          keeps.0 s n m.0 (h.0, ((in_left, of_left), m.1)),
+          let m = second.sound.0 s (within left.grows n) g (h.1.0, ((omega (arith, h.1.1.0.0), omega (arith, h.1.1.0.1)), h.1.1.1)) in
+          keeps.0 s n m.0 (h.0, ((omega (arith, h.1.1.0.0), omega (arith, h.1.1.0.1)), m.1)),
       (let m = keeps.1 in let n = second.sound.1 in omega (arith, m, n)),
     ))
     (λ from does bs h.
     let parts = split2 bs old mid new second.grows left.grows h in
     (open_code middle, does bs parts.1, second.does bs parts.0)) left
 
-pub both_stops : (old new : List RBlock) (l r : TypedExpression) (free p next q : ℕ) (waiting : OpenBlock) (f : LowerFault) (x : Result OpenBlock LowerFault)
-    → x ≡ Err f → EmitsOperand r q next waiting old new (Err f) → EmitsBoth l r free p next q waiting old new x
-both_stops old new l r free p next q waiting f x is e =
-    part_refused (value_size r next 1) (both_size l r free next) 0 old old new _ _ _ _ f x is (omega arith) (omega arith) (omega arith) (grows_same old) (omega arith) e
-
 -- the sizes of an operator whose operands are in their places
 operator_ends : (o : BinaryOp) (k : IntegerType) (l r : TypedExpression) (free next n : ℕ) → is_logical o ≡ false → next ≡ next_free l free
-    → max (place_registers l free) (place_registers r (next_free l free)) ≤ MAX_REGISTERS
+    → both_registers l r free ≤ MAX_REGISTERS
     → Ends (both_size l r free next) (value_size (binary o k l r) free n) 0
 operator_ends o k l r free next n plain is places = subst (λ next. Ends (both_size l r free next) (value_size (binary o k l r) free n) 0) (sym is) (record {
   blocks = rw plain (omega arith);
@@ -537,14 +507,14 @@ operator_ends o k l r free next n plain is places = subst (λ next. Ends (both_s
 })
 
 operator_beyond : (o : BinaryOp) (k : IntegerType) (l r : TypedExpression) (free n b : ℕ) → is_logical o ≡ false
-    → MAX_REGISTERS < max (place_registers l free) (place_registers r (next_free l free))
+    → MAX_REGISTERS < both_registers l r free
     → Beyond (value_size (binary o k l r) free n).registers b (globals_named (binary o k l r))
 operator_beyond o k l r free n b plain more = rw plain (omega (arith, more))
 
 -- of the registers of an operator, those of its places, of its operands, and of the operation
 operator_names : (o : BinaryOp) (k : IntegerType) (l r : TypedExpression) (free p next q last n : ℕ) → is_logical o ≡ false → IsPlace l free p next
     → IsPlace r next q last → value_registers (binary o k l r) free ≤ n → (p < n) × ((q < n) × ((max (value_registers r next) (value_registers l free) ≤ n)
-    × (max (place_registers l free) (place_registers r (next_free l free)) ≤ n)))
+    × (both_registers l r free ≤ n)))
 operator_names o k l r free p next q last n plain pl pr le =
     let is : value_registers (binary o k l r) free ≡ operands_registers (place_registers l free) (place_registers r (next_free l free))
     (value_registers l free) (value_registers r (next_free l free)) = rw plain refl in
@@ -556,11 +526,11 @@ pub operator_emits : (old new : List RBlock) (o : BinaryOp) (k : IntegerType) (o
     → Computes o (sign_of k) op → is_logical o ≡ false → open_code code ≡ line_of after
     → IfOk w (λ w. IsPlace l free w.first.register w.first.free) → IfOk w (λ w. IsPlace r w.first.free w.second.register w.second.free)
     → IfOk w (λ w. open_code w.code ≡ first (inst_of op d w.first.register w.second.register) (open_code code))
-    → IfOk w (λ w. (s : Scope) → d < s.registers → max (place_registers l free) (place_registers r (next_free l free)) ≤ s.registers
+    → IfOk w (λ w. (s : Scope) → d < s.registers → both_registers l r free ≤ s.registers
     → IsSound s (open_code code) → IsSound s (open_code w.code))
-    → OnOk w (max (place_registers l free) (place_registers r (next_free l free)) ≤ MAX_REGISTERS)
-    → IfErr w (λ f. f ≡ Limit → MAX_REGISTERS < max (place_registers l free) (place_registers r (next_free l free)))
-    → IfOk w (λ w. EmitsBoth l r free w.first.register w.first.free w.second.register w.code old new x)
+    → OnOk w (both_registers l r free ≤ MAX_REGISTERS)
+    → IfErr w (λ f. f ≡ Limit → MAX_REGISTERS < both_registers l r free)
+    → IfOk w (λ w. EmitsBoth l r free w old new x)
     → IfErr w (λ f. (x ≡ Err f) × (new ≡ old)) → EmitsValue (binary o k l r) d free after old new x
 operator_emits old new o k op l r d free code after (Ok w) x computes plain fe pl pr fw sound room limit two err =
     ended (both_size l r free w.first.free) (value_size (binary o k l r) free (joint after)) 0 old old new _ _ _ _ x

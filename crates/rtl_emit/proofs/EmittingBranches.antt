@@ -15,11 +15,11 @@ use Rattle.rtl.specs.Meaning.{Code}
 use Rattle.rtl.specs.declared.limits.TheConstants.{MAX_REGISTERS, MAX_BLOCKS}
 use Rattle.rtl_emit.specs.Blocks.{open_code, exit_code, goto, first, insts_of, insts_at, insts_in, Spot, Line, Grows, At, Lands, Adds}
 use Rattle.rtl_emit.specs.Emits.{Size, Covers, Emits, value_size, condition_size, test_size, values_size, both_size}
-use Rattle.rtl_emit.specs.Emits.{EmitsValue, EmitsOperand, EmitsBranch, EmitsOperands, EmitsBoth, EmitsBlock, EmitsValueBlock, EmitsBranchBlock}
+use Rattle.rtl_emit.specs.Emits.{EmitsValue, EmitsOperand, EmitsBranch, EmitsOperands, EmitsBoth, EmitsBlock, EmitsValueBlock}
 use Rattle.rtl_emit.specs.Expressions.{IsPlace, ArePlaces, Decides, Evaluates, Fetches}
 use Rattle.rtl_emit.specs.Operations.{ComputesContrary, inst_of}
-use Rattle.rtl_emit.specs.Sizes.{joint, is_logical, place_registers, next_free, value_registers, value_blocks, globals_named}
-use Rattle.rtl_emit.specs.Sizes.{condition_registers, condition_blocks, test_registers, has_contrary, arguments_blocks, values_registers, globals_named_in}
+use Rattle.rtl_emit.specs.Sizes.{both_registers, tested_registers, joint, is_logical, place_registers, next_free, value_registers, value_blocks, globals_named}
+use Rattle.rtl_emit.specs.Sizes.{condition_blocks, test_registers, has_contrary, arguments_blocks, values_registers}
 use Rattle.rtl_emit.specs.Sizes.{places_registers, value_insts, condition_insts}
 use Rattle.rtl_emit.specs.Sound.{Scope, IsSound, IsSoundSpot, KeepsSound}
 use Rattle.rtl_emit.specs.declared.block.OpenBlock.{OpenBlock}
@@ -36,7 +36,7 @@ use Rattle.rtl_emit.proofs.Conditions.{constant_decides, contrary_decides, condi
 use Rattle.rtl_emit.proofs.Emitted.{finds_to, unary_is, Over}
 use Rattle.rtl_emit.proofs.Sound.{sound_exit}
 use Rattle.rtl_emit.proofs.Values.{operates, fetched}
-use Rattle.rtl_emit.proofs.Emitting.{contrary_beyond, contrary_ends, contrary_names, ended, grows_same, held_names, part_refused, refused, test_beyond, test_both, test_least, test_names}
+use Rattle.rtl_emit.proofs.Emitting.{contrary_beyond, contrary_ends, contrary_names, ended, grows_same, held_names, refused, test_beyond, test_both, test_least, test_names}
 
 -- code as a block of its own
 pub block_emits : (old mid new : List RBlock) (size : Size) (Needs Needs' : Scope → Type 0) (Is : List RBlock → Code → Type 0) (code : OpenBlock)
@@ -74,14 +74,6 @@ block_emits old mid new size Needs Needs' Is code (Err f) e needs g n insts limi
       does = tt;
     }
 
--- its code is refused
-pub block_stops : {A : Type 0} (old new : List RBlock) (size : Size) (Keeps : A → Type 0) (Does : A → List RBlock → Type 0) (Needs : Scope → Type 0)
-    (Is : List RBlock → Code → Type 0) (f : LowerFault) (x : Result ℕ LowerFault) → x ≡ Err f → Emits size old new Keeps Does (Err f)
-    → EmitsBlock size Needs Is old new x
-block_stops old new size Keeps Does Needs Is f x is e =
-    part_refused size (record { registers = size.registers; blocks = size.blocks + 1; insts = size.insts; globals = size.globals }) 0 old old new Keeps _ Does _ f x is (omega arith)
-    (omega arith) (omega arith) (grows_same old) (omega arith) e
-
 -- both sides of `?:` as blocks of their own
 pub record Sides (b0 b2 : List RBlock) (registers blocks insts globals : ℕ) (Needs : Scope → Type 0) (IsYes IsNo : List RBlock → Code → Type 0)
     (yes_block no_block : ℕ) : Type 0 where
@@ -106,10 +98,8 @@ sides b0 b1 b2 s1 s2 Needs IsYes IsNo yes_block no_block e1 e2 =
       count = omega (arith, c1, c2);
       room = omega (arith, r1, r2);
       sound = λ s n g h.
-          let left : Covers s1 s = (omega (arith, h.0.0), omega (arith, h.0.1)) in
-          let right : Covers s2 s = (omega (arith, h.0.0), omega (arith, h.0.1)) in
-          let a = e1.sound.0 s (within e2.grows n) g (left, h.1) in
-          let b = e2.sound.0 s n a.0 (right, h.1) in
+          let a = e1.sound.0 s (within e2.grows n) g ((omega (arith, h.0.0), omega (arith, h.0.1)), h.1) in
+          let b = e2.sound.0 s n a.0 ((omega (arith, h.0.0), omega (arith, h.0.1)), h.1) in
           (b.0, (a.1, b.1));
       adds = (let a = e1.sound.1 in let b = e2.sound.1 in omega (arith, a, b));
       does = λ bs h.
@@ -133,12 +123,8 @@ conditional_branches b0 b2 new k c a b t t' free yes_block no_block x it two las
     two.grows two.count
     (λ from keeps. (
       λ s n g h.
-          let sides : max (globals_named a) (globals_named b) ≤ s.globals = omega (arith, h.0.1) in
-          let test : globals_named c ≤ s.globals = omega (arith, h.0.1) in
-          let in_sides : max (condition_registers a t.likely free) (condition_registers b t.likely free) ≤ s.registers = omega (arith, h.0.0) in
-          let in_test : condition_registers c true free ≤ s.registers = omega (arith, h.0.0) in
-          let m = two.sound s (within last'.grows n) g ((in_sides, sides), h.1) in
-          keeps.0 s n m.0 ((in_test, test), m.1),
+          let m = two.sound s (within last'.grows n) g ((omega (arith, h.0.0), omega (arith, h.0.1)), h.1) in
+          keeps.0 s n m.0 ((omega (arith, h.0.0), omega (arith, h.0.1)), m.1),
       (let m = keeps.1 in let n = two.adds in omega (arith, m, n)),
     ))
     (λ from does bs h.
@@ -146,24 +132,6 @@ conditional_branches b0 b2 new k c a b t t' free yes_block no_block x it two las
     let d = two.does bs p.0 in
     conditional_decides bs k c a b t.yes t.no yes_block no_block free (open_code from) d.0.0 d.1.0 (does bs p.1)
     d.0.1 d.1.1 d.0.2 d.1.2) last'
-
--- a side is refused, the first one, or the second one behind it
-pub side_stops : (b0 b1 b2 : List RBlock) (k : IntegerType) (c a b : TypedExpression) (t : Targets) (free yes_block : ℕ) (f : LowerFault)
-    (x : Result OpenBlock LowerFault) → x ≡ Err f → EmitsBranchBlock a t free b0 b1 (Ok yes_block) → EmitsBranchBlock b t free b1 b2 (Err f)
-    → EmitsBranch (condition_size (conditional k c a b) t.likely free) (conditional k c a b) t free b0 b2 x
-side_stops b0 b1 b2 k c a b t free yes_block f x is e1 e2 =
-    let c1 : length b1 ≡ length b0 + (condition_blocks a + 1) = e1.count in
-    part_refused
-    (record { registers = condition_registers b t.likely free; blocks = condition_blocks b + 1; insts = condition_insts b; globals = globals_named b })
-    (condition_size (conditional k c a b) t.likely free) (condition_blocks a + 1) b0 b1 b2 _ _ _ _ f x is (omega arith) (omega arith) (omega arith) e1.grows c1 e2
-
-pub first_side_stops : (b0 b1 : List RBlock) (k : IntegerType) (c a b : TypedExpression) (t : Targets) (free : ℕ) (f : LowerFault)
-    (x : Result OpenBlock LowerFault) → x ≡ Err f → EmitsBranchBlock a t free b0 b1 (Err f)
-    → EmitsBranch (condition_size (conditional k c a b) t.likely free) (conditional k c a b) t free b0 b1 x
-first_side_stops b0 b1 k c a b t free f x is e =
-    part_refused
-    (record { registers = condition_registers a t.likely free; blocks = condition_blocks a + 1; insts = condition_insts a; globals = globals_named a })
-    (condition_size (conditional k c a b) t.likely free) 0 b0 b0 b1 _ _ _ _ f x is (omega arith) (omega arith) (omega arith) (grows_same b0) (omega arith) e
 
 -- where a value goes on, as a block
 pub record Joined (old new : List RBlock) (after : Spot) (join : ℕ) : Type 0 where
@@ -189,14 +157,10 @@ conditional_emits old b0 b1 b2 new k c a b t' d free join yes_block no_block aft
     (grows_then old b0 b2 j.grows two.grows) (omega (arith, j.count, c2))
     (λ from keeps. (
       λ s n g h.
-          let sides : max (globals_named a) (globals_named b) ≤ s.globals = omega (arith, h.1.0.1) in
-          let test : globals_named c ≤ s.globals = omega (arith, h.1.0.1) in
-          let in_sides : max (value_registers a free) (value_registers b free) ≤ s.registers = omega (arith, h.1.0.0) in
-          let in_test : condition_registers c true free ≤ s.registers = omega (arith, h.1.0.0) in
           let n2 = within last'.grows n in
           let at = j.sound s (within two.grows n2) g h.1.1 in
-          let m = two.sound s n2 at.0 ((in_sides, sides), (h.0, at.1)) in
-          keeps.0 s n m.0 ((in_test, test), m.1),
+          let m = two.sound s n2 at.0 ((omega (arith, h.1.0.0), omega (arith, h.1.0.1)), (h.0, at.1)) in
+          keeps.0 s n m.0 ((omega (arith, h.1.0.0), omega (arith, h.1.0.1)), m.1),
       (let m = keeps.1 in let n = two.adds in omega (arith, m, n, j.insts)),
     ))
     (λ from does bs h.
@@ -204,29 +168,6 @@ conditional_emits old b0 b1 b2 new k c a b t' d free join yes_block no_block aft
     let m = two.does bs p.1 in
     conditional_value bs k c a b d join yes_block no_block free (open_code from) after m.0.0 m.1.0 (j.lands bs p.0)
     m.0.1 m.1.1 (does bs p.2) m.0.2 m.1.2) last'
-
--- of its value: where it goes on is refused, or a side
-pub join_stops : (old new : List RBlock) (k : IntegerType) (c a b : TypedExpression) (d free : ℕ) (after : Spot) (f : LowerFault)
-    (x : Result OpenBlock LowerFault) → x ≡ Err f → new ≡ old → (f ≡ Limit → MAX_BLOCKS < length old + joint after)
-    → EmitsValue (conditional k c a b) d free after old new x
-join_stops old new k c a b d free after f x is same limit =
-    refused (value_size (conditional k c a b) free (joint after)) old new _ _ f x is same (λ l. let more = limit l in omega (arith, more))
-
-pub first_value_stops : (old b0 b1 : List RBlock) (k : IntegerType) (c a b : TypedExpression) (d free join : ℕ) (after : Spot) (f : LowerFault)
-    (x : Result OpenBlock LowerFault) → x ≡ Err f → Joined old b0 after join → EmitsValueBlock a d free join b0 b1 (Err f)
-    → EmitsValue (conditional k c a b) d free after old b1 x
-first_value_stops old b0 b1 k c a b d free join after f x is j e =
-    part_refused (record { registers = value_registers a free; blocks = value_blocks a 0 + 1; insts = value_insts a; globals = globals_named a })
-    (value_size (conditional k c a b) free (joint after)) (joint after) old b0 b1 _ _ _ _ f x is (omega arith) (omega arith) (omega arith) j.grows j.count e
-
-pub value_stops : (old b0 b1 b2 : List RBlock) (k : IntegerType) (c a b : TypedExpression) (d free join yes_block : ℕ) (after : Spot) (f : LowerFault)
-    (x : Result OpenBlock LowerFault) → x ≡ Err f → Joined old b0 after join → EmitsValueBlock a d free join b0 b1 (Ok yes_block)
-    → EmitsValueBlock b d free join b1 b2 (Err f) → EmitsValue (conditional k c a b) d free after old b2 x
-value_stops old b0 b1 b2 k c a b d free join yes_block after f x is j e1 e2 =
-    let c1 : length b1 ≡ length b0 + (value_blocks a 0 + 1) = e1.count in
-    part_refused (record { registers = value_registers b free; blocks = value_blocks b 0 + 1; insts = value_insts b; globals = globals_named b })
-    (value_size (conditional k c a b) free (joint after)) (joint after + (value_blocks a 0 + 1)) old b1 b2 _ _ _ _ f x is (omega arith) (omega arith)
-    (omega arith) (grows_then old b0 b1 j.grows e1.grows) (omega (arith, j.count, c1)) e2
 
 -- conditions
 
@@ -268,11 +209,11 @@ pub contrary_emits : (old new : List RBlock) (o : BinaryOp) (k : IntegerType) (o
     → ComputesContrary o (sign_of k) op → is_logical o ≡ false → has_contrary o ≡ true → t.likely ≡ false
     → IfOk w (λ w. IsPlace l free w.first.register w.first.free) → IfOk w (λ w. IsPlace r w.first.free w.second.register w.second.free)
     → IfOk w (λ w. open_code w.code ≡ first (inst_of op free w.first.register w.second.register) (exit_code (X.Branch free t.no t.yes)))
-    → IfOk w (λ w. (s : Scope) → max (free + 1) (max (place_registers l free) (place_registers r (next_free l free))) ≤ s.registers
+    → IfOk w (λ w. (s : Scope) → max (free + 1) (both_registers l r free) ≤ s.registers
     → t.yes < s.blocks → t.no < s.blocks → IsSound s (open_code w.code))
-    → OnOk w (max (free + 1) (max (place_registers l free) (place_registers r (next_free l free))) ≤ MAX_REGISTERS)
-    → IfErr w (λ f. f ≡ Limit → MAX_REGISTERS < max (free + 1) (max (place_registers l free) (place_registers r (next_free l free))))
-    → IfOk w (λ w. EmitsBoth l r free w.first.register w.first.free w.second.register w.code old new x)
+    → OnOk w (max (free + 1) (both_registers l r free) ≤ MAX_REGISTERS)
+    → IfErr w (λ f. f ≡ Limit → MAX_REGISTERS < max (free + 1) (both_registers l r free))
+    → IfOk w (λ w. EmitsBoth l r free w old new x)
     → IfErr w (λ f. (x ≡ Err f) × (new ≡ old)) → EmitsBranch (condition_size (binary o k l r) t.likely free) (binary o k l r) t free old new x
 contrary_emits old new o k op l r t free (Ok w) x tests plain has unlikely pl pr fw sound room limit two err =
     ended (both_size l r free w.first.free) (condition_size (binary o k l r) t.likely free) 0 old old new _ _ _ _ x
@@ -282,7 +223,7 @@ contrary_emits old new o k op l r t free (Ok w) x tests plain has unlikely pl pr
           let all = contrary_names t.likely unlikely o k l r free s.registers plain has h.0.0 in
           let few = held_names l r free _ _ _ _ s.registers pl pr (omega (arith, all)) in
           let places = few.1.1.1 in
-          let tested : max (free + 1) (max (place_registers l free) (place_registers r (next_free l free))) ≤ s.registers = omega (arith, all, places) in
+          let tested : max (free + 1) (both_registers l r free) ≤ s.registers = omega (arith, all, places) in
           keeps.0 s n g (few.0, (few.1.0, ((few.1.1.0, h.0.1), sound s tested h.1.0 h.1.1))),
       (let m = keeps.1 in
           let all : condition_insts (binary o k l r) ≡ value_insts r + value_insts l + 1 + 2 = rw plain refl in
@@ -299,12 +240,12 @@ contrary_emits old new o k op l r t free (Err f) x tests plain has unlikely pl p
 
 pub test_emits : (old new : List RBlock) (e : TypedExpression) (t : Targets) (free : ℕ) (w : Result Waiting LowerFault) (x : Result OpenBlock LowerFault)
     → IfOk w (λ w. IsPlace e free w.place.register w.place.free)
-    → OnOk w (test_registers t.likely free (place_registers e free) (next_free e free) 0 ≤ MAX_REGISTERS)
+    → OnOk w (tested_registers t.likely e free ≤ MAX_REGISTERS)
     → IfOk w (λ w. (bs : List RBlock) (from : Code) → Fetches bs e free w.place.register from (open_code w.code) → Decides bs e free t.yes t.no from)
     → IfOk w (λ w. insts_of (open_code w.code) ≤ 2)
-    → IfOk w (λ w. (s : Scope) → test_registers t.likely free (place_registers e free) (next_free e free) 0 ≤ s.registers
+    → IfOk w (λ w. (s : Scope) → tested_registers t.likely e free ≤ s.registers
     → t.yes < s.blocks → t.no < s.blocks → IsSound s (open_code w.code))
-    → IfErr w (λ f. f ≡ Limit → MAX_REGISTERS < test_registers t.likely free (place_registers e free) (next_free e free) 0)
+    → IfErr w (λ f. f ≡ Limit → MAX_REGISTERS < tested_registers t.likely e free)
     → IfOk w (λ w. EmitsOperand e w.place.register free w.code old new x) → IfErr w (λ f. (x ≡ Err f) × (new ≡ old))
     → EmitsBranch (test_size e t.likely free) e t free old new x
 test_emits old new e t free (Ok w) x pl room does insts sound limit v err =
@@ -355,14 +296,8 @@ operands_emits old mid new all es e ps ps2 p free after middle x ia ip are rest 
           let pw = both.0.counted in
           let pe = ap (places_registers es) both.0.next_is in
           let ve = ap (values_registers es) both.0.next_is in
-          let held : p.register < s.registers = omega (arith, pw, h.0) in
-          let places : places_registers es p.free ≤ s.registers = omega (arith, pe, h.0) in
-          let in_rest : values_registers es p.free ≤ s.registers = omega (arith, ve, h.1.0.0) in
-          let in_one : value_registers e free ≤ s.registers = omega (arith, h.1.0.0) in
-          let of_rest : globals_named_in es ≤ s.globals = omega (arith, h.1.0.1) in
-          let of_one : globals_named e ≤ s.globals = omega (arith, h.1.0.1) in
-          let m = rest.sound.0 s (within one.grows n) g (places, ((in_rest, of_rest), h.1.1)) in
-          keeps.0 s n m.0 (held, ((in_one, of_one), m.1)),
+          let m = rest.sound.0 s (within one.grows n) g (omega (arith, pe, h.0), ((omega (arith, ve, h.1.0.0), omega (arith, h.1.0.1)), h.1.1)) in
+          keeps.0 s n m.0 (omega (arith, pw, h.0), ((omega (arith, h.1.0.0), omega (arith, h.1.0.1)), m.1)),
       (let m = keeps.1 in let n = rest.sound.1 in omega (arith, m, n)),
     ))
     (λ from does bs h.

@@ -223,8 +223,6 @@ taken_all w bs [] [] free from to l r vs pl f h e = record {
   values = e;
   kept = λ x k. refl;
 }
-taken_all w bs [] (p ∷ ps) free from to l r vs pl f h e = absurd pl
-taken_all w bs (x ∷ es) [] free from to l r vs pl f h e = absurd pl
 taken_all w bs (x ∷ es) (p ∷ ps) free from to l r vs pl f h e =
     let c = chained (value_of x l w.globals) (λ v. chain (values_of es l w.globals) (λ vs. Some (v ∷ vs))) vs e in
     let c2 = chained (values_of es l w.globals) (λ vs. Some (c.value ∷ vs)) vs c.then_is in
@@ -239,3 +237,4 @@ taken_all w bs (x ∷ es) (p ∷ ps) free from to l r vs pl f h e =
           ∙ ap (λ o. chain o (λ vs. Some (c.value ∷ vs))) a.values ∙ c2.then_is;
       kept = λ y k. let k' : y < p.free = omega (arith, pl.0.rooms) in a.kept y k' ∙ t.kept y k;
     }
+taken_all w bs _ _ free from to l r vs pl f h e = absurd pl

@@ -15,6 +15,7 @@ use Rattle.rtl_emit.specs.declared.fault.LowerFault.{LowerFault}
 use Rattle.rtl_emit.specs.declared.fault.LowerFault.TheVariants.{Limit}
 use Rattle.rtl_emit.specs.declared.place.Place.{Place}
 use Rattle.rtl_emit.specs.declared.targets.Targets.{Targets}
+use Rattle.rtl_emit.specs.declared.waiting.WaitingForTwo.{WaitingForTwo}
 
 -- how many blocks code adds, and at most how many instructions. Also one more than the greatest number of a register, and of a global,
 -- that it names beside those that it is given
@@ -114,13 +115,13 @@ both_size l r free next = record {
   globals = max (globals_named l) (globals_named r);
 }
 
-abbrev pub EmitsBoth : (left right : TypedExpression) (free p next q : ℕ) → OpenBlock → (old new : List RBlock)
-    → Result OpenBlock LowerFault → Type 0
-EmitsBoth l r free p next q after old new x = Emits (both_size l r free next) old new
-    (λ from. KeepsSound old new (λ s. (p < s.registers) × ((q < s.registers)
-    × (Covers (both_size l r free next) s × IsSound s (open_code after)))) (λ s. IsSound s (open_code from))
-    × Adds old new (insts_of (open_code from)) (insts_of (open_code after)) (value_insts r + value_insts l))
-    (λ from bs. (middle : Code) × Fetches bs l free p (open_code from) middle × Fetches bs r next q middle (open_code after)) x
+abbrev pub EmitsBoth : (left right : TypedExpression) (free : ℕ) → WaitingForTwo → (old new : List RBlock) → Result OpenBlock LowerFault → Type 0
+EmitsBoth l r free w old new x = Emits (both_size l r free w.first.free) old new
+    (λ from. KeepsSound old new (λ s. (w.first.register < s.registers) × ((w.second.register < s.registers)
+    × (Covers (both_size l r free w.first.free) s × IsSound s (open_code w.code)))) (λ s. IsSound s (open_code from))
+    × Adds old new (insts_of (open_code from)) (insts_of (open_code w.code)) (value_insts r + value_insts l))
+    (λ from bs. (middle : Code) × Fetches bs l free w.first.register (open_code from) middle
+    × Fetches bs r w.first.free w.second.register middle (open_code w.code)) x
 
 -- code in a block of its own
 abbrev pub EmitsBlock : Size → (Needs : Scope → Type 0) (Is : List RBlock → Code → Type 0) → (old new : List RBlock)

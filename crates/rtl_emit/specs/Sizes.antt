@@ -106,10 +106,20 @@ next_free e free = free + 2
 abbrev pub combined_registers : (place next value : ℕ) → ℕ
 combined_registers place next value = max (max place (next + 1)) value
 
+-- the place of an operand and the register after it, and the places of two operands
+abbrev pub spare_registers : TypedExpression → (free : ℕ) → ℕ
+spare_registers e free = max (place_registers e free) (next_free e free + 1)
+
+abbrev pub both_registers : (left right : TypedExpression) (free : ℕ) → ℕ
+both_registers l r free = max (place_registers l free) (place_registers r (next_free l free))
+
 -- a branch by a value, or by a register that the contrary test sets
 abbrev pub test_registers : (likely : Bool) (free place next value : ℕ) → ℕ
 test_registers true free place next value = max place value
 test_registers false free place next value = max (free + 1) (combined_registers place next value)
+
+abbrev pub tested_registers : (likely : Bool) → TypedExpression → (free : ℕ) → ℕ
+tested_registers likely e free = test_registers likely free (place_registers e free) (next_free e free) 0
 
 -- a comparison has a contrary one
 abbrev pub has_contrary : BinaryOp → Bool

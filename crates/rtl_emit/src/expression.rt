@@ -116,12 +116,7 @@ fn unary_into(
     ensures { (k : IntegerType) → EmitsValue (unary operator k (typed_expression_of part.now)) aim.to aim.free (spot aim.after)
         blocks.old.items blocks.new.items result }
 {
-    let Aim {
-        alloc,
-        to,
-        free,
-        after,
-    } = aim;
+    let (alloc, to, free, after) = (aim.alloc, aim.to, aim.free, aim.after);
     match prefix_of(operator, is_logical(part)) {
         Prefix::Same => value_into(alloc, blocks, part, to, free, after),
         Prefix::Branches => {
@@ -151,12 +146,7 @@ fn binary_into(
     match form_of(operator, integer_type) {
         Form::Logical { both } => told_into(aim, blocks, both, left, right),
         Form::Plain(operation) => {
-            let Aim {
-                alloc,
-                to,
-                free,
-                after,
-            } = aim;
+            let (alloc, to, free, after) = (aim.alloc, aim.to, aim.free, aim.after);
             let values = operation_at(operation, left, right, to, free, open_block(alloc, after));
             await_both(alloc, blocks, left, right, free, values)
         }
@@ -191,12 +181,7 @@ fn conditional_into(
     ensures { (k : IntegerType) → EmitsValue (conditional k (typed_expression_of test.now) (typed_expression_of first.now)
         (typed_expression_of second.now)) aim.to aim.free (spot aim.after) blocks.old.items blocks.new.items result }
 {
-    let Aim {
-        alloc,
-        to,
-        free,
-        after,
-    } = aim;
+    let (alloc, to, free, after) = (aim.alloc, aim.to, aim.free, aim.after);
     let join = block_of(blocks, after)?;
     let yes = value_block(alloc, blocks, first, to, free, join)?;
     let no = value_block(alloc, blocks, second, to, free, join)?;
@@ -283,8 +268,8 @@ fn await_both(
 ) -> Result<OpenBlock, LowerFault>
     requires first { IfOk waiting (λ w. w.first.register < MAX_REGISTERS) }
     requires second { IfOk waiting (λ w. w.second.register < MAX_REGISTERS) }
-    ensures ok { IfOk waiting (λ w. EmitsBoth (typed_expression_of left.now) (typed_expression_of right.now) free
-        w.first.register w.first.free w.second.register w.code blocks.old.items blocks.new.items result) }
+    ensures ok { IfOk waiting (λ w. EmitsBoth (typed_expression_of left.now) (typed_expression_of right.now) free w
+        blocks.old.items blocks.new.items result) }
     ensures err { IfErr waiting (λ f. (result ≡ Err f) × (blocks.new.items ≡ blocks.old.items)) }
 {
     let values = waiting?;

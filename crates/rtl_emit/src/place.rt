@@ -38,10 +38,7 @@ pub fn spare_register(free: Register) -> Result<Register, LowerFault>
     ensures within { IfOk result (λ r. r < MAX_REGISTERS) }
     ensures limit { IfErr result (λ f. f ≡ LowerFault.Limit → MAX_REGISTERS < free + 1) }
 {
-    if free >= MAX_REGISTERS {
-        return Err(LowerFault::Limit);
-    }
-    Ok(free)
+    register_of(free as usize)
 }
 
 /// Reports whether branches join with the value of an expression.

@@ -39,18 +39,10 @@ impl Targets {
     pub(crate) fn of_left(self, both: bool, second: BlockNumber) -> Targets
         ensures { result ≡ left_targets both self second }
     {
-        if both {
-            Targets {
-                yes: second,
-                no: self.no,
-                likely: self.likely,
-            }
-        } else {
-            Targets {
-                yes: self.yes,
-                no: second,
-                likely: self.likely,
-            }
+        Targets {
+            yes: if both { second } else { self.yes },
+            no: if both { self.no } else { second },
+            likely: self.likely,
         }
     }
 }
@@ -96,9 +88,5 @@ pub(crate) fn truth_blocks(
     let no = seal(blocks, no_code)?;
     let yes_code = put_first(RInst::Const(to, 1), exit_block(alloc, RExit::Goto(join)))?;
     let yes = seal(blocks, yes_code)?;
-    Ok(Targets {
-        yes,
-        no,
-        likely: true,
-    })
+    Ok(likely_first(yes, no))
 }

@@ -9,7 +9,7 @@ ghost use Rattle.rtl.specs.declared.limits.TheConstants.{MAX_REGISTERS};
 ghost use Rattle.rtl_emit.specs.Blocks.{open_code, exit_code, first, spot, line_of, insts_of};
 ghost use Rattle.rtl_emit.specs.Expressions.{IsPlace, Fetches, Combines, Decides};
 ghost use Rattle.rtl_emit.specs.Operations.{inst_of};
-ghost use Rattle.rtl_emit.specs.Sizes.{place_registers, next_free, test_registers, Beyond};
+ghost use Rattle.rtl_emit.specs.Sizes.{place_registers, spare_registers, both_registers, tested_registers, Beyond};
 ghost use Rattle.rtl_emit.specs.Sound.{Scope, IsSound};
 
 use crate::block::{OpenBlock, exit_block, put_before, put_first};
@@ -69,13 +69,10 @@ pub(crate) fn combination_at(
         → Fetches bs (typed_expression_of e.now) free w.place.register from (open_code w.code)
         → Combines bs with.operation (typed_expression_of e.now) with.word free to from (open_code after)) }
     ensures insts { IfOk result (λ w. insts_of (open_code w.code) ≡ insts_of (open_code after) + 2) }
-    ensures sound { IfOk result (λ w. (s : Scope) → to < s.registers
-        → max (place_registers (typed_expression_of e.now) free) (next_free (typed_expression_of e.now) free + 1) ≤ s.registers
+    ensures sound { IfOk result (λ w. (s : Scope) → to < s.registers → spare_registers (typed_expression_of e.now) free ≤ s.registers
         → IsSound s (open_code after) → IsSound s (open_code w.code)) }
-    ensures room { OnOk result (max (place_registers (typed_expression_of e.now) free) (next_free (typed_expression_of e.now) free + 1)
-        ≤ MAX_REGISTERS) }
-    ensures limit { IfErr result (λ f. f ≡ LowerFault.Limit
-        → MAX_REGISTERS < max (place_registers (typed_expression_of e.now) free) (next_free (typed_expression_of e.now) free + 1)) }
+    ensures room { OnOk result (spare_registers (typed_expression_of e.now) free ≤ MAX_REGISTERS) }
+    ensures limit { IfErr result (λ f. f ≡ LowerFault.Limit → MAX_REGISTERS < spare_registers (typed_expression_of e.now) free) }
 {
     let place = place_of(e, free)?;
     let other = spare_register(place.free)?;
@@ -96,13 +93,11 @@ pub(crate) fn test_at(
         → Fetches bs (typed_expression_of e.now) free w.place.register from (open_code w.code)
         → Decides bs (typed_expression_of e.now) free targets.yes targets.no from) }
     ensures insts { IfOk result (λ w. insts_of (open_code w.code) ≤ 2) }
-    ensures sound { IfOk result (λ w. (s : Scope) → test_registers targets.likely free (place_registers (typed_expression_of e.now) free)
-        (next_free (typed_expression_of e.now) free) 0 ≤ s.registers
+    ensures sound { IfOk result (λ w. (s : Scope) → tested_registers targets.likely (typed_expression_of e.now) free ≤ s.registers
         → targets.yes < s.blocks → targets.no < s.blocks → IsSound s (open_code w.code)) }
-    ensures room { OnOk result (test_registers targets.likely free (place_registers (typed_expression_of e.now) free)
-        (next_free (typed_expression_of e.now) free) 0 ≤ MAX_REGISTERS) }
-    ensures limit { IfErr result (λ f. f ≡ LowerFault.Limit → MAX_REGISTERS < test_registers targets.likely free
-        (place_registers (typed_expression_of e.now) free) (next_free (typed_expression_of e.now) free) 0) }
+    ensures room { OnOk result (tested_registers targets.likely (typed_expression_of e.now) free ≤ MAX_REGISTERS) }
+    ensures limit { IfErr result (λ f. f ≡ LowerFault.Limit
+        → MAX_REGISTERS < tested_registers targets.likely (typed_expression_of e.now) free) }
 {
     if targets.likely {
         let place = place_of(e, free)?;
@@ -135,13 +130,12 @@ pub(crate) fn operation_at(
     ensures first { IfOk result (λ w. IsPlace (typed_expression_of left.now) free w.first.register w.first.free) }
     ensures second { IfOk result (λ w. IsPlace (typed_expression_of right.now) w.first.free w.second.register w.second.free) }
     ensures is { IfOk result (λ w. open_code w.code ≡ first (inst_of operation to w.first.register w.second.register) (open_code after)) }
-    ensures sound { IfOk result (λ w. (s : Scope) → to < s.registers → max (place_registers (typed_expression_of left.now) free)
-        (place_registers (typed_expression_of right.now) (next_free (typed_expression_of left.now) free)) ≤ s.registers
+    ensures sound { IfOk result (λ w. (s : Scope) → to < s.registers
+        → both_registers (typed_expression_of left.now) (typed_expression_of right.now) free ≤ s.registers
         → IsSound s (open_code after) → IsSound s (open_code w.code)) }
-    ensures room { OnOk result (max (place_registers (typed_expression_of left.now) free)
-        (place_registers (typed_expression_of right.now) (next_free (typed_expression_of left.now) free)) ≤ MAX_REGISTERS) }
-    ensures limit { IfErr result (λ f. f ≡ LowerFault.Limit → MAX_REGISTERS < max (place_registers (typed_expression_of left.now) free)
-        (place_registers (typed_expression_of right.now) (next_free (typed_expression_of left.now) free))) }
+    ensures room { OnOk result (both_registers (typed_expression_of left.now) (typed_expression_of right.now) free ≤ MAX_REGISTERS) }
+    ensures limit { IfErr result (λ f. f ≡ LowerFault.Limit
+        → MAX_REGISTERS < both_registers (typed_expression_of left.now) (typed_expression_of right.now) free) }
 {
     let first = place_of(left, free)?;
     let second = place_of(right, first.free)?;
@@ -169,14 +163,13 @@ pub(crate) fn contrary_at(
     ensures second { IfOk result (λ w. IsPlace (typed_expression_of right.now) w.first.free w.second.register w.second.free) }
     ensures is { IfOk result (λ w. open_code w.code
         ≡ first (inst_of operation free w.first.register w.second.register) (exit_code (Branch free targets.no targets.yes))) }
-    ensures sound { IfOk result (λ w. (s : Scope) → max (free + 1) (max (place_registers (typed_expression_of left.now) free)
-        (place_registers (typed_expression_of right.now) (next_free (typed_expression_of left.now) free))) ≤ s.registers
+    ensures sound { IfOk result (λ w. (s : Scope)
+        → max (free + 1) (both_registers (typed_expression_of left.now) (typed_expression_of right.now) free) ≤ s.registers
         → targets.yes < s.blocks → targets.no < s.blocks → IsSound s (open_code w.code)) }
-    ensures room { OnOk result (max (free + 1) (max (place_registers (typed_expression_of left.now) free)
-        (place_registers (typed_expression_of right.now) (next_free (typed_expression_of left.now) free))) ≤ MAX_REGISTERS) }
-    ensures limit { IfErr result (λ f. f ≡ LowerFault.Limit → MAX_REGISTERS < max (free + 1) (max
-        (place_registers (typed_expression_of left.now) free)
-        (place_registers (typed_expression_of right.now) (next_free (typed_expression_of left.now) free)))) }
+    ensures room { OnOk result (max (free + 1) (both_registers (typed_expression_of left.now) (typed_expression_of right.now) free)
+        ≤ MAX_REGISTERS) }
+    ensures limit { IfErr result (λ f. f ≡ LowerFault.Limit
+        → MAX_REGISTERS < max (free + 1) (both_registers (typed_expression_of left.now) (typed_expression_of right.now) free)) }
 {
     let to = spare_register(free)?;
     let end = exit_block(alloc, RExit::Branch(to, targets.no, targets.yes));

@@ -1,49 +1,43 @@
-use Rattle.std.proofs.Common.{ap, arith, refl, rules, sym}
+use Rattle.std.proofs.Common.{◌+◌, ap, arith, refl, rules, sym}
 use Rattle.c_typed.specs.Shape.{typed_expression_of}
 use Rattle.c_typed.specs.Trees.{binary}
-use Rattle.rtl_emit.specs.Blocks.{Line, open_code, spot}
+use Rattle.rtl_emit.specs.Blocks.{spot}
 use Rattle.rtl_emit.specs.Emits.{value_size, condition_size}
+use Rattle.rtl_emit.specs.Sizes.{joint, value_blocks, condition_blocks}
+use Rattle.rtl_emit.proofs.Blocks.{grows_then}
 use Rattle.rtl_emit.proofs.Emitted.{element_is, unary_is, binary_is, conditional_is}
-use Rattle.rtl_emit.proofs.Emitting.{value_along, branch_along, element_emits, prefix_emits, identity_emits, not_emits, not_stops, told_emits, told_stops}
-use Rattle.rtl_emit.proofs.Emitting.{both_emits, both_stops, operator_emits}
-use Rattle.rtl_emit.proofs.EmittingBranches.{block_emits, block_stops, join_stops, first_value_stops, value_stops}
+use Rattle.rtl_emit.proofs.Emitting.{element_emits, prefix_emits, identity_emits, not_emits, not_stops, told_emits, told_stops}
+use Rattle.rtl_emit.proofs.Emitting.{both_emits, operator_emits, part_refused, refused, grows_same}
+use Rattle.rtl_emit.proofs.EmittingBranches.{block_emits}
 use Rattle.rtl_emit.proofs.Emitting.{logical_branches, logical_stops}
 use Rattle.rtl_emit.proofs.EmittingBranches.{conditional_emits, constant_emits, not_branches, conditional_branches, sides}
-use Rattle.rtl_emit.proofs.EmittingBranches.{first_side_stops, side_stops, contrary_emits, test_emits, operand_emits}
-use Rattle.rtl_emit.proofs.Weights.{element_weight, unary_weight, binary_weight, conditional_weight}
+use Rattle.rtl_emit.proofs.EmittingBranches.{contrary_emits, test_emits, operand_emits}
+use Rattle.rtl_emit.proofs.Weights.{weight}
 use Rattle.rtl_emit.proofs.expression.+expressions.Goals as goal
 
 pub value_into-returns-in-Constant : goal.value_into-returns-in-Constant
-value_into-returns-in-Constant t c =
-    value_along _ _ _ _ c.args.to c.args.free (spot c.args.after) _ (ap typed_expression_of c.in-Constant.is) (c.number_into.ensures _)
+value_into-returns-in-Constant t c = rw (ap typed_expression_of c.in-Constant.is) (c.number_into.ensures _)
 
 pub value_into-returns-in-Local : goal.value_into-returns-in-Local
-value_into-returns-in-Local t c =
-    value_along _ _ _ _ c.args.to c.args.free (spot c.args.after) _ (ap typed_expression_of c.in-Local.is) (c.local_into.ensures _ _)
+value_into-returns-in-Local t c = rw (ap typed_expression_of c.in-Local.is) (c.local_into.ensures _ _)
 
 pub value_into-returns-in-Global : goal.value_into-returns-in-Global
-value_into-returns-in-Global t c =
-    value_along _ _ _ _ c.args.to c.args.free (spot c.args.after) _ (ap typed_expression_of c.in-Global.is) (c.global_into.ensures _ _)
+value_into-returns-in-Global t c = rw (ap typed_expression_of c.in-Global.is) (c.global_into.ensures _ _)
 
 pub value_into-returns-in-Element : goal.value_into-returns-in-Element
-value_into-returns-in-Element t c =
-    value_along _ _ _ _ c.args.to c.args.free (spot c.args.after) _
-    (element_is _ _ _ (ap typed_expression_of c.in-Element.is) c.deref.ensures) (c.element_into.ensures _)
+value_into-returns-in-Element t c = rw (element_is _ _ _ (ap typed_expression_of c.in-Element.is) c.deref.ensures) (c.element_into.ensures _)
 
 pub value_into-returns-in-Unary : goal.value_into-returns-in-Unary
 value_into-returns-in-Unary t c =
-    value_along _ _ _ _ c.args.to c.args.free (spot c.args.after) _
-    (unary_is _ _ _ _ _ (ap typed_expression_of c.in-Unary.is) refl (ap typed_expression_of c.deref-in-Unary.ensures)) (c.unary_into.ensures _)
+    rw (unary_is _ _ _ _ _ (ap typed_expression_of c.in-Unary.is) refl (ap typed_expression_of c.deref-in-Unary.ensures)) (c.unary_into.ensures _)
 
 pub value_into-returns-in-Binary : goal.value_into-returns-in-Binary
 value_into-returns-in-Binary t c =
-    value_along _ _ _ _ c.args.to c.args.free (spot c.args.after) _
-    (binary_is _ _ _ _ _ (ap typed_expression_of c.in-Binary.is) refl c.deref-in-Binary.ensures) c.binary_into.ensures
+    rw (binary_is _ _ _ _ _ (ap typed_expression_of c.in-Binary.is) refl c.deref-in-Binary.ensures) c.binary_into.ensures
 
 pub value_into-returns-in-Conditional : goal.value_into-returns-in-Conditional
 value_into-returns-in-Conditional t c =
-    value_along _ _ _ _ c.args.to c.args.free (spot c.args.after) _
-    (conditional_is _ _ _ (ap typed_expression_of c.in-Conditional.is) c.deref-in-Conditional.ensures) (c.conditional_into.ensures _)
+    rw (conditional_is _ _ _ (ap typed_expression_of c.in-Conditional.is) c.deref-in-Conditional.ensures) (c.conditional_into.ensures _)
 
 pub element_into-returns : goal.element_into-returns
 element_into-returns t c = λ k.
@@ -75,10 +69,7 @@ unary_into-returns-in-Combined t c = λ k.
     c.is_logical.ensures c.open_block.ensures value.place value.room value.does value.insts value.sound value.limit c.await_operand.ensures.ok c.await_operand.ensures.err
 
 pub binary_into-returns-in-Logical : goal.binary_into-returns-in-Logical
-binary_into-returns-in-Logical t c =
-    value_along _ _ _ _ c.args.aim.to c.args.aim.free (spot c.args.aim.after) _
-    (ap (λ o. binary o c.args.integer_type (typed_expression_of c.args.left.now) (typed_expression_of c.args.right.now)) c.in-Logical.ensures.form)
-    (c.told_into.ensures _)
+binary_into-returns-in-Logical t c = rw c.in-Logical.ensures.form (c.told_into.ensures _)
 
 pub binary_into-returns-in-Plain : goal.binary_into-returns-in-Plain
 binary_into-returns-in-Plain t c =
@@ -100,20 +91,21 @@ told_into-returns t c = λ k.
 
 pub conditional_into-returns-in_err-join : goal.conditional_into-returns-in_err-join
 conditional_into-returns-in_err-join t c = λ k.
-    join_stops _ _ k _ _ _ c.args.aim.to c.args.aim.free (spot c.args.aim.after) c.in_err-join.field-0.0 _ (search rules) c.in_err-join.ensures.left
-    c.in_err-join.ensures.limit
+    let limit = c.in_err-join.ensures.limit in
+    refused _ _ _ _ _ c.in_err-join.field-0.0 _ (search rules) c.in_err-join.ensures.left (λ is. let more = limit is in omega (arith, more))
 
 pub conditional_into-returns-in_err-yes : goal.conditional_into-returns-in_err-yes
 conditional_into-returns-in_err-yes t c = λ k.
     let join = c.in_ok-join.ensures in
-    first_value_stops _ _ _ k _ _ _ c.args.aim.to c.args.aim.free c.in_ok-join.join (spot c.args.aim.after) c.in_err-yes.field-0.0 _ (search rules)
-    (record { grows = join.grows; count = join.count; insts = join.insts; sound = join.sound; lands = join.lands }) c.in_err-yes.ensures
+    part_refused _ _ (joint (spot c.args.aim.after)) _ _ _ _ _ _ _ c.in_err-yes.field-0.0 _ (search rules) (omega arith) (omega arith) (omega arith)
+    join.grows join.count c.in_err-yes.ensures
 
 pub conditional_into-returns-in_err-no : goal.conditional_into-returns-in_err-no
 conditional_into-returns-in_err-no t c = λ k.
     let join = c.in_ok-join.ensures in
-    value_stops _ _ _ _ k _ _ _ c.args.aim.to c.args.aim.free c.in_ok-join.join c.in_ok-yes.yes (spot c.args.aim.after) c.in_err-no.field-0.0 _
-    (search rules) (record { grows = join.grows; count = join.count; insts = join.insts; sound = join.sound; lands = join.lands }) c.in_ok-yes.ensures c.in_err-no.ensures
+    let yes = c.in_ok-yes.ensures in
+    part_refused _ _ (joint (spot c.args.aim.after) + (value_blocks (typed_expression_of c.args.first.now) 0 + 1)) _ _ _ _ _ _ _ c.in_err-no.field-0.0 _
+    (search rules) (omega arith) (omega arith) (omega arith) (grows_then _ _ _ join.grows yes.grows) (omega (arith, join.count, yes.count)) c.in_err-no.ensures
 
 pub conditional_into-returns : goal.conditional_into-returns
 conditional_into-returns t c = λ k.
@@ -124,7 +116,8 @@ conditional_into-returns t c = λ k.
 
 pub value_block-returns-in_err-code : goal.value_block-returns-in_err-code
 value_block-returns-in_err-code t c =
-    block_stops _ _ (value_size (typed_expression_of c.args.e.now) c.args.free 0) _ _ _ _ c.in_err-code.field-0.0 _ (search rules) c.in_err-code.ensures
+    part_refused _ _ 0 _ _ _ _ _ _ _ c.in_err-code.field-0.0 _ (search rules) (omega arith) (omega arith) (omega arith) (grows_same _) (omega arith)
+    c.in_err-code.ensures
 
 pub value_block-returns : goal.value_block-returns
 value_block-returns t c =
@@ -133,21 +126,22 @@ value_block-returns t c =
     (λ s named h. (h.0, (named, h.1))) made.grows made.count made.insts made.limit made.sound made.at
 
 pub operand_into-returns-in-Constant : goal.operand_into-returns-in-Constant
-operand_into-returns-in-Constant t c = operand_emits _ _ _ _ _ c.args.after _
-    (value_along _ _ _ _ c.args.register c.args.free (Line (open_code c.args.after)) _ (ap typed_expression_of c.in-Constant.is) (c.number_into.ensures _))
+operand_into-returns-in-Constant t c = operand_emits _ _ (typed_expression_of c.args.e.now) _ _ c.args.after _
+    (rw (ap typed_expression_of c.in-Constant.is) (c.number_into.ensures _))
 
 pub operand_into-returns : goal.operand_into-returns
 operand_into-returns t c = operand_emits _ _ _ _ _ c.args.after _ c.value_into.ensures
 
 pub await_both-returns-in_err-middle : goal.await_both-returns-in_err-middle
 await_both-returns-in_err-middle t c = record {
-  ok = rw c.in_ok-values.was (both_stops _ _ _ _ _ _ _ _ c.in_ok-values.values.code c.in_err-middle.field-0.0 _ (search rules) c.in_err-middle.ensures);
+  ok = rw c.in_ok-values.was (part_refused _ _ 0 _ _ _ _ _ _ _ c.in_err-middle.field-0.0 _ (search rules) (omega arith) (omega arith) (omega arith)
+      (grows_same _) (omega arith) c.in_err-middle.ensures);
   err = rw c.in_ok-values.was tt;
 }
 
 pub await_both-returns : goal.await_both-returns
 await_both-returns t c = record {
-  ok = rw c.in_ok-values.was (both_emits _ _ _ _ _ _ _ _ _ c.in_ok-values.values.code c.in_ok-middle.middle _ c.in_ok-middle.ensures c.operand_into-2.ensures);
+  ok = rw c.in_ok-values.was (both_emits _ _ _ _ _ _ c.in_ok-values.values c.in_ok-middle.middle _ c.in_ok-middle.ensures c.operand_into-2.ensures);
   err = rw c.in_ok-values.was tt;
 }
 
@@ -168,19 +162,15 @@ condition-returns-in-Not t c =
 
 pub condition-returns-in-Logical : goal.condition-returns-in-Logical
 condition-returns-in-Logical t c =
-    branch_along _ _ _ _ c.args.targets _ _
-    (binary_is _ _ _ _ _ (ap typed_expression_of c.in-Binary.is) c.in-Logical.ensures.form c.deref-in-Binary.ensures) (c.logical_branches.ensures _)
+    rw (binary_is _ _ _ _ _ (ap typed_expression_of c.in-Binary.is) c.in-Logical.ensures.form c.deref-in-Binary.ensures) (c.logical_branches.ensures _)
 
 pub condition-returns-else-targets : goal.condition-returns-else-targets
-condition-returns-else-targets t c =
-    branch_along _ _ _ _ c.args.targets _ _
-    (binary_is _ _ _ _ _ (ap typed_expression_of c.in-Binary.is) refl c.deref-in-Binary.ensures)
+condition-returns-else-targets t c = rw (binary_is _ _ _ _ _ (ap typed_expression_of c.in-Binary.is) refl c.deref-in-Binary.ensures)
     (c.contrary_test.ensures _ _ c.in-Some.ensures.computes c.in-Plain.ensures.branches (sym c.in-Some.ensures.is) c.if-targets.false)
 
 pub condition-returns-in-Conditional : goal.condition-returns-in-Conditional
 condition-returns-in-Conditional t c =
-    branch_along _ _ _ _ c.args.targets _ _
-    (conditional_is _ _ _ (ap typed_expression_of c.in-Conditional.is) c.deref-in-Conditional.ensures) (c.sides.ensures _)
+    rw (conditional_is _ _ _ (ap typed_expression_of c.in-Conditional.is) c.deref-in-Conditional.ensures) (c.sides.ensures _)
 
 pub contrary_test-returns : goal.contrary_test-returns
 contrary_test-returns t c = λ o k computes plain has unlikely.
@@ -198,11 +188,14 @@ logical_branches-returns t c = λ k.
 
 pub sides-returns-in_err-yes : goal.sides-returns-in_err-yes
 sides-returns-in_err-yes t c = λ k.
-    first_side_stops _ _ k _ _ _ c.args.targets _ c.in_err-yes.field-0.0 _ (search rules) c.in_err-yes.ensures
+    part_refused _ _ 0 _ _ _ _ _ _ _ c.in_err-yes.field-0.0 _ (search rules) (omega arith) (omega arith) (omega arith) (grows_same _) (omega arith)
+    c.in_err-yes.ensures
 
 pub sides-returns-in_err-no : goal.sides-returns-in_err-no
 sides-returns-in_err-no t c = λ k.
-    side_stops _ _ _ k _ _ _ c.args.targets _ c.in_ok-yes.yes c.in_err-no.field-0.0 _ (search rules) c.in_ok-yes.ensures c.in_err-no.ensures
+    let yes = c.in_ok-yes.ensures in
+    part_refused _ _ (condition_blocks (typed_expression_of c.args.first.now) + 1) _ _ _ _ _ _ _ c.in_err-no.field-0.0 _ (search rules) (omega arith)
+    (omega arith) (omega arith) yes.grows yes.count c.in_err-no.ensures
 
 pub sides-returns : goal.sides-returns
 sides-returns t c = λ k.
@@ -215,7 +208,7 @@ sides-returns t c = λ k.
 
 pub branch_block-returns-in_err-code : goal.branch_block-returns-in_err-code
 branch_block-returns-in_err-code t c =
-    block_stops _ _ (condition_size (typed_expression_of c.args.e.now) c.args.targets.likely c.args.free) _ _ _ _ c.in_err-code.field-0.0 _ (search rules)
+    part_refused _ _ 0 _ _ _ _ _ _ _ c.in_err-code.field-0.0 _ (search rules) (omega arith) (omega arith) (omega arith) (grows_same _) (omega arith)
     c.in_err-code.ensures
 
 pub branch_block-returns : goal.branch_block-returns
@@ -226,82 +219,28 @@ branch_block-returns t c =
 
 pub value_into-element_into-requires : goal.value_into-element_into-requires
 value_into-element_into-requires t c =
-    let w = element_weight (ap typed_expression_of c.in-Element.is) c.deref.ensures in (omega (arith, w), tt)
+    let w = ap weight (element_is _ _ _ (ap typed_expression_of c.in-Element.is) c.deref.ensures) in (omega (arith, w), tt)
 
 pub value_into-unary_into-requires : goal.value_into-unary_into-requires
 value_into-unary_into-requires t c =
-    let w = unary_weight (ap typed_expression_of c.in-Unary.is) c.deref-in-Unary.ensures in (omega (arith, w), tt)
+    let w = ap weight (unary_is _ _ _ _ _ (ap typed_expression_of c.in-Unary.is) refl (ap typed_expression_of c.deref-in-Unary.ensures)) in (omega (arith, w), tt)
 
 pub value_into-binary_into-requires : goal.value_into-binary_into-requires
 value_into-binary_into-requires t c =
-    let w = binary_weight (ap typed_expression_of c.in-Binary.is) c.deref-in-Binary.ensures in (omega (arith, w), tt)
+    let w = ap weight (binary_is _ _ _ _ _ (ap typed_expression_of c.in-Binary.is) refl c.deref-in-Binary.ensures) in (omega (arith, w), tt)
 
 pub value_into-conditional_into-requires : goal.value_into-conditional_into-requires
 value_into-conditional_into-requires t c =
-    let w = conditional_weight (ap typed_expression_of c.in-Conditional.is) c.deref-in-Conditional.ensures in (omega (arith, w), tt)
+    let w = ap weight (conditional_is _ _ _ (ap typed_expression_of c.in-Conditional.is) c.deref-in-Conditional.ensures) in (omega (arith, w), tt)
 
 pub condition-sides-requires : goal.condition-sides-requires
 condition-sides-requires t c =
-    let w = conditional_weight (ap typed_expression_of c.in-Conditional.is) c.deref-in-Conditional.ensures in (omega (arith, w), tt)
+    let w = ap weight (conditional_is _ _ _ (ap typed_expression_of c.in-Conditional.is) c.deref-in-Conditional.ensures) in (omega (arith, w), tt)
 
 pub condition-logical_branches-requires : goal.condition-logical_branches-requires
 condition-logical_branches-requires t c =
-    let w = binary_weight (ap typed_expression_of c.in-Binary.is) c.deref-in-Binary.ensures in (omega (arith, w), tt)
+    let w = ap weight (binary_is _ _ _ _ _ (ap typed_expression_of c.in-Binary.is) refl c.deref-in-Binary.ensures) in (omega (arith, w), tt)
 
 pub condition-contrary_test-requires : goal.condition-contrary_test-requires
 condition-contrary_test-requires t c =
-    let w = binary_weight (ap typed_expression_of c.in-Binary.is) c.deref-in-Binary.ensures in (omega (arith, w), tt)
-
-pub unary_into-value_into-requires : goal.unary_into-value_into-requires
-unary_into-value_into-requires t c = (omega arith, tt)
-
-pub unary_into-condition-requires : goal.unary_into-condition-requires
-unary_into-condition-requires t c = (omega arith, tt)
-
-pub binary_into-told_into-requires : goal.binary_into-told_into-requires
-binary_into-told_into-requires t c = (omega arith, tt)
-
-pub told_into-logical_branches-requires : goal.told_into-logical_branches-requires
-told_into-logical_branches-requires t c = (omega arith, tt)
-
-pub conditional_into-value_block-requires : goal.conditional_into-value_block-requires
-conditional_into-value_block-requires t c = (omega arith, tt)
-
-pub conditional_into-condition-requires : goal.conditional_into-condition-requires
-conditional_into-condition-requires t c = (omega arith, tt)
-
-pub value_block-value_into-requires : goal.value_block-value_into-requires
-value_block-value_into-requires t c = (omega arith, tt)
-
-pub operand_into-value_into-requires : goal.operand_into-value_into-requires
-operand_into-value_into-requires t c = (omega arith, tt)
-
-pub logical_branches-branch_block-requires : goal.logical_branches-branch_block-requires
-logical_branches-branch_block-requires t c = (omega arith, tt)
-
-pub logical_branches-condition-requires : goal.logical_branches-condition-requires
-logical_branches-condition-requires t c = (omega arith, tt)
-
-pub sides-branch_block-requires : goal.sides-branch_block-requires
-sides-branch_block-requires t c = (omega arith, tt)
-
-pub sides-condition-requires : goal.sides-condition-requires
-sides-condition-requires t c = (omega arith, tt)
-
-pub branch_block-condition-requires : goal.branch_block-condition-requires
-branch_block-condition-requires t c = (omega arith, tt)
-
-pub condition-test-requires : goal.condition-test-requires
-condition-test-requires t c = (omega arith, tt)
-
-pub conditional_into-value_block-requires-2 : goal.conditional_into-value_block-requires-2
-conditional_into-value_block-requires-2 t c = (omega arith, tt)
-
-pub sides-branch_block-requires-2 : goal.sides-branch_block-requires-2
-sides-branch_block-requires-2 t c = (omega arith, tt)
-
-pub condition-test-requires-in_default : goal.condition-test-requires-in_default
-condition-test-requires-in_default t c = (omega arith, tt)
-
-pub condition-test-requires-then-targets : goal.condition-test-requires-then-targets
-condition-test-requires-then-targets t c = (omega arith, tt)
+    let w = ap weight (binary_is _ _ _ _ _ (ap typed_expression_of c.in-Binary.is) refl c.deref-in-Binary.ensures) in (omega (arith, w), tt)
