@@ -3,7 +3,6 @@ use Rattle.std.proofs.Common.{◌≡◌, ℕ, List, ◌∷◌, Option, Some, Non
 use Rattle.std.proofs.Common.{map, get_or, Bor, arith}
 use Rattle.std.specs.Prelude.{if◌then◌else◌, ◌&&◌, ◌==◌, is_some, IfSome}
 use Rattle.std.specs.List.{slice_get}
-use Rattle.std.specs.Option.{option_map}
 use Rattle.runs.specs.Stores.{Places}
 use Rattle.runs.proofs.Kept.{places-set_to}
 use Rattle.runs.proofs.Lookups.{found}
@@ -44,7 +43,8 @@ module _ (p : Program) (depth i : ℕ) (vs : List ℕ) (to : Option ℕ) (m : In
   entered x entry new frame values bs there room count first is globals output made words all =
       let begun : frame_of frame ≡ frame_with x.blocks.items (argument_registers vs) (code_of entry) to =
       made ∙ ap₂ (λ bs r. frame_with bs r (code_of entry) to) all (ap places words ∙ places-set_to vs) in
-      rw (there, room-of frame_of m depth true room, eq-eqb (length vs) x.parameters count, first, with-calls frame_of m new (frame ∷ calls_of m) is globals output)
+      let now = with-calls frame_of m new (frame ∷ calls_of m) is globals output in
+      rw (there, room-of frame_of m depth true room, eq-eqb (length vs) x.parameters count, first, now)
       (ap (λ t. Running (t ∷ map frame_of (calls_of m)) (arrays m.globals.items) m.output.items) (sym begun))
 
   -- it fails: of no function, too deep, of another number of words, or of a function without a block
@@ -65,14 +65,6 @@ module _ (p : Program) (depth i : ℕ) (vs : List ℕ) (to : Option ℕ) (m : In
       → after-call ≡ Failed m.output.items
   calls-no-block x there nowhere =
       rw (there, nowhere) (either_way (nat_lt (length (map frame_of (calls_of m))) depth && (length vs == x.parameters)) (Failed m.output.items))
-
-pub no-block : (bs : List RBlock) (i : ℕ) (r : Option (Bor RBlock)) → option_map (λ (b : Bor RBlock). b.now) r ≡ slice_get bs i → r ≡ None
-    → slice_get bs i ≡ None
-no-block bs i r e is = sym e ∙ ap (option_map (λ (b : Bor RBlock). b.now)) is
-
-pub some-block : (bs : List RBlock) (i : ℕ) (r : Option (Bor RBlock)) (b : Bor RBlock) → option_map (λ (b : Bor RBlock). b.now) r ≡ slice_get bs i → r ≡ Some b
-    → slice_get bs i ≡ Some b.now
-some-block bs i r b e is = sym e ∙ ap (option_map (λ (b : Bor RBlock). b.now)) is
 
 -- the function of a number, found in the slice of all
 pub function-at : (p : Program) (fs : Bor (List RFunc)) (i : ℕ) (r : Option (Bor RFunc)) (x : Bor RFunc) → fs.now ≡ p.functions

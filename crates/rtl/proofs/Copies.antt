@@ -1,11 +1,12 @@
 -- A block is as it was, or ends with a copy of another; and what is named is there.
 use Rattle.std.proofs.Common.{◌≡◌, ℕ, zero, suc, ◌+◌, ◌<◌, ◌≤◌, ◌⊎◌, inl, inr, Bool, true, false, List, [], ◌∷◌, ◌++◌, Option, Some, None}
-use Rattle.std.proofs.Common.{length, nat_eq, refl, ap, subst, sym, ◌∙◌, append_assoc, arith}
+use Rattle.std.proofs.Common.{length, refl, ap, subst, sym, ◌∙◌, append_assoc, arith}
 use Rattle.std.specs.Prelude.{All, ◌||◌, slice_get, sum_by, if◌then◌else◌}
 use Rattle.std.proofs.lemmas.Option.{same_Some, none-some, slice_get_past}
 use Rattle.std.proofs.lemmas.List.Elements.{All-nil, All-cons, All-head, All-tail, All-append}
 use Rattle.std.proofs.lemmas.List.Sums.{sum_by-cons}
 use Rattle.runs.proofs.Words.{at-index}
+use Rattle.rtl.proofs.Kept.{reached_named}
 use Rattle.rtl.specs.declared.limits.TheConstants.{MAX_PARAMETERS, MAX_BLOCKS}
 use Rattle.rtl.specs.declared.instruction.RInst.{RInst}
 use Rattle.rtl.specs.declared.instruction.RInst.TheVariants.{Const}
@@ -53,11 +54,8 @@ constant_holds P all (Const x w ∷ is) d holds e = by (writes_first all x) refl
 constant_holds P all (i ∷ is) d holds e = constant_holds P all is d (All-tail P i is holds) e
 
 again_same : (x e : RExit) → again x ≡ Some e → e ≡ x
-again_same (Goto b) e is = sym (same_Some (Goto b) e is)
-again_same (Branch c t o) e is = sym (same_Some (Branch c t o) e is)
 again_same (Call g xs d next) e is = absurd (none-some e is)
-again_same (Return o) e is = sym (same_Some (Return o) e is)
-again_same (Out x next) e is = sym (same_Some (Out x next) e is)
+again_same x e is = sym (same_Some x e is)
 
 pub copy_of_code : (bs : List RBlock) (c : Code) → Copy bs c (tailed bs c)
 copy_of_code bs c = by c.exit refl
@@ -94,10 +92,7 @@ copy_of_code bs c = by c.exit refl
                       };
                       is = ap (joined c d t.insts.items) is;
                     })
-    by (Branch x t e) goes = inl refl
-    by (Call g xs d next) goes = inl refl
-    by (Return o) goes = inl refl
-    by (Out x next) goes = inl refl
+    by _ goes = inl refl
 
 -- among more blocks
 get_before : {A : Type 0} (xs ys : List A) (i : ℕ) (x : A) → slice_get xs i ≡ Some x → slice_get (xs ++ ys) i ≡ Some x
@@ -173,13 +168,6 @@ goes_block (k ∷ bs) (suc b) block e t go = either (is_in (goes_to k.exit) t) (
     either true rest = refl
     either false rest = rest
 
-reaches : (bs : List RBlock) (t : ℕ) → some_go_to bs t ≡ true → is_reached bs t ≡ true
-reaches bs t go = by (nat_eq t 0)
-  where
-    by : (b : Bool) → (b || some_go_to bs t) ≡ true
-    by true = refl
-    by false = go
-
 -- all blocks that an exit goes to are reached
 abbrev pub Leads : List RBlock → RExit → Type 0
 Leads bs x = (t : ℕ) → is_in (goes_to x) t ≡ true → is_reached bs t ≡ true
@@ -200,7 +188,7 @@ found bs new m i b is keep =
       block = k.0;
       there = k.1;
       copy = subst (Copy bs (code_of b)) (sym k.2) s.copy;
-      leads = λ t go. reaches m.with_tails t (goes_block m.with_tails i s.block s.there t
+      leads = λ t go. reached_named m.with_tails t (goes_block m.with_tails i s.block s.there t
           (sym (ap (λ (c : Code). is_in (goes_to c.exit) t) k.2) ∙ go));
     }
 

@@ -93,7 +93,8 @@ module _ (p : Program) (depth : ℕ) (bs : List RBlock) (r : Places) (to : Optio
   exit-words (Return None) = returned-words None to frames g out (λ w e. absurd (none-some w e)) h c d
   exit-words (Return (Some x)) =
       valued (r x) out _ d (λ v is. returned-words (Some v) to frames g out (λ w same. subst IsWord (same_Some v w same) (a x v is)) h c d)
-  exit-words (Out x next) = valued (r x) out _ d (λ v is. block-words bs next r to frames g (out ++ v ∷ []) a h c (All-push IsWord out v d (a x v is)))
+  exit-words (Out x next) =
+      valued (r x) out _ d (λ v is. block-words bs next r to frames g (out ++ v ∷ []) a h c (All-push IsWord out v d (a x v is)))
 
   at-words : (insts : List RInst) (exit : RExit) → RunHoldsWords (step_at p depth insts exit bs r to frames g out)
   at-words [] exit = exit-words exit

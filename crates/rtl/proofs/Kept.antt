@@ -1,6 +1,7 @@
 -- Blocks that something goes to stay, from the last one on.
-use Rattle.std.proofs.Common.{◌≡◌, ℕ, zero, suc, ◌<◌, List, [], ◌∷◌, Bool, true, false, take, drop, get_or, length, sym, ap, ap₂, subst, ◌∙◌, arith, refl, ◌||◌, nat_eq}
+use Rattle.std.proofs.Common.{◌≡◌, ℕ, zero, suc, ◌<◌, List, [], ◌∷◌, Bool, true, false, take, drop, get_or, length, sym, ap, subst, ◌∙◌, arith, refl, ◌||◌, nat_eq}
 use Rattle.std.specs.Prelude.{if◌then◌else◌}
+use Rattle.std.proofs.lemmas.List.{take-take}
 use Rattle.rtl.specs.declared.block.RBlock.{RBlock}
 use Rattle.rtl.specs.Meaning.{code_of}
 use Rattle.rtl.specs.Names.{some_go_to}
@@ -12,14 +13,6 @@ or_true false = refl
 
 pub reached_named : (bs : List RBlock) (j : ℕ) → some_go_to bs j ≡ true → is_reached bs j ≡ true
 reached_named bs j some = ap (λ b. nat_eq j 0 || b) some ∙ or_true (nat_eq j 0)
-
-take_front : (j : ℕ) (was now : List RBlock) → take (suc j) now ≡ take (suc j) was → j < length was → j < length now → take j now ≡ take j was
-take_front j [] now same lt lt' = absurd (omega (arith, lt))
-take_front j (b ∷ bs) [] same lt lt' = absurd (omega (arith, lt'))
-take_front zero (b ∷ bs) (c ∷ cs) same lt lt' = refl
-take_front (suc j) (b ∷ bs) (c ∷ cs) same lt lt' =
-    let rest = take_front j bs cs (ap (λ l. drop 1 l) same) (omega (arith, lt)) (omega (arith, lt')) in
-    ap₂ (λ d ds. d ∷ ds) (ap (λ l. get_or l 0 b) same) rest
 
 kept_more : (keeps : ℕ → Bool) (m j : ℕ) (was now : List RBlock) → keeps m ≡ true → take (suc j) now ≡ take (suc j) was
     → AreKept keeps (suc m) (drop (suc j) was) (drop (suc j) now) → j < length was → j < length now → AreKept keeps m (drop j was) (drop j now)
@@ -36,5 +29,7 @@ pub kept_before : (keeps : ℕ → Bool) (n j : ℕ) (was now : List RBlock) →
     → (take j now ≡ take j was) × AreKept keeps j (drop j was) (drop j now)
 kept_before keeps n j was now next named same kept lt lt' =
     let same = subst (λ m. take m now ≡ take m was) next same in
-    let kept = subst (λ m. AreKept keeps m (drop m was) (drop m now)) next kept in
-    (take_front j was now same lt lt', kept_more keeps j j was now named same kept lt lt')
+    let kept = subst (λ m. AreKept keeps m (drop m was) (drop m now)) next kept in (
+      sym (take-take j (suc j) now (omega arith)) ∙ ap (take j) same ∙ take-take j (suc j) was (omega arith),
+      kept_more keeps j j was now named same kept lt lt',
+    )

@@ -7,7 +7,7 @@ use Rattle.runs.proofs.Words.{at-index}
 use Rattle.rtl.specs.declared.instruction.RInst.{RInst}
 use Rattle.rtl.specs.declared.instruction.RInst.TheVariants.{Const}
 use Rattle.rtl.specs.declared.instruction.RExit.{RExit}
-use Rattle.rtl.specs.declared.instruction.RExit.TheVariants.{Goto, Branch, Call, Return, Out}
+use Rattle.rtl.specs.declared.instruction.RExit.TheVariants.{Goto}
 use Rattle.rtl.specs.declared.block.RBlock.{RBlock}
 use Rattle.rtl.specs.declared.block.RFunc.{RFunc}
 use Rattle.rtl.specs.Meaning.{Code, code_of}
@@ -110,10 +110,7 @@ block_below m before b c all below (inr t) =
 -- as it was, or empty
 nothing_below : {m : ℕ} (x : RExit) → Below m (exit_names (shortest x))
 nothing_below {m} (Goto b) = All-nil (λ x. x < m)
-nothing_below {m} (Branch c t e) = All-nil (λ x. x < m)
-nothing_below {m} (Call g xs d next) = All-nil (λ x. x < m)
-nothing_below {m} (Return o) = All-nil (λ x. x < m)
-nothing_below {m} (Out x next) = All-nil (λ x. x < m)
+nothing_below {m} _ = All-nil (λ x. x < m)
 
 kept_below : (m : ℕ) (c d : RBlock) → BlockBelow m c → (code_of d ≡ code_of c) ⊎ (code_of d ≡ empty_code c) → BlockBelow m d
 kept_below m c d below (inl is) = below_code m d (code_of c) is below.insts below.exit

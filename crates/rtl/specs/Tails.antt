@@ -4,7 +4,7 @@
 use Rattle.std.specs.Prelude.{◌≡◌, ℕ, suc, ◌+◌, Bool, true, false, ◌&&◌, ◌||◌, List, [], ◌∷◌, ◌++◌, length, nat_eq, nat_le, Option, Some, None}
 use Rattle.std.specs.Prelude.{slice_get, get_or, ◌<◌, if◌then◌else◌}
 use Rattle.rtl.specs.declared.instruction.RInst.{RInst}
-use Rattle.rtl.specs.declared.instruction.RInst.TheVariants.{Const, Move, Bin, Load, Store}
+use Rattle.rtl.specs.declared.instruction.RInst.TheVariants.{Const}
 use Rattle.rtl.specs.declared.instruction.RExit.{RExit}
 use Rattle.rtl.specs.declared.instruction.RExit.TheVariants.{Goto, Branch, Call, Return, Out}
 use Rattle.rtl.specs.declared.block.RBlock.{RBlock}
@@ -25,10 +25,7 @@ writes_first (i ∷ is) d = if is_in (inst_reads i) d then false else if is_in (
 abbrev pub constant_of : (all : List RInst) → List RInst → Option ℕ
 constant_of all [] = None
 constant_of all (Const d w ∷ is) = if writes_first all d then Some d else constant_of all is
-constant_of all (Move d a ∷ is) = constant_of all is
-constant_of all (Bin op d a b ∷ is) = constant_of all is
-constant_of all (Load d g i ∷ is) = constant_of all is
-constant_of all (Store g i a ∷ is) = constant_of all is
+constant_of all (i ∷ is) = constant_of all is
 
 abbrev pub spare_constant : List RInst → Option ℕ
 spare_constant all = constant_of all all
@@ -47,11 +44,8 @@ is_short is = nat_le (length is) TAIL_INSTS && nat_le (operations is) TAIL_OPERA
 
 -- a call has arguments, and a block of its own where it goes on
 abbrev pub again : RExit → Option RExit
-again (Goto b) = Some (Goto b)
-again (Branch c t e) = Some (Branch c t e)
 again (Call g xs d next) = None
-again (Return o) = Some (Return o)
-again (Out x next) = Some (Out x next)
+again x = Some x
 
 -- ---- what comes of code
 
@@ -60,9 +54,8 @@ abbrev pub joined : Code → (d : ℕ) → List RInst → RExit → Code
 joined c d is e = record { insts = c.insts ++ Const d 0 ∷ is; exit = e }
 
 abbrev pub joined_if : Code → List RInst → Option ℕ → Option RExit → Code
-joined_if c is None e = c
-joined_if c is (Some d) None = c
 joined_if c is (Some d) (Some e) = joined c d is e
+joined_if c is _ _ = c
 
 abbrev pub with_tail : Code → Option RBlock → Code
 with_tail c None = c
@@ -71,10 +64,7 @@ with_tail c (Some t) = if is_short t.insts.items then joined_if c t.insts.items 
 -- of a block after these, which are those that may be copied
 abbrev pub tailed_by : (before : List RBlock) → Code → RExit → Code
 tailed_by before c (Goto b) = with_tail c (slice_get before b)
-tailed_by before c (Branch x t e) = c
-tailed_by before c (Call g xs d next) = c
-tailed_by before c (Return o) = c
-tailed_by before c (Out x next) = c
+tailed_by before c _ = c
 
 abbrev pub tailed : (before : List RBlock) → Code → Code
 tailed before c = tailed_by before c c.exit
@@ -84,8 +74,7 @@ tailed before c = tailed_by before c c.exit
 abbrev pub AreTailed : (before blocks new : List RBlock) → Type 0
 AreTailed before [] [] = Unit {0}
 AreTailed before (b ∷ bs) (c ∷ cs) = (code_of c ≡ tailed before (code_of b)) × AreTailed (before ++ b ∷ []) bs cs
-AreTailed before [] (c ∷ cs) = ⊥
-AreTailed before (b ∷ bs) [] = ⊥
+AreTailed before _ _ = ⊥
 
 -- a block that no exit of these goes to is left empty, but for the entry
 abbrev pub is_reached : List RBlock → ℕ → Bool
@@ -106,8 +95,7 @@ empty_code b = record { insts = []; exit = shortest b.exit }
 abbrev pub AreKept : (keeps : ℕ → Bool) → (i : ℕ) → (blocks new : List RBlock) → Type 0
 AreKept keeps i [] [] = Unit {0}
 AreKept keeps i (b ∷ bs) (c ∷ cs) = (code_of c ≡ (if keeps i then code_of b else empty_code b)) × AreKept keeps (suc i) bs cs
-AreKept keeps i [] (c ∷ cs) = ⊥
-AreKept keeps i (b ∷ bs) [] = ⊥
+AreKept keeps i _ _ = ⊥
 
 -- blocks with their tails, without those that nothing goes to then
 pub record AreMade (blocks new : List RBlock) : Type 0 where
@@ -122,8 +110,7 @@ pub record HasTails (f new : RFunc) : Type 0 where
 abbrev pub HaveTails : List RFunc → List RFunc → Type 0
 HaveTails [] [] = Unit {0}
 HaveTails (f ∷ fs) (n ∷ ns) = HasTails f n × HaveTails fs ns
-HaveTails [] (n ∷ ns) = ⊥
-HaveTails (f ∷ fs) [] = ⊥
+HaveTails _ _ = ⊥
 
 pub record IsTailed (p new : Program) : Type 0 where
   pub functions : HaveTails p.functions new.functions

@@ -1,7 +1,10 @@
-use Rattle.std.proofs.Common.{◌≡◌, ◌∙◌, length, sym, rules, arith}
+use Rattle.std.proofs.Common.{◌≡◌, ◌∙◌, Bor, Some, ap, length, sym, rules, arith}
+use Rattle.std.specs.List.{slice_get}
+use Rattle.std.specs.Option.{option_map}
 use Rattle.std.proofs.lemmas.List.{length-map}
 use Rattle.runs.proofs.Lookups.{past}
-use Rattle.rtl.proofs.Calls.{entered, some-block, no-block, function-at, calls-nothing, calls-too-deep, calls-with-others, calls-no-block}
+use Rattle.rtl.specs.declared.block.RBlock.{RBlock}
+use Rattle.rtl.proofs.Calls.{entered, function-at, calls-nothing, calls-too-deep, calls-with-others, calls-no-block}
 use Rattle.rtl.proofs.interpreter.enter.Goals as goal
 
 pub returns : goal.returns
@@ -10,8 +13,8 @@ returns c vs is =
     let entry = c.in-Some-block_at.entry.now in
     let there = function-at c.args.program.now c.functions.result c.args.callee.function c.get.result c.in-Some.function c.functions.ensures.value
     c.get.ensures.lookup.0 c.get.ensures.lookup.1 c.in-Some.is in
-    let first = some-block x.blocks.items 0 c.block_at.result c.in-Some-block_at.entry
-    (rw (sym c.as_slice-blocks.ensures.value) c.block_at.ensures) c.in-Some-block_at.is in
+    let first : slice_get x.blocks.items 0 ≡ Some entry =
+    rw (sym c.as_slice-blocks.ensures.value) (sym c.block_at.ensures ∙ ap (option_map (λ (b : Bor RBlock). b.now)) c.in-Some-block_at.is) in
     let same : length c.args.registers.items ≡ length vs = search (rules, length-map, is) in
     let count : length vs ≡ x.parameters = omega (arith, same, c.if-len-function.false, c.len.ensures, c.args.registers.ok.0) in
     entered c.args.program.now c.args.depth c.args.callee.function vs c.args.callee.result_to c.args.interpreter.now x entry c.enter.new.self
@@ -43,5 +46,4 @@ returns-in_default-block_at c vs is =
     calls-no-block c.args.program.now c.args.depth c.args.callee.function vs c.args.callee.result_to c.args.interpreter.now c.in-Some.function.now
     (function-at c.args.program.now c.functions.result c.args.callee.function c.get.result c.in-Some.function c.functions.ensures.value
     c.get.ensures.lookup.0 c.get.ensures.lookup.1 c.in-Some.is)
-    (no-block c.in-Some.function.now.blocks.items 0 c.block_at.result (rw (sym c.as_slice-blocks.ensures.value) c.block_at.ensures)
-    c.in_default-block_at.is)
+    (rw (sym c.as_slice-blocks.ensures.value) (sym c.block_at.ensures ∙ ap (option_map (λ (b : Bor RBlock). b.now)) c.in_default-block_at.is))
