@@ -15,11 +15,11 @@ use Rattle.rtl.specs.Meaning.{Code}
 use Rattle.rtl.specs.declared.limits.TheConstants.{MAX_REGISTERS, MAX_BLOCKS}
 use Rattle.rtl_emit.specs.Blocks.{open_code, exit_code, goto, first, insts_of, insts_at, insts_in, Spot, Line, Grows, At, Lands, Adds}
 use Rattle.rtl_emit.specs.Emits.{Size, Covers, Emits, value_size, condition_size, test_size, values_size, both_size}
-use Rattle.rtl_emit.specs.Emits.{EmitsValue, EmitsOperand, EmitsBranch, EmitsOperands, EmitsBoth, EmitsBlock, EmitsValueBlock}
+use Rattle.rtl_emit.specs.Emits.{EmitsValue, EmitsOperand, EmitsBranch, EmitsOperands, EmitsBoth, EmitsBlock, EmitsValueBlock, EmitsBranchBlock}
 use Rattle.rtl_emit.specs.Expressions.{IsPlace, ArePlaces, Decides, Evaluates, Fetches}
 use Rattle.rtl_emit.specs.Operations.{ComputesContrary, inst_of}
 use Rattle.rtl_emit.specs.Sizes.{both_registers, tested_registers, joint, is_logical, place_registers, next_free, value_registers, value_blocks, globals_named}
-use Rattle.rtl_emit.specs.Sizes.{condition_blocks, test_registers, has_contrary, arguments_blocks, values_registers}
+use Rattle.rtl_emit.specs.Sizes.{condition_blocks, has_contrary, arguments_blocks, values_registers}
 use Rattle.rtl_emit.specs.Sizes.{places_registers, value_insts, condition_insts}
 use Rattle.rtl_emit.specs.Sound.{Scope, IsSound, IsSoundSpot, KeepsSound}
 use Rattle.rtl_emit.specs.declared.block.OpenBlock.{OpenBlock}
@@ -75,16 +75,16 @@ block_emits old mid new size Needs Needs' Is code (Err f) e needs g n insts limi
     }
 
 -- both sides of `?:` as blocks of their own
-pub record Sides (b0 b2 : List RBlock) (registers blocks insts globals : ℕ) (Needs : Scope → Type 0) (IsYes IsNo : List RBlock → Code → Type 0)
+record Sides (b0 b2 : List RBlock) (registers blocks insts globals : ℕ) (Needs : Scope → Type 0) (IsYes IsNo : List RBlock → Code → Type 0)
     (yes_block no_block : ℕ) : Type 0 where
-  pub grows : Grows b0 b2
-  pub count : length b2 ≡ length b0 + (blocks + 2)
-  pub room : registers ≤ MAX_REGISTERS
-  pub sound : KeepsSound b0 b2 (λ s. ((registers ≤ s.registers) × (globals ≤ s.globals)) × Needs s) (λ s. (yes_block < s.blocks) × (no_block < s.blocks))
-  pub adds : Adds b0 b2 0 0 insts
-  pub does : Over b0 b2 (λ bs. ((from : Code) × At bs yes_block from × IsYes bs from) × ((from : Code) × At bs no_block from × IsNo bs from))
+  grows : Grows b0 b2
+  count : length b2 ≡ length b0 + (blocks + 2)
+  room : registers ≤ MAX_REGISTERS
+  sound : KeepsSound b0 b2 (λ s. ((registers ≤ s.registers) × (globals ≤ s.globals)) × Needs s) (λ s. (yes_block < s.blocks) × (no_block < s.blocks))
+  adds : Adds b0 b2 0 0 insts
+  does : Over b0 b2 (λ bs. ((from : Code) × At bs yes_block from × IsYes bs from) × ((from : Code) × At bs no_block from × IsNo bs from))
 
-pub sides : (b0 b1 b2 : List RBlock) (s1 s2 : Size) (Needs : Scope → Type 0) (IsYes IsNo : List RBlock → Code → Type 0) (yes_block no_block : ℕ)
+sides : (b0 b1 b2 : List RBlock) (s1 s2 : Size) (Needs : Scope → Type 0) (IsYes IsNo : List RBlock → Code → Type 0) (yes_block no_block : ℕ)
     → EmitsBlock s1 Needs IsYes b0 b1 (Ok yes_block) → EmitsBlock s2 Needs IsNo b1 b2 (Ok no_block)
     → Sides b0 b2 (max s1.registers s2.registers) (s1.blocks + s2.blocks) (s1.insts + s2.insts) (max s1.globals s2.globals) Needs IsYes IsNo
     yes_block no_block
@@ -107,15 +107,14 @@ sides b0 b1 b2 s1 s2 Needs IsYes IsNo yes_block no_block e1 e2 =
           (e1.does bs p.0, e2.does bs p.1);
     }
 
-pub conditional_branches : (b0 b2 new : List RBlock) (k : IntegerType) (c a b : TypedExpression) (t t' : Targets) (free yes_block no_block : ℕ)
+pub conditional_branches : (b0 b1 b2 new : List RBlock) (k : IntegerType) (c a b : TypedExpression) (t t' : Targets) (free yes_block no_block : ℕ)
     (x : Result OpenBlock LowerFault) → t' ≡ record { yes = yes_block; no = no_block; likely = true }
-    → Sides b0 b2 (max (condition_size a t.likely free).registers (condition_size b t.likely free).registers)
-    ((condition_size a t.likely free).blocks + (condition_size b t.likely free).blocks) (condition_insts a + condition_insts b)
-    (max (globals_named a) (globals_named b))
-    (λ s. (t.yes < s.blocks) × (t.no < s.blocks)) (λ bs from. Decides bs a free t.yes t.no from) (λ bs from. Decides bs b free t.yes t.no from)
-    yes_block no_block → EmitsBranch (condition_size c t'.likely free) c t' free b2 new x
+    → EmitsBranchBlock a t free b0 b1 (Ok yes_block) → EmitsBranchBlock b t free b1 b2 (Ok no_block)
+    → EmitsBranch (condition_size c t'.likely free) c t' free b2 new x
     → EmitsBranch (condition_size (conditional k c a b) t.likely free) (conditional k c a b) t free b0 new x
-conditional_branches b0 b2 new k c a b t t' free yes_block no_block x it two last =
+conditional_branches b0 b1 b2 new k c a b t t' free yes_block no_block x it yes_side no_side last =
+    let two = sides b0 b1 b2 (condition_size a t.likely free) (condition_size b t.likely free) (λ s. (t.yes < s.blocks) × (t.no < s.blocks))
+    (λ bs from. Decides bs a free t.yes t.no from) (λ bs from. Decides bs b free t.yes t.no from) yes_block no_block yes_side no_side in
     let last' = subst (λ t. EmitsBranch (condition_size c t.likely free) c t free b2 new x) it last in
     ended (condition_size c true free) (condition_size (conditional k c a b) t.likely free)
     ((condition_size a t.likely free).blocks + (condition_size b t.likely free).blocks + 2) b0 b2 new _ _ _ _ x

@@ -1,6 +1,5 @@
 use Rattle.std.proofs.Common.{◌+◌, ap, arith, refl, rules, sym}
 use Rattle.c_typed.specs.Shape.{typed_expression_of}
-use Rattle.c_typed.specs.Trees.{binary}
 use Rattle.rtl_emit.specs.Blocks.{spot}
 use Rattle.rtl_emit.specs.Emits.{value_size, condition_size}
 use Rattle.rtl_emit.specs.Sizes.{joint, value_blocks, condition_blocks}
@@ -10,7 +9,7 @@ use Rattle.rtl_emit.proofs.Emitting.{element_emits, prefix_emits, identity_emits
 use Rattle.rtl_emit.proofs.Emitting.{both_emits, operator_emits, part_refused, refused, grows_same}
 use Rattle.rtl_emit.proofs.EmittingBranches.{block_emits}
 use Rattle.rtl_emit.proofs.Emitting.{logical_branches, logical_stops}
-use Rattle.rtl_emit.proofs.EmittingBranches.{conditional_emits, constant_emits, not_branches, conditional_branches, sides}
+use Rattle.rtl_emit.proofs.EmittingBranches.{conditional_emits, constant_emits, not_branches, conditional_branches}
 use Rattle.rtl_emit.proofs.EmittingBranches.{contrary_emits, test_emits, operand_emits}
 use Rattle.rtl_emit.proofs.Weights.{weight}
 use Rattle.rtl_emit.proofs.expression.+expressions.Goals as goal
@@ -199,12 +198,8 @@ sides-returns-in_err-no t c = λ k.
 
 pub sides-returns : goal.sides-returns
 sides-returns t c = λ k.
-    let first = typed_expression_of c.args.first.now in
-    let second = typed_expression_of c.args.second.now in
-    let likely = c.args.targets.likely in
-    conditional_branches _ _ _ k _ first second c.args.targets _ _ c.in_ok-yes.yes c.in_ok-no.no _ c.likely_first.ensures
-    (sides _ _ _ (condition_size first likely c.args.free) (condition_size second likely c.args.free) _ _ _ c.in_ok-yes.yes c.in_ok-no.no
-    c.in_ok-yes.ensures c.in_ok-no.ensures) c.condition.ensures
+    conditional_branches _ _ _ _ k _ (typed_expression_of c.args.first.now) (typed_expression_of c.args.second.now) c.args.targets _ _ c.in_ok-yes.yes
+    c.in_ok-no.no _ c.likely_first.ensures c.in_ok-yes.ensures c.in_ok-no.ensures c.condition.ensures
 
 pub branch_block-returns-in_err-code : goal.branch_block-returns-in_err-code
 branch_block-returns-in_err-code t c =
