@@ -1,6 +1,6 @@
 -- Each operator of C by an operator of RTL.
 use Rattle.std.proofs.Common.{◌≡◌, ℕ, Bool, true, false, Some, refl, sym, ◌∙◌, subst}
-use Rattle.std.specs.Prelude.{not, ◌==◌, ◌-◌, ◌^◌, if◌then◌else◌}
+use Rattle.std.specs.Prelude.{not, ◌==◌, if◌then◌else◌}
 use Rattle.c_tree.specs.declared.tree.BinaryOp.{BinaryOp}
 use Rattle.c_tree.specs.declared.tree.BinaryOp.TheVariants as B
 use Rattle.words.specs.declared.sign.Sign.{Sign}
