@@ -51,6 +51,4 @@ pub comes_to : (most : ℕ) (blocks : List BlockParts) → AreLinked blocks → 
 comes_to most blocks linked s r end comes links tells =
     let long = comes (λ n. links (last_of most blocks n)) (told_apart most blocks links tells) in
     let short = unit_runs most blocks linked links s long.0 in
-    let enough = long.1 in
-    let more = short.1 in
-    (short.0, omega (arith, enough, more), short.2 ∙ long.2)
+    (short.0, omega (arith, long.1, short.1), short.2 ∙ long.2)

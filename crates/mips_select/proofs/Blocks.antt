@@ -52,9 +52,8 @@ blocks_step l p k c i bound blocks b out out' all c_is within b_is e before =
     let next_i : i + 1 ≡ suc i = omega arith in
     let size = at_drop_more (size_of_blocks p.heads) blocks i b within in
     let one = ap (λ (b : RBlock). count p.heads b.exit) b_is in
-    let room = before.0 in
     let own = blocks_for l p k i b in (
-      omega (arith, room, size, one, c_is),
+      omega (arith, before.0, size, one, c_is),
       made_more (blocks_from l p k i) blocks i b out out' own
           (blocks_from l p (k + c) (i + 1) rest) all within b_is
           (ap₂ (λ c j. own ++ blocks_from l p (k + c) j rest) (sym c_is) (sym next_i)) e before.1,
@@ -196,9 +195,8 @@ numbered_step k i bound total funcs func size entry tables tables' table entries
     size_is entry_is room tables_is entries_is owners_is before =
     let rest = drop (i + 1) funcs in
     let sizes = at_drop_more functions_size funcs i func within ∙ ap (λ (f : RFunc). function_size f + functions_size rest) (sym is) in
-    let fits = before.0 in
     let counted = before.1 in (
-      omega (arith, fits, room),
+      omega (arith, before.0, room),
       omega (arith, counted, sizes, size_is),
       made_more (map namings_of) funcs i func (map (λ (t : Vec Naming Global). t.items) tables) (map (λ (t : Vec Naming Global). t.items) tables')
           (namings_of func ∷ []) (map namings_of rest) names within is refl

@@ -3,7 +3,7 @@ use Rattle.std.proofs.Common.{◌≡◌, ◌≢◌, ℕ, pos, negsuc, zero, suc,
 use Rattle.std.proofs.Common.{◌++◌, map, length, length-append, Option, Some, None, refl, sym, ap, ◌∙◌, subst, arith, nat_eq, true≢false, eqb-true}
 use Rattle.std.proofs.Common.{ne_eqb, ◌||◌}
 use Rattle.std.specs.Prelude.{if◌then◌else◌, slice_get}
-use Rattle.std.proofs.lemmas.Bool.{eqb-false}
+use Rattle.std.proofs.lemmas.Bool.{eqb-false, false_from_ne_true}
 use Rattle.std.proofs.lemmas.Option.{same_Some, none-some}
 use Rattle.words.specs.declared.operator.Operator.TheVariants.{Addu}
 use Rattle.words.specs.declared.width.Width.TheVariants.{Word}
@@ -28,7 +28,7 @@ use Rattle.mips_emit.proofs.View.{word_at, put_here, put_other, IsTarget, sum_va
 use Rattle.mips_emit.proofs.Stands.{Stored, StackHolds, stack_same, stack_top, Linked, Stands}
 use Rattle.mips_emit.proofs.Operands.{stack_apart}
 use Rattle.mips_select.specs.declared.prologue.Direction.TheVariants.{Save, Restore}
-use Rattle.mips_select.specs.Code.{frame_bytes, saves, restores, link_save, link_load, lowers, raises, epilogue}
+use Rattle.mips_select.specs.Code.{frame_bytes, frame_words, frame_link, stack_step, epilogue}
 use Rattle.mips_select.proofs.Frames.{InStack, AreKept, saves_run, restores_run}
 use Rattle.mips_select.proofs.Emitted.{kept, kept_words}
 
@@ -56,11 +56,7 @@ in_list (x ∷ xs) q e = go (nat_eq q x) refl e (λ e. in_list xs q e)
     go false t e rest = let r = rest e in (suc r.0, r.1)
 
 no_register : (xs : List ℕ) (q : ℕ) → ((j r : ℕ) → slice_get xs j ≡ Some r → r ≢ q) → is_in xs q ≡ false
-no_register xs q ne = go (is_in xs q) refl
-  where
-    go : (b : Bool) → is_in xs q ≡ b → is_in xs q ≡ false
-    go false e = e
-    go true e = let at = in_list xs q e in absurd (ne at.0 q at.1 refl)
+no_register xs q ne = false_from_ne_true (is_in xs q) (λ e. let at = in_list xs q e in ne at.0 q at.1 refl)
 
 -- the last of a list
 last_or : (xs : List ℕ) (x j r : ℕ) → slice_get (xs ++ x ∷ []) j ≡ Some r → (slice_get xs j ≡ Some r) ⊎ ((j ≡ length xs) × (r ≡ x))
@@ -141,7 +137,7 @@ record Shifted (is : List Plain) (s : State) (p : ℕ) : Type 0 where
 t29 : IsTarget 29
 t29 = record { low = omega arith; high = omega arith }
 
-lowered : (s : State) (n : ℕ) → n ≤ FRAME_BYTES → n ≤ s.regs 29 → s.regs 29 ≤ stack_end → Shifted (lowers n) s (s.regs 29 - n)
+lowered : (s : State) (n : ℕ) → n ≤ FRAME_BYTES → n ≤ s.regs 29 → s.regs 29 ≤ stack_end → Shifted (stack_step Save n) s (s.regs 29 - n)
 lowered s n few le up = go (nat_eq n 0) refl
   where
     go : (b : Bool) → nat_eq n 0 ≡ b → Shifted (if b then [] else Imm Addiu 29 29 (negsuc (n - 1)) ∷ []) s (s.regs 29 - n)
@@ -156,7 +152,7 @@ lowered s n few le up = go (nat_eq n 0) refl
           others = λ q ne. put_other s.regs 29 v q ne;
         }
 
-raised : (s : State) (n : ℕ) → n ≤ FRAME_BYTES → s.regs 29 + n ≤ stack_end → Shifted (raises n) s (s.regs 29 + n)
+raised : (s : State) (n : ℕ) → n ≤ FRAME_BYTES → s.regs 29 + n ≤ stack_end → Shifted (stack_step Restore n) s (s.regs 29 + n)
 raised s n few up = go (nat_eq n 0) refl
   where
     go : (b : Bool) → nat_eq n 0 ≡ b → Shifted (if b then [] else Imm Addiu 29 29 (pos n) ∷ []) s (s.regs 29 + n)
@@ -174,7 +170,7 @@ module _ (most total : ℕ) (gs : List RGlobal) (starts : ℕ → ℕ) (small : 
   -- what a prologue leaves, before the parameters go to their homes
   pub record Entered (r : Places) (g : Arrays) (fs : List Stored) (s : State) (leaf : Bool) (f : Frame) (link : ℕ) : Type 0 where
     pub to : State
-    pub runs : RunsTo (lowers (frame_bytes leaf f) ++ (saves (4 * f.slots) f.saved.items ++ link_save leaf f)) s to
+    pub runs : RunsTo (stack_step Save (frame_bytes leaf f) ++ (frame_words Save (4 * f.slots) f.saved.items ++ frame_link Save leaf f)) s to
     pub same : (q : ℕ) → q < 16 → to.regs q ≡ s.regs q
     pub stands : Stands most total gs starts (registers_at_entry f.saved.items r) g (stored_frame leaf f unset_places r link ∷ fs) to
 
@@ -188,12 +184,10 @@ module _ (most total : ℕ) (gs : List RGlobal) (starts : ℕ → ℕ) (small : 
       let low = lowered s (frame_bytes leaf f) (omega (arith, fits, small)) (omega (arith, fits, room)) up in
       let s1 : State = record s { regs = low.regs } in
       let v = low.regs 29 in
-      let v_is = low.pointer in
-      let down : low.regs 29 + frame_bytes leaf f ≡ s.regs 29 = omega (arith, v_is, fits, room) in
-      let a4 = h.aligned in
+      let down : low.regs 29 + frame_bytes leaf f ≡ s.regs 29 = omega (arith, low.pointer, fits, room) in
       let size4 : frame_bytes leaf f % 4 ≡ 0 = omega arith in
-      let v4 : low.regs 29 % 4 ≡ 0 = omega (arith, down, a4, size4) in
-      let words1 : IsWords s1 = run_words (map action_of (lowers (frame_bytes leaf f))) s s1 h.words (low.runs).ends in
+      let v4 : low.regs 29 % 4 ≡ 0 = omega (arith, down, h.aligned, size4) in
+      let words1 : IsWords s1 = run_words (map action_of (stack_step Save (frame_bytes leaf f))) s s1 h.words (low.runs).ends in
       let in_stack : InStack total v (frame_bytes leaf f) s1 = record {
         pointer = refl;
         mapped = h.mapped;
@@ -205,7 +199,8 @@ module _ (most total : ℕ) (gs : List RGlobal) (starts : ℕ → ℕ) (small : 
       let long = kept_length most f ok leaf in
       let saved = saves_run total v (frame_bytes leaf f) (4 * f.slots) (kept leaf f) s1 (kept_ok most f ok leaf) (omega arith) (omega (arith, long)) in_stack in
       let to : State = record s1 { memory = saved.memory } in
-      let saves' : RunsTo (saves (4 * f.slots) f.saved.items ++ link_save leaf f) s1 to = subst (λ is. RunsTo is s1 to) (sym (kept_words Save leaf f)) saved.runs in
+      let saves' : RunsTo (frame_words Save (4 * f.slots) f.saved.items ++ frame_link Save leaf f) s1 to =
+      subst (λ is. RunsTo is s1 to) (sym (kept_words Save leaf f)) saved.runs in
       record {
         to = to;
         runs = runs_then low.runs saves';
@@ -267,7 +262,6 @@ module _ (most total : ℕ) (gs : List RGlobal) (starts : ℕ → ℕ) (small : 
       let up = stack_top most (word_at s) (s.regs 29 + frame_bytes leaf f) fs h.stack.1 in
       let fits = bytes_fit most f ok leaf in
       let low = h.room in
-      let a4 = h.aligned in
       let long = kept_length most f ok leaf in
       let in_stack : InStack total (s.regs 29) (frame_bytes leaf f) s = record {
         pointer = refl;
@@ -281,14 +275,14 @@ module _ (most total : ℕ) (gs : List RGlobal) (starts : ℕ → ℕ) (small : 
       let back = restores_run total (s.regs 29) (frame_bytes leaf f) (4 * f.slots) (kept leaf f) s (kept_ok most f ok leaf) (omega arith)
       (omega (arith, long)) in_stack in
       let s1 : State = record s { regs = back.regs } in
-      let restores' : RunsTo (restores (4 * f.slots) f.saved.items ++ link_load leaf f) s s1 = subst (λ is. RunsTo is s s1) (sym (kept_words Restore leaf f))
+      let restores' : RunsTo (frame_words Restore (4 * f.slots) f.saved.items ++ frame_link Restore leaf f) s s1 =
+      subst (λ is. RunsTo is s s1) (sym (kept_words Restore leaf f))
       back.runs in
       let pointer1 : back.regs 29 ≡ s.regs 29 = back.others 29 (kept_in most f ok leaf 29 false (saved_other most f ok 29 (inr (omega arith)))
       (λ e. absurd (omega (arith, e)))) in
       let lift = raised s1 (frame_bytes leaf f) (omega (arith, fits, small)) (omega (arith, pointer1, up)) in
       let to : State = record s1 { regs = lift.regs } in
-      let lift_is = lift.pointer in
-      let pointer : lift.regs 29 ≡ s.regs 29 + frame_bytes leaf f = omega (arith, lift_is, pointer1) in
+      let pointer : lift.regs 29 ≡ s.regs 29 + frame_bytes leaf f = omega (arith, lift.pointer, pointer1) in
       let size4 : frame_bytes leaf f % 4 ≡ 0 = omega arith in
       record {
         to = to;
@@ -297,12 +291,12 @@ module _ (most total : ℕ) (gs : List RGlobal) (starts : ℕ → ℕ) (small : 
             (omega (arith, lt)));
         link_is = lift.others 31 (λ e. absurd (omega (arith, e))) ∙ link_back back.regs back.others back.inside leaf refl;
         stands = record {
-          words = run_words (map action_of (raises (frame_bytes leaf f))) s1 to back.words (lift.runs).ends;
+          words = run_words (map action_of (stack_step Restore (frame_bytes leaf f))) s1 to back.words (lift.runs).ends;
           mapped = h.mapped;
           held = λ q w ql qh at. lift.others q (omega (arith, qh)) ∙ held back.regs back.others back.inside q w ql qh (is_in f.saved.items q) refl at;
           stack = subst (λ p. StackHolds most (word_at s) p fs) (sym pointer) h.stack.1;
           room = omega (arith, pointer, low);
-          aligned = omega (arith, pointer, a4, size4);
+          aligned = omega (arith, pointer, h.aligned, size4);
           elements = h.elements;
           places = h.places;
           linked = linked (registers_at_return f.saved.items aside r) lift.regs;
@@ -315,8 +309,7 @@ module _ (most total : ℕ) (gs : List RGlobal) (starts : ℕ → ℕ) (small : 
           → word_at s (s.regs 29 + 4 * f.slots + 4 * j) ≡ link
       link_at calls j q is31 (inl e) = let range = ok.saved j q e in absurd (omega (arith, range.1, is31))
       link_at calls j q is31 (inr e) =
-          let is = e.0 in
-          let place : s.regs 29 + 4 * f.slots + 4 * j ≡ s.regs 29 + 4 * (f.slots + length f.saved.items) = omega (arith, is) in
+          let place : s.regs 29 + 4 * f.slots + 4 * j ≡ s.regs 29 + 4 * (f.slots + length f.saved.items) = omega (arith, e.0) in
           ap (word_at s) place ∙ (h.stack.0).link calls
 
       -- the link comes from the frame, or was in register 31 all the time

@@ -40,7 +40,7 @@ use Rattle.mips_emit.specs.Comparisons.{code_by_form, opposite_op, comparison_of
 use Rattle.mips_emit.specs.Comparisons.{tested, returned, return_code}
 use Rattle.mips_select.specs.declared.prologue.Direction.{Direction}
 use Rattle.mips_select.specs.declared.prologue.Direction.TheVariants.{Save, Restore}
-use Rattle.mips_select.specs.Code.{frame_words, frame_link, frame_bytes, step_of, stack_step, saves, restores, link_save, link_load, lowers, raises}
+use Rattle.mips_select.specs.Code.{frame_words, frame_link, frame_bytes, step_of, stack_step}
 use Rattle.mips_select.specs.Code.{parameters_code, prologue, epilogue, exit_code, result_code}
 use Rattle.mips_select.specs.Emittable.{HasFewArguments}
 
@@ -150,11 +150,8 @@ scaled_few Word t q = omega arith
 scaled_few Byte t q = omega arith
 
 sum_few : (t start q : ℕ) → length (base_sum t start q) ≤ 2
-sum_few t start q = by (nat_lt start 65536)
-  where
-    by : (near : Bool) → length (if near then Alu Addu t q 28 ∷ [] else LoadUpper 2 (page (address_of_place start)) ∷ Alu Addu t q 2 ∷ []) ≤ 2
-    by true = omega arith
-    by false = omega arith
+sum_few t start q = either (nat_lt start 65536) 2 (Alu Addu t q 28 ∷ []) (LoadUpper 2 (page (address_of_place start)) ∷ Alu Addu t q 2 ∷ [])
+    (omega arith) (omega arith)
 
 element_few : (w : Width) (start : ℕ) (by : Reach) (x : Source) → length (element_code w start by x) ≤ 5
 element_few w start ByScratch x =
@@ -165,12 +162,10 @@ element_few w start (ByNew q c) x =
 element_few w start _ x = omega arith
 
 const_few : (o : Option Home) (w : ℕ) → length (const_code o w) ≤ 8
-const_few None w = omega arith
 const_few (Some (Reg r)) w =
     let few = bring_few r (word_source w) in
     either (is_callee_saved r) 8 (bring r (word_source w)) (nop ∷ []) (omega (arith, few)) (omega arith)
-const_few (Some (Copied r k)) w = put_few (Some (Copied r k)) (word_source w)
-const_few (Some (Slot k)) w = put_few (Some (Slot k)) (word_source w)
+const_few o w = put_few o (word_source w)
 
 inst_few : (globals : List RGlobal) (starts : ℕ → ℕ) (at : Locations) (facts : Facts) (i : RInst) → length (inst_code globals starts at facts i) ≤ 8
 inst_few globals starts at facts (Const d w) = const_few (at d) (wrap w)
@@ -210,10 +205,8 @@ pub insts_few : (c : Context) (asked : Asked) (facts : Facts) (is : List RInst) 
 insts_few c asked facts [] behind = omega arith
 insts_few c asked facts (i ∷ is) behind =
     let m = comparison_of c.at facts (asked_last asked is) i in
-    let one = next_few c facts m i in
-    let rest = insts_few c asked (learned c.at i facts) is behind in
     let sum = length-append (next_code c facts m i) (insts_code c asked (learned c.at i facts) is behind) in
-    omega (arith, one, rest, sum)
+    omega (arith, next_few c facts m i, insts_few c asked (learned c.at i facts) is behind, sum)
 
 -- ---- frames and exits
 
@@ -227,18 +220,14 @@ step_few direction n = either (nat_eq n 0) 1 [] (Imm Addiu 29 29 (step_of direct
 parameters_few : (at : Locations) (t x n : ℕ) → length (parameters_code at t x n) ≤ 2 * n
 parameters_few at t x zero = omega arith
 parameters_few at t x (suc n) =
-    let one = arrive_few (at x) t in
     let rest = parameters_few at (suc t) (suc x) n in
-    let sum = length-append (arrive (at x) t) (parameters_code at (suc t) (suc x) n) in
-    omega (arith, one, rest, sum)
+    omega (arith, arrive_few (at x) t, rest, length-append (arrive (at x) t) (parameters_code at (suc t) (suc x) n))
 
 parameters_one : (hs : List Home) (t x n : ℕ) → HaveNoCopies hs → length (parameters_code (slice_get hs) t x n) ≤ n
 parameters_one hs t x zero none = omega arith
 parameters_one hs t x (suc n) none =
-    let one = arrive_one hs x t none in
-    let rest = parameters_one hs (suc t) (suc x) n none in
     let sum = length-append (arrive (slice_get hs x) t) (parameters_code (slice_get hs) (suc t) (suc x) n) in
-    omega (arith, one, rest, sum)
+    omega (arith, arrive_one hs x t none, parameters_one hs (suc t) (suc x) n none, sum)
 
 -- a leaf has no link, but it may have copies of its parameters; what it has more at its beginning it has less at a return
 abbrev pub prologue_most : Bool → ℕ
@@ -254,9 +243,10 @@ prologue_by : (leaf : Bool) (f : Frame) (n p most : ℕ) → length f.saved.item
 prologue_by leaf f n p most eight moved room =
     let saved = words_many Save (4 * f.slots) f.saved.items in
     let down = step_few Save (frame_bytes leaf f) in
-    let a = length-append (lowers (frame_bytes leaf f)) ((saves (4 * f.slots) f.saved.items ++ link_save leaf f) ++ parameters_code (locations f) 4 0 n) in
-    let b = length-append (saves (4 * f.slots) f.saved.items ++ link_save leaf f) (parameters_code (locations f) 4 0 n) in
-    let c = length-append (saves (4 * f.slots) f.saved.items) (link_save leaf f) in
+    let a = length-append (stack_step Save (frame_bytes leaf f))
+    ((frame_words Save (4 * f.slots) f.saved.items ++ frame_link Save leaf f) ++ parameters_code (locations f) 4 0 n) in
+    let b = length-append (frame_words Save (4 * f.slots) f.saved.items ++ frame_link Save leaf f) (parameters_code (locations f) 4 0 n) in
+    let c = length-append (frame_words Save (4 * f.slots) f.saved.items) (frame_link Save leaf f) in
     omega (arith, saved, eight, moved, room, down, a, b, c)
 
 pub prologue_few : (leaf : Bool) (f : Frame) (n : ℕ) → length f.saved.items ≤ 8 → n ≤ 4 → (leaf ≡ false → HaveNoCopies f.homes.items)
@@ -273,11 +263,11 @@ epilogue_few : (leaf : Bool) (f : Frame) → length f.saved.items ≤ 8 → leng
 epilogue_few leaf f eight =
     let saved = words_many Restore (4 * f.slots) f.saved.items in
     let up = step_few Restore (frame_bytes leaf f) in
-    let b = length-append (restores (4 * f.slots) f.saved.items ++ link_load leaf f) (raises (frame_bytes leaf f)) in
-    let c = length-append (restores (4 * f.slots) f.saved.items) (link_load leaf f) in
-    by leaf (length (epilogue leaf f)) (length (link_load leaf f)) (omega (arith, saved, up, b, c, eight)) (link_most leaf)
+    let b = length-append (frame_words Restore (4 * f.slots) f.saved.items ++ frame_link Restore leaf f) (stack_step Restore (frame_bytes leaf f)) in
+    let c = length-append (frame_words Restore (4 * f.slots) f.saved.items) (frame_link Restore leaf f) in
+    by leaf (length (epilogue leaf f)) (length (frame_link Restore leaf f)) (omega (arith, saved, up, b, c, eight)) (link_most leaf)
   where
-    link_most : (leaf : Bool) → length (link_load leaf f) + 11 ≤ exit_most leaf
+    link_most : (leaf : Bool) → length (frame_link Restore leaf f) + 11 ≤ exit_most leaf
     link_most true = omega arith
     link_most false = omega arith
 
@@ -290,13 +280,11 @@ arguments_few at facts t [] = omega arith
 arguments_few at facts t (x ∷ xs) =
     let one = carry_few t (operand at facts x) in
     let rest = arguments_few at facts (suc t) xs in
-    let sum = length-append (carry t (operand at facts x)) (arguments_code at facts (suc t) xs) in
-    omega (arith, one, rest, sum)
+    omega (arith, one, rest, length-append (carry t (operand at facts x)) (arguments_code at facts (suc t) xs))
 
 branch_few : (o : Option Comparison) (known : Option ℕ) (x : Source) → length (branch_code o known x) ≤ 2
 branch_few None None x = fetch_few 1 x
-branch_few None (Some w) x = omega arith
-branch_few (Some m) known x = omega arith
+branch_few _ _ x = omega arith
 
 return_few : (b : Bool) (x : Source) → length (return_code b x) ≤ 2
 return_few true x = omega arith
@@ -325,9 +313,7 @@ exit_few leaf f facts last (Return None) eight few = let n = epilogue_few leaf f
 exit_few leaf f facts last (Return (Some x)) eight few =
     let code = return_code (returned last.comparison x) (last_operand (locations f) facts last.fresh x) in
     let n = return_few (returned last.comparison x) (last_operand (locations f) facts last.fresh x) in
-    let m = epilogue_few leaf f eight in
-    let sum = length-append code (epilogue leaf f) in
-    omega (arith, n, m, sum)
+    omega (arith, n, epilogue_few leaf f eight, length-append code (epilogue leaf f))
 exit_few leaf f facts last (Out x next) eight few =
     let n = carry_few 4 (last_operand (locations f) facts last.fresh x) in
     ten_most leaf (length (carry 4 (last_operand (locations f) facts last.fresh x)) + 0) (omega (arith, n))

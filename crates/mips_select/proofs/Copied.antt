@@ -3,6 +3,7 @@ use Rattle.std.proofs.Common.{◌≡◌, ℕ, zero, suc, ◌<◌, ◌≤◌, Boo
 use Rattle.std.proofs.Common.{refl, sym, ap, ◌∙◌, arith, eq-eqb, true≢false}
 use Rattle.std.specs.Prelude.{if◌then◌else◌, slice_get}
 use Rattle.std.proofs.lemmas.Option.{same_Some, none-some}
+use Rattle.std.proofs.lemmas.Bool.{cond_both}
 use Rattle.rtl.specs.declared.block.RBlock.{RBlock}
 use Rattle.mips_homes.specs.declared.homed.Home.{Home}
 use Rattle.mips_homes.specs.declared.homed.Home.TheVariants.{Reg, Slot, Copied}
@@ -10,7 +11,7 @@ use Rattle.mips_homes.specs.Homes.{cell}
 use Rattle.mips_homes.specs.Convention.{temporaries}
 use Rattle.mips_homes.specs.Copies.{is_register, lives_in, is_leaf, unused, copied_onto, copied}
 use Rattle.mips_homes.proofs.Copying.{onto_get}
-use Rattle.mips_homes.proofs.Located.{IsTemporary, unused_temporary}
+use Rattle.mips_homes.proofs.Located.{IsTemporary, unused_temporary, lives}
 use Rattle.mips_emit.specs.Frames.{AreCopies, HaveNoCopies}
 
 -- ---- registers in order
@@ -25,11 +26,9 @@ lower low low' (r ∷ rs) le h = (let lt = h.0 in omega (arith, lt, le), h.1)
 
 unused_rises : (hs : List Home) (low : ℕ) (rs : List ℕ) → Rising low rs → Rising low (unused hs rs)
 unused_rises hs low [] h = tt
-unused_rises hs low (r ∷ rs) h = go (lives_in hs r) (unused_rises hs r rs h.1)
-  where
-    go : (b : Bool) → Rising r (unused hs rs) → Rising low (if b then unused hs rs else r ∷ unused hs rs)
-    go true rest = lower r low (unused hs rs) (let lt = h.0 in omega (arith, lt)) rest
-    go false rest = (h.0, rest)
+unused_rises hs low (r ∷ rs) h =
+    let rest = unused_rises hs r rs h.1 in
+    cond_both (lives_in hs r) (unused hs rs) (r ∷ unused hs rs) (Rising low) (λ _. lower r low (unused hs rs) (omega (arith, h.0)) rest) (λ _. (h.0, rest))
 
 above : (low : ℕ) (rs : List ℕ) (j r : ℕ) → Rising low rs → slice_get rs j ≡ Some r → low < r
 above low [] j r h e = absurd (none-some r e)
@@ -37,14 +36,7 @@ above low (x ∷ rs) zero r h e = (let lt = h.0 in let same = same_Some x r e in
 above low (x ∷ rs) (suc j) r h e = (let lt = h.0 in let more = above x rs j r h.1 e in omega (arith, lt, more))
 
 not_home : (hs : List Home) (x r : ℕ) → lives_in hs r ≡ false → slice_get hs x ≡ Some (Reg r) → ⊥
-not_home [] x r none e = none-some (Reg r) e
-not_home (h ∷ hs) zero r none e =
-    true≢false (sym (ap (λ (h : Home). lives_in (h ∷ hs) r) (same_Some h (Reg r) e) ∙ ap (λ b. if b then true else lives_in hs r) (eq-eqb r r refl)) ∙ none)
-not_home (h ∷ hs) (suc x) r none e = not_home hs x r (go (is_register h r) none) e
-  where
-    go : (b : Bool) → (if b then true else lives_in hs r) ≡ false → lives_in hs r ≡ false
-    go true e = absurd (true≢false e)
-    go false e = e
+not_home hs x r none e = true≢false (sym (lives hs x r e) ∙ none)
 
 all_rise : Rising 7 temporaries
 all_rise = (omega arith, (omega arith, (omega arith, (omega arith, (omega arith, (omega arith, (omega arith, (omega arith, (omega arith, (omega arith, (omega arith, (omega arith, tt))))))))))))

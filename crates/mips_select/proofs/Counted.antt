@@ -2,6 +2,7 @@
 use Rattle.std.proofs.Common.{◌≡◌, ℕ, suc, ◌+◌, ◌-◌, ◌*◌, ◌<◌, ◌≤◌, Bool, true, false, List, [], ◌∷◌, ◌++◌, length, length-append, Option, Some, None}
 use Rattle.std.proofs.Common.{refl, arith, nat_eq, eqb-true}
 use Rattle.std.specs.Prelude.{if◌then◌else◌, slice_get}
+use Rattle.std.proofs.lemmas.Bool.{cond_both}
 use Rattle.mblock.specs.Parts.{BlockParts}
 use Rattle.rtl.specs.declared.instruction.RExit.{RExit}
 use Rattle.rtl.specs.declared.instruction.RExit.TheVariants.{Goto, Branch, Call, Return, Out}
@@ -63,11 +64,9 @@ both xs ys a b c d x y =
 module _ (l : Linking) (p : Planning) (eight : length p.frame.saved.items ≤ 8) (four : p.parameters ≤ 4)
     (alone : p.leaf ≡ false → HaveNoCopies p.frame.homes.items) where
   behind_few : (x : RExit) → Few (behind p x) (exit_blocks x - 1) (behind_most x)
-  behind_few (Call g xs d next) = by (resumes d (p.heads next))
-    where
-      by : (b : Bool) → Few (if b then [] else after_block p.frame d (p.place next) ∷ []) 1 2
-      by true = record { blocks_few = omega arith; words_few = omega arith }
-      by false = let m = result_few (locations p.frame) d in record { blocks_few = omega arith; words_few = omega (arith, m) }
+  behind_few (Call g xs d next) = cond_both (resumes d (p.heads next)) [] (after_block p.frame d (p.place next) ∷ []) (λ bs. Few bs 1 2)
+      (λ _. record { blocks_few = omega arith; words_few = omega arith })
+      (λ _. record { blocks_few = omega arith; words_few = omega (arith, result_few (locations p.frame) d) })
   behind_few _ = record { blocks_few = omega arith; words_few = omega arith }
 
   own_few : (j m : ℕ) (b : RBlock) → HasFewArguments b.exit
@@ -126,19 +125,11 @@ later_head : (p : Planning) (names : List Naming) (j : ℕ) → length (head_cod
 later_head p names j = by (slice_get names (suc j))
   where
     by : (o : Option Naming) → length (head_code p (head_at (suc j) o)) ≤ 2
-    by None = omega arith
-    by (Some Unnamed) = at (nat_eq (suc j) 0) refl
-      where
-        at : (b : Bool) → nat_eq (suc j) 0 ≡ b → length (head_code p (if b then Enters else Bare)) ≤ 2
-        at true e = let is = eqb-true (suc j) 0 e in absurd (omega (arith, is))
-        at false e = omega arith
-    by (Some (Called None)) = omega arith
-    by (Some (Called (Some d))) = at (nat_eq (suc j) 0)
-      where
-        at : (b : Bool) → length (head_code p (if b then Bare else Takes d)) ≤ 2
-        at true = omega arith
-        at false = result_few (locations p.frame) (Some d)
-    by (Some Jumped) = omega arith
+    by (Some Unnamed) = cond_both (nat_eq (suc j) 0) Enters Bare (λ head. length (head_code p head) ≤ 2)
+        (λ e. absurd (omega (arith, eqb-true (suc j) 0 e))) (λ _. omega arith)
+    by (Some (Called (Some d))) = cond_both (nat_eq (suc j) 0) Bare (Takes d) (λ head. length (head_code p head) ≤ 2)
+        (λ _. omega arith) (λ _. result_few (locations p.frame) (Some d))
+    by _ = omega arith
 
 function_few : (l : Linking) (n k : ℕ) (bs : List RBlock) (f : Frame) → length f.saved.items ≤ 8 → n ≤ 4
     → (is_leaf bs ≡ false → HaveNoCopies f.homes.items) → 0 < length bs → ((i : ℕ) (b : RBlock) → slice_get bs i ≡ Some b → HasFewArguments b.exit)
@@ -175,10 +166,9 @@ functions_few l k (func ∷ funcs) [] each = omega arith
 functions_few l k (func ∷ funcs) (f ∷ fs) each =
     let is = each 0 func f refl refl in
     let one = function_few l func.parameters k func.blocks.items f is.eight is.four is.alone is.some is.few in
-    let cut = total_few (function_blocks l k func f) in
     let rest = functions_few l (k + function_size func) funcs fs (λ i g h eg eh. each (suc i) g h eg eh) in
     let sum = total_append (function_blocks l k func f) (functions_blocks l (k + function_size func) funcs fs) in
-    omega (arith, one.blocks_few, one.words_few, cut, rest, sum)
+    omega (arith, one.blocks_few, one.words_few, total_few (function_blocks l k func f), rest, sum)
 
 pub each_counted_by_exits : EachUnitIsCountedByExits
 each_counted_by_exits h ok places =
@@ -201,17 +191,11 @@ exits_few (b ∷ bs) = let rest = exits_few bs in let one = by b.exit in omega (
   where
     by : (x : RExit) → exit_blocks x ≤ 2
     by (Call g xs d next) = omega arith
-    by (Goto b) = omega arith
-    by (Branch c t e) = omega arith
-    by (Return o) = omega arith
-    by (Out x next) = omega arith
+    by _ = omega arith
 
 most_few : (funcs : List RFunc) → most_by_exits_for funcs ≤ most_blocks_for funcs
 most_few [] = omega arith
 most_few (func ∷ funcs) = let one = exits_few func.blocks.items in let rest = most_few funcs in omega (arith, one, rest)
 
 pub each_counted : EachUnitIsCounted
-each_counted h ok places =
-    let counted = each_counted_by_exits h ok places in
-    let few = most_few (h.rtl.now).functions in
-    omega (arith, counted, few)
+each_counted h ok places = omega (arith, each_counted_by_exits h ok places, most_few (h.rtl.now).functions)

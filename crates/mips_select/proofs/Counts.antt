@@ -16,9 +16,8 @@ pub length-split_from : (most : ℕ) (place : ℕ → ℕ) (k : ℕ) (bs : List 
 length-split_from most place k [] = refl
 length-split_from most place k (b ∷ bs) =
     let long = length-pieces most (renumbered_exit place b.exit) (more_pieces most b) k b.insts in
-    let rest = length-split_from most place (k + count_of most b) bs in
     let sum = length-append (pieces most (renumbered_exit place b.exit) (more_pieces most b) k b.insts) (split_from most place (k + count_of most b) bs) in
-    omega (arith, long, rest, sum)
+    omega (arith, long, length-split_from most place (k + count_of most b) bs, sum)
 
 -- there is a piece for each block
 pub total_above : (most : ℕ) (bs : List BlockParts) → length bs ≤ total most bs
@@ -52,10 +51,9 @@ located most k (b ∷ bs) i lt = by_count (apart_from (count_of most b) i) (λ d
         → ((d : ℕ) → d < total most bs → Located most (k + count_of most b) bs d) → Located most k (b ∷ bs) i
     by_count (inl few) rest = record { number = 0; behind = i; block = b; there = refl; within = omega (arith, few); is = refl }
     by_count (inr e) rest =
-        let same = e.1 in
-        let l = rest e.0 (omega (arith, lt, same)) in
+        let l = rest e.0 (omega (arith, lt, e.1)) in
         let is = l.is in
-        record { number = suc l.number; behind = l.behind; block = l.block; there = l.there; within = l.within; is = omega (arith, is, same) }
+        record { number = suc l.number; behind = l.behind; block = l.block; there = l.there; within = l.within; is = omega (arith, is, e.1) }
 
 -- a block's first piece comes behind the last piece of the block before it
 pub first_next : (most k : ℕ) (bs : List BlockParts) (n : ℕ) (a b : BlockParts) → slice_get bs n ≡ Some a → slice_get bs (suc n) ≡ Some b
@@ -101,6 +99,5 @@ piece_at most exit (suc more) k insts few (suc j) b there =
             → ((suc j ≡ suc more) × (b.exit ≡ exit)) ⊎ ((suc j < suc more) × (b.exit ≡ Goto (suc (k + suc j))))
         moved (inl last) = inl (ap suc last.0, last.1)
         moved (inr other) =
-            let lt = other.0 in
             let next : suc k + j ≡ k + suc j = omega arith in
-            inr (omega (arith, lt), other.1 ∙ ap (λ n. Goto (suc n)) next)
+            inr (omega (arith, other.0), other.1 ∙ ap (λ n. Goto (suc n)) next)

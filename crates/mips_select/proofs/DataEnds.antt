@@ -2,7 +2,7 @@
 use Rattle.std.proofs.Common.{◌≡◌, ℕ, zero, suc, ◌+◌, ◌-◌, ◌*◌, ◌/◌, ◌<◌, ◌≤◌, Bool, List, [], ◌∷◌, ◌++◌, length, length-append, append_assoc, append-nil, take}
 use Rattle.std.proofs.Common.{drop, refl, sym, ap, ap₂, ◌∙◌, arith}
 use Rattle.std.specs.Prelude.{nat_le, if◌then◌else◌, slice_index}
-use Rattle.std.proofs.lemmas.List.{take-append-drop, length-drop}
+use Rattle.std.proofs.lemmas.List.{take-append-drop, length-drop, length-replicate}
 use mathlib.Core.Path.{fun_ext}
 use Rattle.words.specs.declared.width.Width.{Width}
 use Rattle.words.specs.declared.width.Width.TheVariants.{Word, Byte}
@@ -53,14 +53,10 @@ none_beyond [] k i = zeros_are_none k i
 none_beyond (x ∷ xs) k zero = refl
 none_beyond (x ∷ xs) k (suc i) = none_beyond xs k i
 
-pub zeros_length : (k : ℕ) → length (zeros k) ≡ k
-zeros_length zero = refl
-zeros_length (suc k) = ap suc (zeros_length k)
-
 starts_same : (xs ys : List ℕ) (k n : ℕ) → k < 4 → ys ≡ xs ++ zeros k → length ys ≡ 4 * n → start_state ys ≡ start_state xs
 starts_same xs ys k n low e long =
     let sum = ap length e ∙ length-append xs (zeros k) in
-    let zs = zeros_length k in
+    let zs = length-replicate {A = ℕ} k 0 in
     let words : (length ys + 3) / 4 ≡ (length xs + 3) / 4 = omega (arith, low, sum, zs, long) in
     let memory : first_bytes ys ≡ first_bytes xs = fun_ext (λ a.
     ap (λ b. if nat_le stack_base a then 0 else (if nat_le data_base a then b else 0))

@@ -3,7 +3,7 @@ use Rattle.std.proofs.Common.{◌≡◌, ◌⊎◌, inl, inr, ℕ, zero, suc, �
 use Rattle.std.proofs.Common.{length-append, Some, Bool, true, false, nat_lt, ltb-true, refl, sym, ap, ◌∙◌, subst, arith}
 use Rattle.std.specs.Prelude.{All, slice_get, slice_index, sum_by}
 use Rattle.std.proofs.lemmas.Bool.{ltb-false}
-use Rattle.std.proofs.lemmas.List.{append_assoc}
+use Rattle.std.proofs.lemmas.List.{append_assoc, length-map, length-replicate}
 use Rattle.std.proofs.lemmas.List.Elements.{All-append}
 use Rattle.std.proofs.lemmas.List.Sums.{sum_by-cons}
 use Rattle.std.proofs.lemmas.Option.{same_Some, none-some, slice_get_within}
@@ -46,23 +46,15 @@ elements_length w (v ∷ vs) =
     let next : width_bytes w * length (v ∷ vs) ≡ width_bytes w + width_bytes w * length vs = omega arith in
     omega (arith, one, rest, sum, next)
 
-zeros_length : (n : ℕ) → length (zeros n) ≡ n
-zeros_length zero = refl
-zeros_length (suc n) = ap suc (zeros_length n)
-
 whole_words : (w : Width) (n : ℕ) → width_bytes w * n + gap_behind w n ≡ 4 * words_of_elements w n
 whole_words Word n = omega arith
 whole_words Byte n = omega arith
 
-values_length : {A B : Type 0} (f : A → B) (xs : List A) → length (map f xs) ≡ length xs
-values_length f [] = refl
-values_length f (x ∷ xs) = ap suc (values_length f xs)
-
 pub global_length : (x : RGlobal) → length x.first.items ≡ x.length → length (global_bytes x) ≡ 4 * word_count x
 global_length x same =
-    let values = values_length (λ v. kept x.width (wrap v)) x.first.items in
+    let values = length-map x.first.items (λ v. kept x.width (wrap v)) in
     let many = elements_length x.width (first_values x) in
-    let gap = zeros_length (gap_behind x.width x.length) in
+    let gap = length-replicate {A = ℕ} (gap_behind x.width x.length) 0 in
     let sum = length-append (elements_bytes x.width (first_values x)) (zeros (gap_behind x.width x.length)) in
     let all = whole_words x.width x.length in
     let n : length (first_values x) ≡ x.length = values ∙ same in
@@ -95,7 +87,7 @@ global_inside : (x : RGlobal) (i v : ℕ) → length x.first.items ≡ x.length 
     → width_bytes x.width * i + width_bytes x.width ≤ 4 * word_count x
 global_inside x i v same at =
     let within = slice_get_within (first_values x) i v at in
-    let values = values_length (λ v. kept x.width (wrap v)) x.first.items in
+    let values = length-map x.first.items (λ v. kept x.width (wrap v)) in
     element_inside x.width i x.length (omega (arith, within, values, same))
 
 -- ---- all globals
@@ -115,11 +107,9 @@ element_within n (x ∷ gs) ok zero i v e =
     (omega arith, omega (arith, inside, long, sum))
 element_within n (x ∷ gs) ok (suc a) i v e =
     let rest = element_within (n + 4 * word_count x) gs (later x gs ok) a i v e in
-    let low = rest.0 in
-    let high = rest.1 in
     let long = global_length x (ok 0 x refl) in
     let sum = length-append (global_bytes x) (padded_bytes gs) in
-    (omega (arith, low), omega (arith, high, long, sum))
+    (omega (arith, rest.0), omega (arith, rest.1, long, sum))
 
 pub element_byte : (n : ℕ) (gs : List RGlobal) → HaveValues gs → (a i v k b p : ℕ) → element_at (map first_values gs) a i ≡ Some v
     → slice_get (element_bytes (width_of gs a) v) k ≡ Some b
@@ -241,9 +231,7 @@ data_length [] ok = refl
 data_length (x ∷ gs) ok =
     let one = global_length x (ok 0 x refl) in
     let rest = data_length gs (later x gs ok) in
-    let sum = length-append (global_bytes x) (padded_bytes gs) in
-    let words = sum_by-cons word_count x gs in
-    omega (arith, one, rest, sum, words)
+    omega (arith, one, rest, length-append (global_bytes x) (padded_bytes gs), sum_by-cons word_count x gs)
 
 pub data_fits : (gs : List RGlobal) → HaveValues gs → sum_by word_count gs ≤ MAX_GLOBAL_WORDS → length (padded_bytes gs) ≤ UNIT_BYTES
 data_fits gs ok le = (let long = data_length gs ok in omega (arith, long, le))
@@ -253,9 +241,7 @@ starts_within : (n : ℕ) (gs : List RGlobal) (i v : ℕ) → slice_get (starts_
 starts_within n [] i v e = absurd (none-some v e)
 starts_within n (x ∷ gs) zero v e = (let is = same_Some n v e in omega (arith, is))
 starts_within n (x ∷ gs) (suc i) v e =
-    let rest = starts_within (n + 4 * word_count x) gs i v e in
-    let words = sum_by-cons word_count x gs in
-    omega (arith, rest, words)
+    omega (arith, starts_within (n + 4 * word_count x) gs i v e, sum_by-cons word_count x gs)
 
 pub starts_inside : (gs : List RGlobal) (starts : List ℕ) → starts ≡ starts_from 0 gs → sum_by word_count gs ≤ MAX_GLOBAL_WORDS → AreInside starts UNIT_BYTES
 starts_inside gs starts is few = record {

@@ -43,14 +43,6 @@ read_length homes r slots (x ∷ xs) vs e = first (λ ws e. read_length homes r 
     first again None e = absurd (none-some vs e)
     first again (Some v) e = second again v (read_homes homes r slots xs) refl e
 
-pub first_true : (a b : Bool) → (a && b) ≡ true → a ≡ true
-first_true true b e = refl
-first_true false b e = absurd (true≢false (sym e))
-
-pub second_true : (a b : Bool) → (a && b) ≡ true → b ≡ true
-second_true true b e = e
-second_true false b e = absurd (true≢false (sym e))
-
 pub branch_words : (place : ℕ → ℕ) (x y v : ℕ) (b : Bool) → (if not b then place y else place x) ≡ place (if b then x else y)
 branch_words place x y v true = refl
 branch_words place x y v false = refl

@@ -16,7 +16,8 @@ use Rattle.mips_emit.specs.Code.{arrive}
 use Rattle.mips_emit.specs.Comparisons.{insts_code, last_after, no_last}
 use Rattle.mips_emit.proofs.Emitted.{insts_behind}
 use Rattle.mips_select.specs.declared.prologue.Direction.{Direction}
-use Rattle.mips_select.specs.Code.{frame_bytes, frame_word, frame_words, frame_link, saves, restores, link_save, link_load, lowers, raises, parameters_code, prologue, epilogue, asked_of, exit_code}
+use Rattle.mips_select.specs.Code.{frame_bytes, frame_word, frame_words, frame_link, stack_step, parameters_code, prologue, epilogue, asked_of, exit_code}
+use Rattle.mips_select.specs.declared.prologue.Direction.TheVariants.{Save, Restore}
 use Rattle.mips_select.specs.Code.{context_in, exit_of, own_block}
 use Rattle.mips_select.specs.Plans.{Linking, Placing}
 
@@ -63,26 +64,29 @@ kept_words direction false f = sym (frame_more direction (4 * f.slots) f.saved.i
 
 pub epilogue_made : (leaf : Bool) (f : Frame) (size : ℕ) (saved : List ℕ) (code0 code1 code2 code3 : List Plain) → size ≡ frame_bytes leaf f
     → saved ≡ f.saved.items
-    → code1 ≡ code0 ++ restores (4 * f.slots) saved → code2 ≡ code1 ++ link_load leaf f → code3 ≡ code2 ++ raises size → code3 ≡ code0 ++ epilogue leaf f
+    → code1 ≡ code0 ++ frame_words Restore (4 * f.slots) saved → code2 ≡ code1 ++ frame_link Restore leaf f
+    → code3 ≡ code2 ++ stack_step Restore size → code3 ≡ code0 ++ epilogue leaf f
 epilogue_made leaf f size saved code0 code1 code2 code3 size_is saved_is e1 e2 e3 =
-    let rs = restores (4 * f.slots) f.saved.items in
-    e3 ∙ ap (λ n. code2 ++ raises n) size_is
-    ∙ ap (λ l. l ++ raises (frame_bytes leaf f)) (e2 ∙ ap (λ l. l ++ link_load leaf f) (e1 ∙ ap (λ l. code0 ++ restores (4 * f.slots) l) saved_is)
-    ∙ append_assoc code0 rs (link_load leaf f))
-    ∙ append_assoc code0 (rs ++ link_load leaf f) (raises (frame_bytes leaf f))
+    let rs = frame_words Restore (4 * f.slots) f.saved.items in
+    e3 ∙ ap (λ n. code2 ++ stack_step Restore n) size_is
+    ∙ ap (λ l. l ++ stack_step Restore (frame_bytes leaf f)) (e2 ∙ ap (λ l. l ++ frame_link Restore leaf f)
+    (e1 ∙ ap (λ l. code0 ++ frame_words Restore (4 * f.slots) l) saved_is)
+    ∙ append_assoc code0 rs (frame_link Restore leaf f))
+    ∙ append_assoc code0 (rs ++ frame_link Restore leaf f) (stack_step Restore (frame_bytes leaf f))
 
 pub prologue_made : (leaf : Bool) (f : Frame) (n size : ℕ) (saved : List ℕ) (code0 code1 code2 code3 code4 : List Plain) → size ≡ frame_bytes leaf f
     → saved ≡ f.saved.items
-    → code1 ≡ code0 ++ lowers size → code2 ≡ code1 ++ saves (4 * f.slots) saved → code3 ≡ code2 ++ link_save leaf f
+    → code1 ≡ code0 ++ stack_step Save size → code2 ≡ code1 ++ frame_words Save (4 * f.slots) saved → code3 ≡ code2 ++ frame_link Save leaf f
     → code4 ≡ code3 ++ parameters_code (locations f) 4 0 n → code4 ≡ code0 ++ prologue leaf f n
 prologue_made leaf f n size saved code0 code1 code2 code3 code4 size_is saved_is e1 e2 e3 e4 =
     let ps = parameters_code (locations f) 4 0 n in
-    let ss = saves (4 * f.slots) f.saved.items in
-    let l3 : code3 ≡ code1 ++ (ss ++ link_save leaf f) = e3 ∙ ap (λ l. l ++ link_save leaf f) (e2 ∙ ap (λ l. code1 ++ saves (4 * f.slots) l) saved_is)
-    ∙ append_assoc code1 ss (link_save leaf f) in
-    e4 ∙ ap (λ l. l ++ ps) (l3 ∙ ap (λ l. l ++ (ss ++ link_save leaf f)) (e1 ∙ ap (λ n. code0 ++ lowers n) size_is))
-    ∙ append_assoc (code0 ++ lowers (frame_bytes leaf f)) (ss ++ link_save leaf f) ps
-    ∙ append_assoc code0 (lowers (frame_bytes leaf f)) ((ss ++ link_save leaf f) ++ ps)
+    let ss = frame_words Save (4 * f.slots) f.saved.items in
+    let l3 : code3 ≡ code1 ++ (ss ++ frame_link Save leaf f) =
+    e3 ∙ ap (λ l. l ++ frame_link Save leaf f) (e2 ∙ ap (λ l. code1 ++ frame_words Save (4 * f.slots) l) saved_is)
+    ∙ append_assoc code1 ss (frame_link Save leaf f) in
+    e4 ∙ ap (λ l. l ++ ps) (l3 ∙ ap (λ l. l ++ (ss ++ frame_link Save leaf f)) (e1 ∙ ap (λ n. code0 ++ stack_step Save n) size_is))
+    ∙ append_assoc (code0 ++ stack_step Save (frame_bytes leaf f)) (ss ++ frame_link Save leaf f) ps
+    ∙ append_assoc code0 (stack_step Save (frame_bytes leaf f)) ((ss ++ frame_link Save leaf f) ++ ps)
 
 pub all_parameters : (at : Locations) (x n : ℕ) (code start : List Plain) → code ≡ start ++ parameters_code at 4 0 x → x ≤ n → n ≤ x
     → code ≡ start ++ parameters_code at 4 0 n
@@ -95,9 +99,7 @@ pub saved_number : (rs : List ℕ) (i : ℕ) → ((j r : ℕ) → slice_get rs j
     → (0 < slice_index rs i) × (slice_index rs i < 32)
 saved_number rs i range lt =
     let here = range i (slice_index rs i) (slice_get-get_or rs i 0 lt) in
-    let low = here.0 in
-    let high = here.1 in
-    (omega (arith, low), omega (arith, high))
+    (omega (arith, here.0), omega (arith, here.1))
 
 -- a block, from the parts of what was made
 pub block_made : (l : Linking) (p : Placing) (head : List Plain) (n : ℕ) (b : RBlock)

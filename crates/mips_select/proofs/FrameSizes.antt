@@ -2,7 +2,7 @@
 use Rattle.std.proofs.Common.{◌≡◌, ◌≢◌, ℕ, zero, suc, ◌+◌, ◌-◌, ◌*◌, ◌<◌, ◌≤◌, ◌⊎◌, inl, inr, Bool, true, false, List, [], ◌∷◌, length, Option, Some, None, refl}
 use Rattle.std.proofs.Common.{sym, ap, ◌∙◌, subst, arith, nat_eq, eqb-true}
 use Rattle.std.specs.Prelude.{if◌then◌else◌, slice_get, slice_index}
-use Rattle.std.proofs.lemmas.Bool.{eqb-false}
+use Rattle.std.proofs.lemmas.Bool.{eqb-false, cond_both}
 use Rattle.std.proofs.lemmas.Option.{same_Some, none-some, slice_get_within, slice_get-get_or}
 use Rattle.rtl.specs.declared.block.RFunc.{RFunc}
 use Rattle.rtl.specs.Names.{how_many}
@@ -129,9 +129,7 @@ module _ (func : RFunc) (f : Frame) (ok : IsChoice func f) where
 pub placed_eight : (func : RFunc) (f : Frame) → IsPlacedFor func f → length f.saved.items ≤ 8
 placed_eight func f q =
     let eight = saved_eight func q.choice q.is in
-    let few = still_few f.homes.items (q.choice).saved.items in
-    let same = ap length (q.placed).saved in
-    omega (arith, eight, few, same)
+    omega (arith, eight, still_few f.homes.items (q.choice).saved.items, ap length (q.placed).saved)
 
 -- with local pseudo-registers in caller-saved registers
 placed_is_frame : (func : RFunc) (f : Frame) → IsPlacedFor func f → (most : ℕ) → frame_bytes_of func ≤ most → IsFrame most f
@@ -152,11 +150,8 @@ placed_is_frame func f q most le = record {
     was = is_frame func q.choice q.is most le
 
     slots_few : f.slots ≤ (q.choice).slots
-    slots_few = by (some_slot f.homes.items) (q.placed).slots
-      where
-        by : (c : Bool) → f.slots ≡ (if c then (q.choice).slots else 0) → f.slots ≤ (q.choice).slots
-        by true e = omega (arith, e)
-        by false e = omega (arith, e)
+    slots_few = subst (λ n. n ≤ (q.choice).slots) (sym (q.placed).slots)
+        (cond_both (some_slot f.homes.items) (q.choice).slots 0 (λ n. n ≤ (q.choice).slots) (λ _. omega arith) (λ _. omega arith))
 
     in_slot : (x : ℕ) (h : Home) (k : ℕ) → slice_get f.homes.items x ≡ Some h → is_slot h ≡ true → slice_get (q.choice).homes.items x ≡ Some (Slot k) → k < f.slots
     in_slot x h k there slot e =
@@ -190,15 +185,12 @@ largest_bounds : (funcs : List RFunc) (g : ℕ) (func : RFunc) → slice_get fun
 largest_bounds [] g func there = absurd (none-some func there)
 largest_bounds (x ∷ funcs) zero func there =
     subst (λ (func : RFunc). frame_bytes_of func ≤ largest_frame (x ∷ funcs)) (same_Some x func there) (omega arith)
-largest_bounds (x ∷ funcs) (suc g) func there =
-    let rest = largest_bounds funcs g func there in
-    omega (arith, rest)
+largest_bounds (x ∷ funcs) (suc g) func there = omega (arith, largest_bounds funcs g func there)
 
 pub are_frames : (h : Homed) → ArePlaced h → (g : ℕ) (f : Frame) → slice_get h.frames.items g ≡ Some f → IsFrame (largest_frame (h.rtl.now).functions) f
 are_frames h ok g f there =
     let within = slice_get_within h.frames.items g f there in
-    let long = ok.long in
-    let func = block_there (h.rtl.now).functions g (omega (arith, within, long)) in
+    let func = block_there (h.rtl.now).functions g (omega (arith, within, ok.long)) in
     placed_is_frame func.0 f (ok.by g func.0 f func.1 there) (largest_frame (h.rtl.now).functions) (largest_bounds (h.rtl.now).functions g func.0 func.1)
 
 -- a register below 8 is one in which no argument is passed behind it, and the one in which a parameter comes
@@ -216,8 +208,7 @@ homes_many [] (f ∷ fs) same each = absurd (omega (arith, same))
 homes_many (func ∷ funcs) [] same each = absurd (omega (arith, same))
 homes_many (func ∷ funcs) (f ∷ fs) same each =
     let rest = homes_many funcs fs (omega (arith, same)) (λ i func f there f_there. each (suc i) func f there f_there) in
-    let one = each 0 func f refl refl in
-    omega (arith, rest, one)
+    omega (arith, rest, each 0 func f refl refl)
 
 pub largest_same : (h : Homed) → ArePlaced h → largest_by_homes h.frames.items ≡ largest_frame (h.rtl.now).functions
 largest_same h ok = homes_many (h.rtl.now).functions h.frames.items ok.long (λ i func f there f_there. (let q = ok.by i func f there f_there in places_long_as func q.choice f q.is q.placed))

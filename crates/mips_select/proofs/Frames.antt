@@ -2,7 +2,7 @@
 use Rattle.std.proofs.Common.{◌≡◌, ◌≢◌, inl, inr, ℕ, zero, suc, ◌+◌, ◌*◌, ◌%◌, ◌^◌, ◌<◌, ◌≤◌, Bool, true, false, List, [], ◌∷◌, length, Option, Some, None}
 use Rattle.std.proofs.Common.{refl, sym, ap, ap₂, ◌∙◌, subst, arith, nat_eq, eqb-true, true≢false}
 use Rattle.std.specs.Prelude.{if◌then◌else◌, slice_get, ◌||◌}
-use Rattle.std.proofs.lemmas.Bool.{eqb-false}
+use Rattle.std.proofs.lemmas.Bool.{eqb-false, or_parts, cond_both}
 use Rattle.std.proofs.lemmas.Option.{same_Some, none-some, slice_get_within}
 use Rattle.words.specs.declared.width.Width.{Width}
 use Rattle.words.specs.declared.width.Width.TheVariants.{Word}
@@ -23,7 +23,8 @@ use Rattle.mips_emit.proofs.View.{read_register, loads_word, stores_word}
 use Rattle.mips_emit.proofs.Stands.{Stored, with_slots, Stands, open_stack}
 use Rattle.mips_emit.proofs.Operands.{hidden, hide, AreDeferred, none_deferred, IsKnown, Denotes, IsApart, denotes_kept, IsElsewhere}
 use Rattle.mips_emit.proofs.Homes.{fewer_stand, operand_means, caller_saved_kept, carries, arrives}
-use Rattle.mips_select.specs.Code.{saves, restores, parameters_code}
+use Rattle.mips_select.specs.declared.prologue.Direction.TheVariants.{Save, Restore}
+use Rattle.mips_select.specs.Code.{frame_words, parameters_code}
 use Rattle.mips_select.specs.Selected.{IsBehind, AreInOrder, IsClear, AreClear}
 
 -- a part of the stack from p on
@@ -41,7 +42,7 @@ AreKept rs = (j r : ℕ) → slice_get rs j ≡ Some r → (0 < r) × (r < 32) �
 
 pub record Saved (p at : ℕ) (rs : List ℕ) (s : State) : Type 0 where
   pub memory : ℕ → ℕ
-  pub runs : RunsTo (saves at rs) s (record s { memory = memory })
+  pub runs : RunsTo (frame_words Save at rs) s (record s { memory = memory })
   pub words : IsWords (record s { memory = memory })
   pub here : (j r : ℕ) → slice_get rs j ≡ Some r → word_at (record s { memory = memory }) (p + at + 4 * j) ≡ s.regs r
   pub others : (u : Width) (b : ℕ) → ((j : ℕ) → j < length rs → AreApart Word (p + at + 4 * j) u b)
@@ -50,12 +51,10 @@ pub record Saved (p at : ℕ) (rs : List ℕ) (s : State) : Type 0 where
 stack_open : (total p n o : ℕ) (s : State) → InStack total p n s → o % 4 ≡ 0 → o < n → (s.regs 29 + o < 2 ^ 32) × (is_open Word s.mapped (s.regs 29 + o) ≡ true)
 stack_open total p n o s h a4 lt =
     let e = h.pointer in
-    let low = h.low in
-    let high = h.high in
     let p4 = h.aligned in (
-      omega (arith, e, high, lt),
+      omega (arith, e, h.high, lt),
       ap (λ m. is_open Word m (s.regs 29 + o)) h.mapped ∙ open_stack total (s.regs 29 + o) (omega (arith, e, p4, a4))
-          (omega (arith, e, low)) (omega (arith, e, high, lt)),
+          (omega (arith, e, h.low)) (omega (arith, e, h.high, lt)),
     )
 
 pub saves_run : (total p n at : ℕ) (rs : List ℕ) (s : State) → AreKept rs → at % 4 ≡ 0 → at + 4 * length rs ≤ n → InStack total p n s → Saved p at rs s
@@ -110,14 +109,10 @@ saves_run total p n at (r ∷ rs) s kept a4 le h =
 
 pub record Restored (p at : ℕ) (rs : List ℕ) (s : State) : Type 0 where
   pub regs : ℕ → ℕ
-  pub runs : RunsTo (restores at rs) s (record s { regs = regs })
+  pub runs : RunsTo (frame_words Restore at rs) s (record s { regs = regs })
   pub words : IsWords (record s { regs = regs })
   pub others : (q : ℕ) → is_in rs q ≡ false → regs q ≡ s.regs q
   pub inside : (q v : ℕ) → is_in rs q ≡ true → ((j : ℕ) → slice_get rs j ≡ Some q → word_at s (p + at + 4 * j) ≡ v) → regs q ≡ v
-
-or_false : (a b : Bool) → (a || b) ≡ false → (a ≡ false) × (b ≡ false)
-or_false true b e = absurd (true≢false e)
-or_false false b e = (refl, e)
 
 pub restores_run : (total p n at : ℕ) (rs : List ℕ) (s : State) → AreKept rs → at % 4 ≡ 0 → at + 4 * length rs ≤ n → InStack total p n s → Restored p at rs s
 restores_run total p n at [] s kept a4 le h = record {
@@ -148,7 +143,7 @@ restores_run total p n at (r ∷ rs) s kept a4 le h =
       regs = rest.regs;
       runs = runs_then (loads_word s r at ok.0 ok.1) rest.runs;
       words = rest.words;
-      others = λ q e. let both = or_false (nat_eq q r) (is_in rs q) e in rest.others q both.1 ∙ put_other s.regs r v q (eqb-false q r both.0);
+      others = λ q e. let both = or_parts (nat_eq q r) (is_in rs q) e in rest.others q both.1 ∙ put_other s.regs r v q (eqb-false q r both.0);
       inside = λ q w e f. inside rest q w (nat_eq q r) (is_in rs q) refl refl e f;
     }
   where
@@ -160,8 +155,7 @@ restores_run total p n at (r ∷ rs) s kept a4 le h =
         let q_r : q ≡ r = eqb-true q r eb in
         let is_kept = kept 0 r refl in
         let v = word_at s (s.regs 29 + at) in
-        let pointer = h.pointer in
-        let place : s.regs 29 + at ≡ p + at + 4 * 0 = omega (arith, pointer) in
+        let place : s.regs 29 + at ≡ p + at + 4 * 0 = omega (arith, h.pointer) in
         rest.others q ec ∙ ap (set s r v).regs q_r ∙ put_here s.regs r v (record { low = is_kept.0; high = is_kept.1 }) ∙ ap (word_at s) place
         ∙ f 0 (ap Some (sym q_r))
     inside rest q w false false eb ec e f = absurd (true≢false (sym e ∙ ap₂ (λ x y. x || y) eb ec))
@@ -221,11 +215,7 @@ module _ (most total : ℕ) (gs : List RGlobal) (starts : ℕ → ℕ) where
 
   -- an operand isn't in a register below its own
   operand_apart : (l : Option Home) (z k : Option ℕ) (t t' : ℕ) → t < t' → t < 8 → IsBehind l t' → IsApart t (deferred_source z (source k l))
-  operand_apart l (Some w) k t t' lt few behind = by (nat_eq w 0)
-    where
-      by : (b : Bool) → IsApart t (if b then Zero else Word w)
-      by true = tt
-      by false = tt
+  operand_apart l (Some w) k t t' lt few behind = cond_both (nat_eq w 0) Zero (Word w) (IsApart t) (λ _. tt) (λ _. tt)
   operand_apart (Some (Reg r)) None None t t' lt few behind = λ e. absurd (omega (arith, lt, behind, e))
   operand_apart (Some (Copied r j)) None None t t' lt few behind = λ e. absurd (omega (arith, few, behind, e))
   operand_apart l None (Some w) t t' lt few behind = by l behind (nat_eq w 0)

@@ -3,6 +3,7 @@ use Rattle.std.proofs.Common.{◌≡◌, ℕ, zero, suc, ◌+◌, ◌<◌, ◌�
 use Rattle.std.proofs.Common.{refl, sym, ap, subst, ◌∙◌, arith}
 use Rattle.std.specs.Prelude.{slice_get, slice_index, replicate, if◌then◌else◌}
 use Rattle.std.proofs.lemmas.Option.{same_Some, none-some, slice_get_within}
+use Rattle.std.proofs.lemmas.Bool.{cond_both}
 use Rattle.mblock.specs.Parts.{BlockParts}
 use Rattle.mblock.specs.Units.{AreLinked, AreOwners}
 use Rattle.rtl.specs.declared.instruction.RExit.{RExit}
@@ -41,11 +42,7 @@ behind_length p _ = refl
 
 -- each block takes a number
 pub one_at_least : (heads : ℕ → Head) (x : RExit) → 1 ≤ count heads x
-one_at_least heads (Call g xs d next) = go (resumes d (heads next))
-  where
-    go : (b : Bool) → 1 ≤ (if b then 1 else 2)
-    go true = omega arith
-    go false = omega arith
+one_at_least heads (Call g xs d next) = cond_both (resumes d (heads next)) 1 2 (λ n. 1 ≤ n) (λ _. omega arith) (λ _. omega arith)
 one_at_least heads _ = omega arith
 
 pub blocks_length : (l : Linking) (p : Planning) (k j : ℕ) (bs : List RBlock) → length (blocks_from l p k j bs) ≡ size_of_blocks p.heads bs
@@ -53,8 +50,7 @@ blocks_length l p k j [] = refl
 blocks_length l p k j (b ∷ bs) =
     let rest = blocks_length l p (k + count p.heads b.exit) (suc j) bs in
     let one = behind_length p b.exit in
-    let sum = length-append (behind p b.exit) (blocks_from l p (k + count p.heads b.exit) (suc j) bs) in
-    omega (arith, rest, one, sum)
+    omega (arith, rest, one, length-append (behind p b.exit) (blocks_from l p (k + count p.heads b.exit) (suc j) bs))
 
 pub lead_length : (p : Planning) (head : Head) → length (lead_blocks p head) ≡ lead_of head
 lead_length p Bare = refl
@@ -68,8 +64,7 @@ function_length l k func f =
     let p = planning_in func.parameters k bs f in
     let front = lead_length p (heads 0) in
     let long = blocks_length l p (k + lead_in heads) 0 bs in
-    let sum = length-append (lead_blocks p (heads 0)) (blocks_from l p (k + lead_in heads) 0 bs) in
-    omega (arith, front, long, sum)
+    omega (arith, front, long, length-append (lead_blocks p (heads 0)) (blocks_from l p (k + lead_in heads) 0 bs))
 
 -- numbers of blocks are from the first on, and below the end
 numbers_from : (heads : ℕ → Head) (k : ℕ) (bs : List RBlock) (b : ℕ) → b < length bs → IsFrom k (size_of_blocks heads bs) (slice_index (numbers heads k bs) b)
@@ -77,9 +72,7 @@ numbers_from heads k [] b lt = absurd (omega (arith, lt))
 numbers_from heads k (x ∷ bs) zero lt = (let one = one_at_least heads x.exit in (omega arith, omega (arith, one)))
 numbers_from heads k (x ∷ bs) (suc b) lt =
     let rest = numbers_from heads (k + count heads x.exit) bs b (omega (arith, lt)) in
-    let low = rest.0 in
-    let high = rest.1 in
-    (omega (arith, low), omega (arith, high))
+    (omega (arith, rest.0), omega (arith, rest.1))
 
 pub function_some : (bs : List RBlock) → 1 ≤ size_in bs
 function_some [] = omega arith
@@ -104,14 +97,10 @@ module _ (l : Linking) (functions : List RFunc) (bound : ℕ) (entry_below : (g 
     compared_goes (Known false) x y t e at_t at_e = from_below e at_e
     compared_goes _ x y t e at_t at_e = (at_t, at_e)
 
-    known_goes : (b : Bool) (t e : ℕ) → IsFrom start size t → IsFrom start size e → (if b then e else t) < bound
-    known_goes true t e at_t at_e = from_below e at_e
-    known_goes false t e at_t at_e = from_below t at_t
-
     branch_goes : (test : Option Comparison) (known : Option ℕ) (x : Source) (t e : ℕ) → IsFrom start size t → IsFrom start size e
         → GoesWithin bound start size (branch_exit test known x t e)
     branch_goes None None x t e at_t at_e = (at_t, at_e)
-    branch_goes None (Some w) x t e at_t at_e = known_goes (nat_eq w 0) t e at_t at_e
+    branch_goes None (Some w) x t e at_t at_e = cond_both (nat_eq w 0) e t (λ n. n < bound) (λ _. from_below e at_e) (λ _. from_below t at_t)
     branch_goes (Some m) known x t e at_t at_e = compared_goes m.form m.left.source m.right.source t e at_t at_e
 
     next_below : (k : ℕ) (g : ℕ) (d : Option ℕ) (next : ℕ) → next < blocks → (b : Bool) → k + (if b then 1 else 2) ≤ bound
@@ -162,12 +151,9 @@ module _ (l : Linking) (functions : List RFunc) (bound : ℕ) (entry_below : (g 
         → GoesWithin bound start size b.exit) → (i : ℕ) (b : BlockParts) → slice_get (lead_blocks p head ++ rest) i ≡ Some b
         → GoesWithin bound start size b.exit
     lead_goes Enters some rest goes i b there = goes i b there
-    lead_goes Bare some rest goes zero b there = subst (λ (b : BlockParts). GoesWithin bound start size b.exit)
+    lead_goes _ some rest goes zero b there = subst (λ (b : BlockParts). GoesWithin bound start size b.exit)
         (same_Some (prologue_block p.leaf p.frame p.parameters (p.place 0)) b there) (place_below 0 some)
-    lead_goes Bare some rest goes (suc i) b there = goes i b there
-    lead_goes (Takes d) some rest goes zero b there = subst (λ (b : BlockParts). GoesWithin bound start size b.exit)
-        (same_Some (prologue_block p.leaf p.frame p.parameters (p.place 0)) b there) (place_below 0 some)
-    lead_goes (Takes d) some rest goes (suc i) b there = goes i b there
+    lead_goes _ some rest goes (suc i) b there = goes i b there
 
   function_goes : (k : ℕ) (func : RFunc) (f : Frame) → IsFunction functions (length l.globals) func → k + function_size func ≤ bound
       → IsFunctionAt bound k (function_blocks l k func f)
@@ -185,9 +171,7 @@ module _ (l : Linking) (functions : List RFunc) (bound : ℕ) (entry_below : (g 
       from_next : (t : ℕ) → t < length func.blocks.items → IsFrom k (function_size func) (place_in k func.blocks.items t)
       from_next t lt =
           let at = numbers_from heads (k + lead_in heads) func.blocks.items t lt in
-          let low = at.0 in
-          let high = at.1 in
-          (omega (arith, low), omega (arith, high))
+          (omega (arith, at.0), omega (arith, at.1))
 
       go : (i : ℕ) (b : BlockParts) → slice_get (function_blocks l k func f) i ≡ Some b → GoesWithin bound k (function_size func) b.exit
       go i b there =
@@ -225,9 +209,8 @@ module _ (l : Linking) (functions : List RFunc) (bound : ℕ) (entry_below : (g 
   functions_length k (func ∷ funcs) [] same = absurd (omega (arith, same))
   functions_length k (func ∷ funcs) (f ∷ fs) same =
       let here = function_length l k func f in
-      let rest = functions_length (k + function_size func) funcs fs (omega (arith, same)) in
       let sum = length-append (function_blocks l k func f) (blocks_of (each_function (k + function_size func) funcs fs)) in
-      omega (arith, here, rest, sum)
+      omega (arith, here, functions_length (k + function_size func) funcs fs (omega (arith, same)), sum)
 
   functions_owners : (k : ℕ) (funcs : List RFunc) (fs : List Frame) → length fs ≡ length funcs → owners_of k (each_function k funcs fs) ≡ owners_from k funcs
   functions_owners k [] fs same = refl
@@ -244,8 +227,7 @@ program_length h same =
     let bound = 2 + functions_size p.functions in
     let joined = functions_joined (linking_for p) p.functions bound (λ g lt. entries_below 2 p.functions g lt) 2 p.functions h.frames.items in
     let long = functions_length (linking_for p) p.functions bound (λ g lt. entries_below 2 p.functions g lt) 2 p.functions h.frames.items same in
-    let e = ap length joined in
-    omega (arith, e, long)
+    omega (arith, ap length joined, long)
 
 -- every block that an exit names exists, and branches stay in their functions
 pub program_well : (h : Homed) → IsProgram h.rtl.now → length h.frames.items ≡ length (h.rtl.now).functions

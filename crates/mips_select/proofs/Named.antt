@@ -2,6 +2,7 @@
 use Rattle.std.proofs.Common.{◌≡◌, ℕ, zero, suc, Bool, true, false, List, [], ◌∷◌, Option, Some, None, refl, subst, nat_eq}
 use Rattle.std.specs.Prelude.{if◌then◌else◌, slice_get, slice_set}
 use Rattle.std.proofs.lemmas.Option.{same_Some, none-some}
+use Rattle.std.proofs.lemmas.Bool.{cond_both}
 use Rattle.rtl.specs.declared.instruction.RExit.{RExit}
 use Rattle.rtl.specs.declared.instruction.RExit.TheVariants.{Goto, Branch, Call, Return, Out}
 use Rattle.rtl.specs.declared.block.RBlock.{RBlock}
@@ -85,11 +86,7 @@ jump_head b _ q = tt
 
 call_head : (d : Option ℕ) (b : ℕ) (o : Option Naming) → IsCalled d o → NamedCall d (head_at b o)
 call_head d b (Some Unnamed) q = absurd q
-call_head d b (Some (Called (Some e))) q = go (nat_eq b 0)
-  where
-    go : (t : Bool) → NamedCall d (if t then Bare else Takes e)
-    go true = tt
-    go false = q
+call_head d b (Some (Called (Some e))) q = cond_both (nat_eq b 0) Bare (Takes e) (NamedCall d) (λ _. tt) (λ _. q)
 call_head d b _ q = tt
 
 jumped_after : (bs : List RBlock) (l : List Naming) (t : ℕ) → IsJumped (slice_get l t) → NamedJump (heads_in (namings bs l) t)

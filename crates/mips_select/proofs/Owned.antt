@@ -17,10 +17,8 @@ length-owners_of : (k : ℕ) (fs : List (List BlockParts)) → length (owners_of
 length-owners_of k [] = refl
 length-owners_of k (f ∷ fs) =
     let rest = length-owners_of (k + length f) fs in
-    let here = length-replicate (length f) k in
     let left = length-append (replicate (length f) k) (owners_of (k + length f) fs) in
-    let right = length-append f (blocks_of fs) in
-    omega (arith, rest, here, left, right)
+    omega (arith, rest, length-replicate (length f) k, left, length-append f (blocks_of fs))
 
 module _ (bound : ℕ) (blocks : List BlockParts) (owner : List ℕ) where
   -- block i is in the function that begins at `start`
@@ -62,16 +60,13 @@ module _ (bound : ℕ) (blocks : List BlockParts) (owner : List ℕ) where
         owned = has_front owner k (replicate (length f) k) (owners_of (k + length f) fs) owned;
       }
       by_length (inr e) rest =
-          let same = e.1 in
-          let moved : k + length f + e.0 ≡ k + i = omega (arith, same) in
-          subst InFunction moved (rest e.0 (omega (arith, lt, same, sum)))
+          let moved : k + length f + e.0 ≡ k + i = omega (arith, e.1) in
+          subst InFunction moved (rest e.0 (omega (arith, lt, e.1, sum)))
 
   owned_from : (start n : ℕ) → HasAt owner start (replicate n start) → (t : ℕ) → IsFrom start n t → slice_get owner t ≡ Some start
   owned_from start n owned t at =
-      let low = at.0 in
-      let high = at.1 in
-      let here : t ≡ start + (t - start) = omega (arith, low) in
-      ap (slice_get owner) here ∙ owned.by (t - start) start (get_replicate n start (t - start) (omega (arith, low, high)))
+      let here : t ≡ start + (t - start) = omega (arith, at.0) in
+      ap (slice_get owner) here ∙ owned.by (t - start) start (get_replicate n start (t - start) (omega (arith, at.0, at.1)))
 
   below : (start n : ℕ) → start + n ≤ bound → (exit : Exit) → GoesWithin bound start n exit → GoesBelow bound exit
   below start n fits (BranchPair test a b t e) at = (let lt = at.0.1 in let lt' = at.1.1 in (omega (arith, fits, lt), omega (arith, fits, lt')))
@@ -94,15 +89,12 @@ module _ (bound : ℕ) (blocks : List BlockParts) (owner : List ℕ) where
 
   owner_at : (i : ℕ) (at : InFunction i) → slice_get owner i ≡ Some at.start
   owner_at i at =
-      let is = at.is in
-      let lt = at.within in
-      owned_from at.start (length at.code) at.owned i (omega (arith, is), omega (arith, is, lt))
+      owned_from at.start (length at.code) at.owned i (omega (arith, at.is), omega (arith, at.is, at.within))
 
   goes_on_from : (i o : ℕ) → InFunction i → slice_get owner i ≡ Some o → Continues owner i o
   goes_on_from zero o at here =
-      let is = at.is in
       let same = same_Some at.start o (sym (owner_at zero at) ∙ here) in
-      omega (arith, is, same)
+      omega (arith, at.is, same)
   goes_on_from (suc i) o at here = λ other.
       let same : at.start ≡ o = same_Some at.start o (sym (owner_at (suc i) at) ∙ here) in
       by_place at.behind at.is at.within same other

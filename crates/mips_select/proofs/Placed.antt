@@ -1,7 +1,7 @@
 -- The blocks for a program stand for it.
 use Rattle.std.proofs.Common.{◌≡◌, ℕ, zero, suc, ◌+◌, ◌*◌, ◌<◌, ◌≤◌, ◌⊎◌, inl, inr, Bool, true, false, true≢false, List, [], ◌∷◌, ◌++◌, length}
 use Rattle.std.proofs.Common.{Option, Some, None, refl, sym, ap, ◌∙◌, subst, arith}
-use Rattle.std.specs.Prelude.{All, if◌then◌else◌, slice_get, slice_index}
+use Rattle.std.specs.Prelude.{All, ◌&&◌, if◌then◌else◌, slice_get, slice_index}
 use Rattle.std.proofs.lemmas.Option.{same_Some, none-some, slice_get_within}
 use Rattle.mips_isa.specs.declared.inst.Plain.{Plain}
 use Rattle.mblock.specs.Parts.{BlockParts}
@@ -83,9 +83,8 @@ ordered : (functions : List RFunc) (globals blocks : ℕ) (func : RFunc) (f : Fr
 ordered functions globals blocks func f (Call g xs d next) range seated covers all ok =
     let callee = ok.0 in
     let few = (all_at (programs.IsFunction functions globals) functions g callee.callee all callee.there).parameters in
-    let takes = callee.takes in
     in_order f 4 xs.items range (λ j y r at there. (let lt = slice_get_within xs.items j y at in
-    behind j y r (omega (arith, lt, few, takes)) (reach_covers 0 xs.items j y at) (covers y) (seated y r there)))
+    behind j y r (omega (arith, lt, few, callee.takes)) (reach_covers 0 xs.items j y at) (covers y) (seated y r there)))
   where
     behind : (j y r : ℕ) → j < 4 → 0 + suc j ≤ reach_from 0 xs.items y → reach_from 0 xs.items y ≤ blocks_reach func.blocks.items y
         → (8 ≤ r) ⊎ ((blocks_reach func.blocks.items y + 3 ≤ r) × (y < func.parameters → r ≡ 4 + y)) → 4 + j ≤ r
@@ -102,21 +101,15 @@ leaf_fine : (bs : List RBlock) (b : ℕ) (block : RBlock) → slice_get bs b ≡
 leaf_fine [] b block there = absurd (none-some block there)
 leaf_fine (x ∷ bs) zero block there = subst (λ (block : RBlock). IsFine (is_leaf (x ∷ bs)) block.exit) (same_Some x block there) (here x.exit)
   where
-    here : (e : RExit) → IsFine (if calls_none e then is_leaf bs else false) e
+    here : (e : RExit) → IsFine (calls_none e && is_leaf bs) e
     here (Call g xs d next) = refl
-    here (Goto b) = tt
-    here (Branch c t e) = tt
-    here (Return o) = tt
-    here (Out y next) = tt
+    here _ = tt
 leaf_fine (x ∷ bs) (suc b) block there = more (calls_none x.exit) block.exit (leaf_fine bs b block there)
   where
-    more : (c : Bool) (e : RExit) → IsFine (is_leaf bs) e → IsFine (if c then is_leaf bs else false) e
+    more : (c : Bool) (e : RExit) → IsFine (is_leaf bs) e → IsFine (c && is_leaf bs) e
     more true e ok = ok
     more false (Call g xs d next) ok = refl
-    more false (Goto b) ok = tt
-    more false (Branch c t e) ok = tt
-    more false (Return o) ok = tt
-    more false (Out y next) ok = tt
+    more false _ ok = tt
 
 -- what stands before the own code of each block
 abbrev heads_code : Planning → ℕ → List Plain

@@ -7,6 +7,8 @@ use Rattle.mblock.specs.declared.exit.Exit.{Exit}
 use Rattle.mblock.specs.declared.exit.Exit.TheVariants.{Goto}
 use Rattle.mblock.specs.Parts.{BlockParts}
 use Rattle.mips_select.specs.Split.{renumbered_exit, more_pieces, piece, pieces, count_of, firsts, lasts, split_from}
+use Rattle.mips_select.proofs.Lists.{get_behind, get_before}
+pub use Rattle.mips_homes.proofs.Choosing.{at_index as block_there}
 
 -- a list stands in another from k on
 pub record HasAt {A : Type 0} (whole : List A) (k : ℕ) (part : List A) : Type 0 where
@@ -20,15 +22,6 @@ has_head whole k x l h = (let k_zero : k ≡ k + 0 = omega arith in ap (slice_ge
 
 pub has_tail : {A : Type 0} (whole : List A) (k : ℕ) (x : A) (l : List A) → HasAt whole k (x ∷ l) → HasAt whole (suc k) l
 has_tail whole k x l h = record { by = λ i y e. (let next : suc k + i ≡ k + suc i = omega arith in ap (slice_get whole) next) ∙ h.by (suc i) y e }
-
-get_behind : {A : Type 0} (a b : List A) (i : ℕ) → slice_get (a ++ b) (length a + i) ≡ slice_get b i
-get_behind [] b i = (let zero_i : 0 + i ≡ i = omega arith in ap (slice_get b) zero_i)
-get_behind (x ∷ a) b i = (let next : length (x ∷ a) + i ≡ suc (length a + i) = omega arith in ap (slice_get (x ∷ a ++ b)) next) ∙ get_behind a b i
-
-get_before : {A : Type 0} (a b : List A) (i : ℕ) (x : A) → slice_get a i ≡ Some x → slice_get (a ++ b) i ≡ Some x
-get_before [] b i x e = absurd (none-some x e)
-get_before (y ∷ a) b zero x e = e
-get_before (y ∷ a) b (suc i) x e = get_before a b i x e
 
 pub has_front : {A : Type 0} (whole : List A) (k : ℕ) (a b : List A) → HasAt whole k (a ++ b) → HasAt whole k a
 has_front whole k a b h = record { by = λ i x e. h.by i x (get_before a b i x e) }
@@ -68,12 +61,6 @@ last_piece most k [] n b there = absurd (none-some b there)
 last_piece most k (x ∷ bs) zero b there = ap (λ (b : BlockParts). k + more_pieces most b) (sym (same_Some x b there))
 last_piece most k (x ∷ bs) (suc n) b there = last_piece most (k + count_of most x) bs n b there
 
--- a block that is there
-pub block_there : {A : Type 0} (xs : List A) (n : ℕ) → n < length xs → (x : A) × (slice_get xs n ≡ Some x)
-block_there [] n lt = absurd (omega (arith, lt))
-block_there (x ∷ xs) zero lt = (x, refl)
-block_there (x ∷ xs) (suc n) lt = block_there xs n (omega (arith, lt))
-
 -- the last of several pieces has the exit
 pub last_there : (most : ℕ) (exit : Exit) (whole : List BlockParts) (more k : ℕ) (insts : List Plain)
     → HasAt whole k (pieces most exit more k insts) → (p : BlockParts) × (slice_get whole (k + more) ≡ Some p) × (p.exit ≡ exit)
@@ -87,9 +74,7 @@ last_there most exit whole (suc more) k insts has =
 last_above : (most k : ℕ) (bs : List BlockParts) (n : ℕ) → n < length bs → k ≤ slice_index (lasts most k bs) n
 last_above most k [] n lt = absurd (omega (arith, lt))
 last_above most k (b ∷ bs) zero lt = omega arith
-last_above most k (b ∷ bs) (suc n) lt =
-    let above = last_above most (k + count_of most b) bs n (omega (arith, lt)) in
-    omega (arith, above)
+last_above most k (b ∷ bs) (suc n) lt = omega (arith, last_above most (k + count_of most b) bs n (omega (arith, lt)))
 
 -- two blocks have two last pieces
 pub last_apart : (most k : ℕ) (bs : List BlockParts) (m n : ℕ) → m < length bs → n < length bs

@@ -43,8 +43,7 @@ few_arguments : (functions : List RFunc) (globals blocks : ℕ) (x : RExit) → 
 few_arguments functions globals blocks (Call g xs d next) all ok =
     let callee = ok.0 in
     let few = (all_at (IsFunction functions globals) functions g callee.callee all callee.there).parameters in
-    let takes = callee.takes in
-    omega (arith, few, takes)
+    omega (arith, few, callee.takes)
 few_arguments functions globals blocks _ all ok = tt
 
 few_blocks : (functions : List RFunc) (g : ℕ) (func : RFunc) → slice_get functions g ≡ Some func → length func.blocks.items ≤ sum_by block_count functions
@@ -54,16 +53,13 @@ few_blocks (x ∷ functions) zero func there =
     let sum = sum_by-cons block_count x functions in
     omega (arith, same, sum)
 few_blocks (x ∷ functions) (suc g) func there =
-    let rest = few_blocks functions g func there in
-    let sum = sum_by-cons block_count x functions in
-    omega (arith, rest, sum)
+    omega (arith, few_blocks functions g func there, sum_by-cons block_count x functions)
 
 pub function_blocks_few : (p : Program) (functions : List RFunc) → IsProgram p → functions ≡ p.functions → (g : ℕ) (func : RFunc)
     → slice_get functions g ≡ Some func → length func.blocks.items ≤ MAX_BLOCKS
 function_blocks_few p functions ok is g func there =
     let few = few_blocks p.functions g func (ap (λ (l : List RFunc). slice_get l g) (sym is) ∙ there) in
-    let fits = ok.blocks_fit in
-    omega (arith, few, fits)
+    omega (arith, few, ok.blocks_fit)
 
 pub functions_emittable : (p : Program) (functions : List RFunc) (n : ℕ) → IsProgram p → functions ≡ p.functions → n ≡ length p.globals
     → AreFunctionsEmittable n functions
@@ -116,10 +112,8 @@ program_made h starts es funcs globals frames main n out0 out1 out2 out3 es_is s
 -- a unit of so many blocks has as many pieces at least
 pub many_pieces : (h : Homed) → ArePlaced h → 2 + functions_size (h.rtl.now).functions ≤ length (unit_for h).blocks
 many_pieces h ok =
-    let long = program_length h ok.long in
-    let total = total_above BLOCK_INSTS (program_blocks h) in
     let pieces = length-split_from BLOCK_INSTS (first_piece_of BLOCK_INSTS (program_blocks h)) 0 (program_blocks h) in
-    omega (arith, long, total, pieces)
+    omega (arith, program_length h ok.long, total_above BLOCK_INSTS (program_blocks h), pieces)
 
 pub many_functions : (h : Homed) (funcs : List RFunc) → ArePlaced h → funcs ≡ (h.rtl.now).functions → UNIT_BLOCKS < 2 + functions_size funcs
     → UNIT_BLOCKS < length (unit_for h).blocks
@@ -133,8 +127,7 @@ pub many_counted : (h : Homed) (blocks : List BlockParts) → blocks ≡ program
     → UNIT_BLOCKS < length (unit_for h).blocks
 many_counted h blocks is many =
     let pieces = length-split_from BLOCK_INSTS (first_piece_of BLOCK_INSTS (program_blocks h)) 0 (program_blocks h) in
-    let same = ap (total BLOCK_INSTS) is in
-    omega (arith, pieces, same, many)
+    omega (arith, pieces, ap (total BLOCK_INSTS) is, many)
 
 pub beyond : (h : Homed) (p : Program) → h.rtl.now ≡ p → ArePlaced h → UNIT_BLOCKS < length (unit_for h).blocks → IsBeyond p
 beyond h p lent ok many = record { homed = h; lent = lent; choices = ok; many = many }
@@ -201,11 +194,10 @@ pub bytes_fit : (p : Program) (bytes : List ℕ) (globals : List RGlobal) → Is
     → length bytes ≤ UNIT_BYTES
 bytes_fit p bytes globals ok g_is is =
     let values = have_values p.globals ok.globals in
-    let padded = data_fits p.globals values ok.words_fit in
     let ends = data_ends p.globals in
     let sum = ap length ends.2 ∙ length-append (data_bytes p.globals) (zeros ends.0) in
     let same = ap length (is ∙ ap data_bytes g_is) in
-    omega (arith, padded, same, sum)
+    omega (arith, data_fits p.globals values ok.words_fit, same, sum)
 
 -- ---- the test of frames
 

@@ -5,6 +5,7 @@ use Rattle.std.specs.Prelude.{if◌then◌else◌, not, slice_get}
 use Rattle.std.proofs.lemmas.List.{append-nil, append_assoc}
 use Rattle.std.proofs.lemmas.Option.{same_Some, none-some, slice_get_within}
 use Rattle.std.proofs.Math.Nat.{mul-le-mul_right}
+use Rattle.std.proofs.lemmas.Bool.{and_parts}
 use Rattle.runs.specs.declared.ran.End.TheVariants.{Done}
 use Rattle.runs.specs.Runs.{Outcome}
 use Rattle.runs.specs.Stores.{Places, places_with, unset_places, Arrays}
@@ -48,10 +49,11 @@ use Rattle.mips_emit.proofs.Comparing.{none_asked, waiting, compares}
 use Rattle.mips_select.specs.declared.limits.TheConstants.{STACK_BYTES}
 use Rattle.mips_select.specs.Data.{padded_bytes, start_of}
 use Rattle.mips_select.specs.Plans.{Linking, placing_of}
-use Rattle.mips_select.specs.Code.{saves, frame_bytes, link_save, lowers, parameters_code, prologue, epilogue, asked_of, exit_code, exit_of, code_insts}
+use Rattle.mips_select.specs.Code.{frame_words, frame_bytes, frame_link, stack_step, parameters_code, prologue, epilogue, asked_of, exit_code, exit_of, code_insts}
+use Rattle.mips_select.specs.declared.prologue.Direction.TheVariants.{Save}
 use Rattle.mips_select.specs.Code.{context_in, own_block, result_code, after_block, prologue_block, end_block}
 use Rattle.mips_select.specs.Selected.{AreClear, GoesOn, StandsAt, IsPlaced, IsFunction, IsSelected}
-use Rattle.mips_select.proofs.Departures.{read_length, first_true, second_true, branch_words, either, either_place, above_arguments, goes_by, same_exit, same_code}
+use Rattle.mips_select.proofs.Departures.{read_length, branch_words, either, either_place, above_arguments, goes_by, same_exit, same_code}
 use Rattle.mips_select.proofs.Frames.{all_shown, all_denote, arguments, parameters}
 use Rattle.mips_select.proofs.Returns.{return_found}
 use Rattle.mips_select.proofs.Calls.{stored_frame, frames_of, linked_frames, enters, leaves_frame}
@@ -171,9 +173,8 @@ module _ (h : Homed) (depth : ℕ) (blocks : List BlockParts) (ok : IsSelected h
 
   -- so many items, at least, lead to a point that matches, unless the run went wrong
   abbrev pub Reach : ℕ → Point → Run → Type 0
-  Reach n p (Running r ws g out) = Reached n p (Running r ws g out)
-  Reach n p (Ended v out) = Reached n p (Ended v out)
   Reach n p (Failed out) = Unit {0}
+  Reach n p run = Reached n p run
 
   reached_after : (m n d : ℕ) (p q : Point) (run : Run) → m ≤ d + n → Lead d p q → Reached n q run → Reached m p run
   reached_after m n d p q run le lead r = record {
@@ -185,9 +186,8 @@ module _ (h : Homed) (depth : ℕ) (blocks : List BlockParts) (ok : IsSelected h
   }
 
   pub reach_after : (m n d : ℕ) (p q : Point) (run : Run) → m ≤ d + n → Lead d p q → Reach n q run → Reach m p run
-  reach_after m n d p q (Running r ws g out) le lead x = reached_after m n d p q (Running r ws g out) le lead x
-  reach_after m n d p q (Ended v out) le lead x = reached_after m n d p q (Ended v out) le lead x
   reach_after m n d p q (Failed out) le lead x = tt
+  reach_after m n d p q run le lead x = reached_after m n d p q run le lead x
 
   -- instructions up to the exit
   pub code_leads : (k : ℕ) (is : List Plain) (s t : State) (out : List ℕ) → RunsTo is s t → Lead (length is) (At k is s out) (At k [] t out)
@@ -257,18 +257,17 @@ module _ (h : Homed) (depth : ℕ) (blocks : List BlockParts) (ok : IsSelected h
       → Reach 1 p (write_homes (cells frame.homes.items (registers_at_entry frame.saved.items r) unset_places) 0 vs out (λ r' s'.
       state_at_block 0 (new_activation func.blocks.items frame s' r result_to) s' (around r' ws arrays out)))
   entered p f func frame is r arrays ws link result_to below vs s out enter st passing is_link here count deep waits =
-      let few = is.parameters in
       let room : stack_base + ok.most ≤ s.regs 29 = enough_room (s.regs 29) (length ws)
       (stack_room ok.most (word_at s) (s.regs 29) (frames_of ws below) st.stack) (as_deep link result_to ws below waits) in
       let e = enters ok.most total gs starts ok.small r arrays (frames_of ws below) s is.leaf frame link is.frame is_link is.alone passing room st in
       parameters ok.most total gs starts arrays (frames_of ws below) (λ run. Reach 1 p run) out tt vs 4 0
       (registers_at_entry frame.saved.items r) (stored_frame is.leaf frame unset_places r link) e.to
       (λ r' s'. state_at_block 0 (new_activation func.blocks.items frame s' r result_to) s' (around r' ws arrays out))
-      (frame_homes ok.most frame is.frame) (omega arith) (omega (arith, count, few))
+      (frame_homes ok.most frame is.frame) (omega arith) (omega (arith, count, is.parameters))
       (subst (λ n. AreClear (locations frame) 4 0 n) (sym count) is.clear)
-      (λ j v at. (let low = slice_get_within vs j v at in e.same (4 + j) (omega (arith, low, count, few))) ∙ here j v at) e.stands
+      (λ j v at. (let low = slice_get_within vs j v at in e.same (4 + j) (omega (arith, low, count, is.parameters))) ∙ here j v at) e.stands
       (λ r' s' s2 e2 st2. begins r' s' s2 (subst (λ n. RunsTo (prologue is.leaf frame n) s s2) count
-      (regrouped (lowers (frame_bytes is.leaf frame)) (saves (4 * frame.slots) frame.saved.items ++ link_save is.leaf frame)
+      (regrouped (stack_step Save (frame_bytes is.leaf frame)) (frame_words Save (4 * frame.slots) frame.saved.items ++ frame_link Save is.leaf frame)
       (parameters_code (locations frame) 4 0 (length vs)) s s2 (runs_then e.runs e2))) st2 is.first)
     where
       callee : Places → Activation
@@ -315,8 +314,7 @@ module _ (h : Homed) (depth : ℕ) (blocks : List BlockParts) (ok : IsSelected h
   room_for : (n : ℕ) → n < depth → suc n * ok.most ≤ STACK_BYTES
   room_for n lt =
       let some : suc n * ok.most ≤ depth * ok.most = mul-le-mul_right ok.most lt in
-      let all = ok.room in
-      omega (arith, some, all)
+      omega (arith, some, ok.room)
 
   -- the link leads back to a block
   back : (k : ℕ) (form : BlockParts) (s : State) (out : List ℕ) (link n : ℕ) (target : BlockParts) → slice_get blocks k ≡ Some form → form.exit ≡ E.Return
@@ -563,8 +561,8 @@ module _ (h : Homed) (depth : ℕ) (blocks : List BlockParts) (ok : IsSelected h
           → s.regs 2 ≡ v
       there_already v read_v None is t = absurd (true≢false (sym t))
       there_already v read_v (Some m) is t =
-          new.result m v is (first_true (is_result m.form) (nat_eq m.result x) t)
-          (ap (read_home a.frame.homes.items r a.slots) (eqb-true m.result x (second_true (is_result m.form) (nat_eq m.result x) t)) ∙ read_v)
+          new.result m v is (and_parts (is_result m.form) (nat_eq m.result x) t).0
+          (ap (read_home a.frame.homes.items r a.slots) (eqb-true m.result x (and_parts (is_result m.form) (nat_eq m.result x) t).1) ∙ read_v)
 
       gives : (v : ℕ) → read_home a.frame.homes.items r a.slots x ≡ Some v → (b : Bool) → returned last.comparison x ≡ b
           → Reach 1 (At k (return_code b (last_operand (locations a.frame) facts last.fresh x) ++ epilogue leaf a.frame) s out)
@@ -773,10 +771,7 @@ module _ (h : Homed) (depth : ℕ) (blocks : List BlockParts) (ok : IsSelected h
   after_one : (n : ℕ) (p : Point) (run : Run) → Reach 1 p run → ((run : Run) (q : Point) → MatchRun run q → Reach n q (homed_steps h depth n run))
       → Reach (suc n) p (homed_steps h depth n run)
   after_one n p (Failed out) a f = subst (λ run. Reach (suc n) p run) (sym (failed_steps n out)) tt
-  after_one n p (Running r ws g out) a f = (let enough = a.enough in reach_after (suc n) n a.count p a.to _ (omega (arith, enough)) a.leads
-      (f (Running r ws g out) a.to a.match))
-  after_one n p (Ended v out) a f = (let enough = a.enough in reach_after (suc n) n a.count p a.to _ (omega (arith, enough)) a.leads
-      (f (Ended v out) a.to a.match))
+  after_one n p run a f = reach_after (suc n) n a.count p a.to _ (omega (arith, a.enough)) a.leads (f run a.to a.match)
 
   -- as many items as steps, at least
   runs : (n : ℕ) (run : Run) (p : Point) → MatchRun run p → Reach n p (homed_steps h depth n run)

@@ -143,7 +143,6 @@ module _ (h : Homed) (depth : ℕ) (blocks : List BlockParts) (ok : IsSelected h
       (set_words s0 31 (links 0) st0.words (tells.words 0)) tt (λ q low high. put_other s0.regs 31 (links 0) q (omega (arith, high))) st0 in
       let found = return_found links blocks 0 (ok.entry (h.rtl.now).main) 1 (start_block (ok.entry (h.rtl.now).main)) tells ok.start refl in
       let first = code_leads h depth blocks ok links tells 0 (constant 28 data_middle) s s0 [] c.runs in
-      let small = ok.small in
       reach_after h depth blocks ok links tells 1 1 2 (At 0 (constant 28 data_middle) s []) (At 0 [] s0 []) _ (omega arith) first
       (subst (λ registers. Reach h depth blocks ok links tells 1 (At 0 [] s0 [])
       (state_at_block 0 (new_activation func.blocks.items frame unset_places unset_places None) unset_places (around registers [] arrays [])))
@@ -153,7 +152,7 @@ module _ (h : Homed) (depth : ℕ) (blocks : List BlockParts) (ok : IsSelected h
       (At (ok.entry (h.rtl.now).main) form.insts s1 []) ok.start refl (λ n. ap
       (λ o. outcome_at_block (ok.entry (h.rtl.now).main) o (items blocks links n) s1 []) there)) st1 (λ q passes. refl)
       (put_here s0.regs 31 (links 0) (record { low = omega arith; high = omega arith })) (λ j v at. absurd (none-some v at)) (sym none)
-      (omega (arith, small)) found))))
+      (omega (arith, ok.small)) found))))
     where
       P : Run → Type 0
       P run = Reach h depth blocks ok links tells 1 (At 0 (constant 28 data_middle) (start_state (padded_bytes (h.rtl.now).globals)) []) run

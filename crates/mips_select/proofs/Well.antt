@@ -24,8 +24,7 @@ length-owners_from most place (b ∷ bs) [] same = absurd (omega (arith, same))
 length-owners_from most place (b ∷ bs) (o ∷ os) same =
     let rest = length-owners_from most place bs os (omega (arith, same)) in
     let sum = length-append (replicate (count_of most b) (place o)) (owners_from most place bs os) in
-    let here = length-replicate (count_of most b) (place o) in
-    omega (arith, rest, sum, here)
+    omega (arith, rest, sum, length-replicate (count_of most b) (place o))
 
 -- the owners of the pieces of block n
 has_owners : (most : ℕ) (place : ℕ → ℕ) (whole : List ℕ) (k : ℕ) (bs : List BlockParts) (os : List ℕ)
@@ -68,8 +67,7 @@ module _ (most : ℕ) (some : 0 < most) (blocks : List BlockParts) where
   place_below : (t : ℕ) → t < length blocks → place t < length whole
   place_below t lt =
       let b = block_there blocks t lt in
-      let below = piece_there t b.0 b.1 0 (omega arith) in
-      omega (arith, below)
+      omega (arith, piece_there t b.0 b.1 0 (omega arith))
 
   -- piece i of the unit
   record Piece (i : ℕ) (p : BlockParts) : Type 0 where
@@ -84,11 +82,9 @@ module _ (most : ℕ) (some : 0 < most) (blocks : List BlockParts) where
       let at = located most 0 blocks i (omega (arith, low, long)) in
       let exit = renumbered_exit place at.block.exit in
       let parts = pieces most exit (more_pieces most at.block) (place at.number) at.block.insts in
-      let found = at.is in
-      let is : i ≡ place at.number + at.behind = omega (arith, found) in
+      let is : i ≡ place at.number + at.behind = omega (arith, at.is) in
       let many = length-pieces most exit (more_pieces most at.block) (place at.number) at.block.insts in
-      let within = at.within in
-      let q = block_there parts at.behind (omega (arith, within, many)) in
+      let q = block_there parts at.behind (omega (arith, at.within, many)) in
       let same : q.0 ≡ p = same_Some q.0 p (sym ((at_block at.number at.block at.there).by at.behind q.0 q.1) ∙ sym (ap (slice_get whole) is) ∙ there) in
       record {
         at = at;
@@ -118,8 +114,7 @@ module _ (most : ℕ) (some : 0 < most) (blocks : List BlockParts) where
               ((is.at.behind < more_pieces most is.at.block) × (p.exit ≡ Goto (suc (place is.at.number + is.at.behind)))) → GoesBelow (length whole) p.exit
           go (inl last) = subst (λ x. GoesBelow (length whole) x) (sym last.1) (goes_below is.at.block.exit (linked.by is.at.number is.at.block is.at.there))
           go (inr other) =
-              let lt = other.0 in
-              let next = piece_there is.at.number is.at.block is.at.there (suc is.at.behind) (omega (arith, lt)) in
+              let next = piece_there is.at.number is.at.block is.at.there (suc is.at.behind) (omega (arith, other.0)) in
               subst (λ x. GoesBelow (length whole) x) (sym other.1) (omega (arith, next))
 
   module _ (owner : List ℕ) (owners : AreOwners blocks owner) where
@@ -136,8 +131,7 @@ module _ (most : ℕ) (some : 0 < most) (blocks : List BlockParts) where
     owner_moved : (t o : ℕ) → slice_get owner t ≡ Some o → slice_get owned (place t) ≡ Some (place o)
     owner_moved t o is =
         let low = slice_get_within owner t o is in
-        let same = owners.lengths in
-        let b = block_there blocks t (omega (arith, low, same)) in
+        let b = block_there blocks t (omega (arith, low, owners.lengths)) in
         let here : place t ≡ place t + 0 = omega arith in
         ap (slice_get owned) here ∙ piece_owner t o b.0 b.1 is 0 (omega arith)
 
@@ -157,11 +151,9 @@ module _ (most : ℕ) (some : 0 < most) (blocks : List BlockParts) where
     owned_at : (i : ℕ) → i < total most blocks → Owned i
     owned_at i lt =
         let at = located most 0 blocks i lt in
-        let found = at.is in
-        let is : i ≡ place at.number + at.behind = omega (arith, found) in
+        let is : i ≡ place at.number + at.behind = omega (arith, at.is) in
         let low = slice_get_within blocks at.number at.block at.there in
-        let same = owners.lengths in
-        let o = block_there owner at.number (omega (arith, low, same)) in
+        let o = block_there owner at.number (omega (arith, low, owners.lengths)) in
         record {
           at = at;
           is = is;
@@ -178,8 +170,7 @@ module _ (most : ℕ) (some : 0 < most) (blocks : List BlockParts) where
         by_piece q =
             let n = q.at.number in
             let low = slice_get_within blocks n q.at.block q.at.there in
-            let same = owners.lengths in
-            let w = block_there owner n (omega (arith, low, same)) in
+            let w = block_there owner n (omega (arith, low, owners.lengths)) in
             let o_is : place w.0 ≡ o =
             same_Some (place w.0) o
             (sym (piece_owner n w.0 q.at.block q.at.there w.1 q.at.behind q.at.within) ∙ sym (ap (slice_get owned) q.is) ∙ is) in
@@ -199,9 +190,8 @@ module _ (most : ℕ) (some : 0 < most) (blocks : List BlockParts) where
         ap place first ∙ omega (arith, e)
     starts_first w (suc m) j is e =
         let low = slice_get_within owner (suc m) w is in
-        let same = owners.lengths in
-        let a = block_there blocks m (omega (arith, low, same)) in
-        let b = block_there blocks (suc m) (omega (arith, low, same)) in
+        let a = block_there blocks m (omega (arith, low, owners.lengths)) in
+        let b = block_there blocks (suc m) (omega (arith, low, owners.lengths)) in
         let next = first_next most 0 blocks m a.0 b.0 a.1 b.1 in
         absurd (omega (arith, next, e))
 
@@ -224,8 +214,7 @@ module _ (most : ℕ) (some : 0 < most) (blocks : List BlockParts) where
         by_test false same =
             let before : slice_get owner m ≡ Some w = owners.continues (suc m) w is (λ at. true≢false (sym (eq-eqb w (suc m) at) ∙ same)) in
             let low = slice_get_within owner m w before in
-            let lengths = owners.lengths in
-            let a = block_there blocks m (omega (arith, low, lengths)) in
+            let a = block_there blocks m (omega (arith, low, owners.lengths)) in
             let next = first_next most 0 blocks m a.0 b a.1 there in
             let here : i ≡ place m + more_pieces most a.0 = omega (arith, next, e) in
             ap (slice_get owned) here ∙ piece_owner m w a.0 a.1 before (more_pieces most a.0) (omega arith)

@@ -40,12 +40,6 @@ abbrev pub frame_words : Direction → ℕ → List ℕ → List Plain
 frame_words direction at [] = []
 frame_words direction at (r ∷ rs) = frame_word direction r at ∷ frame_words direction (at + 4) rs
 
-abbrev pub saves : ℕ → List ℕ → List Plain
-saves at rs = frame_words Save at rs
-
-abbrev pub restores : ℕ → List ℕ → List Plain
-restores at rs = frame_words Restore at rs
-
 -- the bytes that a frame takes
 abbrev pub frame_bytes : Bool → Frame → ℕ
 frame_bytes leaf f = 4 * (f.slots + length f.saved.items + link_words leaf)
@@ -58,12 +52,6 @@ abbrev pub frame_link : Direction → Bool → Frame → List Plain
 frame_link direction true f = []
 frame_link direction false f = frame_word direction LINK (link_offset f) ∷ []
 
-abbrev pub link_save : Bool → Frame → List Plain
-link_save leaf f = frame_link Save leaf f
-
-abbrev pub link_load : Bool → Frame → List Plain
-link_load leaf f = frame_link Restore leaf f
-
 -- the stack pointer goes down and up
 abbrev pub step_of : Direction → ℕ → ℤ
 step_of Save n = negsuc (n - 1)
@@ -71,12 +59,6 @@ step_of Restore n = pos n
 
 abbrev pub stack_step : Direction → ℕ → List Plain
 stack_step direction n = if nat_eq n 0 then [] else Imm Addiu STACK_POINTER STACK_POINTER (step_of direction n) ∷ []
-
-abbrev pub lowers : ℕ → List Plain
-lowers n = stack_step Save n
-
-abbrev pub raises : ℕ → List Plain
-raises n = stack_step Restore n
 
 -- n parameters from registers from t on, into the homes of the pseudo-registers from x on
 abbrev pub parameters_code : Locations → (t x n : ℕ) → List Plain
@@ -86,10 +68,11 @@ parameters_code at t x (suc n) = arrive (at x) t ++ parameters_code at (suc t) (
 -- what a function begins with and ends with
 abbrev pub prologue : Bool → Frame → (parameters : ℕ) → List Plain
 prologue leaf f n =
-    lowers (frame_bytes leaf f) ++ ((saves (4 * f.slots) f.saved.items ++ link_save leaf f) ++ parameters_code (locations f) FIRST_ARGUMENT 0 n)
+    stack_step Save (frame_bytes leaf f)
+    ++ ((frame_words Save (4 * f.slots) f.saved.items ++ frame_link Save leaf f) ++ parameters_code (locations f) FIRST_ARGUMENT 0 n)
 
 abbrev pub epilogue : Bool → Frame → List Plain
-epilogue leaf f = (restores (4 * f.slots) f.saved.items ++ link_load leaf f) ++ raises (frame_bytes leaf f)
+epilogue leaf f = (frame_words Restore (4 * f.slots) f.saved.items ++ frame_link Restore leaf f) ++ stack_step Restore (frame_bytes leaf f)
 
 -- ---- exits
 
@@ -97,10 +80,7 @@ epilogue leaf f = (restores (4 * f.slots) f.saved.items ++ link_load leaf f) ++ 
 abbrev pub asked_of : RExit → Asked
 asked_of (Branch c t e) = Branched c
 asked_of (Return (Some x)) = Returned x
-asked_of (Return None) = Nothing
-asked_of (Goto b) = Nothing
-asked_of (Call g xs d next) = Nothing
-asked_of (Out x next) = Nothing
+asked_of _ = Nothing
 
 -- what stands before an exit
 abbrev pub exit_code : Bool → Frame → Facts → Last → RExit → List Plain

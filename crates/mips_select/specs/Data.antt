@@ -1,6 +1,6 @@
 -- The bytes of a program's globals, one global after another. A word has its highest byte first. Each global begins at a
 -- multiple of 4, and the bytes between two are 0.
-use Rattle.std.specs.Prelude.{ℕ, zero, suc, ◌+◌, ◌-◌, ◌*◌, ◌%◌, List, [], ◌∷◌, ◌++◌, length, take, drop, slice_index}
+use Rattle.std.specs.Prelude.{ℕ, ◌+◌, ◌-◌, ◌*◌, ◌%◌, List, [], ◌∷◌, ◌++◌, length, take, drop, replicate, slice_index}
 use Rattle.words.specs.declared.width.Width.{Width}
 use Rattle.words.specs.declared.width.Width.TheVariants.{Word, Byte}
 use Rattle.mips_isa.specs.States.{byte_of}
@@ -22,8 +22,7 @@ gap_behind Word n = 0
 gap_behind Byte n = (4 - n % 4) % 4
 
 abbrev pub zeros : ℕ → List ℕ
-zeros zero = []
-zeros (suc n) = 0 ∷ zeros n
+zeros n = replicate n 0
 
 abbrev pub global_bytes : RGlobal → List ℕ
 global_bytes a = elements_bytes a.width (first_values a) ++ zeros (gap_behind a.width a.length)

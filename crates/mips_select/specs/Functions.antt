@@ -24,9 +24,8 @@ GoesWithin bound k n (Goto t) = t < bound
 GoesWithin bound k n (BranchPair test a b t e) = IsFrom k n t × IsFrom k n e
 GoesWithin bound k n (BranchZero test a t e) = IsFrom k n t × IsFrom k n e
 GoesWithin bound k n (Call f next) = (f < bound) × (next < bound)
-GoesWithin bound k n Return = Unit {0}
 GoesWithin bound k n (Out next) = next < bound
-GoesWithin bound k n Halt = Unit {0}
+GoesWithin bound k n _ = Unit {0}
 
 pub record IsFunctionAt (bound k : ℕ) (f : List BlockParts) : Type 0 where
   pub by : (i : ℕ) (b : BlockParts) → slice_get f i ≡ Some b → GoesWithin bound k (length f) b.exit

@@ -1,6 +1,7 @@
 -- What blocks begin with, from how the exits of their function name them.
 use Rattle.std.specs.Prelude.{◌≡◌, ℕ, Bool, true, false, List, [], ◌∷◌, map, Option, Some, None, nat_eq, if◌then◌else◌, slice_get}
-use Rattle.std.specs.Prelude.{slice_set}
+use Rattle.std.specs.Prelude.{slice_set, not}
+use Rattle.std.specs.Option.{is_some}
 use Rattle.std.specs.declared.alloc.Global.{Global}
 use Rattle.std.specs.declared.vec.Vec.{Vec}
 use Rattle.rtl.specs.declared.instruction.RExit.{RExit}
@@ -14,10 +15,8 @@ use Rattle.mips_select.specs.declared.heads.Head.{Head}
 use Rattle.mips_select.specs.declared.heads.Head.TheVariants.{Bare, Enters, Takes}
 
 abbrev pub naming_with_call : Option ℕ → Option Naming → Naming
-naming_with_call d None = Jumped
 naming_with_call d (Some Unnamed) = Called d
-naming_with_call d (Some (Called e)) = Jumped
-naming_with_call d (Some Jumped) = Jumped
+naming_with_call d _ = Jumped
 
 -- an exit names blocks
 abbrev pub note : RExit → List Naming → List Naming
@@ -45,11 +44,9 @@ AreNamed tables funcs = map (λ (t : Vec Naming Global). t.items) tables ≡ map
 
 -- block 0 begins with the prologue if nothing names it, and a block that one call alone names with the store of its result
 abbrev pub head_at : ℕ → Option Naming → Head
-head_at b None = Bare
 head_at b (Some Unnamed) = if nat_eq b 0 then Enters else Bare
-head_at b (Some (Called None)) = Bare
 head_at b (Some (Called (Some d))) = if nat_eq b 0 then Bare else Takes d
-head_at b (Some Jumped) = Bare
+head_at b _ = Bare
 
 abbrev pub heads_in : List Naming → ℕ → Head
 heads_in l b = head_at b (slice_get l b)
@@ -59,11 +56,9 @@ heads_of bs = heads_in (namings bs (unnamed bs))
 
 -- a call goes on at the block itself
 abbrev pub resumes : Option ℕ → Head → Bool
-resumes None Bare = true
-resumes (Some d) Bare = false
+resumes d Bare = not (is_some d)
 resumes d Enters = false
-resumes None (Takes e) = false
-resumes (Some d) (Takes e) = true
+resumes d (Takes e) = is_some d
 
 -- how many blocks stand for a block that is left so
 abbrev pub count : (ℕ → Head) → RExit → ℕ
@@ -71,9 +66,8 @@ count heads (Call g xs d next) = if resumes d (heads next) then 1 else 2
 count heads _ = 1
 
 abbrev pub lead_of : Head → ℕ
-lead_of Bare = 1
 lead_of Enters = 0
-lead_of (Takes d) = 1
+lead_of _ = 1
 
 -- how many blocks stand before those of the blocks of a function
 abbrev pub lead_in : (ℕ → Head) → ℕ

@@ -27,10 +27,9 @@ use Rattle.mips_select.specs.Code.{result_code, prologue, own_block, after_block
 
 -- an argument that is moved into register t isn't in a register that an earlier one was moved into
 abbrev pub IsBehind : Option Home → ℕ → Type 0
-IsBehind None t = Unit {0}
 IsBehind (Some (Reg r)) t = t ≤ r
-IsBehind (Some (Slot k)) t = Unit {0}
 IsBehind (Some (Copied r k)) t = FIRST_TEMPORARY ≤ r
+IsBehind _ t = Unit {0}
 
 abbrev pub AreInOrder : Locations → (t : ℕ) → List ℕ → Type 0
 AreInOrder at t [] = Unit {0}
@@ -38,10 +37,9 @@ AreInOrder at t (x ∷ xs) = IsBehind (at x) t × AreInOrder at (suc t) xs
 
 -- a parameter that comes in register t doesn't go to a register in which a later one comes
 abbrev pub IsClear : Option Home → ℕ → Type 0
-IsClear None t = Unit {0}
 IsClear (Some (Reg r)) t = (r ≤ t) ⊎ (FIRST_TEMPORARY ≤ r)
-IsClear (Some (Slot k)) t = Unit {0}
 IsClear (Some (Copied r k)) t = FIRST_TEMPORARY ≤ r
+IsClear _ t = Unit {0}
 
 abbrev pub AreClear : Locations → (t x n : ℕ) → Type 0
 AreClear at t x zero = Unit {0}

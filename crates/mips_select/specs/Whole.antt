@@ -58,9 +58,8 @@ place_in k bs b = slice_index (numbers_in k bs) b
 
 -- the prologue's block, where block 0 doesn't begin with it
 abbrev pub lead_blocks : Planning → Head → List BlockParts
-lead_blocks p Bare = prologue_block p.leaf p.frame p.parameters (p.place 0) ∷ []
 lead_blocks p Enters = []
-lead_blocks p (Takes d) = prologue_block p.leaf p.frame p.parameters (p.place 0) ∷ []
+lead_blocks p _ = prologue_block p.leaf p.frame p.parameters (p.place 0) ∷ []
 
 -- how the blocks of a function of number k with n parameters are selected
 abbrev pub planning_in : (n k : ℕ) → List RBlock → Frame → Planning

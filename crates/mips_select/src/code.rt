@@ -131,17 +131,11 @@ fn emit_behind(
     ensures { OnOk result (out.new.items ≡ out.old.items ++ behind (planning_of plan.now) exit.now) }
 {
     match exit {
-        RExit::Call(_, _, to, next) => {
-            if resumes(*to, head_at(plan.table, *next as usize)) {
-                return Ok(());
-            }
+        RExit::Call(_, _, to, next) if !resumes(*to, head_at(plan.table, *next as usize)) => {
             let second = block_after(alloc, plan.places, plan.frame, *to, *next)?;
             push(out, second)
         }
-        RExit::Goto(_) => Ok(()),
-        RExit::Branch(_, _, _) => Ok(()),
-        RExit::Return(_) => Ok(()),
-        RExit::Out(_, _) => Ok(()),
+        _ => Ok(()),
     }
 }
 

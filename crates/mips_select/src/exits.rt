@@ -38,10 +38,7 @@ pub(crate) fn next_at(plan: &Plan<'_>, k: usize, exit: &RExit) -> BlockNumber
                 number(k + 1)
             }
         }
-        RExit::Goto(_) => number(0),
-        RExit::Branch(_, _, _) => number(0),
-        RExit::Return(_) => number(0),
-        RExit::Out(_, _) => number(0),
+        _ => number(0),
     }
 }
 
@@ -50,12 +47,9 @@ pub(crate) fn asked_of(exit: &RExit) -> Asked
     ensures { result ≡ asked_of exit.now }
 {
     match exit {
-        RExit::Goto(_) => Asked::Nothing,
         RExit::Branch(c, _, _) => Asked::Branched(*c),
-        RExit::Call(_, _, _, _) => Asked::Nothing,
-        RExit::Return(None) => Asked::Nothing,
         RExit::Return(Some(x)) => Asked::Returned(*x),
-        RExit::Out(_, _) => Asked::Nothing,
+        _ => Asked::Nothing,
     }
 }
 
@@ -112,7 +106,7 @@ fn emit_returned(
     emit_departure(code, facts, last.fresh, frame, register(RESULT), x)
 }
 
-/// Emits what stands before the exit of a block, whose call goes on at `next`, and returns the exit. A call goes on at `next`.
+/// Emits what stands before the exit of a block, whose call goes on at `next`, and returns the exit.
 pub(crate) fn emit_exit(
     code: &mut Vec<Plain>,
     facts: &Knowledge,

@@ -6,7 +6,6 @@ ghost use Rattle.mips_emit.specs.Frames.{IsReachable};
 ghost use Rattle.mips_select.specs.Heads.{heads_in, namings_of, AreNamed};
 ghost use Rattle.mips_select.specs.Plans.{linking_of, planning_of};
 ghost use Rattle.mips_select.specs.Code.{start_block, end_block};
-ghost use Rattle.mips_select.specs.declared.heads.Head.TheVariants.{Bare};
 ghost use Rattle.mips_select.specs.Emittable.{AreEmittable, AreReachable, IsFunctionEmittable, AreFunctionsEmittable};
 ghost use Rattle.mips_select.specs.Whole.{size_of_blocks, blocks_from, lead_blocks, function_size, functions_size, function_blocks};
 ghost use Rattle.mips_select.specs.Whole.{functions_blocks};
@@ -50,20 +49,6 @@ fn emit_blocks(
     Ok(())
 }
 
-/// Emits a block of the prologue.
-fn emit_prologue_block(
-    alloc: Global,
-    out: &mut Vec<LongBlock>,
-    plan: &Plan<'_>,
-) -> Result<(), AllocError>
-    ensures { OnOk result (out.new.items ≡ out.old.items ++ lead_blocks (planning_of plan.now) Bare) }
-{
-    let mut insts = Vec::new(alloc);
-    emit_prologue(&mut insts, plan.frame, plan.leaf, plan.parameters)?;
-    let first = number_at(plan.places, 0);
-    push(out, LongBlock::new(insts, Exit::Goto(first)))
-}
-
 /// Emits the prologue's block, where block 0 doesn't begin with it.
 fn emit_lead(
     alloc: Global,
@@ -75,8 +60,12 @@ fn emit_lead(
 {
     match head {
         Head::Enters => Ok(()),
-        Head::Bare => emit_prologue_block(alloc, out, plan),
-        Head::Takes(_) => emit_prologue_block(alloc, out, plan),
+        _ => {
+            let mut insts = Vec::new(alloc);
+            emit_prologue(&mut insts, plan.frame, plan.leaf, plan.parameters)?;
+            let first = number_at(plan.places, 0);
+            push(out, LongBlock::new(insts, Exit::Goto(first)))
+        }
     }
 }
 

@@ -34,9 +34,7 @@ fn naming_with_call(d: Option<Register>, before: Option<Naming>) -> Naming
 {
     match before {
         Some(Naming::Unnamed) => Naming::Called(d),
-        Some(Naming::Called(_)) => Naming::Jumped,
-        Some(Naming::Jumped) => Naming::Jumped,
-        None => Naming::Jumped,
+        _ => Naming::Jumped,
     }
 }
 
@@ -44,10 +42,7 @@ fn naming_with_call(d: Option<Register>, before: Option<Naming>) -> Naming
 fn naming_at(table: &[Naming], b: usize) -> Option<Naming>
     ensures { result ≡ slice_get table.now b }
 {
-    match table.get(b) {
-        Some(s) => Some(*s),
-        None => None,
-    }
+    table.get(b).copied()
 }
 
 /// Marks the block in the table, if there is such a block.
@@ -105,11 +100,9 @@ pub(crate) fn head_at(table: &[Naming], b: usize) -> Head
     ensures { result ≡ heads_in table.now b }
 {
     match naming_at(table, b) {
-        Some(Naming::Unnamed) => { if b == 0 { Head::Enters } else { Head::Bare } }
-        Some(Naming::Called(Some(d))) => { if b == 0 { Head::Bare } else { Head::Takes(d) } }
-        Some(Naming::Called(None)) => Head::Bare,
-        Some(Naming::Jumped) => Head::Bare,
-        None => Head::Bare,
+        Some(Naming::Unnamed) if b == 0 => Head::Enters,
+        Some(Naming::Called(Some(d))) if b != 0 => Head::Takes(d),
+        _ => Head::Bare,
     }
 }
 
@@ -118,15 +111,9 @@ pub(crate) fn resumes(d: Option<Register>, head: Head) -> bool
     ensures { result ≡ resumes d head }
 {
     match head {
-        Head::Bare => match d {
-            None => true,
-            Some(_) => false,
-        },
+        Head::Bare => d.is_none(),
         Head::Enters => false,
-        Head::Takes(_) => match d {
-            None => false,
-            Some(_) => true,
-        },
+        Head::Takes(_) => d.is_some(),
     }
 }
 
@@ -144,10 +131,7 @@ pub(crate) fn count_of(table: &[Naming], exit: &RExit) -> usize
                 2
             }
         }
-        RExit::Goto(_) => 1,
-        RExit::Branch(_, _, _) => 1,
-        RExit::Return(_) => 1,
-        RExit::Out(_, _) => 1,
+        _ => 1,
     }
 }
 
@@ -157,8 +141,7 @@ pub(crate) fn lead_in(table: &[Naming]) -> usize
     ensures few { result ≤ 1 }
 {
     match head_at(table, 0) {
-        Head::Bare => 1,
         Head::Enters => 0,
-        Head::Takes(_) => 1,
+        _ => 1,
     }
 }

@@ -31,11 +31,7 @@ pub(crate) fn number(n: usize) -> BlockNumber
 pub(crate) fn number_at(table: &[BlockNumber], i: u32) -> BlockNumber
     ensures { result ≡ slice_index table.now i }
 {
-    if (i as usize) < table.len() {
-        table[i as usize]
-    } else {
-        number(0)
-    }
+    table.get(i as usize).copied().unwrap_or(number(0))
 }
 
 /// Pushes one number, several times.

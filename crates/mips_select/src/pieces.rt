@@ -12,7 +12,7 @@ ghost use Rattle.mblock.specs.Units.{AreLinked, AreOwners, unit_parts};
 
 use crate::fault::SelectFault;
 use crate::long::LongBlock;
-use crate::numbers::{number, push_copies};
+use crate::numbers::{number, number_at, push_copies};
 use crate::push::push;
 use mblock::{BLOCK_INSTS, Block, BlockNumber, Exit, UNIT_BLOCKS, Unit};
 use mips_isa::Plain;
@@ -57,37 +57,25 @@ pub(crate) fn first_pieces(
     Ok(numbers)
 }
 
-/// Returns a number of the table, 0 after its end.
-fn number_at(numbers: &[BlockNumber], n: BlockNumber) -> BlockNumber
-    ensures { result ≡ slice_index numbers.now n }
-{
-    let i = n.number() as usize;
-    if i < numbers.len() {
-        numbers[i]
-    } else {
-        number(0)
-    }
-}
-
 /// Returns the exit with the numbers of pieces.
 fn renumber(numbers: &[BlockNumber], mut exit: Exit) -> Exit
     ensures { result ≡ renumbered_exit (λ n. slice_index numbers.now n) exit }
 {
     match &mut exit {
-        Exit::Goto(next) => *next = number_at(numbers, *next),
+        Exit::Goto(next) => *next = number_at(numbers, next.number()),
         Exit::BranchPair { then, other, .. } => {
-            *then = number_at(numbers, *then);
-            *other = number_at(numbers, *other);
+            *then = number_at(numbers, then.number());
+            *other = number_at(numbers, other.number());
         }
         Exit::BranchZero { then, other, .. } => {
-            *then = number_at(numbers, *then);
-            *other = number_at(numbers, *other);
+            *then = number_at(numbers, then.number());
+            *other = number_at(numbers, other.number());
         }
         Exit::Call { function, next } => {
-            *function = number_at(numbers, *function);
-            *next = number_at(numbers, *next);
+            *function = number_at(numbers, function.number());
+            *next = number_at(numbers, next.number());
         }
-        Exit::Out(next) => *next = number_at(numbers, *next),
+        Exit::Out(next) => *next = number_at(numbers, next.number()),
         Exit::Return | Exit::Halt => {}
     }
     exit
@@ -187,7 +175,7 @@ fn owners_of(
 {
     let mut owners = Vec::with_capacity(alloc, long.len())?;
     for i in 0..long.len() {
-        let first = number_at(numbers, owner[i]);
+        let first = number_at(numbers, owner[i].number());
         push_copies(&mut owners, first, 1 + count_more(&long[i]))?;
     }
     Ok(owners)

@@ -64,11 +64,8 @@ fn size_of_frame(frame: &Frame, leaf: bool) -> u32
     ensures size { result ≡ frame_bytes leaf frame.now }
     ensures small { result ≤ FRAME_BYTES }
 {
-    if leaf {
-        4 * (frame.slots + frame.saved.len() as u32)
-    } else {
-        4 * (frame.slots + frame.saved.len() as u32 + 1)
-    }
+    let link = if leaf { 0 } else { 1 };
+    4 * (frame.slots + frame.saved.len() as u32 + link)
 }
 
 /// Returns how far the stack pointer goes.

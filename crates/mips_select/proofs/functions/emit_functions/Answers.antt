@@ -7,10 +7,9 @@ use Rattle.mips_select.proofs.functions.emit_functions.Goals as goal
 
 pub emit_function-requires-clause-number : goal.emit_function-requires-clause-number
 emit_function-requires-clause-number c =
-    let len = c.len-k.ensures in
     let room = functions_room _ c.loop-i.i _ c.args.functions.now c.index-functions-i.result c.loop-i-test.true c.index-functions-i.is c.loop-i.invariant.0
     c.requires.number in
-    omega (arith, room, len)
+    omega (arith, room, c.len-k.ensures)
 
 pub bounds-namings-i : goal.bounds-namings-i
 bounds-namings-i c = (let long = named_long _ _ c.requires.named in let lt = c.loop-i-test.true in omega (arith, long, lt))
@@ -21,9 +20,8 @@ emit_function-requires-clause-named c = c.as_slice-table.ensures.value
 
 pub emit_function-requires-clause-frame : goal.emit_function-requires-clause-frame
 emit_function-requires-clause-frame c =
-    let lt = c.loop-i-test.true in
     let same = c.requires.lengths in
-    (c.requires.frames).by c.loop-i.i c.index-frames-i.result (read_at _ c.loop-i.i _ (omega (arith, lt, same)) c.index-frames-i.is)
+    (c.requires.frames).by c.loop-i.i c.index-frames-i.result (read_at _ c.loop-i.i _ (omega (arith, c.loop-i-test.true, same)) c.index-frames-i.is)
 
 pub emit_function-requires-clause-function : goal.emit_function-requires-clause-function
 emit_function-requires-clause-function c = (c.requires.functions).by c.loop-i.i c.index-functions-i.result
@@ -31,10 +29,9 @@ emit_function-requires-clause-function c = (c.requires.functions).by c.loop-i.i 
 
 pub loop-i-preserved : goal.loop-i-preserved
 loop-i-preserved c =
-    let len = c.len-k.ensures in
     functions_step _ c.loop-i.i _ c.args.functions.now c.args.frames.now c.index-functions-i.result c.index-frames-i.result c.loop-i.out.items _ _
     c.len-k.result c.loop-i-test.true c.requires.lengths c.index-functions-i.is c.index-frames-i.is
-    (omega (arith, len)) c.in_ok-emit_function.ensures c.loop-i.invariant
+    (omega (arith, c.len-k.ensures)) c.in_ok-emit_function.ensures c.loop-i.invariant
 
 pub returns : goal.returns
 returns c =

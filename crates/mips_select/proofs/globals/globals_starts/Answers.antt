@@ -11,10 +11,9 @@ loop-global-preserved c =
     let i = c.loop-global.global-index in
     let rest = drop (i + 1) c.args.globals.now in
     let words = c.words_of.ensures in
-    let room = c.loop-global.invariant.0 in
     let sizes = sum_by-drop_more word_count c.args.globals.now i c.global-item.result c.loop-global-test.true in
     let one = ap word_count c.global-item.is in (
-      omega (arith, room, words, sizes, one),
+      omega (arith, c.loop-global.invariant.0, words, sizes, one),
       made_more (starts_from n) c.args.globals.now i c.global-item.result _ _ (n ∷ []) (starts_from (n + 4 * c.words_of.result) rest) _
           c.loop-global-test.true c.global-item.is (ap (λ w. n ∷ starts_from (n + 4 * w) rest) (sym words)) c.in_ok-push.ensures
           c.loop-global.invariant.1,

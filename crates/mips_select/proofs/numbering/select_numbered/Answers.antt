@@ -8,9 +8,7 @@ block_numbers-requires-clause-small c = λ g func there. function_blocks_few _ _
 
 pub block_numbers-requires-clause-number : goal.block_numbers-requires-clause-number
 block_numbers-requires-clause-number c =
-    let same = ap functions_size c.functions.ensures.value in
-    let few = c.in_ok-long.ensures.few in
-    omega (arith, same, few)
+    omega (arith, ap functions_size c.functions.ensures.value, c.in_ok-long.ensures.few)
 
 pub returns-in_err-long-clause-limit : goal.returns-in_err-long-clause-limit
 returns-in_err-long-clause-limit c = told_beyond _ _ c.from_residual-in_err-long.ensures.1 c.in_ok-homed.ensures.lent c.in_ok-homed.ensures.places c.in_err-long.ensures.limit

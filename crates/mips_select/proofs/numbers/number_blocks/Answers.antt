@@ -18,8 +18,7 @@ pub overflow_add-k : goal.overflow_add-k
 overflow_add-k c =
     let room = block_room (heads_in c.args.table.now) c.loop-block.k c.loop-block.block-index _ c.args.blocks.now c.block-item.result c.loop-block-test.true
     c.block-item.is c.loop-block.invariant.0 in
-    let size = c.count_of-k.ensures.value in
-    omega (arith, room, size)
+    omega (arith, room, c.count_of-k.ensures.value)
 
 pub loop-block-preserved : goal.loop-block-preserved
 loop-block-preserved c =

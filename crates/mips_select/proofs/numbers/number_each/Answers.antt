@@ -27,8 +27,7 @@ pub overflow_add-k : goal.overflow_add-k
 overflow_add-k c =
     let room = functions_room c.loop-i.k c.loop-i.i _ c.args.functions.now c.index-functions-i.result c.loop-i-test.true c.index-functions-i.is
     c.loop-i.invariant.0 c.requires.number in
-    let size = c.in_ok-size.ensures.size in
-    omega (arith, room, size)
+    omega (arith, room, c.in_ok-size.ensures.size)
 
 pub returns : goal.returns
 returns c = all_made (numbers_from c.loop-i.k) c.args.functions.now c.loop-i.i _ _ c.loop-i-test.false refl c.loop-i.invariant.1

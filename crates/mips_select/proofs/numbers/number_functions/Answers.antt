@@ -28,26 +28,19 @@ count_function-size-requires-clause-few c =
 
 pub number-requires : goal.number-requires
 number-requires c =
-    let some = function_some c.func-item.result.blocks.items in
-    let size = c.count_function-size.ensures.value in
-    let room = c.if-size-k.false in
-    omega (arith, some, size, room)
+    omega (arith, function_some c.func-item.result.blocks.items, c.count_function-size.ensures.value, c.if-size-k.false)
 
 pub returns-then-size-k-clause-limit : goal.returns-then-size-k-clause-limit
 returns-then-size-k-clause-limit c = λ _.
     let sizes = at_drop_more functions_size c.args.functions.now c.loop-func.func-index c.func-item.result c.loop-func-test.true in
     let one = ap (λ (f : RFunc). function_size f) c.func-item.is in
-    let size = c.count_function-size.ensures.value in
-    let counted = c.loop-func.invariant.1 in
-    let over = c.if-size-k.true in
-    omega (arith, sizes, one, size, counted, over)
+    omega (arith, sizes, one, c.count_function-size.ensures.value, c.loop-func.invariant.1, c.if-size-k.true)
 
 pub loop-func-preserved : goal.loop-func-preserved
 loop-func-preserved c =
-    let room = c.if-size-k.false in
     numbered_step _ c.loop-func.func-index _ _ c.args.functions.now c.func-item.result _ _ _ _ c.in_ok-table.table _ _ _ _ _ _ _ c.loop-func-test.true
     c.func-item.is (c.in_ok-table.ensures ∙ ap (λ bs. namings bs (unnamed bs)) c.as_slice.ensures.value) c.count_function-size.ensures.value
-    c.number.ensures (omega (arith, room)) c.in_ok-push_function.ensures.namings c.in_ok-push_function.ensures.entries
+    c.number.ensures (omega (arith, c.if-size-k.false)) c.in_ok-push_function.ensures.namings c.in_ok-push_function.ensures.entries
     c.in_ok-push_function.ensures.owners c.loop-func.invariant
 
 pub returns-clause-namings : goal.returns-clause-namings
@@ -64,6 +57,4 @@ returns-clause-owners c = all_made (owners_from c.loop-func.k) c.args.functions.
 pub returns-clause-few : goal.returns-clause-few
 returns-clause-few c =
     let none = at_drop_all functions_size c.args.functions.now c.loop-func.func-index c.loop-func-test.false in
-    let room = c.loop-func.invariant.0 in
-    let counted = c.loop-func.invariant.1 in
-    omega (arith, none, room, counted)
+    omega (arith, none, c.loop-func.invariant.0, c.loop-func.invariant.1)

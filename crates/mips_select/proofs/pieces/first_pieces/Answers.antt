@@ -13,9 +13,8 @@ loop-block-preserved c =
     let k = c.loop-block.k in
     let before = c.loop-block.numbers.items in
     let one = ap (λ (b : BlockParts). count_of 512 b) c.block-item.is in
-    let more = c.count_more-more.ensures.value in
     let sizes = at_drop_more (total 512) long i b c.loop-block-test.true in
-    let count : 1 + c.count_more-more.result ≡ count_of 512 (get_or long i b) = omega (arith, one, more) in
+    let count : 1 + c.count_more-more.result ≡ count_of 512 (get_or long i b) = omega (arith, one, c.count_more-more.ensures.value) in
     let counts = c.loop-block.invariant.counts in
     let rest = λ (m : ℕ). firsts 512 (k + m) (drop (i + 1) long) in
     record {
@@ -31,10 +30,8 @@ pub returns-then-is_beyond-clause-limit : goal.returns-then-is_beyond-clause-lim
 returns-then-is_beyond-clause-limit c = λ _.
     let sizes = at_drop_more (total 512) c.args.long.now c.loop-block.block-index c.block-item.result c.loop-block-test.true in
     let one = ap (λ (b : BlockParts). count_of 512 b) c.block-item.is in
-    let more = c.count_more-more.ensures.value in
-    let counts = c.loop-block.invariant.counts in
     let over = c.is_beyond.ensures.0 c.if-is_beyond.true in
-    omega (arith, sizes, one, more, counts, over)
+    omega (arith, sizes, one, c.count_more-more.ensures.value, c.loop-block.invariant.counts, over)
 
 pub returns-clause-numbers : goal.returns-clause-numbers
 returns-clause-numbers c =
