@@ -4,7 +4,7 @@ use Rattle.std.proofs.Common.{◌&&◌, Some, refl, sym, ap, ap₂, ◌∙◌, s
 use Rattle.std.proofs.Common.{ltb-true, get_or}
 use mathlib.Core.Path.{fun_ext}
 use Rattle.std.specs.Prelude.{if◌then◌else◌, slice_get}
-use Rattle.std.proofs.lemmas.Bool.{cases_lt}
+use Rattle.std.proofs.lemmas.Bool.{cases_lt, false_from_ne_true}
 use Rattle.std.proofs.lemmas.Option.{slice_get_within, same_Some}
 use Rattle.rtl.proofs.Names.{bound_one, bound_least}
 use Rattle.rtl.specs.Names.{bound, blocks_names, how_many, uses_of}
@@ -22,7 +22,7 @@ use Rattle.mips_homes.specs.declared.homed.Frame.{Frame}
 use Rattle.mips_homes.specs.declared.homed.Homed.{Homed}
 use Rattle.rtl.specs.declared.block.RFunc.{RFunc}
 
-in_at : (xs : List ℕ) (x : ℕ) → is_in xs x ≡ true → (j : ℕ) × (slice_get xs j ≡ Some x)
+pub in_at : (xs : List ℕ) (x : ℕ) → is_in xs x ≡ true → (j : ℕ) × (slice_get xs j ≡ Some x)
 in_at [] x e = absurd (true≢false (sym e))
 in_at (z ∷ xs) x e = by (nat_eq x z) refl (λ e. in_at xs x e)
   where
@@ -36,12 +36,11 @@ members : (n : ℕ) (best : List ℕ) → ((i j x : ℕ) → slice_get best i �
 members n [] once low = count_none (is_in []) n (λ y lt. refl)
 members n (b ∷ bs) once low =
     count_more (is_in (b ∷ bs)) (is_in bs) n b (low 0 b refl) (λ y lt ne. ap (λ c. c || is_in bs y) (ne_eqb y b ne))
-    (is_in_at (b ∷ bs) 0 b refl) (by (is_in bs b) refl)
+    (is_in_at (b ∷ bs) 0 b refl) (false_from_ne_true (is_in bs b) again)
     ∙ ap suc (members n bs (λ i j x p q. (let e = once (suc i) (suc j) x p q in omega (arith, e))) (λ j x p. low (suc j) x p))
   where
-    by : (c : Bool) → is_in bs b ≡ c → is_in bs b ≡ false
-    by false e = e
-    by true e = (let there = in_at bs b e in let at = once 0 (suc there.0) b refl there.1 in absurd (omega (arith, at)))
+    again : is_in bs b ≡ true → ⊥
+    again e = (let there = in_at bs b e in let at = once 0 (suc there.0) b refl there.1 in absurd (omega (arith, at)))
 
 -- the slots grow
 slot_below : (best : List ℕ) (x y : ℕ) → x < y → is_in best x ≡ false → count_below (is_in best) y + x + 1 ≤ count_below (is_in best) x + y
@@ -112,11 +111,10 @@ choice func frame best ok made first = record {
         let rank_x = ((ok.ranked).at is.0 x is.2).1 in
         let low = place_low is.0 x is.2 in
         sym (lt-ltb (rank (uses_of func) (how_many func) x) 8 (omega (arith, low, rank_x)))
-    chosen x (Slot k) is lt = sym (by (nat_lt (rank (uses_of func) (how_many func) x) 8) refl)
+    chosen x (Slot k) is lt = sym (false_from_ne_true (nat_lt (rank (uses_of func) (how_many func) x) 8) out)
       where
-        by : (c : Bool) → nat_lt (rank (uses_of func) (how_many func) x) 8 ≡ c → nat_lt (rank (uses_of func) (how_many func) x) 8 ≡ false
-        by false e = e
-        by true e =
+        out : nat_lt (rank (uses_of func) (how_many func) x) 8 ≡ true → ⊥
+        out e =
             let low = ltb-true (rank (uses_of func) (how_many func) x) 8 e in
             let long = ok.all x lt is.0 in
             let at = in_best (uses_of func) (how_many func) best x ok.ranked lt (omega (arith, low, long)) in
@@ -140,26 +138,22 @@ choice func frame best ok made first = record {
         let e = is.1 in
         let low = place_low is.0 x is.2 in
         let inside = slice_get_within best is.0 x is.2 in
-        let long = first.long in
-        let there = at_index frame.saved.items is.0 (omega (arith, inside, long)) in
+        let there = at_index frame.saved.items is.0 (omega (arith, inside, first.long)) in
         ((omega (arith, e), omega (arith, e, low)), is_in_at frame.saved.items is.0 r (there.1 ∙ ap Some (first.by is.0 there.0 there.1 ∙ sym e)))
 
     saved : (j r : ℕ) → slice_get frame.saved.items j ≡ Some r → (x : ℕ) × (slice_get frame.homes.items x ≡ Some (Reg r))
     saved j r got =
         let inside = slice_get_within frame.saved.items j r got in
-        let long = first.long in
-        let there = at_index best j (omega (arith, inside, long)) in
+        let there = at_index best j (omega (arith, inside, first.long)) in
         let x_low = ((ok.ranked).at j there.0 there.1).0 in
-        let homes_long = made.long in
-        let home = at_index frame.homes.items there.0 (omega (arith, x_low, homes_long)) in
+        let home = at_index frame.homes.items there.0 (omega (arith, x_low, made.long)) in
         (there.0, home.1 ∙ ap Some (reg there.0 home.0 there.1 (made.by there.0 home.0 home.1)))
       where
         reg : (x : ℕ) (h : Home) → slice_get best j ≡ Some x → IsHome best x h → h ≡ Reg r
         reg x (Reg q) at is =
             let a = once is.0 j x is.2 at in
-            let b = is.1 in
             let c = first.by j r got in
-            let e : q ≡ r = omega (arith, a, b, c) in
+            let e : q ≡ r = omega (arith, a, is.1, c) in
             ap Reg e
         reg x (Slot k) at is = absurd (true≢false (sym (is_in_at best j x at) ∙ is.0))
         reg x (Copied q k) at is = absurd is
@@ -233,8 +227,7 @@ pub all_serve : (h : Homed) → AreChoices h → AreAllHomes h
 all_serve h is = record {
   by = λ i func got.
       (let inside = slice_get_within (h.rtl.now).functions i func got in
-      let long = is.long in
-      let there = at_index h.frames.items i (omega (arith, inside, long)) in
+      let there = at_index h.frames.items i (omega (arith, inside, is.long)) in
       (there.0, there.1, serves func there.0 (is.by i func there.0 got there.1)));
 }
 

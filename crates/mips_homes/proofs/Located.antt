@@ -2,7 +2,7 @@
 use Rattle.std.proofs.Common.{◌≡◌, ℕ, zero, suc, ◌+◌, ◌<◌, ◌≤◌, ◌⊎◌, inl, inr, Bool, true, false, ◌&&◌, List, [], ◌∷◌, ◌++◌}
 use Rattle.std.proofs.Common.{Some, refl, sym, ap, ◌∙◌, subst, arith, length, nat_eq, nat_lt, true≢false, eqb-true, ltb-true, leb-true, eq-eqb}
 use Rattle.std.specs.Prelude.{if◌then◌else◌, ◌||◌, max, Option, None, nat_le, not, slice_get}
-use Rattle.std.proofs.lemmas.Bool.{and_parts, ltb-false}
+use Rattle.std.proofs.lemmas.Bool.{and_parts, or_parts, or_from, or_right, not-true, le-ltb, ltb-false}
 use Rattle.std.proofs.lemmas.Option.{slice_get_within, same_Some, none-some}
 use Rattle.rtl.specs.Names.{blocks_names, how_many, optional}
 use Rattle.mips_homes.specs.HomedRun.{is_in, is_callee_saved, homed_run}
@@ -49,19 +49,11 @@ in_also taken (Some q) r e = go taken e
   where
     go : (xs : List ℕ) → is_in (xs ++ q ∷ []) r ≡ false → is_in xs r ≡ false
     go [] e = refl
-    go (x ∷ xs) e = by (nat_eq r x) (go xs) e
-      where
-        by : (c : Bool) → (is_in (xs ++ q ∷ []) r ≡ false → is_in xs r ≡ false) → (c || is_in (xs ++ q ∷ []) r) ≡ false → (c || is_in xs r) ≡ false
-        by true rest e = absurd (true≢false e)
-        by false rest e = rest e
+    go (x ∷ xs) e = let parts = or_parts (nat_eq r x) (is_in (xs ++ q ∷ []) r) e in or_from (nat_eq r x) (is_in xs r) parts.0 (go xs parts.1)
 
 pub also_in : (taken : List ℕ) (r : ℕ) → is_in (also taken (Some r)) r ≡ true
 also_in [] r = ap (λ c. c || false) (eq-eqb r r refl)
-also_in (x ∷ xs) r = by (nat_eq r x) (also_in xs r)
-  where
-    by : (c : Bool) → is_in (xs ++ r ∷ []) r ≡ true → (c || is_in (xs ++ r ∷ []) r) ≡ true
-    by true rest = refl
-    by false rest = rest
+also_in (x ∷ xs) r = or_right (nat_eq r x) (is_in (xs ++ r ∷ []) r) (also_in xs r)
 
 -- the first one that is free is one of them, and isn't taken
 first_is : (taken rs : List ℕ) (r : ℕ) → first_free taken rs ≡ Some r → (is_in taken r ≡ false) × (is_in rs r ≡ true)
@@ -121,15 +113,8 @@ same_register q r e = cc
 abbrev pub ArePreferences : (ℕ → Option ℕ) → Type 0
 ArePreferences preference = (x r : ℕ) → preference x ≡ Some r → (4 ≤ r) × (r < 8)
 
-ge-ltb : (a b : ℕ) → b ≤ a → nat_lt a b ≡ false
-ge-ltb a b le = go (nat_lt a b) refl
-  where
-    go : (c : Bool) → nat_lt a b ≡ c → c ≡ false
-    go true e = let lt = ltb-true a b e in absurd (omega (arith, lt, le))
-    go false e = refl
-
 low_caller_saved : (r : ℕ) → r < 8 → is_callee_saved r ≡ false
-low_caller_saved r lt = ap (λ c. c && nat_lt r 24) (ge-ltb 15 r (omega (arith, lt)))
+low_caller_saved r lt = ap (λ c. c && nat_lt r 24) (le-ltb 15 r (omega (arith, lt)))
 
 -- one of these, or of the others
 is_or : {A : Type 0} (q r : ℕ) (rest : Bool) → (q ≡ r → A) → (rest ≡ true → A) → (nat_eq r q || rest) ≡ true → A
@@ -153,11 +138,7 @@ is_caller_saved : (r : ℕ) → temporary_test r ≡ true → IsTemporary r
 is_caller_saved r e =
     let low = and_parts (nat_le 8 r) (nat_lt r 28 && not (is_callee_saved r)) e in
     let high = and_parts (nat_lt r 28) (not (is_callee_saved r)) low.1 in
-    (leb-true 8 r low.0, ltb-true r 28 high.0, no_true (is_callee_saved r) high.1)
-  where
-    no_true : (b : Bool) → not b ≡ true → b ≡ false
-    no_true true e = absurd (true≢false (sym e))
-    no_true false e = refl
+    (leb-true 8 r low.0, ltb-true r 28 high.0, not-true (is_callee_saved r) high.1)
 
 each_temporary : (rs : List ℕ) → all_temporary rs ≡ true → (r : ℕ) → is_in rs r ≡ true → IsTemporary r
 each_temporary [] all r e = absurd (true≢false (sym e))
@@ -285,17 +266,13 @@ preference_is n bs x r e = by (nat_lt x n) (nat_le (blocks_reach bs x) (suc x)) 
     by true true eb ec e =
         let range = register_range (suc x) r e in
         let is = range.0 in
-        let high = range.2 in
         let le = leb-true (blocks_reach bs x) (suc x) ec in
-        (omega (arith, is), omega (arith, is, high), omega (arith, is, le), λ lt. omega (arith, is))
+        (omega (arith, is), omega (arith, is, range.2), omega (arith, is, le), λ lt. omega (arith, is))
     by true false eb ec e = absurd (none-some r e)
     by false c eb ec e =
         let range = register_range (blocks_reach bs x) r e in
-        let is = range.0 in
-        let low = range.1 in
-        let high = range.2 in
         let out = ltb-false x n eb in
-        (omega (arith, is, low), omega (arith, is, high), omega (arith, is), λ lt. absurd (omega (arith, lt, out)))
+        (omega (arith, range.0, range.1), omega (arith, range.0, range.2), omega (arith, range.0), λ lt. absurd (omega (arith, lt, out)))
 
 pub preferences_range : (n : ℕ) (bs : List RBlock) → ArePreferences (preference n bs)
 preferences_range n bs x r e = let is = preference_is n bs x r e in (is.0, is.1)
@@ -308,9 +285,7 @@ reach_covers n (y ∷ ys) zero x e = by (nat_eq x y) (eq-eqb x y (sym (same_Some
     by : (c : Bool) → c ≡ true → n + 1 ≤ max (if c then suc n else 0) (reach_from (suc n) ys x)
     by true c = omega arith
     by false c = absurd (true≢false (sym c))
-reach_covers n (y ∷ ys) (suc j) x e =
-    let rest = reach_covers (suc n) ys j x e in
-    omega (arith, rest)
+reach_covers n (y ∷ ys) (suc j) x e = omega (arith, reach_covers (suc n) ys j x e)
 
 pub blocks_cover : (bs : List RBlock) (b : ℕ) (block : RBlock) (x : ℕ) → slice_get bs b ≡ Some block → exit_reach block.exit x ≤ blocks_reach bs x
 blocks_cover [] b block x e = absurd (none-some block e)
@@ -324,11 +299,7 @@ pub lives : (hs : List Home) (x r : ℕ) → slice_get hs x ≡ Some (Reg r) →
 lives [] x r e = absurd (none-some (Reg r) e)
 lives (h ∷ hs) zero r e = ap (λ h. is_register h r || lives_in hs r) (same_Some h (Reg r) e)
     ∙ ap (λ c. c || lives_in hs r) (eq-eqb r r refl)
-lives (h ∷ hs) (suc x) r e = by (is_register h r) (lives hs x r e)
-  where
-    by : (c : Bool) → lives_in hs r ≡ true → (c || lives_in hs r) ≡ true
-    by true rest = refl
-    by false rest = rest
+lives (h ∷ hs) (suc x) r e = or_right (is_register h r) (lives_in hs r) (lives hs x r e)
 
 pub saved_still : (hs : List Home) (rs : List ℕ) (r : ℕ) → is_in rs r ≡ true → lives_in hs r ≡ true → is_in (still_saved hs rs) r ≡ true
 saved_still hs [] r e l = e
@@ -365,11 +336,7 @@ still_few hs (q ∷ rs) = by (still_few hs rs) (lives_in hs q)
 pub has_slot : (hs : List Home) (x : ℕ) (h : Home) → slice_get hs x ≡ Some h → is_slot h ≡ true → some_slot hs ≡ true
 has_slot [] x g e slot = absurd (none-some g e)
 has_slot (h ∷ hs) zero g e slot = ap (λ c. c || some_slot hs) (ap is_slot (same_Some h g e) ∙ slot)
-has_slot (h ∷ hs) (suc x) g e slot = by (is_slot h) (has_slot hs x g e slot)
-  where
-    by : (c : Bool) → some_slot hs ≡ true → (c || some_slot hs) ≡ true
-    by true rest = refl
-    by false rest = rest
+has_slot (h ∷ hs) (suc x) g e slot = or_right (is_slot h) (some_slot hs) (has_slot hs x g e slot)
 
 -- ---- places serve
 
@@ -475,8 +442,7 @@ pub places_keep_runs : (h : Homed) → ArePlaced h → KeepsRtlRuns homed_run h
 places_keep_runs h is = each_homed_run h (record {
   by = λ i func got.
       (let inside = slice_get_within (h.rtl.now).functions i func got in
-      let long = is.long in
-      let there = at_index h.frames.items i (omega (arith, inside, long)) in
+      let there = at_index h.frames.items i (omega (arith, inside, is.long)) in
       let placed = is.by i func there.0 got there.1 in
       (there.0, there.1, placed_serves func placed.choice there.0 placed.is placed.placed));
 })

@@ -3,6 +3,7 @@ use Rattle.std.proofs.Common.{◌≡◌, ◌≢◌, ℕ, zero, suc, ◌+◌, ◌
 use Rattle.std.proofs.Common.{◌∙◌, ap, ap₂, subst, arith, length, nat_eq, nat_lt, eqb-true, eq-eqb, ne_eqb, true≢false}
 use mathlib.Core.Path.{fun_ext}
 use Rattle.std.specs.Prelude.{◌||◌, slice_get, if◌then◌else◌, ◌==◌, map}
+use Rattle.std.proofs.lemmas.Bool.{and_parts, or_right, cond_both}
 use Rattle.words.specs.Words.{wrap}
 use Rattle.runs.specs.Stores.{Places, unset_places, places_with, Arrays, chain, element_at, arrays_with}
 use Rattle.runs.specs.Runs as Runs
@@ -83,11 +84,7 @@ abbrev pub matters : List Home → (ℕ → Bool) → ℕ → Bool
 matters hs wanted x = if is_caller_saved (slice_get hs x) then wanted x else true
 
 matters_if : (hs : List Home) (wanted : ℕ → Bool) (x : ℕ) → wanted x ≡ true → matters hs wanted x ≡ true
-matters_if hs wanted x e = by (is_caller_saved (slice_get hs x))
-  where
-    by : (c : Bool) → (if c then wanted x else true) ≡ true
-    by true = e
-    by false = refl
+matters_if hs wanted x e = cond_both (is_caller_saved (slice_get hs x)) (wanted x) true (λ b. b ≡ true) (λ _. e) (λ _. refl)
 
 -- the homes hold what the pseudo-registers hold, where it matters; what has no home is unset
 pub record Agrees (hs : List Home) (registers slots regs : Places) (wanted : ℕ → Bool) : Type 0 where
@@ -276,11 +273,7 @@ is_in_first : (x : ℕ) (xs : List ℕ) → is_in (x ∷ xs) x ≡ true
 is_in_first x xs = ap (λ c. c || is_in xs x) (eq-eqb x x refl)
 
 pub is_in_later : (x y : ℕ) (xs : List ℕ) → is_in xs x ≡ true → is_in (y ∷ xs) x ≡ true
-is_in_later x y xs e = by (nat_eq x y)
-  where
-    by : (c : Bool) → (c || is_in xs x) ≡ true
-    by true = refl
-    by false = e
+is_in_later x y xs e = or_right (nat_eq x y) (is_in xs x) e
 
 reads_all : (hs : List Home) (registers slots regs : Places) (wanted : ℕ → Bool) (xs : List ℕ) → Agrees hs registers slots regs wanted
     → ((x : ℕ) → is_in xs x ≡ true → wanted x ≡ true) → read_homes hs registers slots xs ≡ words_in regs xs
@@ -420,10 +413,6 @@ returns o a registers (w ∷ ws) (r ∷ rs) g out dest st = to a.result_to dest
 returns o a registers [] (r ∷ rs) g out dest st = absurd st
 returns o a registers (w ∷ ws) [] g out dest st = absurd st
 
-both_true : (a b : Bool) → (a && b) ≡ true → b ≡ true
-both_true true b e = e
-both_true false b e = absurd (true≢false (sym e))
-
 -- a function begins with all its homes unset
 home_unset : (hs : List Home) (saved : List ℕ) (bs : List RBlock) (registers : Places) → AreHomes hs saved bs → (x : ℕ) (h : Home)
     → slice_get hs x ≡ Some h → in_home (registers_at_entry saved (callee_saved registers)) unset_places h ≡ None
@@ -480,7 +469,7 @@ calls h all depth f vs dest registers ws rs g out dn st =
     by func frame ok false e = refl
     by func frame ok true e =
         let as_many : length vs ≡ func.parameters =
-        eqb-true (length vs) func.parameters (both_true (nat_lt (length ws) depth) (length vs == func.parameters) e) in
+        eqb-true (length vs) func.parameters (and_parts (nat_lt (length ws) depth) (length vs == func.parameters) e).1 in
         writes_all frame.homes.items frame.saved.items func.blocks.items (callee_saved registers)
         (registers_at_entry frame.saved.items (callee_saved registers)) unset_places unset_places 0 vs out _ _ (λ x. true) (ok.homes)
         (all_unset frame.homes.items frame.saved.items func.blocks.items registers ok.homes)

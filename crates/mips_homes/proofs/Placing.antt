@@ -18,12 +18,11 @@ more best x used used' homes h before is one =
     let next : suc x ≡ x + 1 = omega arith in
     let long = length_one homes h in
     let old = before.long in
-    let count = before.counted in
     subst (λ n. AreHomesOf best n (homes ++ h ∷ []) used') next (record {
       long = omega (arith, long, old);
       by = λ y k got. ⊎_elim (λ a. before.by y k a)
           (λ a. subst (λ z. IsHome best z k) (sym (a.0 ∙ old)) (subst (λ k. IsHome best x k) (sym a.1) is)) (got_push homes h y k got);
-      counted = omega (arith, one, count);
+      counted = omega (arith, one, before.counted);
     })
 
 pub home_register : (best : List ℕ) (x used j : ℕ) (homes homes' : List Home) → homes' ≡ homes ++ Reg (16 + j) ∷ []

@@ -1,7 +1,7 @@
 -- What a walk over blocks sees, one instruction after another.
 use Rattle.std.proofs.Common.{◌≡◌, ℕ, suc, ◌+◌, ◌<◌, ◌≤◌, Bool, true, false, ◌&&◌, List, [], ◌∷◌, ◌++◌, refl, sym, ap, ap₂, ◌∙◌, subst, arith, length, drop, get_or, nat_eq}
 use Rattle.std.specs.Prelude.{if◌then◌else◌, ◌||◌, not}
-use Rattle.std.proofs.Common.{eqb-true}
+use Rattle.std.proofs.Common.{ne_eqb}
 use Rattle.std.proofs.Math.Seq.{drop-cons}
 use Rattle.std.proofs.lemmas.List.{drop_all}
 use Rattle.rtl.specs.declared.instruction.RInst.{RInst}
@@ -68,11 +68,7 @@ seen_start k s block before = record {
 }
   where
     unequal : (n : ℕ) → n < k → nat_eq n k ≡ false
-    unequal n lt = go (nat_eq n k) refl
-      where
-        go : (c : Bool) → nat_eq n k ≡ c → c ≡ false
-        go true e = let same = eqb-true n k e in absurd (omega (arith, same, lt))
-        go false e = refl
+    unequal n lt = ne_eqb n k (λ e. absurd (omega (arith, e, lt)))
 
 pub seen_step : (k : ℕ) (s t u : List Sight) (is is' : List RInst) (j : ℕ) (i d : RInst) (block : RBlock) → is' ≡ is → j < length is'
     → i ≡ get_or is' j d → Sees k t u (inst_reads i) (inst_writes i) → IsSeenTo k s t (drop j is) block → IsSeenTo k s u (drop (j + 1) is) block

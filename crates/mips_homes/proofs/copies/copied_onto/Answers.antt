@@ -12,15 +12,14 @@ loop-home-preserved c =
     c.with_copy.ensures ∙ ap (with_copy c.home-item.result) c.register_at.ensures in
     let more = ◌∙◌ {A = List Home} c.in_ok-push.ensures.items (ap (λ h. c.loop-home.out.items ++ h ∷ []) copy) in
     let step = copied_step c.args.free.now c.args.homes.now c.loop-home.home-index c.loop-home.used in
-    let few = c.loop-home.invariant.0 in
     elim c.if-is_slot.branch [
       | then-is_slot w ↦ (
-        omega (arith, few, w.used-is),
+        omega (arith, c.loop-home.invariant.0, w.used-is),
         step _ _ _ _ _ _ c.loop-home-test.true c.home-item.is
             (sym c.is_slot.ensures ∙ w.if-is_slot.true) w.used-is more c.loop-home.invariant.1,
       )
       | else-is_slot w ↦ (
-        omega (arith, few, w.used-is),
+        omega (arith, c.loop-home.invariant.0, w.used-is),
         step _ _ _ _ _ _ c.loop-home-test.true c.home-item.is
             (sym c.is_slot.ensures ∙ w.if-is_slot.false) w.used-is more c.loop-home.invariant.1,
       )

@@ -11,7 +11,5 @@ loop-j-preserved c = one_more_first c.loop-j.j c.loop-j.saved.items _ c.in_ok-pu
 
 pub returns : goal.returns
 returns c =
-    let up = c.loop-j.auto.j-end in
-    let down = c.loop-j-test.false in
-    let all : c.loop-j.j ≡ c.args.count = omega (arith, up, down) in
+    let all : c.loop-j.j ≡ c.args.count = omega (arith, c.loop-j.auto.j-end, c.loop-j-test.false) in
     subst (λ n. AreFirst n c.loop-j.saved.items) all c.loop-j.invariant

@@ -32,7 +32,5 @@ loop-x-preserved c = elim c.match-rank_of.branch [
 
 pub returns : goal.returns
 returns c =
-    let up = c.loop-x.auto.x-end in
-    let down = c.loop-x-test.false in
-    let all : c.loop-x.x ≡ c.args.n = omega (arith, up, down) in
+    let all : c.loop-x.x ≡ c.args.n = omega (arith, c.loop-x.auto.x-end, c.loop-x-test.false) in
     subst (λ n. AreHomesOf c.args.best.now n c.loop-x.homes.items c.loop-x.slots) all c.loop-x.invariant
