@@ -20,6 +20,7 @@ use Rattle.rtl.specs.declared.block.RGlobal.{RGlobal}
 use Rattle.mips_homes.specs.HomedRun.{Activation, is_in, is_callee_saved, registers_at_entry, registers_at_return}
 use Rattle.mips_homes.specs.declared.homed.Frame.{Frame}
 use Rattle.mips_homes.proofs.Located.{also_in}
+use Rattle.mips_homes.proofs.Chosen.{in_at}
 use Rattle.mips_emit.specs.declared.limits.TheConstants.{FRAME_BYTES}
 use Rattle.mips_emit.specs.Frames.{HaveNoCopies, link_words, IsFrame}
 use Rattle.mips_emit.specs.Elements.{width_of, place_in, address_of_place}
@@ -46,17 +47,8 @@ linked_frames [] ls registers regs = tt
 linked_frames (a ∷ ws) [] registers regs = tt
 linked_frames (a ∷ ws) (l ∷ ls) registers regs = λ leaf. absurd (true≢false (sym leaf))
 
-in_list : (xs : List ℕ) (q : ℕ) → is_in xs q ≡ true → (j : ℕ) × (slice_get xs j ≡ Some q)
-in_list [] q e = absurd (true≢false (sym e))
-in_list (x ∷ xs) q e = go (nat_eq q x) refl e (λ e. in_list xs q e)
-  where
-    go : (b : Bool) → nat_eq q x ≡ b → (b || is_in xs q) ≡ true → (is_in xs q ≡ true → (j : ℕ) × (slice_get xs j ≡ Some q))
-        → (j : ℕ) × (slice_get (x ∷ xs) j ≡ Some q)
-    go true t e rest = (0, ap Some (sym (eqb-true q x t)))
-    go false t e rest = let r = rest e in (suc r.0, r.1)
-
 no_register : (xs : List ℕ) (q : ℕ) → ((j r : ℕ) → slice_get xs j ≡ Some r → r ≢ q) → is_in xs q ≡ false
-no_register xs q ne = false_from_ne_true (is_in xs q) (λ e. let at = in_list xs q e in ne at.0 q at.1 refl)
+no_register xs q ne = false_from_ne_true (is_in xs q) (λ e. let at = in_at xs q e in ne at.0 q at.1 refl)
 
 -- the last of a list
 last_or : (xs : List ℕ) (x j r : ℕ) → slice_get (xs ++ x ∷ []) j ≡ Some r → (slice_get xs j ≡ Some r) ⊎ ((j ≡ length xs) × (r ≡ x))
