@@ -142,12 +142,8 @@ pub fn wrong_page(
     depth: u32,
     steps: u64,
 ) -> Option<Page> {
-    let Ok(typed) = typed_of(alloc, text) else {
-        return None;
-    };
-    let Ok(Some(why)) = reason_of(alloc, &typed, depth, steps) else {
-        return None;
-    };
+    let typed = typed_of(alloc, text).ok()?;
+    let why = reason_of(alloc, &typed, depth, steps).ok()??;
     let mut lines = place_line(alloc, source, text, &typed, (depth, steps)).ok()?;
     let reason = wrong_lines(alloc, why, depth).ok()?;
     lines.push_str(reason.as_str()).ok()?;

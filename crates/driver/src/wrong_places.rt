@@ -12,7 +12,7 @@ use std::alloc::Global;
 use std::str;
 
 /// Finds the function of this number.
-fn function_of(program: &Program, number: usize) -> Option<&FunctionDefinition> {
+pub(crate) fn function_of(program: &Program, number: usize) -> Option<&FunctionDefinition> {
     let mut k = 0usize;
     for declaration in &program.declarations {
         if let Declaration::Function(function) = declaration {
@@ -41,9 +41,7 @@ fn place_of(
     wanted: &TypedStatement,
     left: usize,
 ) -> Option<usize> {
-    let Ok(placed) = placed_statements(alloc, function, body) else {
-        return None;
-    };
+    let placed = placed_statements(alloc, function, body).ok()?;
     let mut count = 0usize;
     let mut at = None;
     for one in &placed {
@@ -78,10 +76,7 @@ fn place_in_tree<'t>(
     };
     Some(NamedPlace {
         function: name_in(text, function),
-        spot: match at {
-            Some(at) => Some(spot_of(text, at)),
-            None => None,
-        },
+        spot: at.map(|at| spot_of(text, at)),
     })
 }
 
@@ -92,8 +87,6 @@ pub(crate) fn place_in_text<'t>(
     typed: &Typed,
     place: WrongPlace<'_>,
 ) -> Option<NamedPlace<'t>> {
-    match read(alloc, text) {
-        Ok(program) => place_in_tree(alloc, text, &program, typed, place),
-        Err(_) => None,
-    }
+    let program = read(alloc, text).ok()?;
+    place_in_tree(alloc, text, &program, typed, place)
 }

@@ -1,22 +1,13 @@
 //! Which function has too much code, for a line below the fault of a limit.
 
 use crate::build_command::builds::unit_of;
+use crate::wrong_places::function_of;
 use c_front::read;
-use c_tree::Declaration;
-use mblock::{BlockNumber, Exit, Order};
+use mblock::{BlockNumber, Order};
 use sched_phase::schedule_plain;
-use std::alloc::{AllocError, Global};
-use std::str;
+use show::order_words;
+use std::alloc::Global;
 use text::{Page, Writer};
-
-/// Returns how many words an order has.
-fn words_of(order: &Order) -> usize {
-    let exit = match order.exit() {
-        Exit::Goto(_) | Exit::Return | Exit::Halt => 2,
-        _ => 4,
-    };
-    order.insts().len().saturating_add(exit)
-}
 
 /// Returns the number of the function that has most words, and how many; 0 is the code that calls main.
 fn most_words(owner: &[BlockNumber], orders: &[Order]) -> (usize, usize) {
@@ -30,30 +21,12 @@ fn most_words(owner: &[BlockNumber], orders: &[Order]) -> (usize, usize) {
             number = number.saturating_add(1);
             words = 0;
         }
-        words = words.saturating_add(words_of(order));
+        words = words.saturating_add(order_words(order));
         if words > most.1 {
             most = (number, words);
         }
     }
     most
-}
-
-/// Returns the name of a function by its number, from 1.
-fn name_of(alloc: Global, text: &[u8], number: usize) -> Result<Option<String>, AllocError> {
-    let Ok(program) = read(alloc, text) else {
-        return Ok(None);
-    };
-    let mut count = 0usize;
-    for declaration in &program.declarations {
-        if let Declaration::Function(function) = declaration {
-            count = count.saturating_add(1);
-            if count == number {
-                let name = str::from_utf8(program.spelling(function.name)).unwrap_or("?");
-                return Ok(Some(String::from_str(alloc, name)?));
-            }
-        }
-    }
-    Ok(None)
 }
 
 /// Finds the number of the function of a text that has most words of code, and how many; None if memory runs out to it.
@@ -66,12 +39,11 @@ fn largest_of(alloc: Global, text: &[u8]) -> Option<(usize, usize)> {
 /// Returns the line that names the function of a text with most words of code; None if memory runs out to it.
 pub(crate) fn largest_line(alloc: Global, text: &[u8]) -> Option<Page> {
     let (number, words) = largest_of(alloc, text)?;
-    let name = name_of(alloc, text, number).ok()??;
+    let program = read(alloc, text).ok()?;
+    let function = function_of(&program, number.checked_sub(1)?)?;
     let mut out = Writer::new(alloc);
     out.text("the largest function, '");
-    out.within_line(name.as_bytes());
-    out.text("', has ");
-    out.put(&words);
-    out.text(" words in plain order\n");
+    out.within_line(program.spelling(function.name));
+    out.put(&format_args!("', has {words} words in plain order\n"));
     out.end().ok()
 }

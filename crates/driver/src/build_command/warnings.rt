@@ -17,11 +17,7 @@ const MOST: usize = 20;
 fn put_warning(out: &mut Writer, source: &str, text: &[u8], warning: &Warning) {
     let Spot { line, column } = spot_of(text, warning.at);
     out.within_line(source.as_bytes());
-    out.text(":");
-    out.put(&line);
-    out.text(":");
-    out.put(&column);
-    out.text(": warning: ");
+    out.put(&format_args!(":{line}:{column}: warning: "));
     out.within_line(warning.message.as_bytes());
     out.text("\n");
 }
@@ -43,9 +39,7 @@ fn page_of(
     let more = warnings.len().saturating_sub(MOST);
     if more > 0 {
         out.within_line(source.as_bytes());
-        out.text(": and ");
-        out.put(&more);
-        out.text(" more\n");
+        out.put(&format_args!(": and {more} more\n"));
     }
     out.end()
 }

@@ -35,13 +35,8 @@ fn image_message(fault: ImageFault, bytes: &[u8]) -> Option<&'static str> {
 
 /// Reports whether the file begins as text does.
 fn begins_as_text(bytes: &[u8]) -> bool {
-    for byte in bytes.iter().take(BEGINNING) {
-        match byte {
-            b' '..=b'~' | b'\t' | b'\n' | b'\r' => {}
-            _ => return false,
-        }
-    }
-    !bytes.is_empty()
+    let is_of_text = |byte: &u8| matches!(byte, b' '..=b'~' | b'\t' | b'\n' | b'\r');
+    !bytes.is_empty() && bytes.iter().take(BEGINNING).all(is_of_text)
 }
 
 /// Reports whether the file may be a source instead of its image.

@@ -60,8 +60,6 @@ fn stuck_lines(alloc: Global, image: &Image, at: u32, rule: Rule) -> Result<Stri
 
 /// Returns why the image of these bytes is stuck at an address, by a rule.
 pub(crate) fn stuck_page(alloc: Global, bytes: &[u8], at: u32, rule: Rule) -> Option<Page> {
-    let Ok(image) = read_image(alloc, bytes) else {
-        return None;
-    };
+    let image = read_image(alloc, bytes).ok()?;
     page(alloc, stuck_lines(alloc, &image, at, rule))
 }
