@@ -9,6 +9,7 @@
 //! | nearly each message, hint and warning | tests/messages |
 #![tactic(auto)]
 
+mod chains;
 mod constants;
 mod expected;
 mod fault;

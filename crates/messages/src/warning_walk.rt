@@ -2,6 +2,7 @@
 //!
 //! A typed tree has no places. The walk comes to names and signs in the order of the text, so it finds them one by one among the tokens.
 
+use crate::chains::may_chain;
 use crate::folded::constant;
 use crate::source::{Source, after};
 use crate::warnings::Warning;
@@ -32,6 +33,8 @@ struct Walk<'a, 't> {
     cursor: usize,
     /// The sign of the operator whose operands were met last.
     sign: usize,
+    /// Whether the text may compare comparisons without parentheses, once that is asked.
+    may_chain: Option<bool>,
     locals: Vec<Local>,
     /// Whether what comes next can be reached, a `break` of the innermost loop, and a `return` of the function.
     is_live: bool,
@@ -118,10 +121,12 @@ impl<'a, 't> Walk<'a, 't> {
         self.next(None)
     }
 
-    /// Reports whether parentheses that begin before the tokens between these two end there.
-    fn closes(&self, from: usize, end: usize) -> bool {
-        let count = |mark: Mark| (from..end).filter(|k| self.source.is(*k, mark)).count();
-        count(Mark::LeftParen) < count(Mark::RightParen)
+    /// Reports whether a comparison that stands before the tokens between these two may have no parentheses that end there.
+    fn chains(&mut self, from: usize, end: usize) -> bool {
+        let source = self.source;
+        let count = |mark: Mark| (from..end).filter(|k| source.is(*k, mark)).count();
+        *self.may_chain.get_or_insert_with(|| may_chain(source.text))
+            && count(Mark::LeftParen) >= count(Mark::RightParen)
     }
 
     /// Goes to the name that is assigned to.
@@ -236,7 +241,7 @@ impl<'a, 't> Walk<'a, 't> {
         };
         if is_relation(operator)
             && matches!(left, TypedExpression::Binary(inner, _, _) if is_relation(*inner))
-            && !self.closes(before, sign)
+            && self.chains(before, sign)
         {
             let message = "a comparison of a comparison: a < b < c compares 0 or 1 with c";
             self.warn(sign, String::from_str(self.alloc, message))?;
@@ -451,6 +456,7 @@ pub(crate) fn walked(
         warnings: Vec::new(alloc),
         cursor: 0,
         sign: 0,
+        may_chain: None,
         locals: Vec::new(alloc),
         is_live: true,
         has_break: false,
