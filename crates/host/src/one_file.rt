@@ -11,6 +11,7 @@ use crate::host::Host;
 use crate::host_faults::{tell_unprinted, tell_unread};
 use crate::output::Output;
 use std::alloc::Global;
+use std::io;
 
 /// A file whose bytes have a fault.
 #[derive(Drop)]
@@ -30,6 +31,17 @@ pub enum Broken<F> {
     Unprinted(HostFault),
     /// Memory was refused once it had begun, and a beginning was printed.
     Midway,
+}
+
+impl<F> From<io::Error> for Broken<F> {
+    ghost use Rattle.host.specs.declared.fault.HostFault.TheVariants.{CannotWrite};
+    ghost use Rattle.host.specs.declared.one_file.Broken.TheVariants.{Unprinted};
+
+    ghost from_gives = { λ _ broken. broken ≡ Unprinted CannotWrite };
+
+    fn from(_refused: io::Error) -> Broken<F> {
+        Broken::Unprinted(HostFault::CannotWrite)
+    }
 }
 
 /// What a command does with the bytes of its file.
