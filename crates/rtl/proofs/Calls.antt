@@ -3,7 +3,6 @@ use Rattle.std.proofs.Common.{◌≡◌, ℕ, List, ◌∷◌, Option, Some, Non
 use Rattle.std.proofs.Common.{map, get_or, Bor, arith}
 use Rattle.std.specs.Prelude.{if◌then◌else◌, ◌&&◌, ◌==◌, is_some, IfSome}
 use Rattle.std.specs.List.{slice_get}
-use Rattle.runs.specs.Stores.{Places}
 use Rattle.runs.proofs.Kept.{places-set_to}
 use Rattle.runs.proofs.Lookups.{found}
 use Rattle.runs.specs.Calls.{calls_of, state_by}
@@ -12,14 +11,10 @@ use Rattle.runs.specs.Runs.{Running, Failed}
 use Rattle.rtl.specs.declared.block.RBlock.{RBlock}
 use Rattle.rtl.specs.declared.block.RFunc.{RFunc}
 use Rattle.rtl.specs.Programs.{Program}
-use Rattle.rtl.specs.Meaning as Meaning
-use Rattle.rtl.specs.Meaning.{Run, Code, code_of, argument_registers, state_after_call}
+use Rattle.rtl.specs.Meaning.{Run, Surroundings, activation, around_callee, code_of, argument_registers, state_after_call}
 use Rattle.runs.specs.Kept.{places, arrays}
-use Rattle.rtl.specs.Interpreter.{Interpreter, frame_of}
+use Rattle.rtl.specs.Interpreter.{Interpreter, frame_of, around}
 use Rattle.rtl.specs.declared.interpreter.Frame.{Frame}
-
-abbrev pub frame_with : List RBlock → Places → Code → Option ℕ → Meaning.Frame
-frame_with bs r code to = record { blocks = bs; registers = r; code = code; result_to = to }
 
 both_false : {A : Type 0} (b : Bool) (x y : A) → (if b && false then x else y) ≡ y
 both_false true x y = refl
@@ -31,18 +26,21 @@ either_way false x = refl
 
 -- a call of a function of a program, from where an interpreter stands
 module _ (p : Program) (depth i : ℕ) (vs : List ℕ) (to : Option ℕ) (m : Interpreter) where
+  abbrev callee : Surroundings
+  callee = around_callee (around p depth m) (frame_of m.frame) to
+
   abbrev after-call : Run
-  after-call = state_after_call p depth i vs to (map frame_of (calls_of m)) (arrays m.globals.items) m.output.items
+  after-call = state_after_call callee i vs
 
   -- what it begins with
   pub entered : (x : RFunc) (entry : RBlock) (new : Interpreter) (frame : Frame) (values : List (Option ℕ)) (bs : List RBlock)
       → slice_get p.functions i ≡ Some x → nat_lt (length (calls_of m)) depth ≡ true → length vs ≡ x.parameters
       → slice_get x.blocks.items 0 ≡ Some entry → calls_of new ≡ frame ∷ calls_of m → new.globals ≡ m.globals → new.output ≡ m.output
-      → frame_of frame ≡ frame_with bs (places values) (code_of entry) to → values ≡ map Some vs → bs ≡ x.blocks.items
+      → frame_of frame ≡ activation callee bs (places values) (code_of entry) → values ≡ map Some vs → bs ≡ x.blocks.items
       → after-call ≡ state_by frame_of new
   entered x entry new frame values bs there room count first is globals output made words all =
-      let begun : frame_of frame ≡ frame_with x.blocks.items (argument_registers vs) (code_of entry) to =
-      made ∙ ap₂ (λ bs r. frame_with bs r (code_of entry) to) all (ap places words ∙ places-set_to vs) in
+      let begun : frame_of frame ≡ activation callee x.blocks.items (argument_registers vs) (code_of entry) =
+      made ∙ ap₂ (λ bs r. activation callee bs r (code_of entry)) all (ap places words ∙ places-set_to vs) in
       let now = with-calls frame_of m new (frame ∷ calls_of m) is globals output in
       rw (there, room-of frame_of m depth true room, eq-eqb (length vs) x.parameters count, first, now)
       (ap (λ t. Running (t ∷ map frame_of (calls_of m)) (arrays m.globals.items) m.output.items) (sym begun))

@@ -21,10 +21,9 @@ use Rattle.rtl.specs.declared.block.RGlobal.{RGlobal}
 use Rattle.words.specs.declared.width.Width.{Width}
 use Rattle.rtl.specs.Operators.{op_result}
 use Rattle.rtl.specs.Programs.{Program}
-use Rattle.rtl.specs.Meaning.{Frame, Run, code_of, words_in, argument_registers, kept_in, with_inst, state_at_block, state_after_return}
-use Rattle.rtl.specs.Meaning.{state_after_call, state_after_exit, step_at, rtl_step, rtl_start, first_values}
+use Rattle.rtl.specs.Meaning.{Frame, Run, Surroundings, activation, around_callee, code_of, words_in, argument_registers, kept_in, with_inst}
+use Rattle.rtl.specs.Meaning.{state_at_block, state_after_return, state_after_call, state_after_exit, step_at, rtl_step, rtl_start, first_values}
 use Rattle.rtl.specs.Laws.{FrameHoldsWords, RunHoldsWords}
-use Rattle.rtl.proofs.Calls.{frame_with}
 use Rattle.rtl.proofs.Results.{result-word}
 
 kept-in-word : (globals : List RGlobal) (a v w : ℕ) → IsWord v → kept_in globals a v ≡ Some w → IsWord w
@@ -57,55 +56,64 @@ read-words r (x ∷ xs) vs h e =
     let t = chain-some (words_in r xs) (λ vs. Some (s.0 ∷ vs)) vs s.2 in
     subst (All IsWord) (same_Some (s.0 ∷ t.0) vs t.2) (All-cons IsWord s.0 t.0 (h x s.0 s.1) (read-words r xs t.0 h t.1))
 
-block-words : (bs : List RBlock) (b : ℕ) (r : Places) (to : Option ℕ) (frames : List Frame) (g : Arrays) (out : List ℕ) → PlacesHoldWords r
-    → All FrameHoldsWords frames → ArraysHoldWords g → All IsWord out → RunHoldsWords (state_at_block bs b r to frames g out)
-block-words bs b r to frames g out a h c d =
-    valued (slice_get bs b) out _ d (λ block e. running-words FrameHoldsWords (frame_with bs r (code_of block) to) frames g out a h c d)
+record AroundHoldsWords (w : Surroundings) : Type 0 where
+  waiting : All FrameHoldsWords w.waiting
+  globals : ArraysHoldWords w.globals
+  output : All IsWord w.output
 
-called-words : (p : Program) (depth f : ℕ) (vs : List ℕ) (to : Option ℕ) (frames : List Frame) (g : Arrays) (out : List ℕ) → All IsWord vs
-    → All FrameHoldsWords frames → ArraysHoldWords g → All IsWord out
-    → RunHoldsWords (state_after_call p depth f vs to frames g out)
-called-words p depth f vs to frames g out a b c d =
-    valued (slice_get p.functions f) out _ d (λ function e. by function (nat_lt (length frames) depth && (length vs == function.parameters)))
+block-words : (w : Surroundings) (bs : List RBlock) (r : Places) (b : ℕ) → AroundHoldsWords w → PlacesHoldWords r
+    → RunHoldsWords (state_at_block w bs r b)
+block-words w bs r b h a = valued (slice_get bs b) w.output _ h.output (λ block e.
+    running-words FrameHoldsWords (activation w bs r (code_of block)) w.waiting w.globals w.output a h.waiting h.globals h.output)
+
+called-words : (w : Surroundings) (f : ℕ) (vs : List ℕ) → AroundHoldsWords w → All IsWord vs → RunHoldsWords (state_after_call w f vs)
+called-words w f vs h a = valued (slice_get w.program.functions f) w.output _ h.output (λ function e.
+    by function (nat_lt (length w.waiting) w.depth && (length vs == function.parameters)))
   where
     by : (function : RFunc) (t : Bool)
-        → RunHoldsWords (if t then state_at_block function.blocks.items 0 (argument_registers vs) to frames g out else Failed out)
-    by function true = block-words function.blocks.items 0 (argument_registers vs) to frames g out (λ x v e. at-index IsWord vs x v a e) b c d
-    by function false = d
+        → RunHoldsWords (if t then state_at_block w function.blocks.items (argument_registers vs) 0 else Failed w.output)
+    by function true = block-words w function.blocks.items (argument_registers vs) 0 h (λ x v e. at-index IsWord vs x v a e)
+    by function false = h.output
 
-returned-words : (v to : Option ℕ) (frames : List Frame) (g : Arrays) (out : List ℕ) → ((w : ℕ) → v ≡ Some w → IsWord w)
-    → All FrameHoldsWords frames → ArraysHoldWords g → All IsWord out → RunHoldsWords (state_after_return v to frames g out)
-returned-words v to [] g out a b c d = valued v out _ d (λ w e. (a w e, d))
-returned-words v None (f ∷ frames) g out a b c d = (b, (c, d))
-returned-words v (Some x) (f ∷ frames) g out a b c d =
-    valued v out _ d (λ w e. running-words FrameHoldsWords (frame_with f.blocks (places_with f.registers x (Some w)) f.code f.result_to) frames g out
-    (set-words f.registers x w (All-head FrameHoldsWords f frames b) (a w e)) (All-tail FrameHoldsWords f frames b) c d)
+returned-words : (v : Option ℕ) (w : Surroundings) → ((x : ℕ) → v ≡ Some x → IsWord x) → AroundHoldsWords w
+    → RunHoldsWords (state_after_return v w.result_to w.waiting w.globals w.output)
+returned-words v w a h = by w.waiting w.result_to h.waiting
+  where
+    by : (frames : List Frame) (to : Option ℕ) → All FrameHoldsWords frames → RunHoldsWords (state_after_return v to frames w.globals w.output)
+    by [] to b = valued v w.output _ h.output (λ x e. (a x e, h.output))
+    by (f ∷ frames) None b = (b, (h.globals, h.output))
+    by (f ∷ frames) (Some d) b = valued v w.output _ h.output (λ x e.
+        running-words FrameHoldsWords (record f { registers = places_with f.registers d (Some x) }) frames w.globals w.output
+        (set-words f.registers d x (All-head FrameHoldsWords f frames b) (a x e)) (All-tail FrameHoldsWords f frames b) h.globals h.output)
 
-module _ (p : Program) (depth : ℕ) (bs : List RBlock) (r : Places) (to : Option ℕ) (frames : List Frame) (g : Arrays) (out : List ℕ)
-    (a : PlacesHoldWords r) (h : All FrameHoldsWords frames) (c : ArraysHoldWords g) (d : All IsWord out) where
-  exit-words : (exit : RExit) → RunHoldsWords (state_after_exit p depth exit bs r to frames g out)
-  exit-words (Goto b) = block-words bs b r to frames g out a h c d
-  exit-words (Branch x t e) = valued (r x) out _ d (λ v is. block-words bs (if v == 0 then e else t) r to frames g out a h c d)
-  exit-words (Call f args x next) =
-      valued (words_in r args.items) out _ d (λ vs is. valued (slice_get bs next) out _ d (λ block there.
-      called-words p depth f vs x (frame_with bs r (code_of block) to ∷ frames) g out (read-words r args.items vs a is)
-      (All-cons FrameHoldsWords (frame_with bs r (code_of block) to) frames a h) c d))
-  exit-words (Return None) = returned-words None to frames g out (λ w e. absurd (none-some w e)) h c d
+module _ (w : Surroundings) (bs : List RBlock) (r : Places) (h : AroundHoldsWords w) (a : PlacesHoldWords r) where
+  exit-words : (exit : RExit) → RunHoldsWords (state_after_exit w bs r exit)
+  exit-words (Goto b) = block-words w bs r b h a
+  exit-words (Branch x t e) = valued (r x) w.output _ h.output (λ v is. block-words w bs r (if v == 0 then e else t) h a)
+  exit-words (Call f args to next) =
+      valued (words_in r args.items) w.output _ h.output (λ vs is. valued (slice_get bs next) w.output _ h.output (λ block there.
+      called-words (around_callee w (activation w bs r (code_of block)) to) f vs (record {
+        waiting = All-cons FrameHoldsWords (activation w bs r (code_of block)) w.waiting a h.waiting;
+        globals = h.globals;
+        output = h.output;
+      }) (read-words r args.items vs a is)))
+  exit-words (Return None) = returned-words None w (λ v e. absurd (none-some v e)) h
   exit-words (Return (Some x)) =
-      valued (r x) out _ d (λ v is. returned-words (Some v) to frames g out (λ w same. subst IsWord (same_Some v w same) (a x v is)) h c d)
-  exit-words (Out x next) =
-      valued (r x) out _ d (λ v is. block-words bs next r to frames g (out ++ v ∷ []) a h c (All-push IsWord out v d (a x v is)))
+      valued (r x) w.output _ h.output (λ v is. returned-words (Some v) w (λ u same. subst IsWord (same_Some v u same) (a x v is)) h)
+  exit-words (Out x next) = valued (r x) w.output _ h.output (λ v is. block-words (record w { output = w.output ++ v ∷ [] }) bs r next
+      (record { waiting = h.waiting; globals = h.globals; output = All-push IsWord w.output v h.output (a x v is) }) a)
 
-  at-words : (insts : List RInst) (exit : RExit) → RunHoldsWords (step_at p depth insts exit bs r to frames g out)
+  at-words : (insts : List RInst) (exit : RExit) → RunHoldsWords (step_at w bs r insts exit)
   at-words [] exit = exit-words exit
-  at-words (i ∷ rest) exit = inst-words p.globals i r g out _ a c d (λ r' g' a' c'.
-      running-words FrameHoldsWords (frame_with bs r' (record { insts = rest; exit = exit }) to) frames g' out a' h c' d)
+  at-words (i ∷ rest) exit = inst-words w.program.globals i r w.globals w.output _ a h.globals h.output (λ r' g' a' c'.
+      running-words FrameHoldsWords (activation w bs r' (record { insts = rest; exit = exit })) w.waiting g' w.output a' h.waiting c' h.output)
 
 pub step-words : (p : Program) (depth : ℕ) (s : Run) → RunHoldsWords s → RunHoldsWords (rtl_step p depth s)
 step-words p depth (Running [] g out) h = h.1.1
 step-words p depth (Running (f ∷ frames) g out) h =
-    at-words p depth f.blocks f.registers f.result_to frames g out (All-head FrameHoldsWords f frames h.0) (All-tail FrameHoldsWords f frames h.0)
-    h.1.0 h.1.1 f.code.insts f.code.exit
+    at-words (record { program = p; depth = depth; result_to = f.result_to; waiting = frames; globals = g; output = out }) f.blocks f.registers
+    (record { waiting = All-tail FrameHoldsWords f frames h.0; globals = h.1.0; output = h.1.1 }) (All-head FrameHoldsWords f frames h.0)
+    f.code.insts f.code.exit
 step-words p depth (Ended w out) h = h
 step-words p depth (Failed out) h = h
 
@@ -119,5 +127,6 @@ globals-words (a ∷ rest) = All-cons (All IsWord) (first_values a) (map first_v
 
 pub start-words : (p : Program) → RunHoldsWords (rtl_start p)
 start-words p = valued (slice_get p.functions p.main) [] _ (All-nil IsWord) (λ main e.
-    block-words main.blocks.items 0 unset_places None [] (map first_values p.globals) [] unset-words (All-nil FrameHoldsWords)
-    (globals-words p.globals) (All-nil IsWord))
+    block-words (record { program = p; depth = 0; result_to = None; waiting = []; globals = map first_values p.globals; output = [] })
+    main.blocks.items unset_places 0 (record { waiting = All-nil FrameHoldsWords; globals = globals-words p.globals; output = All-nil IsWord })
+    unset-words)

@@ -15,11 +15,11 @@ use Rattle.rtl.specs.declared.block.RFunc.{RFunc}
 use Rattle.rtl.specs.declared.block.RGlobal.{RGlobal}
 use Rattle.rtl.specs.Operators.{op_result}
 use Rattle.rtl.specs.Programs.{Program}
-use Rattle.rtl.specs.Meaning.{Code, Frame, Run, code_of, words_in, argument_registers, kept_in, with_inst, state_at_block, state_after_return}
-use Rattle.rtl.specs.Meaning.{state_after_call, state_after_exit, step_at, rtl_step, rtl_steps, rtl_start, first_values}
+use Rattle.rtl.specs.Meaning.{Code, Frame, Run, Surroundings, activation, at, around_callee, code_of, words_in, argument_registers, kept_in}
+use Rattle.rtl.specs.Meaning.{with_inst, state_at_block, state_after_return, state_after_call, state_after_exit, step_at, rtl_step, rtl_steps}
+use Rattle.rtl.specs.Meaning.{rtl_start, first_values}
 use Rattle.rtl.specs.Names.{is_in, inst_reads, inst_writes}
 use Rattle.rtl.specs.Tails.{writes_first, joined, is_reached, AreMade, HasTails, IsTailed, RunsAlike}
-use Rattle.rtl.proofs.Calls.{frame_with}
 use Rattle.rtl.proofs.Copies.{Tail, Copy, Leads, found, not_found, function_at, no_function_at}
 
 -- ---- configurations
@@ -186,7 +186,7 @@ alike_return : (v to : Option ℕ) (fs fs' : List Frame) (g : Arrays) (out : Lis
 alike_return v to [] [] g out w = alike_value v v out (λ w. Ended w out) (λ w. Ended w out) refl (λ a. refl)
 alike_return v None (f ∷ fs) (f' ∷ fs') g out w = alike_running f f' fs fs' g out (inl w.0) w.1
 alike_return v (Some d) (f ∷ fs) (f' ∷ fs') g out w =
-    alike_value v v out _ _ refl (λ a. alike_running _ (frame_with f'.blocks (places_with f'.registers d (Some a)) f'.code f'.result_to) fs fs' g out
+    alike_value v v out _ _ refl (λ a. alike_running _ (record f' { registers = places_with f'.registers d (Some a) }) fs fs' g out
     (inl (record {
       blocks = w.0.blocks;
       to = w.0.to;
@@ -196,141 +196,154 @@ alike_return v (Some d) (f ∷ fs) (f' ∷ fs') g out w =
     })) w.1)
 alike_return v to _ _ g out w = absurd w
 
-module _ (bs bs' : List RBlock) (t : AreMade bs bs') (out : List ℕ) where
-  alike_found : (b : ℕ) (go go' : RBlock → Run) → is_reached t.with_tails b ≡ true
-      → ((x x' : RBlock) → Copy bs (code_of x) (code_of x') → Leads t.with_tails x'.exit → Alike (go x) (go' x'))
-      → Alike (with_value (slice_get bs b) out go) (with_value (slice_get bs' b) out go')
-  alike_found b go go' reached k = by (slice_get bs b) refl
-    where
-      by : (o : Option RBlock) → slice_get bs b ≡ o → Alike (with_value o out go) (with_value (slice_get bs' b) out go')
-      by None e = rw (not_found bs bs' t b e) refl
-      by (Some x) e = let s = found bs bs' t b x e reached in rw s.there (k x s.block s.copy s.leads)
+-- in blocks, and in those with their tails
+alike_found : (bs bs' : List RBlock) (t : AreMade bs bs') (out : List ℕ) (b : ℕ) (go go' : RBlock → Run) → is_reached t.with_tails b ≡ true
+    → ((x x' : RBlock) → Copy bs (code_of x) (code_of x') → Leads t.with_tails x'.exit → Alike (go x) (go' x'))
+    → Alike (with_value (slice_get bs b) out go) (with_value (slice_get bs' b) out go')
+alike_found bs bs' t out b go go' reached k = by (slice_get bs b) refl
+  where
+    by : (o : Option RBlock) → slice_get bs b ≡ o → Alike (with_value o out go) (with_value (slice_get bs' b) out go')
+    by None e = rw (not_found bs bs' t b e) refl
+    by (Some x) e = let s = found bs bs' t b x e reached in rw s.there (k x s.block s.copy s.leads)
 
-  alike_block : (b : ℕ) (r r' : Places) (to : Option ℕ) (fs fs' : List Frame) (g : Arrays) → is_reached t.with_tails b ≡ true → Same r r'
-      → Wait fs fs' → Alike (state_at_block bs b r to fs g out) (state_at_block bs' b r' to fs' g out)
-  alike_block b r r' to fs fs' g reached same w = alike_found b _ _ reached (λ x x' copy leads.
-      alike_running (frame_with bs r (code_of x) to) (frame_with bs' r' (code_of x') to) fs fs' g out
-      (inl (record { blocks = t; to = refl; same = same; copy = copy; leads = leads })) w)
+alike_function : (p q : Program) → IsTailed p q → (i : ℕ) (out : List ℕ) (go go' : RFunc → Run)
+    → ((n m : RFunc) → HasTails n m → Alike (go n) (go' m))
+    → Alike (with_value (slice_get p.functions i) out go) (with_value (slice_get q.functions i) out go')
+alike_function p q are i out go go' k = by (slice_get p.functions i) refl
+  where
+    by : (o : Option RFunc) → slice_get p.functions i ≡ o → Alike (with_value o out go) (with_value (slice_get q.functions i) out go')
+    by None e = rw (no_function_at p.functions q.functions are.functions i e) refl
+    by (Some n) e = let m = function_at p.functions q.functions are.functions i n e in rw m.1 (k n m.0 m.2)
 
 -- ---- steps
 
+-- the same around the copy of an activation, but for the program and the activations that wait
+abbrev beside : Program → Surroundings → List Frame → Surroundings
+beside q w fs = record w { program = q; waiting = fs }
+
+alike_block : (q : Program) (w : Surroundings) (fs : List Frame) → Wait w.waiting fs → (bs bs' : List RBlock) (t : AreMade bs bs') (r r' : Places)
+    → Same r r' → (b : ℕ) → is_reached t.with_tails b ≡ true → Alike (state_at_block w bs r b) (state_at_block (beside q w fs) bs' r' b)
+alike_block q w fs waits bs bs' t r r' same b reached = alike_found bs bs' t w.output b _ _ reached (λ x x' copy leads.
+    alike_running (activation w bs r (code_of x)) (activation w bs' r' (code_of x')) w.waiting fs w.globals w.output
+    (inl (record { blocks = t; to = refl; same = same; copy = copy; leads = leads })) waits)
+
+alike_call : (q : Program) (w : Surroundings) → IsTailed w.program q → (fs : List Frame) → Wait w.waiting fs → (f : ℕ) (vs : List ℕ)
+    → Alike (state_after_call w f vs) (state_after_call (beside q w fs) f vs)
+alike_call q w are fs waits f vs = alike_function w.program q are f w.output _ _ (λ n m h.
+    rw (same_depth w.waiting fs waits, h.parameters) (room n m h (nat_lt (length w.waiting) w.depth && (length vs == n.parameters))))
+  where
+    room : (n m : RFunc) → HasTails n m → (b : Bool)
+        → Alike (if b then state_at_block w n.blocks.items (argument_registers vs) 0 else Failed w.output)
+        (if b then state_at_block (beside q w fs) m.blocks.items (argument_registers vs) 0 else Failed w.output)
+    room n m h true = alike_block q w fs waits n.blocks.items m.blocks.items h.blocks _ (argument_registers vs) (λ x. refl) 0 refl
+    room n m h false = refl
+
+module _ (q : Program) (w : Surroundings) (are : IsTailed w.program q) (fs : List Frame) (waits : Wait w.waiting fs) (bs bs' : List RBlock)
+    (t : AreMade bs bs') where
+  alike_exit : (x : RExit) (r r' : Places) → Leads t.with_tails x → Same r r'
+      → Alike (state_after_exit w bs r x) (state_after_exit (beside q w fs) bs' r' x)
+  alike_exit (Goto b) r r' leads same = alike_block q w fs waits bs bs' t r r' same b (leads b (here b []))
+  alike_exit (Branch c y n) r r' leads same =
+      alike_value (r c) _ w.output _ _ (same c) (λ v. alike_block q w fs waits bs bs' t r r' same (if v == 0 then n else y) (either (v == 0)))
+    where
+      either : (b : Bool) → is_reached t.with_tails (if b then n else y) ≡ true
+      either true = leads n (behind y n)
+      either false = leads y (here y (n ∷ []))
+  alike_exit (Call f args to next) r r' leads same =
+      alike_value (words_in r args.items) _ w.output _ _ (same_words r r' args.items same) (λ vs.
+      alike_found bs bs' t w.output next _ _ (leads next (here next [])) (λ x x' copy leads.
+      alike_call q (around_callee w (activation w bs r (code_of x)) to) are (activation w bs' r' (code_of x') ∷ fs)
+      (record { blocks = t; to = refl; same = same; copy = copy; leads = leads }, waits) f vs))
+  alike_exit (Return None) r r' leads same = alike_return None w.result_to w.waiting fs w.globals w.output waits
+  alike_exit (Return (Some x)) r r' leads same =
+      alike_value (r x) _ w.output _ _ (same x) (λ v. alike_return (Some v) w.result_to w.waiting fs w.globals w.output waits)
+  alike_exit (Out x next) r r' leads same = alike_value (r x) _ w.output _ _ (same x) (λ v.
+      alike_block q (record w { output = w.output ++ v ∷ [] }) fs waits bs bs' t r r' same next (leads next (here next [])))
+
+  -- behind an instruction, where code goes on
+  alike_on : (c c' : Code) → Leads t.with_tails c'.exit → Copy bs c c' → (r r' : Places) (g : Arrays) → Same r r'
+      → Alike (at (record w { globals = g }) bs r c) (at (record (beside q w fs) { globals = g }) bs' r' c')
+  alike_on c c' leads copy r r' g same =
+      alike_running (activation w bs r c) (activation w bs' r' c') w.waiting fs g w.output
+      (inl (record { blocks = t; to = refl; same = same; copy = copy; leads = leads })) waits
+
+  -- in code that is the same
+  alike_at : (is : List RInst) (x : RExit) (r r' : Places) → Leads t.with_tails x → Same r r'
+      → Alike (step_at w bs r is x) (step_at (beside q w fs) bs' r' is x)
+  alike_at [] x r r' leads same = alike_exit x r r' leads same
+  alike_at (i ∷ is) x r r' leads same =
+      alike_inst w.program.globals q.globals are.globals w.globals w.output i r r' _ _ Same (λ x _. same x) (put_same i r r' same)
+      (alike_on (record { insts = is; exit = x }) (record { insts = is; exit = x }) leads (inl refl))
+
+  -- in a copy that is still to write d
+  alike_begin : (is : List RInst) (x : RExit) (d : ℕ) (r r' : Places) → Leads t.with_tails x → writes_first is d ≡ true → SameBut d r r'
+      → Alike (step_at w bs r is x) (step_at (beside q w fs) bs' r' is x)
+  alike_begin [] x d r r' leads first same = absurd (true≢false (sym first))
+  alike_begin (i ∷ is) x d r r' leads first same = reads (is_in (inst_reads i) d) refl first
+    where
+      rest : Code
+      rest = record { insts = is; exit = x }
+
+      after : (b : Bool) → (if b then true else writes_first is d) ≡ true → (a a' : Places) (g : Arrays) → Now d b a a'
+          → Alike (at (record w { globals = g }) bs a rest) (at (record (beside q w fs) { globals = g }) bs' a' rest)
+      after true e a a' g now = alike_on rest rest leads (inl refl) a a' g now
+      after false e a a' g now = alike_running _ (activation w bs' a' rest) w.waiting fs g w.output
+          (inr (record { blocks = t; to = refl; d = d; first = e; same = now; code = refl; leads = leads })) waits
+
+      reads : (b : Bool) → is_in (inst_reads i) d ≡ b → (if b then false else if is_in (inst_writes i) d then true else writes_first is d) ≡ true
+          → Alike (step_at w bs r (i ∷ is) x) (step_at (beside q w fs) bs' r' (i ∷ is) x)
+      reads true un e = absurd (true≢false (sym e))
+      reads false un e =
+          alike_inst w.program.globals q.globals are.globals w.globals w.output i r r' _ _ (Now d (is_in (inst_writes i) d))
+          (λ x read. same x (unread (inst_reads i) d x un read)) (put_now i d r r' same) (after (is_in (inst_writes i) d) e)
+
+  -- in code that goes to a copy, up to the goto
+  alike_tail : (is : List RInst) (x : RExit) (k : Code) (r r' : Places) → Leads t.with_tails k.exit
+      → Tail bs (record { insts = is; exit = x }) k → Same r r' → Alike (step_at w bs r is x) (step_at (beside q w fs) bs' r' k.insts k.exit)
+  alike_tail [] x k r r' leads tail same = rw (tail.is, tail.goes, tail.there)
+      (alike_running _ (activation w bs' (places_with r' tail.d (Some (wrap 0))) (code_of tail.block)) w.waiting fs w.globals w.output (inr (record {
+        blocks = t;
+        to = refl;
+        d = tail.d;
+        first = tail.first;
+        same = but_set r r' tail.d (Some (wrap 0)) same;
+        code = refl;
+        leads = subst (λ (k : Code). Leads t.with_tails k.exit) tail.is leads;
+      })) waits)
+  alike_tail (i ∷ is) x k r r' leads tail same =
+      let rest : Code = record { insts = is; exit = x } in
+      let rest' : Code = joined rest tail.d tail.block.insts.items tail.block.exit in
+      rw tail.is (alike_inst w.program.globals q.globals are.globals w.globals w.output i r r' _ _ Same (λ x _. same x) (put_same i r r' same)
+      (alike_on rest rest' (subst (λ (k : Code). Leads t.with_tails k.exit) tail.is leads) (inr (record {
+        number = tail.number;
+        block = tail.block;
+        d = tail.d;
+        there = tail.there;
+        goes = tail.goes;
+        spare = tail.spare;
+        is = refl;
+      }))))
+
 module _ (p q : Program) (are : IsTailed p q) (depth : ℕ) where
-  alike_function : (i : ℕ) (out : List ℕ) (go go' : RFunc → Run) → ((n m : RFunc) → HasTails n m → Alike (go n) (go' m))
-      → Alike (with_value (slice_get p.functions i) out go) (with_value (slice_get q.functions i) out go')
-  alike_function i out go go' k = by (slice_get p.functions i) refl
-    where
-      by : (o : Option RFunc) → slice_get p.functions i ≡ o → Alike (with_value o out go) (with_value (slice_get q.functions i) out go')
-      by None e = rw (no_function_at p.functions q.functions are.functions i e) refl
-      by (Some n) e = let m = function_at p.functions q.functions are.functions i n e in rw m.1 (k n m.0 m.2)
-
-  alike_call : (f : ℕ) (vs : List ℕ) (to : Option ℕ) (fs fs' : List Frame) (g : Arrays) (out : List ℕ) → Wait fs fs'
-      → Alike (state_after_call p depth f vs to fs g out) (state_after_call q depth f vs to fs' g out)
-  alike_call f vs to fs fs' g out w = alike_function f out _ _ (λ n m h.
-      rw (same_depth fs fs' w, h.parameters) (room n m h (nat_lt (length fs) depth && (length vs == n.parameters))))
-    where
-      room : (n m : RFunc) → HasTails n m → (b : Bool)
-          → Alike (if b then state_at_block n.blocks.items 0 (argument_registers vs) to fs g out else Failed out)
-          (if b then state_at_block m.blocks.items 0 (argument_registers vs) to fs' g out else Failed out)
-      room n m h true =
-          alike_block n.blocks.items m.blocks.items h.blocks out 0 (argument_registers vs) (argument_registers vs) to fs fs' g refl (λ x. refl) w
-      room n m h false = refl
-
-  module _ (bs bs' : List RBlock) (t : AreMade bs bs') (to : Option ℕ) (fs fs' : List Frame) (w : Wait fs fs') (g : Arrays) (out : List ℕ) where
-    alike_exit : (x : RExit) (r r' : Places) → Leads t.with_tails x → Same r r'
-        → Alike (state_after_exit p depth x bs r to fs g out) (state_after_exit q depth x bs' r' to fs' g out)
-    alike_exit (Goto b) r r' leads same = alike_block bs bs' t out b r r' to fs fs' g (leads b (here b [])) same w
-    alike_exit (Branch c y n) r r' leads same =
-        alike_value (r c) _ out _ _ (same c) (λ v. alike_block bs bs' t out (if v == 0 then n else y) r r' to fs fs' g (either (v == 0)) same w)
-      where
-        either : (b : Bool) → is_reached t.with_tails (if b then n else y) ≡ true
-        either true = leads n (behind y n)
-        either false = leads y (here y (n ∷ []))
-    alike_exit (Call f args d next) r r' leads same =
-        alike_value (words_in r args.items) _ out _ _ (same_words r r' args.items same) (λ vs.
-        alike_found bs bs' t out next _ _ (leads next (here next [])) (λ x x' copy leads.
-        alike_call f vs d (frame_with bs r (code_of x) to ∷ fs) (frame_with bs' r' (code_of x') to ∷ fs') g out
-        (record { blocks = t; to = refl; same = same; copy = copy; leads = leads }, w)))
-    alike_exit (Return None) r r' leads same = alike_return None to fs fs' g out w
-    alike_exit (Return (Some x)) r r' leads same = alike_value (r x) _ out _ _ (same x) (λ v. alike_return (Some v) to fs fs' g out w)
-    alike_exit (Out x next) r r' leads same = alike_value (r x) _ out _ _ (same x) (λ v.
-        alike_block bs bs' t (out ++ v ∷ []) next r r' to fs fs' g (leads next (here next [])) same w)
-
-    -- behind an instruction, where code goes on
-    alike_on : (c c' : Code) → Leads t.with_tails c'.exit → Copy bs c c' → (r r' : Places) (g : Arrays) → Same r r'
-        → Alike (Running (frame_with bs r c to ∷ fs) g out) (Running (frame_with bs' r' c' to ∷ fs') g out)
-    alike_on c c' leads copy r r' g same =
-        alike_running (frame_with bs r c to) (frame_with bs' r' c' to) fs fs' g out
-        (inl (record { blocks = t; to = refl; same = same; copy = copy; leads = leads })) w
-
-    -- in code that is the same
-    alike_at : (is : List RInst) (x : RExit) (r r' : Places) → Leads t.with_tails x → Same r r'
-        → Alike (step_at p depth is x bs r to fs g out) (step_at q depth is x bs' r' to fs' g out)
-    alike_at [] x r r' leads same = alike_exit x r r' leads same
-    alike_at (i ∷ is) x r r' leads same =
-        alike_inst p.globals q.globals are.globals g out i r r' _ _ Same (λ x _. same x) (put_same i r r' same)
-        (alike_on (record { insts = is; exit = x }) (record { insts = is; exit = x }) leads (inl refl))
-
-    -- in a copy that is still to write d
-    alike_begin : (is : List RInst) (x : RExit) (d : ℕ) (r r' : Places) → Leads t.with_tails x → writes_first is d ≡ true → SameBut d r r'
-        → Alike (step_at p depth is x bs r to fs g out) (step_at q depth is x bs' r' to fs' g out)
-    alike_begin [] x d r r' leads first same = absurd (true≢false (sym first))
-    alike_begin (i ∷ is) x d r r' leads first same = reads (is_in (inst_reads i) d) refl first
-      where
-        after : (b : Bool) → (if b then true else writes_first is d) ≡ true → (a a' : Places) (h : Arrays) → Now d b a a'
-            → Alike (Running (frame_with bs a (record { insts = is; exit = x }) to ∷ fs) h out)
-            (Running (frame_with bs' a' (record { insts = is; exit = x }) to ∷ fs') h out)
-        after true e a a' h now = alike_on (record { insts = is; exit = x }) (record { insts = is; exit = x }) leads (inl refl) a a' h now
-        after false e a a' h now = alike_running _ (frame_with bs' a' (record { insts = is; exit = x }) to) fs fs' h out
-            (inr (record { blocks = t; to = refl; d = d; first = e; same = now; code = refl; leads = leads })) w
-
-        reads : (b : Bool) → is_in (inst_reads i) d ≡ b → (if b then false else if is_in (inst_writes i) d then true else writes_first is d) ≡ true
-            → Alike (step_at p depth (i ∷ is) x bs r to fs g out) (step_at q depth (i ∷ is) x bs' r' to fs' g out)
-        reads true un e = absurd (true≢false (sym e))
-        reads false un e =
-            alike_inst p.globals q.globals are.globals g out i r r' _ _ (Now d (is_in (inst_writes i) d))
-            (λ x read. same x (unread (inst_reads i) d x un read)) (put_now i d r r' same) (after (is_in (inst_writes i) d) e)
-
-    -- in code that goes to a copy, up to the goto
-    alike_tail : (is : List RInst) (x : RExit) (k : Code) (r r' : Places) → Leads t.with_tails k.exit
-        → Tail bs (record { insts = is; exit = x }) k → Same r r'
-        → Alike (step_at p depth is x bs r to fs g out) (step_at q depth k.insts k.exit bs' r' to fs' g out)
-    alike_tail [] x k r r' leads tail same = rw (tail.is, tail.goes, tail.there)
-        (alike_running _ (frame_with bs' (places_with r' tail.d (Some (wrap 0))) (code_of tail.block) to) fs fs' g out (inr (record {
-          blocks = t;
-          to = refl;
-          d = tail.d;
-          first = tail.first;
-          same = but_set r r' tail.d (Some (wrap 0)) same;
-          code = refl;
-          leads = subst (λ (k : Code). Leads t.with_tails k.exit) tail.is leads;
-        })) w)
-    alike_tail (i ∷ is) x k r r' leads tail same =
-        let rest : Code = record { insts = is; exit = x } in
-        let rest' : Code = joined rest tail.d tail.block.insts.items tail.block.exit in
-        rw tail.is (alike_inst p.globals q.globals are.globals g out i r r' _ _ Same (λ x _. same x) (put_same i r r' same)
-        (alike_on rest rest' (subst (λ (k : Code). Leads t.with_tails k.exit) tail.is leads) (inr (record {
-          number = tail.number;
-          block = tail.block;
-          d = tail.d;
-          there = tail.there;
-          goes = tail.goes;
-          spare = tail.spare;
-          is = refl;
-        }))))
-
   alike_frame : (f f' : Frame) (fs fs' : List Frame) (g : Arrays) (out : List ℕ) → Waits f f' ⊎ Begins f f' → Wait fs fs'
       → Alike (rtl_step p depth (Running (f ∷ fs) g out)) (rtl_step q depth (Running (f' ∷ fs') g out))
-  alike_frame f f' fs fs' g out (inr b) w = rw (b.to, b.code)
-      (alike_begin f.blocks f'.blocks b.blocks f.result_to fs fs' w g out f.code.insts f.code.exit b.d f.registers f'.registers
-      (subst (λ (k : Code). Leads b.blocks.with_tails k.exit) b.code b.leads) b.first b.same)
-  alike_frame f f' fs fs' g out (inl h) w = rw h.to (by h.copy)
+  alike_frame f f' fs fs' g out top waits = by top
     where
-      by : Copy f.blocks f.code f'.code
-          → Alike (rtl_step p depth (Running (f ∷ fs) g out)) (step_at q depth f'.code.insts f'.code.exit f'.blocks f'.registers f.result_to fs' g out)
-      by (inl is) = rw is (alike_at f.blocks f'.blocks h.blocks f.result_to fs fs' w g out f.code.insts f.code.exit f.registers f'.registers
+      w : Surroundings
+      w = record { program = p; depth = depth; result_to = f.result_to; waiting = fs; globals = g; output = out }
+
+      copied : (h : Waits f f') → Copy f.blocks f.code f'.code
+          → Alike (rtl_step p depth (Running (f ∷ fs) g out)) (step_at (beside q w fs') f'.blocks f'.registers f'.code.insts f'.code.exit)
+      copied h (inl is) = rw is (alike_at q w are fs' waits f.blocks f'.blocks h.blocks f.code.insts f.code.exit f.registers f'.registers
           (subst (λ (k : Code). Leads h.blocks.with_tails k.exit) is h.leads) h.same)
-      by (inr t) =
-          alike_tail f.blocks f'.blocks h.blocks f.result_to fs fs' w g out f.code.insts f.code.exit f'.code f.registers f'.registers h.leads t h.same
+      copied h (inr tail) =
+          alike_tail q w are fs' waits f.blocks f'.blocks h.blocks f.code.insts f.code.exit f'.code f.registers f'.registers h.leads tail h.same
+
+      by : Waits f f' ⊎ Begins f f' → Alike (rtl_step p depth (Running (f ∷ fs) g out)) (rtl_step q depth (Running (f' ∷ fs') g out))
+      by (inl h) = rw h.to (copied h h.copy)
+      by (inr b) = rw (b.to, b.code)
+          (alike_begin q w are fs' waits f.blocks f'.blocks b.blocks f.code.insts f.code.exit b.d f.registers f'.registers
+          (subst (λ (k : Code). Leads b.blocks.with_tails k.exit) b.code b.leads) b.first b.same)
 
   alike_step : (s s' : Run) → Alike s s' → Alike (rtl_step p depth s) (rtl_step q depth s')
   alike_step (Running fs g out) s' h = rw h.is (by fs h.frames h.stack)
@@ -347,8 +360,11 @@ module _ (p q : Program) (are : IsTailed p q) (depth : ℕ) where
   alike_steps (suc n) s s' h = alike_steps n (rtl_step p depth s) (rtl_step q depth s') (alike_step s s' h)
 
   alike_start : Alike (rtl_start p) (rtl_start q)
-  alike_start = rw (are.main, are.globals) (alike_function p.main [] _ _ (λ n m h.
-      alike_block n.blocks.items m.blocks.items h.blocks [] 0 unset_places unset_places None [] [] (map first_values p.globals) refl (λ x. refl) tt))
+  alike_start = rw (are.main, are.globals) (alike_function p q are p.main [] _ _ (λ n m h.
+      alike_block q start [] tt n.blocks.items m.blocks.items h.blocks unset_places unset_places (λ x. refl) 0 refl))
+    where
+      start : Surroundings
+      start = record { program = p; depth = depth; result_to = None; waiting = []; globals = map first_values p.globals; output = [] }
 
 same_outcome : (s s' : Run) → Alike s s' → outcome s' ≡ outcome s
 same_outcome (Running fs g out) s' h = ap outcome h.is

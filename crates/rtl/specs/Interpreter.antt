@@ -1,9 +1,9 @@
 -- What the interpreter keeps, and the state that it stands for.
-use Rattle.std.specs.Prelude.{◌≡◌, ℕ, List, ◌∷◌, Option, Some, map, slice_get}
+use Rattle.std.specs.Prelude.{◌≡◌, ℕ, List, Option, Some, map, slice_get}
 use Rattle.runs.specs.Stores.{Places, Arrays, chain, element_at, places_with}
 use Rattle.runs.specs.Runs.{with_value}
 use Rattle.runs.specs.Kept.{places, arrays}
-use Rattle.runs.specs.Calls.{callers_of, calls_of, state_with_call, reached_by}
+use Rattle.runs.specs.Calls.{callers_of, state_with_call, reached_by}
 use Rattle.runs.specs.declared.interpreter.Interpreter as Runs
 use Rattle.runs.specs.declared.reached.Reached.{Reached}
 use Rattle.rtl.specs.declared.operator.Op.{Op}
@@ -14,8 +14,8 @@ use Rattle.rtl.specs.declared.block.RGlobal.{RGlobal}
 use Rattle.rtl.specs.Operators.{op_result}
 use Rattle.rtl.specs.Programs.{Program}
 use Rattle.rtl.specs.Meaning as Meaning
-use Rattle.rtl.specs.Meaning.{Run, code_of, with_inst, words_in}
-use Rattle.rtl.specs.Meaning.{state_at_block, state_after_call, state_after_return, state_after_exit}
+use Rattle.rtl.specs.Meaning.{Run, Surroundings, around_callee, code_of, with_inst, words_in}
+use Rattle.rtl.specs.Meaning.{state_after_call, state_after_return, state_after_exit}
 use Rattle.rtl.specs.declared.interpreter.Callee.{Callee}
 use Rattle.rtl.specs.declared.interpreter.Frame.{Frame}
 
@@ -40,18 +40,22 @@ Interpreter = Runs.Interpreter Frame
 
 -- the same interpreter with other registers and globals
 abbrev pub state_with : Interpreter → Places → Arrays → Run
-state_with m r g =
-    state_with_call frame_of m (record {
-      blocks = m.frame.blocks.now;
-      registers = r;
-      code = record { insts = m.frame.insts.now; exit = m.frame.exit.now };
-      result_to = m.frame.result_to;
-    }) g
+state_with m r g = state_with_call frame_of m (record (frame_of m.frame) { registers = r }) g
 
 -- the frame at the start of this block
 abbrev pub frame_at : RBlock → Frame → Meaning.Frame
-frame_at block f =
-    record { blocks = f.blocks.now; registers = places f.registers.items; code = code_of block; result_to = f.result_to }
+frame_at block f = record (frame_of f) { code = code_of block }
+
+-- what is around the activation that runs
+abbrev pub around : Program → (depth : ℕ) → Interpreter → Surroundings
+around p depth m = record {
+  program = p;
+  depth = depth;
+  result_to = m.frame.result_to;
+  waiting = map frame_of (callers_of m);
+  globals = arrays m.globals.items;
+  output = m.output.items;
+}
 
 -- what a step has come to is this
 abbrev pub Comes : Run → Reached → Interpreter → Type 0
@@ -69,21 +73,19 @@ after_inst globals i m = with_inst globals i (places m.frame.registers.items) (a
 -- on to a block of the same function
 abbrev pub after_jump : ℕ → Interpreter → Run
 after_jump b m =
-    state_at_block m.frame.blocks.now b (places m.frame.registers.items) m.frame.result_to (map frame_of (callers_of m))
-    (arrays m.globals.items) m.output.items
+    with_value (slice_get m.frame.blocks.now b) m.output.items (λ block.
+    state_with_call frame_of m (frame_at block m.frame) (arrays m.globals.items))
 
 -- a function is called with these words, and its result goes there
 abbrev pub after_call : Program → (depth : ℕ) → Callee → List ℕ → Interpreter → Run
-after_call p depth c vs m =
-    state_after_call p depth c.function vs c.result_to (map frame_of (calls_of m)) (arrays m.globals.items) m.output.items
+after_call p depth c vs m = state_after_call (around_callee (around p depth m) (frame_of m.frame) c.result_to) c.function vs
 
 -- a function is called with the words of its arguments' registers, by a caller that goes on at this block
 abbrev pub after_call_from : Program → (depth : ℕ) → Callee → (next : ℕ) → Interpreter → Run
 after_call_from p depth c next m =
     with_value (words_in (places m.frame.registers.items) c.arguments.now) m.output.items (λ vs.
     with_value (slice_get m.frame.blocks.now next) m.output.items (λ block.
-    state_after_call p depth c.function vs c.result_to (frame_at block m.frame ∷ map frame_of (callers_of m)) (arrays m.globals.items)
-    m.output.items))
+    state_after_call (around_callee (around p depth m) (frame_at block m.frame) c.result_to) c.function vs))
 
 -- the activation returns, with a word or without
 abbrev pub after_return : Option ℕ → Interpreter → Run
@@ -91,6 +93,4 @@ after_return v m = state_after_return v m.frame.result_to (map frame_of (callers
 
 -- the block is left by this exit
 abbrev pub after_exit : Program → (depth : ℕ) → RExit → Interpreter → Run
-after_exit p depth exit m =
-    state_after_exit p depth exit m.frame.blocks.now (places m.frame.registers.items) m.frame.result_to (map frame_of (callers_of m))
-    (arrays m.globals.items) m.output.items
+after_exit p depth exit m = state_after_exit (around p depth m) m.frame.blocks.now (places m.frame.registers.items) exit

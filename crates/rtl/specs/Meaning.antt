@@ -60,11 +60,31 @@ with_inst globals (Store a i b) r g out go =
     with_value (r i) out (λ x. with_value (r b) out (λ v. with_value (kept_in globals a v) out
     (λ w. with_value (arrays_with g a x w) out (λ g'. go r g'))))
 
--- at the start of a block of the same function
-abbrev pub state_at_block : List RBlock → ℕ → Places → Option ℕ → List Frame → Arrays → List ℕ → Run
-state_at_block bs b r to frames g out =
-    with_value (slice_get bs b) out (λ block. Running (record { blocks = bs; registers = r; code = code_of block; result_to = to }
-    ∷ frames) g out)
+-- what is around code that runs: the program and the bound on activations, where the result of the code's activation goes, the activations
+-- that wait, the globals and the output
+pub record Surroundings : Type 0 where
+  pub program : Program
+  pub depth : ℕ
+  pub result_to : Option ℕ
+  pub waiting : List Frame
+  pub globals : Arrays
+  pub output : List ℕ
+
+-- the activation that runs, of a function of these blocks
+abbrev pub activation : Surroundings → List RBlock → Places → Code → Frame
+activation w bs r c = record { blocks = bs; registers = r; code = c; result_to = w.result_to }
+
+-- it has come to this code
+abbrev pub at : Surroundings → List RBlock → Places → Code → Run
+at w bs r c = Running (activation w bs r c ∷ w.waiting) w.globals w.output
+
+-- what is around a function that is called: its caller waits, and its result goes there
+abbrev pub around_callee : Surroundings → (caller : Frame) → Option ℕ → Surroundings
+around_callee w caller to = record w { result_to = to; waiting = caller ∷ w.waiting }
+
+-- at the start of a block
+abbrev pub state_at_block : Surroundings → List RBlock → Places → ℕ → Run
+state_at_block w bs r b = with_value (slice_get bs b) w.output (λ block. at w bs r (code_of block))
 
 -- a result goes to a register, where one is wanted
 abbrev pub with_result : Option ℕ → Option ℕ → Places → List ℕ → (Places → Run) → Run
@@ -75,40 +95,39 @@ with_result (Some d) v r out go = with_value v out (λ w. go (places_with r d (S
 abbrev pub state_after_return : Option ℕ → Option ℕ → List Frame → Arrays → List ℕ → Run
 state_after_return v to [] g out = with_value v out (λ w. Ended w out)
 state_after_return v to (f ∷ frames) g out =
-    with_result to v f.registers out (λ r. Running (record { blocks = f.blocks; registers = r; code = f.code; result_to = f.result_to }
-    ∷ frames) g out)
+    with_result to v f.registers out (λ r. Running (record f { registers = r } ∷ frames) g out)
 
 -- a call of a function with as many arguments as it has parameters, where the bound on activations lets it
-abbrev pub state_after_call : Program → (depth f : ℕ) → List ℕ → Option ℕ → List Frame → Arrays → List ℕ → Run
-state_after_call p depth f vs to frames g out =
-    with_value (slice_get p.functions f) out (λ function.
-    if nat_lt (length frames) depth && (length vs == function.parameters)
-    then state_at_block function.blocks.items 0 (argument_registers vs) to frames g out
-    else Failed out)
+abbrev pub state_after_call : Surroundings → (f : ℕ) → List ℕ → Run
+state_after_call w f vs =
+    with_value (slice_get w.program.functions f) w.output (λ function.
+    if nat_lt (length w.waiting) w.depth && (length vs == function.parameters)
+    then state_at_block w function.blocks.items (argument_registers vs) 0
+    else Failed w.output)
 
 -- how a block is left
-abbrev pub state_after_exit : Program → (depth : ℕ) → RExit → List RBlock → Places → Option ℕ → List Frame → Arrays → List ℕ → Run
-state_after_exit p depth (Goto b) bs r to frames g out = state_at_block bs b r to frames g out
-state_after_exit p depth (Branch a t e) bs r to frames g out =
-    with_value (r a) out (λ v. state_at_block bs (if v == 0 then e else t) r to frames g out)
-state_after_exit p depth (Call f args d next) bs r to frames g out =
-    with_value (words_in r args.items) out (λ vs. with_value (slice_get bs next) out (λ block.
-    state_after_call p depth f vs d (record { blocks = bs; registers = r; code = code_of block; result_to = to } ∷ frames) g out))
-state_after_exit p depth (Return None) bs r to frames g out = state_after_return None to frames g out
-state_after_exit p depth (Return (Some a)) bs r to frames g out = with_value (r a) out (λ v. state_after_return (Some v) to frames g out)
-state_after_exit p depth (Out a next) bs r to frames g out = with_value (r a) out (λ v. state_at_block bs next r to frames g (out
-    ++ v ∷ []))
+abbrev pub state_after_exit : Surroundings → List RBlock → Places → RExit → Run
+state_after_exit w bs r (Goto b) = state_at_block w bs r b
+state_after_exit w bs r (Branch a t e) = with_value (r a) w.output (λ v. state_at_block w bs r (if v == 0 then e else t))
+state_after_exit w bs r (Call f args to next) =
+    with_value (words_in r args.items) w.output (λ vs. with_value (slice_get bs next) w.output (λ block.
+    state_after_call (around_callee w (activation w bs r (code_of block)) to) f vs))
+state_after_exit w bs r (Return None) = state_after_return None w.result_to w.waiting w.globals w.output
+state_after_exit w bs r (Return (Some a)) =
+    with_value (r a) w.output (λ v. state_after_return (Some v) w.result_to w.waiting w.globals w.output)
+state_after_exit w bs r (Out a next) = with_value (r a) w.output (λ v. state_at_block (record w { output = w.output ++ v ∷ [] }) bs r next)
 
 -- one instruction, or the exit where none is left
-abbrev pub step_at : Program → (depth : ℕ) → List RInst → RExit → List RBlock → Places → Option ℕ → List Frame → Arrays → List ℕ → Run
-step_at p depth [] exit bs r to frames g out = state_after_exit p depth exit bs r to frames g out
-step_at p depth (i ∷ is) exit bs r to frames g out =
-    with_inst p.globals i r g out (λ r' g'.
-    Running (record { blocks = bs; registers = r'; code = record { insts = is; exit = exit }; result_to = to } ∷ frames) g' out)
+abbrev pub step_at : Surroundings → List RBlock → Places → List RInst → RExit → Run
+step_at w bs r [] exit = state_after_exit w bs r exit
+step_at w bs r (i ∷ is) exit =
+    with_inst w.program.globals i r w.globals w.output (λ r' g. at (record w { globals = g }) bs r' (record { insts = is; exit = exit }))
 
 abbrev pub rtl_step : Program → ℕ → Run → Run
 rtl_step p depth (Running [] g out) = Failed out
-rtl_step p depth (Running (f ∷ frames) g out) = step_at p depth f.code.insts f.code.exit f.blocks f.registers f.result_to frames g out
+rtl_step p depth (Running (f ∷ frames) g out) =
+    step_at (record { program = p; depth = depth; result_to = f.result_to; waiting = frames; globals = g; output = out }) f.blocks f.registers
+    f.code.insts f.code.exit
 rtl_step p depth (Ended w out) = Ended w out
 rtl_step p depth (Failed out) = Failed out
 
@@ -122,8 +141,9 @@ first_values a = map (λ v. kept a.width (wrap v)) a.first.items
 -- before the first step: an activation of `main`
 abbrev pub rtl_start : Program → Run
 rtl_start p =
-    with_value (slice_get p.functions p.main) [] (λ main.
-    state_at_block main.blocks.items 0 unset_places None [] (map first_values p.globals) [])
+    with_value (slice_get p.functions p.main) [] (λ main. with_value (slice_get main.blocks.items 0) [] (λ entry.
+    Running (record { blocks = main.blocks.items; registers = unset_places; code = code_of entry; result_to = None } ∷ [])
+    (map first_values p.globals) []))
 
 -- what so many steps of a program come to, with at most so many activations at once
 abbrev pub rtl_run : Program → (depth n : ℕ) → Outcome
