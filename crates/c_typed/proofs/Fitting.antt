@@ -10,7 +10,7 @@ use Rattle.words.specs.declared.width.Width.{Width}
 use Rattle.words.specs.declared.width.Width.TheVariants.{Word, Byte}
 use Rattle.words.specs.Words.{wrap}
 use Rattle.words.specs.Widths.{kept}
-use Rattle.runs.specs.Stores.{Places, Arrays, unset_places, places_with, element_at, arrays_with, chain}
+use Rattle.runs.specs.Stores.{Places, Arrays, element_at, arrays_with, chain}
 use Rattle.runs.specs.Runs.{Running, Ended, Failed, with_value}
 use Rattle.runs.proofs.Words.{chain-some, at-index}
 use Rattle.c_tokens.specs.declared.token.IntegerType.{IntegerType}
@@ -18,10 +18,10 @@ use Rattle.c_typed.specs.declared.tree.Destination.{Destination}
 use Rattle.c_typed.specs.declared.tree.Destination.TheVariants.{Local, Global as Variable}
 use Rattle.c_typed.specs.declared.tree.Global.{Global}
 use Rattle.c_typed.specs.Trees.{TypedExpression, TypedFunction, TypedProgram, element, assign, store, call, output, if_else, loop, return_with}
-use Rattle.c_typed.specs.Values.{value_of, values_of}
-use Rattle.c_typed.specs.Meaning.{Todo, Do, Next, Going, Frame, Run, before, before_all, next_point, kept_in, elements_with, with_assignment}
-use Rattle.c_typed.specs.Meaning.{argument_places, state_after_call, state_after_return, todo_of_test, step_at, source_step, source_start}
-use Rattle.c_typed.specs.Meaning.{first_words}
+use Rattle.c_typed.specs.Values.{value_of}
+use Rattle.c_typed.specs.Meaning.{Todo, Do, Next, Going, Frame, Run, before, before_all, next_point, Surroundings, at, with_value_of, kept_in, elements_with, argument_places}
+use Rattle.c_typed.specs.Meaning.{state_after_store, state_after_assignment, frame_at, around_callee, state_after_call, state_with_result, todo_of_test, step_at, source_step}
+use Rattle.c_typed.specs.Meaning.{first_words, source_start}
 use Rattle.c_typed.specs.Laws.{ElementsFit, RunFits}
 
 kept-again : (w : Width) (v : ℕ) → kept w (kept w v) ≡ kept w v
@@ -68,73 +68,52 @@ with-fits : {A : Type 0} (globals : List Global) (o : Option A) (out : List ℕ)
 with-fits globals None out go k = tt
 with-fits globals (Some a) out go k = k a refl
 
-assigned-fits : (globals : List Global) (to : Destination) (v : ℕ) (l : Places) (g : Arrays) (out : List ℕ) (go : Places → Arrays → Run)
-    → ElementsFit globals g → ((l : Places) (g : Arrays) → ElementsFit globals g → RunFits globals (go l g))
-    → RunFits globals (with_assignment globals to v l g out go)
-assigned-fits globals (Local x) v l g out go h k = k (places_with l x (Some v)) g h
-assigned-fits globals (Variable x) v l g out go h k =
-    with-fits globals (elements_with globals g x 0 v) out (λ g'. go l g') (λ g' e. k l g' (elements-fit globals g x 0 v g' h e))
+abbrev AroundFits : Surroundings → Type 0
+AroundFits w = ElementsFit w.program.globals w.globals
 
-called-fits : (p : TypedProgram) (depth f : ℕ) (vs : List ℕ) (to : Option Destination) (frames : List Frame) (g : Arrays) (out : List ℕ)
-    → ElementsFit p.globals g → RunFits p.globals (state_after_call p depth f vs to frames g out)
-called-fits p depth f vs to frames g out h =
-    with-fits p.globals (slice_get p.functions f) out (λ function. if nat_lt (length frames) depth
-    then Running (record { locals = argument_places vs; todo = before_all function.body []; result_to = to } ∷ frames) g out else Failed out)
-    (λ function e. by function (nat_lt (length frames) depth))
+stored-fits : (w : Surroundings) (a i v : ℕ) (l : Places) (k : List Todo) → AroundFits w → RunFits w.program.globals (state_after_store w a i v l k)
+stored-fits w a i v l k h = with-fits _ _ _ _ (λ g e. elements-fit w.program.globals w.globals a i v g h e)
+
+assigned-fits : (w : Surroundings) (to : Destination) (v : ℕ) (l : Places) (k : List Todo) → AroundFits w
+    → RunFits w.program.globals (state_after_assignment w to v l k)
+assigned-fits w (Local x) v l k h = h
+assigned-fits w (Variable x) v l k h = stored-fits w x 0 v l k h
+
+called-fits : (w : Surroundings) (f : ℕ) (vs : List ℕ) → AroundFits w → RunFits w.program.globals (state_after_call w f vs)
+called-fits w f vs h = with-fits _ _ _ _ (λ function e. by function (nat_lt (length w.waiting) w.depth))
   where
-    by : (function : TypedFunction) (t : Bool) → RunFits p.globals (if t then Running
-        (record { locals = argument_places vs; todo = before_all function.body []; result_to = to } ∷ frames) g out else Failed out)
+    by : (function : TypedFunction) (t : Bool)
+        → RunFits w.program.globals (if t then at w (argument_places vs) (before_all function.body []) else Failed w.output)
     by function true = h
     by function false = tt
 
-returned-fits : (globals : List Global) (v : Option ℕ) (to : Option Destination) (frames : List Frame) (g : Arrays) (out : List ℕ) → ElementsFit globals g
-    → RunFits globals (state_after_return globals v to frames g out)
-returned-fits globals v to [] g out h = with-fits globals v out (λ w. Ended w out) (λ w e. tt)
-returned-fits globals v None (f ∷ frames) g out h = h
-returned-fits globals v (Some place) (f ∷ frames) g out h =
-    with-fits globals v out (λ w. with_assignment globals place w f.locals g out
-    (λ l g'. Running (record { locals = l; todo = f.todo; result_to = f.result_to } ∷ frames) g' out))
-    (λ w e. assigned-fits globals place w f.locals g out
-    (λ l g'. Running (record { locals = l; todo = f.todo; result_to = f.result_to } ∷ frames) g' out) h (λ l g' i. i))
+returned-fits : (w : Surroundings) (v : Option ℕ) (to : Option Destination) (frames : List Frame) → AroundFits w
+    → RunFits w.program.globals (state_with_result w v to frames)
+returned-fits w v to [] h = with-fits w.program.globals v w.output (λ v. Ended v w.output) (λ v e. tt)
+returned-fits w v None (f ∷ frames) h = h
+returned-fits w v (Some place) (f ∷ frames) h =
+    with-fits _ _ _ _ (λ v e. assigned-fits (record w { result_to = f.result_to; waiting = frames }) place v f.locals f.todo h)
 
-step-fits : (p : TypedProgram) (depth : ℕ) (l : Places) (k : List Todo) (to : Option Destination) (frames : List Frame) (g : Arrays) (out : List ℕ)
-    → ElementsFit p.globals g → RunFits p.globals (step_at p depth l k to frames g out)
-step-fits p depth l (Do (assign x e) ∷ k) to frames g out h =
-    with-fits p.globals (value_of e l g) out (λ v. with_assignment p.globals x v l g out
-    (λ l' g'. Running (record { locals = l'; todo = k; result_to = to } ∷ frames) g' out))
-    (λ v is. assigned-fits p.globals x v l g out (λ l' g'. Running (record { locals = l'; todo = k; result_to = to } ∷ frames) g' out) h (λ l' g' i. i))
-step-fits p depth l (Do (store x i e) ∷ k) to frames g out h =
-    with-fits p.globals (value_of i l g) out (λ j. with_value (value_of e l g) out
-    (λ v. with_value (elements_with p.globals g x j v) out (λ g'. Running (record { locals = l; todo = k; result_to = to } ∷ frames) g' out)))
-    (λ j at. with-fits p.globals (value_of e l g) out (λ v. with_value (elements_with p.globals g x j v) out
-    (λ g'. Running (record { locals = l; todo = k; result_to = to } ∷ frames) g' out))
-    (λ v is. with-fits p.globals (elements_with p.globals g x j v) out
-    (λ g'. Running (record { locals = l; todo = k; result_to = to } ∷ frames) g' out)
-    (λ g' w. elements-fit p.globals g x j v g' h w)))
-step-fits p depth l (Do (call x f all) ∷ k) to frames g out h =
-    with-fits p.globals (values_of all l g) out
-    (λ vs. state_after_call p depth f vs x (record { locals = l; todo = k; result_to = to } ∷ frames) g out)
-    (λ vs is. called-fits p depth f vs x (record { locals = l; todo = k; result_to = to } ∷ frames) g out h)
-step-fits p depth l (Do (output e) ∷ k) to frames g out h =
-    with-fits p.globals (value_of e l g) out (λ v. Running (record { locals = l; todo = k; result_to = to } ∷ frames) g (out ++ v ∷ [])) (λ v is. h)
-step-fits p depth l (Do (if_else t s u) ∷ k) to frames g out h =
-    with-fits p.globals (value_of t l g) out
-    (λ v. Running (record { locals = l; todo = todo_of_test v (before s k) (before u k); result_to = to } ∷ frames) g out) (λ v is. h)
-step-fits p depth l (Do (loop t last body) ∷ k) to frames g out h =
-    with-fits p.globals (value_of t l g) out (λ v. Running (record {
-      locals = l;
-      todo = todo_of_test v (before body (Next last (loop t last body) ∷ k)) k;
-      result_to = to;
-    } ∷ frames) g out) (λ v is. h)
-step-fits p depth l (Do (return_with None) ∷ k) to frames g out h = returned-fits p.globals None to frames g out h
-step-fits p depth l (Do (return_with (Some e)) ∷ k) to frames g out h =
-    with-fits p.globals (value_of e l g) out (λ v. state_after_return p.globals (Some v) to frames g out)
-    (λ v is. returned-fits p.globals (Some v) to frames g out h)
-step-fits p depth l _ to frames g out h = tt
+value-fits : (w : Surroundings) (l : Places) (e : TypedExpression) (go : ℕ → Run) → ((v : ℕ) → RunFits w.program.globals (go v))
+    → RunFits w.program.globals (with_value_of w l e go)
+value-fits w l e go k = with-fits w.program.globals (value_of e l w.globals) w.output go (λ v is. k v)
+
+step-fits : (w : Surroundings) (l : Places) (k : List Todo) → AroundFits w → RunFits w.program.globals (step_at w l k)
+step-fits w l (Do (assign x e) ∷ k) h = value-fits w l e _ (λ v. assigned-fits w x v l k h)
+step-fits w l (Do (store x i e) ∷ k) h = value-fits w l i _ (λ j. value-fits w l e _ (λ v. stored-fits w x j v l k h))
+step-fits w l (Do (call x f all) ∷ k) h = with-fits _ _ _ _ (λ vs is. called-fits (around_callee w (frame_at w l k) x) f vs h)
+step-fits w l (Do (output e) ∷ k) h = value-fits w l e (λ v. at (record w { output = w.output ++ v ∷ [] }) l k) (λ v. h)
+step-fits w l (Do (if_else t s u) ∷ k) h = value-fits w l t (λ v. at w l (todo_of_test v (before s k) (before u k))) (λ v. h)
+step-fits w l (Do (loop t last body) ∷ k) h =
+    value-fits w l t (λ v. at w l (todo_of_test v (before body (Next last (loop t last body) ∷ k)) k)) (λ v. h)
+step-fits w l (Do (return_with None) ∷ k) h = returned-fits w None w.result_to w.waiting h
+step-fits w l (Do (return_with (Some e)) ∷ k) h = value-fits w l e _ (λ v. returned-fits w (Some v) w.result_to w.waiting h)
+step-fits w l _ h = tt
 
 pub source-step-fits : (p : TypedProgram) (depth : ℕ) (s : Run) → RunFits p.globals s → RunFits p.globals (source_step p depth s)
 source-step-fits p depth (Running (f ∷ frames) g out) h =
-    step-fits p depth (next_point Going f.locals f.todo).locals (next_point Going f.locals f.todo).todo f.result_to frames g out h
+    let point = next_point Going f.locals f.todo in
+    step-fits (record { program = p; depth = depth; result_to = f.result_to; waiting = frames; globals = g; output = out }) point.locals point.todo h
 source-step-fits p depth _ h = tt
 
 first-fits : (globals : List Global) → ElementsFit globals (map first_words globals)
@@ -145,10 +124,7 @@ first-fits globals a x vs at there =
     (All-replicate (λ v. kept x.width v ≡ v) x.length (kept x.width (wrap x.first)) (kept-again x.width (wrap x.first)))
 
 pub source-start-fits : (p : TypedProgram) → RunFits p.globals (source_start p)
-source-start-fits p =
-    with-fits p.globals (slice_get p.functions p.main) []
-    (λ main. Running (record { locals = unset_places; todo = before_all main.body []; result_to = None } ∷ []) (map first_words p.globals) [])
-    (λ main e. first-fits p.globals)
+source-start-fits p = with-fits p.globals (slice_get p.functions p.main) [] _ (λ main e. first-fits p.globals)
 
 byte-below : (w : Width) (v : ℕ) → w ≡ Byte → kept w v ≡ v → v < 2 ^ 8
 byte-below Byte v e f = omega (arith, f)

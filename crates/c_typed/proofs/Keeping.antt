@@ -6,19 +6,19 @@ use Rattle.std.proofs.lemmas.Option.{same_Some}
 use Rattle.std.proofs.lemmas.List.Elements.{All-nil, All-cons, All-head, All-tail, All-push, All-replicate}
 use Rattle.words.specs.Words.{wrap}
 use Rattle.words.specs.Widths.{kept}
-use Rattle.runs.specs.Stores.{Places, Arrays, unset_places, places_with, arrays_with, IsWord, PlacesHoldWords, ArraysHoldWords}
-use Rattle.runs.specs.Runs.{Running, Ended, Failed, with_value}
+use Rattle.runs.specs.Stores.{Places, Arrays, places_with, arrays_with, IsWord, PlacesHoldWords, ArraysHoldWords}
+use Rattle.runs.specs.Runs.{Running, Failed}
 use Rattle.runs.proofs.Words.{chain-some, at-index, unset-words, written-words, stored-words}
 use Rattle.runs.proofs.Keeping.{with-words, running-words, set-words}
 use Rattle.words.proofs.Widths.{wrap_below, kept_below}
 use Rattle.c_typed.specs.declared.tree.Destination.{Destination}
 use Rattle.c_typed.specs.declared.tree.Destination.TheVariants.{Local, Global as Variable}
 use Rattle.c_typed.specs.declared.tree.Global.{Global}
-use Rattle.c_typed.specs.Trees.{TypedFunction, TypedProgram, unset, assign, store, call, output, if_else, loop, break_loop, continue_loop, return_with}
-use Rattle.c_typed.specs.Values.{value_of, values_of}
-use Rattle.c_typed.specs.Meaning.{Todo, Do, Next, Mode, Going, Breaking, Continuing, Frame, Run, before, before_all, next_point, with_assignment}
-use Rattle.c_typed.specs.Meaning.{argument_places, state_after_call, state_after_return, todo_of_test, step_at, source_step, source_start}
-use Rattle.c_typed.specs.Meaning.{kept_in, elements_with, first_words}
+use Rattle.c_typed.specs.Trees.{TypedExpression, TypedFunction, TypedProgram, unset, assign, store, call, output, if_else, loop, break_loop, continue_loop, return_with}
+use Rattle.c_typed.specs.Values.{value_of}
+use Rattle.c_typed.specs.Meaning.{Todo, Do, Next, Mode, Going, Breaking, Continuing, Frame, Run, before, before_all, next_point, Surroundings, frame_at, at}
+use Rattle.c_typed.specs.Meaning.{with_value_of, kept_in, elements_with, state_after_store, state_after_assignment, argument_places, around_callee}
+use Rattle.c_typed.specs.Meaning.{state_after_call, state_with_result, todo_of_test, step_at, source_step, first_words, source_start}
 use Rattle.c_typed.specs.Laws.{FrameHoldsWords, RunHoldsWords}
 use Rattle.c_typed.proofs.Values.{value-word, values-words}
 
@@ -46,90 +46,73 @@ elements-words globals g a i v after h w e =
     let t = chain-some (slice_get globals a) (λ (global : Global). Some (kept global.width v)) s.0 s.1 in
     stored-words g a i s.0 after h (subst IsWord (same_Some (kept t.0.width v) s.0 t.2) (kept_below t.0.width v w)) s.2
 
-placed-words : (globals : List Global) (to : Destination) (v : ℕ) (l : Places) (g : Arrays) (out : List ℕ) (go : Places → Arrays → Run)
-    → IsWord v → PlacesHoldWords l → ArraysHoldWords g → All IsWord out
-    → ((l : Places) (g : Arrays) → PlacesHoldWords l → ArraysHoldWords g → RunHoldsWords (go l g)) → RunHoldsWords (with_assignment globals to v l g out go)
-placed-words globals (Local x) v l g out go w a b c k =
-    k (places_with l x (Some v)) g (set-words l x v a w) b
-placed-words globals (Variable x) v l g out go w a b c k =
-    with-words FrameHoldsWords (elements_with globals g x 0 v) out (λ g'. go l g') c (λ g' e. k l g' a (elements-words globals g x 0 v g' b w e))
+-- words in the calls that wait, in the globals and in the output
+record AroundHoldsWords (w : Surroundings) : Type 0 where
+  waiting : All FrameHoldsWords w.waiting
+  globals : ArraysHoldWords w.globals
+  output : All IsWord w.output
 
-arguments-words : (vs : List ℕ) → All IsWord vs → PlacesHoldWords (argument_places vs)
-arguments-words vs h x v e = at-index IsWord vs x v h e
+at-words : (w : Surroundings) (l : Places) (k : List Todo) → AroundHoldsWords w → PlacesHoldWords l → RunHoldsWords (at w l k)
+at-words w l k h a = running-words FrameHoldsWords (frame_at w l k) w.waiting w.globals w.output a h.waiting h.globals h.output
 
-called-words : (p : TypedProgram) (depth f : ℕ) (vs : List ℕ) (to : Option Destination) (frames : List Frame) (g : Arrays) (out : List ℕ) → All IsWord vs
-    → All FrameHoldsWords frames → ArraysHoldWords g → All IsWord out
-    → RunHoldsWords (state_after_call p depth f vs to frames g out)
-called-words p depth f vs to frames g out a b c d =
-    with-words FrameHoldsWords (slice_get p.functions f) out (λ function. if nat_lt (length frames) depth
-    then Running (record { locals = argument_places vs; todo = before_all function.body []; result_to = to } ∷ frames) g out else Failed out) d
-    (λ function e. by function (nat_lt (length frames) depth))
+after-store-words : (w : Surroundings) (a i v : ℕ) (l : Places) (k : List Todo) → IsWord v → AroundHoldsWords w → PlacesHoldWords l
+    → RunHoldsWords (state_after_store w a i v l k)
+after-store-words w a i v l k word h holds = with-words FrameHoldsWords _ w.output _ h.output (λ g e.
+    running-words FrameHoldsWords (frame_at w l k) w.waiting g w.output holds h.waiting (elements-words w.program.globals w.globals a i v g h.globals word e)
+    h.output)
+
+placed-words : (w : Surroundings) (to : Destination) (v : ℕ) (l : Places) (k : List Todo) → IsWord v → AroundHoldsWords w → PlacesHoldWords l
+    → RunHoldsWords (state_after_assignment w to v l k)
+placed-words w (Local x) v l k word h holds = at-words w (places_with l x (Some v)) k h (set-words l x v holds word)
+placed-words w (Variable x) v l k word h holds = after-store-words w x 0 v l k word h holds
+
+called-words : (w : Surroundings) (f : ℕ) (vs : List ℕ) → All IsWord vs → AroundHoldsWords w → RunHoldsWords (state_after_call w f vs)
+called-words w f vs words h =
+    with-words FrameHoldsWords _ w.output _ h.output (λ function e. by function (nat_lt (length w.waiting) w.depth))
   where
-    by : (function : TypedFunction) (t : Bool) → RunHoldsWords (if t then Running
-        (record { locals = argument_places vs; todo = before_all function.body []; result_to = to } ∷ frames) g out else Failed out)
-    by function true = running-words FrameHoldsWords (record { locals = argument_places vs; todo = before_all function.body []; result_to = to }) frames g out (arguments-words vs a)
-        b c d
-    by function false = d
+    by : (function : TypedFunction) (t : Bool) → RunHoldsWords (if t then at w (argument_places vs) (before_all function.body []) else Failed w.output)
+    by function true =
+        at-words w (argument_places vs) (before_all function.body []) h (λ x v e. at-index IsWord vs x v words e)
+    by function false = h.output
 
-returned-words : (globals : List Global) (v : Option ℕ) (to : Option Destination) (frames : List Frame) (g : Arrays) (out : List ℕ)
-    → ((w : ℕ) → v ≡ Some w → IsWord w) → All FrameHoldsWords frames → ArraysHoldWords g → All IsWord out
-    → RunHoldsWords (state_after_return globals v to frames g out)
-returned-words globals v to [] g out a b c d = with-words FrameHoldsWords v out (λ w. Ended w out) d (λ w e. (a w e, d))
-returned-words globals v None (f ∷ frames) g out a b c d = (b, (c, d))
-returned-words globals v (Some place) (f ∷ frames) g out a b c d =
-    with-words FrameHoldsWords v out (λ w. with_assignment globals place w f.locals g out
-    (λ l g'. Running (record { locals = l; todo = f.todo; result_to = f.result_to } ∷ frames) g' out)) d
-    (λ w e. placed-words globals place w f.locals g out
-    (λ l g'. Running (record { locals = l; todo = f.todo; result_to = f.result_to } ∷ frames) g' out) (a w e)
-    (All-head FrameHoldsWords f frames b) c d
-    (λ l g' h i. running-words FrameHoldsWords (record { locals = l; todo = f.todo; result_to = f.result_to }) frames g' out h (All-tail FrameHoldsWords f frames b) i d))
+returned-words : (w : Surroundings) (v : Option ℕ) (to : Option Destination) (frames : List Frame) → ((x : ℕ) → v ≡ Some x → IsWord x)
+    → All FrameHoldsWords frames → AroundHoldsWords w → RunHoldsWords (state_with_result w v to frames)
+returned-words w v to [] word b h = with-words FrameHoldsWords v w.output _ h.output (λ x e. (word x e, h.output))
+returned-words w v None (f ∷ frames) word b h = (b, (h.globals, h.output))
+returned-words w v (Some place) (f ∷ frames) word b h = with-words FrameHoldsWords v w.output _ h.output (λ x e.
+    placed-words (record w { result_to = f.result_to; waiting = frames }) place x f.locals f.todo (word x e)
+    (record { waiting = All-tail FrameHoldsWords f frames b; globals = h.globals; output = h.output }) (All-head FrameHoldsWords f frames b))
 
-step-words : (p : TypedProgram) (depth : ℕ) (l : Places) (k : List Todo) (to : Option Destination) (frames : List Frame) (g : Arrays) (out : List ℕ)
-    → PlacesHoldWords l → All FrameHoldsWords frames → ArraysHoldWords g → All IsWord out
-    → RunHoldsWords (step_at p depth l k to frames g out)
-step-words p depth l (Do (assign x e) ∷ k) to frames g out a b c d =
-    with-words FrameHoldsWords (value_of e l g) out (λ v. with_assignment p.globals x v l g out
-    (λ l' g'. Running (record { locals = l'; todo = k; result_to = to } ∷ frames) g' out)) d
-    (λ v is. placed-words p.globals x v l g out (λ l' g'. Running (record { locals = l'; todo = k; result_to = to } ∷ frames) g' out)
-    (value-word e l g a c v is) a c d
-    (λ l' g' h i. running-words FrameHoldsWords (record { locals = l'; todo = k; result_to = to }) frames g' out h b i d))
-step-words p depth l (Do (store x i e) ∷ k) to frames g out a b c d =
-    with-words FrameHoldsWords (value_of i l g) out (λ j. with_value (value_of e l g) out
-    (λ v. with_value (elements_with p.globals g x j v) out (λ g'. Running (record { locals = l; todo = k; result_to = to } ∷ frames) g' out))) d
-    (λ j at. with-words FrameHoldsWords (value_of e l g) out (λ v. with_value (elements_with p.globals g x j v) out
-    (λ g'. Running (record { locals = l; todo = k; result_to = to } ∷ frames) g' out)) d
-    (λ v is. with-words FrameHoldsWords (elements_with p.globals g x j v) out (λ g'. Running (record { locals = l; todo = k; result_to = to } ∷ frames) g' out) d
-    (λ g' w. running-words FrameHoldsWords (record { locals = l; todo = k; result_to = to }) frames g' out a b
-    (elements-words p.globals g x j v g' c (value-word e l g a c v is) w) d)))
-step-words p depth l (Do (call x f all) ∷ k) to frames g out a b c d =
-    with-words FrameHoldsWords (values_of all l g) out (λ vs. state_after_call p depth f vs x (record { locals = l; todo = k; result_to = to } ∷ frames) g out) d
-    (λ vs is. called-words p depth f vs x (record { locals = l; todo = k; result_to = to } ∷ frames) g out (values-words all l g a c vs is)
-    (All-cons FrameHoldsWords (record { locals = l; todo = k; result_to = to }) frames a b) c d)
-step-words p depth l (Do (output e) ∷ k) to frames g out a b c d =
-    with-words FrameHoldsWords (value_of e l g) out (λ v. Running (record { locals = l; todo = k; result_to = to } ∷ frames) g (out ++ v ∷ [])) d
-    (λ v is. running-words FrameHoldsWords (record { locals = l; todo = k; result_to = to }) frames g (out ++ v ∷ []) a b c (All-push IsWord out v d (value-word e l g a c v is)))
-step-words p depth l (Do (if_else t s u) ∷ k) to frames g out a b c d =
-    with-words FrameHoldsWords (value_of t l g) out (λ v. Running (record { locals = l; todo = todo_of_test v (before s k) (before u k); result_to = to } ∷ frames) g out) d
-    (λ v is. running-words FrameHoldsWords (record { locals = l; todo = todo_of_test v (before s k) (before u k); result_to = to }) frames g out a b c d)
-step-words p depth l (Do (loop t last body) ∷ k) to frames g out a b c d =
-    with-words FrameHoldsWords (value_of t l g) out (λ v. Running (record {
-      locals = l;
-      todo = todo_of_test v (before body (Next last (loop t last body) ∷ k)) k;
-      result_to =
-          to;
-    } ∷ frames) g out) d
-    (λ v is. running-words FrameHoldsWords (record { locals = l; todo = todo_of_test v (before body (Next last (loop t last body) ∷ k)) k; result_to = to }) frames g out a b c d)
-step-words p depth l (Do (return_with None) ∷ k) to frames g out a b c d = returned-words p.globals None to frames g out (λ w e. let never = e in cc) b c d
-step-words p depth l (Do (return_with (Some e)) ∷ k) to frames g out a b c d =
-    with-words FrameHoldsWords (value_of e l g) out (λ v. state_after_return p.globals (Some v) to frames g out) d
-    (λ v is. returned-words p.globals (Some v) to frames g out (λ w same. subst IsWord (same_Some v w same) (value-word e l g a c v is)) b c d)
-step-words p depth l _ to frames g out a b c d = d
+module _ (w : Surroundings) (h : AroundHoldsWords w) (l : Places) (holds : PlacesHoldWords l) where
+  -- on with the value of an expression
+  value-first : (e : TypedExpression) (go : ℕ → Run) → ((v : ℕ) → IsWord v → RunHoldsWords (go v)) → RunHoldsWords (with_value_of w l e go)
+  value-first e go k =
+      with-words FrameHoldsWords (value_of e l w.globals) w.output go h.output (λ v is. k v (value-word e l w.globals holds h.globals v is))
+
+  step-words : (k : List Todo) → RunHoldsWords (step_at w l k)
+  step-words (Do (assign x e) ∷ k) = value-first e _ (λ v word. placed-words w x v l k word h holds)
+  step-words (Do (store x i e) ∷ k) = value-first i _ (λ j _. value-first e _ (λ v word. after-store-words w x j v l k word h holds))
+  step-words (Do (call x f all) ∷ k) = with-words FrameHoldsWords _ w.output _ h.output (λ vs is.
+      called-words (around_callee w (frame_at w l k) x) f vs (values-words all l w.globals holds h.globals vs is)
+      (record { waiting = All-cons FrameHoldsWords (frame_at w l k) w.waiting holds h.waiting; globals = h.globals; output = h.output }))
+  step-words (Do (output e) ∷ k) = value-first e _ (λ v word.
+      at-words (record w { output = w.output ++ v ∷ [] }) l k
+      (record { waiting = h.waiting; globals = h.globals; output = All-push IsWord w.output v h.output word }) holds)
+  step-words (Do (if_else t s u) ∷ k) = value-first t _ (λ v _. at-words w l (todo_of_test v (before s k) (before u k)) h holds)
+  step-words (Do (loop t last body) ∷ k) =
+      value-first t _ (λ v _. at-words w l (todo_of_test v (before body (Next last (loop t last body) ∷ k)) k) h holds)
+  step-words (Do (return_with None) ∷ k) = returned-words w None w.result_to w.waiting (λ x e. let never = e in cc) h.waiting h
+  step-words (Do (return_with (Some e)) ∷ k) = value-first e _ (λ v word.
+      returned-words w (Some v) w.result_to w.waiting (λ x same. subst IsWord (same_Some v x same) word) h.waiting h)
+  step-words _ = h.output
 
 pub source-step-words : (p : TypedProgram) (depth : ℕ) (s : Run) → RunHoldsWords s → RunHoldsWords (source_step p depth s)
 source-step-words p depth (Running [] g out) h = h.1.1
 source-step-words p depth (Running (f ∷ frames) g out) h =
-    step-words p depth (next_point Going f.locals f.todo).locals (next_point Going f.locals f.todo).todo f.result_to frames g out
-    (next_point-words Going f.locals f.todo (All-head FrameHoldsWords f frames h.0)) (All-tail FrameHoldsWords f frames h.0) h.1.0 h.1.1
+    let point = next_point Going f.locals f.todo in
+    step-words (record { program = p; depth = depth; result_to = f.result_to; waiting = frames; globals = g; output = out })
+    (record { waiting = All-tail FrameHoldsWords f frames h.0; globals = h.1.0; output = h.1.1 }) point.locals
+    (next_point-words Going f.locals f.todo (All-head FrameHoldsWords f frames h.0)) point.todo
 source-step-words p depth _ h = h
 
 globals-words : (all : List Global) → ArraysHoldWords (map first_words all)
@@ -138,8 +121,5 @@ globals-words (a ∷ rest) = All-cons (All IsWord) (first_words a) (map first_wo
     (All-replicate IsWord a.length (kept a.width (wrap a.first)) (kept_below a.width (wrap a.first) (wrap_below a.first))) (globals-words rest)
 
 pub source-start-words : (p : TypedProgram) → RunHoldsWords (source_start p)
-source-start-words p =
-    with-words FrameHoldsWords (slice_get p.functions p.main) [] (λ main. Running (record { locals = unset_places; todo = before_all main.body []; result_to = None } ∷ [])
-    (map first_words p.globals) []) (All-nil IsWord)
-    (λ main e. running-words FrameHoldsWords (record { locals = unset_places; todo = before_all main.body []; result_to = None }) [] (map first_words p.globals) [] unset-words
-    (All-nil FrameHoldsWords) (globals-words p.globals) (All-nil IsWord))
+source-start-words p = with-words FrameHoldsWords (slice_get p.functions p.main) [] _ (All-nil IsWord) (λ main e.
+    running-words FrameHoldsWords _ [] (map first_words p.globals) [] unset-words (All-nil FrameHoldsWords) (globals-words p.globals) (All-nil IsWord))

@@ -8,7 +8,7 @@ use Rattle.words.specs.Widths.{kept}
 use Rattle.c_typed.specs.declared.tree.Destination.{Destination}
 use Rattle.c_typed.specs.declared.tree.Destination.TheVariants.{Local, Global as Variable}
 use Rattle.c_typed.specs.declared.tree.Global.{Global}
-use Rattle.c_typed.specs.Trees.{TypedStatement, TypedStatements, empty, block, unset, assign, store, call, output, if_else, loop}
+use Rattle.c_typed.specs.Trees.{TypedExpression, TypedStatement, TypedStatements, empty, block, unset, assign, store, call, output, if_else, loop}
 use Rattle.c_typed.specs.Trees.{break_loop, continue_loop}
 use Rattle.c_typed.specs.Trees.{return_with, no_statements, more_statements, TypedProgram}
 use Rattle.c_typed.specs.Values.{value_of, values_of}
@@ -71,6 +71,27 @@ pub record Frame : Type 0 where
 abbrev pub Run : Type 0
 Run = Configuration Frame
 
+-- what surrounds the statements that run: the program and the bound on the calls that are active, where the result of
+-- this call goes, the calls that wait, the globals, and the output so far
+pub record Surroundings : Type 0 where
+  pub program : TypedProgram
+  pub depth : ℕ
+  pub result_to : Option Destination
+  pub waiting : List Frame
+  pub globals : Arrays
+  pub output : List ℕ
+
+-- the call that runs, at these locals, with this to do
+abbrev pub frame_at : Surroundings → Places → List Todo → Frame
+frame_at w l k = record { locals = l; todo = k; result_to = w.result_to }
+
+abbrev pub at : Surroundings → Places → List Todo → Run
+at w l k = Running (frame_at w l k ∷ w.waiting) w.globals w.output
+
+-- goes on with the value of an expression, or fails
+abbrev pub with_value_of : Surroundings → Places → TypedExpression → (ℕ → Run) → Run
+with_value_of w l e go = with_value (value_of e l w.globals) w.output go
+
 -- what an element of a global keeps of a word, or none where there is no such global
 abbrev pub kept_in : List Global → ℕ → ℕ → Option ℕ
 kept_in globals a v = chain (slice_get globals a) (λ global. Some (kept global.width v))
@@ -79,66 +100,73 @@ kept_in globals a v = chain (slice_get globals a) (λ global. Some (kept global.
 abbrev pub elements_with : List Global → Arrays → ℕ → ℕ → ℕ → Option Arrays
 elements_with globals g a i v = chain (kept_in globals a v) (λ w. arrays_with g a i w)
 
--- a word goes to a local, or to a global variable, which keeps what its width lets it
-abbrev pub with_assignment : List Global → Destination → ℕ → Places → Arrays → List ℕ → (Places → Arrays → Run) → Run
-with_assignment globals (Local x) v l g out go = go (places_with l x (Some v)) g
-with_assignment globals (Variable x) v l g out go = with_value (elements_with globals g x 0 v) out (λ g'. go l g')
+-- a word goes to an element of a global
+abbrev pub state_after_store : Surroundings → (global index word : ℕ) → Places → List Todo → Run
+state_after_store w a i v l k =
+    with_value (elements_with w.program.globals w.globals a i v) w.output (λ g. at (record w { globals = g }) l k)
+
+-- a word goes to a local, or to a global variable
+abbrev pub state_after_assignment : Surroundings → Destination → (word : ℕ) → Places → List Todo → Run
+state_after_assignment w (Local x) v l k = at w (places_with l x (Some v)) k
+state_after_assignment w (Variable x) v l k = state_after_store w x 0 v l k
 
 -- the arguments are the first locals
 abbrev pub argument_places : List ℕ → Places
 argument_places vs = λ x. slice_get vs x
 
--- a call of a function, where the bound on the calls that are active lets it
-abbrev pub state_after_call : TypedProgram → (depth f : ℕ) → List ℕ → Option Destination → List Frame → Arrays → List ℕ → Run
-state_after_call p depth f vs to frames g out =
-    with_value (slice_get p.functions f) out (λ function.
-    if nat_lt (length frames) depth
-    then Running (record { locals = argument_places vs; todo = before_all function.body []; result_to = to } ∷ frames) g out
-    else Failed out)
+-- what surrounds a call whose caller waits for it
+abbrev pub around_callee : Surroundings → (caller : Frame) → (result_to : Option Destination) → Surroundings
+around_callee w caller to = record w { result_to = to; waiting = caller ∷ w.waiting }
 
--- a return with a word or without, to the call below: where a word is wanted there has to be one. The last call's word
--- ends the run
-abbrev pub state_after_return : List Global → Option ℕ → Option Destination → List Frame → Arrays → List ℕ → Run
-state_after_return globals v to [] g out = with_value v out (λ w. Ended w out)
-state_after_return globals v None (f ∷ frames) g out = Running (f ∷ frames) g out
-state_after_return globals v (Some place) (f ∷ frames) g out =
-    with_value v out (λ w. with_assignment globals place w f.locals g out (λ l g'.
-    Running (record { locals = l; todo = f.todo; result_to = f.result_to } ∷ frames) g' out))
+-- a call of a function begins, where the bound on the calls that are active lets it
+abbrev pub state_after_call : Surroundings → (function : ℕ) → (arguments : List ℕ) → Run
+state_after_call w f vs =
+    with_value (slice_get w.program.functions f) w.output (λ function.
+    if nat_lt (length w.waiting) w.depth then at w (argument_places vs) (before_all function.body []) else Failed w.output)
+
+-- a word or none comes to the calls that wait: where a word is wanted there has to be one. The last call's word ends the
+-- run
+abbrev pub state_with_result : Surroundings → Option ℕ → (result_to : Option Destination) → (waiting : List Frame) → Run
+state_with_result w v to [] = with_value v w.output (λ v. Ended v w.output)
+state_with_result w v None (f ∷ frames) = Running (f ∷ frames) w.globals w.output
+state_with_result w v (Some place) (f ∷ frames) =
+    with_value v w.output (λ v.
+    state_after_assignment (record w { result_to = f.result_to; waiting = frames }) place v f.locals f.todo)
+
+-- a return with a word or without, to the call below
+abbrev pub state_after_return : Surroundings → Option ℕ → Run
+state_after_return w v = state_with_result w v w.result_to w.waiting
 
 -- by the word of a test
 abbrev pub todo_of_test : ℕ → List Todo → List Todo → List Todo
 todo_of_test v a b = if v == 0 then b else a
 
 -- one step, at a statement that takes one
-abbrev pub step_at : TypedProgram → (depth : ℕ) → Places → List Todo → Option Destination → List Frame → Arrays → List ℕ → Run
-step_at p depth l (Do (assign x e) ∷ k) to frames g out =
-    with_value (value_of e l g) out (λ v. with_assignment p.globals x v l g out (λ l' g'.
-    Running (record { locals = l'; todo = k; result_to = to } ∷ frames) g' out))
-step_at p depth l (Do (store a i e) ∷ k) to frames g out =
-    with_value (value_of i l g) out (λ x. with_value (value_of e l g) out (λ v. with_value (elements_with p.globals g a x v) out (λ g'.
-    Running (record { locals = l; todo = k; result_to = to } ∷ frames) g' out)))
-step_at p depth l (Do (call x f all) ∷ k) to frames g out =
-    with_value (values_of all l g) out (λ vs.
-    state_after_call p depth f vs x (record { locals = l; todo = k; result_to = to } ∷ frames) g out)
-step_at p depth l (Do (output e) ∷ k) to frames g out =
-    with_value (value_of e l g) out (λ v.
-    Running (record { locals = l; todo = k; result_to = to } ∷ frames) g (out ++ v ∷ []))
-step_at p depth l (Do (if_else c a b) ∷ k) to frames g out =
-    with_value (value_of c l g) out (λ v.
-    Running (record { locals = l; todo = todo_of_test v (before a k) (before b k); result_to = to } ∷ frames) g out)
-step_at p depth l (Do (loop c last body) ∷ k) to frames g out =
-    with_value (value_of c l g) out (λ v.
-    Running (record { locals = l; todo = todo_of_test v (before body (Next last (loop c last body) ∷ k)) k; result_to = to }
-    ∷ frames) g out)
-step_at p depth l (Do (return_with None) ∷ k) to frames g out = state_after_return p.globals None to frames g out
-step_at p depth l (Do (return_with (Some e)) ∷ k) to frames g out =
-    with_value (value_of e l g) out (λ v. state_after_return p.globals (Some v) to frames g out)
-step_at p depth l _ to frames g out = Failed out
+abbrev pub step_at : Surroundings → Places → List Todo → Run
+step_at w l (Do (assign x e) ∷ k) = with_value_of w l e (λ v. state_after_assignment w x v l k)
+step_at w l (Do (store a i e) ∷ k) = with_value_of w l i (λ x. with_value_of w l e (λ v. state_after_store w a x v l k))
+step_at w l (Do (call to f all) ∷ k) =
+    with_value (values_of all l w.globals) w.output (λ vs. state_after_call (around_callee w (frame_at w l k) to) f vs)
+step_at w l (Do (output e) ∷ k) = with_value_of w l e (λ v. at (record w { output = w.output ++ v ∷ [] }) l k)
+step_at w l (Do (if_else c a b) ∷ k) = with_value_of w l c (λ v. at w l (todo_of_test v (before a k) (before b k)))
+step_at w l (Do (loop c last body) ∷ k) =
+    with_value_of w l c (λ v. at w l (todo_of_test v (before body (Next last (loop c last body) ∷ k)) k))
+step_at w l (Do (return_with None) ∷ k) = state_after_return w None
+step_at w l (Do (return_with (Some e)) ∷ k) = with_value_of w l e (λ v. state_after_return w (Some v))
+step_at w l _ = Failed w.output
 
 abbrev pub source_step : TypedProgram → ℕ → Run → Run
 source_step p depth (Running [] g out) = Failed out
 source_step p depth (Running (f ∷ frames) g out) =
-    let at = next_point Going f.locals f.todo in step_at p depth at.locals at.todo f.result_to frames g out
+    let w : Surroundings = record {
+      program = p;
+      depth = depth;
+      result_to = f.result_to;
+      waiting = frames;
+      globals = g;
+      output = out;
+    } in
+    let point = next_point Going f.locals f.todo in step_at w point.locals point.todo
 source_step p depth (Ended w out) = Ended w out
 source_step p depth (Failed out) = Failed out
 
