@@ -14,10 +14,10 @@ use Rattle.rtl.specs.declared.operator.Op.TheVariants as O
 use Rattle.rtl.specs.declared.instruction.RInst.TheVariants as I
 use Rattle.rtl.specs.declared.instruction.RExit.TheVariants as X
 use Rattle.rtl.specs.declared.block.RBlock.{RBlock}
-use Rattle.rtl.specs.Meaning.{Code, rtl_step, state_at_block}
+use Rattle.rtl.specs.Meaning.{Code, Surroundings, at, rtl_step, state_at_block}
 use Rattle.rtl_emit.specs.Operations.{ComputesContrary}
 use Rattle.rtl_emit.specs.Blocks.{goto, exit_code, first, Spot, line_of, Lands, At}
-use Rattle.rtl_emit.specs.Runs.{Goes, Moves, Surroundings, at, Holds, Yields, Arrives}
+use Rattle.rtl_emit.specs.Runs.{Goes, Moves, Holds, Puts, Yields, Arrives}
 use Rattle.rtl_emit.specs.Expressions.{IsPlace, Evaluates, Fetches, Operates, Combines, Decides, IsTruth}
 use Rattle.rtl_emit.specs.declared.operation.Operation.{Operation}
 use Rattle.rtl_emit.proofs.Operations.{straight_op}
@@ -28,15 +28,15 @@ use Rattle.rtl_emit.proofs.Values.{taken, yields_after, yields_then}
 -- a branch, by the word in a register
 branch : (w : Surroundings) (bs : List RBlock) (p yes_block no_block : ℕ) (r : Places) (v : ℕ) → r p ≡ Some v
     → rtl_step w.program w.depth (at w bs r (exit_code (X.Branch p yes_block no_block)))
-    ≡ state_at_block bs (if nat_eq v 0 then no_block else yes_block) r w.result_to w.waiting w.globals w.output
+    ≡ state_at_block w bs r (if nat_eq v 0 then no_block else yes_block)
 branch w bs p yes_block no_block r v e =
-    with_some (r p) v w.output (λ v. state_at_block bs (if nat_eq v 0 then no_block else yes_block) r w.result_to w.waiting w.globals w.output) e
+    with_some (r p) v w.output (λ v. state_at_block w bs r (if nat_eq v 0 then no_block else yes_block)) e
 
 -- the code of a block, where a condition has arrived
 enters : (w : Surroundings) (bs : List RBlock) (free : ℕ) (r : Places) (from code : Code) (side : ℕ) (ar : Arrives w bs free r from side) → At bs side code
     → Moves w.program w.depth (at w bs r from) (at w bs ar.regs code)
 enters w bs free r from code side ar a =
-    subst (λ s. Moves w.program w.depth (at w bs r from) s) (jump_to a ar.regs w.result_to w.waiting w.globals w.output) ar.moves
+    subst (λ s. Moves w.program w.depth (at w bs r from) s) (jump_to a w ar.regs) ar.moves
 
 -- on from the block that a first condition led to
 arrives_then : (w : Surroundings) (bs : List RBlock) (free : ℕ) (r : Places) (from second_code : Code) (second to : ℕ) (a : Arrives w bs free r from second)
@@ -75,8 +75,8 @@ negated_decides bs e z yes_block no_block free from le ne = record {
       let y = ne.by w l r v (truth (nat_eq v 0)) h is refl in
       arrives_at w bs free r from _ _ (flipped (nat_eq v 0) yes_block no_block) (record {
         regs = y.regs;
-        moves = moves_then y.moves (goes_one w.program w.depth _ _ (branch w bs z no_block yes_block y.regs (truth (nat_eq v 0)) y.value));
-        kept = λ x k. let ne : x ≢ z = omega arith in y.kept x k ne;
+        moves = moves_then y.moves (goes_one w.program w.depth _ _ (branch w bs z no_block yes_block y.regs (truth (nat_eq v 0)) y.done.value));
+        kept = λ x k. let ne : x ≢ z = omega arith in y.done.kept x k ne;
       });
 }
 
@@ -94,8 +94,8 @@ contrary_decides bs o k op a b z yes_block no_block free from tests le o' = reco
       arrives_at w bs free r from _ _ (same_way t.0 yes_block no_block ∙ sym (flipped t.0 no_block yes_block)
       ∙ ap (λ v. if nat_eq v 0 then no_block else yes_block) is) (record {
         regs = y.regs;
-        moves = moves_then y.moves (goes_one w.program w.depth _ _ (branch w bs z no_block yes_block y.regs (truth (not t.0)) y.value));
-        kept = λ x k. let ne : x ≢ z = omega arith in y.kept x k ne;
+        moves = moves_then y.moves (goes_one w.program w.depth _ _ (branch w bs z no_block yes_block y.regs (truth (not t.0)) y.done.value));
+        kept = λ x k. let ne : x ≢ z = omega arith in y.done.kept x k ne;
       });
 }
 
@@ -179,16 +179,15 @@ conditional_decides bs k c a b yes_block no_block y n free from y_code n_code dc
 
 -- a constant in a block, and on to a spot
 const_jump : (w : Surroundings) (bs : List RBlock) (free d x join side : ℕ) (after : Spot) (r0 : Places) (from : Code) → wrap x ≡ x → Lands bs join after
-    → At bs side (first (I.Const d x) (goto join)) → (ar : Arrives w bs free r0 from side) → Yields w bs free d r0 from (line_of after) x
+    → At bs side (first (I.Const d x) (goto join)) → (ar : Arrives w bs free r0 from side) → Yields w bs r0 from (line_of after) (Puts free d x r0)
 const_jump w bs free d x join side after r0 from small aj side_at ar =
     let in_side = enters w bs free r0 from _ side ar side_at in
     let write : Goes w.program w.depth (at w bs ar.regs (first (I.Const d x) (goto join))) (at w bs (places_with ar.regs d (Some x)) (goto join)) =
     goes_one w.program w.depth _ _ (ap (λ x. at w bs (places_with ar.regs d (Some x)) (goto join)) small) in
     record {
       regs = places_with ar.regs d (Some x);
-      moves = moves_then in_side (goes_then write (joins join after aj (places_with ar.regs d (Some x)) w.result_to w.waiting w.globals w.output));
-      value = written_here ar.regs d (Some x);
-      kept = λ y k ne. written_other ar.regs d (Some x) y ne ∙ ar.kept y k;
+      moves = moves_then in_side (goes_then write (joins w join after aj (places_with ar.regs d (Some x))));
+      done = record { value = written_here ar.regs d (Some x); kept = λ y k ne. written_other ar.regs d (Some x) y ne ∙ ar.kept y k };
     }
 
 -- an expression whose value is 0 or 1
@@ -231,10 +230,10 @@ told bs e d yes_block no_block free from after test t de = record {
 }
   where
     by : (w : Surroundings) (r : Places) (v : ℕ) (z : Bool) → (if z then 0 else 1) ≡ v → Arrives w bs free r from (if z then no_block else yes_block)
-        → Yields w bs free d r from (line_of after) v
-    by w r v true is ar = subst (λ v. Yields w bs free d r from (line_of after) v) is
+        → Yields w bs r from (line_of after) (Puts free d v r)
+    by w r v true is ar = subst (λ v. Yields w bs r from (line_of after) (Puts free d v r)) is
         (const_jump w bs free d 0 t.join no_block after r from refl t.joined t.no_at ar)
-    by w r v false is ar = subst (λ v. Yields w bs free d r from (line_of after) v) is
+    by w r v false is ar = subst (λ v. Yields w bs r from (line_of after) (Puts free d v r)) is
         (const_jump w bs free d 1 t.join yes_block after r from refl t.joined t.yes_at ar)
 
 pub conditional_value : (bs : List RBlock) (k : IntegerType) (c a b : TypedExpression) (d join y n free : ℕ) (from : Code) (after : Spot)
@@ -249,7 +248,7 @@ conditional_value bs k c a b d join y n free from after y_code n_code aj aty atn
 }
   where
     through : (w : Surroundings) (r : Places) (side_code : Code) (side : ℕ) (v : ℕ) → At bs side side_code → (ar : Arrives w bs free r from side)
-        → Yields w bs free d ar.regs side_code (goto join) v → Yields w bs free d r from (line_of after) v
+        → Yields w bs ar.regs side_code (goto join) (Puts free d v ar.regs) → Yields w bs r from (line_of after) (Puts free d v r)
     through w r side_code side v ats ar y =
         yields_after w bs free d r ar.regs from side_code (line_of after) v (goes_of (enters w bs free r from side_code side ar ats)) ar.kept
-        (yields_then w bs free d ar.regs side_code (goto join) (line_of after) v y (joins join after aj y.regs w.result_to w.waiting w.globals w.output))
+        (yields_then w bs free d ar.regs side_code (goto join) (line_of after) v y (joins w join after aj y.regs))

@@ -13,9 +13,9 @@ use Rattle.rtl.specs.declared.block.RBlock.{RBlock}
 use Rattle.rtl.specs.declared.instruction.RInst.TheVariants as I
 use Rattle.rtl.specs.Meaning.{Code}
 use Rattle.rtl.specs.declared.limits.TheConstants.{MAX_REGISTERS, MAX_BLOCKS}
-use Rattle.rtl_emit.specs.Blocks.{open_code, first, line_of, insts_of, insts_at, insts_in, Spot, Grows, At, Adds}
-use Rattle.rtl_emit.specs.Emits.{Size, Covers, Emits, value_size, condition_size, both_size, left_targets}
-use Rattle.rtl_emit.specs.Emits.{EmitsValue, EmitsOperand, EmitsBranch, EmitsBoth, EmitsBranchBlock}
+use Rattle.rtl_emit.specs.Blocks.{open_code, first, line_of, insts_of, insts_at, insts_in, Spot, Grows, At}
+use Rattle.rtl_emit.specs.Emits.{Size, Covers, Description, Emits, KeepsCode, value_size, condition_size, both_size, value, operand, two_operands}
+use Rattle.rtl_emit.specs.Emits.{branch, condition_branch, own_branch, left_targets}
 use Rattle.rtl_emit.specs.Expressions.{IsPlace, IsTruth, Decides, Evaluates, Fetches, Combines}
 use Rattle.rtl_emit.specs.Operations.{IsPrefix, Computes, inst_of}
 use Rattle.rtl_emit.specs.Sizes.{spare_registers, both_registers, logical_of, joint, Beyond, by_branches, is_logical, place_registers, next_free, value_registers, value_blocks, globals_named}
@@ -53,34 +53,36 @@ pub record Ends (last whole : Size) (k : ℕ) : Type 0 where
   pub room : last.registers ≤ MAX_REGISTERS → whole.registers ≤ MAX_REGISTERS
   pub globals : last.globals ≤ whole.globals
 
-pub ended : {A : Type 0} (last whole : Size) (k : ℕ) (old mid new : List RBlock) (Keeps Keeps' : A → Type 0) (Does Does' : A → List RBlock → Type 0)
-    (r : Result A LowerFault) → Ends last whole k → Grows old mid → length mid ≡ length old + k
-    → ((x : A) → Keeps x → Keeps' x) → ((x : A) → Over mid new (Does x) → Over old new (Does' x))
-    → Emits last mid new Keeps Does r → Emits whole old new Keeps' Does' r
-ended last whole k old mid new Keeps Keeps' Does Does' (Ok x) sizes g n keeps does e = record {
-  grows = grows_then old mid new g e.grows;
-  count = let c : length new ≡ length mid + last.blocks = e.count in omega (arith, c, n, sizes.blocks);
-  room = sizes.room e.room;
-  limit = tt;
-  sound = keeps x e.sound;
-  does = does x e.does;
-}
-ended last whole k old mid new Keeps Keeps' Does Does' (Err f) sizes g n keeps does e = record {
-  grows = grows_then old mid new g e.grows;
-  count = tt;
-  room = tt;
-  limit = λ is. beyond_more last.registers (length mid + last.blocks) last.globals whole.registers (length old + whole.blocks) whole.globals
-      sizes.registers (omega (arith, n, sizes.blocks)) sizes.globals (e.limit is);
-  sound = tt;
-  does = tt;
-}
+pub ended : {A : Type 0} {last whole : Description A} {old mid new : List RBlock} {r : Result A LowerFault} (k : ℕ) → Emits last mid new r
+    → Ends last.size whole.size k → Grows old mid → length mid ≡ length old + k
+    → ((x : A) → last.Keeps mid new x → whole.Keeps old new x) → ((x : A) → Over mid new (last.Does x) → Over old new (whole.Does x))
+    → Emits whole old new r
+ended {A} {last} {whole} {old} {mid} {new} {r} k emits sizes g n keeps does = by r emits
+  where
+    by : (r : Result A LowerFault) → Emits last mid new r → Emits whole old new r
+    by (Ok x) e = record {
+      grows = grows_then old mid new g e.grows;
+      count = let c : length new ≡ length mid + last.size.blocks = e.count in omega (arith, c, n, sizes.blocks);
+      room = sizes.room e.room;
+      limit = tt;
+      sound = keeps x e.sound;
+      does = does x e.does;
+    }
+    by (Err f) e = record {
+      grows = grows_then old mid new g e.grows;
+      count = tt;
+      room = tt;
+      limit = λ is. beyond_more last.size.registers (length mid + last.size.blocks) last.size.globals whole.size.registers
+          (length old + whole.size.blocks) whole.size.globals sizes.registers (omega (arith, n, sizes.blocks)) sizes.globals (e.limit is);
+      sound = tt;
+      does = tt;
+    }
 
 -- nothing was added, and a size is beyond a limit or memory was refused
-pub refused : {A : Type 0} (size : Size) (old new : List RBlock) (Keeps : A → Type 0) (Does : A → List RBlock → Type 0) (f : LowerFault)
-    (r : Result A LowerFault) → r ≡ Err f → new ≡ old → (f ≡ Limit → Beyond size.registers (length old + size.blocks) size.globals)
-    → Emits size old new Keeps Does r
-refused size old new Keeps Does f r is same limit =
-    subst (λ r. Emits size old new Keeps Does r) (sym is) (record {
+pub refused : {A : Type 0} {d : Description A} {old new : List RBlock} {r : Result A LowerFault} (f : LowerFault) → r ≡ Err f → new ≡ old
+    → (f ≡ Limit → Beyond d.size.registers (length old + d.size.blocks) d.size.globals) → Emits d old new r
+refused {A} {d} {old} {new} f is same limit =
+    subst (λ r. Emits d old new r) (sym is) (record {
       grows = subst (λ new. Grows old new) (sym same) (grows_same old);
       count = tt;
       room = tt;
@@ -90,17 +92,17 @@ refused size old new Keeps Does f r is same limit =
     })
 
 -- a part that comes behind k blocks is refused, and with it the whole
-pub part_refused : {A B : Type 0} (part whole : Size) (k : ℕ) (old mid new : List RBlock) (Keeps : A → Type 0) (Keeps' : B → Type 0)
-    (Does : A → List RBlock → Type 0) (Does' : B → List RBlock → Type 0) (f : LowerFault) (r : Result B LowerFault) → r ≡ Err f
-    → part.registers ≤ whole.registers → k + part.blocks ≤ whole.blocks → part.globals ≤ whole.globals → Grows old mid
-    → length mid ≡ length old + k → Emits part mid new Keeps Does (Err f) → Emits whole old new Keeps' Does' r
-part_refused part whole k old mid new Keeps Keeps' Does Does' f r is lr lb lg g n e =
-    subst (λ r. Emits whole old new Keeps' Does' r) (sym is) (record {
+pub part_refused : {A B : Type 0} {part : Description A} {whole : Description B} {old mid new : List RBlock} {f : LowerFault}
+    {r : Result B LowerFault} (k : ℕ) → Emits part mid new (Err f) → r ≡ Err f → part.size.registers ≤ whole.size.registers
+    → k + part.size.blocks ≤ whole.size.blocks → part.size.globals ≤ whole.size.globals → Grows old mid → length mid ≡ length old + k
+    → Emits whole old new r
+part_refused {A} {B} {part} {whole} {old} {mid} {new} k e is lr lb lg g n =
+    subst (λ r. Emits whole old new r) (sym is) (record {
       grows = grows_then old mid new g e.grows;
       count = tt;
       room = tt;
-      limit = λ l. beyond_more part.registers (length mid + part.blocks) part.globals whole.registers (length old + whole.blocks) whole.globals
-          lr (omega (arith, n, lb)) lg (e.limit l);
+      limit = λ l. beyond_more part.size.registers (length mid + part.size.blocks) part.size.globals whole.size.registers
+          (length old + whole.size.blocks) whole.size.globals lr (omega (arith, n, lb)) lg (e.limit l);
       sound = tt;
       does = tt;
     })
@@ -187,7 +189,7 @@ told_size false k l r free n =
 -- values
 
 pub number_emits : (old : List RBlock) (c : Literal) (d free : ℕ) (from : OpenBlock) (after : Spot)
-    → open_code from ≡ first (I.Const d c.value) (line_of after) → EmitsValue (constant c) d free after old old (Ok from)
+    → open_code from ≡ first (I.Const d c.value) (line_of after) → Emits (value (constant c) d free after) old old (Ok from)
 number_emits old c d free from after fe = record {
   grows = grows_same old;
   count = omega arith;
@@ -201,8 +203,8 @@ number_emits old c d free from after fe = record {
 }
 
 pub local_emits : (old : List RBlock) (x x' : ℕ) (k : IntegerType) (d free : ℕ) (from : OpenBlock) (after : Spot) → x' ≡ x → x' < MAX_REGISTERS
-    → open_code from ≡ first (I.Move d x') (line_of after) → EmitsValue (local x k) d free after old old (Ok from)
-local_emits old x x' k d free from after ix lt fe = subst (λ x. EmitsValue (local x k) d free after old old (Ok from)) ix (record {
+    → open_code from ≡ first (I.Move d x') (line_of after) → Emits (value (local x k) d free after) old old (Ok from)
+local_emits old x x' k d free from after ix lt fe = subst (λ x. Emits (value (local x k) d free after) old old (Ok from)) ix (record {
   grows = grows_same old;
   count = omega arith;
   room = omega (arith, lt);
@@ -216,7 +218,7 @@ local_emits old x x' k d free from after ix lt fe = subst (λ x. EmitsValue (loc
 
 pub global_emits : (old : List RBlock) (a a' : ℕ) (k : IntegerType) (d free z : ℕ) (load from : OpenBlock) (after : Spot)
     → a' ≡ a → z ≡ free → z < MAX_REGISTERS → open_code load ≡ first (I.Load d a' z) (line_of after)
-    → open_code from ≡ first (I.Const z 0) (open_code load) → EmitsValue (global a k) d free after old old (Ok from)
+    → open_code from ≡ first (I.Const z 0) (open_code load) → Emits (value (global a k) d free after) old old (Ok from)
 global_emits old a a' k d free z load from after ia iz lt fl fe = record {
   grows = grows_same old;
   count = omega arith;
@@ -237,10 +239,10 @@ global_emits old a a' k d free z load from after ia iz lt fl fe = record {
 pub element_emits : (old new : List RBlock) (a : ℕ) (k : IntegerType) (i : TypedExpression) (d free : ℕ) (after : Spot) (w : Result Waiting LowerFault)
     (r : Result OpenBlock LowerFault) → IfOk w (λ w. IsPlace i free w.place.register w.place.free)
     → IfOk w (λ w. open_code w.code ≡ first (I.Load d a w.place.register) (line_of after)) → OnOk w (place_registers i free ≤ MAX_REGISTERS)
-    → IfErr w (λ f. f ≡ Limit → Beyond (place_registers i free) 0 (a + 1)) → IfOk w (λ w. EmitsOperand i w.place.register free w.code old new r)
-    → IfErr w (λ f. (r ≡ Err f) × (new ≡ old)) → EmitsValue (element a k i) d free after old new r
+    → IfErr w (λ f. f ≡ Limit → Beyond (place_registers i free) 0 (a + 1)) → IfOk w (λ w. Emits (operand i w.place.register free w.code) old new r)
+    → IfErr w (λ f. (r ≡ Err f) × (new ≡ old)) → Emits (value (element a k i) d free after) old new r
 element_emits old new a k i d free after (Ok w) r pl fe room limit o err =
-    ended (value_size i free 1) (value_size (element a k i) free 0) 0 old old new _ _ _ _ r
+    ended 0 o
     (record { blocks = omega arith; registers = omega arith; room = λ le. omega (arith, le, room); globals = omega arith })
     (grows_same old) (omega arith)
     (λ from keeps. (
@@ -250,9 +252,9 @@ element_emits old new a k i d free after (Ok w) r pl fe room limit o err =
           keeps.0 s n g (held, ((omega (arith, h.1.0.0), omega (arith, h.1.0.1)), code)),
       (let m = keeps.1 in let n = ap insts_of fe in let l = line_insts after in omega (arith, m, n, l)),
     ))
-    (λ from does bs h. element_value bs a k i d free w.place.register w.place.free (open_code from) (line_of after) pl (finds_to fe (does bs h))) o
+    (λ from does bs h. element_value bs a k i d free w.place.register w.place.free (open_code from) (line_of after) pl (finds_to fe (does bs h)))
 element_emits old new a k i d free after (Err f) r pl fe room limit o err =
-    refused (value_size (element a k i) free (joint after)) old new _ _ f r err.0 err.1
+    refused f err.0 err.1
     (λ is. beyond_more (place_registers i free) 0 (a + 1) (value_size (element a k i) free (joint after)).registers _
     (value_size (element a k i) free (joint after)).globals (omega arith) (omega arith) (omega arith) (limit is))
 
@@ -271,17 +273,18 @@ prefix_size U.Identity k a free n ne plain = absurd (ne refl)
 prefix_size U.Not k a free n ne plain = rw (plain refl)
 prefix_size _ k a free n ne plain = refl
 
-combined_along : (old new : List RBlock) (o : UnaryOp) (k : IntegerType) (a : TypedExpression) (d free : ℕ) (after : Spot) (x : Result OpenBlock LowerFault)
-    → value_size (unary o k a) free (joint after) ≡ combined_size a free
-    → Emits (combined_size a free) old new (λ from. KeepsSound old new (λ s. (d < s.registers)
-    × (Covers (combined_size a free) s × IsSoundSpot s after)) (λ s. IsSound s (open_code from))
-    × Adds old new (insts_of (open_code from)) (insts_at after) (value_insts a + 2))
-    (λ from bs. Evaluates bs (unary o k a) free d (open_code from) (line_of after)) x → EmitsValue (unary o k a) d free after old new x
-combined_along old new o k a d free after x is e =
-    subst (λ size. Emits size old new (λ from. KeepsSound old new (λ s. (d < s.registers)
-    × (Covers size s × IsSoundSpot s after)) (λ s. IsSound s (open_code from))
-    × Adds old new (insts_of (open_code from)) (insts_at after) size.insts)
-    (λ from bs. Evaluates bs (unary o k a) free d (open_code from) (line_of after)) x) (sym is) e
+abbrev value_of_size : Size → TypedExpression → (d free : ℕ) → Spot → Description OpenBlock
+value_of_size size e d free after = record {
+  size = size;
+  Keeps = KeepsCode (λ s. (d < s.registers) × (Covers size s × IsSoundSpot s after)) (insts_at after) size.insts;
+  Does = λ from bs. Evaluates bs e free d (open_code from) (line_of after);
+}
+
+combined_along : {old new : List RBlock} {o : UnaryOp} {k : IntegerType} {a : TypedExpression} {d free : ℕ}
+    {x : Result OpenBlock LowerFault} (after : Spot) → value_size (unary o k a) free (joint after) ≡ combined_size a free
+    → Emits (value_of_size (combined_size a free) (unary o k a) d free after) old new x → Emits (value (unary o k a) d free after) old new x
+combined_along {old} {new} {o} {k} {a} {d} {free} {x} after is e =
+    subst (λ size. Emits (value_of_size size (unary o k a) d free after) old new x) (sym is) e
 
 pub prefix_emits : (old new : List RBlock) (o : UnaryOp) (with : Combination) (k : IntegerType) (a : TypedExpression)
     (b : Bool) (d free : ℕ) (opened : OpenBlock) (after : Spot) (w : Result Waiting LowerFault) (x : Result OpenBlock LowerFault)
@@ -294,11 +297,11 @@ pub prefix_emits : (old new : List RBlock) (o : UnaryOp) (with : Combination) (k
     → IfOk w (λ w. (s : Scope) → d < s.registers → spare_registers a free ≤ s.registers
     → IsSound s (open_code opened) → IsSound s (open_code w.code))
     → IfErr w (λ f. f ≡ Limit → MAX_REGISTERS < spare_registers a free)
-    → IfOk w (λ w. EmitsOperand a w.place.register free w.code old new x) → IfErr w (λ f. (x ≡ Err f) × (new ≡ old))
-    → EmitsValue (unary o k a) d free after old new x
+    → IfOk w (λ w. Emits (operand a w.place.register free w.code) old new x) → IfErr w (λ f. (x ≡ Err f) × (new ≡ old))
+    → Emits (value (unary o k a) d free after) old new x
 prefix_emits old new o with k a b d free opened after (Ok w) x prefix ib fe pl room does insts sound limit v err =
-    combined_along old new o k a d free after x (prefix_size o k a free (joint after) prefix.0 (λ io. sym ib ∙ prefix.1.0 io))
-    (ended (value_size a free 1) (combined_size a free) 0 old old new _ _ _ _ x
+    combined_along after (prefix_size o k a free (joint after) prefix.0 (λ io. sym ib ∙ prefix.1.0 io))
+    (ended 0 v
     (record { blocks = omega arith; registers = omega arith; room = λ le. omega (arith, le, room); globals = omega arith })
     (grows_same old) (omega arith)
     (λ from keeps. (
@@ -309,19 +312,21 @@ prefix_emits old new o with k a b d free opened after (Ok w) x prefix ib fe pl r
       (let m = keeps.1 in let n = ap insts_of fe in let l = line_insts after in omega (arith, m, insts, n, l)),
     ))
     (λ from made bs h. prefix_value bs o k with a d free (open_code from) (line_of after) prefix.1.1
-    (subst (λ c. Combines bs with.operation a with.word free d (open_code from) c) fe (does bs (open_code from) (made bs h)))) v)
+    (subst (λ c. Combines bs with.operation a with.word free d (open_code from) c) fe (does bs (open_code from) (made bs h)))))
 prefix_emits old new o with k a b d free opened after (Err f) x prefix ib fe pl room does insts sound limit v err =
-    combined_along old new o k a d free after x (prefix_size o k a free (joint after) prefix.0 (λ io. sym ib ∙ prefix.1.0 io))
-    (refused (combined_size a free) old new _ _ f x err.0 err.1 (λ is. let more = limit is in omega (arith, more)))
+    combined_along after (prefix_size o k a free (joint after) prefix.0 (λ io. sym ib ∙ prefix.1.0 io))
+    (refused f err.0 err.1
+    (λ is. let more = limit is in omega (arith, more)))
 
 pub identity_emits : (old new : List RBlock) (o : UnaryOp) (k : IntegerType) (a : TypedExpression) (d free : ℕ) (after : Spot)
-    (x : Result OpenBlock LowerFault) → o ≡ U.Identity → EmitsValue a d free after old new x → EmitsValue (unary o k a) d free after old new x
+    (x : Result OpenBlock LowerFault) → o ≡ U.Identity → Emits (value a d free after) old new x → Emits (value (unary o k a) d free after) old new x
 identity_emits old new o k a d free after x io v =
-    subst (λ o. EmitsValue (unary o k a) d free after old new x) (sym io)
-    (ended (value_size a free (joint after)) (value_size (unary U.Identity k a) free (joint after)) 0 old old new _ _ _ _ x
+    subst (λ o. Emits (value (unary o k a) d free after) old new x) (sym io)
+    (ended 0 v
     (record { blocks = omega arith; registers = omega arith; room = λ le. le; globals = omega arith })
-    (grows_same old) (omega arith) (λ from keeps. keeps)
-    (λ from does bs h. identity_value bs k a d free (open_code from) (line_of after) (does bs h)) v)
+    (grows_same old) (omega arith)
+    (λ from keeps. keeps)
+    (λ from does bs h. identity_value bs k a d free (open_code from) (line_of after) (does bs h)))
 
 -- the two blocks of a truth value
 pub record Truth (old new : List RBlock) (d : ℕ) (t : Targets) (after : Spot) : Type 0 where
@@ -334,12 +339,12 @@ pub record Truth (old new : List RBlock) (d : ℕ) (t : Targets) (after : Spot) 
 
 pub not_emits : (old mid new : List RBlock) (o : UnaryOp) (k : IntegerType) (a : TypedExpression) (b : Bool) (d free : ℕ) (tr t : Targets) (after : Spot)
     (r : Result OpenBlock LowerFault) → IsPrefix o b P.Branches → b ≡ by_branches a → t ≡ record { yes = tr.no; no = tr.yes; likely = true }
-    → Truth old mid d tr after → EmitsBranch (condition_size a t.likely free) a t free mid new r → EmitsValue (unary o k a) d free after old new r
+    → Truth old mid d tr after → Emits (condition_branch a t free) mid new r → Emits (value (unary o k a) d free after) old new r
 not_emits old mid new o k a b d free tr t after r prefix ib it truth last =
     let by : by_branches a ≡ true = sym ib ∙ prefix.1 in
-    let last' = subst (λ t. EmitsBranch (condition_size a t.likely free) a t free mid new r) it last in
-    subst (λ o. EmitsValue (unary o k a) d free after old new r) (sym prefix.0)
-    (ended (condition_size a true free) (value_size (unary U.Not k a) free (joint after)) (joint after + 2) old mid new _ _ _ _ r
+    let last' = subst (λ t. Emits (condition_branch a t free) mid new r) it last in
+    subst (λ o. Emits (value (unary o k a) d free after) old new r) (sym prefix.0)
+    (ended (joint after + 2) last'
     (record { blocks = rw by refl; registers = rw by (omega arith); room = rw by (λ le. le); globals = omega arith })
     truth.grows truth.count
     (λ from keeps. (
@@ -354,7 +359,7 @@ not_emits old mid new o k a b d free tr t after r prefix ib it truth last =
     (λ from does bs h.
     let p = split2 bs old mid new truth.grows last'.grows h in
     told bs (unary U.Not k a) d tr.yes tr.no free (open_code from) after (not_tests k a) (truth.truth bs p.0)
-    (not_decides bs k a tr.yes tr.no free (open_code from) (does bs p.1))) last')
+    (not_decides bs k a tr.yes tr.no free (open_code from) (does bs p.1))))
 
 -- the size of `&&` and `||`, whose right operand is a block of its own and stands behind the left one
 logical_ends : (both : Bool) (k : IntegerType) (l r : TypedExpression) (t : Targets) (free block : ℕ)
@@ -390,14 +395,15 @@ logical_decides false bs k l r t block free from block_code first at second = or
 
 -- the branches of `&&` and `||`, the right operand of which is a block of its own
 pub logical_branches : (both : Bool) (b0 b1 new : List RBlock) (k : IntegerType) (l r : TypedExpression) (t t' : Targets) (free block : ℕ)
-    (x : Result OpenBlock LowerFault) → t' ≡ left_targets both t block → EmitsBranchBlock r t free b0 b1 (Ok block)
-    → EmitsBranch (condition_size l t'.likely free) l t' free b1 new x
-    → EmitsBranch (condition_size (binary (logical_of both) k l r) t.likely free) (binary (logical_of both) k l r) t free b0 new x
+    (x : Result OpenBlock LowerFault) → t' ≡ left_targets both t block → Emits (own_branch r t free) b0 b1 (Ok block)
+    → Emits (condition_branch l t' free) b1 new x
+    → Emits (condition_branch (binary (logical_of both) k l r) t free) b0 new x
 logical_branches both b0 b1 new k l r t t' free block x it second last' =
-    let last = subst (λ t. EmitsBranch (condition_size l t.likely free) l t free b1 new x) it last' in
+    let last = subst (λ t. Emits (condition_branch l t free) b1 new x) it last' in
     let c1 : length b1 ≡ length b0 + ((condition_size r t.likely free).blocks + 1) = second.count in
-    ended (condition_size l (left_targets both t block).likely free) (condition_size (binary (logical_of both) k l r) t.likely free)
-    ((condition_size r t.likely free).blocks + 1) b0 b1 new _ _ _ _ x (logical_ends both k l r t free block second.room) second.grows c1
+    ended ((condition_size r t.likely free).blocks + 1) last
+    (logical_ends both k l r t free block second.room)
+    second.grows c1
     (λ from keeps. (
       λ s n g h.
           let parts = logical_covers both k l r t free block s h.0 in
@@ -408,22 +414,16 @@ logical_branches both b0 b1 new k l r t t' free block x it second last' =
     (λ from does bs h.
     let p = split2 bs b0 b1 new second.grows last.grows h in
     let d = second.does bs p.0 in
-    logical_decides both bs k l r t block free (open_code from) d.0 (does bs p.1) d.1 d.2) last
+    logical_decides both bs k l r t block free (open_code from) d.0 (does bs p.1) d.1 d.2)
 
 -- the block of its right operand is refused
 pub logical_stops : (both : Bool) (old new : List RBlock) (k : IntegerType) (l r : TypedExpression) (t : Targets) (free : ℕ) (f : LowerFault)
-    (x : Result OpenBlock LowerFault) → x ≡ Err f → EmitsBranchBlock r t free old new (Err f)
-    → EmitsBranch (condition_size (binary (logical_of both) k l r) t.likely free) (binary (logical_of both) k l r) t free old new x
+    (x : Result OpenBlock LowerFault) → x ≡ Err f → Emits (own_branch r t free) old new (Err f)
+    → Emits (condition_branch (binary (logical_of both) k l r) t free) old new x
 logical_stops true old new k l r t free f x is e =
-    part_refused
-    (record { registers = condition_registers r t.likely free; blocks = condition_blocks r + 1; insts = condition_insts r; globals = globals_named r })
-    (condition_size (binary B.LogicalAnd k l r) t.likely free) 0 old old new _ _ _ _ f x is (omega arith) (omega arith) (omega arith) (grows_same old)
-    (omega arith) e
+    part_refused 0 e is (omega arith) (omega arith) (omega arith) (grows_same old) (omega arith)
 logical_stops false old new k l r t free f x is e =
-    part_refused
-    (record { registers = condition_registers r t.likely free; blocks = condition_blocks r + 1; insts = condition_insts r; globals = globals_named r })
-    (condition_size (binary B.LogicalOr k l r) t.likely free) 0 old old new _ _ _ _ f x is (omega arith) (omega arith) (omega arith) (grows_same old)
-    (omega arith) e
+    part_refused 0 e is (omega arith) (omega arith) (omega arith) (grows_same old) (omega arith)
 
 -- a value that branches tell
 told_value : (old b0 new : List RBlock) (e : TypedExpression) (t : Targets) (d free : ℕ) (after : Spot) (x : Result OpenBlock LowerFault)
@@ -432,10 +432,10 @@ told_value : (old b0 new : List RBlock) (e : TypedExpression) (t : Targets) (d f
       blocks = joint after + 2 + (condition_size e true free).blocks;
       insts = condition_insts e + 2;
       globals = globals_named e;
-    } → EmitsBranch (condition_size e t.likely free) e t free b0 new x → EmitsValue e d free after old new x
+    } → Emits (condition_branch e t free) b0 new x → Emits (value e d free after) old new x
 told_value old b0 new e t d free after x tr tests size last =
-    let last' = subst (λ b. EmitsBranch (condition_size e b free) e t free b0 new x) tr.likely last in
-    ended (condition_size e true free) (value_size e free (joint after)) (joint after + 2) old b0 new _ _ _ _ x
+    let last' = subst (λ b. Emits (branch (condition_size e b free) e t free) b0 new x) tr.likely last in
+    ended (joint after + 2) last'
     (record {
       blocks = ap (λ s. s.blocks) size;
       registers = subst (λ n. (condition_size e true free).registers ≤ n) (sym (ap (λ s. s.registers) size)) (omega arith);
@@ -451,14 +451,14 @@ told_value old b0 new e t d free after x tr tests size last =
     ))
     (λ from does bs h.
     let p = split2 bs old b0 new tr.grows last.grows h in
-    told bs e d t.yes t.no free (open_code from) after tests (tr.truth bs p.0) (does bs p.1)) last'
+    told bs e d t.yes t.no free (open_code from) after tests (tr.truth bs p.0) (does bs p.1))
 
 -- the two blocks of a truth value are refused
 pub truth_stops : (old new : List RBlock) (e : TypedExpression) (d free : ℕ) (after : Spot) (f : LowerFault) (x : Result OpenBlock LowerFault)
     → x ≡ Err f → Grows old new → joint after + 2 ≤ value_blocks e (joint after)
-    → (f ≡ Limit → MAX_BLOCKS < length old + (joint after + 2)) → EmitsValue e d free after old new x
+    → (f ≡ Limit → MAX_BLOCKS < length old + (joint after + 2)) → Emits (value e d free after) old new x
 truth_stops old new e d free after f x is g more limit =
-    subst (λ r. EmitsValue e d free after old new r) (sym is) (record {
+    subst (λ r. Emits (value e d free after) old new r) (sym is) (record {
       grows = g;
       count = tt;
       room = tt;
@@ -469,8 +469,8 @@ truth_stops old new e d free after f x is g more limit =
 
 pub told_emits : (both : Bool) (old b0 new : List RBlock) (k : IntegerType) (l r : TypedExpression) (t : Targets) (d free : ℕ) (after : Spot)
     (x : Result OpenBlock LowerFault) → Truth old b0 d t after
-    → EmitsBranch (condition_size (binary (logical_of both) k l r) t.likely free) (binary (logical_of both) k l r) t free b0 new x
-    → EmitsValue (binary (logical_of both) k l r) d free after old new x
+    → Emits (condition_branch (binary (logical_of both) k l r) t free) b0 new x
+    → Emits (value (binary (logical_of both) k l r) d free after) old new x
 told_emits true old b0 new k l r t d free after x tr last =
     told_value old b0 new (binary B.LogicalAnd k l r) t d free after x tr (and_tests k l r) (told_size true k l r free (joint after)) last
 told_emits false old b0 new k l r t d free after x tr last =
@@ -478,13 +478,14 @@ told_emits false old b0 new k l r t d free after x tr last =
 
 -- two operands
 pub both_emits : (old mid new : List RBlock) (l r : TypedExpression) (free : ℕ) (w : WaitingForTwo) (middle : OpenBlock) (x : Result OpenBlock LowerFault)
-    → EmitsOperand r w.second.register w.first.free w.code old mid (Ok middle) → EmitsOperand l w.first.register free middle mid new x
-    → EmitsBoth l r free w old new x
+    → Emits (operand r w.second.register w.first.free w.code) old mid (Ok middle) → Emits (operand l w.first.register free middle) mid new x
+    → Emits (two_operands l r free w) old new x
 both_emits old mid new l r free w middle x second left =
     let c1 : length mid ≡ length old + value_blocks r 1 = second.count in
     let room : value_registers r w.first.free ≤ MAX_REGISTERS = second.room in
-    ended (value_size l free 1) (both_size l r free w.first.free) (value_blocks r 1) old mid new _ _ _ _ x
-    (record { blocks = omega arith; registers = omega arith; room = λ le. omega (arith, le, room); globals = omega arith }) second.grows c1
+    ended (value_blocks r 1) left
+    (record { blocks = omega arith; registers = omega arith; room = λ le. omega (arith, le, room); globals = omega arith })
+    second.grows c1
     (λ from keeps. (
       λ s n g h.
           let m = second.sound.0 s (within left.grows n) g (h.1.0, ((omega (arith, h.1.1.0.0), omega (arith, h.1.1.0.1)), h.1.1.1)) in
@@ -493,7 +494,7 @@ both_emits old mid new l r free w middle x second left =
     ))
     (λ from does bs h.
     let parts = split2 bs old mid new second.grows left.grows h in
-    (open_code middle, does bs parts.1, second.does bs parts.0)) left
+    (open_code middle, does bs parts.1, second.does bs parts.0))
 
 -- the sizes of an operator whose operands are in their places
 operator_ends : (o : BinaryOp) (k : IntegerType) (l r : TypedExpression) (free next n : ℕ) → is_logical o ≡ false → next ≡ next_free l free
@@ -530,11 +531,12 @@ pub operator_emits : (old new : List RBlock) (o : BinaryOp) (k : IntegerType) (o
     → IsSound s (open_code code) → IsSound s (open_code w.code))
     → OnOk w (both_registers l r free ≤ MAX_REGISTERS)
     → IfErr w (λ f. f ≡ Limit → MAX_REGISTERS < both_registers l r free)
-    → IfOk w (λ w. EmitsBoth l r free w old new x)
-    → IfErr w (λ f. (x ≡ Err f) × (new ≡ old)) → EmitsValue (binary o k l r) d free after old new x
+    → IfOk w (λ w. Emits (two_operands l r free w) old new x)
+    → IfErr w (λ f. (x ≡ Err f) × (new ≡ old)) → Emits (value (binary o k l r) d free after) old new x
 operator_emits old new o k op l r d free code after (Ok w) x computes plain fe pl pr fw sound room limit two err =
-    ended (both_size l r free w.first.free) (value_size (binary o k l r) free (joint after)) 0 old old new _ _ _ _ x
-    (operator_ends o k l r free w.first.free (joint after) plain pl.next_is room) (grows_same old) (omega arith)
+    ended 0 two
+    (operator_ends o k l r free w.first.free (joint after) plain pl.next_is room)
+    (grows_same old) (omega arith)
     (λ from keeps. (
       λ s n g h.
           let few = operator_names o k l r free _ _ _ _ s.registers plain pl pr h.1.0.0 in
@@ -550,21 +552,21 @@ operator_emits old new o k op l r d free code after (Ok w) x computes plain fe p
     let m = does bs h in
     operator_value bs o k op l r d free (open_code from) (line_of after) computes
     (operates bs op l r d free w.first.register w.first.free w.second.register w.second.free (open_code from) m.0 (line_of after) pl pr m.1
-    (finds_to (fw ∙ ap (first (inst_of op d w.first.register w.second.register)) fe) m.2))) two
+    (finds_to (fw ∙ ap (first (inst_of op d w.first.register w.second.register)) fe) m.2)))
 operator_emits old new o k op l r d free code after (Err f) x computes plain fe pl pr fw sound room limit two err =
-    refused (value_size (binary o k l r) free (joint after)) old new _ _ f x err.0 err.1
+    refused f err.0 err.1
     (λ is. operator_beyond o k l r free (joint after) (length old + (value_size (binary o k l r) free (joint after)).blocks) plain (limit is))
 
 pub told_stops : (both : Bool) (old new : List RBlock) (k : IntegerType) (l r : TypedExpression) (d free : ℕ) (after : Spot) (f : LowerFault)
     (x : Result OpenBlock LowerFault) → x ≡ Err f → Grows old new → (f ≡ Limit → MAX_BLOCKS < length old + (joint after + 2))
-    → EmitsValue (binary (logical_of both) k l r) d free after old new x
+    → Emits (value (binary (logical_of both) k l r) d free after) old new x
 told_stops true old new k l r d free after f x is g limit = truth_stops old new (binary B.LogicalAnd k l r) d free after f x is g (omega arith) limit
 told_stops false old new k l r d free after f x is g limit = truth_stops old new (binary B.LogicalOr k l r) d free after f x is g (omega arith) limit
 
 pub not_stops : (old new : List RBlock) (o : UnaryOp) (k : IntegerType) (a : TypedExpression) (b : Bool) (d free : ℕ) (after : Spot) (f : LowerFault)
     (x : Result OpenBlock LowerFault) → x ≡ Err f → IsPrefix o b P.Branches → b ≡ by_branches a → Grows old new
-    → (f ≡ Limit → MAX_BLOCKS < length old + (joint after + 2)) → EmitsValue (unary o k a) d free after old new x
+    → (f ≡ Limit → MAX_BLOCKS < length old + (joint after + 2)) → Emits (value (unary o k a) d free after) old new x
 not_stops old new o k a b d free after f x is prefix ib g limit =
     let by : by_branches a ≡ true = sym ib ∙ prefix.1 in
-    subst (λ o. EmitsValue (unary o k a) d free after old new x) (sym prefix.0)
+    subst (λ o. Emits (value (unary o k a) d free after) old new x) (sym prefix.0)
     (truth_stops old new (unary U.Not k a) d free after f x is g (rw by (omega arith)) limit)

@@ -14,8 +14,8 @@ use Rattle.words.specs.Words.{wrap}
 use Rattle.rtl.specs.Meaning.{Code}
 use Rattle.rtl.specs.declared.limits.TheConstants.{MAX_REGISTERS, MAX_BLOCKS}
 use Rattle.rtl_emit.specs.Blocks.{open_code, exit_code, goto, first, insts_of, insts_at, insts_in, Spot, Line, Grows, At, Lands, Adds}
-use Rattle.rtl_emit.specs.Emits.{Size, Covers, Emits, value_size, condition_size, test_size, values_size, both_size}
-use Rattle.rtl_emit.specs.Emits.{EmitsValue, EmitsOperand, EmitsBranch, EmitsOperands, EmitsBoth, EmitsBlock, EmitsValueBlock, EmitsBranchBlock}
+use Rattle.rtl_emit.specs.Emits.{KeepsCode, Size, Covers, Emits, value_size, condition_size, value, operand, operands, two_operands}
+use Rattle.rtl_emit.specs.Emits.{value_branch, condition_branch, own_block, own_value, own_branch}
 use Rattle.rtl_emit.specs.Expressions.{IsPlace, ArePlaces, Decides, Evaluates, Fetches}
 use Rattle.rtl_emit.specs.Operations.{ComputesContrary, inst_of}
 use Rattle.rtl_emit.specs.Sizes.{both_registers, tested_registers, joint, is_logical, place_registers, next_free, value_registers, value_blocks, globals_named}
@@ -41,11 +41,11 @@ use Rattle.rtl_emit.proofs.Emitting.{contrary_beyond, contrary_ends, contrary_na
 -- code as a block of its own
 pub block_emits : (old mid new : List RBlock) (size : Size) (Needs Needs' : Scope → Type 0) (Is : List RBlock → Code → Type 0) (code : OpenBlock)
     (x : Result ℕ LowerFault)
-    → Emits size old mid (λ from. KeepsSound old mid Needs' (λ s. IsSound s (open_code from)) × Adds old mid (insts_of (open_code from)) 0 size.insts)
-    (λ from bs. Is bs (open_code from)) (Ok code) → ((s : Scope) → Covers size s → Needs s → Needs' s)
+    → Emits (record { size = size; Keeps = KeepsCode Needs' 0 size.insts; Does = λ from bs. Is bs (open_code from) }) old mid (Ok code)
+    → ((s : Scope) → Covers size s → Needs s → Needs' s)
     → Grows mid new → OnOk x (length new ≡ length mid + 1) → OnOk x (insts_in new ≡ insts_in mid + insts_of (open_code code)) → IfErr x (λ f. f ≡ Limit → MAX_BLOCKS < length mid + 1)
     → IfOk x (λ b. KeepsSound mid new (λ s. IsSound s (open_code code)) (λ s. b < s.blocks))
-    → IfOk x (λ b. Over mid new (λ bs. At bs b (open_code code))) → EmitsBlock size Needs Is old new x
+    → IfOk x (λ b. Over mid new (λ bs. At bs b (open_code code))) → Emits (own_block size Needs Is) old new x
 block_emits old mid new size Needs Needs' Is code (Ok b) e needs g n insts limit sound ats =
     let c : length mid ≡ length old + size.blocks = e.count in
     record {
@@ -85,7 +85,7 @@ record Sides (b0 b2 : List RBlock) (registers blocks insts globals : ℕ) (Needs
   does : Over b0 b2 (λ bs. ((from : Code) × At bs yes_block from × IsYes bs from) × ((from : Code) × At bs no_block from × IsNo bs from))
 
 sides : (b0 b1 b2 : List RBlock) (s1 s2 : Size) (Needs : Scope → Type 0) (IsYes IsNo : List RBlock → Code → Type 0) (yes_block no_block : ℕ)
-    → EmitsBlock s1 Needs IsYes b0 b1 (Ok yes_block) → EmitsBlock s2 Needs IsNo b1 b2 (Ok no_block)
+    → Emits (own_block s1 Needs IsYes) b0 b1 (Ok yes_block) → Emits (own_block s2 Needs IsNo) b1 b2 (Ok no_block)
     → Sides b0 b2 (max s1.registers s2.registers) (s1.blocks + s2.blocks) (s1.insts + s2.insts) (max s1.globals s2.globals) Needs IsYes IsNo
     yes_block no_block
 sides b0 b1 b2 s1 s2 Needs IsYes IsNo yes_block no_block e1 e2 =
@@ -109,15 +109,14 @@ sides b0 b1 b2 s1 s2 Needs IsYes IsNo yes_block no_block e1 e2 =
 
 pub conditional_branches : (b0 b1 b2 new : List RBlock) (k : IntegerType) (c a b : TypedExpression) (t t' : Targets) (free yes_block no_block : ℕ)
     (x : Result OpenBlock LowerFault) → t' ≡ record { yes = yes_block; no = no_block; likely = true }
-    → EmitsBranchBlock a t free b0 b1 (Ok yes_block) → EmitsBranchBlock b t free b1 b2 (Ok no_block)
-    → EmitsBranch (condition_size c t'.likely free) c t' free b2 new x
-    → EmitsBranch (condition_size (conditional k c a b) t.likely free) (conditional k c a b) t free b0 new x
+    → Emits (own_branch a t free) b0 b1 (Ok yes_block) → Emits (own_branch b t free) b1 b2 (Ok no_block)
+    → Emits (condition_branch c t' free) b2 new x
+    → Emits (condition_branch (conditional k c a b) t free) b0 new x
 conditional_branches b0 b1 b2 new k c a b t t' free yes_block no_block x it yes_side no_side last =
     let two = sides b0 b1 b2 (condition_size a t.likely free) (condition_size b t.likely free) (λ s. (t.yes < s.blocks) × (t.no < s.blocks))
     (λ bs from. Decides bs a free t.yes t.no from) (λ bs from. Decides bs b free t.yes t.no from) yes_block no_block yes_side no_side in
-    let last' = subst (λ t. EmitsBranch (condition_size c t.likely free) c t free b2 new x) it last in
-    ended (condition_size c true free) (condition_size (conditional k c a b) t.likely free)
-    ((condition_size a t.likely free).blocks + (condition_size b t.likely free).blocks + 2) b0 b2 new _ _ _ _ x
+    let last' = subst (λ t. Emits (condition_branch c t free) b2 new x) it last in
+    ended ((condition_size a t.likely free).blocks + (condition_size b t.likely free).blocks + 2) last'
     (record { blocks = omega arith; registers = omega arith; room = λ le. omega (arith, le, two.room); globals = omega arith })
     two.grows two.count
     (λ from keeps. (
@@ -130,7 +129,7 @@ conditional_branches b0 b1 b2 new k c a b t t' free yes_block no_block x it yes_
     let p = split2 bs b0 b2 new two.grows last'.grows h in
     let d = two.does bs p.0 in
     conditional_decides bs k c a b t.yes t.no yes_block no_block free (open_code from) d.0.0 d.1.0 (does bs p.1)
-    d.0.1 d.1.1 d.0.2 d.1.2) last'
+    d.0.1 d.1.1 d.0.2 d.1.2)
 
 -- where a value goes on, as a block
 pub record Joined (old new : List RBlock) (after : Spot) (join : ℕ) : Type 0 where
@@ -142,16 +141,15 @@ pub record Joined (old new : List RBlock) (after : Spot) (join : ℕ) : Type 0 w
 
 pub conditional_emits : (old b0 b1 b2 new : List RBlock) (k : IntegerType) (c a b : TypedExpression) (t' : Targets) (d free join yes_block no_block : ℕ)
     (after : Spot) (x : Result OpenBlock LowerFault) → t' ≡ record { yes = yes_block; no = no_block; likely = true } → Joined old b0 after join
-    → EmitsValueBlock a d free join b0 b1 (Ok yes_block) → EmitsValueBlock b d free join b1 b2 (Ok no_block)
-    → EmitsBranch (condition_size c t'.likely free) c t' free b2 new x → EmitsValue (conditional k c a b) d free after old new x
+    → Emits (own_value a d free join) b0 b1 (Ok yes_block) → Emits (own_value b d free join) b1 b2 (Ok no_block)
+    → Emits (condition_branch c t' free) b2 new x → Emits (value (conditional k c a b) d free after) old new x
 conditional_emits old b0 b1 b2 new k c a b t' d free join yes_block no_block after x it j yes_side no_side last =
     let two = sides b0 b1 b2 (value_size a free 0) (value_size b free 0) (λ s. (d < s.registers) × (join < s.blocks))
     (λ bs from. Evaluates bs a free d from (goto join)) (λ bs from. Evaluates bs b free d from (goto join)) yes_block no_block yes_side no_side in
     let c2 : length b2 ≡ length b0 + (value_blocks a 0 + value_blocks b 0 + 2) = two.count in
     let room : max (value_registers a free) (value_registers b free) ≤ MAX_REGISTERS = two.room in
-    let last' = subst (λ t. EmitsBranch (condition_size c t.likely free) c t free b2 new x) it last in
-    ended (condition_size c true free) (value_size (conditional k c a b) free (joint after)) (joint after + (value_blocks a 0 + value_blocks b 0 + 2))
-    old b2 new _ _ _ _ x
+    let last' = subst (λ t. Emits (condition_branch c t free) b2 new x) it last in
+    ended (joint after + (value_blocks a 0 + value_blocks b 0 + 2)) last'
     (record { blocks = omega arith; registers = omega arith; room = λ le. omega (arith, le, room); globals = omega arith })
     (grows_then old b0 b2 j.grows two.grows) (omega (arith, j.count, c2))
     (λ from keeps. (
@@ -166,15 +164,15 @@ conditional_emits old b0 b1 b2 new k c a b t' d free join yes_block no_block aft
     let p = split3 bs old b0 b2 new j.grows two.grows last'.grows h in
     let m = two.does bs p.1 in
     conditional_value bs k c a b d join yes_block no_block free (open_code from) after m.0.0 m.1.0 (j.lands bs p.0)
-    m.0.1 m.1.1 (does bs p.2) m.0.2 m.1.2) last'
+    m.0.1 m.1.1 (does bs p.2) m.0.2 m.1.2)
 
 -- conditions
 
 pub constant_emits : (old : List RBlock) (e : TypedExpression) (c : Literal) (word : ℕ) (t : Targets) (free : ℕ) (from : OpenBlock) → e ≡ constant c
     → word ≡ wrap c.value → open_code from ≡ goto (if nat_eq word 0 then t.no else t.yes)
-    → EmitsBranch (condition_size e t.likely free) e t free old old (Ok from)
+    → Emits (condition_branch e t free) old old (Ok from)
 constant_emits old e c word t free from is iw fe =
-    subst (λ e. EmitsBranch (condition_size e t.likely free) e t free old old (Ok from)) (sym is) (record {
+    subst (λ e. Emits (condition_branch e t free) old old (Ok from)) (sym is) (record {
       grows = grows_same old;
       count = omega arith;
       room = omega arith;
@@ -193,15 +191,15 @@ constant_emits old e c word t free from is iw fe =
 
 pub not_branches : (old new : List RBlock) (e : TypedExpression) (o : UnaryOp) (k : IntegerType) (a a' : TypedExpression) (t t' : Targets) (free : ℕ)
     (x : Result OpenBlock LowerFault) → e ≡ unary o k a → o ≡ U.Not → a' ≡ a → t' ≡ record { yes = t.no; no = t.yes; likely = not t.likely }
-    → EmitsBranch (condition_size a' t'.likely free) a' t' free old new x → EmitsBranch (condition_size e t.likely free) e t free old new x
+    → Emits (condition_branch a' t' free) old new x → Emits (condition_branch e t free) old new x
 not_branches old new e o k a a' t t' free x is io ia it v =
-    let v' = subst (λ t. EmitsBranch (condition_size a' t.likely free) a' t free old new x) it v in
-    subst (λ e. EmitsBranch (condition_size e t.likely free) e t free old new x) (sym (unary_is o U.Not k a a' is io ia))
-    (ended (condition_size a' (not t.likely) free) (condition_size (unary U.Not k a') t.likely free) 0 old old new _ _ _ _ x
+    let v' = subst (λ t. Emits (condition_branch a' t free) old new x) it v in
+    subst (λ e. Emits (condition_branch e t free) old new x) (sym (unary_is o U.Not k a a' is io ia))
+    (ended 0 v'
     (record { blocks = omega arith; registers = omega arith; room = λ le. le; globals = omega arith })
     (grows_same old) (omega arith)
     (λ from keeps. (λ s n g h. keeps.0 s n g (h.0, (h.1.1, h.1.0)), keeps.1))
-    (λ from does bs h. not_decides bs k a' t.yes t.no free (open_code from) (does bs h)) v')
+    (λ from does bs h. not_decides bs k a' t.yes t.no free (open_code from) (does bs h)))
 
 pub contrary_emits : (old new : List RBlock) (o : BinaryOp) (k : IntegerType) (op : Operation) (l r : TypedExpression) (t : Targets) (free : ℕ)
     (w : Result WaitingForTwo LowerFault) (x : Result OpenBlock LowerFault)
@@ -212,11 +210,12 @@ pub contrary_emits : (old new : List RBlock) (o : BinaryOp) (k : IntegerType) (o
     → t.yes < s.blocks → t.no < s.blocks → IsSound s (open_code w.code))
     → OnOk w (max (free + 1) (both_registers l r free) ≤ MAX_REGISTERS)
     → IfErr w (λ f. f ≡ Limit → MAX_REGISTERS < max (free + 1) (both_registers l r free))
-    → IfOk w (λ w. EmitsBoth l r free w old new x)
-    → IfErr w (λ f. (x ≡ Err f) × (new ≡ old)) → EmitsBranch (condition_size (binary o k l r) t.likely free) (binary o k l r) t free old new x
+    → IfOk w (λ w. Emits (two_operands l r free w) old new x)
+    → IfErr w (λ f. (x ≡ Err f) × (new ≡ old)) → Emits (condition_branch (binary o k l r) t free) old new x
 contrary_emits old new o k op l r t free (Ok w) x tests plain has unlikely pl pr fw sound room limit two err =
-    ended (both_size l r free w.first.free) (condition_size (binary o k l r) t.likely free) 0 old old new _ _ _ _ x
-    (contrary_ends t.likely unlikely o k l r free w.first.free plain has pl.next_is room) (grows_same old) (omega arith)
+    ended 0 two
+    (contrary_ends t.likely unlikely o k l r free w.first.free plain has pl.next_is room)
+    (grows_same old) (omega arith)
     (λ from keeps. (
       λ s n g h.
           let all = contrary_names t.likely unlikely o k l r free s.registers plain has h.0.0 in
@@ -232,9 +231,9 @@ contrary_emits old new o k op l r t free (Ok w) x tests plain has unlikely pl pr
     (λ from does bs h.
     let m = does bs h in
     contrary_decides bs o k op l r free t.yes t.no free (open_code from) tests (omega arith)
-    (operates bs op l r free free w.first.register w.first.free w.second.register w.second.free (open_code from) m.0 _ pl pr m.1 (finds_to fw m.2))) two
+    (operates bs op l r free free w.first.register w.first.free w.second.register w.second.free (open_code from) m.0 _ pl pr m.1 (finds_to fw m.2)))
 contrary_emits old new o k op l r t free (Err f) x tests plain has unlikely pl pr fw sound room limit two err =
-    refused (condition_size (binary o k l r) t.likely free) old new _ _ f x err.0 err.1
+    refused f err.0 err.1
     (λ is. contrary_beyond t.likely unlikely o k l r free (length old + condition_blocks (binary o k l r)) plain has (limit is))
 
 pub test_emits : (old new : List RBlock) (e : TypedExpression) (t : Targets) (free : ℕ) (w : Result Waiting LowerFault) (x : Result OpenBlock LowerFault)
@@ -245,10 +244,10 @@ pub test_emits : (old new : List RBlock) (e : TypedExpression) (t : Targets) (fr
     → IfOk w (λ w. (s : Scope) → tested_registers t.likely e free ≤ s.registers
     → t.yes < s.blocks → t.no < s.blocks → IsSound s (open_code w.code))
     → IfErr w (λ f. f ≡ Limit → MAX_REGISTERS < tested_registers t.likely e free)
-    → IfOk w (λ w. EmitsOperand e w.place.register free w.code old new x) → IfErr w (λ f. (x ≡ Err f) × (new ≡ old))
-    → EmitsBranch (test_size e t.likely free) e t free old new x
+    → IfOk w (λ w. Emits (operand e w.place.register free w.code) old new x) → IfErr w (λ f. (x ≡ Err f) × (new ≡ old))
+    → Emits (value_branch e t free) old new x
 test_emits old new e t free (Ok w) x pl room does insts sound limit v err =
-    ended (value_size e free 1) (test_size e t.likely free) 0 old old new _ _ _ _ x
+    ended 0 v
     (record {
       blocks = omega arith;
       registers = test_least t.likely free (place_registers e free) (next_free e free) (value_registers e free);
@@ -263,31 +262,31 @@ test_emits old new e t free (Ok w) x pl room does insts sound limit v err =
           keeps.0 s n g (held, ((few.1.0, h.0.1), sound s few.1.1 h.1.0 h.1.1)),
       (let m = keeps.1 in omega (arith, m, insts)),
     ))
-    (λ from made bs h. does bs (open_code from) (made bs h)) v
+    (λ from made bs h. does bs (open_code from) (made bs h))
 test_emits old new e t free (Err f) x pl room does insts sound limit v err =
-    refused (test_size e t.likely free) old new _ _ f x err.0 err.1
+    refused f err.0 err.1
     (λ is. test_beyond t.likely free (place_registers e free) (next_free e free) (value_registers e free) (length old + value_blocks e 1) (globals_named e) (limit is))
 
 pub operand_emits : (old new : List RBlock) (e : TypedExpression) (p free : ℕ) (after : OpenBlock) (x : Result OpenBlock LowerFault)
-    → EmitsValue e p free (Line (open_code after)) old new x → EmitsOperand e p free after old new x
+    → Emits (value e p free (Line (open_code after))) old new x → Emits (operand e p free after) old new x
 operand_emits old new e p free after x v =
-    ended (value_size e free 1) (value_size e free 1) 0 old old new _ _ _ _ x
+    ended 0 v
     (record { blocks = omega arith; registers = omega arith; room = λ le. le; globals = omega arith })
     (grows_same old) (omega arith)
     (λ from keeps. keeps)
-    (λ from does bs h. fetched bs e free p (open_code from) (open_code after) (does bs h)) v
+    (λ from does bs h. fetched bs e free p (open_code from) (open_code after) (does bs h))
 
 -- the operands of a list
 pub operands_emits : (old mid new : List RBlock) (all es : List TypedExpression) (e : TypedExpression) (ps ps2 : List Place) (p : Place) (free : ℕ)
     (after middle : OpenBlock) (x : Result OpenBlock LowerFault) → all ≡ e ∷ es → ps ≡ p ∷ ps2 → ArePlaces all free ps
-    → EmitsOperands es ps2 p.free after old mid (Ok middle) → EmitsOperand e p.register free middle mid new x
-    → EmitsOperands all ps free after old new x
+    → Emits (operands es ps2 p.free after) old mid (Ok middle) → Emits (operand e p.register free middle) mid new x
+    → Emits (operands all ps free after) old new x
 operands_emits old mid new all es e ps ps2 p free after middle x ia ip are rest one =
     let both : ArePlaces (e ∷ es) free (p ∷ ps2) = subst (λ ps. ArePlaces (e ∷ es) free ps) ip (subst (λ all. ArePlaces all free ps) ia are) in
     let c1 : length mid ≡ length old + arguments_blocks es = rest.count in
     let room : values_registers es (next_free e free) ≤ MAX_REGISTERS = subst (λ n. values_registers es n ≤ MAX_REGISTERS) both.0.next_is rest.room in
-    subst (λ all. EmitsOperands all ps free after old new x) (sym ia) (subst (λ ps. EmitsOperands (e ∷ es) ps free after old new x) (sym ip)
-    (ended (value_size e free 1) (values_size (e ∷ es) free) (arguments_blocks es) old mid new _ _ _ _ x
+    subst (λ all. Emits (operands all ps free after) old new x) (sym ia) (subst (λ ps. Emits (operands (e ∷ es) ps free after) old new x) (sym ip)
+    (ended (arguments_blocks es) one
     (record { blocks = omega arith; registers = omega arith; room = λ le. omega (arith, le, room); globals = omega arith })
     rest.grows c1
     (λ from keeps. (
@@ -301,4 +300,4 @@ operands_emits old mid new all es e ps ps2 p free after middle x ia ip are rest 
     ))
     (λ from does bs h.
     let t = split2 bs old mid new rest.grows one.grows h in
-    (open_code middle, does bs t.1, rest.does bs t.0)) one))
+    (open_code middle, does bs t.1, rest.does bs t.0))))

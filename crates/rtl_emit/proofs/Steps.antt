@@ -8,11 +8,11 @@ use Rattle.words.specs.declared.sign.Sign.{Sign}
 use Rattle.c_tree.specs.declared.tree.BinaryOp.{BinaryOp}
 use Rattle.c_typed.specs.Values.{binary_of, binary_value}
 use Rattle.rtl.specs.Programs.{Program}
-use Rattle.rtl.specs.Meaning.{Code, Frame, Run, rtl_step, rtl_steps, state_at_block, code_of}
+use Rattle.rtl.specs.Meaning.{Code, Run, Surroundings, at, rtl_step, rtl_steps, state_at_block, code_of}
 use Rattle.rtl.specs.declared.block.RBlock.{RBlock}
 use Rattle.rtl_emit.specs.Blocks.{goto, Spot, Block, Line, line_of, Lands, At}
 use Rattle.rtl_emit.specs.Operations.{EvaluatesBoth}
-use Rattle.rtl_emit.specs.Runs.{at_code, Goes, Moves, Holds}
+use Rattle.rtl_emit.specs.Runs.{Goes, Moves, Holds}
 
 pub goes_nowhere : (p : Program) (depth : ℕ) (s : Run) → Goes p depth s s
 goes_nowhere p depth s = record { count = 0; ends = refl }
@@ -81,10 +81,9 @@ written_here r t v = ap (λ c. if c then v else r t) (eq-eqb t t refl)
 pub written_other : (r : Places) (t : ℕ) (v : Option ℕ) (x : ℕ) → x ≢ t → places_with r t v x ≡ r x
 written_other r t v x ne = ap (λ c. if c then v else r x) (ne_eqb x t ne)
 
-pub jump_to : {bs : List RBlock} {b : ℕ} {c : Code} → At bs b c → (r : Places) (to : Option ℕ) (ws : List Frame) (g : Arrays) (out : List ℕ)
-    → state_at_block bs b r to ws g out ≡ at_code bs r c to ws g out
-jump_to {bs} {b} {c} at r to ws g out =
-    with_some (slice_get bs b) at.block out (λ block. at_code bs r (code_of block) to ws g out) at.there ∙ ap (λ c. at_code bs r c to ws g out) at.is
+pub jump_to : {bs : List RBlock} {b : ℕ} {c : Code} → At bs b c → (w : Surroundings) (r : Places) → state_at_block w bs r b ≡ at w bs r c
+jump_to {bs} {b} {c} there w r =
+    with_some (slice_get bs b) there.block w.output (λ block. at w bs r (code_of block)) there.there ∙ ap (at w bs r) there.is
 
 -- the registers of locals are the same, so they still hold the locals
 pub holds_kept : (free next : ℕ) (l r r' : Places) (g : Arrays) → free ≤ next → Holds free l r g → ((x : ℕ) → x < free → r' x ≡ r x) → Holds next l r' g
@@ -95,8 +94,7 @@ holds_kept free next l r r' g le h same = record {
 }
 
 -- a jump to it, or to the spot at once
-pub joins : {p : Program} {depth : ℕ} {bs : List RBlock} (b : ℕ) (s : Spot) → Lands bs b s
-    → (r : Places) (to : Option ℕ) (ws : List Frame) (g : Arrays) (out : List ℕ)
-    → Goes p depth (at_code bs r (goto b) to ws g out) (at_code bs r (line_of s) to ws g out)
-joins {p} {depth} {bs} b (Block b') l r to ws g out = record { count = 0; ends = ap (λ b. at_code bs r (goto b) to ws g out) l }
-joins {p} {depth} {bs} b (Line c) l r to ws g out = goes_one p depth _ _ (jump_to l r to ws g out)
+pub joins : {bs : List RBlock} (w : Surroundings) (b : ℕ) (s : Spot) → Lands bs b s → (r : Places)
+    → Goes w.program w.depth (at w bs r (goto b)) (at w bs r (line_of s))
+joins {bs} w b (Block b') l r = record { count = 0; ends = ap (λ b. at w bs r (goto b)) l }
+joins {bs} w b (Line c) l r = goes_one w.program w.depth _ _ (jump_to l w r)

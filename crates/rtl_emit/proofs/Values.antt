@@ -18,10 +18,10 @@ use Rattle.rtl.specs.declared.operator.Op.{Op}
 use Rattle.rtl.specs.declared.instruction.RInst.TheVariants as I
 use Rattle.rtl.specs.declared.block.RBlock.{RBlock}
 use Rattle.rtl.specs.Operators.{op_result}
-use Rattle.rtl.specs.Meaning.{Code, rtl_step, words_in}
+use Rattle.rtl.specs.Meaning.{Code, Surroundings, at, rtl_step, words_in}
 use Rattle.rtl_emit.specs.Operations.{inst_of, Computes, ComputesPrefix}
 use Rattle.rtl_emit.specs.Blocks.{first}
-use Rattle.rtl_emit.specs.Runs.{Goes, Surroundings, at, Holds, Yields, Takes}
+use Rattle.rtl_emit.specs.Runs.{Goes, Holds, Puts, Yields, Takes}
 use Rattle.rtl_emit.specs.Expressions.{Reads, IsPlace, Evaluates, Fetches, Operates, Combines, ArePlaces, FetchAll}
 use Rattle.rtl_emit.specs.declared.operation.Combination.{Combination}
 use Rattle.rtl_emit.specs.declared.operation.Operation.{Operation}
@@ -43,13 +43,13 @@ pub taken : (w : Surroundings) (bs : List RBlock) (e : TypedExpression) (free p 
     → IsPlace e free p next → Fetches bs e free p from to → Holds free l r w.globals → value_of e l w.globals ≡ Some v → Taken w bs free p next r from to v
 taken w bs e free p next from to l r v pl f h is =
     let y = f.by w l r v h is in
-    record { regs = y.regs; goes = y.goes; value = y.value; kept = λ x lt. kept y x lt pl.is (eqb_tells x p); held = held pl.is }
+    record { regs = y.regs; goes = y.goes; value = y.done.value; kept = λ x lt. kept y x lt pl.is (eqb_tells x p); held = held pl.is }
   where
-    kept : (y : Takes w bs free p r from to v) (x : ℕ) → x < free → Reads e p ⊎ ((free ≤ p) × (p < next))
+    kept : (y : Takes w bs r from to (Puts free p v r)) (x : ℕ) → x < free → Reads e p ⊎ ((free ≤ p) × (p < next))
         → ((nat_eq x p ≡ true) × (x ≡ p)) ⊎ ((nat_eq x p ≡ false) × (x ≢ p)) → y.regs x ≡ r x
-    kept y x lt (inr far) t = let ne : x ≢ p = omega (arith, far.0) in y.kept x lt ne
-    kept y x lt (inl reads) (inr ne) = y.kept x lt ne.1
-    kept y x lt (inl reads) (inl eq) = ap y.regs eq.1 ∙ y.value ∙ sym (h.by p v (reads l w.globals v is)).1 ∙ ap r (sym eq.1)
+    kept y x lt (inr far) t = let ne : x ≢ p = omega (arith, far.0) in y.done.kept x lt ne
+    kept y x lt (inl reads) (inr ne) = y.done.kept x lt ne.1
+    kept y x lt (inl reads) (inl eq) = ap y.regs eq.1 ∙ y.done.value ∙ sym (h.by p v (reads l w.globals v is)).1 ∙ ap r (sym eq.1)
 
     held : Reads e p ⊎ ((free ≤ p) × (p < next)) → p < next
     held (inl reads) = omega (arith, pl.rooms, (h.by p v (reads l w.globals v is)).0)
@@ -58,27 +58,25 @@ taken w bs e free p next from to l r v pl f h is =
 -- values
 
 yields_one : (w : Surroundings) (bs : List RBlock) (free d : ℕ) (r : Places) (from to : Code) (v : ℕ)
-    → rtl_step w.program w.depth (at w bs r from) ≡ at w bs (places_with r d (Some v)) to → Yields w bs free d r from to v
+    → rtl_step w.program w.depth (at w bs r from) ≡ at w bs (places_with r d (Some v)) to → Yields w bs r from to (Puts free d v r)
 yields_one w bs free d r from to v e = record {
   regs = places_with r d (Some v);
   moves = moves_one e;
-  value = written_here r d (Some v);
-  kept = λ x k ne. written_other r d (Some v) x ne;
+  done = record { value = written_here r d (Some v); kept = λ x k ne. written_other r d (Some v) x ne };
 }
 
 pub yields_after : (w : Surroundings) (bs : List RBlock) (free d : ℕ) (r r1 : Places) (from mid to : Code) (v : ℕ)
-    → Goes w.program w.depth (at w bs r from) (at w bs r1 mid) → ((x : ℕ) → x < free → r1 x ≡ r x) → Yields w bs free d r1 mid to v
-    → Yields w bs free d r from to v
+    → Goes w.program w.depth (at w bs r from) (at w bs r1 mid) → ((x : ℕ) → x < free → r1 x ≡ r x) → Yields w bs r1 mid to (Puts free d v r1)
+    → Yields w bs r from to (Puts free d v r)
 yields_after w bs free d r r1 from mid to v go same y = record {
   regs = y.regs;
   moves = moves_after go y.moves;
-  value = y.value;
-  kept = λ x k ne. y.kept x k ne ∙ same x k;
+  done = record { value = y.done.value; kept = λ x k ne. y.done.kept x k ne ∙ same x k };
 }
 
-pub yields_then : (w : Surroundings) (bs : List RBlock) (free d : ℕ) (r : Places) (from mid to : Code) (v : ℕ) (y : Yields w bs free d r from mid v)
-    → Goes w.program w.depth (at w bs y.regs mid) (at w bs y.regs to) → Yields w bs free d r from to v
-yields_then w bs free d r from mid to v y go = record { regs = y.regs; moves = moves_then y.moves go; value = y.value; kept = y.kept }
+pub yields_then : (w : Surroundings) (bs : List RBlock) (free d : ℕ) (r : Places) (from mid to : Code) (v : ℕ) (y : Yields w bs r from mid (Puts free d v r))
+    → Goes w.program w.depth (at w bs y.regs mid) (at w bs y.regs to) → Yields w bs r from to (Puts free d v r)
+yields_then w bs free d r from mid to v y go = record { regs = y.regs; moves = moves_then y.moves go; done = y.done }
 
 pub number : (bs : List RBlock) (c : Literal) (d free : ℕ) (after : Code) → Evaluates bs (constant c) free d (first (I.Const d c.value) after) after
 number bs c d free after = record {
@@ -98,7 +96,7 @@ pub fetched : (bs : List RBlock) (e : TypedExpression) (free p : ℕ) (from to :
 fetched bs e free p from to ev = record {
   by = λ w l r v h is.
       let y = ev.by w l r v h is in
-      record { regs = y.regs; goes = goes_of y.moves; value = y.value; kept = y.kept };
+      record { regs = y.regs; goes = goes_of y.moves; done = y.done };
 }
 
 -- an element whose index is in a register

@@ -4,7 +4,7 @@ use Rattle.c_typed.specs.Trees.{TypedExpression}
 use Rattle.rtl.specs.declared.block.RBlock.{RBlock}
 use Rattle.rtl.specs.declared.limits.TheConstants.{MAX_REGISTERS}
 use Rattle.rtl.specs.Meaning.{Code}
-use Rattle.rtl_emit.specs.Blocks.{open_code, goto, line_of, insts_of, insts_at, Spot, Grows, Has, At, Adds}
+use Rattle.rtl_emit.specs.Blocks.{open_code, goto, line_of, insts_of, insts_at, Spot, Line, Grows, Has, At, Adds}
 use Rattle.rtl_emit.specs.Expressions.{Evaluates, Fetches, Decides, FetchAll}
 use Rattle.rtl_emit.specs.Sizes.{joint, Beyond, value_registers, value_blocks, value_insts, condition_registers, condition_blocks}
 use Rattle.rtl_emit.specs.Sizes.{condition_insts, arguments_insts, globals_named}
@@ -29,17 +29,21 @@ pub record Size : Type 0 where
 abbrev pub Covers : Size → Scope → Type 0
 Covers size s = (size.registers ≤ s.registers) × (size.globals ≤ s.globals)
 
--- the blocks that were there stay, whatever is answered; an Ok adds so many and is within the limits. It keeps what is sound and small, and
+-- what a call emits: how big it is, what it keeps of the blocks that were there as they become new ones, and what it does in a list of blocks
+pub record Description (A : Type 0) : Type 1 where
+  pub size : Size
+  pub Keeps : (old new : List RBlock) → A → Type 0
+  pub Does : A → List RBlock → Type 0
+
+-- the call emits this: the blocks that were there stay, whatever is answered. An Ok adds so many and is within the limits, keeps that, and
 -- does its work in every list of blocks that has those which were added. A Limit comes only where one of the sizes is beyond one
-pub record Emits {A : Type 0} (size : Size) (old new : List RBlock) (Keeps : A → Type 0) (Does : A → List RBlock
-    → Type 0) (r : Result A LowerFault)
-    : Type 0 where
+pub record Emits {A : Type 0} (d : Description A) (old new : List RBlock) (r : Result A LowerFault) : Type 0 where
   pub grows : Grows old new
-  pub count : OnOk r (length new ≡ length old + size.blocks)
-  pub room : OnOk r (size.registers ≤ MAX_REGISTERS)
-  pub limit : IfErr r (λ f. f ≡ Limit → Beyond size.registers (length old + size.blocks) size.globals)
-  pub sound : IfOk r Keeps
-  pub does : IfOk r (λ x. (bs : List RBlock) → Has bs old new → Does x bs)
+  pub count : OnOk r (length new ≡ length old + d.size.blocks)
+  pub room : OnOk r (d.size.registers ≤ MAX_REGISTERS)
+  pub limit : IfErr r (λ f. f ≡ Limit → Beyond d.size.registers (length old + d.size.blocks) d.size.globals)
+  pub sound : IfOk r (λ x. d.Keeps old new x)
+  pub does : IfOk r (λ x. (bs : List RBlock) → Has bs old new → d.Does x bs)
 
 abbrev pub value_size : TypedExpression → (free joint : ℕ) → Size
 value_size e free n = record {
@@ -73,40 +77,6 @@ values_size es free = record {
   globals = globals_named_in es;
 }
 
--- code that puts the value of an expression into the register `to`
-abbrev pub EmitsValue : TypedExpression → (to free : ℕ) → Spot → (old new : List RBlock) → Result OpenBlock LowerFault → Type 0
-EmitsValue e to free after old new r = Emits (value_size e free (joint after)) old new
-    (λ from. KeepsSound old new (λ s. (to < s.registers)
-    × (Covers (value_size e free (joint after)) s × IsSoundSpot s after)) (λ s. IsSound s (open_code from))
-    × Adds old new (insts_of (open_code from)) (insts_at after) (value_insts e))
-    (λ from bs. Evaluates bs e free to (open_code from) (line_of after)) r
-
--- code that puts it into the operand's place, where it isn't there
-abbrev pub EmitsOperand : TypedExpression → (register free : ℕ) → OpenBlock → (old new : List RBlock) → Result OpenBlock LowerFault → Type 0
-EmitsOperand e register free after old new r = Emits (value_size e free 1) old new
-    (λ from. KeepsSound old new (λ s. (register < s.registers)
-    × (Covers (value_size e free 1) s × IsSound s (open_code after))) (λ s. IsSound s (open_code from))
-    × Adds old new (insts_of (open_code from)) (insts_of (open_code after)) (value_insts e))
-    (λ from bs. Fetches bs e free register (open_code from) (open_code after)) r
-
--- code that leads to one of two blocks
-abbrev pub EmitsBranch : Size → TypedExpression → Targets → (free : ℕ) → (old new : List RBlock) → Result OpenBlock LowerFault → Type 0
-EmitsBranch size e targets free old new r = Emits size old new
-    (λ from. KeepsSound old new (λ s. Covers size s
-    × ((targets.yes < s.blocks) × (targets.no < s.blocks))) (λ s. IsSound s (open_code from))
-    × Adds old new (insts_of (open_code from)) 0 size.insts)
-    (λ from bs. Decides bs e free targets.yes targets.no (open_code from)) r
-
--- code that puts the values of a list into their places
-abbrev pub EmitsOperands : List TypedExpression → List Place → (free : ℕ) → OpenBlock → (old new : List RBlock)
-    → Result OpenBlock LowerFault → Type 0
-EmitsOperands es places free after old new r = Emits (values_size es free) old new
-    (λ from. KeepsSound old new (λ s. (places_registers es free ≤ s.registers)
-    × (Covers (values_size es free) s × IsSound s (open_code after))) (λ s. IsSound s (open_code from))
-    × Adds old new (insts_of (open_code from)) (insts_of (open_code after)) (arguments_insts es))
-    (λ from bs. FetchAll bs es free places (open_code from) (open_code after)) r
-
--- code that puts the values of two operands into their places, the second of which is found while the first is held
 abbrev pub both_size : (left right : TypedExpression) (free next : ℕ) → Size
 both_size l r free next = record {
   registers = max (value_registers r next) (value_registers l free);
@@ -115,29 +85,77 @@ both_size l r free next = record {
   globals = max (globals_named l) (globals_named r);
 }
 
-abbrev pub EmitsBoth : (left right : TypedExpression) (free : ℕ) → WaitingForTwo → (old new : List RBlock) → Result OpenBlock LowerFault → Type 0
-EmitsBoth l r free w old new x = Emits (both_size l r free w.first.free) old new
-    (λ from. KeepsSound old new (λ s. (w.first.register < s.registers) × ((w.second.register < s.registers)
-    × (Covers (both_size l r free w.first.free) s × IsSound s (open_code w.code)))) (λ s. IsSound s (open_code from))
-    × Adds old new (insts_of (open_code from)) (insts_of (open_code w.code)) (value_insts r + value_insts l))
-    (λ from bs. (middle : Code) × Fetches bs l free w.first.register (open_code from) middle
-    × Fetches bs r w.first.free w.second.register middle (open_code w.code)) x
+-- sound blocks stay so beside sound code, which has at most so many instructions more than the code after it
+abbrev pub KeepsCode : (Needs : Scope → Type 0) → (after most : ℕ) → (old new : List RBlock) → OpenBlock → Type 0
+KeepsCode Needs after most old new from =
+    KeepsSound old new Needs (λ s. IsSound s (open_code from)) × Adds old new (insts_of (open_code from)) after most
+
+-- code that puts the value of an expression into the register `to`
+abbrev pub value : TypedExpression → (to free : ℕ) → Spot → Description OpenBlock
+value e to free after = record {
+  size = value_size e free (joint after);
+  Keeps = KeepsCode (λ s. (to < s.registers) × (Covers (value_size e free (joint after)) s × IsSoundSpot s after)) (insts_at after)
+      (value_insts e);
+  Does = λ from bs. Evaluates bs e free to (open_code from) (line_of after);
+}
+
+-- code that puts it into the operand's place, where it isn't there
+abbrev pub operand : TypedExpression → (register free : ℕ) → OpenBlock → Description OpenBlock
+operand e register free after =
+    record (value e register free (Line (open_code after))) { Does = λ from bs. Fetches bs e free register (open_code from) (open_code after) }
+
+-- code that puts the values of a list into their places
+abbrev pub operands : List TypedExpression → List Place → (free : ℕ) → OpenBlock → Description OpenBlock
+operands es places free after = record {
+  size = values_size es free;
+  Keeps = KeepsCode (λ s. (places_registers es free ≤ s.registers) × (Covers (values_size es free) s × IsSound s (open_code after)))
+      (insts_of (open_code after)) (arguments_insts es);
+  Does = λ from bs. FetchAll bs es free places (open_code from) (open_code after);
+}
+
+-- code that puts the values of two operands into their places, the second of which is found while the first is held
+abbrev pub two_operands : (left right : TypedExpression) (free : ℕ) → WaitingForTwo → Description OpenBlock
+two_operands l r free w = record {
+  size = both_size l r free w.first.free;
+  Keeps = KeepsCode (λ s. (w.first.register < s.registers) × ((w.second.register < s.registers)
+      × (Covers (both_size l r free w.first.free) s × IsSound s (open_code w.code)))) (insts_of (open_code w.code)) (value_insts r + value_insts l);
+  Does = λ from bs. (middle : Code) × Fetches bs l free w.first.register (open_code from) middle
+      × Fetches bs r w.first.free w.second.register middle (open_code w.code);
+}
+
+-- code that leads to one of two blocks
+abbrev pub branch : Size → TypedExpression → Targets → (free : ℕ) → Description OpenBlock
+branch size e targets free = record {
+  size = size;
+  Keeps = KeepsCode (λ s. Covers size s × ((targets.yes < s.blocks) × (targets.no < s.blocks))) 0 size.insts;
+  Does = λ from bs. Decides bs e free targets.yes targets.no (open_code from);
+}
+
+-- by the value of the expression
+abbrev pub value_branch : TypedExpression → Targets → (free : ℕ) → Description OpenBlock
+value_branch e targets free = branch (test_size e targets.likely free) e targets free
+
+-- by the branches of a condition
+abbrev pub condition_branch : TypedExpression → Targets → (free : ℕ) → Description OpenBlock
+condition_branch e targets free = branch (condition_size e targets.likely free) e targets free
 
 -- code in a block of its own
-abbrev pub EmitsBlock : Size → (Needs : Scope → Type 0) (Is : List RBlock → Code → Type 0) → (old new : List RBlock)
-    → Result ℕ LowerFault → Type 0
-EmitsBlock size Needs Is old new r =
-    Emits (record { registers = size.registers; blocks = size.blocks + 1; insts = size.insts; globals = size.globals }) old new
-    (λ b. KeepsSound old new (λ s. Covers size s × Needs s) (λ s. b < s.blocks) × Adds old new 0 0 size.insts)
-    (λ b bs. (from : Code) × At bs b from × Is bs from) r
+abbrev pub own_block : Size → (Needs : Scope → Type 0) (Is : List RBlock → Code → Type 0) → Description ℕ
+own_block size Needs Is = record {
+  size = record size { blocks = size.blocks + 1 };
+  Keeps = λ old new b. KeepsSound old new (λ s. Covers size s × Needs s) (λ s. b < s.blocks) × Adds old new 0 0 size.insts;
+  Does = λ b bs. (from : Code) × At bs b from × Is bs from;
+}
 
-abbrev pub EmitsValueBlock : TypedExpression → (to free join : ℕ) → (old new : List RBlock) → Result ℕ LowerFault → Type 0
-EmitsValueBlock e to free join old new r = EmitsBlock (value_size e free 0) (λ s. (to < s.registers) × (join < s.blocks))
-    (λ bs from. Evaluates bs e free to from (goto join)) old new r
+-- a value whose code goes on at the block `join`
+abbrev pub own_value : TypedExpression → (to free join : ℕ) → Description ℕ
+own_value e to free join = own_block (value_size e free 0) (λ s. (to < s.registers) × (join < s.blocks))
+    (λ bs from. Evaluates bs e free to from (goto join))
 
-abbrev pub EmitsBranchBlock : TypedExpression → Targets → (free : ℕ) → (old new : List RBlock) → Result ℕ LowerFault → Type 0
-EmitsBranchBlock e t free old new r = EmitsBlock (condition_size e t.likely free) (λ s. (t.yes < s.blocks) × (t.no < s.blocks))
-    (λ bs from. Decides bs e free t.yes t.no from) old new r
+abbrev pub own_branch : TypedExpression → Targets → (free : ℕ) → Description ℕ
+own_branch e targets free =
+    own_block (condition_size e targets.likely free) (λ s. (targets.yes < s.blocks) × (targets.no < s.blocks))
+    (λ bs from. Decides bs e free targets.yes targets.no from)
 
 -- the targets of the left operand of `&&`, or of `||`, where the right one is tested in a block
 abbrev pub left_targets : (both : Bool) → Targets → (block : ℕ) → Targets

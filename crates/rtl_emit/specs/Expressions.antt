@@ -5,14 +5,14 @@ use Rattle.words.specs.Words.{wrap}
 use Rattle.runs.specs.Stores.{Places, Arrays}
 use Rattle.c_typed.specs.Trees.{TypedExpression}
 use Rattle.c_typed.specs.Values.{value_of}
-use Rattle.rtl.specs.Meaning.{Code}
+use Rattle.rtl.specs.Meaning.{Code, Surroundings}
 use Rattle.rtl.specs.declared.instruction.RInst.TheVariants as I
 use Rattle.rtl.specs.declared.block.RBlock.{RBlock}
 use Rattle.rtl.specs.declared.limits.TheConstants.{MAX_REGISTERS}
 use Rattle.rtl_emit.specs.Operations.{result_of}
 use Rattle.rtl_emit.specs.Sizes.{place_registers, next_free}
 use Rattle.rtl_emit.specs.Blocks.{goto, first, Spot, Lands, At}
-use Rattle.rtl_emit.specs.Runs.{Surroundings, Holds, Yields, Takes, Arrives}
+use Rattle.rtl_emit.specs.Runs.{Holds, Puts, Yields, Takes, Arrives}
 use Rattle.rtl_emit.specs.declared.operation.Operation.{Operation}
 use Rattle.rtl_emit.specs.declared.place.Place.{Place}
 
@@ -31,22 +31,22 @@ pub record IsPlace (e : TypedExpression) (free p next : ℕ) : Type 0 where
 -- the code from here on puts the value of e into the register d, and goes on there
 pub record Evaluates (bs : List RBlock) (e : TypedExpression) (free d : ℕ) (from to : Code) : Type 0 where
   pub by : (w : Surroundings) (l r : Places) (v : ℕ) → Holds free l r w.globals → value_of e l w.globals ≡ Some v
-      → Yields w bs free d r from to v
+      → Yields w bs r from to (Puts free d v r)
 
 -- the value of e is in the register p, or the code from here on puts it there
 pub record Fetches (bs : List RBlock) (e : TypedExpression) (free p : ℕ) (from to : Code) : Type 0 where
   pub by : (w : Surroundings) (l r : Places) (v : ℕ) → Holds free l r w.globals → value_of e l w.globals ≡ Some v
-      → Takes w bs free p r from to v
+      → Takes w bs r from to (Puts free p v r)
 
 -- the code from here on puts what an operation gives at the values of a and b into the register d
 pub record Operates (bs : List RBlock) (op : Operation) (a b : TypedExpression) (free d : ℕ) (from to : Code) : Type 0 where
   pub by : (w : Surroundings) (l r : Places) (x y v : ℕ) → Holds free l r w.globals → value_of a l w.globals ≡ Some x
-      → value_of b l w.globals ≡ Some y → result_of op x y ≡ Some v → Yields w bs free d r from to v
+      → value_of b l w.globals ≡ Some y → result_of op x y ≡ Some v → Yields w bs r from to (Puts free d v r)
 
 -- the same at the value of e and the word of a constant
 pub record Combines (bs : List RBlock) (op : Operation) (e : TypedExpression) (c free d : ℕ) (from to : Code) : Type 0 where
   pub by : (w : Surroundings) (l r : Places) (x v : ℕ) → Holds free l r w.globals → value_of e l w.globals ≡ Some x
-      → result_of op x (wrap c) ≡ Some v → Yields w bs free d r from to v
+      → result_of op x (wrap c) ≡ Some v → Yields w bs r from to (Puts free d v r)
 
 -- the code from here on goes to the block yes where e isn't 0, and to the block no where it is
 pub record Decides (bs : List RBlock) (e : TypedExpression) (free yes no : ℕ) (from : Code) : Type 0 where

@@ -13,8 +13,7 @@ ghost use Rattle.rtl_emit.specs.Expressions.{ArePlaces};
 ghost use Rattle.rtl_emit.specs.Operations.{ComputesContrary};
 ghost use Rattle.rtl_emit.specs.Sizes as Sizes;
 ghost use Rattle.rtl_emit.specs.Sizes.{by_branches, has_contrary, logical_of};
-ghost use Rattle.rtl_emit.specs.Emits.{test_size, condition_size, EmitsValue, EmitsOperand, EmitsBranch, EmitsOperands};
-ghost use Rattle.rtl_emit.specs.Emits.{EmitsBoth, EmitsValueBlock, EmitsBranchBlock};
+ghost use Rattle.rtl_emit.specs.Emits.{Emits, value, operand, operands, two_operands, value_branch, condition_branch, own_value, own_branch};
 
 use crate::block::{Continuation, OpenBlock, block_of, open_block, seal};
 use crate::fault::LowerFault;
@@ -61,7 +60,7 @@ pub fn value_into(
     free: Register,
     after: Continuation,
 ) -> Result<OpenBlock, LowerFault>
-    ensures { EmitsValue (typed_expression_of e.now) to free (spot after) blocks.old.items blocks.new.items result }
+    ensures { Emits (value (typed_expression_of e.now) to free (spot after)) blocks.old.items blocks.new.items result }
 {
     let aim = Aim {
         alloc,
@@ -97,7 +96,7 @@ fn element_into(
     array: usize,
     index: &TypedExpression,
 ) -> Result<OpenBlock, LowerFault>
-    ensures { (k : IntegerType) → EmitsValue (element array k (typed_expression_of index.now)) aim.to aim.free (spot aim.after)
+    ensures { (k : IntegerType) → Emits (value (element array k (typed_expression_of index.now)) aim.to aim.free (spot aim.after))
         blocks.old.items blocks.new.items result }
 {
     let (alloc, free) = (aim.alloc, aim.free);
@@ -113,7 +112,7 @@ fn unary_into(
     operator: UnaryOp,
     part: &TypedExpression,
 ) -> Result<OpenBlock, LowerFault>
-    ensures { (k : IntegerType) → EmitsValue (unary operator k (typed_expression_of part.now)) aim.to aim.free (spot aim.after)
+    ensures { (k : IntegerType) → Emits (value (unary operator k (typed_expression_of part.now)) aim.to aim.free (spot aim.after))
         blocks.old.items blocks.new.items result }
 {
     let (alloc, to, free, after) = (aim.alloc, aim.to, aim.free, aim.after);
@@ -140,8 +139,8 @@ fn binary_into(
     left: &TypedExpression,
     right: &TypedExpression,
 ) -> Result<OpenBlock, LowerFault>
-    ensures { EmitsValue (binary operator integer_type (typed_expression_of left.now) (typed_expression_of right.now)) aim.to aim.free
-        (spot aim.after) blocks.old.items blocks.new.items result }
+    ensures { Emits (value (binary operator integer_type (typed_expression_of left.now) (typed_expression_of right.now))
+        aim.to aim.free (spot aim.after)) blocks.old.items blocks.new.items result }
 {
     match form_of(operator, integer_type) {
         Form::Logical { both } => told_into(aim, blocks, both, left, right),
@@ -162,8 +161,8 @@ fn told_into(
     left: &TypedExpression,
     right: &TypedExpression,
 ) -> Result<OpenBlock, LowerFault>
-    ensures { (k : IntegerType) → EmitsValue (binary (logical_of both) k (typed_expression_of left.now) (typed_expression_of right.now))
-        aim.to aim.free (spot aim.after) blocks.old.items blocks.new.items result }
+    ensures { (k : IntegerType) → Emits (value (binary (logical_of both) k (typed_expression_of left.now) (typed_expression_of right.now))
+        aim.to aim.free (spot aim.after)) blocks.old.items blocks.new.items result }
 {
     let truth = truth_blocks(aim.alloc, blocks, aim.to, aim.after)?;
     logical_branches(aim.alloc, blocks, both, left, right, truth, aim.free)
@@ -178,8 +177,8 @@ fn conditional_into(
     first: &TypedExpression,
     second: &TypedExpression,
 ) -> Result<OpenBlock, LowerFault>
-    ensures { (k : IntegerType) → EmitsValue (conditional k (typed_expression_of test.now) (typed_expression_of first.now)
-        (typed_expression_of second.now)) aim.to aim.free (spot aim.after) blocks.old.items blocks.new.items result }
+    ensures { (k : IntegerType) → Emits (value (conditional k (typed_expression_of test.now) (typed_expression_of first.now)
+        (typed_expression_of second.now)) aim.to aim.free (spot aim.after)) blocks.old.items blocks.new.items result }
 {
     let (alloc, to, free, after) = (aim.alloc, aim.to, aim.free, aim.after);
     let join = block_of(blocks, after)?;
@@ -198,7 +197,7 @@ fn value_block(
     free: Register,
     join: BlockNumber,
 ) -> Result<BlockNumber, LowerFault>
-    ensures { EmitsValueBlock (typed_expression_of e.now) to free join blocks.old.items blocks.new.items result }
+    ensures { Emits (own_value (typed_expression_of e.now) to free join) blocks.old.items blocks.new.items result }
 {
     let code = value_into(alloc, blocks, e, to, free, Continuation::Jump(join))?;
     seal(blocks, code)
@@ -216,7 +215,7 @@ pub fn operand_into(
     after: OpenBlock,
 ) -> Result<OpenBlock, LowerFault>
     requires within { register < MAX_REGISTERS }
-    ensures { EmitsOperand (typed_expression_of e.now) register free after blocks.old.items blocks.new.items result }
+    ensures { Emits (operand (typed_expression_of e.now) register free after) blocks.old.items blocks.new.items result }
 {
     if let TypedExpression::Local(_, number) = e {
         if *number == register as usize {
@@ -247,7 +246,7 @@ fn await_operand(
     waiting: Result<Waiting, LowerFault>,
 ) -> Result<OpenBlock, LowerFault>
     requires within { IfOk waiting (λ w. w.place.register < MAX_REGISTERS) }
-    ensures ok { IfOk waiting (λ w. EmitsOperand (typed_expression_of e.now) w.place.register free w.code
+    ensures ok { IfOk waiting (λ w. Emits (operand (typed_expression_of e.now) w.place.register free w.code)
         blocks.old.items blocks.new.items result) }
     ensures err { IfErr waiting (λ f. (result ≡ Err f) × (blocks.new.items ≡ blocks.old.items)) }
 {
@@ -268,7 +267,7 @@ fn await_both(
 ) -> Result<OpenBlock, LowerFault>
     requires first { IfOk waiting (λ w. w.first.register < MAX_REGISTERS) }
     requires second { IfOk waiting (λ w. w.second.register < MAX_REGISTERS) }
-    ensures ok { IfOk waiting (λ w. EmitsBoth (typed_expression_of left.now) (typed_expression_of right.now) free w
+    ensures ok { IfOk waiting (λ w. Emits (two_operands (typed_expression_of left.now) (typed_expression_of right.now) free w)
         blocks.old.items blocks.new.items result) }
     ensures err { IfErr waiting (λ f. (result ≡ Err f) × (blocks.new.items ≡ blocks.old.items)) }
 {
@@ -294,7 +293,7 @@ fn test(
     targets: Targets,
     free: Register,
 ) -> Result<OpenBlock, LowerFault>
-    ensures { EmitsBranch (test_size (typed_expression_of e.now) targets.likely free) (typed_expression_of e.now) targets free
+    ensures { Emits (value_branch (typed_expression_of e.now) targets free)
         blocks.old.items blocks.new.items result }
 {
     await_operand(alloc, blocks, e, free, test_at(alloc, e, targets, free))
@@ -309,7 +308,7 @@ pub fn condition(
     targets: Targets,
     free: Register,
 ) -> Result<OpenBlock, LowerFault>
-    ensures { EmitsBranch (condition_size (typed_expression_of e.now) targets.likely free) (typed_expression_of e.now) targets free
+    ensures { Emits (condition_branch (typed_expression_of e.now) targets free)
         blocks.old.items blocks.new.items result }
 {
     match e {
@@ -361,8 +360,8 @@ fn contrary_test(
 ) -> Result<OpenBlock, LowerFault>
     ensures { (o : BinaryOp) (k : IntegerType) → ComputesContrary o (sign_of k) operation → Sizes.is_logical o ≡ false
         → has_contrary o ≡ true → targets.likely ≡ false
-        → EmitsBranch (condition_size (binary o k (typed_expression_of left.now) (typed_expression_of right.now)) targets.likely free)
-        (binary o k (typed_expression_of left.now) (typed_expression_of right.now)) targets free blocks.old.items blocks.new.items result }
+        → Emits (condition_branch (binary o k (typed_expression_of left.now) (typed_expression_of right.now)) targets free)
+        blocks.old.items blocks.new.items result }
 {
     let values = contrary_at(alloc, operation, left, right, targets, free);
     await_both(alloc, blocks, left, right, free, values)
@@ -379,9 +378,9 @@ fn logical_branches(
     targets: Targets,
     free: Register,
 ) -> Result<OpenBlock, LowerFault>
-    ensures { (k : IntegerType) → EmitsBranch (condition_size (binary (logical_of both) k (typed_expression_of left.now)
-        (typed_expression_of right.now)) targets.likely free) (binary (logical_of both) k (typed_expression_of left.now)
-        (typed_expression_of right.now)) targets free blocks.old.items blocks.new.items result }
+    ensures { (k : IntegerType) → Emits (condition_branch (binary (logical_of both) k (typed_expression_of left.now)
+        (typed_expression_of right.now)) targets free)
+        blocks.old.items blocks.new.items result }
 {
     let second = branch_block(alloc, blocks, right, targets, free)?;
     condition(alloc, blocks, left, targets.of_left(both, second), free)
@@ -398,9 +397,8 @@ fn sides(
     targets: Targets,
     free: Register,
 ) -> Result<OpenBlock, LowerFault>
-    ensures { (k : IntegerType) → EmitsBranch (condition_size (conditional k (typed_expression_of test.now) (typed_expression_of first.now)
-        (typed_expression_of second.now)) targets.likely free) (conditional k (typed_expression_of test.now) (typed_expression_of first.now)
-        (typed_expression_of second.now)) targets free blocks.old.items blocks.new.items result }
+    ensures { (k : IntegerType) → Emits (condition_branch (conditional k (typed_expression_of test.now) (typed_expression_of first.now)
+        (typed_expression_of second.now)) targets free) blocks.old.items blocks.new.items result }
 {
     let yes = branch_block(alloc, blocks, first, targets, free)?;
     let no = branch_block(alloc, blocks, second, targets, free)?;
@@ -416,7 +414,7 @@ fn branch_block(
     targets: Targets,
     free: Register,
 ) -> Result<BlockNumber, LowerFault>
-    ensures { EmitsBranchBlock (typed_expression_of e.now) targets free blocks.old.items blocks.new.items result }
+    ensures { Emits (own_branch (typed_expression_of e.now) targets free) blocks.old.items blocks.new.items result }
 {
     let code = condition(alloc, blocks, e, targets, free)?;
     seal(blocks, code)
@@ -432,7 +430,7 @@ pub fn operands_into(
     after: OpenBlock,
 ) -> Result<OpenBlock, LowerFault>
     requires places { ArePlaces (typed_expressions_of es.now) free places.now }
-    ensures { EmitsOperands (typed_expressions_of es.now) places.now free after blocks.old.items blocks.new.items result }
+    ensures { Emits (operands (typed_expressions_of es.now) places.now free after) blocks.old.items blocks.new.items result }
 {
     let Some((e, rest)) = es.split_first() else {
         return Ok(after);

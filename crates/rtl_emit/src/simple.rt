@@ -4,7 +4,7 @@ ghost use Rattle.c_tokens.specs.declared.token.IntegerType.{IntegerType};
 ghost use Rattle.c_typed.specs.Trees.{constant, local, global};
 ghost use Rattle.rtl.specs.declared.block.RBlock.{RBlock};
 ghost use Rattle.rtl_emit.specs.Blocks.{spot};
-ghost use Rattle.rtl_emit.specs.Emits.{EmitsValue};
+ghost use Rattle.rtl_emit.specs.Emits.{Emits, value};
 
 use crate::block::{Continuation, OpenBlock, put_before, put_first};
 use crate::fault::LowerFault;
@@ -36,7 +36,7 @@ pub fn number_of(number: usize) -> Result<u32, LowerFault>
 /// Emits a constant.
 #[inline(always)]
 pub(crate) fn number_into(aim: Aim, literal: Literal) -> Result<OpenBlock, LowerFault>
-    ensures { (bs : List RBlock) → EmitsValue (constant literal) aim.to aim.free (spot aim.after) bs bs result }
+    ensures { (bs : List RBlock) → Emits (value (constant literal) aim.to aim.free (spot aim.after)) bs bs result }
 {
     let from = put_before(aim.alloc, RInst::Const(aim.to, literal.value), aim.after)?;
     Ok(from)
@@ -44,7 +44,7 @@ pub(crate) fn number_into(aim: Aim, literal: Literal) -> Result<OpenBlock, Lower
 
 /// Emits a local.
 pub(crate) fn local_into(aim: Aim, number: usize) -> Result<OpenBlock, LowerFault>
-    ensures { (bs : List RBlock) (k : IntegerType) → EmitsValue (local number k) aim.to aim.free (spot aim.after) bs bs result }
+    ensures { (bs : List RBlock) (k : IntegerType) → Emits (value (local number k) aim.to aim.free (spot aim.after)) bs bs result }
 {
     let register = register_of(number)?;
     let from = put_before(aim.alloc, RInst::Move(aim.to, register), aim.after)?;
@@ -53,7 +53,7 @@ pub(crate) fn local_into(aim: Aim, number: usize) -> Result<OpenBlock, LowerFaul
 
 /// Emits a global variable.
 pub(crate) fn global_into(aim: Aim, number: usize) -> Result<OpenBlock, LowerFault>
-    ensures { (bs : List RBlock) (k : IntegerType) → EmitsValue (global number k) aim.to aim.free (spot aim.after) bs bs result }
+    ensures { (bs : List RBlock) (k : IntegerType) → Emits (value (global number k) aim.to aim.free (spot aim.after)) bs bs result }
 {
     let variable = number_of(number)?;
     let index = spare_register(aim.free)?;

@@ -91,20 +91,20 @@ told_into-returns t c = λ k.
 pub conditional_into-returns-in_err-join : goal.conditional_into-returns-in_err-join
 conditional_into-returns-in_err-join t c = λ k.
     let limit = c.in_err-join.ensures.limit in
-    refused _ _ _ _ _ c.in_err-join.field-0.0 _ (search rules) c.in_err-join.ensures.left (λ is. let more = limit is in omega (arith, more))
+    refused c.in_err-join.field-0.0 (search rules) c.in_err-join.ensures.left
+    (λ is. let more = limit is in omega (arith, more))
 
 pub conditional_into-returns-in_err-yes : goal.conditional_into-returns-in_err-yes
 conditional_into-returns-in_err-yes t c = λ k.
     let join = c.in_ok-join.ensures in
-    part_refused _ _ (joint (spot c.args.aim.after)) _ _ _ _ _ _ _ c.in_err-yes.field-0.0 _ (search rules) (omega arith) (omega arith) (omega arith)
-    join.grows join.count c.in_err-yes.ensures
+    part_refused (joint (spot c.args.aim.after)) c.in_err-yes.ensures (search rules) (omega arith) (omega arith) (omega arith) join.grows join.count
 
 pub conditional_into-returns-in_err-no : goal.conditional_into-returns-in_err-no
 conditional_into-returns-in_err-no t c = λ k.
     let join = c.in_ok-join.ensures in
     let yes = c.in_ok-yes.ensures in
-    part_refused _ _ (joint (spot c.args.aim.after) + (value_blocks (typed_expression_of c.args.first.now) 0 + 1)) _ _ _ _ _ _ _ c.in_err-no.field-0.0 _
-    (search rules) (omega arith) (omega arith) (omega arith) (grows_then _ _ _ join.grows yes.grows) (omega (arith, join.count, yes.count)) c.in_err-no.ensures
+    part_refused (joint (spot c.args.aim.after) + (value_blocks (typed_expression_of c.args.first.now) 0 + 1)) c.in_err-no.ensures (search rules)
+    (omega arith) (omega arith) (omega arith) (grows_then _ _ _ join.grows yes.grows) (omega (arith, join.count, yes.count))
 
 pub conditional_into-returns : goal.conditional_into-returns
 conditional_into-returns t c = λ k.
@@ -115,8 +115,7 @@ conditional_into-returns t c = λ k.
 
 pub value_block-returns-in_err-code : goal.value_block-returns-in_err-code
 value_block-returns-in_err-code t c =
-    part_refused _ _ 0 _ _ _ _ _ _ _ c.in_err-code.field-0.0 _ (search rules) (omega arith) (omega arith) (omega arith) (grows_same _) (omega arith)
-    c.in_err-code.ensures
+    part_refused 0 c.in_err-code.ensures (search rules) (omega arith) (omega arith) (omega arith) (grows_same _) (omega arith)
 
 pub value_block-returns : goal.value_block-returns
 value_block-returns t c =
@@ -133,8 +132,7 @@ operand_into-returns t c = operand_emits _ _ _ _ _ c.args.after _ c.value_into.e
 
 pub await_both-returns-in_err-middle : goal.await_both-returns-in_err-middle
 await_both-returns-in_err-middle t c = record {
-  ok = rw c.in_ok-values.was (part_refused _ _ 0 _ _ _ _ _ _ _ c.in_err-middle.field-0.0 _ (search rules) (omega arith) (omega arith) (omega arith)
-      (grows_same _) (omega arith) c.in_err-middle.ensures);
+  ok = rw c.in_ok-values.was (part_refused 0 c.in_err-middle.ensures (search rules) (omega arith) (omega arith) (omega arith) (grows_same _) (omega arith));
   err = rw c.in_ok-values.was tt;
 }
 
@@ -187,14 +185,13 @@ logical_branches-returns t c = λ k.
 
 pub sides-returns-in_err-yes : goal.sides-returns-in_err-yes
 sides-returns-in_err-yes t c = λ k.
-    part_refused _ _ 0 _ _ _ _ _ _ _ c.in_err-yes.field-0.0 _ (search rules) (omega arith) (omega arith) (omega arith) (grows_same _) (omega arith)
-    c.in_err-yes.ensures
+    part_refused 0 c.in_err-yes.ensures (search rules) (omega arith) (omega arith) (omega arith) (grows_same _) (omega arith)
 
 pub sides-returns-in_err-no : goal.sides-returns-in_err-no
 sides-returns-in_err-no t c = λ k.
     let yes = c.in_ok-yes.ensures in
-    part_refused _ _ (condition_blocks (typed_expression_of c.args.first.now) + 1) _ _ _ _ _ _ _ c.in_err-no.field-0.0 _ (search rules) (omega arith)
-    (omega arith) (omega arith) yes.grows yes.count c.in_err-no.ensures
+    part_refused (condition_blocks (typed_expression_of c.args.first.now) + 1) c.in_err-no.ensures (search rules) (omega arith) (omega arith)
+    (omega arith) yes.grows yes.count
 
 pub sides-returns : goal.sides-returns
 sides-returns t c = λ k.
@@ -203,8 +200,7 @@ sides-returns t c = λ k.
 
 pub branch_block-returns-in_err-code : goal.branch_block-returns-in_err-code
 branch_block-returns-in_err-code t c =
-    part_refused _ _ 0 _ _ _ _ _ _ _ c.in_err-code.field-0.0 _ (search rules) (omega arith) (omega arith) (omega arith) (grows_same _) (omega arith)
-    c.in_err-code.ensures
+    part_refused 0 c.in_err-code.ensures (search rules) (omega arith) (omega arith) (omega arith) (grows_same _) (omega arith)
 
 pub branch_block-returns : goal.branch_block-returns
 branch_block-returns t c =
