@@ -14,7 +14,8 @@ use Rattle.rtl.specs.Meaning as Meaning
 use Rattle.rtl.specs.Meaning.{Code, code_of, words_in, argument_registers, kept_in, first_values, rtl_step, rtl_steps, rtl_start}
 use Rattle.rtl.proofs.Copies.{goes_block}
 use Rattle.mips_homes.specs.Locals.{inst_reads, inst_writes, exit_reads, reads_first, block_reads_first, goes_to, some_go_to}
-use Rattle.mips_homes.specs.HomedRun.{cells, around, is_callee_saved, callee_saved, Activation, Run, Running, Ended, Failed, with_value, in_home, read_home, read_homes, write_at}
+use Rattle.mips_homes.specs.HomedRun.{cells, Surroundings, around, is_callee_saved, callee_saved, Activation, new_activation, Run, Running, Ended, Failed}
+use Rattle.mips_homes.specs.HomedRun.{with_value, in_home, read_home, read_homes, write_at}
 use Rattle.mips_homes.specs.HomedRun.{write_home, write_homes, is_in, registers_at_entry, registers_at_return, with_inst, at_code}
 use Rattle.mips_homes.specs.HomedRun.{state_at_block, with_result, state_after_return, state_after_call, state_after_exit, step_at}
 use Rattle.mips_homes.specs.HomedRun.{homed_step, homed_steps, homed_start, homed_run, outcome}
@@ -339,13 +340,13 @@ performs globals i is e hs saved blocks aside r s regs g out go go' ok ag n f = 
         later y false t = refl
 
 -- the state of an activation, with what stands below it
-alike_top : (a : Activation) (registers regs : Places) (ws : List Activation) (rs : List Places) (g : Arrays) (out : List ℕ)
-    → AreHomes a.frame.homes.items a.frame.saved.items a.blocks
-    → Agrees a.frame.homes.items registers a.slots regs (reads_first a.code.insts a.code.exit)
-    → CodeHasHomes a.frame.homes.items a.blocks a.code → ResultHasHome a.result_to ws → Stack (below a.frame.saved.items a.aside registers) ws rs
-    → Alike (Running registers (a ∷ ws) g out)
-    (Runs.Running (record { blocks = a.blocks; registers = regs; code = a.code; result_to = a.result_to } ∷ plain ws rs) g out)
-alike_top a registers regs ws rs g out ok ag code dest st = (regs ∷ rs, refl, (record { homes = ok; agrees = ag; code = code }, dest, st))
+alike_top : (a : Activation) (regs : Places) (u : Surroundings) (rs : List Places) → AreHomes a.frame.homes.items a.frame.saved.items a.blocks
+    → Agrees a.frame.homes.items u.registers a.slots regs (reads_first a.code.insts a.code.exit)
+    → CodeHasHomes a.frame.homes.items a.blocks a.code → ResultHasHome a.result_to u.below
+    → Stack (below a.frame.saved.items a.aside u.registers) u.below rs
+    → Alike (Running u.registers (a ∷ u.below) u.arrays u.output)
+    (Runs.Running (record { blocks = a.blocks; registers = regs; code = a.code; result_to = a.result_to } ∷ plain u.below rs) u.arrays u.output)
+alike_top a regs u rs ok ag code dest st = (regs ∷ rs, refl, (record { homes = ok; agrees = ag; code = code }, dest, st))
 
 -- at the end of a block only callee-saved registers matter
 settles : (hs : List Home) (saved : List ℕ) (blocks : List RBlock) (registers slots regs : Places) (wanted : ℕ → Bool) → AreHomes hs saved blocks
@@ -374,15 +375,6 @@ settles hs saved blocks registers slots regs wanted ok ag b goes block there = r
     by x (Some (Reg r)) e m = ap (λ o. chain o (in_home (callee_saved registers) slots)) e
         ∙ reg x r e (is_callee_saved r) refl (sym (ap (λ o. if is_caller_saved o then block_reads_first block x else true) e) ∙ m)
 
-jumps : (b : ℕ) (a : Activation) (registers slots regs : Places) (ws : List Activation) (rs : List Places) (g : Arrays) (out : List ℕ)
-    → AreHomes a.frame.homes.items a.frame.saved.items a.blocks
-    → ((block : RBlock) → slice_get a.blocks b ≡ Some block → Agrees a.frame.homes.items registers slots regs (block_reads_first block))
-    → ResultHasHome a.result_to ws → Stack (below a.frame.saved.items a.aside registers) ws rs
-    → Alike (state_at_block b a slots (around registers ws g out)) (Meaning.state_at_block a.blocks b regs a.result_to (plain ws rs) g out)
-jumps b a registers slots regs ws rs g out ok ag dest st =
-    both_value_is (slice_get a.blocks b) out _ _ (λ block e.
-    alike_top (at_code a slots (code_of block)) registers regs ws rs g out ok (ag block e) (named_block a.frame.homes.items a.blocks b block ok.named e) dest st)
-
 as_deep : (registers : Places) (ws : List Activation) (rs : List Places) → Stack registers ws rs → length (plain ws rs) ≡ length ws
 as_deep registers [] [] s = refl
 as_deep registers (a ∷ ws) (r ∷ rs) s = ap suc (as_deep (below a.frame.saved.items a.aside registers) ws rs s.2)
@@ -403,12 +395,12 @@ returns o a registers (w ∷ ws) (r ∷ rs) g out dest st = to a.result_to dest
         → Alike (with_result d o (cells w.frame.homes.items under w.slots) out (λ r' s'. Running r' (at_code w s' w.code ∷ ws) g out))
         (Meaning.with_result d o r out
         (λ r'. Runs.Running (record { blocks = w.blocks; registers = r'; code = w.code; result_to = w.result_to } ∷ plain ws rs) g out))
-    to None n = alike_top (at_code w w.slots w.code) under r ws rs g out (st.0).homes (st.0).agrees (st.0).code st.1 st.2
+    to None n = alike_top (at_code w w.slots w.code) r (around under ws g out) rs (st.0).homes (st.0).agrees (st.0).code st.1 st.2
     to (Some d) n =
         both_value o o out _ _ refl (λ v.
         writes w.frame.homes.items w.frame.saved.items w.blocks w.aside under w.slots r d v out _ _
         (reads_first w.code.insts w.code.exit) (reads_first w.code.insts w.code.exit) (st.0).homes (st.0).agrees n.0 (λ y _ m. m) (λ r' s' ag' e.
-        alike_top (at_code w s' w.code) r' (places_with r d (Some v)) ws rs g out (st.0).homes ag' (st.0).code st.1
+        alike_top (at_code w s' w.code) (places_with r d (Some v)) (around r' ws g out) rs (st.0).homes ag' (st.0).code st.1
         (subst (λ p. Stack p ws rs) (sym e) st.2)))
 returns o a registers [] (r ∷ rs) g out dest st = absurd st
 returns o a registers (w ∷ ws) [] g out dest st = absurd st
@@ -440,175 +432,181 @@ enough : (hs : List Home) (registers slots regs : Places) (wanted : ℕ → Bool
     → Agrees hs registers slots regs wanted
 enough hs registers slots regs wanted ag = record { by = λ x m. ag.by x (matters_if hs (λ x. true) x refl) }
 
-calls : (h : Homed) → AreAllHomes h
-    → (depth f : ℕ) (vs : List ℕ) (dest : Option ℕ) (registers : Places) (ws : List Activation) (rs : List Places) (g : Arrays)
-    (out : List ℕ) → ResultHasHome dest ws → Stack (callee_saved registers) ws rs
-    → Alike (state_after_call h depth f vs dest (around (callee_saved registers) ws g out)) (Meaning.state_after_call (h.rtl.now) depth f vs dest (plain ws rs) g out)
-calls h all depth f vs dest registers ws rs g out dn st =
-    both_value_is (slice_get (h.rtl.now).functions f) out _ _ (λ func is.
-    let has = all.by f func is in
-    subst (λ o. Alike (with_value o out (enter func (fits (length ws) func))) (enters func (fits (length (plain ws rs)) func))) (sym has.1)
-    (subst (λ n. Alike (enter func (fits (length ws) func) has.0) (enters func (fits n func))) (sym (as_deep (callee_saved registers) ws rs st))
-    (by func has.0 has.2 (fits (length ws) func) refl)))
-  where
-    fits : ℕ → RFunc → Bool
-    fits n func = nat_lt n depth && (length vs == func.parameters)
+-- homes that serve an activation, and what stands below it
+record Stands (a : Activation) (u : Surroundings) (rs : List Places) : Type 0 where
+  homes : AreHomes a.frame.homes.items a.frame.saved.items a.blocks
+  dest : ResultHasHome a.result_to u.below
+  stack : Stack (below a.frame.saved.items a.aside u.registers) u.below rs
 
-    start : RFunc → Frame → Places → Activation
-    start func frame s =
-        record { blocks = func.blocks.items; frame = frame; slots = s; aside = callee_saved registers; code = record { insts = []; exit = Goto 0 }; result_to = dest }
+module _ (h : Homed) (all : AreAllHomes h) (depth : ℕ) where
+  -- what is around the same activation over pseudo-registers
+  abbrev over : Option ℕ → Surroundings → List Places → Meaning.Surroundings
+  over to u rs =
+      record { program = h.rtl.now; depth = depth; result_to = to; waiting = plain u.below rs; globals = u.arrays; output = u.output }
 
-    enter : RFunc → Bool → Frame → Run
-    enter func b frame = if b then write_homes (cells frame.homes.items (registers_at_entry frame.saved.items (callee_saved registers)) unset_places) 0 vs out
-        (λ r' s'. state_at_block 0 (start func frame s') s' (around r' ws g out)) else Failed out
+  jumps : (b : ℕ) (a : Activation) (slots regs : Places) (u : Surroundings) (rs : List Places) → Stands a u rs
+      → ((block : RBlock) → slice_get a.blocks b ≡ Some block → Agrees a.frame.homes.items u.registers slots regs (block_reads_first block))
+      → Alike (state_at_block b a slots u) (Meaning.state_at_block (over a.result_to u rs) a.blocks regs b)
+  jumps b a slots regs u rs at ag =
+      both_value_is (slice_get a.blocks b) u.output _ _ (λ block e.
+      alike_top (at_code a slots (code_of block)) regs u rs at.homes (ag block e) (named_block a.frame.homes.items a.blocks b block at.homes.named e)
+      at.dest at.stack)
 
-    enters : RFunc → Bool → Meaning.Run
-    enters func b = if b then Meaning.state_at_block func.blocks.items 0 (argument_registers vs) dest (plain ws rs) g out else Runs.Failed out
+  calls : (f : ℕ) (vs : List ℕ) (dest : Option ℕ) (u : Surroundings) (rs : List Places) → ResultHasHome dest u.below
+      → Stack (callee_saved u.registers) u.below rs
+      → Alike (state_after_call h depth f vs dest (record u { registers = callee_saved u.registers })) (Meaning.state_after_call (over dest u rs) f vs)
+  calls f vs dest u rs dn st =
+      both_value_is (slice_get (h.rtl.now).functions f) u.output _ _ (λ func is.
+      let has = all.by f func is in
+      subst (λ o. Alike (with_value o u.output (enter func (fits (length u.below) func))) (enters func (fits (length (plain u.below rs)) func))) (sym has.1)
+      (subst (λ n. Alike (enter func (fits (length u.below) func) has.0) (enters func (fits n func))) (sym (as_deep (callee_saved u.registers) u.below rs st))
+      (by func has.0 has.2 (fits (length u.below) func) refl)))
+    where
+      kept : Places
+      kept = callee_saved u.registers
 
-    by : (func : RFunc) (frame : Frame) → Serves frame func → (b : Bool) → fits (length ws) func ≡ b → Alike (enter func b frame) (enters func b)
-    by func frame ok false e = refl
-    by func frame ok true e =
-        let as_many : length vs ≡ func.parameters =
-        eqb-true (length vs) func.parameters (and_parts (nat_lt (length ws) depth) (length vs == func.parameters) e).1 in
-        writes_all frame.homes.items frame.saved.items func.blocks.items (callee_saved registers)
-        (registers_at_entry frame.saved.items (callee_saved registers)) unset_places unset_places 0 vs out _ _ (λ x. true) (ok.homes)
-        (all_unset frame.homes.items frame.saved.items func.blocks.items registers ok.homes)
-        (λ y lt. ok.parameters y (omega (arith, lt, as_many))) (λ r' s' ag e1.
-        jumps 0 (start func frame s') r' s' (argument_registers vs) ws rs g out ok.homes
-        (λ block there. enough frame.homes.items r' s' (argument_registers vs) (block_reads_first block)
-        (subst (λ regs. Agrees frame.homes.items r' s' regs (λ x. true)) (arguments_written vs) ag)) dn
-        (subst (λ p. Stack p ws rs) (sym (e1 ∙ restored_cleared frame.saved.items registers)) st))
+      fits : ℕ → RFunc → Bool
+      fits n func = nat_lt n depth && (length vs == func.parameters)
 
-exits : (h : Homed) → AreAllHomes h
-    → (depth : ℕ) (exit : RExit) (a : Activation) (registers regs : Places) (ws : List Activation) (rs : List Places) (g : Arrays) (out : List ℕ)
-    → AreHomes a.frame.homes.items a.frame.saved.items a.blocks → Agrees a.frame.homes.items registers a.slots regs (reads_first [] exit)
-    → HaveHomes a.frame.homes.items (exit_names exit) → ((t : ℕ) → is_in (goes_to exit) t ≡ true → some_go_to a.blocks t ≡ true)
-    → ResultHasHome a.result_to ws → Stack (below a.frame.saved.items a.aside registers) ws rs
-    → Alike (state_after_exit h depth exit a (around registers ws g out)) (Meaning.state_after_exit (h.rtl.now) depth exit a.blocks regs a.result_to (plain ws rs) g out)
-exits h all depth exit a registers regs ws rs g out ok ag n goes dest st = at exit ag n goes
-  where
-    hs : List Home
+      start : RFunc → Frame → Places → Activation
+      start func frame s = new_activation func.blocks.items frame s kept dest
+
+      enter : RFunc → Bool → Frame → Run
+      enter func b frame = if b then write_homes (cells frame.homes.items (registers_at_entry frame.saved.items kept) unset_places) 0 vs u.output
+          (λ r' s'. state_at_block 0 (start func frame s') s' (record u { registers = r' })) else Failed u.output
+
+      enters : RFunc → Bool → Meaning.Run
+      enters func b = if b then Meaning.state_at_block (over dest u rs) func.blocks.items (argument_registers vs) 0 else Runs.Failed u.output
+
+      by : (func : RFunc) (frame : Frame) → Serves frame func → (b : Bool) → fits (length u.below) func ≡ b → Alike (enter func b frame) (enters func b)
+      by func frame ok false e = refl
+      by func frame ok true e =
+          let as_many : length vs ≡ func.parameters =
+          eqb-true (length vs) func.parameters (and_parts (nat_lt (length u.below) depth) (length vs == func.parameters) e).1 in
+          writes_all frame.homes.items frame.saved.items func.blocks.items kept (registers_at_entry frame.saved.items kept) unset_places unset_places 0 vs
+          u.output _ _ (λ x. true) (ok.homes) (all_unset frame.homes.items frame.saved.items func.blocks.items u.registers ok.homes)
+          (λ y lt. ok.parameters y (omega (arith, lt, as_many))) (λ r' s' ag e1.
+          jumps 0 (start func frame s') s' (argument_registers vs) (record u { registers = r' }) rs (record {
+            homes = ok.homes;
+            dest = dn;
+            stack = subst (λ p. Stack p u.below rs) (sym (e1 ∙ restored_cleared frame.saved.items u.registers)) st;
+          }) (λ block there. enough frame.homes.items r' s' (argument_registers vs) (block_reads_first block)
+          (subst (λ regs. Agrees frame.homes.items r' s' regs (λ x. true)) (arguments_written vs) ag)))
+
+  module _ (a : Activation) (regs : Places) (u : Surroundings) (rs : List Places) (at : Stands a u rs) where
+    abbrev hs : List Home
     hs = a.frame.homes.items
 
-    under : Stack (below a.frame.saved.items a.aside (callee_saved registers)) ws rs
-    under = subst (λ p. Stack (registers_at_return a.frame.saved.items a.aside p) ws rs) (sym (callee_saved_twice registers)) st
+    -- once an exit has left what is callee-saved
+    leaves : (out : List ℕ) → Stands a (record u { registers = callee_saved u.registers; output = out }) rs
+    leaves out = record {
+      homes = at.homes;
+      dest = at.dest;
+      stack = subst (λ p. Stack (registers_at_return a.frame.saved.items a.aside p) u.below rs) (sym (callee_saved_twice u.registers)) at.stack;
+    }
 
-    goes_on : (exit : RExit) → Agrees hs registers a.slots regs (reads_first [] exit)
-        → (b : ℕ) → some_go_to a.blocks b ≡ true → (out : List ℕ)
-        → Alike (state_at_block b a a.slots (around (callee_saved registers) ws g out)) (Meaning.state_at_block a.blocks b regs a.result_to (plain ws rs) g out)
-    goes_on exit ag b there out = jumps b a (callee_saved registers) a.slots regs ws rs g out ok
-        (settles hs a.frame.saved.items a.blocks registers a.slots regs (reads_first [] exit) ok ag b there) dest under
-
-    reads : (exit : RExit) (x : ℕ) → Agrees hs registers a.slots regs (reads_first [] exit) → is_in (exit_reads exit) x ≡ true
-        → read_home hs registers a.slots x ≡ regs x
-    reads exit x ag t = ag.by x (matters_if hs (reads_first [] exit) x t)
-
-    one_of : (x y : ℕ) (b : Bool) → is_in (x ∷ y ∷ []) (if b then y else x) ≡ true
-    one_of x y true = is_in_later y x (y ∷ []) (is_in_first y [])
-    one_of x y false = is_in_first x (y ∷ [])
-
-    at : (exit : RExit) → Agrees hs registers a.slots regs (reads_first [] exit) → HaveHomes hs (exit_names exit)
+    exits : (exit : RExit) → Agrees hs u.registers a.slots regs (reads_first [] exit) → HaveHomes hs (exit_names exit)
         → ((t : ℕ) → is_in (goes_to exit) t ≡ true → some_go_to a.blocks t ≡ true)
-        → Alike (state_after_exit h depth exit a (around registers ws g out))
-        (Meaning.state_after_exit (h.rtl.now) depth exit a.blocks regs a.result_to (plain ws rs) g out)
-    at (Goto b) ag n goes = goes_on (Goto b) ag b (goes b (is_in_first b [])) out
-    at (Branch c x y) ag n goes =
-        both_value _ _ out _ _ (reads (Branch c x y) c ag (is_in_first c []))
-        (λ v. goes_on (Branch c x y) ag (if v == 0 then y else x) (goes (if v == 0 then y else x) (one_of x y (v == 0))) out)
-    at (Call f xs d next) ag n goes =
-        both_value _ _ out _ _ (reads_all hs registers a.slots regs (reads_first [] (Call f xs d next)) xs.items ag (λ x t. t)) (λ vs.
-        both_value_is (slice_get a.blocks next) out _ _ (λ block e.
-        calls h all depth f vs d registers (at_code a a.slots (code_of block) ∷ ws) (regs ∷ rs) g out (named_back hs xs.items (optional d) n) (
-          record {
-            homes = ok;
-            agrees = settles hs a.frame.saved.items a.blocks registers a.slots regs (reads_first [] (Call f xs d next)) ok ag next
-                (goes next (is_in_first next [])) block e;
-            code = named_block hs a.blocks next block ok.named e;
-          },
-          dest,
-          under,
-        )))
-    at (Return None) ag n goes = returns None a registers ws rs g out dest st
-    at (Return (Some x)) ag n goes =
-        both_value _ _ out _ _ (reads (Return (Some x)) x ag (is_in_first x [])) (λ v. returns (Some v) a registers ws rs g out dest st)
-    at (Out x next) ag n goes =
-        both_value _ _ out _ _ (reads (Out x next) x ag (is_in_first x []))
-        (λ v. goes_on (Out x next) ag next (goes next (is_in_first next [])) (out ++ v ∷ []))
-
-code_alike : (h : Homed) → AreAllHomes h
-    → (depth : ℕ) (is : List RInst) (exit : RExit) (a : Activation) (registers regs : Places) (ws : List Activation) (rs : List Places)
-    (g : Arrays) (out : List ℕ)
-    → AreHomes a.frame.homes.items a.frame.saved.items a.blocks → Agrees a.frame.homes.items registers a.slots regs (reads_first is exit)
-    → CodeHasHomes a.frame.homes.items a.blocks (record { insts = is; exit = exit }) → ResultHasHome a.result_to ws
-    → Stack (below a.frame.saved.items a.aside registers) ws rs
-    → Alike (step_at h depth is exit a (around registers ws g out)) (Meaning.step_at (h.rtl.now) depth is exit a.blocks regs a.result_to (plain ws rs) g out)
-code_alike h all depth [] exit a registers regs ws rs g out ok ag code dest st =
-    exits h all depth exit a registers regs ws rs g out ok ag code.exit code.goes dest st
-code_alike h all depth (i ∷ is) exit a registers regs ws rs g out ok ag code dest st =
-    performs (h.rtl.now).globals i is exit a.frame.homes.items a.frame.saved.items a.blocks a.aside registers a.slots regs g out _ _ ok ag
-    (named_front a.frame.homes.items (inst_names i) (insts_names is) code.insts) (λ r' s' regs' g' ag' e.
-    alike_top (at_code a s' (record { insts = is; exit = exit })) r' regs' ws rs g' out ok ag'
-    (record { insts = named_back a.frame.homes.items (inst_names i) (insts_names is) code.insts; exit = code.exit; goes = code.goes }) dest
-    (subst (λ p. Stack p ws rs) (sym e) st))
-
-steps_alike : (h : Homed) → AreAllHomes h → (depth : ℕ) (s : Run) (t : Meaning.Run) → Alike s t → Alike (homed_step h depth s) (rtl_step (h.rtl.now) depth t)
-steps_alike h all depth (Running registers [] g out) t m = empty m.0 m.1 m.2
-  where
-    empty : (rs : List Places) → t ≡ Runs.Running (plain [] rs) g out → Stack registers [] rs → rtl_step (h.rtl.now) depth t ≡ Runs.Failed out
-    empty rs e st = ap (rtl_step (h.rtl.now) depth) e
-steps_alike h all depth (Running registers (a ∷ ws) g out) t m = one m.0 m.1 m.2
-  where
-    one : (rs : List Places) → t ≡ Runs.Running (plain (a ∷ ws) rs) g out → Stack registers (a ∷ ws) rs
-        → Alike (homed_step h depth (Running registers (a ∷ ws) g out)) (rtl_step (h.rtl.now) depth t)
-    one [] e st = absurd st
-    one (r ∷ rs) e st =
-        subst (λ t. Alike (homed_step h depth (Running registers (a ∷ ws) g out)) (rtl_step (h.rtl.now) depth t)) (sym e)
-        (code_alike h all depth a.code.insts a.code.exit a registers r ws rs g out (st.0).homes (st.0).agrees (st.0).code st.1 st.2)
-steps_alike h all depth _ t m = ap (rtl_step (h.rtl.now) depth) m
-
-same_ran : (s : Run) (t : Meaning.Run) → Alike s t → outcome s ≡ Runs.outcome t
-same_ran (Running registers ws g out) t m = sym (ap Runs.outcome m.1)
-same_ran _ t m = sym (ap Runs.outcome m)
-
-runs_alike : (h : Homed) → AreAllHomes h → (depth n : ℕ) (s : Run) (t : Meaning.Run) → Alike s t
-    → outcome (homed_steps h depth n s) ≡ Runs.outcome (rtl_steps (h.rtl.now) depth n t)
-runs_alike h all depth zero s t m = same_ran s t m
-runs_alike h all depth (suc n) s t m = runs_alike h all depth n (homed_step h depth s) (rtl_step (h.rtl.now) depth t) (steps_alike h all depth s t m)
-
--- at the start all homes are unset
-starts_alike : (h : Homed) → AreAllHomes h → Alike (homed_start h) (rtl_start (h.rtl.now))
-starts_alike h all =
-    both_value_is (slice_get (h.rtl.now).functions (h.rtl.now).main) [] _ _ (λ func is.
-    let has = all.by (h.rtl.now).main func is in
-    subst (λ o. Alike
-    (with_value o []
-    (λ frame. state_at_block 0 (start func frame) unset_places (around unset_places [] (map first_values (h.rtl.now).globals) [])))
-    (Meaning.state_at_block func.blocks.items 0 unset_places None [] (map first_values (h.rtl.now).globals) [])) (sym has.1)
-    (jumps 0 (start func has.0) unset_places unset_places unset_places [] [] (map first_values (h.rtl.now).globals) [] has.2.homes
-    (λ block there. record { by = λ x m. unset has.0.homes.items x }) tt tt))
-  where
-    start : RFunc → Frame → Activation
-    start func frame =
-        record {
-          blocks = func.blocks.items;
-          frame = frame;
-          slots = unset_places;
-          aside = unset_places;
-          code =
-              record { insts = []; exit = Goto 0 };
-          result_to = None;
-        }
-
-    empty : (h : Home) → in_home unset_places unset_places h ≡ None
-    empty (Reg r) = refl
-    empty _ = refl
-
-    unset : (hs : List Home) (x : ℕ) → read_home hs unset_places unset_places x ≡ None
-    unset hs x = at (slice_get hs x)
+        → Alike (state_after_exit h depth exit a u) (Meaning.state_after_exit (over a.result_to u rs) a.blocks regs exit)
+    exits exit ag n goes = by exit ag n goes
       where
-        at : (o : Option Home) → chain o (in_home unset_places unset_places) ≡ None
-        at None = refl
-        at (Some h) = empty h
+        settled : (exit : RExit) → Agrees hs u.registers a.slots regs (reads_first [] exit) → (b : ℕ) → some_go_to a.blocks b ≡ true
+            → (block : RBlock) → slice_get a.blocks b ≡ Some block → Agrees hs (callee_saved u.registers) a.slots regs (block_reads_first block)
+        settled exit ag = settles hs a.frame.saved.items a.blocks u.registers a.slots regs (reads_first [] exit) at.homes ag
+
+        goes_on : (exit : RExit) → Agrees hs u.registers a.slots regs (reads_first [] exit) → (b : ℕ) → some_go_to a.blocks b ≡ true → (out : List ℕ)
+            → Alike (state_at_block b a a.slots (record u { registers = callee_saved u.registers; output = out }))
+            (Meaning.state_at_block (over a.result_to (record u { output = out }) rs) a.blocks regs b)
+        goes_on exit ag b there out =
+            jumps b a a.slots regs (record u { registers = callee_saved u.registers; output = out }) rs (leaves out) (settled exit ag b there)
+
+        reads : (exit : RExit) (x : ℕ) → Agrees hs u.registers a.slots regs (reads_first [] exit) → is_in (exit_reads exit) x ≡ true
+            → read_home hs u.registers a.slots x ≡ regs x
+        reads exit x ag t = ag.by x (matters_if hs (reads_first [] exit) x t)
+
+        one_of : (x y : ℕ) (b : Bool) → is_in (x ∷ y ∷ []) (if b then y else x) ≡ true
+        one_of x y true = is_in_later y x (y ∷ []) (is_in_first y [])
+        one_of x y false = is_in_first x (y ∷ [])
+
+        by : (exit : RExit) → Agrees hs u.registers a.slots regs (reads_first [] exit) → HaveHomes hs (exit_names exit)
+            → ((t : ℕ) → is_in (goes_to exit) t ≡ true → some_go_to a.blocks t ≡ true)
+            → Alike (state_after_exit h depth exit a u) (Meaning.state_after_exit (over a.result_to u rs) a.blocks regs exit)
+        by (Goto b) ag n goes = goes_on (Goto b) ag b (goes b (is_in_first b [])) u.output
+        by (Branch c x y) ag n goes =
+            both_value _ _ u.output _ _ (reads (Branch c x y) c ag (is_in_first c []))
+            (λ v. goes_on (Branch c x y) ag (if v == 0 then y else x) (goes (if v == 0 then y else x) (one_of x y (v == 0))) u.output)
+        by (Call f xs d next) ag n goes =
+            both_value _ _ u.output _ _ (reads_all hs u.registers a.slots regs (reads_first [] (Call f xs d next)) xs.items ag (λ x t. t)) (λ vs.
+            both_value_is (slice_get a.blocks next) u.output _ _ (λ block e.
+            calls f vs d (record u { below = at_code a a.slots (code_of block) ∷ u.below }) (regs ∷ rs) (named_back hs xs.items (optional d) n) (
+              record {
+                homes = at.homes;
+                agrees = settled (Call f xs d next) ag next (goes next (is_in_first next [])) block e;
+                code = named_block hs a.blocks next block at.homes.named e;
+              },
+              at.dest,
+              (leaves u.output).stack,
+            )))
+        by (Return None) ag n goes = returns None a u.registers u.below rs u.arrays u.output at.dest at.stack
+        by (Return (Some x)) ag n goes =
+            both_value _ _ u.output _ _ (reads (Return (Some x)) x ag (is_in_first x []))
+            (λ v. returns (Some v) a u.registers u.below rs u.arrays u.output at.dest at.stack)
+        by (Out x next) ag n goes =
+            both_value _ _ u.output _ _ (reads (Out x next) x ag (is_in_first x []))
+            (λ v. goes_on (Out x next) ag next (goes next (is_in_first next [])) (u.output ++ v ∷ []))
+
+    code_alike : (is : List RInst) (exit : RExit) → Agrees hs u.registers a.slots regs (reads_first is exit)
+        → CodeHasHomes hs a.blocks (record { insts = is; exit = exit })
+        → Alike (step_at h depth is exit a u) (Meaning.step_at (over a.result_to u rs) a.blocks regs is exit)
+    code_alike [] exit ag code = exits exit ag code.exit code.goes
+    code_alike (i ∷ is) exit ag code =
+        performs (h.rtl.now).globals i is exit hs a.frame.saved.items a.blocks a.aside u.registers a.slots regs u.arrays u.output _ _ at.homes ag
+        (named_front hs (inst_names i) (insts_names is) code.insts) (λ r' s' regs' g' ag' e.
+        alike_top (at_code a s' (record { insts = is; exit = exit })) regs' (record u { registers = r'; arrays = g' }) rs at.homes ag'
+        (record { insts = named_back hs (inst_names i) (insts_names is) code.insts; exit = code.exit; goes = code.goes }) at.dest
+        (subst (λ p. Stack p u.below rs) (sym e) at.stack))
+
+  steps_alike : (s : Run) (t : Meaning.Run) → Alike s t → Alike (homed_step h depth s) (rtl_step (h.rtl.now) depth t)
+  steps_alike (Running registers ws g out) t m = rw m.1 (by ws m.0 m.2)
+    where
+      by : (ws : List Activation) (rs : List Places) → Stack registers ws rs
+          → Alike (homed_step h depth (Running registers ws g out)) (rtl_step (h.rtl.now) depth (Runs.Running (plain ws rs) g out))
+      by [] rs st = refl
+      by (a ∷ ws) [] st = absurd st
+      by (a ∷ ws) (r ∷ rs) st =
+          code_alike a r (around registers ws g out) rs (record { homes = (st.0).homes; dest = st.1; stack = st.2 }) a.code.insts a.code.exit
+          (st.0).agrees (st.0).code
+  steps_alike _ t m = ap (rtl_step (h.rtl.now) depth) m
+
+  same_ran : (s : Run) (t : Meaning.Run) → Alike s t → outcome s ≡ Runs.outcome t
+  same_ran (Running registers ws g out) t m = sym (ap Runs.outcome m.1)
+  same_ran _ t m = sym (ap Runs.outcome m)
+
+  runs_alike : (n : ℕ) (s : Run) (t : Meaning.Run) → Alike s t → outcome (homed_steps h depth n s) ≡ Runs.outcome (rtl_steps (h.rtl.now) depth n t)
+  runs_alike zero s t m = same_ran s t m
+  runs_alike (suc n) s t m = runs_alike n (homed_step h depth s) (rtl_step (h.rtl.now) depth t) (steps_alike s t m)
+
+  -- at the start all homes are unset
+  starts_alike : Alike (homed_start h) (rtl_start (h.rtl.now))
+  starts_alike =
+      both_value_is (slice_get (h.rtl.now).functions (h.rtl.now).main) [] _ _ (λ func is.
+      let has = all.by (h.rtl.now).main func is in
+      rw has.1 (jumps 0 (new_activation func.blocks.items has.0 unset_places unset_places None) unset_places unset_places first []
+      (record { homes = has.2.homes; dest = tt; stack = tt }) (λ block there. record { by = λ x m. unset has.0.homes.items x })))
+    where
+      first : Surroundings
+      first = around unset_places [] (map first_values (h.rtl.now).globals) []
+
+      empty : (h : Home) → in_home unset_places unset_places h ≡ None
+      empty (Reg r) = refl
+      empty _ = refl
+
+      unset : (hs : List Home) (x : ℕ) → read_home hs unset_places unset_places x ≡ None
+      unset hs x = at (slice_get hs x)
+        where
+          at : (o : Option Home) → chain o (in_home unset_places unset_places) ≡ None
+          at None = refl
+          at (Some h) = empty h
 
 pub each_homed_run : (h : Homed) → AreAllHomes h → KeepsRtlRuns homed_run h
-each_homed_run h all depth n = runs_alike h all depth n (homed_start h) (rtl_start (h.rtl.now)) (starts_alike h all)
+each_homed_run h all depth n = runs_alike h all depth n (homed_start h) (rtl_start (h.rtl.now)) (starts_alike h all depth)
