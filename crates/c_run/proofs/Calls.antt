@@ -1,5 +1,5 @@
 -- Calls of functions.
-use Rattle.std.proofs.Common.{◌≡◌, ℕ, zero, suc, List, [], ◌∷◌, Option, Some, None, true, false, refl, sym, ◌∙◌, ap, length, nat_lt}
+use Rattle.std.proofs.Common.{◌≡◌, ℕ, zero, suc, List, [], ◌∷◌, Option, Some, None, Bool, true, false, refl, sym, ◌∙◌, ap, length, nat_lt}
 use Rattle.std.proofs.Common.{get_or, map, Bor}
 use mathlib.Core.Path.{fun_ext}
 use Rattle.std.specs.Prelude.{if◌then◌else◌}
@@ -18,49 +18,23 @@ use Rattle.c_typed.specs.Trees.{TypedFunction}
 use Rattle.c_typed.specs.Shape.{function_of, functions_of, statements_of}
 use Rattle.c_types.specs.Shape.{TypedParts, program_of}
 use Rattle.c_typed.specs.Meaning as Meaning
-use Rattle.c_typed.specs.Meaning.{Todo, Run, argument_places, state_after_call, before_all, first_words, source_start}
+use Rattle.c_typed.specs.Meaning.{Todo, Run, Surroundings, at, argument_places, state_after_call, before_all, first_words, source_start}
 use Rattle.runs.specs.Kept.{places, arrays}
-use Rattle.c_run.specs.Interpreter.{Interpreter, todos, frame_of}
+use Rattle.c_run.specs.Interpreter.{Interpreter, todos, frame_of, around_next_call}
 use Rattle.c_run.specs.declared.interpreter.Frame.{Frame}
 use Rattle.c_run.specs.declared.pending.Agenda.{Agenda}
-
-abbrev called_frame : TypedFunction → List ℕ → Option Destination → List Meaning.Frame → Arrays → List ℕ → Run
-called_frame f vs to frames g out =
-    Running (record { locals = argument_places vs; todo = before_all f.body []; result_to = to } ∷ frames) g out
 
 abbrev failed : List ℕ → Run
 failed out = Failed out
 
-pub function-get : (fs : List Function) (i : ℕ) → slice_get (functions_of fs) i ≡ option_map function_of (slice_get fs i)
+function-get : (fs : List Function) (i : ℕ) → slice_get (functions_of fs) i ≡ option_map function_of (slice_get fs i)
 function-get [] i = refl
 function-get (f ∷ fs) zero = refl
 function-get (f ∷ fs) (suc i) = function-get fs i
 
-pub called-there : (p : TypedParts) (depth i : ℕ) (vs : List ℕ) (to : Option Destination) (frames : List Meaning.Frame) (g : Arrays) (out : List ℕ)
-    (x : Function) → slice_get p.functions i ≡ Some x → nat_lt (length frames) depth ≡ true
-    → state_after_call (program_of p) depth i vs to frames g out ≡ Running
-    (record { locals = argument_places vs; todo = before_all (statements_of x.body.items) []; result_to = to } ∷ frames) g out
-called-there p depth i vs to frames g out x there room =
-    ap (λ o. with_value o out (λ (f : TypedFunction). if nat_lt (length frames) depth then called_frame f vs to frames g out else Failed out))
-    (function-get p.functions i ∙ ap (option_map function_of) there)
-    ∙ ap (λ b. if b then called_frame (function_of x) vs to frames g out else Failed out) room
-
-pub called-nowhere : (p : TypedParts) (depth i : ℕ) (vs : List ℕ) (to : Option Destination) (frames : List Meaning.Frame) (g : Arrays) (out : List ℕ)
-    → slice_get p.functions i ≡ None → state_after_call (program_of p) depth i vs to frames g out ≡ Failed out
-called-nowhere p depth i vs to frames g out past =
-    ap (λ o. with_value o out (λ (f : TypedFunction). if nat_lt (length frames) depth then called_frame f vs to frames g out else Failed out))
-    (function-get p.functions i ∙ ap (option_map function_of) past)
-
 fails : (o : Option TypedFunction) (out : List ℕ) → with_value o out (λ (f : TypedFunction). failed out) ≡ Failed out
 fails None out = refl
 fails (Some f) out = refl
-
-pub called-deep : (p : TypedParts) (depth i : ℕ) (vs : List ℕ) (to : Option Destination) (frames : List Meaning.Frame) (g : Arrays) (out : List ℕ)
-    → nat_lt (length frames) depth ≡ false → state_after_call (program_of p) depth i vs to frames g out ≡ Failed out
-called-deep p depth i vs to frames g out full =
-    ap (λ b. with_value (slice_get (program_of p).functions i) out (λ (f : TypedFunction). if b then called_frame f vs to frames g out else Failed out))
-    full
-    ∙ fails (slice_get (program_of p).functions i) out
 
 abbrev frame_with : Places → List Todo → Option Destination → Meaning.Frame
 frame_with l k to = record { locals = l; todo = k; result_to = to }
@@ -73,20 +47,35 @@ new-frame values todo slice x to l values-are listed body =
     ∙ ap (λ k. frame_with l k to) (listed ∙ ap (λ all. before_all (statements_of all) []) body)
 
 module _ (p : TypedParts) (depth i : ℕ) (vs : List ℕ) (to : Option Destination) (m : Interpreter) where
-  abbrev after-call : Run
-  after-call = state_after_call (program_of p) depth i vs to (map frame_of (calls_of m)) (arrays m.globals.items) m.output.items
+  abbrev w : Surroundings
+  w = around_next_call (program_of p) depth m to
+
+  -- by the function, if there is one, and by the room for its call
+  abbrev state-by : Option TypedFunction → Bool → Run
+  state-by o room =
+      with_value o m.output.items (λ function. if room then at w (argument_places vs) (before_all function.body []) else failed m.output.items)
+
+  by-function : (o : Option Function) → slice_get p.functions i ≡ o
+      → state_after_call w i vs ≡ state-by (option_map function_of o) (nat_lt (length w.waiting) depth)
+  by-function o is =
+      ap (λ o. state-by o (nat_lt (length w.waiting) depth)) (function-get p.functions i ∙ ap (option_map function_of) is)
 
   pub entered : (x : Function) (new : Interpreter) (frame : Frame) → slice_get p.functions i ≡ Some x → nat_lt (length (calls_of m)) depth ≡ true
       → calls_of new ≡ frame ∷ calls_of m → new.globals ≡ m.globals → new.output ≡ m.output
-      → frame_of frame ≡ frame_with (argument_places vs) (before_all (statements_of x.body.items) []) to → after-call ≡ state_by frame_of new
+      → frame_of frame ≡ frame_with (argument_places vs) (before_all (statements_of x.body.items) []) to → state_after_call w i vs ≡ state_by frame_of new
   entered x new frame there room is globals output f =
-      called-there p depth i vs to (map frame_of (calls_of m)) (arrays m.globals.items) m.output.items x there (room-of frame_of m depth true room)
-      ∙ ap (λ f. Running (f ∷ map frame_of (calls_of m)) (arrays m.globals.items) m.output.items) (sym f)
+      by-function (Some x) there
+      ∙ ap (state-by (Some (function_of x))) (room-of frame_of m depth true room)
+      ∙ ap (λ f. Running (f ∷ w.waiting) w.globals w.output) (sym f)
       ∙ sym (with-calls frame_of m new (frame ∷ calls_of m) is globals output)
 
-  pub refused : nat_lt (length (calls_of m)) depth ≡ false → after-call ≡ Failed m.output.items
+  pub refused : nat_lt (length (calls_of m)) depth ≡ false → state_after_call w i vs ≡ Failed m.output.items
   refused full =
-      called-deep p depth i vs to (map frame_of (calls_of m)) (arrays m.globals.items) m.output.items (room-of frame_of m depth false full)
+      ap (state-by (slice_get (program_of p).functions i)) (room-of frame_of m depth false full)
+      ∙ fails (slice_get (program_of p).functions i) m.output.items
+
+  pub called-nowhere : slice_get p.functions i ≡ None → state_after_call w i vs ≡ Failed m.output.items
+  called-nowhere past = by-function None past
 
 none_set : (x : ℕ) → get_or {A = Option ℕ} [] x None ≡ None
 none_set zero = refl

@@ -1,7 +1,7 @@
 -- A program's run in portions: what was written before it, and one step more of a portion.
 use Rattle.std.proofs.Common.{◌≡◌, ℕ, zero, suc, ◌+◌, ◌<◌, ◌++◌, true, false, cond, List, [], ◌∷◌, Option, Some, None, refl, sym, ap, ◌∙◌, arith}
 use Rattle.std.proofs.Common.{append_assoc, append-nil, inl, inr, ◌⊎◌, length, nat_lt, slice_get}
-use Rattle.runs.specs.Stores.{Places, Arrays, places_with}
+use Rattle.runs.specs.Stores.{Places}
 use Rattle.runs.specs.Runs.{Outcome, Running, Ended, Failed, with_value, outcome}
 use Rattle.runs.specs.Steps.{after_step, end_of, outcome_after}
 use Rattle.runs.specs.declared.reached.Reached.{Reached}
@@ -11,11 +11,11 @@ use Rattle.runs.specs.declared.ran.End.TheVariants.{More}
 use Rattle.runs.proofs.Running.{by-step}
 use Rattle.c_typed.specs.declared.tree.Destination.{Destination}
 use Rattle.c_typed.specs.declared.tree.Destination.TheVariants.{Local, Global as Variable}
-use Rattle.c_typed.specs.declared.tree.Global.{Global}
 use Rattle.c_typed.specs.Trees.{TypedProgram, TypedFunction, assign, store, call, output, if_else, loop, return_with}
 use Rattle.c_typed.specs.Values.{value_of, values_of}
-use Rattle.c_typed.specs.Meaning.{Todo, Do, Going, Frame, Run, before_all, next_point, argument_places, elements_with, with_assignment, state_after_call}
-use Rattle.c_typed.specs.Meaning.{state_after_return, step_at, source_step, source_steps}
+use Rattle.c_typed.specs.Meaning.{Todo, Do, Going, Frame, Run, before_all, next_point, Surroundings, at, argument_places, elements_with}
+use Rattle.c_typed.specs.Meaning.{state_after_store, state_after_assignment, frame_at, around_callee, state_after_call, state_with_result, step_at}
+use Rattle.c_typed.specs.Meaning.{source_step, source_steps}
 use Rattle.c_run.specs.Portions.{WentOn, after_output, emptied, run_behind}
 
 -- ---- what was written before a run
@@ -27,56 +27,58 @@ put out (Ended w own) = Ended w (out ++ own)
 put out (Failed own) = Failed (out ++ own)
 
 module _ (out : List ℕ) where
+  -- the same surroundings with output before their own
+  abbrev behind : Surroundings → Surroundings
+  behind w = record w { output = out ++ w.output }
+
   value_same : {A : Type 0} (o : Option A) (own : List ℕ) (go go' : A → Run) → ((a : A) → go' a ≡ put out (go a))
       → with_value o (out ++ own) go' ≡ put out (with_value o own go)
   value_same None own go go' h = refl
   value_same (Some a) own go go' h = h a
 
-  assignment_same : (globals : List Global) (to : Destination) (v : ℕ) (l : Places) (g : Arrays) (own : List ℕ) (go go' : Places → Arrays → Run)
-      → ((l : Places) (g : Arrays) → go' l g ≡ put out (go l g))
-      → with_assignment globals to v l g (out ++ own) go' ≡ put out (with_assignment globals to v l g own go)
-  assignment_same globals (Local x) v l g own go go' h = h (places_with l x (Some v)) g
-  assignment_same globals (Variable x) v l g own go go' h =
-      value_same (elements_with globals g x 0 v) own (λ g'. go l g') (λ g'. go' l g') (λ g'. h l g')
+  store_same : (w : Surroundings) (a i v : ℕ) (l : Places) (k : List Todo)
+      → state_after_store (behind w) a i v l k ≡ put out (state_after_store w a i v l k)
+  store_same w a i v l k = value_same (elements_with w.program.globals w.globals a i v) w.output _ _ (λ g. refl)
 
-  call_same : (p : TypedProgram) (depth f : ℕ) (vs : List ℕ) (to : Option Destination) (frames : List Frame) (g : Arrays) (own : List ℕ)
-      → state_after_call p depth f vs to frames g (out ++ own) ≡ put out (state_after_call p depth f vs to frames g own)
-  call_same p depth f vs to frames g own =
-      let called : TypedFunction → List ℕ → Run = λ function o. Running (record { locals = argument_places vs; todo = before_all function.body []; result_to = to } ∷ frames) g o in
-      value_same (slice_get p.functions f) own _ _ (λ function.
-      elim (nat_lt (length frames) depth)
-      as (λ b. cond b (called function (out ++ own)) (Failed (out ++ own)) ≡ put out (cond b (called function own) (Failed own)))
+  assignment_same : (w : Surroundings) (to : Destination) (v : ℕ) (l : Places) (k : List Todo)
+      → state_after_assignment (behind w) to v l k ≡ put out (state_after_assignment w to v l k)
+  assignment_same w (Local x) v l k = refl
+  assignment_same w (Variable x) v l k = store_same w x 0 v l k
+
+  call_same : (w : Surroundings) (f : ℕ) (vs : List ℕ) → state_after_call (behind w) f vs ≡ put out (state_after_call w f vs)
+  call_same w f vs =
+      let called : TypedFunction → Surroundings → Run = λ function w. at w (argument_places vs) (before_all function.body []) in
+      value_same (slice_get w.program.functions f) w.output _ _ (λ function.
+      elim (nat_lt (length w.waiting) w.depth)
+      as (λ b. cond b (called function (behind w)) (Failed (out ++ w.output)) ≡ put out (cond b (called function w) (Failed w.output)))
       [ true ↦ refl | false ↦ refl ])
 
-  return_same : (globals : List Global) (v : Option ℕ) (to : Option Destination) (frames : List Frame) (g : Arrays) (own : List ℕ)
-      → state_after_return globals v to frames g (out ++ own) ≡ put out (state_after_return globals v to frames g own)
-  return_same globals v to [] g own = value_same v own _ _ (λ w. refl)
-  return_same globals v None (f ∷ frames) g own = refl
-  return_same globals v (Some place) (f ∷ frames) g own =
-      value_same v own _ _ (λ w. assignment_same globals place w f.locals g own _ _ (λ l g'. refl))
+  result_same : (w : Surroundings) (v : Option ℕ) (to : Option Destination) (frames : List Frame)
+      → state_with_result (behind w) v to frames ≡ put out (state_with_result w v to frames)
+  result_same w v to [] = value_same v w.output _ _ (λ v. refl)
+  result_same w v None (f ∷ frames) = refl
+  result_same w v (Some place) (f ∷ frames) = value_same v w.output _ _ (λ v.
+      assignment_same (record w { result_to = f.result_to; waiting = frames }) place v f.locals f.todo)
 
-  at_same : (p : TypedProgram) (depth : ℕ) (l : Places) (todo : List Todo) (to : Option Destination) (frames : List Frame) (g : Arrays) (own : List ℕ)
-      → step_at p depth l todo to frames g (out ++ own) ≡ put out (step_at p depth l todo to frames g own)
-  at_same p depth l (Do (assign x e) ∷ k) to frames g own =
-      value_same (value_of e l g) own _ _ (λ v. assignment_same p.globals x v l g own _ _ (λ l' g'. refl))
-  at_same p depth l (Do (store a i e) ∷ k) to frames g own =
-      value_same (value_of i l g) own _ _ (λ x. value_same (value_of e l g) own _ _ (λ v.
-      value_same (elements_with p.globals g a x v) own _ _ (λ g'. refl)))
-  at_same p depth l (Do (call x f all) ∷ k) to frames g own =
-      value_same (values_of all l g) own _ _ (λ vs. call_same p depth f vs x (record { locals = l; todo = k; result_to = to } ∷ frames) g own)
-  at_same p depth l (Do (output e) ∷ k) to frames g own =
-      value_same (value_of e l g) own _ _ (λ v.
-      ap (λ o. Running (record { locals = l; todo = k; result_to = to } ∷ frames) g o) (append_assoc out own (v ∷ [])))
-  at_same p depth l (Do (if_else c a b) ∷ k) to frames g own = value_same (value_of c l g) own _ _ (λ v. refl)
-  at_same p depth l (Do (loop c last body) ∷ k) to frames g own = value_same (value_of c l g) own _ _ (λ v. refl)
-  at_same p depth l (Do (return_with None) ∷ k) to frames g own = return_same p.globals None to frames g own
-  at_same p depth l (Do (return_with (Some e)) ∷ k) to frames g own =
-      value_same (value_of e l g) own _ _ (λ v. return_same p.globals (Some v) to frames g own)
-  at_same p depth l _ to frames g own = refl
+  at_same : (w : Surroundings) (l : Places) (todo : List Todo) → step_at (behind w) l todo ≡ put out (step_at w l todo)
+  at_same w l (Do (assign x e) ∷ k) = value_same (value_of e l w.globals) w.output _ _ (λ v. assignment_same w x v l k)
+  at_same w l (Do (store a i e) ∷ k) =
+      value_same (value_of i l w.globals) w.output _ _ (λ x. value_same (value_of e l w.globals) w.output _ _ (λ v. store_same w a x v l k))
+  at_same w l (Do (call to f all) ∷ k) =
+      value_same (values_of all l w.globals) w.output _ _ (λ vs. call_same (around_callee w (frame_at w l k) to) f vs)
+  at_same w l (Do (output e) ∷ k) = value_same (value_of e l w.globals) w.output _ _ (λ v.
+      ap (λ o. at (record w { output = o }) l k) (append_assoc out w.output (v ∷ [])))
+  at_same w l (Do (if_else c a b) ∷ k) = value_same (value_of c l w.globals) w.output _ _ (λ v. refl)
+  at_same w l (Do (loop c last body) ∷ k) = value_same (value_of c l w.globals) w.output _ _ (λ v. refl)
+  at_same w l (Do (return_with None) ∷ k) = result_same w None w.result_to w.waiting
+  at_same w l (Do (return_with (Some e)) ∷ k) =
+      value_same (value_of e l w.globals) w.output _ _ (λ v. result_same w (Some v) w.result_to w.waiting)
+  at_same w l _ = refl
 
   step_same : (p : TypedProgram) (depth : ℕ) (s : Run) → source_step p depth (put out s) ≡ put out (source_step p depth s)
   step_same p depth (Running (f ∷ frames) g own) =
-      let at = next_point Going f.locals f.todo in at_same p depth at.locals at.todo f.result_to frames g own
+      let point = next_point Going f.locals f.todo in
+      at_same (record { program = p; depth = depth; result_to = f.result_to; waiting = frames; globals = g; output = own }) point.locals point.todo
   step_same p depth _ = refl
 
   steps_same : (p : TypedProgram) (depth n : ℕ) (s : Run) → source_steps p depth n (put out s) ≡ put out (source_steps p depth n s)

@@ -1,17 +1,16 @@
 -- What the interpreter keeps, and the state that it stands for.
 use Rattle.std.specs.Prelude.{◌≡◌, ℕ, List, [], ◌∷◌, Option, map, reverse}
-use Rattle.runs.specs.Stores.{Places, Arrays}
+use Rattle.runs.specs.Stores.{Places}
 use Rattle.runs.specs.Kept.{places, arrays}
-use Rattle.runs.specs.Calls.{callers_of, calls_of, state_with_call, reached_by}
+use Rattle.runs.specs.Calls.{callers_of, reached_by}
 use Rattle.runs.specs.declared.interpreter.Interpreter as Runs
 use Rattle.runs.specs.declared.reached.Reached.{Reached}
 use Rattle.c_typed.specs.Trees.{TypedStatement, TypedProgram}
 use Rattle.c_typed.specs.declared.tree.Destination.{Destination}
-use Rattle.c_typed.specs.declared.tree.Global as Variable
 use Rattle.c_typed.specs.Shape.{statement_of, statements_of}
 use Rattle.c_typed.specs.Meaning as Meaning
-use Rattle.c_typed.specs.Meaning.{Todo, Do, Next, before, before_all, Point, Run, step_at, with_assignment, state_after_call}
-use Rattle.c_typed.specs.Meaning.{state_after_return}
+use Rattle.c_typed.specs.Meaning.{Todo, Do, Next, before, before_all, Point, Run, Surroundings, step_at, around_callee, state_after_assignment}
+use Rattle.c_typed.specs.Meaning.{state_after_call, state_after_return}
 use Rattle.c_run.specs.declared.pending.Pending.{Pending}
 use Rattle.c_run.specs.declared.pending.Pending.TheVariants.{One, Rest, Turn}
 use Rattle.c_run.specs.declared.pending.Agenda.{Agenda}
@@ -55,15 +54,24 @@ frame_of c = record { locals = places c.locals.items; todo = todos c.todo; resul
 abbrev pub Interpreter : Type 0
 Interpreter = Runs.Interpreter Frame
 
--- the same interpreter with other locals and globals
-abbrev pub state_with : Interpreter → Places → Arrays → Run
-state_with m l g =
-    state_with_call frame_of m (record { locals = l; todo = todos m.frame.todo; result_to = m.frame.result_to }) g
+-- what surrounds the statements of the call that runs
+abbrev pub around : TypedProgram → (depth : ℕ) → Interpreter → Surroundings
+around p depth m = record {
+  program = p;
+  depth = depth;
+  result_to = m.frame.result_to;
+  waiting = map frame_of (callers_of m);
+  globals = arrays m.globals.items;
+  output = m.output.items;
+}
+
+-- what surrounds a call that it makes, while it waits
+abbrev pub around_next_call : TypedProgram → (depth : ℕ) → Interpreter → (result_to : Option Destination) → Surroundings
+around_next_call p depth m to = around_callee (around p depth m) (frame_of m.frame) to
 
 -- a step at this list
 abbrev pub state_after_step : TypedProgram → (depth : ℕ) → List Todo → Interpreter → Run
-state_after_step p depth k m =
-    step_at p depth (places m.frame.locals.items) k m.frame.result_to (map frame_of (callers_of m)) (arrays m.globals.items) m.output.items
+state_after_step p depth k m = step_at (around p depth m) (places m.frame.locals.items) k
 
 -- this statement takes the interpreter before to what is reached, in one step of a program
 abbrev pub DoesIn : TypedProgram → (depth : ℕ) → TypedStatement → Interpreter → Reached → Interpreter → Type 0
@@ -78,22 +86,18 @@ abbrev pub Does : TypedStatement → Interpreter → Reached → Interpreter →
 Does s before r after = (p : TypedProgram) → DoesAtAnyDepth p s before r after
 
 -- a word goes to this place
-abbrev pub Assigns : List Variable.Global → Destination → ℕ → Interpreter → Reached → Interpreter → Type 0
-Assigns globals to v before r after =
-    with_assignment globals to v (places before.frame.locals.items) (arrays before.globals.items) before.output.items (state_with before)
+abbrev pub Assigns : TypedProgram → Destination → ℕ → Interpreter → Reached → Interpreter → Type 0
+Assigns p to v before r after = (depth : ℕ)
+    → state_after_assignment (around p depth before) to v (places before.frame.locals.items) (todos before.frame.todo)
     ≡ reached_by frame_of r after
 
--- a function is called with these values, and its result goes there
-abbrev pub Calls : TypedProgram → (depth f : ℕ) → List ℕ → Option Destination → Interpreter → Reached → Interpreter → Type 0
-Calls p depth f vs to before r after =
-    state_after_call p depth f vs to (map frame_of (calls_of before)) (arrays before.globals.items) before.output.items
-    ≡ reached_by frame_of r after
+-- a function is called with these values
+abbrev pub Calls : Surroundings → (f : ℕ) → List ℕ → Reached → Interpreter → Type 0
+Calls w f vs r after = state_after_call w f vs ≡ reached_by frame_of r after
 
 -- the call returns, with a word or without
-abbrev pub Returns : List Variable.Global → Option ℕ → Interpreter → Reached → Interpreter → Type 0
-Returns globals v before r after =
-    state_after_return globals v before.frame.result_to (map frame_of (callers_of before)) (arrays before.globals.items) before.output.items
-    ≡ reached_by frame_of r after
+abbrev pub Returns : TypedProgram → Option ℕ → Interpreter → Reached → Interpreter → Type 0
+Returns p v before r after = (depth : ℕ) → state_after_return (around p depth before) v ≡ reached_by frame_of r after
 
 -- the locals, with what comes first and the others after it
 abbrev pub point_at : Places → Head → List Todo → Point

@@ -7,7 +7,7 @@ ghost use Rattle.c_typed.specs.Trees.{assign, store, call, output, if_else, loop
 ghost use Rattle.c_types.specs.Shape.{program_of};
 ghost use Rattle.c_typed.specs.Meaning.{source_step};
 ghost use Rattle.runs.specs.Calls.{state_by, reached_by};
-ghost use Rattle.c_run.specs.Interpreter.{frame_of, Assigns, Calls, Returns, Does, DoesAtAnyDepth, DoesIn};
+ghost use Rattle.c_run.specs.Interpreter.{frame_of, around_next_call, Assigns, Calls, Returns, Does, DoesAtAnyDepth, DoesIn};
 
 use crate::pending::{Agenda, Head};
 use crate::value::{arguments, value};
@@ -59,7 +59,7 @@ fn put_at(
     place: Destination,
     v: u32,
 ) -> Result<Reached, AllocError>
-    ensures { IfOk result (λ r. Assigns program.now.globals place v interpreter.old r interpreter.new) }
+    ensures { IfOk result (λ r. Assigns (program_of program.now) place v interpreter.old r interpreter.new) }
 {
     match place {
         Destination::Local(number) => {
@@ -86,8 +86,8 @@ fn enter<'a>(
     values: Vec<Option<u32>>,
     to: Option<Destination>,
 ) -> Result<Reached, AllocError>
-    ensures { let called = Calls (program_of program.now) depth function in
-        IfOk result (λ r. (vs : List ℕ) → values.items ≡ map Some vs → called vs to interpreter.old r interpreter.new) }
+    ensures { let called = Calls (around_next_call (program_of program.now) depth interpreter.old to) function in
+        IfOk result (λ r. (vs : List ℕ) → values.items ≡ map Some vs → called vs r interpreter.new) }
 {
     let Some(function) = program.functions().get(function) else {
         return Ok(Reached::Failed);
@@ -109,7 +109,7 @@ fn leave(
     interpreter: &mut Interpreter,
     result_word: Option<u32>,
 ) -> Result<Reached, AllocError>
-    ensures { IfOk result (λ r. Returns program.now.globals result_word interpreter.old r interpreter.new) }
+    ensures { IfOk result (λ r. Returns (program_of program.now) result_word interpreter.old r interpreter.new) }
 {
     let Some(done) = interpreter.leave() else {
         return Ok(Reached::of_last(result_word));

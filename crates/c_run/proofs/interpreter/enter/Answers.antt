@@ -1,19 +1,14 @@
-use Rattle.std.proofs.Common.{◌∙◌, ap, map, sym}
-use Rattle.runs.specs.Calls.{calls_of}
-use Rattle.runs.specs.Kept.{places, arrays}
+use Rattle.std.proofs.Common.{◌∙◌, ap, sym}
+use Rattle.runs.specs.Kept.{places}
 use Rattle.runs.proofs.Kept.{places-set_to}
 use Rattle.runs.proofs.Lookups.{found, past}
-use Rattle.c_run.specs.Interpreter.{frame_of}
 use Rattle.c_run.proofs.Calls.{new-frame, entered, refused, called-nowhere}
 use Rattle.c_run.proofs.interpreter.enter.Goals as goal
 
 pub returns-in_default : goal.returns-in_default
 returns-in_default c vs is =
-    let m = c.args.interpreter.now in
-    let p = c.args.program.now in
     let nowhere = past c.functions.result.now c.args.function c.get.result c.get.ensures.lookup.0 c.in_default.is in
-    called-nowhere p c.args.depth c.args.function vs c.args.to (map frame_of (calls_of m)) (arrays m.globals.items) m.output.items
-    (rw (sym c.functions.ensures.value) nowhere)
+    called-nowhere c.args.program.now c.args.depth c.args.function vs c.args.to c.args.interpreter.now (rw (sym c.functions.ensures.value) nowhere)
 
 pub returns-then-not-has_room : goal.returns-then-not-has_room
 returns-then-not-has_room c vs is =
