@@ -43,7 +43,7 @@ StopsBefore words silent refused requests told = (requests ≡ [])
     × ((fault : HostFault) × (told ≡ host_fault_text fault) × LeavesOutput fault silent refused × IsFaultBefore words fault)
 
 -- the words are a command, which ended by a fault, or it ended before that
-abbrev pub IsStopped : (Command → (silent refused : Type 0) → List Request → List ℕ → Type 0) → List Text → (silent refused : Type 0)
+abbrev pub IsStopped : (Stops : Command → (silent refused : Type 0) → List Request → List ℕ → Type 0) → List Text → (silent refused : Type 0)
     → List Request → List ℕ → Type 0
 IsStopped Stops words silent refused requests told = StopsBefore words silent refused requests told
     ⊎ ((command : Command) × IsCommand words command × Stops command silent refused requests told)
