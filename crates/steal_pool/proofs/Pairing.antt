@@ -1,6 +1,5 @@
 -- Deques and ways are paired, a member a step. The ways of the first place stand last.
-use Rattle.std.proofs.Common.{◌≡◌, ◌≢◌, ℕ, zero, suc, ◌+◌, ◌%◌, ◌<◌, List, [], ◌∷◌, ◌++◌, All, Some, Vec, length, length-append, map, slice_get, sym, ap, refl, ◌∙◌, subst, append_assoc, append-nil, mod-eq_of_lt, arith}
-use Rattle.std.proofs.lemmas.Bool.Decides.{nat_tests}
+use Rattle.std.proofs.Common.{◌≡◌, ◌≢◌, ℕ, zero, suc, ◌+◌, ◌<◌, List, [], ◌∷◌, ◌++◌, All, Some, Vec, length, length-append, map, slice_get, sym, ap, refl, ◌∙◌, subst, append_assoc, append-nil, arith}
 use Rattle.std.proofs.lemmas.List.{map-append}
 use Rattle.std.proofs.lemmas.Option.{slice_get_within, slice_get-get_or}
 use Rattle.std.specs.declared.alloc.Global.{Global}
@@ -11,20 +10,14 @@ use Rattle.steal_pool.specs.declared.view.View.{View}
 use Rattle.steal_pool.specs.declared.rule.Shared.{Shared}
 use Rattle.steal_pool.specs.declared.victim.Victim.{Victim}
 use Rattle.steal_pool.specs.declared.member.Member.{Member}
-use Rattle.steal_pool.specs.Rule.{times}
 use Rattle.steal_pool.specs.Shares.{Begins}
 use Rattle.steal_pool.specs.Starts.{Apart, IsFilled, own_deques, AreVictims, StartsAt, Start}
-use Rattle.steal_pool.proofs.Shares.{each_more}
+use Rattle.steal_pool.proofs.Shares.{each_more, shares_differ}
 
 -- a task that lies on one of two deques alone tells them apart
 pub shares_apart : (count n i j : ℕ) (v u : View) → i < count → i < n → i ≢ j → Begins i count n v → Begins j count n u → Apart v u
 shares_apart count n i j v u below more other a b items views p q dealt at at' =
-    let same : v.put ≡ u.put = (dealt.2 p v at a.0).1 ∙ sym (dealt.2 q u at' b.0).1 in
-    let same_times : times i v.put ≡ times i u.put = ap (times i) same in
-    let mine = a.1 i in
-    let theirs = b.1 i in
-    let is : i % count ≡ i = mod-eq_of_lt below in
-    grind (arith, nat_tests)
+    shares_differ count n i j v.put u.put below more other a.1 b.1 ((dealt.2 p v at a.0).1 ∙ sym (dealt.2 q u at' b.0).1)
 
 pub slice_left : {X : Type 0} (xs ys : List X) (k : ℕ) (x : X) → slice_get xs k ≡ Some x → slice_get (xs ++ ys) k ≡ Some x
 slice_left [] ys k x at = absurd (cc at)

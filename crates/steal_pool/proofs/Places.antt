@@ -1,7 +1,8 @@
 -- A list with a place for each task, as answers are put into it.
-use Rattle.std.proofs.Common.{◌≡◌, ℕ, zero, suc, List, [], ◌∷◌, length, Option, Some, None, slice_set, subst, ◌<◌, All, sym, ◌∙◌}
-use Rattle.std.proofs.lemmas.Option.{slice_get_within, get_or_from_slice_get}
+use Rattle.std.proofs.Common.{◌≡◌, ℕ, List, length, Option, Some, None, slice_set, refl, ap, subst, ◌<◌, All, sym, ◌∙◌}
+use Rattle.std.proofs.lemmas.Option.{same_Some, slice_get_within, get_or_from_slice_get}
 use Rattle.steal_pool.specs.Places.{EachPlace}
+use Rattle.steal_pool.proofs.Shares.{each_set}
 
 pub nothing_placed : {O : Type 0} (right : ℕ → O → Type 0) (xs : List (Option O)) → All (λ x. x ≡ None) xs → EachPlace right xs
 nothing_placed right xs none i out at =
@@ -10,8 +11,6 @@ nothing_placed right xs none i out at =
     absurd (cc (same))
 
 pub placed : {O : Type 0} (right : ℕ → O → Type 0) (xs : List (Option O)) (k : ℕ) (v : O) → right k v → EachPlace right xs → EachPlace right (slice_set xs k (Some v))
-placed right [] k v this before i out at = before i out at
-placed right (x ∷ xs) zero v this before zero out at = let e : v ≡ out = cc at in subst (right zero) e this
-placed right (x ∷ xs) zero v this before (suc i) out at = before (suc i) out at
-placed right (x ∷ xs) (suc k) v this before zero out at = before zero out at
-placed right (x ∷ xs) (suc k) v this before (suc i) out at = placed (λ j. right (suc j)) xs k v this (λ j o e. before (suc j) o e) i out at
+placed {O} right xs k v this before i out at =
+    let R : ℕ → Option O → Type 0 = λ j o. (x : O) → o ≡ Some x → right j x in
+    each_set R xs k (Some v) (λ x e. subst (right k) (same_Some v x e) this) (λ j o e x is. before j x (e ∙ ap Some is)) i (Some out) at out refl

@@ -79,19 +79,6 @@ shares_differ count n i j xs ys below more other a b same =
     let is : i % count ≡ i = mod-eq_of_lt below in
     grind (arith, nat_tests)
 
--- what holds of what was put, at each place, holds after a pass took something
-pub put_kept : (P : ℕ → List ℕ → Type 0) (views : List View) (k : ℕ) (v w : View) → slice_get views k ≡ Some v → w.put ≡ v.put
-    → ((j : ℕ) (u : View) → slice_get views j ≡ Some u → P j u.put) → (j : ℕ) (u : View) → slice_get (set views k w) j ≡ Some u → P j u.put
-put_kept P [] k v w at same before j u e = before j u e
-put_kept P (x ∷ xs) zero v w at same before zero u e =
-    let new : w ≡ u = cc e in
-    let old : x ≡ v = cc at in
-    let is : x.put ≡ u.put = ap (λ (y : View). y.put) old ∙ (sym same ∙ ap (λ (y : View). y.put) new) in
-    subst (P zero) is (before zero x refl)
-put_kept P (x ∷ xs) zero v w at same before (suc j) u e = before (suc j) u e
-put_kept P (x ∷ xs) (suc k) v w at same before zero u e = before zero u e
-put_kept P (x ∷ xs) (suc k) v w at same before (suc j) u e = put_kept (λ i. P (suc i)) xs k v w at same (λ i y f. before (suc i) y f) j u e
-
 -- what holds of each element and its place holds after one changed
 pub each_set : {X : Type 0} (R : ℕ → X → Type 0) (xs : List X) (k : ℕ) (y : X) → R k y → ((j : ℕ) (x : X) → slice_get xs j ≡ Some x → R j x)
     → (j : ℕ) (x : X) → slice_get (set xs k y) j ≡ Some x → R j x
@@ -100,3 +87,8 @@ each_set R (z ∷ zs) zero y mine before zero x e = let new : y ≡ x = cc e in 
 each_set R (z ∷ zs) zero y mine before (suc j) x e = before (suc j) x e
 each_set R (z ∷ zs) (suc k) y mine before zero x e = before zero x e
 each_set R (z ∷ zs) (suc k) y mine before (suc j) x e = each_set (λ i. R (suc i)) zs k y mine (λ i u f. before (suc i) u f) j x e
+
+-- what holds of what was put, at each place, holds after a pass took something
+pub put_kept : (P : ℕ → List ℕ → Type 0) (views : List View) (k : ℕ) (v w : View) → slice_get views k ≡ Some v → w.put ≡ v.put
+    → ((j : ℕ) (u : View) → slice_get views j ≡ Some u → P j u.put) → (j : ℕ) (u : View) → slice_get (set views k w) j ≡ Some u → P j u.put
+put_kept P views k v w at same before = each_set (λ j u. P j u.put) views k w (subst (P k) (sym same) (before k v at)) before

@@ -48,17 +48,12 @@ begins = (
       ] at,
 )
 
-known_set : (put put' : List ℕ) (views : List View) (port : ℕ) (w : View) → Knows put' port w → ((j : ℕ) (u : View) → j ≢ port → get_elem? views j ≡ some u → Knows put' j u)
-    → (j : ℕ) (u : View) → get_elem? (set views port w) j ≡ some u → Knows put' j u
-known_set put put' views port w mine others j u e =
-    ⊎_elim (λ (x : (j ≡ port) × (w ≡ u)). subst (λ (y : ℕ × View). Knows put' y.0 y.1) (λ i. (sym x.0 i, x.1 i)) mine)
+-- of each view and its port after a change of one
+each_set : (R : ℕ → View → Type 0) (views : List View) (port : ℕ) (w : View) → R port w → ((j : ℕ) (u : View) → j ≢ port → get_elem? views j ≡ some u → R j u)
+    → (j : ℕ) (u : View) → get_elem? (set views port w) j ≡ some u → R j u
+each_set R views port w mine others j u e =
+    ⊎_elim (λ (x : (j ≡ port) × (w ≡ u)). subst (λ (y : ℕ × View). R y.0 y.1) (λ i. (sym x.0 i, x.1 i)) mine)
     (λ (x : (j ≢ port) × (get_elem? views j ≡ some u)). others j u x.0 x.1) (at_set views port j w u e)
-
--- of each view after a change of one
-seen_set : (P : View → Type 0) (views : List View) (port : ℕ) (w : View) → P w → ((j : ℕ) (u : View) → get_elem? views j ≡ some u → P u)
-    → (j : ℕ) (u : View) → get_elem? (set views port w) j ≡ some u → P u
-seen_set P views port w mine others j u e =
-    ⊎_elim (λ (x : (j ≡ port) × (w ≡ u)). subst P x.1 mine) (λ (x : (j ≢ port) × (get_elem? views j ≡ some u)). others j u x.1) (at_set views port j w u e)
 
 longer : (put xs : List ℕ) (more : List ℕ) → Start put xs → Start (put ++ more) xs
 longer put xs more (rest, is) = (rest ++ more, sym (append_assoc xs rest more) ∙ ap (λ l. l ++ more) is)
@@ -74,8 +69,8 @@ dealt_takes xs items views port v h at =
           let c : times x (xs ++ items) ≡ times x xs + times x items = sum_by-append _ xs items in
           let d = h.1 x in
           omega arith),
-      known_set put put views port w (h.2 port v at) (λ j u other e. h.2 j u e),
-      seen_set (λ u. Start put u.put) views port w (h.3 port v at) h.3,
+      each_set (Knows put) views port w (h.2 port v at) (λ j u other. h.2 j u),
+      each_set (λ j u. Start put u.put) views port w (h.3 port v at) (λ j u other. h.3 j u),
     )
 
 pub dealt_puts : KeptByPutting Dealt
@@ -90,8 +85,8 @@ dealt_puts xs items views port v h at may =
           let c : times x (items ++ xs) ≡ times x items + times x xs = sum_by-append _ items xs in
           let d = h.1 x in
           omega arith),
-      known_set h.0 put views port w (λ _. (mine.0, ap (λ l. l ++ xs) mine.1)) (λ j u other e p. absurd (other ((h.2 j u e p).0 ∙ sym mine.0))),
-      seen_set (λ u. Start put u.put) views port w ([], append-nil (v.put ++ xs) ∙ ap (λ l. l ++ xs) mine.1) (λ j u e. longer h.0 u.put xs (h.3 j u e)),
+      each_set (Knows put) views port w (λ _. (mine.0, ap (λ l. l ++ xs) mine.1)) (λ j u other e p. absurd (other ((h.2 j u e p).0 ∙ sym mine.0))),
+      each_set (λ j u. Start put u.put) views port w ([], append-nil (v.put ++ xs) ∙ ap (λ l. l ++ xs) mine.1) (λ j u other e. longer h.0 u.put xs (h.3 j u e)),
     )
 
 pub dealt_shares : KeptBySharing Dealt
