@@ -1,5 +1,5 @@
 //! The deques at the start.
-ghost use Rattle.std.specs.Prelude.{◌≡◌, ◌+◌, ◌%◌, ◌<◌, ◌≤◌, [], ◌∷◌, IfOk, OnOk, true, map, vec_len};
+ghost use Rattle.std.specs.Prelude.{◌≡◌, ◌+◌, ◌%◌, ◌<◌, ◌≤◌, [], ◌∷◌, IfOk, OnOk, true, length, map};
 ghost use Rattle.crossbeam_deque.specs.Handles.{view, worker_view, worker_flavor, worker_deque, stealer_deque};
 ghost use Rattle.term_table.specs.declared.limits.TheConstants.{MAX_PASSES};
 ghost use Rattle.steal_pool.specs.Rule.{maker, shared, after_putting, KeptByPutting, KeptBySharing};
@@ -71,12 +71,12 @@ pub(crate) fn victims_of<K: Fact>(
     w: usize,
     n: usize,
 ) -> Result<Vec<Victim<K>>, AllocError>
-    requires count { (w < vec_len workers.old) × (vec_len workers.old ≤ MAX_PASSES) }
-    requires filled { AreFilled (vec_len workers.old) n workers.old.items }
+    requires count { (w < length workers.old.items) × (length workers.old.items ≤ MAX_PASSES) }
+    requires filled { AreFilled (length workers.old.items) n workers.old.items }
     requires shares { KeptBySharing K.real }
-    ensures same { OnOk result ((vec_len workers.new ≡ vec_len workers.old)
+    ensures same { OnOk result ((length workers.new.items ≡ length workers.old.items)
         × (map (λ d. worker_deque d) workers.new.items ≡ map (λ d. worker_deque d) workers.old.items)) }
-    ensures filled { OnOk result (AreFilled (vec_len workers.old) n workers.new.items) }
+    ensures filled { OnOk result (AreFilled (length workers.old.items) n workers.new.items) }
     ensures ways { IfOk result (λ v. AreVictims n (map (λ d. worker_deque d) workers.old.items) w v.items) }
 {
     let mut victims = Vec::new(alloc);

@@ -1,5 +1,5 @@
 //! The members of a pool at the start.
-ghost use Rattle.std.specs.Prelude.{◌≡◌, ℕ, ◌+◌, ◌<◌, ◌≤◌, [], ◌∷◌, All, IfOk, OnOk, Some, Vec, slice_get, map, vec_len};
+ghost use Rattle.std.specs.Prelude.{◌≡◌, ℕ, ◌+◌, ◌<◌, ◌≤◌, [], ◌∷◌, All, IfOk, OnOk, Some, Vec, slice_get, length, map};
 ghost use Rattle.std.specs.declared.alloc.Global.{Global};
 ghost use Rattle.crossbeam_deque.specs.Handles.{worker_deque};
 ghost use Rattle.term_table.specs.declared.limits.TheConstants.{MAX_PASSES};
@@ -27,7 +27,7 @@ fn filled_deques<K: Fact>(
     requires some { 0 < count }
     requires begins { K.real [] (maker ∷ []) }
     requires puts { KeptByPutting K.real }
-    ensures len { IfOk result (λ ds. vec_len ds ≡ count) }
+    ensures len { IfOk result (λ ds. length ds.items ≡ count) }
     ensures filled { IfOk result (λ ds. AreFilled count n ds.items) }
 {
     let mut workers = Vec::new(alloc);
@@ -44,14 +44,14 @@ fn all_ways<K: Fact>(
     workers: &mut Vec<Worker<usize, Global, View, Shared<K>>>,
     n: usize,
 ) -> Result<Vec<Vec<Victim<K>>>, AllocError>
-    requires few { vec_len workers.old ≤ MAX_PASSES }
-    requires filled { AreFilled (vec_len workers.old) n workers.old.items }
+    requires few { length workers.old.items ≤ MAX_PASSES }
+    requires filled { AreFilled (length workers.old.items) n workers.old.items }
     requires shares { KeptBySharing K.real }
-    ensures same { OnOk result (vec_len workers.new ≡ vec_len workers.old) }
-    ensures filled { OnOk result (AreFilled (vec_len workers.old) n workers.new.items) }
-    ensures len { IfOk result (λ v. vec_len v ≡ vec_len workers.old) }
+    ensures same { OnOk result (length workers.new.items ≡ length workers.old.items) }
+    ensures filled { OnOk result (AreFilled (length workers.old.items) n workers.new.items) }
+    ensures len { IfOk result (λ v. length v.items ≡ length workers.old.items) }
     ensures ways { IfOk result (λ vs. (k w : ℕ) (v : Vec (Victim K) Global) → slice_get vs.items k ≡ Some v
-        → k + w + 1 ≡ vec_len workers.old → AreVictims n (map (λ d. worker_deque d) workers.new.items) w v.items) }
+        → k + w + 1 ≡ length workers.old.items → AreVictims n (map (λ d. worker_deque d) workers.new.items) w v.items) }
 {
     let mut ways = Vec::new(alloc);
     for w in (0..workers.len()).rev() {

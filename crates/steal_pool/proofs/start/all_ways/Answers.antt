@@ -27,41 +27,23 @@ loop-w-preserved g c =
     let Q : List V → Type 0 = λ l. (k : ℕ) (v : V) → slice_get l k ≡ Some v → R k v in
     let more : Q (xs ++ new ∷ []) = each_more R xs new (λ k v at w e. was.3 k w v at e) fresh in
     let now : Q c.push.new.self.items = subst Q (sym is) more in
-    let same : ds' ≡ ds = told.same.1 in
-    let items : length c.victims_of.new.workers.items ≡ count = search rules in
-    let is-count : c.loop-w.workers.len ≡ count = search rules in
-    let filled : AreFilled c.loop-w.workers.len n c.victims_of.new.workers.items = told.filled in (
-      items,
-      subst (λ m. AreFilled m n c.victims_of.new.workers.items) is-count filled,
+    let same : ds' ≡ ds = told.same.1 in (
+      told.same.0 ∙ was.0,
+      subst (λ m. AreFilled m n c.victims_of.new.workers.items) was.0 told.filled,
       omega (arith, all, was.2, left),
       λ k w v at e. subst (λ l. AreVictims n l w v.items) (sym same) (now k v at w e),
     )
 
-pub returns-clause-ways : goal.returns-clause-ways
-returns-clause-ways g c =
-    let ds = map (λ d. worker_deque d) c.loop-w.workers.items in
-    let all : length c.args.workers.now.items ≡ c.args.workers.now.len = search rules in
-    subst (λ m. AreWays m c.args.n ds c.loop-w.ways.items) all c.loop-w.invariant.3
-
 pub loop-w-init : goal.loop-w-init
 loop-w-init g c =
     let zs = c.args.workers.now.items in
-    let all : c.args.workers.now.len ≡ length zs = search rules in
-    let none = c.new-ways.ensures.items in
-    let ds = map (λ d. worker_deque d) zs in (
+    let none = c.new-ways.ensures.items in (
       refl,
-      subst (λ m. AreFilled m c.args.n zs) all c.requires.filled,
-      omega (arith, ap length none, c.len-w.ensures, all),
-      subst (AreWays (length zs) c.args.n ds) (sym none) (λ k w v at e. absurd (cc at)),
+      c.requires.filled,
+      omega (arith, ap length none, c.len-w.ensures),
+      subst (AreWays (length zs) c.args.n (map (λ d. worker_deque d) zs)) (sym none) (λ k w v at e. absurd (cc at)),
     )
 
 pub victims_of-requires-clause-filled : goal.victims_of-requires-clause-filled
 victims_of-requires-clause-filled g c =
-    let was = c.loop-w.invariant in
-    let long : c.loop-w.workers.len ≡ length c.args.workers.now.items = search rules in
-    subst (λ m. AreFilled m c.args.n c.loop-w.workers.items) (sym long) was.1
-
-pub returns-clause-filled : goal.returns-clause-filled
-returns-clause-filled g c =
-    let all : c.args.workers.now.len ≡ length c.args.workers.now.items = search rules in
-    subst (λ m. AreFilled m c.args.n c.loop-w.workers.items) (sym all) c.loop-w.invariant.1
+    let was = c.loop-w.invariant in subst (λ m. AreFilled m c.args.n c.loop-w.workers.items) (sym was.0) was.1
