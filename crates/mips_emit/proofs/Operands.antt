@@ -32,12 +32,12 @@ use Rattle.mips_emit.specs.declared.limits.TheConstants.{FRAME_BYTES}
 use Rattle.mips_emit.specs.Frames.{IsHome, AreFrameHomes, IsFrame, IsReachable}
 use Rattle.mips_emit.specs.Comparisons.{no_last, is_result}
 use Rattle.mips_homes.specs.Homes.{cell}
-use Rattle.mips_emit.specs.Locations.{Facts, known_in, no_facts, kept_without, kept_past, FitsHome, FitsPlace}
+use Rattle.mips_emit.specs.Locations.{Facts, known_in, no_facts, kept_past, FitsHome, FitsPlace}
 use Rattle.mips_emit.specs.Locations.{inner_of}
 use Rattle.words.specs.Words.{wrap}
 use Rattle.mips_emit.specs.Elements.{width_bytes, width_of, base_word, fits_offset, base_index, address_of_place}
 use Rattle.mips_emit.specs.declared.offset.Offset.{Offset}
-use Rattle.mips_emit.specs.Offsets.{no_offset, touches, offset_without, offset_past, offset_in}
+use Rattle.mips_emit.specs.Offsets.{no_offset, touches, without, past, offset_past, offset_in}
 use Rattle.mips_emit.specs.Code.{nop, is_small, half, constant, li, operand_register, bring}
 use Rattle.mips_emit.proofs.Runs.{RunsTo}
 use Rattle.mips_emit.proofs.View.{word_at}
@@ -389,62 +389,33 @@ touched o r e =
     let parts = or_parts (nat_eq o.register r) (nat_eq o.base r) e in
     (eqb-false o.register r parts.0, eqb-false o.base r parts.1)
 
+-- what is known by an offset stays so past a write, if it does where the write is elsewhere
+unless_written : {A : Type 0} (offset : A → Offset) (P : Option A → Type 0) (r : ℕ) (o : Option A) → P None
+    → (((a : A) → o ≡ Some a → ((offset a).register ≢ r) × ((offset a).base ≢ r)) → P o) → P (without offset r o)
+unless_written offset P r None none still = none
+unless_written offset P r (Some a) none still = cond_both (touches (offset a) r) None (Some a) P (λ _. none)
+    (λ t. still (λ b e. subst (λ c. ((offset c).register ≢ r) × ((offset c).base ≢ r)) (same_Some a b e) (touched (offset a) r t)))
+
+past_written : {A : Type 0} (offset : A → Offset) (P : Option A → Type 0) (l : Option Home) (o : Option A) → P None
+    → (((a : A) → o ≡ Some a → IsElsewhere l (offset a).register × IsElsewhere l (offset a).base) → P o) → P (past offset l o)
+past_written offset P (Some (Reg r)) o none still = unless_written offset P r o none still
+past_written offset P (Some (Copied r j)) o none still = unless_written offset P r o none still
+past_written offset P _ o none still = still (λ a e. (tt, tt))
+
 pub kept_written : (gs : List RGlobal) (starts : ℕ → ℕ) (l : Option Home) (kept : Option Kept) (f f' : ℕ → ℕ) → Keeps l f f' → IsKept gs starts kept f
     → IsKept gs starts (kept_past l kept) f'
-kept_written gs starts l kept f f' same h = by l same
-  where
-    as_was : (l : Option Home) → Keeps l f f' → ((k : Kept) → kept ≡ Some k → IsElsewhere l (k.index).register × IsElsewhere l (k.index).base)
-        → IsKept gs starts kept f'
-    as_was l same away = kept_as gs starts kept f f' same.base (λ k e. (
+kept_written gs starts l kept f f' same h = past_written (λ k. k.index) (λ k. IsKept gs starts k f') l kept (none_kept gs starts f')
+    (λ away. kept_as gs starts kept f f' same.base (λ k e. (
       same.others (k.index).register (h.low k e).0 (away k e).0,
       same.others (k.index).base (h.low k e).1 (away k e).1,
-    )) h
-
-    without : (l : Option Home) (r : ℕ) → ((q : ℕ) → q ≢ r → IsElsewhere l q) → Keeps l f f' → (o : Option Kept) → kept ≡ o
-        → IsKept gs starts (kept_without r o) f'
-    without l r away same None is = none_kept gs starts f'
-    without l r away same (Some k) is = go (touches k.index r) refl
-      where
-        go : (b : Bool) → touches k.index r ≡ b → IsKept gs starts (if b then None else Some k) f'
-        go true t = none_kept gs starts f'
-        go false t =
-            let apart : (j : Kept) → kept ≡ Some j → ((j.index).register ≢ r) × ((j.index).base ≢ r) = λ j e.
-            subst (λ (k : Kept). ((k.index).register ≢ r) × ((k.index).base ≢ r)) (same_Some k j (sym is ∙ e)) (touched k.index r t) in
-            subst (λ o. IsKept gs starts o f') is
-            (as_was l same (λ j e. (away (j.index).register (apart j e).0, away (j.index).base (apart j e).1)))
-
-    by : (l : Option Home) → Keeps l f f' → IsKept gs starts (kept_past l kept) f'
-    by None same = as_was None same (λ k e. (tt, tt))
-    by (Some (Reg r)) same = without (Some (Reg r)) r (λ q ne. ne) same kept refl
-    by (Some (Slot j)) same = as_was (Some (Slot j)) same (λ k e. (tt, tt))
-    by (Some (Copied r j)) same = without (Some (Copied r j)) r (λ q ne. ne) same kept refl
+    )) h)
 
 pub offset_written : (l : Option Home) (offset : Option Offset) (f f' : ℕ → ℕ) → Keeps l f f' → IsOffset offset f → IsOffset (offset_past l offset) f'
-offset_written l offset f f' same h = by l same
-  where
-    as_was : (l : Option Home) → Keeps l f f' → ((o : Offset) → offset ≡ Some o → IsElsewhere l o.register × IsElsewhere l o.base) → IsOffset offset f'
-    as_was l same away = offset_as offset f f' (λ o e. (
+offset_written l offset f f' same h = past_written (λ o. o) (λ o. IsOffset o f') l offset (none_offset f')
+    (λ away. offset_as offset f f' (λ o e. (
       same.others o.register (h.low o e).0 (away o e).0,
       same.others o.base (h.low o e).1 (away o e).1,
-    )) h
-
-    without : (l : Option Home) (r : ℕ) → ((q : ℕ) → q ≢ r → IsElsewhere l q) → Keeps l f f' → (o : Option Offset) → offset ≡ o
-        → IsOffset (offset_without r o) f'
-    without l r away same None is = none_offset f'
-    without l r away same (Some o) is = go (touches o r) refl
-      where
-        go : (b : Bool) → touches o r ≡ b → IsOffset (if b then None else Some o) f'
-        go true t = none_offset f'
-        go false t =
-            let apart : (x : Offset) → offset ≡ Some x → (x.register ≢ r) × (x.base ≢ r) = λ x e.
-            subst (λ (o : Offset). (o.register ≢ r) × (o.base ≢ r)) (same_Some o x (sym is ∙ e)) (touched o r t) in
-            subst (λ o. IsOffset o f') is (as_was l same (λ x e. (away x.register (apart x e).0, away x.base (apart x e).1)))
-
-    by : (l : Option Home) → Keeps l f f' → IsOffset (offset_past l offset) f'
-    by None same = as_was None same (λ k e. (tt, tt))
-    by (Some (Reg r)) same = without (Some (Reg r)) r (λ q ne. ne) same offset refl
-    by (Some (Slot j)) same = as_was (Some (Slot j)) same (λ k e. (tt, tt))
-    by (Some (Copied r j)) same = without (Some (Copied r j)) r (λ q ne. ne) same offset refl
+    )) h)
 
 pub bases_written : (gs : List RGlobal) (starts : ℕ → ℕ) (l : Option Home) (kept : Option Kept) (offset : Option Offset) (f f' : ℕ → ℕ) → Keeps l f f'
     → IsKept gs starts kept f × IsOffset offset f → IsKept gs starts (kept_past l kept) f' × IsOffset (offset_past l offset) f'

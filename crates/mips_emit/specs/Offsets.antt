@@ -41,15 +41,21 @@ or_offset (Some o) old = Some o
 abbrev pub touches : Offset → ℕ → Bool
 touches o r = nat_eq o.register r || nat_eq o.base r
 
-abbrev pub offset_without : ℕ → Option Offset → Option Offset
-offset_without r None = None
-offset_without r (Some o) = if touches o r then None else Some o
+-- what is known by an offset is so while neither register is written
+abbrev pub without : {A : Type 0} → (A → Offset) → ℕ → Option A → Option A
+without offset r None = None
+without offset r (Some a) = if touches (offset a) r then None else Some a
 
--- it is so while neither register is written
+abbrev pub past : {A : Type 0} → (A → Offset) → Option Home → Option A → Option A
+past offset (Some (Reg r)) o = without offset r o
+past offset (Some (Copied r k)) o = without offset r o
+past offset _ o = o
+
+abbrev pub offset_without : ℕ → Option Offset → Option Offset
+offset_without r o = without (λ a. a) r o
+
 abbrev pub offset_past : Option Home → Option Offset → Option Offset
-offset_past (Some (Reg r)) o = offset_without r o
-offset_past (Some (Copied r k)) o = offset_without r o
-offset_past _ o = o
+offset_past l o = past (λ a. a) l o
 
 -- what is known of a register
 abbrev pub offset_in : Option Offset → ℕ → Offset
