@@ -2,7 +2,6 @@
 use Rattle.std.proofs.Common.{ℕ, ◌^◌, ◌<◌, List, [], ◌∷◌, map, All, arith}
 use Rattle.std.specs.List.{AllByRecursion}
 use Rattle.std.proofs.lemmas.List.Elements.{All-from_recursion, recursion_from_All}
-use Rattle.mips_isa.specs.declared.inst.ZeroTest.TheVariants.{AtMostZero, AboveZero, BelowZero, AtLeastZero}
 use Rattle.mips_isa.specs.declared.inst.JumpOp.TheVariants.{Jump}
 use Rattle.mips_isa.specs.declared.inst.Plain.{Plain}
 use Rattle.mips_isa.specs.declared.inst.Plain.TheVariants.{Shift, ShiftBy, Alu, Imm, Logic, LoadUpper, MoveFrom, Multiply, Divide, Load, Store}
@@ -11,7 +10,7 @@ use Rattle.mips_isa.specs.declared.inst.Control.TheVariants.{BranchPair, BranchZ
 use Rattle.mips_isa.specs.declared.inst.Inst.{Inst}
 use Rattle.mips_isa.specs.declared.inst.Inst.TheVariants as insts
 use Rattle.mips_isa.specs.Ranges.{IsPlain, IsControl, IsInst}
-use Rattle.mips_code.proofs.Codes.{shift-fits, shift_by-fits, alu-fits, imm-fits, logic-fits, move-fits, multiply-fits, divide-fits, load-fits, store-fits, pair-fits, half-fits}
+use Rattle.mips_code.proofs.Codes.{shift-fits, shift_by-fits, alu-fits, imm-fits, logic-fits, move-fits, multiply-fits, divide-fits, load-fits, store-fits, pair-fits, zero-fits, zero_field-fits, half-fits}
 use Rattle.mips_code.specs.Words.{register_word, immediate_word, inst_word, word_of_plain, word_of_control, half, shift_code, shift_by_code}
 use Rattle.mips_code.specs.Words.{alu_code, move_code, multiply_code, divide_code, imm_code, logic_code, load_code, store_code, pair_code}
 use Rattle.mips_code.specs.Words.{zero_code, zero_field}
@@ -59,11 +58,7 @@ control_below (BranchPair test rs rt offset) h =
     immediate_below (pair_code test) rs rt (half offset)
     (pair-fits test) h.0 h.1 (half-fits offset h.2)
 control_below (BranchZero test rs offset) h =
-    immediate_below (zero_code test) rs (zero_field test) (half offset)
-    (elim test as (λ o. zero_code o < 64) [ AtMostZero ↦ omega arith | AboveZero ↦ omega arith | BelowZero ↦ omega arith | AtLeastZero ↦ omega arith ]) h.0
-    (elim test as
-    (λ o. zero_field o < 32)
-    [ AtMostZero ↦ omega arith | AboveZero ↦ omega arith | BelowZero ↦ omega arith | AtLeastZero ↦ omega arith ]) (half-fits offset h.1)
+    immediate_below (zero_code test) rs (zero_field test) (half offset) (zero-fits test) h.0 (zero_field-fits test) (half-fits offset h.1)
 control_below (JumpTo Jump target) h = omega arith
 control_below (JumpRegister rs) h = register_below rs 0 0 0 8 h (omega arith) (omega arith) (omega arith) (omega arith)
 control_below _ h = omega arith

@@ -19,10 +19,12 @@ use Rattle.mips_isa.specs.declared.inst.HiLo.{HiLo}
 use Rattle.mips_isa.specs.declared.inst.HiLo.TheVariants.{Hi, Lo}
 use Rattle.mips_isa.specs.declared.inst.PairTest.{PairTest}
 use Rattle.mips_isa.specs.declared.inst.PairTest.TheVariants.{Equal, NotEqual}
+use Rattle.mips_isa.specs.declared.inst.ZeroTest.{ZeroTest}
+use Rattle.mips_isa.specs.declared.inst.ZeroTest.TheVariants.{AtMostZero, AtLeastZero}
 use Rattle.mips_isa.specs.declared.inst.JumpOp.{JumpOp}
 use Rattle.mips_isa.specs.declared.inst.JumpOp.TheVariants.{Jump, JumpAndLink}
 use Rattle.mips_code.specs.Words.{half, shift_code, shift_by_code, alu_code, imm_code, logic_code, move_code, multiply_code, divide_code}
-use Rattle.mips_code.specs.Words.{load_code, store_code, pair_code, jump_code}
+use Rattle.mips_code.specs.Words.{load_code, store_code, pair_code, zero_code, zero_field, jump_code}
 
 pub shift-fits : (o : ShiftOp) → shift_code o < 64
 shift-fits Sll = omega arith
@@ -67,6 +69,14 @@ store-fits Byte = omega arith
 pub pair-fits : (o : PairTest) → pair_code o < 64
 pair-fits Equal = omega arith
 pair-fits NotEqual = omega arith
+
+pub zero-fits : (o : ZeroTest) → zero_code o < 64
+zero-fits AtMostZero = omega arith
+zero-fits _ = omega arith
+
+pub zero_field-fits : (o : ZeroTest) → zero_field o < 32
+zero_field-fits AtLeastZero = omega arith
+zero_field-fits _ = omega arith
 
 pub jump-fits : (o : JumpOp) → jump_code o < 64
 jump-fits Jump = omega arith

@@ -21,15 +21,25 @@ use Rattle.mips_isa.specs.declared.inst.Control.TheVariants.{BranchPair, BranchZ
 use Rattle.mips_isa.specs.declared.inst.Inst.{Inst}
 use Rattle.mips_isa.specs.declared.inst.Inst.TheVariants as insts
 use Rattle.mips_isa.specs.Ranges.{IsPlain, IsControl, IsInst}
-use Rattle.mips_code.proofs.Codes.{shift-fits, shift_by-fits, alu-fits, imm-fits, logic-fits, move-fits, multiply-fits, divide-fits, load-fits, store-fits, pair-fits, jump-fits, half-fits}
+use Rattle.mips_code.proofs.Codes.{shift-fits, shift_by-fits, alu-fits, imm-fits, logic-fits, move-fits, multiply-fits, divide-fits, load-fits, store-fits, pair-fits, zero-fits, zero_field-fits, jump-fits, half-fits}
 use Rattle.mips_code.specs.Words.{register_word, immediate_word, jump_word, inst_word, word_of_plain, word_of_control, half, shift_code}
 use Rattle.mips_code.specs.Words.{shift_by_code, alu_code, move_code, multiply_code, divide_code, imm_code, logic_code, pair_code}
-use Rattle.mips_code.specs.Words.{load_code, store_code, jump_code}
-use Rattle.mips_code.specs.Candidates.{or_else, inst_of_fields, candidate_of}
+use Rattle.mips_code.specs.Words.{load_code, store_code, zero_code, zero_field, jump_code}
+use Rattle.mips_code.specs.Candidates.{Fields, fields_of, or_else, inst_of_fields, candidate_of}
+
+-- fields of which each form names these
+abbrev register_fields : Fields → (rs rt rd amount funct : ℕ) → Fields
+register_fields f rs rt rd amount funct = record f { op = 0; rs = rs; rt = rt; rd = rd; amount = amount; funct = funct }
+
+abbrev immediate_fields : Fields → (op rs rt imm : ℕ) → Fields
+immediate_fields f op rs rt imm = record f { op = op; rs = rs; rt = rt; imm = imm }
+
+abbrev jump_fields : Fields → (op target : ℕ) → Fields
+jump_fields f op target = record f { op = op; target = target }
 
 -- a register form gives the instruction that its fields give
 register_gives : (rs rt rd amount funct : ℕ) → rs < 32 → rt < 32 → rd < 32 → amount < 32 → funct < 64
-    → (i : Inst) → ((imm target : ℕ) → inst_of_fields 0 rs rt rd amount funct imm target ≡ Some i)
+    → (i : Inst) → ((f : Fields) → inst_of_fields (register_fields f rs rt rd amount funct) ≡ Some i)
     → candidate_of (register_word rs rt rd amount funct) ≡ Some i
 register_gives rs rt rd amount funct a b c d e i gives =
     let w : ℕ = register_word rs rt rd amount funct in
@@ -39,11 +49,11 @@ register_gives rs rt rd amount funct a b c d e i gives =
     let e3 : w / 2 ^ 11 % 32 ≡ rd = omega arith in
     let e4 : w / 2 ^ 6 % 32 ≡ amount = omega arith in
     let e5 : w % 64 ≡ funct = omega arith in
-    rw (e0, e1, e2, e3, e4, e5) (gives (w % 2 ^ 16) (w % 2 ^ 26))
+    rw (e0, e1, e2, e3, e4, e5) (gives (fields_of w))
 
 -- and so does an immediate form
 immediate_gives : (op rs rt imm : ℕ) → op < 64 → rs < 32 → rt < 32 → imm < 2 ^ 16
-    → (i : Inst) → ((rd amount funct target : ℕ) → inst_of_fields op rs rt rd amount funct imm target ≡ Some i)
+    → (i : Inst) → ((f : Fields) → inst_of_fields (immediate_fields f op rs rt imm) ≡ Some i)
     → candidate_of (immediate_word op rs rt imm) ≡ Some i
 immediate_gives op rs rt imm a b c d i gives =
     let w : ℕ = immediate_word op rs rt imm in
@@ -51,17 +61,16 @@ immediate_gives op rs rt imm a b c d i gives =
     let e1 : w / 2 ^ 21 % 32 ≡ rs = omega arith in
     let e2 : w / 2 ^ 16 % 32 ≡ rt = omega arith in
     let e3 : w % 2 ^ 16 ≡ imm = omega arith in
-    rw (e0, e1, e2, e3) (gives (w / 2 ^ 11 % 32) (w / 2 ^ 6 % 32) (w % 64) (w % 2 ^ 26))
+    rw (e0, e1, e2, e3) (gives (fields_of w))
 
 -- and a jump
-jump_gives : (op target : ℕ) → op < 64 → target < 2 ^ 26
-    → (i : Inst) → ((rs rt rd amount funct imm : ℕ) → inst_of_fields op rs rt rd amount funct imm target ≡ Some i)
-    → candidate_of (jump_word op target) ≡ Some i
+jump_gives : (op target : ℕ) → op < 64 → target < 2 ^ 26 → (i : Inst)
+    → ((f : Fields) → inst_of_fields (jump_fields f op target) ≡ Some i) → candidate_of (jump_word op target) ≡ Some i
 jump_gives op target a b i gives =
     let w : ℕ = jump_word op target in
     let e0 : w / 2 ^ 26 ≡ op = omega arith in
     let e1 : w % 2 ^ 26 ≡ target = omega arith in
-    rw (e0, e1) (gives (w / 2 ^ 21 % 32) (w / 2 ^ 16 % 32) (w / 2 ^ 11 % 32) (w / 2 ^ 6 % 32) (w % 64) (w % 2 ^ 16))
+    rw (e0, e1) (gives (fields_of w))
 
 half_back : (imm : ℤ) → FitsSigned w16 imm → cast_signed w16 (half imm) ≡ imm
 half_back imm h = grind (arith, to_z-of_z)
@@ -78,57 +87,51 @@ pub candidate-word_of_plain : (i : Plain) → IsPlain i → candidate_of (word_o
 candidate-word_of_plain (Shift op rd rt amount) h =
     register_gives 0 rt rd amount (shift_code op) (omega arith) h.1 h.0 h.2
     (shift-fits op) _
-    (λ imm target. elim op as
-    (λ o. inst_of_fields 0 0 rt rd amount (shift_code o) imm target ≡ Some (insts.Plain (Shift o rd rt amount))) [ Sll ↦ refl | Srl ↦ refl | Sra ↦ refl ])
+    (λ f. elim op as
+    (λ o. inst_of_fields (register_fields f 0 rt rd amount (shift_code o)) ≡ Some (insts.Plain (Shift o rd rt amount))) [ Sll ↦ refl | Srl ↦ refl | Sra ↦ refl ])
 candidate-word_of_plain (ShiftBy op rd rt rs) h =
     register_gives rs rt rd 0 (shift_by_code op) h.2 h.1 h.0 (omega arith)
     (shift_by-fits op) _
-    (λ imm target. elim op as
-    (λ o. inst_of_fields 0 rs rt rd 0 (shift_by_code o) imm target ≡ Some (insts.Plain (ShiftBy o rd rt rs))) [ Sll ↦ refl | Srl ↦ refl | Sra ↦ refl ])
+    (λ f. elim op as
+    (λ o. inst_of_fields (register_fields f rs rt rd 0 (shift_by_code o)) ≡ Some (insts.Plain (ShiftBy o rd rt rs))) [ Sll ↦ refl | Srl ↦ refl | Sra ↦ refl ])
 candidate-word_of_plain (Alu op rd rs rt) h =
     register_gives rs rt rd 0 (alu_code op) h.1 h.2 h.0 (omega arith)
     (alu-fits op) _
-    (λ imm target. elim op as
-    (λ o. inst_of_fields 0 rs rt rd 0 (alu_code o) imm target ≡ Some (insts.Plain (Alu o rd rs rt)))
+    (λ f. elim op as
+    (λ o. inst_of_fields (register_fields f rs rt rd 0 (alu_code o)) ≡ Some (insts.Plain (Alu o rd rs rt)))
     [ Addu ↦ refl | Subu ↦ refl | And ↦ refl | Or ↦ refl | Xor ↦ refl | Nor ↦ refl | Slt ↦ refl | Sltu ↦ refl ])
 candidate-word_of_plain (Imm op rt rs imm) h =
-    immediate_gives (imm_code op) rs rt (half imm)
-    (imm-fits op) h.1 h.0 (half-fits imm h.2) _
-    (λ rd amount funct target. elim op as
-    (λ o. inst_of_fields (imm_code o) rs rt rd amount funct (half imm) target ≡ Some (insts.Plain (Imm o rt rs imm))) [
-      | Addiu ↦ ap (λ z. Some (insts.Plain (Imm Addiu rt rs z)))
-          (half_back imm h.2)
-      | Slti ↦ ap (λ z. Some (insts.Plain (Imm Slti rt rs z)))
-          (half_back imm h.2)
-      | Sltiu ↦ ap (λ z. Some (insts.Plain (Imm Sltiu rt rs z))) (half_back imm h.2)
-    ])
+    immediate_gives (imm_code op) rs rt (half imm) (imm-fits op) h.1 h.0 (half-fits imm h.2) _
+    (λ f. (elim op as
+    (λ o. inst_of_fields (immediate_fields f (imm_code o) rs rt (half imm)) ≡ Some (insts.Plain (Imm o rt rs (cast_signed w16 (half imm)))))
+    [ Addiu ↦ refl | Slti ↦ refl | Sltiu ↦ refl ])
+    ∙ ap (λ z. Some (insts.Plain (Imm op rt rs z))) (half_back imm h.2))
 candidate-word_of_plain (Logic op rt rs imm) h =
     immediate_gives (logic_code op) rs rt imm
     (logic-fits op) h.1 h.0 h.2 _
-    (λ rd amount funct target. elim op as
-    (λ o. inst_of_fields (logic_code o) rs rt rd amount funct imm target ≡ Some (insts.Plain (Logic o rt rs imm)))
+    (λ f. elim op as
+    (λ o. inst_of_fields (immediate_fields f (logic_code o) rs rt imm) ≡ Some (insts.Plain (Logic o rt rs imm)))
     [ Andi ↦ refl | Ori ↦ refl | Xori ↦ refl ])
-candidate-word_of_plain (LoadUpper rt imm) h = immediate_gives 15 0 rt imm (omega arith) (omega arith) h.0 h.1 _ (λ rd amount funct target. refl)
+candidate-word_of_plain (LoadUpper rt imm) h = immediate_gives 15 0 rt imm (omega arith) (omega arith) h.0 h.1 _ (λ f. refl)
 candidate-word_of_plain (MoveFrom place rd) h =
     register_gives 0 0 rd 0 (move_code place) (omega arith) (omega arith) h (omega arith)
     (move-fits place) _
-    (λ imm target. elim place as (λ o. inst_of_fields 0 0 0 rd 0 (move_code o) imm target ≡ Some (insts.Plain (MoveFrom o rd))) [ Hi ↦ refl | Lo ↦ refl ])
+    (λ f. elim place as (λ o. inst_of_fields (register_fields f 0 0 rd 0 (move_code o)) ≡ Some (insts.Plain (MoveFrom o rd))) [ Hi ↦ refl | Lo ↦ refl ])
 candidate-word_of_plain (Multiply sign rs rt) h =
     register_gives rs rt 0 0 (multiply_code sign) h.0 h.1 (omega arith) (omega arith)
     (multiply-fits sign) _
-    (λ imm target. elim sign as
-    (λ o. inst_of_fields 0 rs rt 0 0 (multiply_code o) imm target ≡ Some (insts.Plain (Multiply o rs rt))) [ Signed ↦ refl | Unsigned ↦ refl ])
+    (λ f. elim sign as
+    (λ o. inst_of_fields (register_fields f rs rt 0 0 (multiply_code o)) ≡ Some (insts.Plain (Multiply o rs rt))) [ Signed ↦ refl | Unsigned ↦ refl ])
 candidate-word_of_plain (Divide sign rs rt) h =
     register_gives rs rt 0 0 (divide_code sign) h.0 h.1 (omega arith) (omega arith)
     (divide-fits sign) _
-    (λ imm target. elim sign as
-    (λ o. inst_of_fields 0 rs rt 0 0 (divide_code o) imm target ≡ Some (insts.Plain (Divide o rs rt))) [ Signed ↦ refl | Unsigned ↦ refl ])
+    (λ f. elim sign as
+    (λ o. inst_of_fields (register_fields f rs rt 0 0 (divide_code o)) ≡ Some (insts.Plain (Divide o rs rt))) [ Signed ↦ refl | Unsigned ↦ refl ])
 candidate-word_of_plain (Load w rt base offset) h =
     immediate_gives (load_code w) base rt (half offset) (load-fits w) h.2 h.1
     (half-fits offset h.3) _
-    (λ rd amount funct target.
-    elim w as
-    (λ o. inst_of_fields (load_code o) base rt rd amount funct (half offset) target ≡ Some (insts.Plain (Load o rt base offset)))
+    (λ f. elim w as
+    (λ o. inst_of_fields (immediate_fields f (load_code o) base rt (half offset)) ≡ Some (insts.Plain (Load o rt base offset)))
     [ Word ↦ loaded Word | Byte ↦ loaded Byte ])
   where
     found : Option Plain → Option Inst
@@ -139,44 +142,34 @@ candidate-word_of_plain (Load w rt base offset) h =
         ap (λ b. found (cond b None (Some (Load o rt base (cast_signed w16 (half offset)))))) (not_zero rt h.0)
         ∙ ap (λ z. Some (insts.Plain (Load o rt base z))) (half_back offset h.3)
 candidate-word_of_plain (Store w rt base offset) h =
-    immediate_gives (store_code w) base rt (half offset) (store-fits w) h.1 h.0
-    (half-fits offset h.2) _
-    (λ rd amount funct target.
-    elim w as
-    (λ o. inst_of_fields (store_code o) base rt rd amount funct (half offset) target ≡ Some (insts.Plain (Store o rt base offset))) [
-      | Word ↦ ap (λ z. Some (insts.Plain (Store Word rt base z)))
-          (half_back offset h.2)
-      | Byte ↦ ap (λ z. Some (insts.Plain (Store Byte rt base z))) (half_back offset h.2)
-    ])
+    immediate_gives (store_code w) base rt (half offset) (store-fits w) h.1 h.0 (half-fits offset h.2) _
+    (λ f. (elim w as
+    (λ o. inst_of_fields (immediate_fields f (store_code o) base rt (half offset))
+    ≡ Some (insts.Plain (Store o rt base (cast_signed w16 (half offset)))))
+    [ Word ↦ refl | Byte ↦ refl ])
+    ∙ ap (λ z. Some (insts.Plain (Store w rt base z))) (half_back offset h.2))
 
 pub candidate-word_of_control : (i : Control) → IsControl i → candidate_of (word_of_control i) ≡ Some (insts.Control i)
 candidate-word_of_control (BranchPair test rs rt offset) h =
-    immediate_gives (pair_code test) rs rt (half offset)
-    (pair-fits test) h.0 h.1 (half-fits offset h.2) _
-    (λ rd amount funct target. elim test as
-    (λ o. inst_of_fields (pair_code o) rs rt rd amount funct (half offset) target ≡ Some (insts.Control (BranchPair o rs rt offset))) [
-      | Equal ↦ ap (λ z. Some (insts.Control (BranchPair Equal rs rt z)))
-          (half_back offset h.2)
-      | NotEqual ↦ ap (λ z. Some (insts.Control (BranchPair NotEqual rs rt z))) (half_back offset h.2)
-    ])
-candidate-word_of_control (BranchZero AtMostZero rs offset) h =
-    immediate_gives 6 rs 0 (half offset) (omega arith) h.0 (omega arith) (half-fits offset h.1) _
-    (λ rd amount funct target. ap (λ z. Some (insts.Control (BranchZero AtMostZero rs z))) (half_back offset h.1))
-candidate-word_of_control (BranchZero AboveZero rs offset) h =
-    immediate_gives 7 rs 0 (half offset) (omega arith) h.0 (omega arith) (half-fits offset h.1) _
-    (λ rd amount funct target. ap (λ z. Some (insts.Control (BranchZero AboveZero rs z))) (half_back offset h.1))
-candidate-word_of_control (BranchZero BelowZero rs offset) h =
-    immediate_gives 1 rs 0 (half offset) (omega arith) h.0 (omega arith) (half-fits offset h.1) _
-    (λ rd amount funct target. ap (λ z. Some (insts.Control (BranchZero BelowZero rs z))) (half_back offset h.1))
-candidate-word_of_control (BranchZero AtLeastZero rs offset) h =
-    immediate_gives 1 rs 1 (half offset) (omega arith) h.0 (omega arith) (half-fits offset h.1) _
-    (λ rd amount funct target. ap (λ z. Some (insts.Control (BranchZero AtLeastZero rs z))) (half_back offset h.1))
+    immediate_gives (pair_code test) rs rt (half offset) (pair-fits test) h.0 h.1 (half-fits offset h.2) _
+    (λ f. (elim test as
+    (λ o. inst_of_fields (immediate_fields f (pair_code o) rs rt (half offset))
+    ≡ Some (insts.Control (BranchPair o rs rt (cast_signed w16 (half offset)))))
+    [ Equal ↦ refl | NotEqual ↦ refl ])
+    ∙ ap (λ z. Some (insts.Control (BranchPair test rs rt z))) (half_back offset h.2))
+candidate-word_of_control (BranchZero test rs offset) h =
+    immediate_gives (zero_code test) rs (zero_field test) (half offset) (zero-fits test) h.0 (zero_field-fits test) (half-fits offset h.1) _
+    (λ f. (elim test as
+    (λ o. inst_of_fields (immediate_fields f (zero_code o) rs (zero_field o) (half offset))
+    ≡ Some (insts.Control (BranchZero o rs (cast_signed w16 (half offset)))))
+    [ AtMostZero ↦ refl | AboveZero ↦ refl | BelowZero ↦ refl | AtLeastZero ↦ refl ])
+    ∙ ap (λ z. Some (insts.Control (BranchZero test rs z))) (half_back offset h.1))
 candidate-word_of_control (JumpTo op target) h =
     jump_gives (jump_code op) target (jump-fits op) h _
-    (λ rs rt rd amount funct imm. elim op as
-    (λ o. inst_of_fields (jump_code o) rs rt rd amount funct imm target ≡ Some (insts.Control (JumpTo o target))) [ Jump ↦ refl | JumpAndLink ↦ refl ])
-candidate-word_of_control (JumpRegister rs) h = register_gives rs 0 0 0 8 h (omega arith) (omega arith) (omega arith) (omega arith) _ (λ imm target. refl)
-candidate-word_of_control SystemCall h = register_gives 0 0 0 0 12 (omega arith) (omega arith) (omega arith) (omega arith) (omega arith) _ (λ imm target. refl)
+    (λ f. elim op as
+    (λ o. inst_of_fields (jump_fields f (jump_code o) target) ≡ Some (insts.Control (JumpTo o target))) [ Jump ↦ refl | JumpAndLink ↦ refl ])
+candidate-word_of_control (JumpRegister rs) h = register_gives rs 0 0 0 8 h (omega arith) (omega arith) (omega arith) (omega arith) _ (λ f. refl)
+candidate-word_of_control SystemCall h = register_gives 0 0 0 0 12 (omega arith) (omega arith) (omega arith) (omega arith) (omega arith) _ (λ f. refl)
 
 pub candidate-inst_word : (i : Inst) → IsInst i → candidate_of (inst_word i) ≡ Some i
 candidate-inst_word (insts.Plain i) h = candidate-word_of_plain i h

@@ -1,20 +1,20 @@
 -- What a word is decoded to has that word, with each field in its range.
-use Rattle.std.proofs.Common.{◌≡◌, ℕ, ◌/◌, ◌%◌, ◌^◌, ◌<◌, ◌==◌, Bool, true, false, cond, Option, Some, None, refl, ap, ◌∙◌, subst, eqb-true, eq-eqb, arith}
+use Rattle.std.proofs.Common.{◌≡◌, ℕ, ◌^◌, ◌<◌, ◌==◌, Bool, true, false, cond, Option, Some, None, refl, ap, ◌∙◌, subst, eqb-true, eq-eqb, arith}
 use Rattle.std.specs.Prelude.{IfSome, option_map, FitsSigned}
 use Rattle.std.specs.Int.{w16, cast_signed}
 use Rattle.std.proofs.lemmas.Int.{ints}
 use Rattle.std.proofs.lemmas.Option.{same_Some, none-some}
 use Rattle.words.specs.declared.width.Width.{Width}
 use Rattle.words.specs.declared.width.Width.TheVariants.{Word, Byte}
-use Rattle.mips_isa.specs.declared.inst.Plain.TheVariants.{LoadUpper, Load, Store}
-use Rattle.mips_isa.specs.declared.inst.Control.TheVariants.{JumpTo, JumpRegister, SystemCall}
+use Rattle.mips_isa.specs.declared.inst.Plain.TheVariants.{LoadUpper, Load}
+use Rattle.mips_isa.specs.declared.inst.Control.TheVariants.{JumpRegister, SystemCall}
 use Rattle.mips_isa.specs.declared.inst.Inst.{Inst}
 use Rattle.mips_isa.specs.declared.inst.Inst.TheVariants as insts
 use Rattle.mips_isa.specs.Ranges.{IsPlain, IsControl, IsInst}
 use Rattle.mips_code.specs.Words.{inst_word}
 use Rattle.mips_code.specs.Candidates.{shift_at, shift_by_at, alu_at, move_at, multiply_at, divide_at, imm_at, logic_at, pair_at, jump_at}
-use Rattle.mips_code.specs.Candidates.{zero_at, or_else, computing_of, moving_of, special_of, arithmetic_of, loading_of, memory_of}
-use Rattle.mips_code.specs.Candidates.{branch_of, inst_of_fields, candidate_of}
+use Rattle.mips_code.specs.Candidates.{zero_at, or_else, Fields, fields_of, computing_of, moving_of, special_of, arithmetic_of, loading_of}
+use Rattle.mips_code.specs.Candidates.{storing_of, memory_of, branch_of, inst_of_fields, candidate_of}
 use Rattle.mips_code.proofs.Decoding.{candidate-inst_word}
 use Rattle.mips_code.specs.Decoding.{with_word, instruction_of, DecodingIsExact}
 
@@ -40,61 +40,71 @@ half_fits n lt = omega (arith, ints)
 not_zero : (n : ℕ) → (n == 0) ≡ false → 0 < n
 not_zero n e = grind (arith, Rattle.std.proofs.lemmas.Grind.common_steps)
 
-module _ (rs rt rd amount funct imm target : ℕ) (hs : rs < 32) (ht : rt < 32) (hd : rd < 32) (ha : amount < 32) (hi : imm < 2 ^ 16) (hg : target < 2 ^ 26) where
-  computing_fits : IfSome (computing_of rs rt rd amount funct) IsPlain
+-- each field of a form but the codes is in its range
+record Fit (f : Fields) : Type 0 where
+  rs : f.rs < 32
+  rt : f.rt < 32
+  rd : f.rd < 32
+  amount : f.amount < 32
+  imm : f.imm < 2 ^ 16
+  target : f.target < 2 ^ 26
+
+module _ (f : Fields) (fit : Fit f) where
+  computing_fits : IfSome (computing_of f) IsPlain
   computing_fits =
-      if_or IsPlain _ _ (if_map IsPlain _ (shift_at funct) (λ o. (hd, ht, ha)))
-      (if_or IsPlain _ _ (if_map IsPlain _ (shift_by_at funct) (λ o. (hd, ht, hs)))
-      (if_map IsPlain _ (alu_at funct) (λ o. (hd, hs, ht))))
+      if_or IsPlain _ _ (if_map IsPlain _ (shift_at f.funct) (λ o. (fit.rd, fit.rt, fit.amount)))
+      (if_or IsPlain _ _ (if_map IsPlain _ (shift_by_at f.funct) (λ o. (fit.rd, fit.rt, fit.rs)))
+      (if_map IsPlain _ (alu_at f.funct) (λ o. (fit.rd, fit.rs, fit.rt))))
 
-  moving_fits : IfSome (moving_of rs rt rd funct) IsPlain
+  moving_fits : IfSome (moving_of f) IsPlain
   moving_fits =
-      if_or IsPlain _ _ (if_map IsPlain _ (move_at funct) (λ o. hd))
-      (if_or IsPlain _ _ (if_map IsPlain _ (multiply_at funct) (λ o. (hs, ht)))
-      (if_map IsPlain _ (divide_at funct) (λ o. (hs, ht))))
+      if_or IsPlain _ _ (if_map IsPlain _ (move_at f.funct) (λ o. fit.rd))
+      (if_or IsPlain _ _ (if_map IsPlain _ (multiply_at f.funct) (λ o. (fit.rs, fit.rt)))
+      (if_map IsPlain _ (divide_at f.funct) (λ o. (fit.rs, fit.rt))))
 
-  special_fits : IfSome (special_of rs rt rd amount funct) IsInst
+  special_fits : IfSome (special_of f) IsInst
   special_fits =
-      if_or IsInst _ _ (if_mapped IsPlain IsInst insts.Plain (computing_of rs rt rd amount funct) computing_fits (λ x h. h))
-      (if_or IsInst _ _ (if_mapped IsPlain IsInst insts.Plain (moving_of rs rt rd funct) moving_fits (λ x h. h))
-      (if_cond IsInst (funct == 8) (Some (insts.Control (JumpRegister rs))) (cond (funct == 12) (Some (insts.Control SystemCall)) None) hs
-      (λ e. if_cond IsInst (funct == 12) (Some (insts.Control SystemCall)) None tt (λ e'. tt))))
+      if_or IsInst _ _ (if_mapped IsPlain IsInst insts.Plain (computing_of f) computing_fits (λ x h. h))
+      (if_or IsInst _ _ (if_mapped IsPlain IsInst insts.Plain (moving_of f) moving_fits (λ x h. h))
+      (if_cond IsInst (f.funct == 8) (Some (insts.Control (JumpRegister f.rs))) (cond (f.funct == 12) (Some (insts.Control SystemCall)) None) fit.rs
+      (λ e. if_cond IsInst (f.funct == 12) (Some (insts.Control SystemCall)) None tt (λ e'. tt))))
 
-  arithmetic_fits : (op : ℕ) → IfSome (arithmetic_of op rs rt imm) IsPlain
-  arithmetic_fits op =
-      if_or IsPlain _ _ (if_map IsPlain _ (imm_at op) (λ o. (ht, hs, half_fits imm hi)))
-      (if_or IsPlain _ _ (if_map IsPlain _ (logic_at op) (λ o. (ht, hs, hi)))
-      (if_cond IsPlain (op == 15) (Some (LoadUpper rt imm)) None (ht, hi) (λ e. tt)))
+  arithmetic_fits : IfSome (arithmetic_of f) IsPlain
+  arithmetic_fits =
+      if_or IsPlain _ _ (if_map IsPlain _ (imm_at f.op) (λ o. (fit.rt, fit.rs, half_fits f.imm fit.imm)))
+      (if_or IsPlain _ _ (if_map IsPlain _ (logic_at f.op) (λ o. (fit.rt, fit.rs, fit.imm)))
+      (if_cond IsPlain (f.op == 15) (Some (LoadUpper f.rt f.imm)) None (fit.rt, fit.imm) (λ e. tt)))
 
-  loading_fits : (w : Width) → IfSome (loading_of w rs rt imm) IsPlain
-  loading_fits w = if_cond IsPlain (rt == 0) None (Some (Load w rt rs (cast_signed w16 imm))) tt (λ e. (not_zero rt e, ht, hs, half_fits imm hi))
+  loading_fits : (w : Width) → IfSome (loading_of w f) IsPlain
+  loading_fits w =
+      if_cond IsPlain (f.rt == 0) None (Some (Load w f.rt f.rs (cast_signed w16 f.imm))) tt
+      (λ e. (not_zero f.rt e, fit.rt, fit.rs, half_fits f.imm fit.imm))
 
-  memory_fits : (op : ℕ) → IfSome (memory_of op rs rt imm) IsPlain
-  memory_fits op =
-      if_cond IsPlain (op == 35) _ _ (loading_fits Word) (λ e.
-      if_cond IsPlain (op == 36) _ _ (loading_fits Byte) (λ f.
-      if_cond IsPlain (op == 40) (Some (Store Byte rt rs (cast_signed w16 imm))) _ (ht, hs, half_fits imm hi) (λ g.
-      if_cond IsPlain (op == 43) (Some (Store Word rt rs (cast_signed w16 imm))) None (ht, hs, half_fits imm hi) (λ h. tt))))
+  memory_fits : IfSome (memory_of f) IsPlain
+  memory_fits =
+      let stored : (w : Width) → IsPlain (storing_of w f) = λ w. (fit.rt, fit.rs, half_fits f.imm fit.imm) in
+      if_cond IsPlain (f.op == 35) _ _ (loading_fits Word) (λ e.
+      if_cond IsPlain (f.op == 36) _ _ (loading_fits Byte) (λ e.
+      if_cond IsPlain (f.op == 40) (Some (storing_of Byte f)) _ (stored Byte) (λ e.
+      if_cond IsPlain (f.op == 43) (Some (storing_of Word f)) None (stored Word) (λ e. tt))))
 
-  branch_fits : (op : ℕ) → IfSome (branch_of op rs rt imm) IsControl
-  branch_fits op =
-      if_or IsControl _ _ (if_map IsControl _ (pair_at op) (λ o. (hs, ht, half_fits imm hi)))
-      (if_map IsControl _ (zero_at op rt) (λ o. (hs, half_fits imm hi)))
+  branch_fits : IfSome (branch_of f) IsControl
+  branch_fits =
+      if_or IsControl _ _ (if_map IsControl _ (pair_at f.op) (λ o. (fit.rs, fit.rt, half_fits f.imm fit.imm)))
+      (if_map IsControl _ (zero_at f.op f.rt) (λ o. (fit.rs, half_fits f.imm fit.imm)))
 
-  fields_fit : (op : ℕ) → IfSome (inst_of_fields op rs rt rd amount funct imm target) IsInst
-  fields_fit op =
-      if_cond IsInst (op == 0) (special_of rs rt rd amount funct)
-      (or_else (option_map insts.Plain (arithmetic_of op rs rt imm)) (or_else (option_map insts.Plain (memory_of op rs rt imm))
-      (or_else (option_map insts.Control (branch_of op rs rt imm)) (option_map (λ o. insts.Control (JumpTo o target)) (jump_at op))))) special_fits (λ e.
-      if_or IsInst _ _ (if_mapped IsPlain IsInst insts.Plain (arithmetic_of op rs rt imm) (arithmetic_fits op) (λ x h. h))
-      (if_or IsInst _ _ (if_mapped IsPlain IsInst insts.Plain (memory_of op rs rt imm) (memory_fits op) (λ x h. h))
-      (if_or IsInst _ _ (if_mapped IsControl IsInst insts.Control (branch_of op rs rt imm) (branch_fits op) (λ x h. h))
-      (if_map IsInst _ (jump_at op) (λ o. hg)))))
+  fields_fit : IfSome (inst_of_fields f) IsInst
+  fields_fit =
+      if_cond IsInst (f.op == 0) (special_of f) _ special_fits (λ e.
+      if_or IsInst _ _ (if_mapped IsPlain IsInst insts.Plain (arithmetic_of f) arithmetic_fits (λ x h. h))
+      (if_or IsInst _ _ (if_mapped IsPlain IsInst insts.Plain (memory_of f) memory_fits (λ x h. h))
+      (if_or IsInst _ _ (if_mapped IsControl IsInst insts.Control (branch_of f) branch_fits (λ x h. h))
+      (if_map IsInst _ (jump_at f.op) (λ o. fit.target)))))
 
 candidate_fits : (w : ℕ) → IfSome (candidate_of w) IsInst
 candidate_fits w =
-    fields_fit (w / 2 ^ 21 % 32) (w / 2 ^ 16 % 32) (w / 2 ^ 11 % 32) (w / 2 ^ 6 % 32) (w % 64) (w % 2 ^ 16) (w % 2 ^ 26)
-    (omega arith) (omega arith) (omega arith) (omega arith) (omega arith) (omega arith) (w / 2 ^ 26)
+    fields_fit (fields_of w)
+    (record { rs = omega arith; rt = omega arith; rd = omega arith; amount = omega arith; imm = omega arith; target = omega arith })
 
 kept : (w : ℕ) (o : Option Inst) (i : Inst) → IfSome o IsInst → with_word w o ≡ Some i → IsInst i × (inst_word i ≡ w)
 kept w None i h e = absurd (none-some i e)

@@ -1,14 +1,12 @@
 //! From a word to the instruction that has it.
 
-ghost use Rattle.std.specs.Prelude.{◌≡◌, ◌*◌, ◌/◌, ◌%◌, ◌^◌, ◌<◌, ◌↔◌, IsTrue, IfSome, Option, Some};
-ghost use Rattle.std.specs.Int.{w16, cast_signed};
-ghost use Rattle.mips_isa.specs.declared.inst.Plain.TheVariants.{Store};
+ghost use Rattle.std.specs.Prelude.{◌≡◌, ◌/◌, ◌%◌, ◌^◌, ◌<◌, ◌↔◌, IsTrue, IfSome, Some};
 ghost use Rattle.mips_isa.specs.declared.inst.Inst.{Inst as AnInst};
 ghost use Rattle.mips_isa.specs.Ranges.{IsInst};
 ghost use Rattle.mips_code.specs.Words.{inst_word};
 ghost use Rattle.mips_code.specs.Candidates.{shift_at, shift_by_at, alu_at, move_at, multiply_at, divide_at, imm_at, logic_at, pair_at};
-ghost use Rattle.mips_code.specs.Candidates.{jump_at, zero_at, computing_of, moving_of, special_of, arithmetic_of, loading_of, memory_of};
-ghost use Rattle.mips_code.specs.Candidates.{branch_of, candidate_of};
+ghost use Rattle.mips_code.specs.Candidates.{jump_at, zero_at, fields_of, computing_of, moving_of, special_of, arithmetic_of, loading_of};
+ghost use Rattle.mips_code.specs.Candidates.{storing_of, memory_of, branch_of, candidate_of};
 ghost use Rattle.mips_code.specs.Decoding.{instruction_of, DecodingIsExact};
 
 use crate::encoder::encode;
@@ -172,7 +170,7 @@ fn imm_of(word: u32) -> u16
 }
 
 fn computing(word: u32) -> Option<Plain>
-    ensures { result ≡ computing_of (word / 2 ^ 21 % 32) (word / 2 ^ 16 % 32) (word / 2 ^ 11 % 32) (word / 2 ^ 6 % 32) (word % 64) }
+    ensures { result ≡ computing_of (fields_of word) }
 {
     let rs = reg_at(word, 21);
     let rt = reg_at(word, 16);
@@ -190,7 +188,7 @@ fn computing(word: u32) -> Option<Plain>
 }
 
 fn moving(word: u32) -> Option<Plain>
-    ensures { result ≡ moving_of (word / 2 ^ 21 % 32) (word / 2 ^ 16 % 32) (word / 2 ^ 11 % 32) (word % 64) }
+    ensures { result ≡ moving_of (fields_of word) }
 {
     let rs = reg_at(word, 21);
     let rt = reg_at(word, 16);
@@ -207,7 +205,7 @@ fn moving(word: u32) -> Option<Plain>
 }
 
 fn special(word: u32) -> Option<Inst>
-    ensures { result ≡ special_of (word / 2 ^ 21 % 32) (word / 2 ^ 16 % 32) (word / 2 ^ 11 % 32) (word / 2 ^ 6 % 32) (word % 64) }
+    ensures { result ≡ special_of (fields_of word) }
 {
     if let Some(plain) = computing(word) {
         return Some(Inst::Plain(plain));
@@ -227,7 +225,7 @@ fn special(word: u32) -> Option<Inst>
 }
 
 fn arithmetic(word: u32) -> Option<Plain>
-    ensures { result ≡ arithmetic_of (word / 2 ^ 26) (word / 2 ^ 21 % 32) (word / 2 ^ 16 % 32) (word % 2 ^ 16) }
+    ensures { result ≡ arithmetic_of (fields_of word) }
 {
     let code = op_at(word);
     let rs = reg_at(word, 21);
@@ -247,7 +245,7 @@ fn arithmetic(word: u32) -> Option<Plain>
 }
 
 fn loading(width: Width, word: u32) -> Option<Plain>
-    ensures { result ≡ loading_of width (word / 2 ^ 21 % 32) (word / 2 ^ 16 % 32) (word % 2 ^ 16) }
+    ensures { result ≡ loading_of width (fields_of word) }
 {
     let base = reg_at(word, 21);
     let rt = NonzeroReg::new(field(word, 16))?;
@@ -261,7 +259,7 @@ fn loading(width: Width, word: u32) -> Option<Plain>
 }
 
 fn storing(width: Width, word: u32) -> Plain
-    ensures { result ≡ Store width (word / 2 ^ 16 % 32) (word / 2 ^ 21 % 32) (cast_signed w16 (word % 2 ^ 16)) }
+    ensures { result ≡ storing_of width (fields_of word) }
 {
     Plain::Store {
         width,
@@ -272,7 +270,7 @@ fn storing(width: Width, word: u32) -> Plain
 }
 
 fn memory(word: u32) -> Option<Plain>
-    ensures { result ≡ memory_of (word / 2 ^ 26) (word / 2 ^ 21 % 32) (word / 2 ^ 16 % 32) (word % 2 ^ 16) }
+    ensures { result ≡ memory_of (fields_of word) }
 {
     match op_at(word) {
         35 => loading(Width::Word, word),
@@ -284,7 +282,7 @@ fn memory(word: u32) -> Option<Plain>
 }
 
 fn branch(word: u32) -> Option<Control>
-    ensures { result ≡ branch_of (word / 2 ^ 26) (word / 2 ^ 21 % 32) (word / 2 ^ 16 % 32) (word % 2 ^ 16) }
+    ensures { result ≡ branch_of (fields_of word) }
 {
     let code = op_at(word);
     let rs = reg_at(word, 21);
