@@ -35,32 +35,33 @@ abbrev pub outcome_at_return : List BlockParts → Option ℕ → Next → State
 outcome_at_return blocks None next s out = wrong out
 outcome_at_return blocks (Some t) next s out = outcome_at_block t (slice_get blocks t) next s out
 
-abbrev pub outcome_of_departure : List BlockParts → (ℕ → ℕ) → Departure → Next → State → List ℕ → Outcome
-outcome_of_departure blocks links (GoesTo t) next s out = outcome_at_block t (slice_get blocks t) next s out
-outcome_of_departure blocks links (CallsTo f n) next s out = outcome_at_block f (slice_get blocks f) next s out
-outcome_of_departure blocks links (GoesBack word) next s out = outcome_at_return blocks (return_block_of links word 0 blocks) next s out
-outcome_of_departure blocks links (PrintsTo word n) next s out = outcome_at_block n (slice_get blocks n) next s (out ++ word ∷ [])
-outcome_of_departure blocks links (HaltsWith word) next s out = record { end = Done word; output = out }
+-- a unit of these blocks, where a call of block k puts in the link `links k`
+module _ (blocks : List BlockParts) (links : ℕ → ℕ) where
+  abbrev pub outcome_of_departure : Departure → Next → State → List ℕ → Outcome
+  outcome_of_departure (GoesTo t) next s out = outcome_at_block t (slice_get blocks t) next s out
+  outcome_of_departure (CallsTo f n) next s out = outcome_at_block f (slice_get blocks f) next s out
+  outcome_of_departure (GoesBack word) next s out = outcome_at_return blocks (return_block_of links word 0 blocks) next s out
+  outcome_of_departure (PrintsTo word n) next s out = outcome_at_block n (slice_get blocks n) next s (out ++ word ∷ [])
+  outcome_of_departure (HaltsWith word) next s out = record { end = Done word; output = out }
 
-abbrev pub exit_item : List BlockParts → (ℕ → ℕ) → ℕ → Option BlockParts → Next → State → List ℕ → Outcome
-exit_item blocks links k None next s out = wrong out
-exit_item blocks links k (Some b) next s out =
-    outcome_of_departure blocks links (exit_effect b.exit s (links k)).goes next (exit_effect b.exit s (links k)).state out
+  abbrev pub exit_item : ℕ → Option BlockParts → Next → State → List ℕ → Outcome
+  exit_item k None next s out = wrong out
+  exit_item k (Some b) next s out =
+      outcome_of_departure (exit_effect b.exit s (links k)).goes next (exit_effect b.exit s (links k)).state out
 
--- one item
-abbrev pub item : List BlockParts → (ℕ → ℕ) → Next → Next
-item blocks links next k [] s out = exit_item blocks links k (slice_get blocks k) next s out
-item blocks links next k (i ∷ rest) s out =
-    if is_safe (action_of i) s then next k rest (state_after (action_of i) s) out else wrong out
+  -- one item
+  abbrev pub item : Next → Next
+  item next k [] s out = exit_item k (slice_get blocks k) next s out
+  item next k (i ∷ rest) s out = if is_safe (action_of i) s then next k rest (state_after (action_of i) s) out else wrong out
 
--- at most n items
-abbrev pub items : List BlockParts → (ℕ → ℕ) → ℕ → Next
-items blocks links zero k rest s out = record { end = More; output = out }
-items blocks links (suc n) k rest s out = item blocks links (items blocks links n) k rest s out
+  -- at most n items
+  abbrev pub items : ℕ → Next
+  items zero k rest s out = record { end = More; output = out }
+  items (suc n) k rest s out = item (items n) k rest s out
 
--- a run of n items from the start of block 0
-abbrev pub unit_run : List BlockParts → (ℕ → ℕ) → State → ℕ → Outcome
-unit_run blocks links s n = outcome_at_block 0 (slice_get blocks 0) (items blocks links n) s []
+  -- a run of n items from the start of block 0
+  abbrev pub unit_run : State → ℕ → Outcome
+  unit_run s n = outcome_at_block 0 (slice_get blocks 0) (items n) s []
 
 abbrev pub is_call : Exit → Bool
 is_call (Call f n) = true
