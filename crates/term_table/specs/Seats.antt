@@ -1,14 +1,12 @@
 -- What a step is made on: the seat of a pass, and a word of the table's nodes.
 use Rattle.std.specs.Prelude.{◌≡◌, true, []}
 use Rattle.atomic_table.specs.declared.shared.Seat.{Seat}
-use Rattle.term_core.specs.declared.Call.{Call}
 use Rattle.term_core.specs.declared.Stage.TheVariants.{Idle}
-use Rattle.term_core.specs.declared.Walker.{Walker}
 use Rattle.term_core.specs.World.{Shape, may_begin}
 use Rattle.term_table.specs.declared.nodes.Nodes.{Nodes}
 use Rattle.term_table.specs.declared.view.View.{View}
 use Rattle.term_table.specs.declared.view.View.TheVariants.{Walking}
-use Rattle.term_table.specs.Calls.{walker_of, told_of}
+use Rattle.term_table.specs.Calls.{Begun, walker_of, told_of}
 use Rattle.term_table.specs.Rule.{shape_of}
 
 -- the seat is of this table
@@ -27,6 +25,6 @@ IsSameSeat before after = (after.table_id ≡ before.table_id) × (after.me.1 �
 abbrev pub IsPass : {S : Type 0} → Seat S View → Type 0
 IsPass seat = seat.me ≡ (Walking (walker_of seat.me.0) (told_of seat.me.0), [])
 
--- a pass may begin the call: it is between two calls, and has seen the tickets that the call names
-abbrev pub MayBegin : Walker → Call → Type 0
-MayBegin v c = (v.stage ≡ Idle) × (may_begin v.seen c ≡ true)
+-- the pass may begin the call: it is between two calls, and has seen the tickets that the call names
+abbrev pub MayBegin : Begun → Type 0
+MayBegin b = (b.start.stage ≡ Idle) × (may_begin b.start.seen b.call ≡ true)

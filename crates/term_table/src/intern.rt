@@ -1,16 +1,14 @@
 //! A walk along a chain, which links a node of one's own where the term is not there.
 //!
 //! Here and in `seek.rt` a `Walk` says where a pass stands. `same_word` takes it for its contract alone.
-ghost use Rattle.std.specs.Prelude.{◌≡◌, ℕ, suc, ◌+◌, ◌-◌, ◌<◌, true, false, List, [], slice_index, IfSome, IfNone};
+ghost use Rattle.std.specs.Prelude.{◌≡◌, suc, ◌+◌, ◌-◌, ◌<◌, true, false, slice_index, IfSome, IfNone};
 ghost use Rattle.term_core.specs.declared.Stage.TheVariants.{AtLink, AtContent, Writing, Linking};
 ghost use Rattle.term_core.specs.declared.Answer.TheVariants.{Ticket};
 ghost use Rattle.term_core.specs.declared.TheConstants.{CONTENT_WORDS, LAST_WORD};
-ghost use Rattle.term_core.specs.World.{content, link_of, hit};
+ghost use Rattle.term_core.specs.World.{content, first_stage, link_of, hit};
 ghost use Rattle.term_table.specs.Rule.{node_count, word_count};
 ghost use Rattle.term_table.specs.Seats.{Serves, IsSameSeat, MayBegin};
-ghost use Rattle.term_table.specs.Calls.{at, inside, Ended, Arrived};
-ghost use Rattle.term_table.specs.Ends.{Done};
-ghost use Rattle.term_core.specs.declared.Call.TheVariants.{Intern};
+ghost use Rattle.term_table.specs.Calls.{before, at, inside, IsIntern, Ended, Done};
 ghost use Rattle.term_table.specs.declared.view.View.TheVariants.{Walking};
 
 use crate::nodes::Nodes;
@@ -28,12 +26,12 @@ impl Nodes {
         own: u64,
         walk: Walk,
     ) -> Walk
-        requires table { Serves self.now C.shape seat.old }
-        requires words { words.now ≡ content C.call }
-        requires own { (own ≡ C.start.own) × (own < node_count self.now.size) }
-        requires before { seat.old.me ≡ at C.start C.told (Writing C.call walk.link 0) walk.probes }
+        requires table { Serves self.now C.begun.shape seat.old }
+        requires words { words.now ≡ content C.begun.call }
+        requires own { (own ≡ C.begun.start.own) × (own < node_count self.now.size) }
+        requires before { seat.old.me ≡ at C.begun (Writing C.begun.call walk.link 0) walk.probes }
         ensures table { seat.new.table_id ≡ seat.old.table_id }
-        ensures after { seat.new.me ≡ at C.start C.told (Linking C.call walk.link) walk.probes }
+        ensures after { seat.new.me ≡ at C.begun (Linking C.begun.call walk.link) walk.probes }
         ensures walk { result ≡ record walk { written = true } }
     {
         self.store::<C>(seat, self.content_place(own, 0), words[0]);
@@ -55,58 +53,33 @@ impl Nodes {
         index: u64,
         walk: Walk,
     ) -> bool
-        requires table { Serves self.now C.shape seat.old }
-        requires word { (expected ≡ slice_index (content C.call) index) × (index < CONTENT_WORDS) }
+        requires table { Serves self.now C.begun.shape seat.old }
+        requires word { (expected ≡ slice_index (content C.begun.call) index) × (index < CONTENT_WORDS) }
         requires node { node < node_count self.now.size }
-        requires before { seat.old.me ≡ at C.start C.told (AtContent C.call walk.written node index) walk.probes }
+        requires before { seat.old.me ≡ at C.begun (AtContent C.begun.call walk.written node index) walk.probes }
         ensures table { IsSameSeat seat.old seat.new }
         ensures more { result ≡ true → index < LAST_WORD
-            → seat.new.me ≡ at C.start C.told (AtContent C.call walk.written node (suc index)) walk.probes }
+            → seat.new.me ≡ at C.begun (AtContent C.begun.call walk.written node (suc index)) walk.probes }
         ensures same { result ≡ true → index ≡ LAST_WORD
-            → Ended C.shape C.start C.told C.call (hit C.call node) C.start.own C.start.room walk.probes seat.new.me.0 }
+            → Ended C.begun (hit C.begun.call node) C.begun.start.own C.begun.start.room walk.probes seat.new.me.0 }
         ensures differs { result ≡ false
-            → seat.new.me ≡ at C.start C.told (AtLink C.call walk.written (link_of C.shape node)) walk.probes }
+            → seat.new.me ≡ at C.begun (AtLink C.begun.call walk.written (link_of C.begun.shape node)) walk.probes }
     {
         let _ = walk;
         let found = self.load::<C>(seat, self.content_place(node, index));
         found == expected
     }
 
-    /// Begins an intern: loads the head of its chain.
-    pub(crate) fn first_link<C: Act>(&self, seat: &mut Seat<(), View>, chain: u64) -> u64
-        requires table { Serves self.now C.shape seat.old }
-        requires link { chain < word_count self.now.size }
-        requires call { (l : ℕ) × (ks : List ℕ) × (C.call ≡ Intern l ks) × (chain ≡ C.shape.chain l ks) }
-        requires may { MayBegin C.start C.call }
-        requires before { seat.old.me ≡ (Walking C.start C.told, []) }
-        ensures table { IsSameSeat seat.old seat.new }
-        ensures found { Arrived C.shape C.start C.told C.call false chain result 1 seat.new.me.0 }
-    {
-        self.load::<C>(seat, chain)
-    }
-
-    /// Loads the next link.
-    pub(crate) fn next_link<C: Act>(&self, seat: &mut Seat<(), View>, walk: Walk) -> u64
-        requires table { Serves self.now C.shape seat.old }
-        requires link { walk.link < word_count self.now.size }
-        requires call { (l : ℕ) × (ks : List ℕ) × (C.call ≡ Intern l ks) }
-        requires before { seat.old.me ≡ at C.start C.told (AtLink C.call walk.written walk.link) walk.probes }
-        ensures table { IsSameSeat seat.old seat.new }
-        ensures found { Arrived C.shape C.start C.told C.call walk.written walk.link result (suc walk.probes) seat.new.me.0 }
-    {
-        self.load::<C>(seat, walk.link)
-    }
-
     /// Links one's own node, where none was linked; else answers what was.
     pub(crate) fn join<C: Act>(&self, seat: &mut Seat<(), View>, walk: Walk, own: u64) -> u64
-        requires table { Serves self.now C.shape seat.old }
+        requires table { Serves self.now C.begun.shape seat.old }
         requires link { walk.link < word_count self.now.size }
-        requires own { (own ≡ C.start.own) × (own < node_count self.now.size) }
-        requires before { seat.old.me ≡ at C.start C.told (Linking C.call walk.link) walk.probes }
+        requires own { (own ≡ C.begun.start.own) × (own < node_count self.now.size) }
+        requires before { seat.old.me ≡ at C.begun (Linking C.begun.call walk.link) walk.probes }
         ensures table { IsSameSeat seat.old seat.new }
         ensures linked { result ≡ 0
-            → Ended C.shape C.start C.told C.call (Ticket own) (own + 1) (C.start.room - 1) walk.probes seat.new.me.0 }
-        ensures lost { 0 < result → (seat.new.me.0 ≡ Walking (inside C.start (AtContent C.call true (result - 1) 0) walk.probes) C.told)
+            → Ended C.begun (Ticket own) (own + 1) (C.begun.start.room - 1) walk.probes seat.new.me.0 }
+        ensures lost { 0 < result → (seat.new.me.0 ≡ Walking (inside C.begun.start (AtContent C.begun.call true (result - 1) 0) walk.probes) C.begun.told)
             × (result - 1 < node_count self.now.size) }
     {
         self.link::<C>(seat, walk.link, own + 1)
@@ -120,16 +93,16 @@ impl Nodes {
         node: u64,
         walk: Walk,
     ) -> Option<Walk>
-        requires table { Serves self.now C.shape seat.old }
-        requires words { words.now ≡ content C.call }
+        requires table { Serves self.now C.begun.shape seat.old }
+        requires words { words.now ≡ content C.begun.call }
         requires node { node < node_count self.now.size }
-        requires before { seat.old.me ≡ at C.start C.told (AtContent C.call walk.written node 0) walk.probes }
+        requires before { seat.old.me ≡ at C.begun (AtContent C.begun.call walk.written node 0) walk.probes }
         ensures table { IsSameSeat seat.old seat.new }
         ensures same { IfNone result
-            (Ended C.shape C.start C.told C.call (hit C.call node) C.start.own C.start.room walk.probes seat.new.me.0) }
+            (Ended C.begun (hit C.begun.call node) C.begun.start.own C.begun.start.room walk.probes seat.new.me.0) }
         ensures differs { IfSome result
-            (λ w. seat.new.me ≡ at C.start C.told (AtLink C.call walk.written (link_of C.shape node)) walk.probes) }
-        ensures next { IfSome result (λ w. w ≡ record walk { link = link_of C.shape node }) }
+            (λ w. seat.new.me ≡ at C.begun (AtLink C.begun.call walk.written (link_of C.begun.shape node)) walk.probes) }
+        ensures next { IfSome result (λ w. w ≡ record walk { link = link_of C.begun.shape node }) }
     {
         let next = Walk {
             link: self.link_place(node),
@@ -156,23 +129,25 @@ impl Nodes {
         own: u64,
         room: u64,
     ) -> (InternEnd, u64)
-        requires table { Serves self.now C.shape seat.old }
+        requires table { Serves self.now C.begun.shape seat.old }
         requires link { chain < word_count self.now.size }
-        requires call { (l : ℕ) × (ks : List ℕ) × (C.call ≡ Intern l ks) × (chain ≡ C.shape.chain l ks) }
-        requires words { words.now ≡ content C.call }
-        requires own { (own ≡ C.start.own) × (room ≡ C.start.room) }
-        requires may { MayBegin C.start C.call }
-        requires before { seat.old.me ≡ (Walking C.start C.told, []) }
+        requires chain { first_stage C.begun.shape C.begun.call ≡ AtLink C.begun.call false chain }
+        requires call { IsIntern C.begun.call }
+        requires words { words.now ≡ content C.begun.call }
+        requires own { (own ≡ C.begun.start.own) × (room ≡ C.begun.start.room) }
+        requires may { MayBegin C.begun }
+        requires before { seat.old.me ≡ before C.begun }
         ensures table { IsSameSeat seat.old seat.new }
-        ensures ended { Done C.shape C.start C.told C.call result.0 result.1 seat.new.me.0 }
+        ensures ended { Done C.begun result.0 result.1 seat.new.me.0 }
     {
         let mut walk = Walk {
             link: chain,
             written: false,
-            probes: 1,
+            probes: 0,
         };
-        let mut found = self.first_link::<C>(seat, chain);
         loop {
+            let mut found = self.follow::<C>(seat, walk);
+            walk.probes += 1;
             if found == 0 {
                 if room == 0 {
                     return (InternEnd::NoRoom, walk.probes);
@@ -190,8 +165,6 @@ impl Nodes {
                 return (InternEnd::Hit(node), walk.probes);
             };
             walk = next;
-            found = self.next_link::<C>(seat, walk);
-            walk.probes += 1;
         }
     }
 }

@@ -1,14 +1,12 @@
 //! Whole calls on the nodes, over a pass's seat.
-ghost use Rattle.std.specs.Prelude.{◌≡◌, ◌+◌, ◌*◌, ◌<◌, ◌≤◌, []};
+ghost use Rattle.std.specs.Prelude.{◌≡◌, ◌<◌, ◌≤◌};
 ghost use Rattle.term_core.specs.declared.Call.TheVariants.{Find, Intern};
 ghost use Rattle.term_core.specs.World.{kid_word};
 ghost use Rattle.term_table.specs.Rule.{mix, scattered, chain_of};
 ghost use Rattle.term_table.specs.Seats.{Serves, IsSameSeat, MayBegin};
-ghost use Rattle.term_table.specs.Calls.{Ended};
-ghost use Rattle.term_table.specs.Ends.{Done};
+ghost use Rattle.term_table.specs.Calls.{before, Ended, Done};
 ghost use Rattle.term_table.specs.Answers.{sought_answer};
 ghost use Rattle.term_table.specs.declared.limits.TheConstants.{LARGE_MAX_HEADS};
-ghost use Rattle.term_table.specs.declared.view.View.TheVariants.{Walking};
 
 use crate::nodes::Nodes;
 use crate::rule::Act;
@@ -64,13 +62,13 @@ impl Nodes {
         own: u64,
         room: u64,
     ) -> (InternEnd, u64)
-        requires table { Serves self.now C.shape seat.old }
-        requires call { C.call ≡ Intern word kids.now }
-        requires own { (own ≡ C.start.own) × (room ≡ C.start.room) }
-        requires may { MayBegin C.start C.call }
-        requires before { seat.old.me ≡ (Walking C.start C.told, []) }
+        requires table { Serves self.now C.begun.shape seat.old }
+        requires call { C.begun.call ≡ Intern word kids.now }
+        requires own { (own ≡ C.begun.start.own) × (room ≡ C.begun.start.room) }
+        requires may { MayBegin C.begun }
+        requires before { seat.old.me ≡ before C.begun }
         ensures table { IsSameSeat seat.old seat.new }
-        ensures ended { Done C.shape C.start C.told C.call result.0 result.1 seat.new.me.0 }
+        ensures ended { Done C.begun result.0 result.1 seat.new.me.0 }
     {
         let words = [word, kid_at(kids, 0), kid_at(kids, 1), kid_at(kids, 2)];
         self.intern_as::<C>(
@@ -88,12 +86,12 @@ impl Nodes {
         word: u64,
         kids: &[Ticket],
     ) -> (Option<u64>, u64)
-        requires table { Serves self.now C.shape seat.old }
-        requires call { C.call ≡ Find word kids.now }
-        requires may { MayBegin C.start C.call }
-        requires before { seat.old.me ≡ (Walking C.start C.told, []) }
+        requires table { Serves self.now C.begun.shape seat.old }
+        requires call { C.begun.call ≡ Find word kids.now }
+        requires may { MayBegin C.begun }
+        requires before { seat.old.me ≡ before C.begun }
         ensures table { IsSameSeat seat.old seat.new }
-        ensures ended { Ended C.shape C.start C.told C.call (sought_answer result.0) C.start.own C.start.room result.1 seat.new.me.0 }
+        ensures ended { Ended C.begun (sought_answer result.0) C.begun.start.own C.begun.start.room result.1 seat.new.me.0 }
     {
         let words = [word, kid_at(kids, 0), kid_at(kids, 1), kid_at(kids, 2)];
         self.find_as::<C>(seat, &words, chain_at(self.size.heads, word, kids))

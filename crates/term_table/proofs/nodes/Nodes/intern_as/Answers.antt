@@ -1,10 +1,6 @@
-use Rattle.std.proofs.Common.{rules, ◌≡◌, ◌<◌, Bool, true, false, not, cond, ap, refl, ◌∙◌}
-use Rattle.term_core.specs.declared.Stage.TheVariants.{Writing, Linking}
-use Rattle.term_table.specs.declared.view.View.{View}
-use Rattle.term_table.specs.declared.view.View.TheVariants.{Walking}
+use Rattle.std.proofs.Common.{rules, ◌≡◌, ◌<◌, ◌+◌, Bool, true, false, not, ap, refl, ◌∙◌, arith}
 use Rattle.term_table.specs.declared.view.Walk.{Walk}
-use Rattle.term_table.specs.Calls.{inside}
-use Rattle.term_table.proofs.Steps.{paired}
+use Rattle.term_table.proofs.Steps.{paired, begins_at, at_link, goes_on}
 use Rattle.term_table.proofs.nodes.Nodes.intern_as.Goals as goal
 use Rattle.term_table.proofs.nodes.Nodes.intern_as.Goals.{then-found-eq0+else-room-eq0+else-found-eq0-2, then-not-walk, else-not-walk}
 use Rattle.term_table.proofs.nodes.Nodes.intern_as.Goals.{else-found-eq0}
@@ -17,27 +13,33 @@ written : (b : Bool) → not b ≡ false → b ≡ true
 written true e = refl
 written false e = search (rules, e)
 
+pub loop-walk-init : goal.loop-walk-init
+loop-walk-init g c = (
+  refl,
+  begins_at g.C.Act.begun _ c.args.seat.now.me c.requires.may c.requires.before c.requires.chain,
+  c.requires.link,
+  omega arith,
+)
+
 pub write_node-walk-requires-clause-before : goal.write_node-walk-requires-clause-before
 write_node-walk-requires-clause-before g c =
-    let was = c.loop-found.invariant in
-    let act = g.C.Act in
-    let some : 0 < act.start.room = search rules in
-    let view : Bool → View = λ b. Walking (inside act.start
-    (cond b (Linking act.call c.loop-found.walk.link) (Writing act.call c.loop-found.walk.link 0)) c.loop-found.walk.probes) act.told in
-    paired c.loop-found.seat.me _ _ (was.2.free c.if-found-eq0.true some ∙ ap view (unwritten _ c.if-not-walk.true)) was.1
+    let b = g.C.Act.begun in
+    let came = c.follow-found.ensures in
+    let some : 0 < b.start.room = search rules in
+    goes_on b (record c.loop-walk.walk { probes = c.loop-walk.walk.probes + 1 }) false c.follow-found.new.seat.me (unwritten _ c.if-not-walk.true)
+    (came.found.free c.if-found-eq0.true c.requires.call some) came.table.1
 
 pub join-found-requires-clause-before : goal.join-found-requires-clause-before
 join-found-requires-clause-before g c =
-    let was = c.loop-found.invariant in
-    let act = g.C.Act in
-    let some : 0 < act.start.room = search rules in
-    let view : Bool → View = λ b. Walking (inside act.start
-    (cond b (Linking act.call c.loop-found.walk.link) (Writing act.call c.loop-found.walk.link 0)) c.loop-found.walk.probes) act.told in
+    let b = g.C.Act.begun in
+    let came = c.follow-found.ensures in
+    let some : 0 < b.start.room = search rules in
     elim c.if-not-walk.branch [
       | then-not-walk w ↦ rw (w.seat-is, w.walk-is ∙ w.write_node-walk.ensures.walk) w.write_node-walk.ensures.after
       | else-not-walk w ↦
           rw (w.seat-is, w.walk-is)
-          (paired c.loop-found.seat.me _ _ (was.2.free c.if-found-eq0.true some ∙ ap view (written _ w.if-not-walk.false)) was.1)
+          (goes_on b (record c.loop-walk.walk { probes = c.loop-walk.walk.probes + 1 }) true c.follow-found.new.seat.me
+          (written _ w.if-not-walk.false) (came.found.free c.if-found-eq0.true c.requires.call some) came.table.1)
     ]
 
 pub same_content-requires-clause-before : goal.same_content-requires-clause-before
@@ -53,7 +55,15 @@ same_content-requires-clause-before g c =
           let lost = w.join-found.ensures.lost some in
           rw (w.seat-is, w.walk-is, is, w.found-is) (paired w.join-found.new.seat.me _ _ lost.0 w.join-found.ensures.table.1)
       | else-found-eq0 w ↦
-          let was = c.loop-found.invariant in
-          let some : 0 < c.loop-found.found = search rules in
-          rw (w.seat-is, w.walk-is, w.found-is) (paired c.loop-found.seat.me _ _ (was.2.some some).0 was.1)
+          let came = c.follow-found.ensures in
+          let some : 0 < c.follow-found.result = search rules in
+          rw (w.seat-is, w.walk-is, w.found-is) (paired c.follow-found.new.seat.me _ _ (came.found.some some).0 came.table.1)
     ]
+
+pub loop-walk-preserved : goal.loop-walk-preserved
+loop-walk-preserved g c = (
+  search rules,
+  at_link g.C.Act.begun _ _ _ _ _ c.in-Some.ensures.differs c.in-Some.ensures.next,
+  search rules,
+  search rules,
+)

@@ -14,7 +14,7 @@ returns-clause-saw g c =
     let told : Me (Unit {0}) View → List Entry = λ m. told_of m.0 in
     let begins : walker c.inform.new.seat.me ≡ walker c.args.seat.now.me = ap walker c.inform.ensures.told in
     let knows : told c.inform.new.seat.me ≡ told c.args.note.me = ap told c.inform.ensures.told in
-    let P : Walker → List Entry → Type 0 = λ v h. Saw g.C.Act.shape v h (walker c.see.new.seat.me) in
+    let P : Walker → List Entry → Type 0 = λ v h. Saw g.C.Act.begun.shape v h (walker c.see.new.seat.me) in
     subst (λ v. P v (told c.args.note.me)) begins (subst (P (walker c.inform.new.seat.me)) knows c.see.ensures.saw)
 
 pub returns-clause-pass : goal.returns-clause-pass

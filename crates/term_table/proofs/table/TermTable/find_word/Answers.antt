@@ -4,7 +4,7 @@ use Rattle.term_table.proofs.Public.{found_low}
 use Rattle.term_table.proofs.table.TermTable.find_word.Goals as goal
 
 pub new-requires : goal.new-requires
-new-requires c = let low = found_low _ _ _ _ _ _ _ _ _ _ c.in-Some.is c.find_with-node.ensures.ended in
+new-requires c = let low = found_low _ _ _ _ _ _ _ c.in-Some.is c.find_with-node.ensures.ended in
     let small = c.self.inside.nodes.small in omega arith
 
 pub returns-clause-answered : goal.returns-clause-answered

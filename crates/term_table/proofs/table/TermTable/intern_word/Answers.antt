@@ -1,18 +1,18 @@
-use Rattle.std.proofs.Common.{arith, rules}
+use Rattle.std.proofs.Common.{refl, arith, rules}
 use Rattle.term_table.proofs.Public.{hit_low, linked_low}
 use Rattle.term_table.proofs.Callers.{extends_answered, full_linked}
 use Rattle.term_table.proofs.table.TermTable.intern_word.Goals as goal
 
 pub new-ticket-requires : goal.new-ticket-requires
-new-ticket-requires c = let low = hit_low _ _ _ _ _ _ _ _ c.intern_with-end.ensures.ended _ c.in-Hit.is in
+new-ticket-requires c = let low = hit_low _ _ _ _ c.intern_with-end.ensures.ended (_, _, refl) _ c.in-Hit.is in
     let small = c.self.inside.nodes.small in omega arith
 
 pub overflow_add-pass : goal.overflow_add-pass
-overflow_add-pass c = let low = linked_low _ _ _ _ _ _ _ _ c.intern_with-end.ensures.ended c.in-Linked.is in let own =
+overflow_add-pass c = let low = linked_low _ _ _ _ c.intern_with-end.ensures.ended c.in-Linked.is in let own =
     c.pass.invariant.own in let small = c.self.inside.nodes.small in omega arith
 
 pub new-ticket-requires-in-Linked : goal.new-ticket-requires-in-Linked
-new-ticket-requires-in-Linked c = let low = linked_low _ _ _ _ _ _ _ _ c.intern_with-end.ensures.ended c.in-Linked.is in let own =
+new-ticket-requires-in-Linked c = let low = linked_low _ _ _ _ c.intern_with-end.ensures.ended c.in-Linked.is in let own =
     c.pass.invariant.own in let small = c.self.inside.nodes.small in omega arith
 
 pub returns-clause-answered : goal.returns-clause-answered

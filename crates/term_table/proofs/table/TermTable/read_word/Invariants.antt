@@ -5,8 +5,5 @@ use Rattle.term_table.proofs.table.TermTable.read_word.Given as goal
 
 abbrev pub ghosts-read_as : goal.ghosts-read_as
 ghosts-read_as a = record {
-  shape = shape_of a.self.now.size;
-  call = Read a.node;
-  start = walker_of a.seat.now.me.0;
-  told = told_of a.seat.now.me.0;
+  begun = record { shape = shape_of a.self.now.size; call = Read a.node; start = walker_of a.seat.now.me.0; told = told_of a.seat.now.me.0 };
 }
