@@ -63,11 +63,10 @@ module _ {L V E : Type 0} {a : Algebra L V E} {p : PassState} where
       go : (us : List ℕ) (xs : Trees L) → HaveTerms a.coding p us xs
           → (ys : Trees L) × HaveTerms a.coding p (us ++ t ∷ []) ys × ((e : E) → values_of a ys e ≡ values_of a xs e ++ f e ∷ [])
       go [] none have = (more h.term none, (h.has, tt), λ e. ap (λ v. v ∷ []) (h.value e))
-      go [] (more x xs) have = absurd have
-      go (u ∷ us) none have = absurd have
       go (u ∷ us) (more x xs) have =
           let rest = go us xs have.1 in
           (more x rest.0, (have.0, rest.1), λ e. ap (λ vs. value_of a x e ∷ vs) (rest.2 e))
+      go _ _ have = absurd have
 
   -- the ticket at a place means the value at that place; d is any value
   pub means_at : {ts : List ℕ} {fs : E → List V} (d : V) (k : ℕ) → AllMean a p ts fs → k < length ts
@@ -87,9 +86,8 @@ module _ {L V E : Type 0} {a : Algebra L V E} {p : PassState} where
     where
       go : (us : List ℕ) (xs : Trees L) → HaveTerms a.coding p us xs → length (values_of a xs e) ≡ length us
       go [] none have = refl
-      go [] (more x xs) have = absurd have
-      go (u ∷ us) none have = absurd have
       go (u ∷ us) (more x xs) have = ap suc (go us xs have.1)
+      go _ _ have = absurd have
 
 -- two values, where d is any value
 pub two_values : {V : Type 0} (d : V) (vs : List V) → length vs ≡ 2 → get_or vs 0 d ∷ get_or vs 1 d ∷ [] ≡ vs

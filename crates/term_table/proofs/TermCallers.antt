@@ -5,7 +5,7 @@ use Rattle.std.proofs.Common.{◌≡◌, ℕ, suc, ◌≤◌, ◌&&◌, ◌||◌
 use Rattle.std.proofs.Common.{refl, sym}
 use Rattle.std.proofs.Common.{ap, ap₂, subst, ◌∙◌, eq-eqb}
 use mathlib.Core.Logic.{◌↔◌}
-use Rattle.std.proofs.lemmas.Bool.{and_parts}
+use Rattle.std.proofs.lemmas.Bool.{and_parts, or_right}
 use Rattle.std.proofs.lemmas.Option.{same_Some}
 use Rattle.term_labels.specs.Trees.{Tree, Trees, node, none, more, tree_count, leaf, binary, ternary}
 use Rattle.term_labels.specs.Codings.{Coding, IsCoding, words_of, all_words_of, is_tree, are_trees}
@@ -26,29 +26,26 @@ use Rattle.term_table.specs.declared.table.Interned.{Interned}
 use Rattle.term_table.specs.declared.table.TableFull.{TableFull}
 use Rattle.term_table.proofs.Public.{has_one}
 use Rattle.term_table.proofs.Callers.{extends_self, extends_more, still_of}
-use Rattle.term_table.proofs.Callers.{or_true, kept_seen, kept_tree, h, ends_so, pairs_are, answer_seen}
+use Rattle.term_table.proofs.Callers.{kept_seen, kept_tree, h, ends_so, pairs_are, answer_seen}
 use Rattle.term_table.proofs.Callers.{trees_then, tree_then, tree_now, absent_then}
 
 -- terms as trees of words
 words_at : {L : Type 0} (c : Coding L) (p : PassState) (ts : List ℕ) (xs : Trees L) → HaveTerms c p ts xs
     → trees_at (pairs_of p.seen) ts ≡ Some (all_words_of c xs)
 words_at c p [] none h = refl
-words_at c p [] (more x xs) h = absurd h
-words_at c p (t ∷ ts) none h = absurd h
 words_at c p (t ∷ ts) (more x xs) h = let a = h.0.tree in let b = words_at c p ts xs h.1 in λ i. more_if (a i) (b i)
+words_at c p _ _ h = absurd h
 
 proper_all : {L : Type 0} (c : Coding L) (p : PassState) (ts : List ℕ) (xs : Trees L) → HaveTerms c p ts xs → are_trees c xs ≡ true
 proper_all c p [] none h = refl
-proper_all c p [] (more x xs) h = absurd h
-proper_all c p (t ∷ ts) none h = absurd h
 proper_all c p (t ∷ ts) (more x xs) h = ap₂ (λ a b. a && b) h.0.proper (proper_all c p ts xs h.1)
+proper_all c p _ _ h = absurd h
 
 -- there are as many terms as tickets
 pub count_of : {L : Type 0} (c : Coding L) (p : PassState) (ts : List ℕ) (xs : Trees L) → HaveTerms c p ts xs → tree_count xs ≡ length ts
 count_of c p [] none h = refl
-count_of c p [] (more x xs) h = absurd h
-count_of c p (t ∷ ts) none h = absurd h
 count_of c p (t ∷ ts) (more x xs) h = ap suc (count_of c p ts xs h.1)
+count_of c p _ _ h = absurd h
 
 -- so few children as the words of a node have room for
 pub few_of : {L : Type 0} (c : Coding L) (l : L) (n : ℕ) → IsCoding c → c.is_label l ≡ true → n ≡ c.arity l → n ≤ MAX_CHILDREN
@@ -65,9 +62,8 @@ terms_of c p (t ∷ ts) h = let rest = terms_of c p ts h.1 in (more h.0.term res
 
 pub seen_terms : {L : Type 0} (c : Coding L) (p : PassState) (ts : List ℕ) (xs : Trees L) → HaveTerms c p ts xs → HasSeenTerms c p ts
 seen_terms c p [] none h = tt
-seen_terms c p [] (more x xs) h = absurd h
-seen_terms c p (t ∷ ts) none h = absurd h
 seen_terms c p (t ∷ ts) (more x xs) h = (record { term = x; has = h.0 }, seen_terms c p ts xs h.1)
+seen_terms c p _ _ h = absurd h
 
 -- what a pass knew, it knows later
 kept : {L : Type 0} {c : Coding L} {p q : PassState} {t : ℕ} {x : Tree L} → StartsWith q.seen p.seen → HasTerm c p t x → HasTerm c q t x
@@ -86,9 +82,8 @@ still_seen_term {L} {c} {p} {q} {t} e h = record { term = h.term; has = still_te
 pub still_terms : {L : Type 0} (c : Coding L) {p q : PassState} → Extends p q → (ts : List ℕ) (xs : Trees L) → HaveTerms c p ts xs
     → HaveTerms c q ts xs
 still_terms {L} c {p} {q} e [] none h = tt
-still_terms {L} c {p} {q} e [] (more x xs) h = absurd h
-still_terms {L} c {p} {q} e (t ∷ ts) none h = absurd h
 still_terms {L} c {p} {q} e (t ∷ ts) (more x xs) h = (still_term e h.0, still_terms c e ts xs h.1)
+still_terms {L} c {p} {q} e _ _ h = absurd h
 
 pub still_seen_terms : {L : Type 0} (c : Coding L) {p q : PassState} → Extends p q → (ts : List ℕ) → HasSeenTerms c p ts
     → HasSeenTerms c q ts
@@ -187,7 +182,7 @@ children_back c q ps (t ∷ ts) (more x xs) p e now seen =
         seen = seen t (ap (λ (z : Bool). z || has ts t) (eq-eqb t t refl));
         tree = now t (words_of c x) (g.2 ∙ ap Some a);
       },
-      children_back c q ps ts xs parts.1 (g.3 ∙ ap Some b) now (λ u s. seen u (or_true (t == u) (has ts u) s)),
+      children_back c q ps ts xs parts.1 (g.3 ∙ ap Some b) now (λ u s. seen u (or_right (t == u) (has ts u) s)),
     )
 
 module _ {L : Type 0} (c : Coding L) (is : IsCoding c) (p q : PassState) (t w : ℕ) (ks : List ℕ) (o : Option L)
