@@ -27,13 +27,11 @@ pub(crate) struct Access {
 
 /// How a block ran from a start.
 #[derive(Clone, Copy)]
-pub(crate) struct Traced {
-    /// It was stuck there; `last` is the access that it was stuck at, if it was one.
-    pub(crate) is_stuck: bool,
-    pub(crate) last: Option<Access>,
-    /// The accesses by the two instructions that were asked for.
-    pub(crate) first: Option<Access>,
-    pub(crate) second: Option<Access>,
+pub(crate) enum Traced {
+    /// It was stuck at this access, if it was at one.
+    Stuck(Option<Access>),
+    /// It wasn't stuck; these are the accesses by the two instructions that were asked for.
+    Ran(Option<Access>, Option<Access>),
 }
 
 /// Two instructions of a block, by their places.
@@ -150,27 +148,20 @@ pub(crate) fn trace(
     takes_second: bool,
 ) -> Result<Traced, AllocError> {
     let mut tracing = Tracing::of(alloc, start, takes_second);
-    let mut traced = Traced {
-        is_stuck: false,
-        last: None,
-        first: None,
-        second: None,
-    };
+    let (mut first, mut second) = (None, None);
     for (k, inst) in block.insts().iter().enumerate() {
         let access = tracing.access(&inst.action());
-        if let Some(Pair { first, second }) = pair {
-            if k == first {
-                traced.first = access;
+        if let Some(pair) = pair {
+            if k == pair.first {
+                first = access;
             }
-            if k == second {
-                traced.second = access;
+            if k == pair.second {
+                second = access;
             }
         }
-        traced.last = access;
         if !tracing.step(inst)? {
-            traced.is_stuck = true;
-            return Ok(traced);
+            return Ok(Traced::Stuck(access));
         }
     }
-    Ok(traced)
+    Ok(Traced::Ran(first, second))
 }

@@ -7,7 +7,7 @@ ghost use Rattle.counterexample.specs.Refuting.{Refutes};
 use crate::crossings::crossings;
 use crate::difference::Difference;
 use crate::filling::Filling;
-use crate::origins::{Access, Origin, Pair, access_of, trace};
+use crate::origins::{Access, Origin, Pair, Traced, access_of, trace};
 use crate::start::Start;
 use crate::verdict::refute;
 use mblock::{Block, Order};
@@ -159,17 +159,11 @@ fn change(
     pair: Option<Pair>,
     bits: u32,
 ) -> Result<bool, AllocError> {
-    let traced = trace(alloc, block, start, pair, bits & 4 != 0)?;
-    if traced.is_stuck {
-        let Some(at) = traced.last else {
-            return Ok(false);
-        };
-        return Ok(shift(start, at.origin, (at.address & 3).wrapping_neg()));
+    match trace(alloc, block, start, pair, bits & 4 != 0)? {
+        Traced::Stuck(Some(at)) => Ok(shift(start, at.origin, (at.address & 3).wrapping_neg())),
+        Traced::Ran(Some(first), Some(second)) => Ok(meet(start, &first, &second, bits)),
+        _ => Ok(false),
     }
-    let (Some(first), Some(second)) = (traced.first, traced.second) else {
-        return Ok(false);
-    };
-    Ok(meet(start, &first, &second, bits))
 }
 
 /// Returns the pair whose turn it is.
