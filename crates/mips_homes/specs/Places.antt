@@ -1,5 +1,5 @@
 -- Where pseudo-registers are put: at their homes, or, if they are local to blocks, in registers that no function keeps.
-use Rattle.std.specs.Prelude.{◌≡◌, ℕ, suc, Bool, true, false, List, [], ◌∷◌, ◌++◌, Option, None, Some, if◌then◌else◌}
+use Rattle.std.specs.Prelude.{◌≡◌, ℕ, suc, Bool, List, [], ◌∷◌, ◌++◌, Option, None, Some, if◌then◌else◌}
 use Rattle.std.specs.List.{list_any, filter}
 use Rattle.rtl.specs.Names.{optional}
 use Rattle.rtl.specs.declared.block.RBlock.{RBlock}
