@@ -1,5 +1,5 @@
 -- Each instruction's code does what the instruction does.
-use Rattle.std.proofs.Common.{◌≡◌, ◌≢◌, ℕ, ℤ, zero, suc, ◌+◌, ◌^◌, ◌*◌, ◌<◌, ◌≤◌, Bool, true, false, true≢false, ◌&&◌, List, [], ◌∷◌, ◌++◌, take, map}
+use Rattle.std.proofs.Common.{◌≡◌, ◌≢◌, ℕ, ℤ, zero, suc, ◌+◌, ◌^◌, ◌*◌, ◌<◌, ◌≤◌, Bool, true, false, true≢false, List, [], ◌∷◌, ◌++◌, take, map}
 use Rattle.std.proofs.Common.{length, Option, Some, None, refl, sym, ap, ◌∙◌, subst, arith, ap₂, nat_eq, ltb-true, eqb-true}
 use Rattle.std.specs.Prelude.{◌-◌, if◌then◌else◌, slice_get, nat_lt}
 use Rattle.std.proofs.lemmas.Option.{same_Some, none-some}

@@ -1,6 +1,6 @@
 -- What pseudo-registers are known to hold, and what operands mean in a state.
 use Rattle.std.proofs.Common.{◌≡◌, ◌≢◌, ℕ, ◌+◌, ◌*◌, ◌/◌, ◌%◌, ◌^◌, ◌<◌, ◌≤◌, Bool, true, false, List, [], ◌∷◌, ◌++◌, length, length-append}
-use Rattle.std.proofs.Common.{Option, Some, None, refl, sym, ap, ◌∙◌, subst, arith, true≢false, eq-eqb, eqb-true, ne_eqb, nat_eq}
+use Rattle.std.proofs.Common.{Option, Some, None, refl, sym, ap, ◌∙◌, subst, arith, eq-eqb, eqb-true, ne_eqb, nat_eq}
 use Rattle.std.specs.Prelude.{if◌then◌else◌, not, slice_get, ◌||◌}
 use Rattle.std.proofs.lemmas.Bool.{eqb-false, or_parts, cond_both, cond-false}
 use Rattle.std.proofs.lemmas.Option.{same_Some, none-some}

@@ -30,7 +30,7 @@ use Rattle.mips_emit.specs.declared.product.ShiftedSum.{ShiftedSum}
 use Rattle.mips_emit.specs.declared.operation.Operand.{Operand}
 use Rattle.mips_emit.specs.declared.location.Source.TheVariants.{Zero, Word, From}
 use Rattle.mips_emit.specs.declared.element.Reach.{Reach}
-use Rattle.mips_emit.specs.declared.element.Reach.TheVariants.{ByPointer, ByScratch, ByKept, ByNew}
+use Rattle.mips_emit.specs.declared.element.Reach.TheVariants.{ByScratch, ByNew}
 use Rattle.mips_emit.specs.declared.offset.Offset.{Offset}
 use Rattle.mips_emit.specs.declared.facts.Kept.{Kept}
 use Rattle.mips_emit.specs.declared.setting.Setting.{Setting}

@@ -1,5 +1,5 @@
 -- Elements of globals in data memory: where they are, and how instructions reach them.
-use Rattle.std.specs.Prelude.{◌≡◌, ℕ, ℤ, pos, negsuc, ◌+◌, ◌-◌, ◌*◌, ◌/◌, ◌%◌, ◌<◌, ◌≤◌, Bool, ◌&&◌, Option, Some, None, List, [], ◌∷◌, ◌++◌, nat_lt, nat_eq}
+use Rattle.std.specs.Prelude.{◌≡◌, ℕ, ℤ, pos, negsuc, ◌+◌, ◌-◌, ◌*◌, ◌/◌, ◌%◌, ◌≤◌, Bool, ◌&&◌, Option, Some, None, List, [], ◌∷◌, ◌++◌, nat_lt, nat_eq}
 use Rattle.std.specs.Prelude.{slice_get}
 use Rattle.std.specs.Prelude.{if◌then◌else◌}
 use Rattle.words.specs.declared.width.Width.{Width}
@@ -63,10 +63,6 @@ abbrev pub direct : Width → (start : ℕ) → Option ℕ → Option ℕ
 direct w start None = None
 direct w start (Some i) = if nat_lt i 65536 then (if nat_lt (element_place w start i) 65536 then Some (element_place w start i) else None)
     else None
-
-abbrev pub IsNear : Option ℕ → Type 0
-IsNear None = Unit {0}
-IsNear (Some p) = p < 65536
 
 -- from the global pointer to a place
 abbrev pub near : ℕ → ℤ
@@ -143,8 +139,3 @@ element_offset w start (ByPointer p) = near p
 element_offset w start ByScratch = base_offset start
 element_offset w start (ByKept c) = shifted_offset w start c
 element_offset w start (ByNew q c) = shifted_offset w start c
-
--- the global pointer reaches the place
-abbrev pub IsInReach : Reach → Type 0
-IsInReach (ByPointer p) = p < 65536
-IsInReach _ = Unit {0}

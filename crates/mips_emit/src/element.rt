@@ -5,10 +5,10 @@
 ghost use Rattle.std.specs.Prelude.{◌≡◌, ◌≤◌, ◌<◌, ◌&&◌, nat_eq};
 ghost use Rattle.mblock.specs.declared.limits.TheConstants.{UNIT_BYTES};
 ghost use Rattle.mips_emit.specs.Locations.{FitsSource};
-ghost use Rattle.mips_emit.specs.Elements.{width_bytes, address_of_place, direct, IsNear, near, page, low, scaled};
+ghost use Rattle.mips_emit.specs.Elements.{width_bytes, address_of_place, direct, near, page, low, scaled};
 ghost use Rattle.mips_emit.specs.Elements.{scaled_register};
 ghost use Rattle.mips_emit.specs.declared.element.Reach.TheVariants.{ByScratch};
-ghost use Rattle.mips_emit.specs.Elements.{base_sum, base_code, base_offset, base_word, element_base, element_offset, IsInReach};
+ghost use Rattle.mips_emit.specs.Elements.{base_sum, base_code, base_offset, base_word, element_base, element_offset};
 ghost use Rattle.mips_emit.specs.Elements.{shifted_place, fits_offset, base_index, shifted_offset, reach_by};
 ghost use Rattle.mips_emit.specs.Code.{element_code, element_load, element_store};
 ghost use Rattle.mips_emit.specs.Prefixes.{Emits};
@@ -29,7 +29,7 @@ pub(crate) const KEPT_BASE: u8 = 30;
 #[derive(Clone, Copy)]
 pub enum Reach {
     /// From the global pointer, by its place.
-    ByPointer(u32),
+    ByPointer(u16),
     /// From a base that is made in a scratch register.
     ByScratch,
     /// From the base that is kept, so many elements after it.
@@ -50,22 +50,24 @@ fn bytes_of(width: Width) -> u32
 }
 
 /// Returns the place of an element whose index is known, where the global pointer reaches it.
-pub(crate) fn direct(width: Width, start: u32, known: Option<u32>) -> Option<u32>
+pub(crate) fn direct(width: Width, start: u32, known: Option<u32>) -> Option<u16>
     requires { start ≤ UNIT_BYTES }
-    ensures value { result ≡ direct width start known }
-    ensures near { IsNear result }
+    ensures { result ≡ direct width start known }
 {
     let index = known?;
     if index >= 65_536 {
         return None;
     }
     let place = start + bytes_of(width) * index;
-    if place < 65_536 { Some(place) } else { None }
+    if place < 65_536 {
+        Some(place as u16)
+    } else {
+        None
+    }
 }
 
 /// Returns the way from the global pointer to a place.
-fn near(place: u32) -> i16
-    requires { place < 65536 }
+fn near(place: u16) -> i16
     ensures { result ≡ near place }
 {
     if place < 32_768 {
@@ -148,7 +150,7 @@ fn shifted_offset(width: Width, start: u32, word: u32) -> i16
 {
     let place = shifted_place(width, start, word);
     if start < 65_536 && place < 65_536 {
-        near(place)
+        near(place as u16)
     } else {
         base_offset(start)
     }
@@ -158,13 +160,11 @@ fn shifted_offset(width: Width, start: u32, word: u32) -> i16
 pub(crate) fn reach_by(
     width: Width,
     start: u32,
-    place: Option<u32>,
+    place: Option<u16>,
     index: &Option<Offset>,
     is_kept: bool,
 ) -> Reach
-    requires { IsNear place }
-    ensures value { result ≡ reach_by width start place index.now is_kept }
-    ensures near { IsInReach result }
+    ensures { result ≡ reach_by width start place index.now is_kept }
 {
     if let Some(p) = place {
         return Reach::ByPointer(p);
@@ -241,7 +241,7 @@ fn base_offset(start: u32) -> i16
     ensures { result ≡ base_offset start }
 {
     if start < 65_536 {
-        near(start)
+        near(start as u16)
     } else {
         low(DATA_BASE + start)
     }
@@ -310,8 +310,7 @@ fn element_base(by: &Reach) -> Reg
 
 /// Returns the offset of an element from that register.
 fn element_offset(width: Width, start: u32, by: &Reach) -> i16
-    requires few { start ≤ UNIT_BYTES }
-    requires near { IsInReach by.now }
+    requires { start ≤ UNIT_BYTES }
     ensures { result ≡ element_offset width start by.now }
 {
     match by {
@@ -323,8 +322,7 @@ fn element_offset(width: Width, start: u32, by: &Reach) -> i16
 
 /// Returns a load of an element.
 pub(crate) fn element_load(width: Width, rt: NonzeroReg, start: u32, by: &Reach) -> Plain
-    requires few { start ≤ UNIT_BYTES }
-    requires near { IsInReach by.now }
+    requires { start ≤ UNIT_BYTES }
     ensures { result ≡ element_load width rt start by.now }
 {
     Plain::Load {
@@ -337,8 +335,7 @@ pub(crate) fn element_load(width: Width, rt: NonzeroReg, start: u32, by: &Reach)
 
 /// Returns a store to an element.
 pub(crate) fn element_store(width: Width, rt: Reg, start: u32, by: &Reach) -> Plain
-    requires few { start ≤ UNIT_BYTES }
-    requires near { IsInReach by.now }
+    requires { start ≤ UNIT_BYTES }
     ensures { result ≡ element_store width rt start by.now }
 {
     Plain::Store {

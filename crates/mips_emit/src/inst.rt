@@ -10,7 +10,7 @@ ghost use Rattle.mips_homes.specs.declared.homed.Home.TheVariants.{Reg};
 ghost use Rattle.mips_emit.specs.Frames.{IsReachable};
 ghost use Rattle.mips_emit.specs.Locations.{facts_of, fresh_of, inner_of, learned, locations, word_source, operand, known_after, FitsPlace, FitsSource};
 ghost use Rattle.mips_emit.specs.Comparisons.{FitsComparison, comparison_of, next_code, last_with, last_after, no_last, code_of_insts};
-ghost use Rattle.mips_emit.specs.Elements.{AreStarts, IsInReach, width_of};
+ghost use Rattle.mips_emit.specs.Elements.{AreStarts, width_of};
 ghost use Rattle.mips_emit.specs.Code.{context_of, const_code, put_at, into, finish, op_code, holds_base, reach_with, load_code, store_code, inst_code};
 ghost use Rattle.mips_emit.specs.Locations.{index_register};
 ghost use Rattle.mips_emit.specs.Offsets.{index_with};
@@ -119,7 +119,6 @@ fn emit_load(
 ) -> Result<(), AllocError>
     requires place { FitsPlace place.now }
     requires few { element.now.start ≤ UNIT_BYTES }
-    requires near { IsInReach element.now.by }
     requires fits { FitsSource x.now }
     ensures { Emits result code.old.items
         (load_code place.now element.now.width element.now.start element.now.by x.now)
@@ -142,7 +141,6 @@ fn emit_store(
     y: &Source,
 ) -> Result<(), AllocError>
     requires few { element.now.start ≤ UNIT_BYTES }
-    requires near { IsInReach element.now.by }
     requires index { FitsSource x.now }
     requires value { FitsSource y.now }
     ensures { Emits result code.old.items
@@ -210,7 +208,6 @@ fn element_at(
     ensures start { result.start ≡ slice_index setting.now.starts.now a }
     ensures few { result.start ≤ UNIT_BYTES }
     ensures by { result.by ≡ reach_with setting.now.globals.now (slice_index setting.now.starts.now) (facts_of facts.now).kept a known (index_with (facts_of facts.now).offset (index_register known x.now)) }
-    ensures near { IsInReach result.by }
 {
     let width = width_of(setting.globals, a);
     let start = start_of(setting.starts, a);
