@@ -66,11 +66,9 @@ set_there (z ∷ l) zero x y e = refl
 set_there (z ∷ l) (suc b) x y e = set_there l b x y e
 
 set_others : {A : Type 0} (l : List A) (b : ℕ) (x : A) (i : ℕ) → i ≢ b → slice_get (slice_set l b x) i ≡ slice_get l i
-set_others [] b x i ne = refl
 set_others (y ∷ l) zero x zero ne = absurd (ne refl)
-set_others (y ∷ l) zero x (suc i) ne = refl
-set_others (y ∷ l) (suc b) x zero ne = refl
 set_others (y ∷ l) (suc b) x (suc i) ne = set_others l b x i (λ e. ne (ap suc e))
+set_others _ _ x _ ne = refl
 
 -- the arrays after a write
 pub record StoredAt (g : Arrays) (a i v : ℕ) (g' : Arrays) : Type 0 where

@@ -395,18 +395,20 @@ module _ (most total : ℕ) (gs : List RGlobal) (starts : ℕ → ℕ) where
       index_of_register : (t : ℕ) → IsAway (From (Reg t)) → IsIndex (offset_in offset t) t s.regs
       index_of_register t away = index_is offset t s.regs away.0 away.1 ((h.words).regs t) offsets
 
-      -- register 30 is a base for the index
-      shifts : (t : ℕ) (m : State) → IsAway (From (Reg t)) → m.regs t ≡ i → IsIndex (offset_in offset t) t m.regs
-          → m.regs 30 ≡ wrap (width_bytes (width_of gs a) * m.regs (base_index (width_of gs a) (starts a) (offset_in offset t)) + base_word (starts a))
-          → wrap (m.regs 30 + word_of_offset (shifted_offset (width_of gs a) (starts a) (offset_in offset t).word)) ≡ address_of_place (place_in gs starts a i)
-      shifts t m away is index base =
-          from_shifted (width_of gs a) (starts a) (offset_in offset t) i (m.regs 30) m.regs (ap m.regs index.register ∙ is) index.sum few base
+      -- register 30 has a base for the index
+      abbrev IsBase : (t : ℕ) → (f : ℕ → ℕ) → Type 0
+      IsBase t f = f 30 ≡ wrap (width_bytes (width_of gs a) * f (base_index (width_of gs a) (starts a) (offset_in offset t)) + base_word (starts a))
 
-      now_kept : (t : ℕ) (m : State) → IsAway (From (Reg t)) → IsIndex (offset_in offset t) t m.regs
-          → m.regs 30 ≡ wrap (width_bytes (width_of gs a) * m.regs (base_index (width_of gs a) (starts a) (offset_in offset t)) + base_word (starts a))
-          → IsKept gs starts (this t) m.regs
-      now_kept t m away index base =
-          kept_here gs starts a (offset_in offset t) m.regs (omega (arith, away.0, index.register)) index.low base
+      at_kept : (t : ℕ) (is : List Plain) (m : State) → RunsTo is s m → IsAway (From (Reg t)) → m.regs t ≡ i → IsIndex (offset_in offset t) t m.regs
+          → IsBase t m.regs → ((q : ℕ) → 4 ≤ q → q ≢ 30 → m.regs q ≡ s.regs q) → Stands most total gs starts registers g (top ∷ fs) m
+          → AtElement registers g (top ∷ fs) s is (width_of gs a) 30 (shifted_offset (width_of gs a) (starts a) (offset_in offset t).word)
+          (place_in gs starts a i) (this t)
+      at_kept t is m run away shown index base =
+          let o = offset_in offset t in
+          at_base registers g (top ∷ fs) s m is 30 (shifted_offset (width_of gs a) (starts a) o.word) a i v (this t) run (omega arith)
+          (λ e. absurd (omega (arith, e)))
+          (from_shifted (width_of gs a) (starts a) o i (m.regs 30) m.regs (ap m.regs index.register ∙ shown) index.sum few base) there
+          (kept_here gs starts a o m.regs (omega (arith, away.0, index.register)) index.low base)
 
       -- from a base that is made in register 30, and kept
       anew : (t : ℕ) → IsAway (From (Reg t)) → read 0 s.regs t ≡ i
@@ -427,9 +429,7 @@ module _ (most total : ℕ) (gs : List RGlobal) (starts : ℕ → ℕ) where
           let base : b.regs 30 ≡ wrap (width_bytes (width_of gs a) * b.regs q + base_word (starts a)) =
           b.here ∙ ap (λ v. wrap (width_bytes (width_of gs a) * v + base_word (starts a)))
           (read_register s.regs q (omega (arith, q_low)) ∙ sym (others q q_low (omega (arith, q_high)))) in
-          let after = index_same o t s.regs b.regs low high others index in
-          at_base registers g (top ∷ fs) s m (base_code (width_of gs a) 30 (starts a) q) 30 (shifted_offset (width_of gs a) (starts a) o.word) a i v (this t) b.runs
-          (omega arith) (λ e. absurd (omega (arith, e))) (shifts t m away at after base) there (now_kept t m away after base) others
+          at_kept t (base_code (width_of gs a) 30 (starts a) q) m b.runs away at (index_same o t s.regs b.regs low high others index) base others
           (base_changed most total gs starts registers g (top ∷ fs) (base_code (width_of gs a) 30 (starts a) q) s b.regs b.runs others h)
 
       -- from the base that is kept
@@ -451,11 +451,9 @@ module _ (most total : ℕ) (gs : List RGlobal) (starts : ℕ → ℕ) where
           let same_bytes : bytes ≡ bytes' = eqb-true bytes bytes' both.0 in
           let same_word : word ≡ word' = eqb-true word word' both.1 in
           let at : s.regs t ≡ i = sym (read_register s.regs t (omega (arith, away.0))) ∙ is in
-          let index = index_of_register t away in
           let base : s.regs 30 ≡ wrap (bytes' * s.regs q + word') =
           k.base j same ∙ ap₂ (λ n m. wrap (n * s.regs p + m)) same_bytes same_word ∙ ap (λ q. wrap (bytes' * s.regs q + word')) register in
-          at_base registers g (top ∷ fs) s s [] 30 (shifted_offset (width_of gs a) (starts a) o.word) a i v (this t) (runs_none s) (omega arith)
-          (λ e. absurd (omega (arith, e))) (shifts t s away at index base) there (now_kept t s away index base) (λ q _ _. refl) h
+          at_kept t [] s (runs_none s) away at (index_of_register t away) base (λ q _ _. refl) h
 
       -- from the global pointer
       close : (x : Source) (p : ℕ) → p ≡ place_in gs starts a i → nat_lt p 65536 ≡ true → Reached (ByPointer p) x kept

@@ -484,33 +484,15 @@ then_turned i s d u b ok e g =
 
 pub less_gives : (op : Op) (s : State) (d q v w u : ℕ) (i : Plain) (known : Option ℕ) → IsTarget d → read 0 s.regs q ≡ w → v < 2 ^ 32 → w < 2 ^ 32
     → ((c : ℕ) → known ≡ Some c → c ≡ v) → turned_less_of op d q known ≡ Some i → op_result op v w ≡ Some u → Gives (i ∷ Logic Xori d d 1 ∷ []) s d u
-less_gives LeS s d q v w u i None ok left lv lw said is e = absurd (none-some i is)
 less_gives LeS s d q v w u i (Some c) ok left lv lw said is e =
     let same : c ≡ v = said c refl in
     then_turned i s d u (int_lt (signed w) (signed c)) ok (ap (λ c. Some (truth_word (not (int_lt (signed w) (signed c))))) same ∙ e)
     (immediate_gives s d q c w (truth_word (int_lt (signed w) (signed c))) i ok left lw (omega (arith, same, lv)) LtS is refl)
-less_gives LeU s d q v w u i None ok left lv lw said is e = absurd (none-some i is)
 less_gives LeU s d q v w u i (Some c) ok left lv lw said is e =
     let same : c ≡ v = said c refl in
     then_turned i s d u (nat_lt w c) ok (ap (λ c. Some (truth_word (not (nat_lt w c)))) same ∙ e)
     (immediate_gives s d q c w (truth_word (nat_lt w c)) i ok left lw (omega (arith, same, lv)) LtU is refl)
-less_gives Add s d q v w u i known ok left lv lw said is e = absurd (none-some i is)
-less_gives Sub s d q v w u i known ok left lv lw said is e = absurd (none-some i is)
-less_gives Mul s d q v w u i known ok left lv lw said is e = absurd (none-some i is)
-less_gives DivS s d q v w u i known ok left lv lw said is e = absurd (none-some i is)
-less_gives DivU s d q v w u i known ok left lv lw said is e = absurd (none-some i is)
-less_gives RemS s d q v w u i known ok left lv lw said is e = absurd (none-some i is)
-less_gives RemU s d q v w u i known ok left lv lw said is e = absurd (none-some i is)
-less_gives And s d q v w u i known ok left lv lw said is e = absurd (none-some i is)
-less_gives Or s d q v w u i known ok left lv lw said is e = absurd (none-some i is)
-less_gives Xor s d q v w u i known ok left lv lw said is e = absurd (none-some i is)
-less_gives Shl s d q v w u i known ok left lv lw said is e = absurd (none-some i is)
-less_gives ShrU s d q v w u i known ok left lv lw said is e = absurd (none-some i is)
-less_gives ShrS s d q v w u i known ok left lv lw said is e = absurd (none-some i is)
-less_gives Eq s d q v w u i known ok left lv lw said is e = absurd (none-some i is)
-less_gives Ne s d q v w u i known ok left lv lw said is e = absurd (none-some i is)
-less_gives LtS s d q v w u i known ok left lv lw said is e = absurd (none-some i is)
-less_gives LtU s d q v w u i known ok left lv lw said is e = absurd (none-some i is)
+less_gives _ s d q v w u i _ ok left lv lw said is e = absurd (none-some i is)
 
 -- an instruction and a second one, as the first and the rest of what they are
 pub one_or_two_are : (i : Plain) (s : Option Plain) (l : List Plain) → take 1 l ≡ i ∷ [] → drop 1 l ≡ as_list s → one_or_two i s ≡ l

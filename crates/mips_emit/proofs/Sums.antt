@@ -16,15 +16,8 @@ adds_none Sub c none = absurd (true≢false (sym none))
 adds_none _ c none = refl
 
 pub no_sum : (place : Option Home) (op : Op) (right : Option ℕ) (x : Source) → is_none (addend op 0) ≡ true → sum_offset place op right x ≡ None
-no_sum None op right x none = refl
-no_sum (Some (Slot k)) op right x none = refl
-no_sum (Some (Copied r k)) op right x none = refl
-no_sum (Some (Reg t)) op None x none = refl
-no_sum (Some (Reg t)) op (Some c) Zero none = refl
-no_sum (Some (Reg t)) op (Some c) (Word w) none = refl
 no_sum (Some (Reg t)) op (Some c) (From (Reg r)) none = ap (offset_from t r) (adds_none op c none)
-no_sum (Some (Reg t)) op (Some c) (From (Slot k)) none = refl
-no_sum (Some (Reg t)) op (Some c) (From (Copied r k)) none = refl
+no_sum _ op _ _ none = refl
 
 -- nor is one left where the right operand is no known word
 pub no_sum_of_unknown : (place : Option Home) (op : Op) (x : Source) → sum_offset place op None x ≡ None
