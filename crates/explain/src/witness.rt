@@ -116,28 +116,6 @@ fn put_side(out: &mut Writer, side: &str, left: &Left, difference: &Difference) 
     out.text("\n");
 }
 
-fn put_witness(
-    alloc: Global,
-    out: &mut Writer,
-    block: &Block,
-    order: &Order,
-    start: &Start,
-    link: u32,
-    difference: &Difference,
-) -> Result<(), AllocError> {
-    out.text("the order is wrong: it does otherwise from a start with\n");
-    put_start(out, block, order, start, difference);
-    put_rest(alloc, out, block, order, start)?;
-    if let Some(left) = run_block(alloc, block, start, link)? {
-        put_side(out, "block", &left, difference);
-    }
-    match run_order(alloc, order, start, link)? {
-        Some(left) => put_side(out, "order", &left, difference),
-        None => out.text("  order: is stuck\n"),
-    }
-    Ok(())
-}
-
 /// Writes a start from which the order does otherwise than the block, or that none was found.
 pub fn put_found(
     alloc: Global,
@@ -157,5 +135,15 @@ pub fn put_found(
         out.text("no start that was tried tells them apart: the terms may tell too little\n");
         return Ok(());
     };
-    put_witness(alloc, out, block, order, &start, link, &difference)
+    out.text("the order is wrong: it does otherwise from a start with\n");
+    put_start(out, block, order, &start, &difference);
+    put_rest(alloc, out, block, order, &start)?;
+    if let Some(left) = run_block(alloc, block, &start, link)? {
+        put_side(out, "block", &left, &difference);
+    }
+    match run_order(alloc, order, &start, link)? {
+        Some(left) => put_side(out, "order", &left, &difference),
+        None => out.text("  order: is stuck\n"),
+    }
+    Ok(())
 }
