@@ -14,7 +14,7 @@ use Rattle.rtl.specs.declared.block.RBlock.{RBlock}
 use Rattle.rtl.specs.declared.limits.TheConstants.{MAX_REGISTERS, MAX_BLOCKS}
 use Rattle.rtl.specs.Meaning.{Code}
 use Rattle.rtl_emit.specs.Blocks.{Spot, Block, Line, Lands, Grows, Has, Reserves, Fills, open_code, exit_code, first, spot, line_of, insts_of, insts_at, insts_in}
-use Rattle.rtl_emit.specs.Emits.{Size, Emits, value_size, condition_size, values_size, EmitsValue, EmitsOperand, EmitsBranch, EmitsOperands}
+use Rattle.rtl_emit.specs.Emits.{Size, Description, Emits, condition_size, value, operand, operands, condition_branch}
 use Rattle.rtl_emit.specs.Expressions.{IsPlace, Fetches, AddPlaces}
 use Rattle.rtl_emit.specs.Sizes.{joint, place_registers, places_registers, next_free, value_registers, value_blocks, condition_blocks}
 use Rattle.rtl_emit.specs.Sizes.{values_registers, condition_registers}
@@ -28,13 +28,13 @@ use Rattle.rtl_emit.specs.declared.place.Place.{Place}
 use Rattle.rtl_emit.specs.declared.targets.Targets.{Targets}
 use Rattle.rtl_emit.proofs.Blocks.{grows_then, within, line_insts, split2, split3, split4}
 use Rattle.rtl_emit.proofs.Emitted.{Over, Joins, finds_to}
-use Rattle.rtl_emit.proofs.Emitting.{ended, part_refused, refused, grows_same}
+use Rattle.rtl_emit.proofs.Emitting.{Ends, ended, part_refused, refused, grows_same}
 use Rattle.rtl_emit.proofs.Sound.{sound_along, sound_first, sound_exit, sound_line}
-use Rattle.rtl_lower.specs.Emits.{statement_size, statements_size, EmitsCode, EmitsStatement, EmitsStatements, made_of, side_size, EmitsSide}
-use Rattle.rtl_lower.specs.Emits.{EmitsReceiver, turn_end, IsEnd, EndsTurn, turn_size, EmitsTurn}
+use Rattle.rtl_lower.specs.Emits.{statement_size, statements_size, simple_code, statement_code, statements_code, made_of, side_code}
+use Rattle.rtl_lower.specs.Emits.{receiver, IsEnd, end_of_turn, last_size, last_code}
 use Rattle.rtl_lower.specs.Sizes.{stays, is_equality, continues, receiver_blocks, statement_joint, statements_joint}
 use Rattle.rtl_lower.specs.Sizes.{statement_blocks, statements_blocks, statement_registers, statements_registers}
-use Rattle.rtl_lower.specs.Coded.{FetchesFirst}
+use Rattle.rtl_lower.specs.Coded.{enclosing, FetchesFirst}
 use Rattle.rtl_lower.specs.declared.context.Context.{Context}
 use Rattle.rtl_lower.specs.declared.simple.Receiver.{Receiver}
 use Rattle.rtl_lower.specs.declared.statement.Turn.{Turn}
@@ -44,18 +44,18 @@ use Rattle.rtl_lower.proofs.Statements.{store_code, call_code, turn_block, has_b
 use Rattle.rtl_lower.proofs.Spots.{comes_equal}
 
 -- the same size, and less told
-meant : {A : Type 0} (size : Size) (old new : List RBlock) (Keeps Keeps' : A → Type 0) (Does Does' : A → List RBlock → Type 0)
-    (r : Result A LowerFault) → ((x : A) → Keeps x → Keeps' x) → ((x : A) → Over old new (Does x) → Over old new (Does' x))
-    → Emits size old new Keeps Does r → Emits size old new Keeps' Does' r
-meant size old new Keeps Keeps' Does Does' r keeps does e =
-    ended size size 0 old old new Keeps Keeps' Does Does' r
-    (record { blocks = omega arith; registers = omega arith; room = λ le. le; globals = omega arith }) (grows_same old) (omega arith) keeps does e
+meant : {A : Type 0} {part whole : Description A} {old new : List RBlock} {r : Result A LowerFault} → Emits part old new r
+    → Ends part.size whole.size 0 → ((x : A) → part.Keeps old new x → whole.Keeps old new x)
+    → ((x : A) → Over old new (part.Does x) → Over old new (whole.Does x)) → Emits whole old new r
+meant {old = old} e sizes keeps does = ended 0 e sizes (grows_same old) (omega arith) keeps does
+
+same_size : (s : Size) → Ends s s 0
+same_size s = record { blocks = omega arith; registers = omega arith; room = λ le. le; globals = omega arith }
 
 -- what an Ok promises
-emitted : {A : Type 0} (size : Size) (old new : List RBlock) (Keeps : A → Type 0) (Does : A → List RBlock → Type 0) (x : A)
-    → Grows old new → length new ≡ length old + size.blocks → size.registers ≤ MAX_REGISTERS → Keeps x → Over old new (Does x)
-    → Emits size old new Keeps Does (Ok x)
-emitted size old new Keeps Does x grows count room keeps does = record {
+emitted : {A : Type 0} {d : Description A} {old new : List RBlock} (x : A) → Grows old new → length new ≡ length old + d.size.blocks
+    → d.size.registers ≤ MAX_REGISTERS → d.Keeps old new x → Over old new (d.Does x) → Emits d old new (Ok x)
+emitted x grows count room keeps does = record {
   grows = grows;
   count = count;
   room = room;
@@ -65,12 +65,13 @@ emitted size old new Keeps Does x grows count room keeps does = record {
 }
 
 -- code as what other code goes on at
-made_emits : (size : Size) (old new : List RBlock) (Keeps : Continuation → Type 0) (Does : Continuation → List RBlock → Type 0)
-    (r : Result OpenBlock LowerFault) → Emits size old new (λ from. Keeps (Made from)) (λ from. Does (Made from)) r
-    → Emits size old new Keeps Does (made_of r)
-made_emits size old new Keeps Does (Ok from) e = emitted size old new Keeps Does (Made from) e.grows e.count e.room e.sound e.does
-made_emits size old new Keeps Does (Err f) e = part_refused size size 0 old old new _ Keeps _ Does f (Err f) refl (omega arith) (omega arith) (omega arith)
-    (grows_same old) (omega arith) e
+abbrev made : Description Continuation → Description OpenBlock
+made d = record { size = d.size; Keeps = λ old new from. d.Keeps old new (Made from); Does = λ from. d.Does (Made from) }
+
+made_emits : (d : Description Continuation) (old new : List RBlock) (r : Result OpenBlock LowerFault) → Emits (made d) old new r
+    → Emits d old new (made_of r)
+made_emits d old new (Ok from) e = emitted (Made from) e.grows e.count e.room e.sound e.does
+made_emits d old new (Err f) e = part_refused 0 e refl (omega arith) (omega arith) (omega arith) (grows_same old) (omega arith)
 
 -- a block that was sealed
 pub record Sealing (old new : List RBlock) (block : ℕ) (after : Spot) : Type 0 where
@@ -82,7 +83,7 @@ pub record Sealing (old new : List RBlock) (block : ℕ) (after : Spot) : Type 0
 
 -- code that first has a value in its place
 abbrev fetches_first : {bs : List RBlock} {free p next : ℕ} {e : TypedExpression} {rest : ℕ → Code} (from : OpenBlock) → IsPlace e free p next
-    → Fetches bs e free p (open_code from) (rest p) → FetchesFirst bs free e (Line (open_code from)) rest
+    → Fetches bs e free p (open_code from) (rest p) → FetchesFirst (enclosing bs free) e (Line (open_code from)) rest
 fetches_first {p = p} {next = next} from is_place value = record {
   code = open_code from;
   is = refl;
@@ -95,29 +96,28 @@ fetches_first {p = p} {next = next} from is_place value = record {
 -- statements that go on behind themselves alone
 
 pub simple_emits : (old new : List RBlock) (s s' : TypedStatement) (c : Context) (after : Spot) (code : Result OpenBlock LowerFault)
-    (r : Result Continuation LowerFault) → s ≡ s' → ((n : ℕ) → statement_joint s' n ≡ 1) → r ≡ made_of code → EmitsCode s' c.free after old new code
-    → EmitsStatement s c after old new r
+    (r : Result Continuation LowerFault) → s ≡ s' → ((n : ℕ) → statement_joint s' n ≡ 1) → r ≡ made_of code → Emits (simple_code s' c.free after) old new code
+    → Emits (statement_code s c after) old new r
 simple_emits old new s s' c after code r is one ir e =
-    subst (λ r. EmitsStatement s c after old new r) (sym ir) (subst (λ s. EmitsStatement s c after old new (made_of code)) (sym is)
-    (made_emits (statement_size s' c.free (joint after)) old new _ _ code
-    (meant (statement_size s' c.free (joint after)) old new _ _ _ _ code
+    subst (λ r. Emits (statement_code s c after) old new r) (sym ir) (subst (λ s. Emits (statement_code s c after) old new (made_of code)) (sym is)
+    (made_emits (statement_code s' c after) old new code
+    (meant e (same_size (statement_size s' c.free (joint after)))
     (λ from keeps. (sym (one (joint after)), λ p n gives inside f s l g h. keeps.0 p n gives inside f s l g (h.0, h.1.1.1), keeps.1))
-    (λ from does bs h. does bs h c.leave c.next) e)))
+    (λ from does bs h. does bs h c.leave c.next))))
 
 pub whole_emits : (old new : List RBlock) (s s' : TypedStatement) (c : Context) (after : Spot) (code : Result OpenBlock LowerFault)
-    (r : Result Continuation LowerFault) → s ≡ s' → r ≡ made_of code → EmitsStatement s' c after old new (made_of code)
-    → EmitsStatement s c after old new r
+    (r : Result Continuation LowerFault) → s ≡ s' → r ≡ made_of code → Emits (statement_code s' c after) old new (made_of code)
+    → Emits (statement_code s c after) old new r
 whole_emits old new s s' c after code r is ir e =
-    subst (λ r. EmitsStatement s c after old new r) (sym ir) (subst (λ s. EmitsStatement s c after old new (made_of code)) (sym is) e)
+    subst (λ r. Emits (statement_code s c after) old new r) (sym ir) (subst (λ s. Emits (statement_code s c after) old new (made_of code)) (sym is) e)
 
 pub local_emits : (old new : List RBlock) (to : Destination) (x local : ℕ) (e : TypedExpression) (free : ℕ) (after : Spot)
-    (r : Result OpenBlock LowerFault) → to ≡ Local x → local ≡ x → local < MAX_REGISTERS → EmitsValue e local free after old new r
-    → EmitsCode (assign to e) free after old new r
+    (r : Result OpenBlock LowerFault) → to ≡ Local x → local ≡ x → local < MAX_REGISTERS → Emits (value e local free after) old new r
+    → Emits (simple_code (assign to e) free after) old new r
 local_emits old new to x local e free after r it il lt v =
-    subst (λ to. EmitsCode (assign to e) free after old new r) (sym (it ∙ ap Local (sym il)))
-    (ended (value_size e free (joint after)) (statement_size (assign (Local local) e) free (joint after)) 0 old old new _ _ _ _ r
+    subst (λ to. Emits (simple_code (assign to e) free after) old new r) (sym (it ∙ ap Local (sym il)))
+    (meant v
     (record { blocks = omega arith; registers = omega arith; room = λ le. omega (arith, le, lt); globals = omega arith })
-    (grows_same old) (omega arith)
     (λ from keeps. (
       λ p n gives inside f s l g h.
           let le = h.0.registers_fit in
@@ -126,19 +126,18 @@ local_emits old new to x local e free after r it il lt v =
           keeps.0 s l g (to_it, ((few, named p s n e h.0 f.1), h.1)),
       keeps.1,
     ))
-    (λ from does bs h leave next. record { code = open_code from; is = refl; value = does bs h }) v)
+    (λ from does bs h leave next. record { code = open_code from; is = refl; value = does bs h }))
 
 pub variable_emits : (old new : List RBlock) (to : Destination) (x g : ℕ) (e : TypedExpression) (free p next z : ℕ) (last middle : OpenBlock)
     (after : Spot) (r : Result OpenBlock LowerFault) → to ≡ Variable x → g ≡ x → IsPlace e free p next → place_registers e free ≤ MAX_REGISTERS
     → z ≡ next → z < MAX_REGISTERS → open_code last ≡ first (I.Store g z p) (line_of after) → open_code middle ≡ first (I.Const z 0) (open_code last)
-    → EmitsOperand e p free middle old new r → EmitsCode (assign to e) free after old new r
+    → Emits (operand e p free middle) old new r → Emits (simple_code (assign to e) free after) old new r
 variable_emits old new to x g e free p next z last middle after r it ig pl room iz lt fl fm o =
     let next_is : z ≡ next_free e free = iz ∙ pl.next_is in
     let code : open_code middle ≡ first (I.Const z 0) (first (I.Store g z p) (line_of after)) = fm ∙ ap (first (I.Const z 0)) fl in
-    subst (λ to. EmitsCode (assign to e) free after old new r) (sym (it ∙ ap Variable (sym ig)))
-    (ended (value_size e free 1) (statement_size (assign (Variable g) e) free (joint after)) 0 old old new _ _ _ _ r
+    subst (λ to. Emits (simple_code (assign to e) free after) old new r) (sym (it ∙ ap Variable (sym ig)))
+    (meant o
     (record { blocks = omega arith; registers = omega arith; room = λ le. omega (arith, le, room, lt, next_is); globals = omega arith })
-    (grows_same old) (omega arith)
     (λ from keeps. (
       λ p' n gives inside f s l g' h.
           let there = in_scope p' s _ _ h.0 refl f.0 in
@@ -150,17 +149,17 @@ variable_emits old new to x g e free p next z last middle after r it ig pl room 
           keeps.0 s l g' (held, ((few, named p' s n e h.0 f.1), sound_first _ fm spare (sound_first _ fl (there, (spare, held)) (sound_line _ h.1)))),
       (let k = keeps.1 in let n = ap insts_of code in let a = line_insts after in omega (arith, k, n, a)),
     ))
-    (λ from does bs h leave next'. record { z = z; fetches = fetches_first from pl (finds_to code (does bs h)); spare = omega (arith, iz) }) o)
+    (λ from does bs h leave next'. record { z = z; fetches = fetches_first from pl (finds_to code (does bs h)); spare = omega (arith, iz) }))
 
 pub store_emits : (old mid new : List RBlock) (a a' : ℕ) (i e : TypedExpression) (free p next q last : ℕ) (code middle : OpenBlock) (after : Spot)
     (r : Result OpenBlock LowerFault) → a' ≡ a → IsPlace i free p next → place_registers i free ≤ MAX_REGISTERS → IsPlace e next q last
     → place_registers e next ≤ MAX_REGISTERS → open_code code ≡ first (I.Store a' p q) (line_of after)
-    → EmitsOperand e q next code old mid (Ok middle) → EmitsOperand i p free middle mid new r → EmitsCode (store a i e) free after old new r
+    → Emits (operand e q next code) old mid (Ok middle) → Emits (operand i p free middle) mid new r → Emits (simple_code (store a i e) free after) old new r
 store_emits old mid new a a' i e free p next q last code middle after r ia pi ri pe re fe second one =
     let values : value_registers e (next_free i free) ≤ MAX_REGISTERS = subst (λ n. value_registers e n ≤ MAX_REGISTERS) pi.next_is second.room in
     let places : place_registers e (next_free i free) ≤ MAX_REGISTERS = subst (λ n. place_registers e n ≤ MAX_REGISTERS) pi.next_is re in
     let c1 : length mid ≡ length old + value_blocks e 1 = second.count in
-    ended (value_size i free 1) (statement_size (store a i e) free (joint after)) (value_blocks e 1) old mid new _ _ _ _ r
+    ended (value_blocks e 1) one
     (record { blocks = omega arith; registers = omega arith; room = λ le. omega (arith, le, ri, places, values); globals = omega arith })
     second.grows c1
     (λ from keeps. (
@@ -181,13 +180,13 @@ store_emits old mid new a a' i e free p next q last code middle after r ia pi ri
       (let k = keeps.1 in let m = second.sound.1 in let n = ap insts_of fe in let a' = line_insts after in omega (arith, k, m, n, a')),
     ))
     (λ from does bs h leave next'. store_code old mid new free a a' i e p next q last (open_code from) (open_code middle) (open_code code) after
-    ia fe pi pe second.grows one.grows second.does does leave next' bs h) one
+    ia fe pi pe second.grows one.grows second.does does leave next' bs h)
 
 pub output_emits : (old mid new : List RBlock) (e : TypedExpression) (free b p next : ℕ) (end : OpenBlock) (after : Spot)
     (r : Result OpenBlock LowerFault) → Sealing old mid b after → IsPlace e free p next → place_registers e free ≤ MAX_REGISTERS
-    → open_code end ≡ exit_code (X.Out p b) → EmitsOperand e p free end mid new r → EmitsCode (output e) free after old new r
+    → open_code end ≡ exit_code (X.Out p b) → Emits (operand e p free end) mid new r → Emits (simple_code (output e) free after) old new r
 output_emits old mid new e free b p next end after r sealing pl room fe o =
-    ended (value_size e free 1) (statement_size (output e) free (joint after)) (joint after) old mid new _ _ _ _ r
+    ended (joint after) o
     (record { blocks = omega arith; registers = omega arith; room = λ le. omega (arith, le, room); globals = omega arith })
     sealing.grows sealing.count
     (λ from keeps. (
@@ -206,14 +205,14 @@ output_emits old mid new e free b p next end after r sealing pl room fe o =
       block = b;
       lands = sealing.lands bs sp.0;
       leaves = fetches_first from pl (finds_to fe (does bs sp.1));
-    }) o
+    })
 
 -- calls
 
 pub nowhere_emits : (old new : List RBlock) (to : Option Destination) (free b : ℕ) (after : Spot) → to ≡ None → Sealing old new b after
-    → EmitsReceiver to free after old new (Ok (record { to = None; block = b }))
+    → Emits (receiver to free after) old new (Ok (record { to = None; block = b }))
 nowhere_emits old new to free b after it sealing =
-    subst (λ to. EmitsReceiver to free after old new (Ok (record { to = None; block = b }))) (sym it) (record {
+    subst (λ to. Emits (receiver to free after) old new (Ok (record { to = None; block = b }))) (sym it) (record {
       grows = sealing.grows;
       count = sealing.count;
       room = omega arith;
@@ -223,9 +222,9 @@ nowhere_emits old new to free b after it sealing =
     })
 
 pub to_local_emits : (old new : List RBlock) (to : Option Destination) (x local free b : ℕ) (after : Spot) → to ≡ Some (Local x) → local ≡ x
-    → local < MAX_REGISTERS → Sealing old new b after → EmitsReceiver to free after old new (Ok (record { to = Some local; block = b }))
+    → local < MAX_REGISTERS → Sealing old new b after → Emits (receiver to free after) old new (Ok (record { to = Some local; block = b }))
 to_local_emits old new to x local free b after it il lt sealing =
-    subst (λ to. EmitsReceiver to free after old new (Ok (record { to = Some local; block = b }))) (sym (it ∙ ap (λ x. Some (Local x)) (sym il)))
+    subst (λ to. Emits (receiver to free after) old new (Ok (record { to = Some local; block = b }))) (sym (it ∙ ap (λ x. Some (Local x)) (sym il)))
     (record {
       grows = sealing.grows;
       count = sealing.count;
@@ -246,10 +245,10 @@ pub to_variable_emits : (old new : List RBlock) (to : Option Destination) (x g f
     → to ≡ Some (Variable x) → g ≡ x → t ≡ free → t < MAX_REGISTERS → z ≡ t + 1 → z < MAX_REGISTERS
     → open_code last ≡ first (I.Store g z t) (line_of after)
     → open_code code ≡ first (I.Const z 0) (open_code last) → Sealing old new b (Line (open_code code))
-    → EmitsReceiver to free after old new (Ok (record { to = Some t; block = b }))
+    → Emits (receiver to free after) old new (Ok (record { to = Some t; block = b }))
 to_variable_emits old new to x g free t z b last code after it ig ift lt iz ltz fl fc sealing =
     let both : open_code code ≡ first (I.Const z 0) (first (I.Store g z t) (line_of after)) = fc ∙ ap (first (I.Const z 0)) fl in
-    subst (λ to. EmitsReceiver to free after old new (Ok (record { to = Some t; block = b }))) (sym (it ∙ ap (λ x. Some (Variable x)) (sym ig)))
+    subst (λ to. Emits (receiver to free after) old new (Ok (record { to = Some t; block = b }))) (sym (it ∙ ap (λ x. Some (Variable x)) (sym ig)))
     (record {
       grows = sealing.grows;
       count = sealing.count;
@@ -277,11 +276,11 @@ to_variable_emits old new to x g free t z b last code after it ig ift lt iz ltz 
 
 pub call_emits : (old mid new : List RBlock) (to : Option Destination) (f f' : ℕ) (es : List TypedExpression) (free : ℕ) (x : Receiver)
     (places0 places ps1 ps2 : List Place) (args : Vec ℕ Global) (end : OpenBlock) (after : Spot) (r : Result OpenBlock LowerFault)
-    → f' ≡ f → EmitsReceiver to free after old mid (Ok x) → places0 ≡ [] → AddPlaces es free places0 places → places_registers es free ≤ MAX_REGISTERS
+    → f' ≡ f → Emits (receiver to free after) old mid (Ok x) → places0 ≡ [] → AddPlaces es free places0 places → places_registers es free ≤ MAX_REGISTERS
     → ps1 ≡ places → ps2 ≡ places → args.items ≡ map (λ p. p.register) ps1 → open_code end ≡ exit_code (X.Call f' args x.to x.block)
-    → EmitsOperands es ps2 free end mid new r → EmitsCode (call to f es) free after old new r
+    → Emits (operands es ps2 free end) mid new r → Emits (simple_code (call to f es) free after) old new r
 call_emits old mid new to f f' es free x places0 places ps1 ps2 args end after r ig receiver i0 add room i1 i2 ia fe values =
-    ended (values_size es free) (statement_size (call to f es) free (joint after)) (receiver_blocks to (joint after)) old mid new _ _ _ _ r
+    ended (receiver_blocks to (joint after)) values
     (record { blocks = omega arith; registers = omega arith; room = λ le. omega (arith, le, room, receiver.room); globals = omega arith })
     receiver.grows receiver.count
     (λ from keeps. (
@@ -299,24 +298,23 @@ call_emits old mid new to f f' es free x places0 places ps1 ps2 args end after r
       (let k = keeps.1 in let m = receiver.sound.1 in let n = ap insts_of fe in omega (arith, k, m, n)),
     ))
     (λ from does bs h leave next. call_code old mid new free to f f' x.to es places0 places ps1 ps2 args (open_code from) (open_code end) after x.block
-    ig i0 add i1 i2 ia fe receiver.grows values.grows receiver.does does leave next bs h) values
+    ig i0 add i1 i2 ia fe receiver.grows values.grows receiver.does does leave next bs h)
 
 -- returns
 
 pub nothing_returned : (old : List RBlock) (given : Option TypedExpression) (free : ℕ) (code : OpenBlock) (after : Spot) → given ≡ None
-    → open_code code ≡ exit_code (X.Return None) → EmitsCode (return_with given) free after old old (Ok code)
-nothing_returned old given free code after ig fe = subst (λ given. EmitsCode (return_with given) free after old old (Ok code)) (sym ig)
-    (emitted _ old old _ _ _ (grows_same old) (omega arith) (omega arith)
+    → open_code code ≡ exit_code (X.Return None) → Emits (simple_code (return_with given) free after) old old (Ok code)
+nothing_returned old given free code after ig fe = subst (λ given. Emits (simple_code (return_with given) free after) old old (Ok code)) (sym ig)
+    (emitted _ (grows_same old) (omega arith) (omega arith)
     (λ p n gives inside f s l g h. (g, sound_exit _ fe tt), (let n = ap insts_of fe in omega (arith, n))) (λ bs h leave next. ap Line fe))
 
 pub value_returned : (old new : List RBlock) (given : Option TypedExpression) (e : TypedExpression) (free p next : ℕ) (end : OpenBlock) (after : Spot)
     (r : Result OpenBlock LowerFault) → given ≡ Some e → IsPlace e free p next → place_registers e free ≤ MAX_REGISTERS
-    → open_code end ≡ exit_code (X.Return (Some p)) → EmitsOperand e p free end old new r → EmitsCode (return_with given) free after old new r
+    → open_code end ≡ exit_code (X.Return (Some p)) → Emits (operand e p free end) old new r → Emits (simple_code (return_with given) free after) old new r
 value_returned old new given e free p next end after r ig pl room fe o =
-    subst (λ given. EmitsCode (return_with given) free after old new r) (sym ig)
-    (ended (value_size e free 1) (statement_size (return_with (Some e)) free (joint after)) 0 old old new _ _ _ _ r
+    subst (λ given. Emits (simple_code (return_with given) free after) old new r) (sym ig)
+    (meant o
     (record { blocks = omega arith; registers = omega arith; room = λ le. omega (arith, le, room); globals = omega arith })
-    (grows_same old) (omega arith)
     (λ from keeps. (
       λ p' n gives inside f s l g h.
           let le = h.0.registers_fit in
@@ -326,57 +324,57 @@ value_returned old new given e free p next end after r ig pl room fe o =
           keeps.0 s l g (held, ((few, named p' s n e h.0 f.1), sound_exit _ fe held)),
       (let k = keeps.1 in let n = ap insts_of fe in omega (arith, k, n)),
     ))
-    (λ from does bs h leave next'. fetches_first from pl (finds_to fe (does bs h))) o)
+    (λ from does bs h leave next'. fetches_first from pl (finds_to fe (does bs h))))
 
 -- statements that are no code of their own
 
 pub nothing_emits : (old : List RBlock) (s : Tree.TypedStatement) (c : Context) (after : Continuation)
-    → (s ≡ Tree.Empty) ⊎ ((x : ℕ) × s ≡ Tree.Unset x) → EmitsStatement (statement_of s) c (spot after) old old (Ok after)
-nothing_emits old s c after (inl is) = subst (λ s. EmitsStatement (statement_of s) c (spot after) old old (Ok after)) (sym is)
-    (emitted _ old old _ _ _ (grows_same old) (omega arith) (omega arith) (refl, λ p n gives inside f s l g h. (g, h.1.1.1), omega arith) (λ bs h. refl))
-nothing_emits old s c after (inr is) = subst (λ s. EmitsStatement (statement_of s) c (spot after) old old (Ok after)) (sym is.1)
-    (emitted _ old old _ _ _ (grows_same old) (omega arith) (omega arith) (refl, λ p n gives inside f s l g h. (g, h.1.1.1), omega arith) (λ bs h. refl))
+    → (s ≡ Tree.Empty) ⊎ ((x : ℕ) × s ≡ Tree.Unset x) → Emits (statement_code (statement_of s) c (spot after)) old old (Ok after)
+nothing_emits old s c after (inl is) = subst (λ s. Emits (statement_code (statement_of s) c (spot after)) old old (Ok after)) (sym is)
+    (emitted _ (grows_same old) (omega arith) (omega arith) (refl, λ p n gives inside f s l g h. (g, h.1.1.1), omega arith) (λ bs h. refl))
+nothing_emits old s c after (inr is) = subst (λ s. Emits (statement_code (statement_of s) c (spot after)) old old (Ok after)) (sym is.1)
+    (emitted _ (grows_same old) (omega arith) (omega arith) (refl, λ p n gives inside f s l g h. (g, h.1.1.1), omega arith) (λ bs h. refl))
 
 pub break_emits : (old : List RBlock) (s : TypedStatement) (c : Context) (after : Spot) → s ≡ break_loop
-    → EmitsStatement s c after old old (Ok (Jump c.leave))
-break_emits old s c after is = subst (λ s. EmitsStatement s c after old old (Ok (Jump c.leave))) (sym is)
-    (emitted _ old old _ _ _ (grows_same old) (omega arith) (omega arith) (refl, λ p n gives inside f s l g h. (g, h.1.0), omega arith) (λ bs h. refl))
+    → Emits (statement_code s c after) old old (Ok (Jump c.leave))
+break_emits old s c after is = subst (λ s. Emits (statement_code s c after) old old (Ok (Jump c.leave))) (sym is)
+    (emitted _ (grows_same old) (omega arith) (omega arith) (refl, λ p n gives inside f s l g h. (g, h.1.0), omega arith) (λ bs h. refl))
 
 pub continue_emits : (old : List RBlock) (s : TypedStatement) (c : Context) (b : ℕ) (after : Spot) → s ≡ continue_loop → c.next ≡ Some b
-    → EmitsStatement s c after old old (Ok (Jump b))
-continue_emits old s c b after is ib = subst (λ s. EmitsStatement s c after old old (Ok (Jump b))) (sym is)
-    (emitted _ old old _ _ _ (grows_same old) (omega arith) (omega arith)
+    → Emits (statement_code s c after) old old (Ok (Jump b))
+continue_emits old s c b after is ib = subst (λ s. Emits (statement_code s c after) old old (Ok (Jump b))) (sym is)
+    (emitted _ (grows_same old) (omega arith) (omega arith)
     (refl, λ p n gives inside f s l g h. (g, subst (λ next. IfSome next (λ b. b < s.blocks)) ib h.1.1.0), omega arith) (λ bs h. (b, ib, refl)))
 
 -- lists of statements
 
 pub block_emits : (old new : List RBlock) (s : TypedStatement) (all : TypedStatements) (c : Context) (after : Spot)
-    (r : Result Continuation LowerFault) → s ≡ block all → EmitsStatements all c after old new r → EmitsStatement s c after old new r
-block_emits old new s all c after r is e = subst (λ s. EmitsStatement s c after old new r) (sym is)
-    (meant (statements_size all c.free (joint after)) old new _ _ _ _ r (λ from keeps. keeps) (λ from does. does) e)
+    (r : Result Continuation LowerFault) → s ≡ block all → Emits (statements_code all c after) old new r → Emits (statement_code s c after) old new r
+block_emits old new s all c after r is e = subst (λ s. Emits (statement_code s c after) old new r) (sym is)
+    (meant e (same_size (statements_size all c.free (joint after))) (λ from keeps. keeps) (λ from does. does))
 
 pub none_emits : (old : List RBlock) (all : TypedStatements) (c : Context) (after : Continuation) → all ≡ no_statements
-    → EmitsStatements all c (spot after) old old (Ok after)
-none_emits old all c after is = subst (λ all. EmitsStatements all c (spot after) old old (Ok after)) (sym is)
-    (emitted _ old old _ _ _ (grows_same old) (omega arith) (omega arith) (refl, λ p n gives inside f s l g h. (g, h.1.1.1), omega arith) (λ bs h. refl))
+    → Emits (statements_code all c (spot after)) old old (Ok after)
+none_emits old all c after is = subst (λ all. Emits (statements_code all c (spot after)) old old (Ok after)) (sym is)
+    (emitted _ (grows_same old) (omega arith) (omega arith) (refl, λ p n gives inside f s l g h. (g, h.1.1.1), omega arith) (λ bs h. refl))
 
 pub more_emits : (old mid new : List RBlock) (all : TypedStatements) (s : TypedStatement) (rest : TypedStatements) (c : Context) (after : Spot)
-    (middle : Continuation) (r : Result Continuation LowerFault) → all ≡ more_statements s rest → EmitsStatements rest c after old mid (Ok middle)
-    → EmitsStatement s c (spot middle) mid new r → EmitsStatements all c after old new r
+    (middle : Continuation) (r : Result Continuation LowerFault) → all ≡ more_statements s rest → Emits (statements_code rest c after) old mid (Ok middle)
+    → Emits (statement_code s c (spot middle)) mid new r → Emits (statements_code all c after) old new r
 more_emits old mid new all s rest c after middle r is others one =
     let same : joint (spot middle) ≡ statements_joint rest (joint after) = others.sound.0 in
     let blocks : statement_blocks s (joint (spot middle)) ≡ statement_blocks s (statements_joint rest (joint after)) = ap (statement_blocks s) same in
     let c1 : length mid ≡ length old + statements_blocks rest (joint after) = others.count in
     let room1 : statements_registers rest c.free ≤ MAX_REGISTERS = others.room in
-    subst (λ all. EmitsStatements all c after old new r) (sym is)
-    (ended (statement_size s c.free (joint (spot middle))) (statements_size (more_statements s rest) c.free (joint after))
-    (statements_blocks rest (joint after)) old mid new _ _ _ _ r
+    subst (λ all. Emits (statements_code all c after) old new r) (sym is)
+    (ended (statements_blocks rest (joint after)) one
     (record {
       blocks = omega (arith, blocks);
       registers = omega arith;
       room = λ le. omega (arith, le, room1);
       globals = omega arith;
-    }) others.grows c1
+    })
+    others.grows c1
     (λ from keeps. (
       keeps.0 ∙ ap (statement_joint s) same,
       λ p n gives inside f s' l g h.
@@ -386,20 +384,18 @@ more_emits old mid new all s rest c after middle r is others one =
     ))
     (λ from does bs h.
     let sp = split2 bs old mid new others.grows one.grows h in
-    (spot middle, does bs sp.1, others.does bs sp.0)) one)
+    (spot middle, does bs sp.1, others.does bs sp.0)))
 
 -- where one statement of a list fails, and the last ones are made
 pub list_stopped : (old new : List RBlock) (all : List Tree.TypedStatement) (k : ℕ) (c : Context) (after : Spot) (f : LowerFault)
-    (r : Result Continuation LowerFault) → r ≡ Err f → EmitsStatements (statements_of (drop k all)) c after old new (Err f)
-    → EmitsStatements (statements_of all) c after old new r
+    (r : Result Continuation LowerFault) → r ≡ Err f → Emits (statements_code (statements_of (drop k all)) c after) old new (Err f)
+    → Emits (statements_code (statements_of all) c after) old new r
 list_stopped old new all k c after f r ir e =
-    part_refused (statements_size (statements_of (drop k all)) c.free (joint after)) (statements_size (statements_of all) c.free (joint after)) 0
-    old old new _ _ _ _ f r ir (rest_registers k all c.free) (omega (arith, rest_blocks k all (joint after))) (rest_numbers k all) (grows_same old)
-    (omega arith) e
+    part_refused 0 e ir (rest_registers k all c.free) (omega (arith, rest_blocks k all (joint after))) (rest_numbers k all) (grows_same old) (omega arith)
 
 pub all_emitted : (old new : List RBlock) (all : List Tree.TypedStatement) (k : ℕ) (c : Context) (after : Spot) (r : Result Continuation LowerFault)
-    → k ≡ 0 → EmitsStatements (statements_of (drop k all)) c after old new r → EmitsStatements (statements_of all) c after old new r
-all_emitted old new all k c after r ik e = subst (λ k. EmitsStatements (statements_of (drop k all)) c after old new r) ik e
+    → k ≡ 0 → Emits (statements_code (statements_of (drop k all)) c after) old new r → Emits (statements_code (statements_of all) c after) old new r
+all_emitted old new all k c after r ik e = subst (λ k. Emits (statements_code (statements_of (drop k all)) c after) old new r) ik e
 
 -- `if`
 
@@ -407,11 +403,11 @@ pub if_is : {s : TypedStatement} {e : TypedExpression} {a b a' b' : TypedStateme
 if_is {s} {e} {a} {b} {a'} is ia ib = is ∙ ap (λ a. if_else e a b) (sym ia) ∙ ap (λ b. if_else e a' b) (sym ib)
 
 pub side_emits : (old mid new : List RBlock) (s : TypedStatement) (c : Context) (join : ℕ) (code : Continuation) (r : Result ℕ LowerFault)
-    → EmitsStatement s c (Block join) old mid (Ok code) → Grows mid new → OnOk r (length new ≡ length mid + joint (spot code))
+    → Emits (statement_code s c (Block join)) old mid (Ok code) → Grows mid new → OnOk r (length new ≡ length mid + joint (spot code))
     → OnOk r (insts_in new ≡ insts_in mid + insts_at (spot code))
     → IfErr r (λ f. f ≡ Limit → MAX_BLOCKS < length mid + joint (spot code))
     → IfOk r (λ b. KeepsSound mid new (λ s. IsSoundSpot s (spot code)) (λ s. b < s.blocks))
-    → IfOk r (λ b. (bs : List RBlock) → Has bs mid new → Lands bs b (spot code)) → EmitsSide s c join old new r
+    → IfOk r (λ b. (bs : List RBlock) → Has bs mid new → Lands bs b (spot code)) → Emits (side_code s c join) old new r
 side_emits old mid new s c join code (Ok b) e g count insts limit sound lands =
     let c1 : length mid ≡ length old + statement_blocks s 0 = e.count in
     let same : joint (spot code) ≡ statement_joint s 0 = e.sound.0 in
@@ -444,20 +440,20 @@ side_emits old mid new s c join code (Err f) e g count insts limit sound lands =
 
 pub if_emits : (b0 b1 b2 b3 b4 : List RBlock) (e : TypedExpression) (a b : TypedStatement) (c : Context) (join y n : ℕ) (likely : Bool)
     (after : Spot) (r : Result OpenBlock LowerFault) → likely ≡ (stays a && not (is_equality e)) → Sealing b0 b1 join after
-    → EmitsSide a c join b1 b2 (Ok y) → EmitsSide b c join b2 b3 (Ok n)
-    → EmitsBranch (condition_size e likely c.free) e (record { yes = y; no = n; likely = likely }) c.free b3 b4 r
-    → EmitsStatement (if_else e a b) c after b0 b4 (made_of r)
+    → Emits (side_code a c join) b1 b2 (Ok y) → Emits (side_code b c join) b2 b3 (Ok n)
+    → Emits (condition_branch e (record { yes = y; no = n; likely = likely }) c.free) b3 b4 r
+    → Emits (statement_code (if_else e a b) c after) b0 b4 (made_of r)
 if_emits b0 b1 b2 b3 b4 e a b c join y n likely after r il sealing one other test =
     let likely' = stays a && not (is_equality e) in
-    let test' = subst (λ l. EmitsBranch (condition_size e l c.free) e (record { yes = y; no = n; likely = l }) c.free b3 b4 r) il test in
+    let test' = subst (λ l. Emits (condition_branch e (record { yes = y; no = n; likely = l }) c.free) b3 b4 r) il test in
     let g13 = grows_then b1 b2 b3 one.grows other.grows in
     let c1 : length b2 ≡ length b1 + (statement_blocks a 0 + statement_joint a 0) = one.count in
     let c2 : length b3 ≡ length b2 + (statement_blocks b 0 + statement_joint b 0) = other.count in
     let r1 : statement_registers a c.free ≤ MAX_REGISTERS = one.room in
     let r2 : statement_registers b c.free ≤ MAX_REGISTERS = other.room in
     let sides = statement_blocks a 0 + statement_joint a 0 + statement_blocks b 0 + statement_joint b 0 in
-    made_emits (statement_size (if_else e a b) c.free (joint after)) b0 b4 _ _ r
-    (ended (condition_size e likely' c.free) (statement_size (if_else e a b) c.free (joint after)) (joint after + sides) b0 b3 b4 _ _ _ _ r
+    made_emits (statement_code (if_else e a b) c after) b0 b4 r
+    (ended (joint after + sides) test'
     (record { blocks = omega arith; registers = omega arith; room = λ le. omega (arith, le, r1, r2); globals = omega arith })
     (grows_then b0 b1 b3 sealing.grows g13) (omega (arith, sealing.count, c1, c2))
     (λ from keeps. (
@@ -491,37 +487,34 @@ if_emits b0 b1 b2 b3 b4 e a b c join y n likely after r il sealing one other tes
       b_lands = z.1;
       b_for = z.2;
       test = does bs sp.3;
-    }) test')
+    }))
 
 -- what is told where a part of an `if` is refused: where it goes on, a side, or the side behind it
 
 pub side_stops : (old new : List RBlock) (s : TypedStatement) (c : Context) (join : ℕ) (f : LowerFault) (r : Result ℕ LowerFault) → r ≡ Err f
-    → EmitsStatement s c (Block join) old new (Err f) → EmitsSide s c join old new r
+    → Emits (statement_code s c (Block join)) old new (Err f) → Emits (side_code s c join) old new r
 side_stops old new s c join f r is e =
-    part_refused (statement_size s c.free 0) (side_size s c.free) 0 old old new _ _ _ _ f r is (omega arith) (omega arith) (omega arith) (grows_same old)
-    (omega arith) e
+    part_refused 0 e is (omega arith) (omega arith) (omega arith) (grows_same old) (omega arith)
 
 pub join_stops : (old new : List RBlock) (s : TypedStatement) (c : Context) (after : Spot) (f : LowerFault) (r : Result OpenBlock LowerFault) → r ≡ Err f
     → new ≡ old → joint after ≤ statement_blocks s (joint after) → (f ≡ Limit → MAX_BLOCKS < length old + joint after)
-    → EmitsStatement s c after old new (made_of r)
+    → Emits (statement_code s c after) old new (made_of r)
 join_stops old new s c after f r is same few limit =
-    refused (statement_size s c.free (joint after)) old new _ _ f (made_of r) (ap made_of is) same (λ l. let more = limit l in omega (arith, more, few))
+    refused f (ap made_of is) same (λ l. let more = limit l in omega (arith, more, few))
 
 pub if_first_stops : (b0 b1 b2 : List RBlock) (e : TypedExpression) (a b : TypedStatement) (c : Context) (join : ℕ) (after : Spot) (f : LowerFault)
-    (r : Result OpenBlock LowerFault) → r ≡ Err f → Sealing b0 b1 join after → EmitsSide a c join b1 b2 (Err f)
-    → EmitsStatement (if_else e a b) c after b0 b2 (made_of r)
+    (r : Result OpenBlock LowerFault) → r ≡ Err f → Sealing b0 b1 join after → Emits (side_code a c join) b1 b2 (Err f)
+    → Emits (statement_code (if_else e a b) c after) b0 b2 (made_of r)
 if_first_stops b0 b1 b2 e a b c join after f r is sealing one =
-    part_refused (side_size a c.free) (statement_size (if_else e a b) c.free (joint after)) (joint after) b0 b1 b2 _ _ _ _ f (made_of r) (ap made_of is)
-    (omega arith) (omega arith) (omega arith) sealing.grows sealing.count one
+    part_refused (joint after) one (ap made_of is) (omega arith) (omega arith) (omega arith) sealing.grows sealing.count
 
 pub if_second_stops : (b0 b1 b2 b3 : List RBlock) (e : TypedExpression) (a b : TypedStatement) (c : Context) (join y : ℕ) (after : Spot)
-    (f : LowerFault) (r : Result OpenBlock LowerFault) → r ≡ Err f → Sealing b0 b1 join after → EmitsSide a c join b1 b2 (Ok y)
-    → EmitsSide b c join b2 b3 (Err f) → EmitsStatement (if_else e a b) c after b0 b3 (made_of r)
+    (f : LowerFault) (r : Result OpenBlock LowerFault) → r ≡ Err f → Sealing b0 b1 join after → Emits (side_code a c join) b1 b2 (Ok y)
+    → Emits (side_code b c join) b2 b3 (Err f) → Emits (statement_code (if_else e a b) c after) b0 b3 (made_of r)
 if_second_stops b0 b1 b2 b3 e a b c join y after f r is sealing one other =
     let c1 : length b2 ≡ length b1 + (statement_blocks a 0 + statement_joint a 0) = one.count in
-    part_refused (side_size b c.free) (statement_size (if_else e a b) c.free (joint after)) (joint after + (statement_blocks a 0 + statement_joint a 0))
-    b0 b2 b3 _ _ _ _ f (made_of r) (ap made_of is) (omega arith) (omega arith) (omega arith) (grows_then b0 b1 b2 sealing.grows one.grows)
-    (omega (arith, sealing.count, c1)) other
+    part_refused (joint after + (statement_blocks a 0 + statement_joint a 0)) other (ap made_of is) (omega arith) (omega arith) (omega arith)
+    (grows_then b0 b1 b2 sealing.grows one.grows) (omega (arith, sealing.count, c1))
 
 -- loops
 
@@ -529,9 +522,9 @@ pub loop_is : {s : TypedStatement} {e : TypedExpression} {a b a' b' : TypedState
 loop_is {s} {e} {a} {b} {a'} is ia ib = is ∙ ap (λ a. loop e a b) (sym ia) ∙ ap (λ b. loop e a' b) (sym ib)
 
 pub block_ends : (old new : List RBlock) (many : Bool) (last : Spot) (b : ℕ) → many ≡ true → Sealing old new b last
-    → EndsTurn many last old new (Ok (record { next = Some b; after = Jump b }))
+    → Emits (end_of_turn many last) old new (Ok (record { next = Some b; after = Jump b }))
 block_ends old new many last b im sealing =
-    subst (λ many. EndsTurn many last old new (Ok (record { next = Some b; after = Jump b }))) (sym im) (record {
+    subst (λ many. Emits (end_of_turn many last) old new (Ok (record { next = Some b; after = Jump b }))) (sym im) (record {
       grows = sealing.grows;
       count = sealing.count;
       room = omega arith;
@@ -541,9 +534,9 @@ block_ends old new many last b im sealing =
     })
 
 pub line_ends : (old : List RBlock) (many : Bool) (last : Continuation) → many ≡ false
-    → EndsTurn many (spot last) old old (Ok (record { next = None; after = last }))
+    → Emits (end_of_turn many (spot last)) old old (Ok (record { next = None; after = last }))
 line_ends old many last im =
-    subst (λ many. EndsTurn many (spot last) old old (Ok (record { next = None; after = last }))) (sym im) (record {
+    subst (λ many. Emits (end_of_turn many (spot last)) old old (Ok (record { next = None; after = last }))) (sym im) (record {
       grows = grows_same old;
       count = omega arith;
       room = omega arith;
@@ -554,8 +547,8 @@ line_ends old many last im =
 
 pub turn_emits : (b0 b1 b2 b3 : List RBlock) (e : TypedExpression) (last : TypedStatement) (c : Context) (many : Bool) (again : Targets)
     (bottom : OpenBlock) (code : Continuation) (r : Result Turn LowerFault)
-    → EmitsBranch (condition_size e again.likely c.free) e again c.free b0 b1 (Ok bottom)
-    → EmitsStatement last c (Line (open_code bottom)) b1 b2 (Ok code) → EndsTurn many (spot code) b2 b3 r → EmitsTurn e last c many again b0 b3 r
+    → Emits (condition_branch e again c.free) b0 b1 (Ok bottom)
+    → Emits (statement_code last c (Line (open_code bottom))) b1 b2 (Ok code) → Emits (end_of_turn many (spot code)) b2 b3 r → Emits (last_code e last c many again) b0 b3 r
 turn_emits b0 b1 b2 b3 e last c many again bottom code r test part end =
     let same : joint (spot code) ≡ statement_joint last 1 = part.sound.0 in
     let blocks : (if many then joint (spot code) else 0) ≡ (if many then statement_joint last 1 else 0) = ap (λ n. if many then n else 0) same in
@@ -563,7 +556,7 @@ turn_emits b0 b1 b2 b3 e last c many again bottom code r test part end =
     let c2 : length b2 ≡ length b1 + statement_blocks last 1 = part.count in
     let r1 : (condition_size e again.likely c.free).registers ≤ MAX_REGISTERS = test.room in
     let r2 : statement_registers last c.free ≤ MAX_REGISTERS = part.room in
-    ended (turn_end many (joint (spot code))) (turn_size e last many again.likely c.free) (condition_blocks e + statement_blocks last 1) b0 b2 b3 _ _ _ _ r
+    ended (condition_blocks e + statement_blocks last 1) end
     (record { blocks = omega (arith, blocks); registers = omega arith; room = λ le. omega (arith, r1, r2); globals = omega arith })
     (grows_then b0 b1 b2 test.grows part.grows) (omega (arith, c1, c2))
     (λ t keeps. (
@@ -579,7 +572,7 @@ turn_emits b0 b1 b2 b3 e last c many again bottom code r test part end =
     ))
     (λ t does bs h.
     let sp = split3 bs b0 b1 b2 b3 test.grows part.grows end.grows h in
-    record { from = spot code; is_turn = does bs sp.2; bottom = open_code bottom; coded = part.does bs sp.1; test = test.does bs sp.0 }) end
+    record { from = spot code; is_turn = does bs sp.2; bottom = open_code bottom; coded = part.does bs sp.1; test = test.does bs sp.0 })
 
 grows_filled : (b0 b5 b6 : List RBlock) (head : ℕ) (c : Code) → Grows b0 b5 → length b0 ≤ head → Fills b5 b6 head c → Grows b0 b6
 grows_filled b0 b5 b6 head c g low f = record {
@@ -590,16 +583,16 @@ grows_filled b0 b5 b6 head c g low f = record {
 pub loop_emits : (b0 b1 b2 b3 b4 b5 b6 : List RBlock) (e : TypedExpression) (last body : TypedStatement) (c inner : Context) (many : Bool)
     (left head : ℕ) (turn : Turn) (code : Continuation) (top : OpenBlock) (filled : Code) (after : Spot) → many ≡ continues body
     → inner ≡ record { alloc = c.alloc; free = c.free; leave = left; next = turn.next } → Sealing b0 b1 left after → Reserves b1 b2 head
-    → insts_in b2 ≡ insts_in b1 → ((s : Scope) → AreSound s b1 → AreSound s b2) → EmitsTurn e last c many (record { yes = head; no = left; likely = true }) b2 b3 (Ok turn)
-    → EmitsStatement body inner (spot turn.after) b3 b4 (Ok code)
-    → EmitsBranch (condition_size e true c.free) e (record { yes = head; no = left; likely = true }) c.free b4 b5 (Ok top)
+    → insts_in b2 ≡ insts_in b1 → ((s : Scope) → AreSound s b1 → AreSound s b2) → Emits (last_code e last c many (record { yes = head; no = left; likely = true })) b2 b3 (Ok turn)
+    → Emits (statement_code body inner (spot turn.after)) b3 b4 (Ok code)
+    → Emits (condition_branch e (record { yes = head; no = left; likely = true }) c.free) b4 b5 (Ok top)
     → filled ≡ line_of (spot code) → Fills b5 b6 head filled → insts_in b6 ≤ insts_in b5 + insts_of filled
     → ((s : Scope) → AreSound s b5 → IsSound s filled → AreSound s b6)
-    → EmitsStatement (loop e last body) c after b0 b6 (Ok (Made top))
+    → Emits (statement_code (loop e last body) c after) b0 b6 (Ok (Made top))
 loop_emits b0 b1 b2 b3 b4 b5 b6 e last body c inner many left head turn code top filled after im ii sealing res i2 kept turns inside test ie f i6 sound =
-    let body_emits = subst (λ inner. EmitsStatement body inner (spot turn.after) b3 b4 (Ok code)) ii inside in
+    let body_emits = subst (λ inner. Emits (statement_code body inner (spot turn.after)) b3 b4 (Ok code)) ii inside in
     let turn_emits' =
-    subst (λ many. EmitsTurn e last c many (record { yes = head; no = left; likely = true }) b2 b3 (Ok turn)) im turns in
+    subst (λ many. Emits (last_code e last c many (record { yes = head; no = left; likely = true })) b2 b3 (Ok turn)) im turns in
     let g35 = grows_then b3 b4 b5 body_emits.grows test.grows in
     let g25 = grows_then b2 b3 b5 turn_emits'.grows g35 in
     let g15 = grows_then b1 b2 b5 res.grows g25 in
@@ -608,10 +601,10 @@ loop_emits b0 b1 b2 b3 b4 b5 b6 e last body c inner many left head turn code top
     let in_b2 : head < length b2 = omega (arith, res.number, res.longer) in
     let same : joint (spot turn.after) ≡ (if continues body then 0 else statement_joint last 1) = turn_emits'.sound.0.1 in
     let body_blocks = ap (statement_blocks body) same in
-    let c2 : length b3 ≡ length b2 + (turn_size e last (continues body) true c.free).blocks = turn_emits'.count in
+    let c2 : length b3 ≡ length b2 + (last_size e last (continues body) true c.free).blocks = turn_emits'.count in
     let c3 : length b4 ≡ length b3 + statement_blocks body (joint (spot turn.after)) = body_emits.count in
     let c4 : length b5 ≡ length b4 + condition_blocks e = test.count in
-    let r2 : (turn_size e last (continues body) true c.free).registers ≤ MAX_REGISTERS = turn_emits'.room in
+    let r2 : (last_size e last (continues body) true c.free).registers ≤ MAX_REGISTERS = turn_emits'.room in
     let r3 : statement_registers body c.free ≤ MAX_REGISTERS = body_emits.room in
     record {
       grows = grows_filled b0 b5 b6 head filled g05 low f;
@@ -669,27 +662,25 @@ loop_emits b0 b1 b2 b3 b4 b5 b6 e last body c inner many left head turn code top
 -- what is told where a part of a loop's turn is refused
 
 pub bottom_stops : (old new : List RBlock) (e : TypedExpression) (last : TypedStatement) (c : Context) (many : Bool) (again : Targets)
-    (f : LowerFault) (r : Result Turn LowerFault) → r ≡ Err f → EmitsBranch (condition_size e again.likely c.free) e again c.free old new (Err f)
-    → EmitsTurn e last c many again old new r
+    (f : LowerFault) (r : Result Turn LowerFault) → r ≡ Err f → Emits (condition_branch e again c.free) old new (Err f)
+    → Emits (last_code e last c many again) old new r
 bottom_stops old new e last c many again f r is test =
-    part_refused (condition_size e again.likely c.free) (turn_size e last many again.likely c.free) 0 old old new _ _ _ _ f r is (omega arith) (omega arith)
-    (omega arith) (grows_same old) (omega arith) test
+    part_refused 0 test is (omega arith) (omega arith) (omega arith) (grows_same old) (omega arith)
 
 pub last_stops : (b0 b1 b2 : List RBlock) (e : TypedExpression) (last : TypedStatement) (c : Context) (many : Bool) (again : Targets)
     (bottom : OpenBlock) (f : LowerFault) (r : Result Turn LowerFault) → r ≡ Err f
-    → EmitsBranch (condition_size e again.likely c.free) e again c.free b0 b1 (Ok bottom)
-    → EmitsStatement last c (Line (open_code bottom)) b1 b2 (Err f) → EmitsTurn e last c many again b0 b2 r
+    → Emits (condition_branch e again c.free) b0 b1 (Ok bottom)
+    → Emits (statement_code last c (Line (open_code bottom))) b1 b2 (Err f) → Emits (last_code e last c many again) b0 b2 r
 last_stops b0 b1 b2 e last c many again bottom f r is test part =
-    part_refused (statement_size last c.free 1) (turn_size e last many again.likely c.free) (condition_blocks e) b0 b1 b2 _ _ _ _ f r is (omega arith)
-    (omega arith) (omega arith) test.grows test.count part
+    part_refused (condition_blocks e) part is (omega arith) (omega arith) (omega arith) test.grows test.count
 
 -- and of a loop
 
 pub loop_head_stops : (b0 b1 b2 : List RBlock) (e : TypedExpression) (last body : TypedStatement) (c : Context) (left : ℕ) (after : Spot)
     (f : LowerFault) (r : Result OpenBlock LowerFault) → r ≡ Err f → Sealing b0 b1 left after → b2 ≡ b1
-    → (f ≡ Limit → MAX_BLOCKS < length b1 + 1) → EmitsStatement (loop e last body) c after b0 b2 (made_of r)
+    → (f ≡ Limit → MAX_BLOCKS < length b1 + 1) → Emits (statement_code (loop e last body) c after) b0 b2 (made_of r)
 loop_head_stops b0 b1 b2 e last body c left after f r is sealing same limit =
-    subst (λ r. EmitsStatement (loop e last body) c after b0 b2 r) (sym (ap made_of is)) (record {
+    subst (λ r. Emits (statement_code (loop e last body) c after) b0 b2 r) (sym (ap made_of is)) (record {
       grows = subst (λ b. Grows b0 b) (sym same) sealing.grows;
       count = tt;
       room = tt;
@@ -705,47 +696,43 @@ pub record Heading (b0 b1 b2 : List RBlock) (left head : ℕ) (after : Spot) : T
 
 pub loop_turn_stops : (b0 b1 b2 b3 : List RBlock) (e : TypedExpression) (last body : TypedStatement) (c : Context) (many : Bool) (left head : ℕ)
     (after : Spot) (f : LowerFault) (r : Result OpenBlock LowerFault) → r ≡ Err f → many ≡ continues body → Heading b0 b1 b2 left head after
-    → EmitsTurn e last c many (record { yes = head; no = left; likely = true }) b2 b3 (Err f)
-    → EmitsStatement (loop e last body) c after b0 b3 (made_of r)
+    → Emits (last_code e last c many (record { yes = head; no = left; likely = true })) b2 b3 (Err f)
+    → Emits (statement_code (loop e last body) c after) b0 b3 (made_of r)
 loop_turn_stops b0 b1 b2 b3 e last body c many left head after f r is im h turns =
-    let turn = subst (λ many. EmitsTurn e last c many (record { yes = head; no = left; likely = true }) b2 b3 (Err f)) im turns in
-    part_refused (turn_size e last (continues body) true c.free) (statement_size (loop e last body) c.free (joint after)) (joint after + 1) b0 b2 b3 _ _ _ _ f
-    (made_of r) (ap made_of is) (omega arith) (omega arith) (omega arith) (grows_then b0 b1 b2 h.sealing.grows h.reserves.grows)
-    (omega (arith, h.sealing.count, h.reserves.longer)) turn
+    let turn = subst (λ many. Emits (last_code e last c many (record { yes = head; no = left; likely = true })) b2 b3 (Err f)) im turns in
+    part_refused (joint after + 1) turn (ap made_of is) (omega arith) (omega arith) (omega arith)
+    (grows_then b0 b1 b2 h.sealing.grows h.reserves.grows) (omega (arith, h.sealing.count, h.reserves.longer))
 
 pub loop_body_stops : (b0 b1 b2 b3 b4 : List RBlock) (e : TypedExpression) (last body : TypedStatement) (c inner : Context) (many : Bool)
     (left head : ℕ) (turn : Turn) (after : Spot) (f : LowerFault) (r : Result OpenBlock LowerFault) → r ≡ Err f → many ≡ continues body
     → inner ≡ record { alloc = c.alloc; free = c.free; leave = left; next = turn.next } → Heading b0 b1 b2 left head after
-    → EmitsTurn e last c many (record { yes = head; no = left; likely = true }) b2 b3 (Ok turn)
-    → EmitsStatement body inner (spot turn.after) b3 b4 (Err f) → EmitsStatement (loop e last body) c after b0 b4 (made_of r)
+    → Emits (last_code e last c many (record { yes = head; no = left; likely = true })) b2 b3 (Ok turn)
+    → Emits (statement_code body inner (spot turn.after)) b3 b4 (Err f) → Emits (statement_code (loop e last body) c after) b0 b4 (made_of r)
 loop_body_stops b0 b1 b2 b3 b4 e last body c inner many left head turn after f r is im ii h turns inside =
-    let body_emits = subst (λ inner. EmitsStatement body inner (spot turn.after) b3 b4 (Err f)) ii inside in
-    let turns' = subst (λ many. EmitsTurn e last c many (record { yes = head; no = left; likely = true }) b2 b3 (Ok turn)) im turns in
+    let body_emits = subst (λ inner. Emits (statement_code body inner (spot turn.after)) b3 b4 (Err f)) ii inside in
+    let turns' = subst (λ many. Emits (last_code e last c many (record { yes = head; no = left; likely = true })) b2 b3 (Ok turn)) im turns in
     let same : joint (spot turn.after) ≡ (if continues body then 0 else statement_joint last 1) = turns'.sound.0.1 in
     let blocks = ap (statement_blocks body) same in
-    let c2 : length b3 ≡ length b2 + (turn_size e last (continues body) true c.free).blocks = turns'.count in
-    part_refused (statement_size body c.free (joint (spot turn.after))) (statement_size (loop e last body) c.free (joint after))
-    (joint after + 1 + (turn_size e last (continues body) true c.free).blocks) b0 b3 b4 _ _ _ _ f (made_of r) (ap made_of is) (omega arith)
-    (omega (arith, blocks)) (omega arith)
-    (grows_then b0 b1 b3 h.sealing.grows (grows_then b1 b2 b3 h.reserves.grows turns'.grows))
-    (omega (arith, h.sealing.count, h.reserves.longer, c2)) body_emits
+    let c2 : length b3 ≡ length b2 + (last_size e last (continues body) true c.free).blocks = turns'.count in
+    part_refused (joint after + 1 + (last_size e last (continues body) true c.free).blocks) body_emits
+    (ap made_of is) (omega arith) (omega (arith, blocks)) (omega arith)
+    (grows_then b0 b1 b3 h.sealing.grows (grows_then b1 b2 b3 h.reserves.grows turns'.grows)) (omega (arith, h.sealing.count, h.reserves.longer, c2))
 
 pub loop_top_stops : (b0 b1 b2 b3 b4 b5 : List RBlock) (e : TypedExpression) (last body : TypedStatement) (c inner : Context) (many : Bool)
     (left head : ℕ) (turn : Turn) (code : Continuation) (after : Spot) (f : LowerFault) (r : Result OpenBlock LowerFault) → r ≡ Err f
     → many ≡ continues body → inner ≡ record { alloc = c.alloc; free = c.free; leave = left; next = turn.next } → Heading b0 b1 b2 left head after
-    → EmitsTurn e last c many (record { yes = head; no = left; likely = true }) b2 b3 (Ok turn)
-    → EmitsStatement body inner (spot turn.after) b3 b4 (Ok code)
-    → EmitsBranch (condition_size e true c.free) e (record { yes = head; no = left; likely = true }) c.free b4 b5 (Err f)
-    → EmitsStatement (loop e last body) c after b0 b5 (made_of r)
+    → Emits (last_code e last c many (record { yes = head; no = left; likely = true })) b2 b3 (Ok turn)
+    → Emits (statement_code body inner (spot turn.after)) b3 b4 (Ok code)
+    → Emits (condition_branch e (record { yes = head; no = left; likely = true }) c.free) b4 b5 (Err f)
+    → Emits (statement_code (loop e last body) c after) b0 b5 (made_of r)
 loop_top_stops b0 b1 b2 b3 b4 b5 e last body c inner many left head turn code after f r is im ii h turns inside test =
-    let body_emits = subst (λ inner. EmitsStatement body inner (spot turn.after) b3 b4 (Ok code)) ii inside in
-    let turns' = subst (λ many. EmitsTurn e last c many (record { yes = head; no = left; likely = true }) b2 b3 (Ok turn)) im turns in
+    let body_emits = subst (λ inner. Emits (statement_code body inner (spot turn.after)) b3 b4 (Ok code)) ii inside in
+    let turns' = subst (λ many. Emits (last_code e last c many (record { yes = head; no = left; likely = true })) b2 b3 (Ok turn)) im turns in
     let same : joint (spot turn.after) ≡ (if continues body then 0 else statement_joint last 1) = turns'.sound.0.1 in
     let blocks = ap (statement_blocks body) same in
-    let c2 : length b3 ≡ length b2 + (turn_size e last (continues body) true c.free).blocks = turns'.count in
+    let c2 : length b3 ≡ length b2 + (last_size e last (continues body) true c.free).blocks = turns'.count in
     let c3 : length b4 ≡ length b3 + statement_blocks body (joint (spot turn.after)) = body_emits.count in
-    part_refused (condition_size e true c.free) (statement_size (loop e last body) c.free (joint after))
-    (joint after + 1 + (turn_size e last (continues body) true c.free).blocks + statement_blocks body (joint (spot turn.after))) b0 b4 b5 _ _ _ _ f
-    (made_of r) (ap made_of is) (omega arith) (omega (arith, blocks)) (omega arith)
+    part_refused (joint after + 1 + (last_size e last (continues body) true c.free).blocks + statement_blocks body (joint (spot turn.after))) test
+    (ap made_of is) (omega arith) (omega (arith, blocks)) (omega arith)
     (grows_then b0 b1 b4 h.sealing.grows (grows_then b1 b2 b4 h.reserves.grows (grows_then b2 b3 b4 turns'.grows body_emits.grows)))
-    (omega (arith, h.sealing.count, h.reserves.longer, c2, c3)) test
+    (omega (arith, h.sealing.count, h.reserves.longer, c2, c3))

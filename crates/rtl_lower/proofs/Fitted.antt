@@ -1,7 +1,7 @@
 -- The sizes of programs, and what a well-formed one keeps.
 use Rattle.std.proofs.Common.{◌≡◌, ℕ, zero, suc, ◌+◌, ◌<◌, ◌≤◌, Bool, true, false, List, [], ◌∷◌, ◌++◌, Option, Some, None, refl, sym, ◌∙◌, ap, subst}
 use Rattle.std.proofs.Common.{arith, length, get_or, take}
-use Rattle.std.specs.Prelude.{All, sum_by, ◌||◌, is_some}
+use Rattle.std.specs.Prelude.{All, sum_by, is_some}
 use Rattle.std.proofs.Math.Seq.{take-suc}
 use Rattle.std.proofs.lemmas.List.Sums.{sum_by-cons, sum_by_push}
 use Rattle.std.proofs.lemmas.List.Elements.{All-append}
@@ -25,6 +25,7 @@ use Rattle.rtl.specs.declared.block.RFunc.{RFunc}
 use Rattle.rtl_emit.specs.Sizes.{globals_named, globals_named_in, Beyond}
 use Rattle.rtl_lower.specs.Sizes.{continues, any_continues, numbers_named, numbers_named_in, target_number, function_blocks, function_registers, IsPlain}
 use Rattle.rtl_lower.specs.Sizes.{HaveRoom}
+use Rattle.rtl_lower.proofs.Sizes.{or_none}
 
 -- one of a list
 
@@ -79,14 +80,18 @@ functions-append : (xs ys : List Function) → functions_of (xs ++ ys) ≡ funct
 functions-append [] ys = refl
 functions-append (x ∷ xs) ys = ap (λ l. function_of x ∷ l) (functions-append xs ys)
 
+-- the functions up to one, and that one
+pub functions_more : (all : List Function) (i : ℕ) (f : Function) → i < length all → f ≡ get_or all i f
+    → functions_of (take (i + 1) all) ≡ functions_of (take i all) ++ function_of f ∷ []
+functions_more all i f lt is =
+    let n : i + 1 ≡ suc i = omega arith in
+    let cut : take (i + 1) all ≡ take i all ++ f ∷ [] = ap (λ n. take n all) n ∙ take-suc all i f lt ∙ ap (λ x. take i all ++ x ∷ []) (sym is) in
+    ap functions_of cut ∙ functions-append (take i all) (f ∷ [])
+
 pub one_fitted : (all : List Function) (rs rs' : List RFunc) (i : ℕ) (f : Function) (r : RFunc) → rs' ≡ rs ++ r ∷ [] → i < length all → f ≡ get_or all i f
     → length r.blocks.items ≡ function_blocks (function_of f) → function_registers (function_of f) ≤ MAX_REGISTERS
     → Fitted (functions_of (take i all)) rs → Fitted (functions_of (take (i + 1) all)) rs'
 one_fitted all rs rs' i f r e lt is eb room m =
-    let n : i + 1 ≡ suc i = omega arith in
-    let cut : take (i + 1) all ≡ take i all ++ f ∷ [] = ap (λ n. take n all) n ∙ take-suc all i f lt ∙ ap (λ x. take i all ++ x ∷ []) (sym is) in
-    let names : functions_of (take (i + 1) all) ≡ functions_of (take i all) ++ function_of f ∷ [] = ap functions_of cut
-    ∙ functions-append (take i all) (f ∷ []) in
     let sr = sum_by_push block_count rs r in
     let sf = sum_by_push function_blocks (functions_of (take i all)) (function_of f) in
     let er = ap (sum_by block_count) e in
@@ -94,13 +99,7 @@ one_fitted all rs rs' i f r e lt is eb room m =
     let sum : sum_by block_count rs' ≡ sum_by function_blocks (functions_of (take i all) ++ function_of f ∷ []) = omega (arith, sr, sf, er, mb, eb) in
     let each = All-append (λ f. function_registers f ≤ MAX_REGISTERS) (functions_of (take i all)) (function_of f ∷ []) m.registers
     (alone (function_of f) room) in
-    subst (λ fs. Fitted fs rs') (sym names) (record { blocks = sum; registers = each })
-
-pub all_taken : (xs : List Function) (n : ℕ) → length xs ≤ n → take n xs ≡ xs
-all_taken [] zero le = refl
-all_taken [] (suc n) le = refl
-all_taken (x ∷ xs) zero le = absurd (omega arith)
-all_taken (x ∷ xs) (suc n) le = ap (λ l. x ∷ l) (all_taken xs n (omega arith))
+    subst (λ fs. Fitted fs rs') (sym (functions_more all i f lt is)) (record { blocks = sum; registers = each })
 
 -- functions whose blocks fit together
 pub room_of : (fs : List TypedFunction) (rs : List RFunc) → sum_by block_count rs ≤ MAX_BLOCKS
@@ -116,10 +115,6 @@ have_room p fs rs is e sum each =
     room_of fs rs (omega (arith, h, q)) sum each
 
 -- what a well-formed program keeps
-
-or_none : (a b : Bool) → a ≡ false → b ≡ false → (a || b) ≡ false
-or_none true b e f = e
-or_none false b e f = f
 
 mutual
   no_continue : (p : TypedProgram) (n : ℕ) (gives : Bool) (s : TypedStatement) → FitsStatement p n gives false s → continues s ≡ false

@@ -9,14 +9,13 @@ use Rattle.c_typed.specs.Trees.{TypedStatement, TypedStatements, TypedProgram, e
 use Rattle.c_typed.specs.Trees.{break_loop, continue_loop, return_with, no_statements, more_statements}
 use Rattle.c_typed.specs.WellFormed.{FitsStatement, FitsStatements}
 use Rattle.c_typed.specs.Meaning.{Todo, Do, Next, Mode, Going, Breaking, Continuing, Point, before, before_all, next_point}
-use Rattle.rtl.specs.Programs.{Program}
-use Rattle.rtl.specs.Meaning.{Code, Frame}
+use Rattle.rtl.specs.Meaning.{Code, Surroundings, at}
 use Rattle.rtl.specs.declared.block.RBlock.{RBlock}
-use Rattle.rtl_emit.specs.Blocks.{Spot, Block, Line, Lands}
-use Rattle.rtl_emit.specs.Runs.{at_code, Goes, Holds}
+use Rattle.rtl_emit.specs.Blocks.{Spot, Block, Line, line_of, Lands, At}
+use Rattle.rtl_emit.specs.Runs.{Goes, Holds}
 use Rattle.rtl_emit.proofs.Steps.{goes_nowhere, goes_then}
-use Rattle.rtl_lower.specs.Coded.{Sits, IsThere, Comes, Coded, CodedAll}
-use Rattle.rtl_lower.proofs.Spots.{comes_equal, comes_join, comes_then}
+use Rattle.rtl_lower.specs.Coded.{enclosing, Sits, IsThere, Comes, Coded, CodedAll}
+use Rattle.rtl_lower.proofs.Spots.{lands_sits, sits_there, lands_there, comes_equal, comes_join, comes_then}
 
 -- a statement that fits a function of the program
 abbrev pub Fits : TypedProgram → ℕ → TypedStatement → Type 0
@@ -30,10 +29,10 @@ pub record Targets (bs : List RBlock) (leave : ℕ) (next : Option ℕ) : Type 0
 -- a statement, and then the rest
 pub record StandsDo (src : TypedProgram) (bs : List RBlock) (n : ℕ) (s : TypedStatement) (leave : ℕ) (next : Option ℕ) (from : Spot)
     (Rest : Spot → Type 0) : Type 0 where
-  pub at : Spot
-  pub comes : Comes bs from at
+  pub spot : Spot
+  pub comes : Comes bs from spot
   pub middle : Spot
-  pub coded : Coded bs n s leave next at middle
+  pub coded : Coded (enclosing bs n) s leave next spot middle
   pub fits : Fits src n s
   pub rest : Rest middle
 
@@ -47,8 +46,8 @@ pub record StandsTurn (src : TypedProgram) (bs : List RBlock) (n : ℕ) (last ag
   pub outer_leave : ℕ
   pub outer_next : Option ℕ
   pub targets : Targets bs outer_leave outer_next
-  pub last_coded : Coded bs n last outer_leave outer_next last_spot (Line bottom)
-  pub loop_coded : Coded bs n again outer_leave outer_next (Line bottom) after
+  pub last_coded : Coded (enclosing bs n) last outer_leave outer_next last_spot (Line bottom)
+  pub loop_coded : Coded (enclosing bs n) again outer_leave outer_next (Line bottom) after
   pub last_fits : Fits src n last
   pub loop_fits : Fits src n again
   pub rest : Rest outer_leave outer_next after
@@ -70,7 +69,7 @@ Follows src bs n (Next last again ∷ k) leave next from = StandsNext src bs n l
 
 mutual
   pub there_coded : (bs : List RBlock) (n : ℕ) (s : TypedStatement) (leave : ℕ) (next : Option ℕ) (from after : Spot) → Targets bs leave next
-      → Coded bs n s leave next from after → IsThere bs after → IsThere bs from
+      → Coded (enclosing bs n) s leave next from after → IsThere bs after → IsThere bs from
   there_coded bs n empty leave next from after t c th = subst (λ s. IsThere bs s) (sym c) th
   there_coded bs n (block all) leave next from after t c th = there_all bs n all leave next from after t c th
   there_coded bs n (unset x) leave next from after t c th = subst (λ s. IsThere bs s) (sym c) th
@@ -82,7 +81,7 @@ mutual
   there_coded bs n _ leave next from after t c th = subst (λ s. IsThere bs s) (sym c.is) tt
 
   pub there_all : (bs : List RBlock) (n : ℕ) (all : TypedStatements) (leave : ℕ) (next : Option ℕ) (from after : Spot) → Targets bs leave next
-      → CodedAll bs n all leave next from after → IsThere bs after → IsThere bs from
+      → CodedAll (enclosing bs n) all leave next from after → IsThere bs after → IsThere bs from
   there_all bs n no_statements leave next from after t c th = subst (λ s. IsThere bs s) (sym c) th
   there_all bs n (more_statements s rest) leave next from after t c th =
       there_coded bs n s leave next from c.0 t c.1 (there_all bs n rest leave next c.0 after t c.2 th)
@@ -91,7 +90,7 @@ pub there_follows : (src : TypedProgram) (bs : List RBlock) (n : ℕ) (k : List 
     → Targets bs leave next → Follows src bs n k leave next from → IsThere bs from
 there_follows src bs n [] leave next from t f = f
 there_follows src bs n (Do s ∷ k) leave next from t f = f.comes.there
-    (there_coded bs n s leave next f.at f.middle t f.coded (there_follows src bs n k leave next f.middle t f.rest))
+    (there_coded bs n s leave next f.spot f.middle t f.coded (there_follows src bs n k leave next f.middle t f.rest))
 there_follows src bs n (Next last again ∷ k) leave next from t f =
     f.comes.there (there_coded bs n last f.outer_leave f.outer_next f.last_spot (Line f.bottom) f.targets f.last_coded tt)
 
@@ -99,19 +98,19 @@ pub follows_from : (src : TypedProgram) (bs : List RBlock) (n : ℕ) (k : List T
     → Follows src bs n k leave next to → Follows src bs n k leave next from
 follows_from src bs n [] leave next from to c f = c.there f
 follows_from src bs n (Do s ∷ k) leave next from to c f = record
-    { at = f.at; comes = comes_then c f.comes; middle = f.middle; coded = f.coded; fits = f.fits; rest = f.rest }
+    { spot = f.spot; comes = comes_then c f.comes; middle = f.middle; coded = f.coded; fits = f.fits; rest = f.rest }
 follows_from src bs n (Next last again ∷ k) leave next from to c f = record
     { last_spot = f.last_spot; comes = comes_then c f.comes; turn = f.turn }
 
 pub follows_do : (src : TypedProgram) (bs : List RBlock) (n : ℕ) (s : TypedStatement) (k : List Todo) (leave : ℕ) (next : Option ℕ)
-    (from middle : Spot) → Coded bs n s leave next from middle → Fits src n s → Follows src bs n k leave next middle
+    (from middle : Spot) → Coded (enclosing bs n) s leave next from middle → Fits src n s → Follows src bs n k leave next middle
     → Follows src bs n (Do s ∷ k) leave next from
 follows_do src bs n s k leave next from middle c sc f = record
-    { at = from; comes = comes_equal bs from from refl; middle = middle; coded = c; fits = sc; rest = f }
+    { spot = from; comes = comes_equal bs from from refl; middle = middle; coded = c; fits = sc; rest = f }
 
 mutual
   pub follows_before : (src : TypedProgram) (bs : List RBlock) (n : ℕ) (s : TypedStatement) (k : List Todo) (leave : ℕ) (next : Option ℕ)
-      (from middle : Spot) → Coded bs n s leave next from middle → Fits src n s → Follows src bs n k leave next middle
+      (from middle : Spot) → Coded (enclosing bs n) s leave next from middle → Fits src n s → Follows src bs n k leave next middle
       → Follows src bs n (before s k) leave next from
   follows_before src bs n empty k leave next from middle c sc f = subst (λ m. Follows src bs n k leave next m) (sym c) f
   follows_before src bs n (block all) k leave next from middle c sc f = follows_all src bs n all k leave next from middle c sc.0 sc.1 sc.2 f
@@ -127,7 +126,7 @@ mutual
   follows_before src bs n (return_with e) k leave next from middle c sc f = follows_do src bs n (return_with e) k leave next from middle c sc f
 
   pub follows_all : (src : TypedProgram) (bs : List RBlock) (n : ℕ) (all : TypedStatements) (k : List Todo) (leave : ℕ) (next : Option ℕ)
-      (from middle : Spot) → CodedAll bs n all leave next from middle → (gives inside : Bool) → FitsStatements src n gives inside all
+      (from middle : Spot) → CodedAll (enclosing bs n) all leave next from middle → (gives inside : Bool) → FitsStatements src n gives inside all
       → Follows src bs n k leave next middle → Follows src bs n (before_all all k) leave next from
   follows_all src bs n no_statements k leave next from middle c gives inside sc f = subst (λ m. Follows src bs n k leave next m) (sym c) f
   follows_all src bs n (more_statements s rest) k leave next from middle c gives inside sc f =
@@ -157,37 +156,51 @@ pub record Stands (src : TypedProgram) (bs : List RBlock) (n : ℕ) (k : List To
   pub sits : Sits bs spot code
   pub follows : Follows src bs n k leave next spot
 
--- the blocks come to the next statement that takes a step
-pub record Settles (src : TypedProgram) (p : Program) (depth : ℕ) (bs : List RBlock) (n : ℕ) (r : Places) (d : Option ℕ) (ws : List Frame)
-    (g : Arrays) (out : List ℕ) (from : Code) (point : Point) : Type 0 where
-  pub code : Code
-  pub goes : Goes p depth (at_code bs r from d ws g out) (at_code bs r code d ws g out)
-  pub holds : Holds n point.locals r g
-  pub stands : Stands src bs n point.todo code
-  pub open stands use *
+-- a block that does it
+abbrev pub Starts : TypedProgram → List RBlock → (n b : ℕ) → List Todo → Type 0
+Starts src bs n b k = (code : Code) × At bs b code × Stands src bs n k code
 
-module _ (src : TypedProgram) (p : Program) (depth : ℕ) (bs : List RBlock) (n : ℕ) (r : Places) (d : Option ℕ) (ws : List Frame) (g : Arrays)
-    (out : List ℕ) where
+module _ (src : TypedProgram) (bs : List RBlock) (n : ℕ) (k : List Todo) (leave : ℕ) (next : Option ℕ) (spot : Spot) (t : Targets bs leave next)
+    (f : Follows src bs n k leave next spot) where
+  pub stands_there : Stands src bs n k (line_of spot)
+  stands_there = record { spot = spot; leave = leave; next = next; targets = t; sits = sits_there bs spot; follows = f }
+
+  pub starts_there : (b : ℕ) → Lands bs b spot → Starts src bs n b k
+  starts_there b lands =
+      let there = lands_there b spot lands (there_follows src bs n k leave next spot t f) in (
+        there.0,
+        there.1,
+        record { spot = spot; leave = leave; next = next; targets = t; sits = lands_sits b spot there.0 lands there.1; follows = f },
+      )
+
+-- the blocks come to the next statement that takes a step
+pub record Settles (src : TypedProgram) (w : Surroundings) (bs : List RBlock) (n : ℕ) (r : Places) (from : Code) (point : Point) : Type 0 where
+  pub code : Code
+  pub goes : Goes w.program w.depth (at w bs r from) (at w bs r code)
+  pub holds : Holds n point.locals r w.globals
+  pub stands : Stands src bs n point.todo code
+
+module _ (src : TypedProgram) (w : Surroundings) (bs : List RBlock) (n : ℕ) (r : Places) where
   here : (code : Code) (spot : Spot) (point : Point) (leave : ℕ) (next : Option ℕ) → Targets bs leave next → Sits bs spot code
-      → Holds n point.locals r g → Follows src bs n point.todo leave next spot → Settles src p depth bs n r d ws g out code point
+      → Holds n point.locals r w.globals → Follows src bs n point.todo leave next spot → Settles src w bs n r code point
   here code spot point leave next t s h f = record {
     code = code;
-    goes = goes_nowhere p depth _;
+    goes = goes_nowhere w.program w.depth _;
     holds = h;
     stands = record { spot = spot; leave = leave; next = next; targets = t; sits = s; follows = f };
   }
 
   settles_from : (code : Code) (spot spot' : Spot) (point : Point) → Comes bs spot spot' → Sits bs spot code
-      → ((code' : Code) → Sits bs spot' code' → Settles src p depth bs n r d ws g out code' point) → Settles src p depth bs n r d ws g out code point
+      → ((code' : Code) → Sits bs spot' code' → Settles src w bs n r code' point) → Settles src w bs n r code point
   settles_from code spot spot' point c s k =
-      let x = c.by code s p depth r d ws g out in
+      let x = c.by code s w r in
       let y = k x.0 x.1 in
       record { code = y.code; goes = goes_then x.2 y.goes; holds = y.holds; stands = y.stands }
 
   -- the last part of a loop, and the loop again
   settles_turn : (l : Places) (k : List Todo) (last again : TypedStatement) (leave : ℕ) (next : Option ℕ) (from spot : Spot) (code : Code)
       → (f : StandsNext src bs n last again leave next from (λ leave' next' c. Follows src bs n k leave' next' c)) → Comes bs spot f.last_spot
-      → Sits bs spot code → Holds n l r g → Settles src p depth bs n r d ws g out code (record { locals = l; todo = before last (before again k) })
+      → Sits bs spot code → Holds n l r w.globals → Settles src w bs n r code (record { locals = l; todo = before last (before again k) })
   settles_turn l k last again leave next from spot code f c s h =
       settles_from code spot f.last_spot _ c s (λ code' s'.
       here code' f.last_spot _ f.outer_leave f.outer_next f.targets s' h
@@ -195,19 +208,19 @@ module _ (src : TypedProgram) (p : Program) (depth : ℕ) (bs : List RBlock) (n 
       (follows_before src bs n again k f.outer_leave f.outer_next (Line f.bottom) f.after f.loop_coded f.loop_fits f.rest)))
 
   pub settles : (m : Mode) (l : Places) (k : List Todo) (leave : ℕ) (next : Option ℕ) (from : Spot) (code : Code) → Seated bs m from leave next code
-      → Targets bs leave next → Follows src bs n k leave next from → Holds n l r g → Settles src p depth bs n r d ws g out code (next_point m l k)
+      → Targets bs leave next → Follows src bs n k leave next from → Holds n l r w.globals → Settles src w bs n r code (next_point m l k)
   settles Going l [] leave next from code s t f h = here code from _ leave next t s h f
   settles Breaking l [] leave next from code s t f h = here code (Block leave) _ leave next t s h t.leaves
   settles Continuing l [] leave next from code s t f h = here code (Block s.0) _ leave next t s.2 h (t.continues s.0 s.1)
   settles Going l (Do (unset x) ∷ k) leave next from code s t f h =
-      settles_from code from f.middle _ (comes_then f.comes (comes_equal bs f.at f.middle f.coded)) s
-      (λ code' s'. settles Going (places_with l x None) k leave next f.middle code' s' t f.rest (holds_unset n l r g x h))
+      settles_from code from f.middle _ (comes_then f.comes (comes_equal bs f.spot f.middle f.coded)) s
+      (λ code' s'. settles Going (places_with l x None) k leave next f.middle code' s' t f.rest (holds_unset n l r w.globals x h))
   settles Going l (Do break_loop ∷ k) leave next from code s t f h =
-      settles_from code from (Block leave) _ (comes_then f.comes (comes_equal bs f.at (Block leave) f.coded)) s
+      settles_from code from (Block leave) _ (comes_then f.comes (comes_equal bs f.spot (Block leave) f.coded)) s
       (λ code' s'. settles Breaking l k leave next f.middle code' s' t f.rest h)
   settles Going l (Do continue_loop ∷ k) leave next from code s t f h =
       let c = f.coded in
-      settles_from code from (Block c.0) _ (comes_then f.comes (comes_equal bs f.at (Block c.0) c.2)) s
+      settles_from code from (Block c.0) _ (comes_then f.comes (comes_equal bs f.spot (Block c.0) c.2)) s
       (λ code' s'. settles Continuing l k leave next f.middle code' (c.0, c.1, s') t f.rest h)
   settles Going l (Next last again ∷ k) leave next from code s t f h = settles_turn l k last again leave next from from code f f.comes s h
   settles Going l (Do s ∷ k) leave next from code si t f h = here code from _ leave next t si h f

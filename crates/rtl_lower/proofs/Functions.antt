@@ -25,7 +25,8 @@ use Rattle.rtl_emit.specs.Sound.{Scope, AreSound}
 use Rattle.rtl_lower.specs.Sizes.{statements_blocks, statements_insts, function_registers}
 use Rattle.rtl_lower.specs.Sound.{Suits}
 use Rattle.rtl_lower.specs.Laws.{KeepsRuns}
-use Rattle.rtl_lower.specs.Coded.{IsCodeOf, IsGlobalOf, ArePairs, AreCodesOf, AreGlobalsOf, CodedAll}
+use Rattle.rtl_lower.specs.Coded.{enclosing, IsCodeOf, IsGlobalOf, ArePairs, AreCodesOf, AreGlobalsOf, CodedAll}
+use Rattle.rtl_lower.proofs.Fitted.{functions_more}
 use Rattle.rtl_lower.proofs.Statements.{MakesAll}
 use Rattle.rtl_lower.proofs.Simulation.{keeps_runs}
 
@@ -45,8 +46,8 @@ function_code f r b0 b1 b2 free entry all filled end from il ip ib e0 res makes 
       entry = from;
       entry_at = subst (λ c. At r.blocks.items 0 c) fe (subst (λ n. At r.blocks.items n filled) zero_entry f'.at);
       after = end;
-      body = subst (λ n. CodedAll r.blocks.items n f.body 0 None from (Line end)) il
-          (subst (λ b. CodedAll r.blocks.items free b 0 None from (Line end)) ib here);
+      body = subst (λ n. CodedAll (enclosing r.blocks.items n) f.body 0 None from (Line end)) il
+          (subst (λ b. CodedAll (enclosing r.blocks.items free) b 0 None from (Line end)) ib here);
       count = (let blocks = ap (λ b. statements_blocks b 1) ib in omega (arith, f'.same_length, count, one, blocks));
       insts = subst (λ b. insts_in r.blocks.items ≤ statements_insts b) ib insts;
       sound = sound;
@@ -75,18 +76,10 @@ pairs_push IsPair (a ∷ xs) (b ∷ ys) x y m c = (m.0, pairs_push IsPair xs ys 
 pairs_push IsPair [] (b ∷ ys) x y m c = absurd m
 pairs_push IsPair (a ∷ xs) [] x y m c = absurd m
 
-functions-append : (xs ys : List Function) → functions_of (xs ++ ys) ≡ functions_of xs ++ functions_of ys
-functions-append [] ys = refl
-functions-append (x ∷ xs) ys = ap (λ l. function_of x ∷ l) (functions-append xs ys)
-
 pub one_function : (all : List Function) (rs rs' : List RFunc) (i : ℕ) (f : Function) (r : RFunc) → rs' ≡ rs ++ r ∷ [] → i < length all → f ≡ get_or all i f
     → IsCodeOf (function_of f) r → AreCodesOf (functions_of (take i all)) rs → AreCodesOf (functions_of (take (i + 1) all)) rs'
 one_function all rs rs' i f r e lt is c m =
-    let n : i + 1 ≡ suc i = omega arith in
-    let cut : take (i + 1) all ≡ take i all ++ f ∷ [] = ap (λ n. take n all) n ∙ take-suc all i f lt ∙ ap (λ x. take i all ++ x ∷ []) (sym is) in
-    let names : functions_of (take (i + 1) all) ≡ functions_of (take i all) ++ function_of f ∷ [] = ap functions_of cut
-    ∙ functions-append (take i all) (f ∷ []) in
-    subst (λ fs. AreCodesOf fs rs') (sym names) (subst (λ rs. AreCodesOf (functions_of (take i all) ++ function_of f ∷ []) rs) (sym e)
+    subst (λ fs. AreCodesOf fs rs') (sym (functions_more all i f lt is)) (subst (λ rs. AreCodesOf (functions_of (take i all) ++ function_of f ∷ []) rs) (sym e)
     (pairs_push IsCodeOf (functions_of (take i all)) rs (function_of f) r m c))
 
 pub one_global : (all : List Global) (rs rs' : List RGlobal) (i : ℕ) (g d : Global) (r : RGlobal) → rs' ≡ rs ++ r ∷ [] → i < length all → g ≡ get_or all i d

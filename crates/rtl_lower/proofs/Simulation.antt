@@ -33,16 +33,18 @@ use Rattle.rtl.specs.declared.block.RFunc.{RFunc}
 use Rattle.rtl.specs.declared.block.RGlobal.{RGlobal}
 use Rattle.rtl.specs.Programs.{Program}
 use Rattle.rtl.specs.Meaning as Blk
-use Rattle.rtl.specs.Meaning.{Code, code_of, kept_in, state_at_block, words_in, rtl_step, rtl_steps, rtl_start, first_values, argument_registers}
-use Rattle.rtl_emit.specs.Blocks.{exit_code, first, Spot, Block, Line, line_of, At}
-use Rattle.rtl_emit.specs.Runs.{at_code, at, Surroundings, Goes, Moves, Holds}
+use Rattle.rtl.specs.Meaning.{Code, Surroundings, at, activation, around_callee, code_of, kept_in, state_at_block, words_in, rtl_step, rtl_steps}
+use Rattle.rtl.specs.Meaning.{rtl_start, first_values, argument_registers}
+use Rattle.rtl_emit.specs.Blocks.{exit_code, first, Spot, Block, Line, line_of, Lands, At}
+use Rattle.rtl_emit.specs.Runs.{Goes, Moves, Holds}
 use Rattle.rtl_emit.specs.Expressions.{IsPlace, Fetches, Decides}
 use Rattle.rtl_emit.proofs.Steps.{goes_one, with_some, chained, jump_to, holds_kept, written_here, written_other}
 use Rattle.rtl_emit.proofs.Values.{taken, taken_all}
 use Rattle.rtl_lower.specs.Laws.{KeepsRuns}
-use Rattle.rtl_lower.specs.Coded.{Sits, put_code, Coded, Receives, IsCodeOf, IsCodeOfProgram}
-use Rattle.rtl_lower.proofs.Spots.{lands_sits, sits_there, lands_there, comes_join}
-use Rattle.rtl_lower.proofs.Follows.{Fits, Targets, Follows, Stands, there_coded, there_follows, follows_before, follows_all, follows_from, settles}
+use Rattle.rtl_lower.specs.Coded.{enclosing, Sits, put_code, Coded, Receives, IsCodeOf, IsCodeOfProgram}
+use Rattle.rtl_lower.proofs.Spots.{lands_there, comes_join}
+use Rattle.rtl_lower.proofs.Follows.{Fits, Targets, Follows, Stands, Starts, stands_there, starts_there, there_coded, follows_before, follows_all}
+use Rattle.rtl_lower.proofs.Follows.{follows_from, settles}
 
 -- the locals that are set are below a number, and in their registers
 abbrev pub Located : ℕ → Places → Places → Type 0
@@ -179,18 +181,23 @@ if_both : {A : Type 0} (b c : Bool) (x y : A) → c ≡ true → (if b && c then
 if_both true c x y e = ap (λ c. if c then x else y) e
 if_both false c x y e = refl
 
-call_step : (p : Program) (depth f : ℕ) (vs : List ℕ) (to : Option ℕ) (ws : List Blk.Frame) (g : Arrays) (out : List ℕ) (r : RFunc)
-    → slice_get p.functions f ≡ Some r → length vs ≡ r.parameters
-    → Blk.state_after_call p depth f vs to ws g out ≡ (if nat_lt (length ws) depth then state_at_block r.blocks.items 0 (argument_registers vs) to ws
-    g out else Failed out)
-call_step p depth f vs to ws g out r there many =
-    with_some (slice_get p.functions f) r out
-    (λ func. if nat_lt (length ws) depth && (length vs == func.parameters) then state_at_block func.blocks.items 0 (argument_registers vs) to ws g out
-    else Failed out) there
-    ∙ if_both (nat_lt (length ws) depth) (length vs == r.parameters) (state_at_block r.blocks.items 0 (argument_registers vs) to ws g out)
-    (Failed out) (eq-eqb (length vs) r.parameters many)
+-- what surrounds the call that runs and its activation: where their results go, what waits, and the globals and the output of both
+record Around (src : TypedProgram) : Type 0 where
+  place : Option Destination
+  to : Option ℕ
+  waiting : List Src.Frame
+  activations : List Blk.Frame
+  stack : Stack src place to waiting activations
+  globals : Arrays
+  output : List ℕ
 
 module _ (src : TypedProgram) (p : Program) (ok : IsCodeOfProgram src p) (well : IsWellFormed src) (depth : ℕ) where
+  abbrev source : Around src → Src.Surroundings
+  source w = record { program = src; depth = depth; result_to = w.place; waiting = w.waiting; globals = w.globals; output = w.output }
+
+  abbrev target : Around src → Surroundings
+  target w = record { program = p; depth = depth; result_to = w.to; waiting = w.activations; globals = w.globals; output = w.output }
+
   -- what an element of a global keeps is the same
   same_kept : (a v : ℕ) → a < length src.globals → kept_in p.globals a v ≡ Src.kept_in src.globals a v
   same_kept a v lt =
@@ -201,380 +208,324 @@ module _ (src : TypedProgram) (p : Program) (ok : IsCodeOfProgram src p) (well :
       ∙ sym (ap (λ (o : Option Global). chain o (λ global. Some (kept global.width v))) there.1)
 
   -- a store that has its global in the source has it in RTL
-  stored : (a i v : ℕ) (g g' : Arrays) (out : List ℕ) (done : Arrays → Blk.Run) → a < length src.globals
-      → Src.elements_with src.globals g a i v ≡ Some g'
-      → with_value (kept_in p.globals a v) out (λ w. with_value (arrays_with g a i w) out done) ≡ done g'
-  stored a i v g g' out done lt e = go (kept_in p.globals a v) (ap (λ o. chain o (λ w. arrays_with g a i w)) (same_kept a v lt) ∙ e)
+  stored : (w : Around src) (a i v : ℕ) (g : Arrays) (done : Arrays → Blk.Run) → a < length src.globals
+      → Src.elements_with src.globals w.globals a i v ≡ Some g
+      → with_value (kept_in p.globals a v) w.output (λ k. with_value (arrays_with w.globals a i k) w.output done) ≡ done g
+  stored w a i v g done lt e = go (kept_in p.globals a v) (ap (λ o. chain o (λ k. arrays_with w.globals a i k)) (same_kept a v lt) ∙ e)
     where
-      go : (o : Option ℕ) → chain o (λ w. arrays_with g a i w) ≡ Some g'
-          → with_value o out (λ w. with_value (arrays_with g a i w) out done) ≡ done g'
-      go None h = absurd (none-some g' h)
-      go (Some w) h = with_some (arrays_with g a i w) g' out done h
+      go : (o : Option ℕ) → chain o (λ k. arrays_with w.globals a i k) ≡ Some g
+          → with_value o w.output (λ k. with_value (arrays_with w.globals a i k) w.output done) ≡ done g
+      go None h = absurd (none-some g h)
+      go (Some k) h = with_some (arrays_with w.globals a i k) g w.output done h
+
+  -- the store of a word from one register at the index in another
+  store_step : (w : Around src) (bs : List RBlock) (r : Places) (a i v y q : ℕ) (after : Code) (g : Arrays) → a < length src.globals
+      → r y ≡ Some i → r q ≡ Some v → Src.elements_with src.globals w.globals a i v ≡ Some g
+      → rtl_step p depth (at (target w) bs r (first (I.Store a y q) after)) ≡ at (target (record w { globals = g })) bs r after
+  store_step w bs r a i v y q after g low index value is =
+      let done = λ (g : Arrays). at (target (record w { globals = g })) bs r after in
+      with_some (r y) i w.output (λ i. with_value (r q) w.output (λ v. with_value (kept_in p.globals a v) w.output
+      (λ k. with_value (arrays_with w.globals a i k) w.output done))) index
+      ∙ with_some (r q) v w.output (λ v. with_value (kept_in p.globals a v) w.output (λ k. with_value (arrays_with w.globals a i k) w.output done)) value
+      ∙ stored w a i v g done low is
 
   -- a word from a register to a global variable
-  puts : (bs : List RBlock) (r : Places) (d : Option ℕ) (ws : List Blk.Frame) (g g' : Arrays) (out : List ℕ) (x z q v : ℕ) (after : Code)
-      → x < length src.globals → q ≢ z
-      → r q ≡ Some v → Src.elements_with src.globals g x 0 v ≡ Some g'
-      → Moves p depth (at_code bs r (put_code x z q after) d ws g out) (at_code bs (places_with r z (Some 0)) after d ws g' out)
-  puts bs r d ws g g' out x z q v after low ne there is =
-      let r1 = places_with r z (Some 0) in
-      let z_there : r1 z ≡ Some 0 = written_here r z (Some 0) in
-      let q_there : r1 q ≡ Some v = written_other r z (Some 0) q ne ∙ there in
-      let done = λ (g' : Arrays). at_code bs r1 after d ws g' out in
-      let step : rtl_step p depth (at_code bs r1 (first (I.Store x z q) after) d ws g out) ≡ done g' =
-      with_some (r1 z) 0 out (λ i. with_value (r1 q) out (λ v.
-      with_value (kept_in p.globals x v) out (λ w. with_value (arrays_with g x i w) out done))) z_there
-      ∙ with_some (r1 q) v out (λ v. with_value (kept_in p.globals x v) out (λ w. with_value (arrays_with g x 0 w) out done)) q_there
-      ∙ stored x 0 v g g' out done low is in
-      record { more = 1; ends = step }
+  puts : (w : Around src) (bs : List RBlock) (r : Places) (x z q v : ℕ) (after : Code) (g : Arrays) → x < length src.globals → q ≢ z
+      → r q ≡ Some v → Src.elements_with src.globals w.globals x 0 v ≡ Some g
+      → Moves p depth (at (target w) bs r (put_code x z q after)) (at (target (record w { globals = g })) bs (places_with r z (Some 0)) after)
+  puts w bs r x z q v after g low ne there is = record {
+    more = 1;
+    ends = store_step w bs (places_with r z (Some 0)) x 0 v z q after g low (written_here r z (Some 0)) (written_other r z (Some 0) q ne ∙ there) is;
+  }
 
-  -- what an activation of a function begins with
-  enters : (i : ℕ) (f : TypedFunction) (r : RFunc) → slice_get src.functions i ≡ Some f → (c : IsCodeOf f r)
-      → (l : Places) (place : Option Destination) → Located f.locals l l
-      → Matches src (record { locals = l; todo = before_all f.body []; result_to = place }) r.blocks.items l (line_of c.entry)
-  enters i f r there c l place loc =
+  -- what is to do stands at some code
+  matches : (w : Around src) (bs : List RBlock) (n : ℕ) (l r : Places) (k : List Todo) (code : Code) → Stands src bs n k code → Located n l r
+      → MatchRun src (Src.at (source w) l k) (at (target w) bs r code)
+  matches w bs n l r k code s h = record {
+    a = activation (target w) bs r code;
+    ws = w.activations;
+    is = refl;
+    top = record { count = n; stands = s; located = h };
+    below = w.stack;
+  }
+
+  enters_block : (w : Around src) (bs : List RBlock) (n : ℕ) (l r : Places) (k : List Todo) (b : ℕ) → Starts src bs n b k → Located n l r
+      → MatchRun src (Src.at (source w) l k) (state_at_block (target w) bs r b)
+  enters_block w bs n l r k b s h =
+      subst (λ t. MatchRun src (Src.at (source w) l k) t) (sym (jump_to s.1 (target w) r))
+      (matches w bs n l r k s.0 s.2 h)
+
+  -- what a function begins with
+  begins : (i : ℕ) (f : TypedFunction) (r : RFunc) → slice_get src.functions i ≡ Some f → (c : IsCodeOf f r)
+      → Starts src r.blocks.items f.locals 0 (before_all f.body [])
+  begins i f r there c =
       let fits = at-index (FitsFunction src) src.functions i f well.functions there in
-      record {
-        count = f.locals;
-        stands = record {
-          spot = c.entry;
-          leave = 0;
-          next = None;
-          targets = record { leaves = (line_of c.entry, c.entry_at); continues = λ b e. cc };
-          sits = sits_there r.blocks.items c.entry;
-          follows = follows_all src r.blocks.items f.locals f.body [] 0 None c.entry (Line c.after) c.body _ _ fits.body tt;
-        };
-        located = loc;
-      }
+      let targets : Targets r.blocks.items 0 None = record { leaves = (line_of c.entry, c.entry_at); continues = λ b e. cc } in (
+        line_of c.entry,
+        c.entry_at,
+        stands_there src r.blocks.items f.locals (before_all f.body []) 0 None c.entry targets
+            (follows_all src r.blocks.items f.locals f.body [] 0 None c.entry (Line c.after) c.body _ _ fits.body tt),
+      )
 
   -- a call of a function that begins
-  entered : (i : ℕ) (vs : List ℕ) (place : Option Destination) (to : Option ℕ) (fs : List Src.Frame) (ws : List Blk.Frame) (g : Arrays) (out : List ℕ)
-      (t : Blk.Run) (func : TypedFunction) (r : RFunc)
-      → Stack src place to fs ws → slice_get src.functions i ≡ Some func → IsCodeOf func r → length vs ≡ func.parameters → (b b' : Bool) → b' ≡ b
-      → rtl_step p depth t ≡ (if b then state_at_block r.blocks.items 0 (argument_registers vs) to ws g out else Failed out)
-      → Advance src p depth t (if b' then Running (record { locals = Src.argument_places vs; todo = before_all func.body []; result_to = place } ∷ fs)
-      g out else Failed out)
-  entered i vs place to fs ws g out t func r m there c many true true same step =
+  entered : (w : Around src) (i : ℕ) (vs : List ℕ) (t : Blk.Run) (func : TypedFunction) (r : RFunc) → slice_get src.functions i ≡ Some func
+      → IsCodeOf func r → length vs ≡ func.parameters → (b b' : Bool) → b' ≡ b
+      → rtl_step p depth t ≡ (if b then state_at_block (target w) r.blocks.items (argument_registers vs) 0 else Failed w.output)
+      → Advance src p depth t (if b' then Src.at (source w) (Src.argument_places vs) (before_all func.body []) else Failed w.output)
+  entered w i vs t func r there c many true true same step =
       let fits = at-index (FitsFunction src) src.functions i func well.functions there in
-      let located : Located func.locals (argument_registers vs) (argument_registers vs) = λ x v e.
-      arguments_located vs func.parameters func.locals many fits.first x v e in
-      let frame : Blk.Frame = record { blocks = r.blocks.items; registers = argument_registers vs; code = line_of c.entry; result_to = to } in
-      let now : Src.Frame = record { locals = Src.argument_places vs; todo = before_all func.body []; result_to = place } in
-      let match : MatchFrames src now fs g out (Running (frame ∷ ws) g out) = record {
-        a = frame;
-        ws = ws;
-        is = refl;
-        top = enters i func r there c (argument_registers vs) place located;
-        below = m;
-      } in
-      advance_one src p depth t (Running (frame ∷ ws) g out) (Running (now ∷ fs) g out)
-      (step ∙ jump_to c.entry_at (argument_registers vs) to ws g out) match
-  entered i vs place to fs ws g out t func r m there c many b false same step = advance_failed src p depth t out
-  entered i vs place to fs ws g out t func r m there c many false true same step = absurd (true≢false same)
+      advance_one src p depth t _ _ step
+      (enters_block w r.blocks.items func.locals (argument_registers vs) (argument_registers vs) (before_all func.body []) 0 (begins i func r there c)
+      (arguments_located vs func.parameters func.locals many fits.first))
+  entered w i vs t func r there c many b false same step = advance_failed src p depth t w.output
+  entered w i vs t func r there c many false true same step = absurd (true≢false same)
+
+  call_step : (w : Around src) (f : ℕ) (vs : List ℕ) (r : RFunc) → slice_get p.functions f ≡ Some r → length vs ≡ r.parameters
+      → Blk.state_after_call (target w) f vs
+      ≡ (if nat_lt (length w.activations) depth then state_at_block (target w) r.blocks.items (argument_registers vs) 0 else Failed w.output)
+  call_step w f vs r there many =
+      with_some (slice_get p.functions f) r w.output
+      (λ func. if nat_lt (length w.activations) depth && (length vs == func.parameters)
+      then state_at_block (target w) func.blocks.items (argument_registers vs) 0 else Failed w.output) there
+      ∙ if_both (nat_lt (length w.activations) depth) (length vs == r.parameters) (state_at_block (target w) r.blocks.items (argument_registers vs) 0)
+      (Failed w.output) (eq-eqb (length vs) r.parameters many)
 
   -- a call
-  calls : (f : ℕ) (vs : List ℕ) (place : Option Destination) (to : Option ℕ) (fs : List Src.Frame) (ws : List Blk.Frame) (g : Arrays) (out : List ℕ)
-      (t : Blk.Run)
-      → ((func : TypedFunction) → slice_get src.functions f ≡ Some func → length vs ≡ func.parameters) → Stack src place to fs ws
-      → rtl_step p depth t ≡ Blk.state_after_call p depth f vs to ws g out → Advance src p depth t (Src.state_after_call src depth f vs place fs g out)
-  calls f vs place to fs ws g out t count m e =
-      advance_value src p depth t (slice_get src.functions f) out
-      (λ func. if nat_lt (length fs) depth then Running (record { locals = Src.argument_places vs; todo = before_all func.body []; result_to = place }
-      ∷ fs) g out else Failed out)
-      (λ func is.
+  calls : (w : Around src) (f : ℕ) (vs : List ℕ) (t : Blk.Run)
+      → ((func : TypedFunction) → slice_get src.functions f ≡ Some func → length vs ≡ func.parameters)
+      → rtl_step p depth t ≡ Blk.state_after_call (target w) f vs → Advance src p depth t (Src.state_after_call (source w) f vs)
+  calls w f vs t count e = advance_value src p depth t (slice_get src.functions f) w.output _ (λ func is.
       let r = ok.functions f func is in
       let many : length vs ≡ r.0.parameters = count func is ∙ sym r.2.parameters in
-      let step = e ∙ call_step p depth f vs to ws g out r.0 r.1 many in
-      let same : nat_lt (length fs) depth ≡ nat_lt (length ws) depth = ap (λ n. nat_lt n depth) (same_depth src place to fs ws m) in
-      entered f vs place to fs ws g out t func r.0 m is r.2 (count func is) (nat_lt (length ws) depth) (nat_lt (length fs) depth) same step)
+      let same : nat_lt (length w.waiting) depth ≡ nat_lt (length w.activations) depth =
+      ap (λ n. nat_lt n depth) (same_depth src w.place w.to w.waiting w.activations w.stack) in
+      entered w f vs t func r.0 is r.2 (count func is) (nat_lt (length w.activations) depth) (nat_lt (length w.waiting) depth) same
+      (e ∙ call_step w f vs r.0 r.1 many))
+
+  -- what surrounds the two that wait, once the result has come
+  abbrev around_caller : Around src → (f : Src.Frame) (fs : List Src.Frame) (a : Blk.Frame) (ws : List Blk.Frame) → Stack src f.result_to a.result_to fs ws
+      → Around src
+  around_caller w f fs a ws m = record w { place = f.result_to; to = a.result_to; waiting = fs; activations = ws; stack = m }
 
   -- a result
-  returns : (v : Option ℕ) (place : Option Destination) (to : Option ℕ) (fs : List Src.Frame) (ws : List Blk.Frame) (g : Arrays) (out : List ℕ)
-      (t : Blk.Run) → Stack src place to fs ws
-      → rtl_step p depth t ≡ Blk.state_after_return v to ws g out → Advance src p depth t (Src.state_after_return src.globals v place fs g out)
-  returns None place to [] [] g out t m e = advance_failed src p depth t out
-  returns (Some v) place to [] [] g out t m e = advance_one src p depth t _ _ e refl
-  returns v place to [] (a ∷ ws) g out t m e = absurd m
-  returns v place to (f ∷ fs) [] g out t m e = absurd m
-  returns v None to (f ∷ fs) (a ∷ ws) g out t m e =
-      let is = ap (λ to. Blk.state_after_return v to (a ∷ ws) g out) m.0.0 in
-      advance_one src p depth t (Running (a ∷ ws) g out) _ (e ∙ is) (record { a = a; ws = ws; is = refl; top = m.0.1; below = m.1 })
-  returns None (Some place) to (f ∷ fs) (a ∷ ws) g out t m e = advance_failed src p depth t out
-  returns (Some v) (Some (Local x)) to (f ∷ fs) (a ∷ ws) g out t m e =
-      let w = m.0 in
-      let top = w.match in
-      let is = ap (λ to. Blk.state_after_return (Some v) to (a ∷ ws) g out) w.is in
-      let r' = places_with a.registers x (Some v) in
-      advance_one src p depth t _ _ (e ∙ is) (record {
-        a = record { blocks = a.blocks; registers = r'; code = a.code; result_to = a.result_to };
-        ws = ws;
-        is = refl;
-        top = record {
-          count = top.count;
-          stands = top.stands;
-          located = located_assigned top.count f.locals a.registers r' x v w.low top.located (written_here a.registers x (Some v))
-              (λ y lt ne. written_other a.registers x (Some v) y ne);
-        };
-        below = m.1;
-      })
-  returns (Some v) (Some (Variable x)) to (f ∷ fs) (a ∷ ws) g out t m e = advance_value src p depth t (Src.elements_with src.globals g x 0 v) out _ (λ g' gs.
-      let w = m.0 in
-      let top = w.match in
-      let is = ap (λ to. Blk.state_after_return (Some v) to (a ∷ ws) g out) w.is in
-      let r1 = places_with a.registers w.t (Some v) in
-      let r2 = places_with r1 w.z (Some 0) in
-      let ne : w.t ≢ w.z = omega (arith, w.apart) in
-      let first_step : Goes p depth t (at_code a.blocks r1 (put_code x w.z w.t w.code) a.result_to ws g out) =
-      goes_one p depth t _ (e ∙ is ∙ ap (λ c. at_code a.blocks r1 c a.result_to ws g out) w.there) in
+  returns : (w : Around src) (v : Option ℕ) (place : Option Destination) (to : Option ℕ) (fs : List Src.Frame) (ws : List Blk.Frame) (t : Blk.Run)
+      → Stack src place to fs ws → rtl_step p depth t ≡ Blk.state_after_return v to ws w.globals w.output
+      → Advance src p depth t (Src.state_with_result (source w) v place fs)
+  returns w None place to [] [] t m e = advance_failed src p depth t w.output
+  returns w (Some v) place to [] [] t m e = advance_one src p depth t _ _ e refl
+  returns w v place to [] (a ∷ ws) t m e = absurd m
+  returns w v place to (f ∷ fs) [] t m e = absurd m
+  returns w v None to (f ∷ fs) (a ∷ ws) t m e =
+      let is = ap (λ to. Blk.state_after_return v to (a ∷ ws) w.globals w.output) m.0.0 in
+      advance_one src p depth t (Running (a ∷ ws) w.globals w.output) _ (e ∙ is) (record { a = a; ws = ws; is = refl; top = m.0.1; below = m.1 })
+  returns w None (Some place) to (f ∷ fs) (a ∷ ws) t m e = advance_failed src p depth t w.output
+  returns w (Some v) (Some (Local x)) to (f ∷ fs) (a ∷ ws) t m e =
+      let top = m.0.match in
+      let is = ap (λ to. Blk.state_after_return (Some v) to (a ∷ ws) w.globals w.output) m.0.is in
+      advance_one src p depth t _ _ (e ∙ is)
+      (matches (around_caller w f fs a ws m.1) a.blocks top.count (places_with f.locals x (Some v)) (places_with a.registers x (Some v)) f.todo a.code top.stands
+      (located_assigned top.count f.locals a.registers (places_with a.registers x (Some v)) x v m.0.low top.located (written_here a.registers x (Some v))
+      (λ y lt ne. written_other a.registers x (Some v) y ne)))
+  returns w (Some v) (Some (Variable x)) to (f ∷ fs) (a ∷ ws) t m e =
+      advance_value src p depth t (Src.elements_with src.globals w.globals x 0 v) w.output _ (λ g gs.
+      let wait = m.0 in
+      let top = wait.match in
+      let is = ap (λ to. Blk.state_after_return (Some v) to (a ∷ ws) w.globals w.output) wait.is in
+      let w' = around_caller w f fs a ws m.1 in
+      let r1 = places_with a.registers wait.t (Some v) in
+      let r2 = places_with r1 wait.z (Some 0) in
+      let ne : wait.t ≢ wait.z = omega (arith, wait.apart) in
+      let first_step : Goes p depth t (at (target w') a.blocks r1 (put_code x wait.z wait.t wait.code)) =
+      goes_one p depth t _ (e ∙ is ∙ ap (λ c. at (target w') a.blocks r1 c) wait.there) in
       advance_after src p depth t _ _ first_step
-      (advance_moves src p depth _ _ _ (puts a.blocks r1 a.result_to ws g g' out x w.z w.t v w.code w.global ne
-      (written_here a.registers w.t (Some v)) gs) (record {
-        a = record { blocks = a.blocks; registers = r2; code = w.code; result_to = a.result_to };
-        ws = ws;
-        is = refl;
-        top = record {
-          count = top.count;
-          stands = top.stands;
-          located = located_kept top.count f.locals a.registers r2 top.located (λ y lt.
-              let nz : y ≢ w.z = omega (arith, w.low, w.apart) in
-              let nt : y ≢ w.t = omega (arith, w.low) in
-              written_other r1 w.z (Some 0) y nz ∙ written_other a.registers w.t (Some v) y nt);
-        };
-        below = m.1;
-      })))
+      (advance_moves src p depth _ _ _
+      (puts w' a.blocks r1 x wait.z wait.t v wait.code g wait.global ne (written_here a.registers wait.t (Some v)) gs)
+      (matches (record w' { globals = g }) a.blocks top.count f.locals r2 f.todo wait.code top.stands
+      (located_kept top.count f.locals a.registers r2 top.located (λ y lt.
+      let nz : y ≢ wait.z = omega (arith, wait.low, wait.apart) in
+      let nt : y ≢ wait.t = omega (arith, wait.low) in
+      written_other r1 wait.z (Some 0) y nz ∙ written_other a.registers wait.t (Some v) y nt)))))
 
-  module _ (bs : List RBlock) (n : ℕ) (r : Places) (place : Option Destination) (d : Option ℕ) (fs : List Src.Frame) (ws : List Blk.Frame)
-      (m : Stack src place d fs ws) (g : Arrays) (out : List ℕ) (l : Places) (h : Holds n l r g) where
-    abbrev around : Surroundings
-    around = record { program = p; depth = depth; result_to = d; waiting = ws; globals = g; output = out }
-
+  module _ (w : Around src) (bs : List RBlock) (n : ℕ) (l r : Places) (h : Holds n l r w.globals) where
     -- a statement that first takes an operand
     with_operand : (e : TypedExpression) (q next_free : ℕ) (from to : Code) (go : ℕ → Src.Run) → IsPlace e n q next_free → Fetches bs e n q from to
-        → ((v : ℕ) → value_of e l g ≡ Some v → (r' : Places) → r' q ≡ Some v → ((x : ℕ) → x < n → r' x ≡ r x) → q < next_free
-        → Advance src p depth (at_code bs r' to d ws g out) (go v))
-        → Advance src p depth (at_code bs r from d ws g out) (with_value (value_of e l g) out go)
-    with_operand e q next_free from to go pl f k = advance_value src p depth (at_code bs r from d ws g out) (value_of e l g) out go (λ v is.
-        let y = taken around bs e n q next_free from to l r v pl f h is in
-        advance_after src p depth _ (at_code bs y.regs to d ws g out) _ y.goes (k v is y.regs y.value y.kept y.held))
-
-    stands_at : (k : List Todo) (leave : ℕ) (next : Option ℕ) (spot : Spot) (code : Code) → Targets bs leave next → Sits bs spot code
-        → Follows src bs n k leave next spot → Stands src bs n k code
-    stands_at k leave next spot code t s f = record { spot = spot; leave = leave; next = next; targets = t; sits = s; follows = f }
-
-    matches : (l' r' : Places) (k : List Todo) (leave : ℕ) (next : Option ℕ) (spot : Spot) (code : Code) (g' : Arrays) (out' : List ℕ)
-        → Targets bs leave next → Sits bs spot code → Located n l' r' → Follows src bs n k leave next spot
-        → MatchRun src (Running (record { locals = l'; todo = k; result_to = place } ∷ fs) g' out') (at_code bs r' code d ws g' out')
-    matches l' r' k leave next spot code g' out' t s h' f = record {
-      a = record { blocks = bs; registers = r'; code = code; result_to = d };
-      ws = ws;
-      is = refl;
-      top = record { count = n; stands = stands_at k leave next spot code t s f; located = h' };
-      below = m;
-    }
-
-    -- into a block that begins at a spot
-    enters_block : (l' r' : Places) (k : List Todo) (leave : ℕ) (next : Option ℕ) (spot : Spot) (b : ℕ) (g' : Arrays) (out' : List ℕ)
-        → Targets bs leave next → (code : Code) → At bs b code → Sits bs spot code → Located n l' r' → Follows src bs n k leave next spot
-        → MatchRun src (Running (record { locals = l'; todo = k; result_to = place } ∷ fs) g' out') (state_at_block bs b r' d ws g' out')
-    enters_block l' r' k leave next spot b g' out' t code at s h' f =
-        subst (λ u. MatchRun src (Running (record { locals = l'; todo = k; result_to = place } ∷ fs) g' out') u) (sym (jump_to at r' d ws g' out'))
-        (matches l' r' k leave next spot code g' out' t s h' f)
+        → ((v : ℕ) → value_of e l w.globals ≡ Some v → (r' : Places) → r' q ≡ Some v → ((x : ℕ) → x < n → r' x ≡ r x) → q < next_free
+        → Advance src p depth (at (target w) bs r' to) (go v))
+        → Advance src p depth (at (target w) bs r from) (Src.with_value_of (source w) l e go)
+    with_operand e q next_free from to go pl f k = advance_value src p depth _ (value_of e l w.globals) w.output go (λ v is.
+        let y = taken (target w) bs e n q next_free from to l r v pl f h is in
+        advance_after src p depth _ (at (target w) bs y.regs to) _ y.goes (k v is y.regs y.value y.kept y.held))
 
     -- a condition, and the two ways from it
-    ways : (e : TypedExpression) (yes_block no_block : ℕ) (from yes_code no_code : Code) (yes_spot no_spot : Spot) (a b : List Todo) (leave : ℕ)
-        (next : Option ℕ) (leave' : ℕ) (next' : Option ℕ) → Decides bs e n yes_block no_block from → At bs yes_block yes_code
-        → Sits bs yes_spot yes_code → At bs no_block no_code → Sits bs no_spot no_code → Targets bs leave next → Targets bs leave' next'
-        → Follows src bs n a leave' next' yes_spot → Follows src bs n b leave next no_spot
-        → Advance src p depth (at_code bs r from d ws g out) (with_value (value_of e l g) out
-        (λ v. Running (record { locals = l; todo = todo_of_test v a b; result_to = place } ∷ fs) g out))
-    ways e yes_block no_block from yes_code no_code yes_spot no_spot a b leave next leave' next' de aty sy atn sn t t' fa fb =
-        advance_value src p depth _ (value_of e l g) out _ (λ v is.
-        let ar = de.by around l r v h is in
+    ways : (e : TypedExpression) (t f : ℕ) (from : Code) (a b : List Todo) → Decides bs e n t f from → Starts src bs n t a → Starts src bs n f b
+        → Advance src p depth (at (target w) bs r from) (Src.with_value_of (source w) l e (λ v. Src.at (source w) l (todo_of_test v a b)))
+    ways e t f from a b de sa sb = advance_value src p depth _ (value_of e l w.globals) w.output _ (λ v is.
+        let ar = de.by (target w) l r v h is in
         advance_moves src p depth _ _ _ ar.moves (by ar.regs (located_kept n l r ar.regs h.by ar.kept) (nat_eq v 0)))
       where
-        by : (r' : Places) → Located n l r' → (z : Bool) → MatchRun src
-            (Running (record { locals = l; todo = (if z then b else a); result_to = place } ∷ fs) g out)
-            (state_at_block bs (if z then no_block else yes_block) r' d ws g out)
-        by r' h' true = enters_block l r' b leave next no_spot no_block g out t no_code atn sn h' fb
-        by r' h' false = enters_block l r' a leave' next' yes_spot yes_block g out t' yes_code aty sy h' fa
+        by : (r' : Places) → Located n l r' → (z : Bool)
+            → MatchRun src (Src.at (source w) l (if z then b else a)) (state_at_block (target w) bs r' (if z then f else t))
+        by r' h' true = enters_block w bs n l r' b f sb h'
+        by r' h' false = enters_block w bs n l r' a t sa h'
 
     -- code at a spot of its own
-    in_line : (spot : Spot) (x code : Code) (s : Src.Run) → spot ≡ Line x → Sits bs spot code → Advance src p depth (at_code bs r x d ws g out) s
-        → Advance src p depth (at_code bs r code d ws g out) s
+    in_line : (spot : Spot) (x code : Code) (s : Src.Run) → spot ≡ Line x → Sits bs spot code → Advance src p depth (at (target w) bs r x) s
+        → Advance src p depth (at (target w) bs r code) s
     in_line spot x code s e si a =
         let is : code ≡ x = subst (λ s. Sits bs s code) e si in
-        subst (λ c. Advance src p depth (at_code bs r c d ws g out) s) (sym is) a
+        subst (λ c. Advance src p depth (at (target w) bs r c) s) (sym is) a
 
-    -- a caller waits for the result
-    waits : (l' r' : Places) (to_place : Option Destination) (to : Option ℕ) (goes_on : ℕ) (after : Spot) (k : List Todo) (leave : ℕ)
-        (next : Option ℕ) → Receives bs n to_place to goes_on after → FitsTarget src n to_place → Located n l' r' → Targets bs leave next
-        → Follows src bs n k leave next after
-        → (code : Code) × At bs goes_on code × Awaits src to_place to (record { locals = l'; todo = k; result_to = place })
-        (record { blocks = bs; registers = r'; code = code; result_to = d })
-    waits l' r' None to goes_on after k leave next re ft h' t f =
-        let th = lands_there goes_on after re.1 (there_follows src bs n k leave next after t f) in (
-          th.0,
-          th.1,
-          (
-            re.0,
-            record { count = n; stands = stands_at k leave next after th.0 t (lands_sits goes_on after th.0 re.1 th.1) f; located = h' },
-          ),
-        )
-    waits l' r' (Some (Local x)) to goes_on after k leave next re ft h' t f =
-        let th = lands_there goes_on after re.1 (there_follows src bs n k leave next after t f) in (
-          th.0,
-          th.1,
-          record {
-            is = re.0;
-            match = record { count = n; stands = stands_at k leave next after th.0 t (lands_sits goes_on after th.0 re.1 th.1) f; located = h' };
-            low = ft;
-          },
-        )
-    waits l' r' (Some (Variable x)) to goes_on after k leave next re ft h' t f = (
-      put_code x re.z re.t (line_of after),
-      re.there,
-      record {
-        t = re.t;
-        z = re.z;
-        is = re.is;
-        code = line_of after;
-        there = refl;
-        match = record { count = n; stands = stands_at k leave next after (line_of after) t (sits_there bs after) f; located = h' };
-        low = re.low;
-        apart = re.apart;
-        global = ft;
-      },
-    )
+    module _ (k : List Todo) (leave : ℕ) (next : Option ℕ) (after : Spot) (t : Targets bs leave next) (f : Follows src bs n k leave next after) where
+      rest : Stands src bs n k (line_of after)
+      rest = stands_there src bs n k leave next after t f
 
-    -- a statement that takes a step
-    acts_at : (s : TypedStatement) (k : List Todo) (leave : ℕ) (next : Option ℕ) (from after : Spot) (code : Code) → Targets bs leave next
-        → Sits bs from code → Coded bs n s leave next from after → Fits src n s → Follows src bs n k leave next after
-        → Advance src p depth (at_code bs r code d ws g out) (step_at src depth l (Do s ∷ k) place fs g out)
-    acts_at (assign (Local x) e) k leave next from after code t si c sc f =
-        in_line from c.code code _ c.is si (advance_value src p depth _ (value_of e l g) out _ (λ v is.
-        let y = c.value.by around l r v h is in
-        advance_moves src p depth _ _ _ y.moves
-        (matches (places_with l x (Some v)) y.regs k leave next after (line_of after) g out t (sits_there bs after)
-        (located_assigned n l r y.regs x v sc.2.0 h.by y.value y.kept) f)))
-    acts_at (assign (Variable x) e) k leave next from after code t si c sc f =
-        in_line from c.code code _ c.is si (with_operand e c.p c.next c.code _ _ c.is_place c.value (λ v is r' rv same held.
-        advance_value src p depth _ (Src.elements_with src.globals g x 0 v) out _ (λ g' gs.
-        let ne : c.p ≢ c.z = omega (arith, held, c.spare) in
-        advance_moves src p depth _ _ _ (puts bs r' d ws g g' out x c.z c.p v (line_of after) sc.2.0 ne rv gs)
-        (matches l (places_with r' c.z (Some 0)) k leave next after (line_of after) g' out t (sits_there bs after)
-        (located_kept n l r (places_with r' c.z (Some 0)) h.by
-        (λ y lt. let nz : y ≢ c.z = omega (arith, c.is_place.rooms, c.spare) in written_other r' c.z (Some 0) y nz ∙ same y lt)) f))))
-    acts_at (store a i e) k leave next from after code t si c sc f =
-        in_line from c.code code _ c.is si (with_operand i c.p c.next c.code c.middle _ c.index_place c.index (λ x is r1 rx same1 held1.
-        advance_value src p depth _ (value_of e l g) out _ (λ v vs.
-        let h1 = holds_kept n c.next l r r1 g c.index_place.rooms h same1 in
-        let y = taken around bs e c.next c.q c.last c.middle _ l r1 v c.value_place c.value h1 vs in
-        let x_there : y.regs c.p ≡ Some x = y.kept c.p held1 ∙ rx in
-        let kept : (z : ℕ) → z < n → y.regs z ≡ r z = λ z lt. let lt' : z < c.next = omega (arith, c.index_place.rooms) in y.kept z lt' ∙ same1 z lt in
-        advance_after src p depth _ (at_code bs y.regs (first (I.Store a c.p c.q) (line_of after)) d ws g out) _ y.goes
-        (advance_value src p depth _ (Src.elements_with src.globals g a x v) out _ (λ g' gs.
-        let done = λ (g' : Arrays). at_code bs y.regs (line_of after) d ws g' out in
-        advance_one src p depth _ _ _
-        (with_some (y.regs c.p) x out (λ x. with_value (y.regs c.q) out
-        (λ v. with_value (kept_in p.globals a v) out (λ w. with_value (arrays_with g a x w) out done))) x_there
-        ∙ with_some (y.regs c.q) v out (λ v. with_value (kept_in p.globals a v) out (λ w. with_value (arrays_with g a x w) out done)) y.value
-        ∙ stored a x v g g' out done sc.2.0 gs)
-        (matches l y.regs k leave next after (line_of after) g' out t (sits_there bs after) (located_kept n l r y.regs h.by kept) f))))))
-    acts_at (output e) k leave next from after code t si c sc f =
-        let th = lands_there c.block after c.lands (there_follows src bs n k leave next after t f) in
-        let c1 = c.leaves in
-        in_line from c1.code code _ c1.is si (with_operand e c1.p c1.next c1.code _ _ c1.is_place c1.value (λ v is r' rv same held.
-        advance_one src p depth _ _ _
-        (with_some (r' c1.p) v out (λ v. state_at_block bs c.block r' d ws g (out ++ v ∷ [])) rv)
-        (enters_block l r' k leave next after c.block g (out ++ v ∷ []) t th.0 th.1 (lands_sits c.block after th.0 c.lands th.1)
-        (located_kept n l r r' h.by same) f)))
-    acts_at (if_else e a b) k leave next from after code t si c sc f =
-        let join_there = lands_there c.join after c.joined (there_follows src bs n k leave next after t f) in
-        let rest = follows_from src bs n k leave next (Block c.join) after (comes_join bs c.join after c.joined) f in
-        let ta = lands_there c.a c.a_spot c.a_lands (there_coded bs n a leave next c.a_spot (Block c.join) t c.a_for join_there) in
-        let tb = lands_there c.b c.b_spot c.b_lands (there_coded bs n b leave next c.b_spot (Block c.join) t c.b_for join_there) in
-        in_line from c.code code _ c.is si
-        (ways e c.a c.b c.code ta.0 tb.0 c.a_spot c.b_spot (before a k) (before b k) leave next leave next c.test ta.1
-        (lands_sits c.a c.a_spot ta.0 c.a_lands ta.1) tb.1 (lands_sits c.b c.b_spot tb.0 c.b_lands tb.1) t t
-        (follows_before src bs n a k leave next c.a_spot (Block c.join) c.a_for (sc.0, sc.1, sc.2.1.0) rest)
-        (follows_before src bs n b k leave next c.b_spot (Block c.join) c.b_for (sc.0, sc.1, sc.2.1.1) rest))
-    acts_at (loop e last body) k leave next from after code t si c sc f =
-        let left_there = lands_there c.leave after c.left (there_follows src bs n k leave next after t f) in
-        let last_there = there_coded bs n last leave next c.last_spot (Line c.bottom) t c.last_for tt in
-        let again : Coded bs n (loop e last body) leave next (Line c.bottom) after = record {
-          blocks = c.blocks;
-          top = c.bottom;
-          is = refl;
-          test = c.again;
-        } in
-        let turn : Follows src bs n (Next last (loop e last body) ∷ k) c.leave c.next c.turn = record {
-          last_spot = c.last_spot;
-          comes = c.is_turn.comes;
-          turn = record {
-            bottom = c.bottom;
-            after = after;
-            left = c.left;
-            continues = c.is_turn.continues;
-            outer_leave = leave;
-            outer_next = next;
-            targets = t;
-            last_coded = c.last_for;
-            loop_coded = again;
-            last_fits = (sc.0, false, sc.2.1.0);
-            loop_fits = sc;
-            rest = f;
-          };
-        } in
-        let inner : Targets bs c.leave c.next = record {
-          leaves = left_there;
-          continues = λ b e.
-              lands_there b c.last_spot (c.is_turn.continues b e) last_there;
-        } in
-        in_line from c.top code _ c.is si
-        (ways e c.body c.leave c.top (line_of c.body_spot) left_there.0 c.body_spot after (before body (Next last (loop e last body) ∷ k)) k leave
-        next c.leave c.next c.test c.body_at (sits_there bs c.body_spot) left_there.1 (lands_sits c.leave after left_there.0 c.left left_there.1)
-        t inner
-        (follows_before src bs n body (Next last (loop e last body) ∷ k) c.leave c.next c.body_spot c.turn c.body_for (sc.0, true, sc.2.1.1) turn)
-        f)
-    acts_at (call to_place callee es) k leave next from after code t si c sc f =
-        in_line from c.code code _ c.is si (advance_value src p depth _ (values_of es l g) out _ (λ vs is.
-        let y = taken_all around bs es c.places n c.code (exit_code c.exit) l r vs c.are_places c.values h is in
-        let h' = located_kept n l r y.regs h.by y.kept in
-        let w = waits l y.regs to_place c.to c.block after k leave next c.receives sc.2.0 h' t f in
-        let at_block = w.1 in
-        let fits = sc.2.1.0 in
-        let count : (func : TypedFunction) → slice_get src.functions callee ≡ Some func → length vs ≡ func.parameters = λ func there.
-        let some : Some fits.callee ≡ Some func = sym fits.there ∙ there in
-        let same : fits.callee ≡ func = cc in
-        values_length es l g vs is ∙ fits.count ∙ ap (λ (f : TypedFunction). f.parameters) same in
-        let step =
-        c.leaves p depth y.regs d ws g out
-        ∙ with_some (words_in y.regs (map (λ p. p.register) c.places)) vs out
-        (λ vs. with_value (slice_get bs c.block) out (λ b.
-        Blk.state_after_call p depth callee vs c.to (record { blocks = bs; registers = y.regs; code = code_of b; result_to = d } ∷ ws) g out))
-        y.values
-        ∙ with_some (slice_get bs c.block) at_block.block out
-        (λ b. Blk.state_after_call p depth callee vs c.to (record { blocks = bs; registers = y.regs; code = code_of b; result_to = d } ∷ ws) g
-        out) at_block.there
-        ∙ ap (λ (code : Code). Blk.state_after_call p depth callee vs c.to
-        (record { blocks = bs; registers = y.regs; code = code; result_to = d } ∷ ws) g out) at_block.is in
-        advance_after src p depth _ (at_code bs y.regs (exit_code c.exit) d ws g out) _ y.goes
-        (calls callee vs to_place c.to (record { locals = l; todo = k; result_to = place } ∷ fs)
-        (record { blocks = bs; registers = y.regs; code = w.0; result_to = d } ∷ ws) g out _ count
-        (w.2, m) step)))
-    acts_at (return_with None) k leave next from after code t si c sc f =
-        in_line from (exit_code (X.Return None)) code _ c si (returns None place d fs ws g out _ m refl)
-    acts_at (return_with (Some e)) k leave next from after code t si c sc f =
-        in_line from c.code code _ c.is si (with_operand e c.p c.next c.code _ _ c.is_place c.value (λ v is r' rv same held.
-        returns (Some v) place d fs ws g out _ m (with_some (r' c.p) v out (λ v. Blk.state_after_return (Some v) d ws g out) rv)))
-    acts_at _ k leave next from after code t si c sc f = advance_failed src p depth _ out
+      rest_in : (b : ℕ) → Lands bs b after → Starts src bs n b k
+      rest_in b lands = starts_there src bs n k leave next after t f b lands
 
-    acts : (k : List Todo) (leave : ℕ) (next : Option ℕ) (from : Spot) (code : Code) → Targets bs leave next → Sits bs from code
-        → Follows src bs n k leave next from → Advance src p depth (at_code bs r code d ws g out) (step_at src depth l k place fs g out)
-    acts (Do s ∷ k) leave next from code t si f =
-        let x = f.comes.by code si p depth r d ws g out in
-        advance_after src p depth _ (at_code bs r x.0 d ws g out) _ x.2 (acts_at s k leave next f.at f.middle x.0 t x.1 f.coded f.fits f.rest)
-    acts _ leave next from code t si f = advance_failed src p depth _ out
+      -- this call waits for the result of another
+      waits : (r' : Places) (place : Option Destination) (to : Option ℕ) (b : ℕ) → Receives (enclosing bs n) place to b after → FitsTarget src n place
+          → Located n l r' → (code : Code) × At bs b code
+          × Awaits src place to (Src.frame_at (source w) l k) (activation (target w) bs r' code)
+      waits r' None to b re ft h' =
+          let s = rest_in b re.1 in (s.0, s.1, (re.0, record { count = n; stands = s.2; located = h' }))
+      waits r' (Some (Local x)) to b re ft h' =
+          let s = rest_in b re.1 in
+          (s.0, s.1, record { is = re.0; match = record { count = n; stands = s.2; located = h' }; low = ft })
+      waits r' (Some (Variable x)) to b re ft h' = (
+        put_code x re.z re.t (line_of after),
+        re.there,
+        record {
+          t = re.t;
+          z = re.z;
+          is = re.is;
+          code = line_of after;
+          there = refl;
+          match = record { count = n; stands = rest; located = h' };
+          low = re.low;
+          apart = re.apart;
+          global = ft;
+        },
+      )
+
+      -- a statement that takes a step
+      acts_at : (s : TypedStatement) (from : Spot) (code : Code) → Sits bs from code → Coded (enclosing bs n) s leave next from after → Fits src n s
+          → Advance src p depth (at (target w) bs r code) (step_at (source w) l (Do s ∷ k))
+      acts_at (assign (Local x) e) from code si c sc =
+          in_line from c.code code _ c.is si (advance_value src p depth _ (value_of e l w.globals) w.output _ (λ v is.
+          let y = c.value.by (target w) l r v h is in
+          advance_moves src p depth _ _ _ y.moves
+          (matches w bs n (places_with l x (Some v)) y.regs k (line_of after) rest
+          (located_assigned n l r y.regs x v sc.2.0 h.by y.done.value y.done.kept))))
+      acts_at (assign (Variable x) e) from code si c sc =
+          in_line from c.code code _ c.is si (with_operand e c.p c.next c.code _ _ c.is_place c.value (λ v is r' rv same held.
+          advance_value src p depth _ (Src.elements_with src.globals w.globals x 0 v) w.output _ (λ g gs.
+          let ne : c.p ≢ c.z = omega (arith, held, c.spare) in
+          advance_moves src p depth _ _ _ (puts w bs r' x c.z c.p v (line_of after) g sc.2.0 ne rv gs)
+          (matches (record w { globals = g }) bs n l (places_with r' c.z (Some 0)) k (line_of after) rest
+          (located_kept n l r (places_with r' c.z (Some 0)) h.by
+          (λ y lt. let nz : y ≢ c.z = omega (arith, c.is_place.rooms, c.spare) in written_other r' c.z (Some 0) y nz ∙ same y lt))))))
+      acts_at (store a i e) from code si c sc =
+          in_line from c.code code _ c.is si (with_operand i c.p c.next c.code c.middle _ c.index_place c.index (λ x is r1 rx same1 held1.
+          advance_value src p depth _ (value_of e l w.globals) w.output _ (λ v vs.
+          let h1 = holds_kept n c.next l r r1 w.globals c.index_place.rooms h same1 in
+          let y = taken (target w) bs e c.next c.q c.last c.middle _ l r1 v c.value_place c.value h1 vs in
+          let x_there : y.regs c.p ≡ Some x = y.kept c.p held1 ∙ rx in
+          let kept : (z : ℕ) → z < n → y.regs z ≡ r z = λ z lt. let lt' : z < c.next = omega (arith, c.index_place.rooms) in y.kept z lt' ∙ same1 z lt in
+          advance_after src p depth _ (at (target w) bs y.regs (first (I.Store a c.p c.q) (line_of after))) _ y.goes
+          (advance_value src p depth _ (Src.elements_with src.globals w.globals a x v) w.output _ (λ g gs.
+          advance_one src p depth _ _ _ (store_step w bs y.regs a x v c.p c.q (line_of after) g sc.2.0 x_there y.value gs)
+          (matches (record w { globals = g }) bs n l y.regs k (line_of after) rest (located_kept n l r y.regs h.by kept)))))))
+      acts_at (output e) from code si c sc =
+          let c1 = c.leaves in
+          in_line from c1.code code _ c1.is si (with_operand e c1.p c1.next c1.code _ _ c1.is_place c1.value (λ v is r' rv same held.
+          let after_output : ℕ → Around src = λ v. record w { output = w.output ++ v ∷ [] } in
+          advance_one src p depth _ _ _ (with_some (r' c1.p) v w.output (λ v. state_at_block (target (after_output v)) bs r' c.block) rv)
+          (enters_block (after_output v) bs n l r' k c.block (rest_in c.block c.lands) (located_kept n l r r' h.by same))))
+      acts_at (if_else e a b) from code si c sc =
+          let joined = follows_from src bs n k leave next (Block c.join) after (comes_join bs c.join after c.joined) f in
+          let a_follows = follows_before src bs n a k leave next c.a_spot (Block c.join) c.a_for (sc.0, sc.1, sc.2.1.0) joined in
+          let b_follows = follows_before src bs n b k leave next c.b_spot (Block c.join) c.b_for (sc.0, sc.1, sc.2.1.1) joined in
+          in_line from c.code code _ c.is si (ways e c.a c.b c.code (before a k) (before b k) c.test
+          (starts_there src bs n (before a k) leave next c.a_spot t a_follows c.a c.a_lands)
+          (starts_there src bs n (before b k) leave next c.b_spot t b_follows c.b c.b_lands))
+      acts_at (loop e last body) from code si c sc =
+          let left = rest_in c.leave c.left in
+          let last_there = there_coded bs n last leave next c.last_spot (Line c.bottom) t c.last_for tt in
+          let again : Coded (enclosing bs n) (loop e last body) leave next (Line c.bottom) after = record {
+            blocks = c.blocks;
+            top = c.bottom;
+            is = refl;
+            test = c.again;
+          } in
+          let turn : Follows src bs n (Next last (loop e last body) ∷ k) c.leave c.next c.turn = record {
+            last_spot = c.last_spot;
+            comes = c.is_turn.comes;
+            turn = record {
+              bottom = c.bottom;
+              after = after;
+              left = c.left;
+              continues = c.is_turn.continues;
+              outer_leave = leave;
+              outer_next = next;
+              targets = t;
+              last_coded = c.last_for;
+              loop_coded = again;
+              last_fits = (sc.0, false, sc.2.1.0);
+              loop_fits = sc;
+              rest = f;
+            };
+          } in
+          let inner : Targets bs c.leave c.next = record {
+            leaves = (left.0, left.1);
+            continues = λ b e. lands_there b c.last_spot (c.is_turn.continues b e) last_there;
+          } in
+          let follows = follows_before src bs n body (Next last (loop e last body) ∷ k) c.leave c.next c.body_spot c.turn c.body_for
+          (sc.0, true, sc.2.1.1) turn in
+          in_line from c.top code _ c.is si (ways e c.body c.leave c.top (before body (Next last (loop e last body) ∷ k)) k c.test
+          (line_of c.body_spot, c.body_at, stands_there src bs n _ c.leave c.next c.body_spot inner follows) left)
+      acts_at (call place callee es) from code si c sc =
+          in_line from c.code code _ c.is si (advance_value src p depth _ (values_of es l w.globals) w.output _ (λ vs is.
+          let y = taken_all (target w) bs es c.places n c.code (exit_code c.exit) l r vs c.are_places c.values h is in
+          let a = waits y.regs place c.to c.block c.receives sc.2.0 (located_kept n l r y.regs h.by y.kept) in
+          let at_block = a.1 in
+          let fits = sc.2.1.0 in
+          let count : (func : TypedFunction) → slice_get src.functions callee ≡ Some func → length vs ≡ func.parameters = λ func there.
+          let some : Some fits.callee ≡ Some func = sym fits.there ∙ there in
+          let same : fits.callee ≡ func = cc in
+          values_length es l w.globals vs is ∙ fits.count ∙ ap (λ (f : TypedFunction). f.parameters) same in
+          let begun : Code → List ℕ → Blk.Run = λ code vs.
+          Blk.state_after_call (around_callee (target w) (activation (target w) bs y.regs code) c.to) callee vs in
+          let step =
+          c.leaves (target w) y.regs
+          ∙ with_some (words_in y.regs (map (λ p. p.register) c.places)) vs w.output
+          (λ vs. with_value (slice_get bs c.block) w.output (λ b. begun (code_of b) vs)) y.values
+          ∙ with_some (slice_get bs c.block) at_block.block w.output (λ b. begun (code_of b) vs) at_block.there
+          ∙ ap (λ (code : Code). begun code vs) at_block.is in
+          advance_after src p depth _ (at (target w) bs y.regs (exit_code c.exit)) _ y.goes
+          (calls (record {
+            place = place;
+            to = c.to;
+            waiting = Src.frame_at (source w) l k ∷ w.waiting;
+            activations = activation (target w) bs y.regs a.0 ∷ w.activations;
+            stack = (a.2, w.stack);
+            globals = w.globals;
+            output = w.output;
+          }) callee vs _ count step)))
+      acts_at (return_with None) from code si c sc =
+          in_line from (exit_code (X.Return None)) code _ c si (returns w None w.place w.to w.waiting w.activations _ w.stack refl)
+      acts_at (return_with (Some e)) from code si c sc =
+          in_line from c.code code _ c.is si (with_operand e c.p c.next c.code _ _ c.is_place c.value (λ v is r' rv same held.
+          returns w (Some v) w.place w.to w.waiting w.activations _ w.stack
+          (with_some (r' c.p) v w.output (λ v. Blk.state_after_return (Some v) w.to w.activations w.globals w.output) rv)))
+      acts_at _ from code si c sc = advance_failed src p depth _ w.output
+
+    acts : (k : List Todo) (code : Code) → Stands src bs n k code → Advance src p depth (at (target w) bs r code) (step_at (source w) l k)
+    acts (Do s ∷ k) code stands =
+        let f = stands.follows in
+        let x = f.comes.by code stands.sits (target w) r in
+        advance_after src p depth _ (at (target w) bs r x.0) _ x.2
+        (acts_at k stands.leave stands.next f.middle stands.targets f.rest s f.spot x.0 x.1 f.coded f.fits)
+    acts _ code stands = advance_failed src p depth _ w.output
 
   -- a step of the source
   advances : (s : Src.Run) (t : Blk.Run) → RunHoldsWords s → MatchRun src s t → Advance src p depth t (source_step src depth s)
@@ -584,14 +535,22 @@ module _ (src : TypedProgram) (p : Program) (ok : IsCodeOfProgram src p) (well :
   advances (Running (f ∷ fs) g out) t words m =
       let a = m.a in
       let top = m.top in
+      let w : Around src = record {
+        place = f.result_to;
+        to = a.result_to;
+        waiting = fs;
+        activations = m.ws;
+        stack = m.below;
+        globals = g;
+        output = out;
+      } in
       let h : Holds top.count f.locals a.registers g = record { by = top.located; locals = All-head FrameHoldsWords f fs words.0; globals = words.1.0 } in
-      let s = settles src p depth a.blocks top.count a.registers a.result_to m.ws g out Going f.locals f.todo top.leave top.next top.spot a.code
-      top.sits top.targets top.follows h in
+      let s = settles src (target w) a.blocks top.count a.registers Going f.locals f.todo top.leave top.next top.spot a.code top.sits top.targets
+      top.follows h in
       let point = next_point Going f.locals f.todo in
-      let there : Goes p depth t (at_code a.blocks a.registers s.code a.result_to m.ws g out) =
-      subst (λ t. Goes p depth t (at_code a.blocks a.registers s.code a.result_to m.ws g out)) (sym m.is) s.goes in
-      advance_after src p depth t _ _ there (acts a.blocks top.count a.registers f.result_to a.result_to fs m.ws m.below g out point.locals s.holds
-      point.todo s.leave s.next s.spot s.code s.targets s.sits s.follows)
+      let there : Goes p depth t (at (target w) a.blocks a.registers s.code) =
+      subst (λ t. Goes p depth t (at (target w) a.blocks a.registers s.code)) (sym m.is) s.goes in
+      advance_after src p depth t _ _ there (acts w a.blocks top.count point.locals a.registers s.holds point.todo s.code s.stands)
 
   -- as many steps, at least
   runs : (n : ℕ) (s : Src.Run) (t : Blk.Run) → RunHoldsWords s → MatchRun src s t
@@ -608,8 +567,10 @@ module _ (src : TypedProgram) (p : Program) (ok : IsCodeOfProgram src p) (well :
   starts : MatchRun src (source_start src) (rtl_start p)
   starts = first_frame (slice_get src.functions src.main) refl
     where
-      enter : RFunc → Blk.Run
-      enter func = state_at_block func.blocks.items 0 unset_places None [] (map first_values p.globals) []
+      enter : Arrays → RFunc → Blk.Run
+      enter g func =
+          let w : Surroundings = record { program = p; depth = depth; result_to = None; waiting = []; globals = g; output = [] } in
+          state_at_block w func.blocks.items unset_places 0
 
       first_frame : (o : Option TypedFunction) → slice_get src.functions src.main ≡ o
           → MatchRun src (with_value o [] (λ func. Running (record { locals = unset_places; todo = before_all func.body []; result_to = None } ∷ [])
@@ -617,18 +578,20 @@ module _ (src : TypedProgram) (p : Program) (ok : IsCodeOfProgram src p) (well :
       first_frame None e = tt
       first_frame (Some func) e =
           let r = ok.functions src.main func e in
-          let c = r.2 in
           let there : slice_get p.functions p.main ≡ Some r.0 = ap (slice_get p.functions) ok.main ∙ r.1 in
-          let globals = map first_words src.globals in
-          record {
-            a = record { blocks = r.0.blocks.items; registers = unset_places; code = line_of c.entry; result_to = None };
-            ws = [];
-            is = with_some (slice_get p.functions p.main) r.0 [] enter there
-                ∙ ap (λ (g : Arrays). state_at_block r.0.blocks.items 0 unset_places None [] g []) ok.first
-                ∙ jump_to c.entry_at unset_places None [] globals [];
-            top = enters src.main func r.0 e c unset_places None (λ x v e. absurd (none-some v e));
-            below = tt;
-          }
+          let w : Around src = record {
+            place = None;
+            to = None;
+            waiting = [];
+            activations = [];
+            stack = tt;
+            globals = map first_words src.globals;
+            output = [];
+          } in
+          let is = with_some (slice_get p.functions p.main) r.0 [] (enter (map first_values p.globals)) there ∙ ap (λ (g : Arrays). enter g r.0) ok.first in
+          subst (λ t. MatchRun src (Src.at (source w) unset_places (before_all func.body [])) t) (sym is)
+          (enters_block w r.0.blocks.items func.locals unset_places unset_places (before_all func.body []) 0 (begins src.main func r.0 e r.2)
+          (λ x v e. absurd (none-some v e)))
 
 same_end : (src : TypedProgram) (s : Src.Run) (t : Blk.Run) → MatchRun src s t → (outcome s).end ≢ Wrong → outcome t ≡ outcome s
 same_end src (Running [] g out) t m ne = absurd m

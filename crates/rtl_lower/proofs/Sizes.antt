@@ -1,6 +1,6 @@
 -- The sizes of lists of statements, taken from the last one on.
 use Rattle.std.proofs.Common.{◌≡◌, ℕ, zero, suc, ◌+◌, ◌-◌, ◌<◌, ◌≤◌, Bool, true, false, List, [], ◌∷◌, ◌++◌, Some, None, refl, sym, ◌∙◌, ap, subst}
-use Rattle.std.proofs.Common.{arith, length, get_or, take, drop}
+use Rattle.std.proofs.Common.{arith, length, get_or, take, drop, take_all, drop_of_length-le}
 use Rattle.std.specs.Prelude.{◌||◌, slice_get}
 use Rattle.std.proofs.lemmas.Option.{none-some}
 use Rattle.std.proofs.Math.Seq.{take-suc, drop-cons}
@@ -45,7 +45,7 @@ or_right : (a b : Bool) → (a || b) ≡ false → b ≡ false
 or_right true b e = cc
 or_right false b e = e
 
-or_none : (a b : Bool) → a ≡ false → b ≡ false → (a || b) ≡ false
+pub or_none : (a b : Bool) → a ≡ false → b ≡ false → (a || b) ≡ false
 or_none true b e f = e
 or_none false b e f = f
 
@@ -76,25 +76,13 @@ none_more all i j s lt is ij f e =
     let cut : take j all ≡ take i all ++ s ∷ [] = ap (λ n. take n all) n ∙ take-suc all i s lt ∙ ap (λ x. take i all ++ x ∷ []) (sym is) in
     subst (λ l. any_continues (statements_of l) ≡ false) (sym cut) (none_append (take i all) s e f)
 
-take_all : (xs : List TypedStatement) (n : ℕ) → length xs ≤ n → take n xs ≡ xs
-take_all [] zero le = refl
-take_all [] (suc n) le = refl
-take_all (x ∷ xs) zero le = absurd (omega arith)
-take_all (x ∷ xs) (suc n) le = ap (λ l. x ∷ l) (take_all xs n (omega arith))
-
 pub none_all : (all : List TypedStatement) (i : ℕ) → length all ≤ i → any_continues (statements_of (take i all)) ≡ false
     → any_continues (statements_of all) ≡ false
-none_all all i le e = subst (λ l. any_continues (statements_of l) ≡ false) (take_all all i le) e
+none_all all i le e = subst (λ l. any_continues (statements_of l) ≡ false) (take_all i all le) e
 
 -- statements of a list that are done, the last ones
-drop_end : (xs : List TypedStatement) (n : ℕ) → n ≡ length xs → drop n xs ≡ []
-drop_end [] zero e = refl
-drop_end [] (suc n) e = refl
-drop_end (x ∷ xs) zero e = absurd (omega arith)
-drop_end (x ∷ xs) (suc n) e = drop_end xs n (omega arith)
-
 pub none_left : (all : List TypedStatement) (n : ℕ) → n ≡ length all → statements_of (drop n all) ≡ no_statements
-none_left all n e = ap statements_of (drop_end all n e)
+none_left all n e = ap statements_of (drop_of_length-le all (omega (arith, e)))
 
 pub one_left : (all : List TypedStatement) (s : TypedStatement) (k k' j : ℕ) → k < length all → k' ≡ k → s ≡ get_or all k' s → j ≡ suc k
     → statements_of (drop k all) ≡ more_statements (statement_of s) (statements_of (drop j all))

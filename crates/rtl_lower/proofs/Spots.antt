@@ -1,11 +1,10 @@
 -- Spots: where code is, and jumps from one to another.
-use Rattle.std.proofs.Common.{◌≡◌, ℕ, List, ◌⊎◌, inl, inr, Option, Some, refl, sym, ◌∙◌, ap, subst}
-use Rattle.runs.specs.Stores.{Places, Arrays}
-use Rattle.rtl.specs.Programs.{Program}
-use Rattle.rtl.specs.Meaning.{Code, Frame, code_of}
+use Rattle.std.proofs.Common.{◌≡◌, ℕ, List, ◌⊎◌, inl, inr, Some, refl, sym, ◌∙◌, ap, subst}
+use Rattle.runs.specs.Stores.{Places}
+use Rattle.rtl.specs.Meaning.{Code, Surroundings, at, code_of}
 use Rattle.rtl.specs.declared.block.RBlock.{RBlock}
 use Rattle.rtl_emit.specs.Blocks.{goto, Spot, Block, Line, line_of, Lands, At}
-use Rattle.rtl_emit.specs.Runs.{at_code, Goes}
+use Rattle.rtl_emit.specs.Runs.{Goes}
 use Rattle.rtl_emit.proofs.Steps.{goes_nowhere, goes_then, joins}
 use Rattle.rtl_lower.specs.Coded.{Sits, IsThere, Comes}
 
@@ -30,25 +29,26 @@ lands_there {bs} b (Block b') l t = (t.0, subst (λ b. At bs b t.0) (sym l) t.1)
 lands_there {bs} b (Line c) l t = (c, l)
 
 pub comes_equal : (bs : List RBlock) (from to : Spot) → from ≡ to → Comes bs from to
-comes_equal bs from to e = subst (λ s. Comes bs from s) e (record { there = λ t. t; by = λ c s p depth r d ws g out. (c, s, goes_nowhere p depth _) })
+comes_equal bs from to e =
+    subst (λ s. Comes bs from s) e (record { there = λ t. t; by = λ c s w r. (c, s, goes_nowhere w.program w.depth _) })
 
 pub comes_join : (bs : List RBlock) (b : ℕ) (s : Spot) → Lands bs b s → Comes bs (Block b) s
-comes_join bs b s l = record { there = λ t. lands_there b s l t; by = λ c si p depth r d ws g out. by c si p depth r d ws g out }
+comes_join bs b s l = record { there = λ t. lands_there b s l t; by = λ c si w r. by c si w r }
   where
-    by : (c : Code) → (c ≡ goto b) ⊎ At bs b c → (p : Program) (depth : ℕ) (r : Places) (d : Option ℕ) (ws : List Frame) (g : Arrays) (out : List ℕ)
-        → (c' : Code) × Sits bs s c' × Goes p depth (at_code bs r c d ws g out) (at_code bs r c' d ws g out)
-    by c (inl e) p depth r d ws g out = (
+    by : (c : Code) → (c ≡ goto b) ⊎ At bs b c → (w : Surroundings) (r : Places)
+        → (c' : Code) × Sits bs s c' × Goes w.program w.depth (at w bs r c) (at w bs r c')
+    by c (inl e) w r = (
       line_of s,
       sits_there bs s,
-      subst (λ c. Goes p depth (at_code bs r c d ws g out) (at_code bs r (line_of s) d ws g out)) (sym e) (joins b s l r d ws g out),
+      subst (λ c. Goes w.program w.depth (at w bs r c) (at w bs r (line_of s))) (sym e) (joins w b s l r),
     )
-    by c (inr at) p depth r d ws g out = (c, lands_sits b s c l at, goes_nowhere p depth _)
+    by c (inr there) w r = (c, lands_sits b s c l there, goes_nowhere w.program w.depth _)
 
 pub comes_then : {bs : List RBlock} {from mid to : Spot} → Comes bs from mid → Comes bs mid to → Comes bs from to
 comes_then a b = record {
   there = λ t. a.there (b.there t);
-  by = λ c s p depth r d ws g out.
-      let x = a.by c s p depth r d ws g out in
-      let y = b.by x.0 x.1 p depth r d ws g out in
+  by = λ c s w r.
+      let x = a.by c s w r in
+      let y = b.by x.0 x.1 w r in
       (y.0, y.1, goes_then x.2 y.2);
 }

@@ -1,5 +1,5 @@
 -- The code of stores and calls from that of their parts, and a block that was filled behind others.
-use Rattle.std.proofs.Common.{Vec, Global, ◌≡◌, ◌≢◌, ℕ, ◌<◌, ◌≤◌, List, [], ◌∷◌, ◌++◌, Option, Some, refl, sym, ◌∙◌, ap, subst, arith, length}
+use Rattle.std.proofs.Common.{Vec, Global, ◌≡◌, ◌≢◌, ℕ, ◌<◌, ◌≤◌, List, [], ◌++◌, Option, Some, refl, sym, ◌∙◌, ap, subst, arith, length}
 use Rattle.std.specs.Prelude.{map, slice_get}
 use Rattle.runs.specs.Runs.{with_value}
 use Rattle.c_typed.specs.declared.tree.Destination.{Destination}
@@ -7,13 +7,13 @@ use Rattle.c_typed.specs.Trees.{TypedExpression, TypedStatement, TypedStatements
 use Rattle.rtl.specs.declared.instruction.RInst.TheVariants as I
 use Rattle.rtl.specs.declared.instruction.RExit.TheVariants as X
 use Rattle.rtl.specs.declared.block.RBlock.{RBlock}
-use Rattle.rtl.specs.Meaning.{Code, code_of, words_in, state_after_call}
+use Rattle.rtl.specs.Meaning.{Code, activation, around_callee, code_of, words_in, state_after_call}
 use Rattle.rtl_emit.specs.Blocks.{exit_code, first, Spot, Block, Line, line_of, Lands, Grows, Has, At, Fills}
 use Rattle.rtl_emit.specs.Expressions.{IsPlace, AddPlaces, Fetches, FetchAll}
 use Rattle.rtl_emit.specs.declared.place.Place.{Place}
 use Rattle.rtl_emit.proofs.Blocks.{split2}
 use Rattle.rtl_emit.proofs.Emitted.{Over, Joins, finds_to}
-use Rattle.rtl_lower.specs.Coded.{Receives, IsTurn, Coded, CodedAll}
+use Rattle.rtl_lower.specs.Coded.{enclosing, Receives, IsTurn, Coded, CodedAll}
 use Rattle.rtl_lower.proofs.Spots.{comes_join}
 
 -- what was emitted for an operand, and for a condition
@@ -22,18 +22,18 @@ Finds old new e free p from after = Over old new (λ bs. Fetches bs e free p fro
 
 -- what was emitted for a statement
 abbrev pub Makes : List RBlock → List RBlock → ℕ → TypedStatement → (leave : ℕ) (next : Option ℕ) → Spot → Spot → Type 0
-Makes old new free s leave next from after = (bs : List RBlock) → Has bs old new → Coded bs free s leave next from after
+Makes old new free s leave next from after = (bs : List RBlock) → Has bs old new → Coded (enclosing bs free) s leave next from after
 
 abbrev pub MakesAll : List RBlock → List RBlock → ℕ → TypedStatements → (leave : ℕ) (next : Option ℕ) → Spot → Spot → Type 0
-MakesAll old new free all leave next from after = (bs : List RBlock) → Has bs old new → CodedAll bs free all leave next from after
+MakesAll old new free all leave next from after = (bs : List RBlock) → Has bs old new → CodedAll (enclosing bs free) all leave next from after
 
 -- wherever `break` and `continue` lead
 abbrev pub MakesSimply : List RBlock → List RBlock → ℕ → TypedStatement → Spot → Spot → Type 0
 MakesSimply old new free s from after = (leave : ℕ) (next : Option ℕ) → Makes old new free s leave next from after
 
 pub coded_equal : (bs : List RBlock) (free : ℕ) (s s' : TypedStatement) (leave : ℕ) (next : Option ℕ) (from after : Spot) → s ≡ s'
-    → Coded bs free s' leave next from after → Coded bs free s leave next from after
-coded_equal bs free s s' leave next from after e c = subst (λ s. Coded bs free s leave next from after) (sym e) c
+    → Coded (enclosing bs free) s' leave next from after → Coded (enclosing bs free) s leave next from after
+coded_equal bs free s s' leave next from after e c = subst (λ s. Coded (enclosing bs free) s leave next from after) (sym e) c
 
 pub store_code : (b0 b1 b2 : List RBlock) (free : ℕ) (a a' : ℕ) (i e : TypedExpression) (p next_free q last : ℕ) (code middle after' : Code) (after : Spot)
     → a' ≡ a → after' ≡ first (I.Store a' p q) (line_of after) → IsPlace i free p next_free → IsPlace e next_free q last → Grows b0 b1 → Grows b1 b2
@@ -57,7 +57,7 @@ store_code b0 b1 b2 free a a' i e p next_free q last code middle after' after ia
 -- where a result goes
 
 abbrev pub Places : List RBlock → List RBlock → ℕ → Option Destination → Option ℕ → ℕ → Spot → Type 0
-Places old new free place to goes_on after = (bs : List RBlock) → Has bs old new → Receives bs free place to goes_on after
+Places old new free place to goes_on after = (bs : List RBlock) → Has bs old new → Receives (enclosing bs free) place to goes_on after
 
 pub call_code : (b0 b1 b2 : List RBlock) (free : ℕ) (place : Option Destination) (f f' : ℕ) (to : Option ℕ) (es : List TypedExpression)
     (places0 places ps1 ps2 : List Place) (args : Vec ℕ Global) (code end : Code) (after : Spot) (goes_on : ℕ) → f' ≡ f → places0 ≡ []
@@ -81,8 +81,8 @@ call_code b0 b1 b2 free place f f' to es places0 places ps1 ps2 args code end af
       places = ad.0;
       are_places = ad.2;
       exit = exit;
-      leaves = λ p depth r d ws g out. ap (λ l. with_value (words_in r l) out (λ vs. with_value (slice_get bs goes_on) out (λ b.
-          state_after_call p depth f' vs to (record { blocks = bs; registers = r; code = code_of b; result_to = d } ∷ ws) g out))) regs;
+      leaves = λ w r. ap (λ l. with_value (words_in r l) w.output (λ vs. with_value (slice_get bs goes_on) w.output (λ b.
+          state_after_call (around_callee w (activation w bs r (code_of b)) to) f' vs))) regs;
       values = values;
     })
 

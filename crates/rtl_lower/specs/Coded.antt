@@ -1,7 +1,6 @@
--- Which code stands for a statement, a function and a program. `free` is the number of the function's locals, and so the
--- first register that is free.
+-- Which code stands for a statement, a function and a program.
 use Rattle.std.specs.Prelude.{◌≡◌, ℕ, ◌<◌, ◌≤◌, ◌⊎◌, List, [], ◌∷◌, Option, Some, None, length, slice_get, map}
-use Rattle.runs.specs.Stores.{Places, Arrays}
+use Rattle.runs.specs.Stores.{Places}
 use Rattle.runs.specs.Runs.{with_value}
 use Rattle.c_typed.specs.declared.tree.Destination.{Destination}
 use Rattle.c_typed.specs.declared.tree.Destination.TheVariants.{Local, Global as Variable}
@@ -12,7 +11,7 @@ use Rattle.c_typed.specs.Trees.{output, if_else, loop, break_loop, continue_loop
 use Rattle.c_typed.specs.WellFormed.{FitsFunction}
 use Rattle.c_typed.specs.Meaning.{first_words}
 use Rattle.rtl.specs.Programs.{Program}
-use Rattle.rtl.specs.Meaning.{Code, Frame, code_of, words_in, state_after_call, state_after_exit, first_values}
+use Rattle.rtl.specs.Meaning.{Code, Surroundings, at, activation, around_callee, code_of, words_in, state_after_call, state_after_exit, first_values}
 use Rattle.rtl.specs.declared.instruction.RInst.TheVariants as I
 use Rattle.rtl.specs.declared.instruction.RExit.{RExit}
 use Rattle.rtl.specs.declared.instruction.RExit.TheVariants as X
@@ -20,7 +19,7 @@ use Rattle.rtl.specs.declared.block.RBlock.{RBlock}
 use Rattle.rtl.specs.declared.block.RFunc.{RFunc}
 use Rattle.rtl.specs.declared.block.RGlobal.{RGlobal}
 use Rattle.rtl_emit.specs.Blocks.{goto, exit_code, first, Spot, Block, Line, line_of, insts_in, Lands, At}
-use Rattle.rtl_emit.specs.Runs.{at_code, Goes}
+use Rattle.rtl_emit.specs.Runs.{Goes}
 use Rattle.rtl_emit.specs.Expressions.{IsPlace, Evaluates, Fetches, Decides, ArePlaces, FetchAll}
 use Rattle.rtl_emit.specs.Sound.{Scope, AreSound}
 use Rattle.rtl_emit.specs.declared.place.Place.{Place}
@@ -39,104 +38,112 @@ IsThere bs (Line c) = Unit {0}
 -- code that comes from one spot to another by jumps alone
 pub record Comes (bs : List RBlock) (from to : Spot) : Type 0 where
   pub there : IsThere bs to → IsThere bs from
-  pub by : (c : Code) → Sits bs from c → (p : Program) (depth : ℕ) (r : Places) (d : Option ℕ) (ws : List Frame) (g : Arrays) (out : List ℕ)
-      → (c' : Code) × Sits bs to c' × Goes p depth (at_code bs r c d ws g out) (at_code bs r c' d ws g out)
+  pub by : (c : Code) → Sits bs from c → (w : Surroundings) (r : Places)
+      → (c' : Code) × Sits bs to c' × Goes w.program w.depth (at w bs r c) (at w bs r c')
 
-pub record IsAssign (bs : List RBlock) (free x : ℕ) (e : TypedExpression) (from after : Spot) : Type 0 where
+-- the function that code is of: its blocks, and the number of its locals, which is the first register that is free
+pub record Enclosing : Type 0 where
+  pub blocks : List RBlock
+  pub free : ℕ
+
+abbrev pub enclosing : List RBlock → (free : ℕ) → Enclosing
+enclosing bs free = record { blocks = bs; free = free }
+
+pub record IsAssign (fn : Enclosing) (x : ℕ) (e : TypedExpression) (from after : Spot) : Type 0 where
   pub code : Code
   pub is : from ≡ Line code
-  pub value : Evaluates bs e free x code (line_of after)
+  pub value : Evaluates fn.blocks e fn.free x code (line_of after)
 
 -- a word in the register p goes to a global variable, by way of a free register z
 abbrev pub put_code : (g z p : ℕ) → Code → Code
 put_code g z p after = first (I.Const z 0) (first (I.Store g z p) after)
 
 -- code that first has a value in its place
-pub record FetchesFirst (bs : List RBlock) (free : ℕ) (e : TypedExpression) (from : Spot) (rest : (p : ℕ) → Code) : Type 0 where
+pub record FetchesFirst (fn : Enclosing) (e : TypedExpression) (from : Spot) (rest : (p : ℕ) → Code) : Type 0 where
   pub code : Code
   pub is : from ≡ Line code
   pub p : ℕ
   pub next : ℕ
-  pub is_place : IsPlace e free p next
-  pub value : Fetches bs e free p code (rest p)
+  pub is_place : IsPlace e fn.free p next
+  pub value : Fetches fn.blocks e fn.free p code (rest p)
 
-pub record IsPut (bs : List RBlock) (free g : ℕ) (e : TypedExpression) (from after : Spot) : Type 0 where
+pub record IsPut (fn : Enclosing) (g : ℕ) (e : TypedExpression) (from after : Spot) : Type 0 where
   pub z : ℕ
-  pub fetches : FetchesFirst bs free e from (λ p. put_code g z p (line_of after))
+  pub fetches : FetchesFirst fn e from (λ p. put_code g z p (line_of after))
   pub open fetches use *
   pub spare : fetches.next ≤ z
 
-pub record IsStore (bs : List RBlock) (free a : ℕ) (i e : TypedExpression) (from after : Spot) : Type 0 where
+pub record IsStore (fn : Enclosing) (a : ℕ) (i e : TypedExpression) (from after : Spot) : Type 0 where
   pub code : Code
   pub is : from ≡ Line code
   pub p : ℕ
   pub q : ℕ
   pub next : ℕ
   pub last : ℕ
-  pub index_place : IsPlace i free p next
+  pub index_place : IsPlace i fn.free p next
   pub value_place : IsPlace e next q last
   pub middle : Code
-  pub index : Fetches bs i free p code middle
-  pub value : Fetches bs e next q middle (first (I.Store a p q) (line_of after))
+  pub index : Fetches fn.blocks i fn.free p code middle
+  pub value : Fetches fn.blocks e next q middle (first (I.Store a p q) (line_of after))
 
 -- an exit by a value
-abbrev pub Leaves : List RBlock → (free : ℕ) → TypedExpression → (from : Spot) → (exit : ℕ → RExit) → Type 0
-Leaves bs free e from exit = FetchesFirst bs free e from (λ p. exit_code (exit p))
+abbrev pub Leaves : Enclosing → TypedExpression → (from : Spot) → (exit : ℕ → RExit) → Type 0
+Leaves fn e from exit = FetchesFirst fn e from (λ p. exit_code (exit p))
 
 -- an exit by a value that goes on at a block
-pub record Exits (bs : List RBlock) (free : ℕ) (e : TypedExpression) (from : Spot) (exit : (p block : ℕ)
+pub record Exits (fn : Enclosing) (e : TypedExpression) (from : Spot) (exit : (p block : ℕ)
     → RExit) (after : Spot) : Type 0 where
   pub block : ℕ
-  pub lands : Lands bs block after
-  pub leaves : Leaves bs free e from (λ p. exit p block)
+  pub lands : Lands fn.blocks block after
+  pub leaves : Leaves fn e from (λ p. exit p block)
 
 -- after a call: the result is in a free register, and goes to a global variable
-pub record PutsResult (bs : List RBlock) (free g : ℕ) (to : Option ℕ) (b : ℕ) (after : Spot) : Type 0 where
+pub record PutsResult (fn : Enclosing) (g : ℕ) (to : Option ℕ) (b : ℕ) (after : Spot) : Type 0 where
   pub t : ℕ
   pub z : ℕ
   pub is : to ≡ Some t
-  pub low : free ≤ t
+  pub low : fn.free ≤ t
   pub apart : t < z
-  pub there : At bs b (put_code g z t (line_of after))
+  pub there : At fn.blocks b (put_code g z t (line_of after))
 
 -- where a call's result goes, and the block where its caller goes on
-abbrev pub Receives : List RBlock → (free : ℕ) → Option Destination → Option ℕ → (b : ℕ) → Spot → Type 0
-Receives bs free None to b after = (to ≡ None) × Lands bs b after
-Receives bs free (Some (Local x)) to b after = (to ≡ Some x) × Lands bs b after
-Receives bs free (Some (Variable g)) to b after = PutsResult bs free g to b after
+abbrev pub Receives : Enclosing → Option Destination → Option ℕ → (b : ℕ) → Spot → Type 0
+Receives fn None to b after = (to ≡ None) × Lands fn.blocks b after
+Receives fn (Some (Local x)) to b after = (to ≡ Some x) × Lands fn.blocks b after
+Receives fn (Some (Variable g)) to b after = PutsResult fn g to b after
 
-pub record IsCall (bs : List RBlock) (free : ℕ) (place : Option Destination) (f : ℕ) (es : List TypedExpression)
+pub record IsCall (fn : Enclosing) (place : Option Destination) (f : ℕ) (es : List TypedExpression)
     (from after : Spot) : Type 0 where
   pub code : Code
   pub is : from ≡ Line code
   pub to : Option ℕ
   pub block : ℕ
-  pub receives : Receives bs free place to block after
+  pub receives : Receives fn place to block after
   pub places : List Place
-  pub are_places : ArePlaces es free places
+  pub are_places : ArePlaces es fn.free places
   pub exit : RExit
-  pub leaves : (p : Program) (depth : ℕ) (r : Places) (d : Option ℕ) (ws : List Frame) (g : Arrays) (out : List ℕ)
-      → state_after_exit p depth exit bs r d ws g out
-      ≡ with_value (words_in r (map (λ p. p.register) places)) out (λ vs. with_value (slice_get bs block) out (λ b.
-      state_after_call p depth f vs to (record { blocks = bs; registers = r; code = code_of b; result_to = d } ∷ ws) g out))
-  pub values : FetchAll bs es free places code (exit_code exit)
+  pub leaves : (w : Surroundings) (r : Places)
+      → state_after_exit w fn.blocks r exit
+      ≡ with_value (words_in r (map (λ p. p.register) places)) w.output (λ vs. with_value (slice_get fn.blocks block) w.output (λ b.
+      state_after_call (around_callee w (activation w fn.blocks r (code_of b)) to) f vs))
+  pub values : FetchAll fn.blocks es fn.free places code (exit_code exit)
 
 -- ForA and ForB: the code from here on, to there, is that of either side
-pub record IsChoice (bs : List RBlock) (free : ℕ) (e : TypedExpression) (ForA ForB : Spot → Spot
+pub record IsChoice (fn : Enclosing) (e : TypedExpression) (ForA ForB : Spot → Spot
     → Type 0) (from after : Spot) : Type 0 where
   pub code : Code
   pub is : from ≡ Line code
   pub join : ℕ
-  pub joined : Lands bs join after
+  pub joined : Lands fn.blocks join after
   pub a : ℕ
   pub a_spot : Spot
-  pub a_lands : Lands bs a a_spot
+  pub a_lands : Lands fn.blocks a a_spot
   pub a_for : ForA a_spot (Block join)
   pub b : ℕ
   pub b_spot : Spot
-  pub b_lands : Lands bs b b_spot
+  pub b_lands : Lands fn.blocks b b_spot
   pub b_for : ForB b_spot (Block join)
-  pub test : Decides bs e free a b code
+  pub test : Decides fn.blocks e fn.free a b code
 
 -- the end of a turn comes to the last part of the loop, and so does `continue`, if there is any
 pub record IsTurn (bs : List RBlock) (next : Option ℕ) (turn last : Spot) : Type 0 where
@@ -144,56 +151,56 @@ pub record IsTurn (bs : List RBlock) (next : Option ℕ) (turn last : Spot) : Ty
   pub continues : (b : ℕ) → next ≡ Some b → Lands bs b last
 
 -- a loop's body, and its last part with the test after it
-pub record LoopBlocks (bs : List RBlock) (free : ℕ) (e : TypedExpression) (ForLast : Spot → Spot → Type 0)
+pub record LoopBlocks (fn : Enclosing) (e : TypedExpression) (ForLast : Spot → Spot → Type 0)
     (ForBody : (leave : ℕ) (next : Option ℕ) → Spot → Spot → Type 0) (after : Spot) : Type 0 where
   pub leave : ℕ
-  pub left : Lands bs leave after
+  pub left : Lands fn.blocks leave after
   pub next : Option ℕ
   pub body : ℕ
   pub body_spot : Spot
-  pub body_at : At bs body (line_of body_spot)
+  pub body_at : At fn.blocks body (line_of body_spot)
   pub turn : Spot
   pub body_for : ForBody leave next body_spot turn
   pub last_spot : Spot
-  pub is_turn : IsTurn bs next turn last_spot
+  pub is_turn : IsTurn fn.blocks next turn last_spot
   pub bottom : Code
   pub last_for : ForLast last_spot (Line bottom)
-  pub again : Decides bs e free body leave bottom
+  pub again : Decides fn.blocks e fn.free body leave bottom
 
 -- a loop whose test stands before it, too
-pub record IsLoop (bs : List RBlock) (free : ℕ) (e : TypedExpression) (ForLast : Spot → Spot → Type 0)
+pub record IsLoop (fn : Enclosing) (e : TypedExpression) (ForLast : Spot → Spot → Type 0)
     (ForBody : (leave : ℕ) (next : Option ℕ) → Spot → Spot → Type 0) (from after : Spot) : Type 0 where
-  pub blocks : LoopBlocks bs free e ForLast ForBody after
+  pub blocks : LoopBlocks fn e ForLast ForBody after
   pub open blocks use *
   pub top : Code
   pub is : from ≡ Line top
-  pub test : Decides bs e free blocks.body blocks.leave top
+  pub test : Decides fn.blocks e fn.free blocks.body blocks.leave top
 
 -- the code from here on is that of a statement, and goes on there; `break` leads to one block, and `continue` to
 -- another
 abbrev mutual
-  pub Coded : List RBlock → ℕ → TypedStatement → (leave : ℕ) (next : Option ℕ) → (from after : Spot) → Type 0
-  Coded bs free empty leave next from after = from ≡ after
-  Coded bs free (block all) leave next from after = CodedAll bs free all leave next from after
-  Coded bs free (unset x) leave next from after = from ≡ after
-  Coded bs free (assign (Local x) e) leave next from after = IsAssign bs free x e from after
-  Coded bs free (assign (Variable g) e) leave next from after = IsPut bs free g e from after
-  Coded bs free (store a i e) leave next from after = IsStore bs free a i e from after
-  Coded bs free (call to f es) leave next from after = IsCall bs free to f es from after
-  Coded bs free (output e) leave next from after = Exits bs free e from (λ p b. X.Out p b) after
-  Coded bs free (if_else e a b) leave next from after =
-      IsChoice bs free e (λ f t. Coded bs free a leave next f t) (λ f t. Coded bs free b leave next f t) from after
-  Coded bs free (loop e last body) leave next from after =
-      IsLoop bs free e (λ f t. Coded bs free last leave next f t) (λ leave' next' f t. Coded bs free body leave' next' f t) from after
-  Coded bs free break_loop leave next from after = from ≡ Block leave
-  Coded bs free continue_loop leave next from after = (b : ℕ) × (next ≡ Some b) × (from ≡ Block b)
-  Coded bs free (return_with None) leave next from after = from ≡ Line (exit_code (X.Return None))
-  Coded bs free (return_with (Some e)) leave next from after = Leaves bs free e from (λ p. X.Return (Some p))
+  pub Coded : Enclosing → TypedStatement → (leave : ℕ) (next : Option ℕ) → (from after : Spot) → Type 0
+  Coded fn empty leave next from after = from ≡ after
+  Coded fn (block all) leave next from after = CodedAll fn all leave next from after
+  Coded fn (unset x) leave next from after = from ≡ after
+  Coded fn (assign (Local x) e) leave next from after = IsAssign fn x e from after
+  Coded fn (assign (Variable g) e) leave next from after = IsPut fn g e from after
+  Coded fn (store a i e) leave next from after = IsStore fn a i e from after
+  Coded fn (call to f es) leave next from after = IsCall fn to f es from after
+  Coded fn (output e) leave next from after = Exits fn e from (λ p b. X.Out p b) after
+  Coded fn (if_else e a b) leave next from after =
+      IsChoice fn e (λ f t. Coded fn a leave next f t) (λ f t. Coded fn b leave next f t) from after
+  Coded fn (loop e last body) leave next from after =
+      IsLoop fn e (λ f t. Coded fn last leave next f t) (λ leave' next' f t. Coded fn body leave' next' f t) from after
+  Coded fn break_loop leave next from after = from ≡ Block leave
+  Coded fn continue_loop leave next from after = (b : ℕ) × (next ≡ Some b) × (from ≡ Block b)
+  Coded fn (return_with None) leave next from after = from ≡ Line (exit_code (X.Return None))
+  Coded fn (return_with (Some e)) leave next from after = Leaves fn e from (λ p. X.Return (Some p))
 
-  pub CodedAll : List RBlock → ℕ → TypedStatements → (leave : ℕ) (next : Option ℕ) → (from after : Spot) → Type 0
-  CodedAll bs free no_statements leave next from after = from ≡ after
-  CodedAll bs free (more_statements s rest) leave next from after =
-      (middle : Spot) × Coded bs free s leave next from middle × CodedAll bs free rest leave next middle after
+  pub CodedAll : Enclosing → TypedStatements → (leave : ℕ) (next : Option ℕ) → (from after : Spot) → Type 0
+  CodedAll fn no_statements leave next from after = from ≡ after
+  CodedAll fn (more_statements s rest) leave next from after =
+      (middle : Spot) × Coded fn s leave next from middle × CodedAll fn rest leave next middle after
 
 -- the blocks of a function, which name no more registers and have no more instructions than are counted on it
 pub record IsCodeOf (f : TypedFunction) (r : RFunc) : Type 0 where
@@ -201,7 +208,7 @@ pub record IsCodeOf (f : TypedFunction) (r : RFunc) : Type 0 where
   pub entry : Spot
   pub entry_at : At r.blocks.items 0 (line_of entry)
   pub after : Code
-  pub body : CodedAll r.blocks.items f.locals f.body 0 None entry (Line after)
+  pub body : CodedAll (enclosing r.blocks.items f.locals) f.body 0 None entry (Line after)
   pub count : length r.blocks.items ≡ function_blocks f
   pub insts : insts_in r.blocks.items ≤ function_insts f
   pub sound : (p : TypedProgram) (s : Scope) → Suits p (function_registers f) s → FitsFunction p f → length r.blocks.items ≤ s.blocks

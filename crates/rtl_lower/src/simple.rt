@@ -2,7 +2,8 @@
 ghost use Rattle.c_typed.specs.Shape.{typed_expression_of, typed_expressions_of, maybe_typed_expression_of};
 ghost use Rattle.c_typed.specs.Trees.{assign, store, call, output, return_with};
 ghost use Rattle.rtl_emit.specs.Blocks.{Spot, spot};
-ghost use Rattle.rtl_lower.specs.Emits.{EmitsCode, EmitsReceiver};
+ghost use Rattle.rtl_emit.specs.Emits.{Emits};
+ghost use Rattle.rtl_lower.specs.Emits.{simple_code, receiver};
 
 use crate::context::Context;
 use c_typed::{Destination, TypedExpression};
@@ -21,7 +22,7 @@ pub(crate) fn assignment(
     e: &TypedExpression,
     after: Continuation,
 ) -> Result<OpenBlock, LowerFault>
-    ensures { EmitsCode (assign to (typed_expression_of e.now)) context.free (spot after) blocks.old.items blocks.new.items result }
+    ensures { Emits (simple_code (assign to (typed_expression_of e.now)) context.free (spot after)) blocks.old.items blocks.new.items result }
 {
     match to {
         Destination::Local(x) => {
@@ -56,7 +57,7 @@ pub(crate) fn element_store(
     e: &TypedExpression,
     after: Continuation,
 ) -> Result<OpenBlock, LowerFault>
-    ensures { EmitsCode (store array (typed_expression_of index.now) (typed_expression_of e.now)) context.free (spot after)
+    ensures { Emits (simple_code (store array (typed_expression_of index.now) (typed_expression_of e.now)) context.free (spot after))
         blocks.old.items blocks.new.items result }
 {
     let global = number_of(array)?;
@@ -89,7 +90,7 @@ pub(crate) fn output_code(
     e: &TypedExpression,
     after: Continuation,
 ) -> Result<OpenBlock, LowerFault>
-    ensures { EmitsCode (output (typed_expression_of e.now)) context.free (spot after) blocks.old.items blocks.new.items result }
+    ensures { Emits (simple_code (output (typed_expression_of e.now)) context.free (spot after)) blocks.old.items blocks.new.items result }
 {
     let block = block_of(blocks, after)?;
     let value = place_of(e, context.free)?;
@@ -111,7 +112,7 @@ fn receiver_of(
     to: Option<Destination>,
     after: Continuation,
 ) -> Result<Receiver, LowerFault>
-    ensures { EmitsReceiver to context.free (spot after) blocks.old.items blocks.new.items result }
+    ensures { Emits (receiver to context.free (spot after)) blocks.old.items blocks.new.items result }
 {
     match to {
         None => {
@@ -151,7 +152,7 @@ pub(crate) fn call_code(
     arguments: &[TypedExpression],
     after: Continuation,
 ) -> Result<OpenBlock, LowerFault>
-    ensures { EmitsCode (call to function (typed_expressions_of arguments.now)) context.free (spot after)
+    ensures { Emits (simple_code (call to function (typed_expressions_of arguments.now)) context.free (spot after))
         blocks.old.items blocks.new.items result }
 {
     let callee = number_of(function)?;
@@ -177,7 +178,7 @@ pub(crate) fn return_code(
     blocks: &mut Vec<RBlock>,
     given: &Option<TypedExpression>,
 ) -> Result<OpenBlock, LowerFault>
-    ensures { (after : Spot) → EmitsCode (return_with (maybe_typed_expression_of given.now)) context.free after
+    ensures { (after : Spot) → Emits (simple_code (return_with (maybe_typed_expression_of given.now)) context.free after)
         blocks.old.items blocks.new.items result }
 {
     match given {

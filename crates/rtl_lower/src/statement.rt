@@ -4,7 +4,8 @@ ghost use Rattle.c_typed.specs.Shape.{typed_expression_of, statement_of, stateme
 ghost use Rattle.c_typed.specs.Trees.{if_else, loop};
 ghost use Rattle.rtl_emit.specs.Blocks.{spot};
 ghost use Rattle.rtl_lower.specs.Sizes.{continues, any_continues};
-ghost use Rattle.rtl_lower.specs.Emits.{made_of, EmitsStatement, EmitsStatements, EmitsSide, EmitsTurn, EndsTurn};
+ghost use Rattle.rtl_emit.specs.Emits.{Emits};
+ghost use Rattle.rtl_lower.specs.Emits.{made_of, statement_code, statements_code, side_code, last_code, end_of_turn};
 
 use crate::context::{Context, continuation_of};
 use crate::shape::{is_likely, may_continue};
@@ -24,7 +25,7 @@ pub(crate) struct Turn {
 
 /// Emits the last part as a block of its own, only if there is a `continue`.
 fn turn_to(blocks: &mut Vec<RBlock>, many: bool, last: Continuation) -> Result<Turn, LowerFault>
-    ensures { EndsTurn many (spot last) blocks.old.items blocks.new.items result }
+    ensures { Emits (end_of_turn many (spot last)) blocks.old.items blocks.new.items result }
 {
     if many {
         let block = block_of(blocks, last)?;
@@ -49,7 +50,7 @@ pub(crate) fn statement(
     after: Continuation,
 ) -> Result<Continuation, LowerFault>
     requires next { continues (statement_of s.now) ≡ true → is_some context.next ≡ true }
-    ensures { EmitsStatement (statement_of s.now) context (spot after) blocks.old.items blocks.new.items result }
+    ensures { Emits (statement_code (statement_of s.now) context (spot after)) blocks.old.items blocks.new.items result }
 {
     match s {
         TypedStatement::Empty | TypedStatement::Unset(_) => Ok(after),
@@ -95,7 +96,7 @@ pub(crate) fn statements(
     after: Continuation,
 ) -> Result<Continuation, LowerFault>
     requires next { any_continues (statements_of all.now) ≡ true → is_some context.next ≡ true }
-    ensures { EmitsStatements (statements_of all.now) context (spot after) blocks.old.items blocks.new.items result }
+    ensures { Emits (statements_code (statements_of all.now) context (spot after)) blocks.old.items blocks.new.items result }
 {
     let count = all.len();
     let mut code = after;
@@ -115,7 +116,7 @@ fn side_block(
     join: BlockNumber,
 ) -> Result<BlockNumber, LowerFault>
     requires next { continues (statement_of s.now) ≡ true → is_some context.next ≡ true }
-    ensures { EmitsSide (statement_of s.now) context join blocks.old.items blocks.new.items result }
+    ensures { Emits (side_code (statement_of s.now) context join) blocks.old.items blocks.new.items result }
 {
     let code = statement(context, blocks, s, Continuation::Jump(join))?;
     block_of(blocks, code)
@@ -133,7 +134,7 @@ fn if_statement(
 ) -> Result<OpenBlock, LowerFault>
     requires next { continues (if_else (typed_expression_of test.now) (statement_of yes.now) (statement_of no.now)) ≡ true
         → is_some context.next ≡ true }
-    ensures { EmitsStatement (if_else (typed_expression_of test.now) (statement_of yes.now) (statement_of no.now)) context (spot after)
+    ensures { Emits (statement_code (if_else (typed_expression_of test.now) (statement_of yes.now) (statement_of no.now)) context (spot after))
         blocks.old.items blocks.new.items (made_of result) }
 {
     let join = block_of(blocks, after)?;
@@ -158,7 +159,7 @@ fn turn_of(
     again: Targets,
 ) -> Result<Turn, LowerFault>
     requires next { continues (statement_of last.now) ≡ true → is_some context.next ≡ true }
-    ensures { EmitsTurn (typed_expression_of test.now) (statement_of last.now) context many again blocks.old.items blocks.new.items result }
+    ensures { Emits (last_code (typed_expression_of test.now) (statement_of last.now) context many again) blocks.old.items blocks.new.items result }
 {
     let bottom = condition(context.alloc, blocks, test, again, context.free)?;
     let code = statement(context, blocks, last, Continuation::Made(bottom))?;
@@ -176,7 +177,7 @@ fn loop_statement(
     after: Continuation,
 ) -> Result<OpenBlock, LowerFault>
     requires next { continues (statement_of last.now) ≡ true → is_some context.next ≡ true }
-    ensures { EmitsStatement (loop (typed_expression_of test.now) (statement_of last.now) (statement_of body.now)) context (spot after)
+    ensures { Emits (statement_code (loop (typed_expression_of test.now) (statement_of last.now) (statement_of body.now)) context (spot after))
         blocks.old.items blocks.new.items (made_of result) }
 {
     let left = block_of(blocks, after)?;

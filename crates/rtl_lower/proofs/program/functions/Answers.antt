@@ -1,10 +1,10 @@
-use Rattle.std.proofs.Common.{◌≡◌, sym, subst, rules}
+use Rattle.std.proofs.Common.{◌≡◌, sym, subst, take_all, rules}
 use Rattle.c_typed.specs.Shape.{function_of, functions_of}
 use Rattle.rtl_emit.specs.declared.fault.LowerFault.TheVariants.{Limit}
 use Rattle.rtl_lower.specs.Coded.{AreCodesOf}
 use Rattle.rtl_lower.specs.Sizes.{IsPlain, HaveRoom}
 use Rattle.rtl_lower.proofs.Functions.{one_function}
-use Rattle.rtl_lower.proofs.Fitted.{Fitted, all_taken, each_at, one_fitted, too_large}
+use Rattle.rtl_lower.proofs.Fitted.{Fitted, each_at, one_fitted, too_large}
 use Rattle.rtl_lower.proofs.program.functions.Goals as goal
 
 pub loop-f-preserved : goal.loop-f-preserved
@@ -30,12 +30,12 @@ returns-in_err-next-clause-limit c =
 
 pub returns-clause-codes : goal.returns-clause-codes
 returns-clause-codes c =
-    subst (λ l. AreCodesOf (functions_of l) c.loop-f.lowered.items) (all_taken c.args.all.now c.loop-f.f-index c.loop-f-test.false) c.loop-f.invariant.0
+    subst (λ l. AreCodesOf (functions_of l) c.loop-f.lowered.items) (take_all c.loop-f.f-index c.args.all.now c.loop-f-test.false) c.loop-f.invariant.0
 
 pub returns-clause-count : goal.returns-clause-count
 returns-clause-count c =
-    (subst (λ l. Fitted (functions_of l) c.loop-f.lowered.items) (all_taken c.args.all.now c.loop-f.f-index c.loop-f-test.false) c.loop-f.invariant.1).blocks
+    (subst (λ l. Fitted (functions_of l) c.loop-f.lowered.items) (take_all c.loop-f.f-index c.args.all.now c.loop-f-test.false) c.loop-f.invariant.1).blocks
 
 pub returns-clause-room : goal.returns-clause-room
 returns-clause-room c =
-    (subst (λ l. Fitted (functions_of l) c.loop-f.lowered.items) (all_taken c.args.all.now c.loop-f.f-index c.loop-f-test.false) c.loop-f.invariant.1).registers
+    (subst (λ l. Fitted (functions_of l) c.loop-f.lowered.items) (take_all c.loop-f.f-index c.args.all.now c.loop-f-test.false) c.loop-f.invariant.1).registers

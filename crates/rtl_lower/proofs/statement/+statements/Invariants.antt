@@ -1,13 +1,14 @@
 use Rattle.std.proofs.Common.{◌+◌, ◌-◌, length, drop, Ok}
 use Rattle.c_typed.specs.Shape.{statement_of, statements_of}
 use Rattle.rtl_emit.specs.Blocks.{spot}
-use Rattle.rtl_lower.specs.Emits.{EmitsStatements}
+use Rattle.rtl_emit.specs.Emits.{Emits}
+use Rattle.rtl_lower.specs.Emits.{statements_code}
 use Rattle.rtl_lower.proofs.Sizes.{weight, weight_all}
 use Rattle.rtl_lower.proofs.statement.+statements.Given as goal
 
 abbrev pub invariant-statements-loop-done : goal.invariant-statements-loop-done
 invariant-statements-loop-done l =
-    EmitsStatements (statements_of (drop (length l.all - l.done) l.all)) l.context (spot l.initial.code) l.initial.blocks.items l.blocks.items (Ok l.code)
+    Emits (statements_code (statements_of (drop (length l.all - l.done) l.all)) l.context (spot l.initial.code)) l.initial.blocks.items l.blocks.items (Ok l.code)
 
 abbrev pub decreases-statement : goal.decreases-statement
 decreases-statement l = weight (statement_of l.s.now)
