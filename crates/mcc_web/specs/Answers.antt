@@ -44,11 +44,10 @@ IsScheduledAs true b = IsScheduledBuild IsPlain b
 IsScheduledAs false b = IsScheduledBuild (IsWholePhase AnyOrder) b
 
 -- `build`: its line, and after it the bytes of an image that follows the program
-pub record SaysImage (text : List ℕ) (depth : ℕ) (plain : Bool) (status said : ℕ) (old new : List ℕ) : Type 0 where
+pub record SaysImage (text : List ℕ) (depth : ℕ) (plain : Bool) (said : ℕ) (old new : List ℕ) : Type 0 where
   pub built : Built
   pub follows : FollowsText text depth (factor_of plain) built.image.items
   pub scheduled : IsScheduledAs plain built
-  pub ends : status ≡ 0
   pub gives : Gives (built_text plain built ++ built.image.items) said old new
 
 abbrev pub SaysBuildFault : (text : List ℕ) (depth : ℕ) → (said : ℕ) → (old new : List ℕ) → Type 0

@@ -92,7 +92,7 @@ pub extern "C" fn mcc_web_build(
 ) -> usize
     ensures wrong_words { status.new ≡ 2 → depth ≡ 0 }
     ensures answered { status.new ≢ 1 → status.new ≢ 2 → status.new ≢ REFUSED
-        → SaysImage text.now depth plain status.new result out.old out.new }
+        → (status.new ≡ 0) × SaysImage text.now depth plain result out.old out.new }
     ensures faulty { status.new ≡ 1 → SaysBuildFault text.now depth result out.old out.new }
 {
     if depth == 0 {
