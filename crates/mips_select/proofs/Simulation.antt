@@ -30,28 +30,27 @@ use Rattle.mips_homes.specs.HomedRun.{is_callee_saved, callee_saved, write_homes
 use Rattle.mips_homes.specs.HomedRun.{state_after_exit, step_at, homed_step, homed_steps}
 use Rattle.mips_homes.specs.declared.homed.Frame.{Frame}
 use Rattle.mips_homes.specs.declared.homed.Homed.{Homed}
-use Rattle.mips_emit.specs.declared.comparison.Asked.{Asked}
 use Rattle.mips_emit.specs.declared.comparison.Comparison.{Comparison}
 use Rattle.mips_emit.specs.declared.facts.Last.{Last}
 use Rattle.mips_emit.specs.declared.location.Source.{Source}
 use Rattle.mips_emit.specs.Locations.{Facts, no_facts, known_in, locations, learned, known_after, fresh_of, last_operand}
 use Rattle.mips_emit.specs.Code.{move_code, inst_code, fetch, operand_register, carry}
-use Rattle.mips_emit.specs.Comparisons.{comparison_code, exit_by_form, comparison_of, asked_last, next_code, last_with, no_last, last_after, insts_code}
+use Rattle.mips_emit.specs.Comparisons.{comparison_code, exit_by_form, comparison_of, asked_last, next_code, last_with, no_last, last_after}
 use Rattle.mips_emit.specs.Comparisons.{tested, branch_code, branch_exit, is_result, returned, return_code}
 use Rattle.mips_emit.specs.Frames.{IsFrame}
 use Rattle.mips_emit.proofs.Runs.{RunsTo, runs_none, runs_then, Point, At, Stopped, from, Leads, leads_nowhere, leads_then, leads_run, leads_exit}
 use Rattle.mips_emit.proofs.View.{word_at, set, set_words, put_here, put_other, moves}
 use Rattle.mips_emit.proofs.Stands.{Stored, stack_room, Stands}
-use Rattle.mips_emit.proofs.Operands.{passes, hidden, hide, AreDeferred, none_deferred, AreBases, no_bases, IsLast, none_last, frame_homes, IsKnown, nothing_known}
+use Rattle.mips_emit.proofs.Operands.{passes, Denotes, hidden, hide, AreDeferred, none_deferred, AreBases, no_bases, IsLast, none_last, frame_homes, IsKnown, nothing_known}
 use Rattle.mips_emit.proofs.Homes.{fewer_stand, words_kept, call_kept, last_means, fetches, carries, sets_kept, caller_saved_kept, arrives}
 use Rattle.mips_emit.proofs.Insts.{value_or_failed, performs}
 use Rattle.mips_emit.proofs.Comparing.{none_asked, waiting, compares}
 use Rattle.mips_select.specs.declared.limits.TheConstants.{STACK_BYTES}
 use Rattle.mips_select.specs.Data.{padded_bytes, start_of}
-use Rattle.mips_select.specs.Plans.{Linking, placing_of}
+use Rattle.mips_select.specs.Plans.{Linking, Placing, placing_of}
 use Rattle.mips_select.specs.Code.{frame_words, frame_bytes, frame_link, stack_step, parameters_code, prologue, epilogue, asked_of, exit_code, exit_of, code_insts}
 use Rattle.mips_select.specs.declared.prologue.Direction.TheVariants.{Save}
-use Rattle.mips_select.specs.Code.{context_in, own_block, result_code, after_block, prologue_block, end_block}
+use Rattle.mips_select.specs.Code.{context_in, own_block, result_code, after_block, end_block}
 use Rattle.mips_select.specs.Selected.{AreClear, GoesOn, StandsAt, IsPlaced, IsFunction, IsSelected}
 use Rattle.mips_select.proofs.Departures.{read_length, branch_words, either, either_place, above_arguments, goes_by, same_exit, same_code}
 use Rattle.mips_select.proofs.Frames.{all_shown, all_denote, arguments, parameters}
@@ -86,22 +85,30 @@ module _ (h : Homed) (depth : ℕ) (blocks : List BlockParts) (ok : IsSelected h
   abbrev pub Lead : ℕ → Point → Point → Type 0
   Lead d p q = Leads blocks links d p q
 
+  -- the code of a block
+  abbrev pub block_code : Bool → Frame → (place : ℕ → ℕ) → RBlock → List Plain
+  block_code leaf f place block = code_insts linking (placing_of leaf f place) no_facts no_last (code_of block)
+
   -- the block of a unit that stands for what is left of a block
-  pub record CodeAt (leaf : Bool) (f : Frame) (place : ℕ → ℕ) (head : ℕ → List Plain) (facts : Facts) (last : Last) (k : ℕ) (x : RExit) : Type 0 where
+  pub record CodeAt (p : Placing) (head : ℕ → List Plain) (facts : Facts) (last : Last) (k : ℕ) (x : RExit) : Type 0 where
     pub form : BlockParts
     pub next : ℕ
     pub there : slice_get blocks k ≡ Some form
-    pub exit : form.exit ≡ exit_of linking (placing_of leaf f place) facts last next x
-    pub leads_on : GoesOn blocks linking (placing_of leaf f place) head next x
+    pub exit : form.exit ≡ exit_of linking p facts last next x
+    pub leads_on : GoesOn blocks linking p head next x
+
+  -- the same before some instructions
+  abbrev pub CodeBefore : Placing → (head : ℕ → List Plain) → Facts → Last → ℕ → Code → Type 0
+  CodeBefore p head facts last k c = CodeAt p head (known_after (locations p.frame) c.insts facts)
+      (last_after (locations p.frame) (asked_of c.exit) facts c.insts last) k c.exit
 
   code_at : (leaf : Bool) (f : Frame) (place : ℕ → ℕ) (head : ℕ → List Plain) (j : ℕ) (b : RBlock) → Stood leaf f place head j b
-      → CodeAt leaf f place head (known_after (locations f) b.insts.items no_facts) (last_after (locations f) (asked_of b.exit) no_facts b.insts.items no_last) (place j) b.exit
+      → CodeBefore (placing_of leaf f place) head no_facts no_last (place j) (code_of b)
   code_at leaf f place head j b at = record {
     form = own_block linking (placing_of leaf f place) (head j) at.next b;
     next = at.next;
     there = at.there;
-    exit
-        = refl;
+    exit = refl;
     leads_on = at.leads_on;
   }
 
@@ -130,33 +137,33 @@ module _ (h : Homed) (depth : ℕ) (blocks : List BlockParts) (ok : IsSelected h
   as_deep link d (a ∷ ws) [] w = absurd w
   as_deep link d (a ∷ ws) (l ∷ ls) w = ap suc (as_deep l a.result_to ws ls w.1)
 
-  -- where an activation stands in the unit: the number of its block, its link and those below it, whether it is a leaf, and where the blocks of
-  -- its function stand and what they begin with
-  pub record Spot : Type 0 where
-    pub number : ℕ
+  -- where an activation of a function stands in the unit: its link and those below it, whether it is a leaf, and where the blocks of its
+  -- function stand and what they begin with
+  pub record Lives (f : Frame) (bs : List RBlock) (result_to : Option ℕ) (ws : List Activation) : Type 0 where
     pub link : ℕ
     pub below : List ℕ
     pub leaf : Bool
     pub place : ℕ → ℕ
     pub head : ℕ → List Plain
+    pub placed : Placed leaf f place head bs
+    pub frame : IsFrame ok.most f
+    pub waits : Waits link result_to ws below
 
   -- the state of a run over homes, and a point of the unit's run
   pub record Match (r : Places) (a : Activation) (ws : List Activation) (g : Arrays) (out : List ℕ) (p : Point) : Type 0 where
     pub state : State
-    pub spot : Spot
-    pub open spot use {number, link, below, leaf, place, head}
+    pub number : ℕ
+    pub lives : Lives a.frame a.blocks a.result_to ws
+    pub open lives use {link, below, leaf, place, head, placed, frame, waits}
     pub facts : Facts
     pub last : Last
     pub point : p ≡ At number (code_insts linking (placing_of leaf a.frame place) facts last a.code) state out
-    pub code : CodeAt leaf a.frame place head (known_after (locations a.frame) a.code.insts facts) (last_after (locations a.frame) (asked_of a.code.exit) facts a.code.insts last) number a.code.exit
+    pub code : CodeBefore (placing_of leaf a.frame place) head facts last number a.code
     pub is_known : IsKnown (known_in facts) a.frame.homes.items r a.slots
     pub are_deferred : AreDeferred facts.deferred r
     pub are_bases : AreBases gs starts facts state.regs
     pub is_last : IsLast last a.frame.homes.items r a.slots state
-    pub placed : Placed leaf a.frame place head a.blocks
-    pub frame : IsFrame ok.most a.frame
     pub stands : Stand (hide facts.deferred r) g (stored_frame leaf a.frame a.slots a.aside link ∷ frames_of ws below) state
-    pub waits : Waits link a.result_to ws below
 
   abbrev pub MatchRun : Run → Point → Type 0
   MatchRun (Running r [] g out) p = ⊥
@@ -209,40 +216,70 @@ module _ (h : Homed) (depth : ℕ) (blocks : List BlockParts) (ok : IsSelected h
       → Lead d p (At k code s out)
   no_head d p k first code s out none lead = subst (λ first. Lead d p (At k (first ++ code) s out)) none lead
 
+  -- one or more items lead there
+  abbrev LeadOn : Point → Point → Type 0
+  LeadOn p q = (d : ℕ) × (1 ≤ d) × Lead d p q
+
+  -- code that stands in a block of its own, before a block without head, or that is the block's head
+  through : (p : Point) (k t : ℕ) (target : BlockParts) (code head rest : List Plain) (s s' : State) (out : List ℕ)
+      → slice_get blocks t ≡ Some target → target.insts ≡ head ++ rest → RunsTo code s s'
+      → ((form : BlockParts) → slice_get blocks k ≡ Some form → Lead 1 p (At k form.insts s out))
+      → ((slice_get blocks k ≡ Some (record { insts = code; exit = E.Goto t })) × (head ≡ [])) ⊎ ((k ≡ t) × (head ≡ code))
+      → LeadOn p (At t rest s' out)
+  through p k t target code head rest s s' out there is runs enter (inl at) =
+      let form : BlockParts = record { insts = code; exit = E.Goto t } in
+      let last = subst (λ l. Lead 1 (At k [] s' out) (At t l s' out)) is (jump k form t target s' out at.0 refl there) in (
+        1 + (length code + 1),
+        omega arith,
+        leads_then blocks links 1 (length code + 1) p (At k code s out) (At t rest s' out) (enter form at.0)
+            (leads_then blocks links (length code) 1 (At k code s out) (At k [] s' out) (At t rest s' out) (code_leads k code s s' out runs)
+            (no_head 1 (At k [] s' out) t head rest s' out at.1 last)),
+      )
+  through p k t target code head rest s s' out there is runs enter (inr at) =
+      let first : Lead 1 p (At k (code ++ rest) s out) =
+      subst (λ l. Lead 1 p (At k l s out)) (is ∙ ap (λ h. h ++ rest) at.1) (enter target (ap (slice_get blocks) at.0 ∙ there)) in (
+        1 + length code,
+        omega arith,
+        subst (λ t. Lead (1 + length code) p (At t rest s' out)) at.0
+            (leads_then blocks links 1 (length code) p (At k (code ++ rest) s out) (At k rest s' out) first
+            (leads_run blocks links k code rest s s' out runs)),
+      )
+
+  -- at the start of a block nothing is known
+  starts_block : (r slots : Places) (a : Activation) (ws : List Activation) (g : Arrays) (out : List ℕ) (l : Lives a.frame a.blocks a.result_to ws)
+      (b : ℕ) (block : RBlock) (s : State) → Stood l.leaf a.frame l.place l.head b block
+      → Stand r g (stored_frame l.leaf a.frame slots a.aside l.link ∷ frames_of ws l.below) s
+      → Match r (at_code a slots (code_of block)) ws g out (At (l.place b) (block_code l.leaf a.frame l.place block) s out)
+  starts_block r slots a ws g out l b block s at st = record {
+    state = s;
+    number = l.place b;
+    lives = l;
+    facts = no_facts;
+    last = no_last;
+    point = refl;
+    code = code_at l.leaf a.frame l.place l.head b block at;
+    is_known = nothing_known a.frame.homes.items r slots;
+    are_deferred = none_deferred r;
+    are_bases = no_bases gs starts s.regs;
+    is_last = none_last a.frame.homes.items r slots s;
+    stands = st;
+  }
+
   -- a jump over homes
-  jumps : (leaf : Bool) (p : Point) (d : ℕ) (a : Activation) (link : ℕ) (below : List ℕ) (place : ℕ → ℕ) (head : ℕ → List Plain) (ws : List Activation)
-      → Placed leaf a.frame place head a.blocks → IsFrame ok.most a.frame → Waits link a.result_to ws below
-      → (b : ℕ) (r slots : Places) (g : Arrays) (out : List ℕ) (s : State) → Stand r g (stored_frame leaf a.frame slots a.aside link ∷ frames_of ws below) s
-      → 1 ≤ d
-      → ((block : RBlock) → Stood leaf a.frame place head b block → Lead d p
-      (At (place b) (code_insts linking (placing_of leaf a.frame place) no_facts no_last (code_of block)) s out))
+  jumps : (p : Point) (a : Activation) (ws : List Activation) (l : Lives a.frame a.blocks a.result_to ws) (b : ℕ) (r slots : Places)
+      (g : Arrays) (out : List ℕ) (s : State) → Stand r g (stored_frame l.leaf a.frame slots a.aside l.link ∷ frames_of ws l.below) s
+      → ((block : RBlock) → Stood l.leaf a.frame l.place l.head b block → LeadOn p (At (l.place b) (block_code l.leaf a.frame l.place block) s out))
       → Reach 1 p (state_at_block b a slots (around r ws g out))
-  jumps leaf p d a link below place head ws placed frame waits b r slots g out s st some f =
+  jumps p a ws l b r slots g out s st f =
       value_or_failed (λ run. Reach 1 p run) (slice_get a.blocks b) out (λ block. Running r (at_code a slots (code_of block) ∷ ws) g out) tt (λ block there.
-      let at = placed.by b block there in
+      let at = l.placed.by b block there in
+      let lead = f block at in
       record {
-        to = At (place b) (code_insts linking (placing_of leaf a.frame place) no_facts no_last (code_of block)) s out;
-        count = d;
-        enough = some;
-        leads = f block at;
-        match = record {
-          state = s;
-          spot = record { number = place b; link = link; below = below; leaf = leaf; place = place; head = head };
-          facts = no_facts;
-          last = no_last;
-          point
-              = refl;
-          code = code_at leaf a.frame place head b block at;
-          is_known = nothing_known a.frame.homes.items r slots;
-          are_deferred = none_deferred r;
-          are_bases = no_bases gs starts s.regs;
-          is_last =
-              none_last a.frame.homes.items r slots s;
-          placed = placed;
-          frame = frame;
-          stands = st;
-          waits = waits;
-        };
+        to = At (l.place b) (block_code l.leaf a.frame l.place block) s out;
+        count = lead.0;
+        enough = lead.1;
+        leads = lead.2;
+        match = starts_block r slots a ws g out l b block s at st;
       })
 
   regrouped : (a b c : List Plain) (s t : State) → RunsTo ((a ++ b) ++ c) s t → RunsTo (a ++ (b ++ c)) s t
@@ -268,41 +305,32 @@ module _ (h : Homed) (depth : ℕ) (blocks : List BlockParts) (ok : IsSelected h
       (λ j v at. (let low = slice_get_within vs j v at in e.same (4 + j) (omega (arith, low, count, is.parameters))) ∙ here j v at) e.stands
       (λ r' s' s2 e2 st2. begins r' s' s2 (subst (λ n. RunsTo (prologue is.leaf frame n) s s2) count
       (regrouped (stack_step Save (frame_bytes is.leaf frame)) (frame_words Save (4 * frame.slots) frame.saved.items ++ frame_link Save is.leaf frame)
-      (parameters_code (locations frame) 4 0 (length vs)) s s2 (runs_then e.runs e2))) st2 is.first)
+      (parameters_code (locations frame) 4 0 (length vs)) s s2 (runs_then e.runs e2))) st2)
     where
       callee : Places → Activation
       callee slots = new_activation func.blocks.items frame slots r result_to
 
+      lives : Lives frame func.blocks.items result_to ws
+      lives = record {
+        link = link;
+        below = below;
+        leaf = is.leaf;
+        place = is.place;
+        head = is.head;
+        placed = is.placed;
+        frame = is.frame;
+        waits = waits;
+      }
+
       code : List Plain
       code = prologue is.leaf frame func.parameters
 
-      begins : (r' slots' : Places) (s2 : State) → RunsTo (prologue is.leaf frame func.parameters) s s2
+      begins : (r' slots' : Places) (s2 : State) → RunsTo code s s2
           → Stand r' arrays (stored_frame is.leaf frame slots' r link ∷ frames_of ws below) s2
-          → ((slice_get blocks (ok.entry f) ≡ Some (prologue_block is.leaf frame func.parameters (is.place 0))) × (is.head 0 ≡ [])) ⊎
-          ((ok.entry f ≡ is.place 0) × (is.head 0 ≡ prologue is.leaf frame func.parameters))
           → Reach 1 p (state_at_block 0 (callee slots') slots' (around r' ws arrays out))
-      begins r' slots' s2 body st2 (inl at) =
-          jumps is.leaf p (1 + (length code + 1)) (callee slots') link below is.place is.head ws is.placed is.frame waits 0 r' slots' arrays out s2 st2
-          (omega arith)
-          (λ block stood.
-          let target = own_block linking (placing_of is.leaf frame is.place) (is.head 0) stood.next block in
-          let l1 = enter (prologue_block is.leaf frame func.parameters (is.place 0)) at.0 in
-          let l2 = code_leads (ok.entry f) code s s2 out body in
-          let l3 = no_head 1 (At (ok.entry f) [] s2 out) (is.place 0) (is.head 0) (code_insts linking (placing_of is.leaf frame is.place) no_facts no_last (code_of block)) s2 out at.1
-          (jump (ok.entry f) (prologue_block is.leaf frame func.parameters (is.place 0)) (is.place 0) target s2 out at.0 refl stood.there) in
-          let to = At (is.place 0) (code_insts linking (placing_of is.leaf frame is.place) no_facts no_last (code_of block)) s2 out in
-          leads_then blocks links 1 (length code + 1) p (At (ok.entry f) code s out) to l1
-          (leads_then blocks links (length code) 1 (At (ok.entry f) code s out) (At (ok.entry f) [] s2 out) to l2 l3))
-      begins r' slots' s2 body st2 (inr at) =
-          jumps is.leaf p (1 + length code) (callee slots') link below is.place is.head ws is.placed is.frame waits 0 r' slots' arrays out s2 st2 (omega arith)
-          (λ block stood.
-          let rest = code_insts linking (placing_of is.leaf frame is.place) no_facts no_last (code_of block) in
-          let target = own_block linking (placing_of is.leaf frame is.place) (is.head 0) stood.next block in
-          let l1 : Lead 1 p (At (ok.entry f) (is.head 0 ++ rest) s out) = enter target (ap (slice_get blocks) at.0 ∙ stood.there) in
-          let l2 : Lead 1 p (At (ok.entry f) (code ++ rest) s out) = subst (λ first. Lead 1 p (At (ok.entry f) (first ++ rest) s out)) at.1 l1 in
-          let l3 = leads_run blocks links (ok.entry f) code rest s s2 out body in
-          let all = leads_then blocks links 1 (length code) p (At (ok.entry f) (code ++ rest) s out) (At (ok.entry f) rest s2 out) l2 l3 in
-          subst (λ k. Lead (1 + length code) p (At k rest s2 out)) at.0 all)
+      begins r' slots' s2 body st2 = jumps p (callee slots') ws lives 0 r' slots' arrays out s2 st2 (λ block stood.
+          through p (ok.entry f) (is.place 0) (own_block linking (placing_of is.leaf frame is.place) (is.head 0) stood.next block) code (is.head 0)
+          (block_code is.leaf frame is.place block) s s2 out stood.there refl body enter is.first)
 
       enough_room : (p n : ℕ) → stack_end ≤ p + length (frames_of ws below) * ok.most → length (frames_of ws below) ≡ length ws → stack_base + ok.most ≤ p
       enough_room p n low same =
@@ -348,7 +376,7 @@ module _ (h : Homed) (depth : ℕ) (blocks : List BlockParts) (ok : IsSelected h
       })
   returns p d k form a (w ∷ ws) link [] o r g out s there is at result st waits lead = absurd waits
   returns p d k form a (w ∷ ws) link (l ∷ ls) o r g out s there is at result st waits lead = put a.result_to
-      (λ r' slots' s' e st'. resumed r' slots' s' e st' (waits.0).after)
+      resumed
     where
       m : Resumes link a.result_to w
       m = waits.0
@@ -356,67 +384,37 @@ module _ (h : Homed) (depth : ℕ) (blocks : List BlockParts) (ok : IsSelected h
       again : Places → Places → Run
       again r' s' = Running r' (at_code w s' w.code ∷ ws) g out
 
-      reached : (r' slots' : Places) (s' : State) (e : ℕ) → Stand r' g (stored_frame false w.frame slots' w.aside l ∷ frames_of ws ls) s'
-          → Lead (d + suc e) p (At (m.place m.next) (code_insts linking (placing_of false w.frame m.place) no_facts no_last (code_of m.block)) s' out) → Reach 1 p (again r' slots')
-      reached r' slots' s' e st' lead' = record {
-        to = At (m.place m.next) (code_insts linking (placing_of false w.frame m.place) no_facts no_last (code_of m.block)) s' out;
-        count = d + suc e;
-        enough = omega arith;
-        leads = lead';
-        match = record {
-          state = s';
-          spot = record { number = m.place m.next; link = l; below = ls; leaf = false; place = m.place; head = m.head };
-          facts = no_facts;
-          last = no_last;
-          point = ap (λ c. At (m.place m.next) (code_insts linking (placing_of false w.frame m.place) no_facts no_last c) s' out) (sym m.code);
-          code = subst (λ (c : Code). CodeAt false w.frame m.place m.head (known_after (locations w.frame) c.insts no_facts) (last_after (locations w.frame) (asked_of c.exit) no_facts c.insts no_last) (m.place m.next)
-              c.exit) (sym m.code) (code_at false w.frame m.place m.head m.next m.block m.at);
-          is_known = nothing_known w.frame.homes.items r' slots';
-          are_deferred = none_deferred r';
-          are_bases = no_bases gs starts s'.regs;
-          is_last = none_last w.frame.homes.items r' slots' s';
-          placed = m.placed;
-          frame = m.frame;
-          stands = st';
-          waits = waits.1;
-        };
+      lives : Lives w.frame w.blocks w.result_to ws
+      lives = record {
+        link = l;
+        below = ls;
+        leaf = false;
+        place = m.place;
+        head = m.head;
+        placed = m.placed;
+        frame = m.frame;
+        waits = waits.1;
       }
 
-      one_more : (n : ℕ) → 1 + n ≡ suc n
-      one_more n = omega arith
+      rest : List Plain
+      rest = block_code false w.frame m.place m.block
 
-      -- the result is arrays_with at the head of the block, or in a block of its own
+      -- the result is put into its home at the head of the block, or in a block of its own
       resumed : (r' slots' : Places) (s' : State) → RunsTo (result_code (locations w.frame) a.result_to) s s'
-          → Stand r' g (stored_frame false w.frame slots' w.aside l ∷ frames_of ws ls) s'
-          → ((slice_get blocks m.number ≡ Some (after_block w.frame a.result_to (m.place m.next))) × (m.head m.next ≡ [])) ⊎
-          ((m.number ≡ m.place m.next) × (m.head m.next ≡ result_code (locations w.frame) a.result_to)) → Reach 1 p (again r' slots')
-      resumed r' slots' s' e st' (inl after) =
-          let code = result_code (locations w.frame) a.result_to in
-          let rest = code_insts linking (placing_of false w.frame m.place) no_facts no_last (code_of m.block) in
+          → Stand r' g (stored_frame false w.frame slots' w.aside l ∷ frames_of ws ls) s' → Reach 1 p (again r' slots')
+      resumed r' slots' s' e st' =
           let to = At (m.place m.next) rest s' out in
-          let target = own_block linking (placing_of false w.frame m.place) (m.head m.next) (m.at).next m.block in
-          let l1 = back k form s out link m.number (after_block w.frame a.result_to (m.place m.next)) there is at m.found after.0 in
-          let l2 = code_leads m.number code s s' out e in
-          let l3 = no_head 1 (At m.number [] s' out) (m.place m.next) (m.head m.next) rest s' out after.1
-          (jump m.number (after_block w.frame a.result_to (m.place m.next)) (m.place m.next) target s' out after.0 refl (m.at).there) in
-          let all : Lead (1 + (length code + 1)) (At k [] s out) to = leads_then blocks links 1 (length code + 1) (At k [] s out) (At m.number code s out) to
-          l1 (leads_then blocks links (length code) 1 (At m.number code s out) (At m.number [] s' out) to l2 l3) in
-          reached r' slots' s' (length code + 1) st' (leads_then blocks links d (suc (length code + 1)) p (At k [] s out) to lead
-          (subst (λ n. Lead n (At k [] s out) to) (one_more (length code + 1)) all))
-      resumed r' slots' s' e st' (inr after) =
-          let code = result_code (locations w.frame) a.result_to in
-          let rest = code_insts linking (placing_of false w.frame m.place) no_facts no_last (code_of m.block) in
-          let to = At (m.place m.next) rest s' out in
-          let target = own_block linking (placing_of false w.frame m.place) (m.head m.next) (m.at).next m.block in
-          let l1 : Lead 1 (At k [] s out) (At m.number (m.head m.next ++ rest) s out) = back k form s out link m.number target there is at m.found
-          (ap (slice_get blocks) after.0 ∙ (m.at).there) in
-          let l2 : Lead 1 (At k [] s out) (At m.number (code ++ rest) s out) = subst (λ first. Lead 1 (At k [] s out) (At m.number (first ++ rest) s out))
-          after.1 l1 in
-          let l3 = leads_run blocks links m.number code rest s s' out e in
-          let all = leads_then blocks links 1 (length code) (At k [] s out) (At m.number (code ++ rest) s out) (At m.number rest s' out) l2 l3 in
-          let all' : Lead (1 + length code) (At k [] s out) to = subst (λ n. Lead (1 + length code) (At k [] s out) (At n rest s' out)) after.0 all in
-          reached r' slots' s' (length code) st' (leads_then blocks links d (suc (length code)) p (At k [] s out) to lead
-          (subst (λ n. Lead n (At k [] s out) to) (one_more (length code)) all'))
+          let on = through (At k [] s out) m.number (m.place m.next) (own_block linking (placing_of false w.frame m.place) (m.head m.next) (m.at).next m.block)
+          (result_code (locations w.frame) a.result_to) (m.head m.next) rest s s' out (m.at).there refl e
+          (λ target found. back k form s out link m.number target there is at m.found found) m.after in
+          record {
+            to = to;
+            count = d + on.0;
+            enough = (let some = on.1 in omega (arith, some));
+            leads = leads_then blocks links d on.0 p (At k [] s out) to lead on.2;
+            match = subst (λ code. Match r' (at_code w slots' code) ws g out to) (sym m.code)
+                (starts_block r' slots' w ws g out lives m.next m.block s' m.at st');
+          }
 
       put : (result_to : Option ℕ) → ((r' slots' : Places) (s' : State) → RunsTo (result_code (locations w.frame) result_to) s s'
           → Stand r' g (stored_frame false w.frame slots' w.aside l ∷ frames_of ws ls) s' → Reach 1 p (again r' slots'))
@@ -440,210 +438,291 @@ module _ (h : Homed) (depth : ℕ) (blocks : List BlockParts) (ok : IsSelected h
       was q v true ec None eo e = ap (λ o. hidden o (r q)) eo ∙ e
       was q v true ec (Some w) eo e = absurd (true≢false (sym ec ∙ lz.caller_saved q w eo))
 
-  -- an exit
-  exits : (leaf : Bool) (x : RExit) (facts : Facts) (last : Last) (a : Activation) (k : ℕ) (link : ℕ) (below : List ℕ) (place : ℕ → ℕ) (head : ℕ
-      → List Plain) (ws : List Activation) (r : Places) (g : Arrays) (out : List ℕ) (s : State)
-      → CodeAt leaf a.frame place head facts last k x → IsKnown (known_in facts) a.frame.homes.items r a.slots → AreDeferred facts.deferred r
-      → IsLast last a.frame.homes.items r a.slots s → Placed leaf a.frame place head a.blocks → IsFrame ok.most a.frame
-      → Waits link a.result_to ws below → Stand (hide facts.deferred r) g (stored_frame leaf a.frame a.slots a.aside link ∷ frames_of ws below) s
-      → Reach 1 (At k (exit_code leaf a.frame facts last x) s out) (state_after_exit h depth x a (around r ws g out))
-  exits leaf (Goto b) facts last a k link below place head ws r g out s c kn lz new placed frame waits st =
-      jumps leaf (At k [] s out) 1 a link below place head ws placed frame waits b (callee_saved r) a.slots g out s
-      (settled facts.deferred r g (stored_frame leaf a.frame a.slots a.aside link ∷ frames_of ws below) s lz st) (omega arith)
-      (λ block stood. no_head 1 (At k [] s out) (place b) (head b) (code_insts linking (placing_of leaf a.frame place) no_facts no_last (code_of block)) s out c.leads_on
-      (jump k c.form (place b) (own_block linking (placing_of leaf a.frame place) (head b) stood.next block) s out c.there c.exit stood.there))
-  exits leaf (Branch x y z) facts last a k link below place head ws r g out s c kn lz new placed frame waits st =
-      value_or_failed (λ run. Reach 1 (At k (exit_code leaf a.frame facts last (Branch x y z)) s out) run) (read_home a.frame.homes.items r a.slots x) out
-      (λ v. state_at_block (if nat_eq v 0 then z else y) a a.slots (around (callee_saved r) ws g out)) tt (λ v e. branch v e (tested last.comparison x) refl (known_in facts x) refl c.exit)
-    where
-      o : Source
-      o = last_operand (locations a.frame) facts last.fresh x
+  -- an activation that has come to its exit
+  module _ (r : Places) (a : Activation) (ws : List Activation) (g : Arrays) (out : List ℕ) (p : Point) (m : Match r a ws g out p) where
+    abbrev s : State
+    s = m.state
 
-      -- what is left of a comparison says whether the branch is taken
-      found : (v : ℕ) (m : Comparison) → read_home a.frame.homes.items r a.slots x ≡ Some v → (p : Option Comparison) → last.comparison ≡ p
-          → tested p x ≡ Some m → passes m.form m.left.source m.right.source s ≡ not (nat_eq v 0)
-      found v m e None is t = absurd (none-some m t)
-      found v m e (Some n) is t = go (nat_eq n.result x) refl t
-        where
-          go : (b : Bool) → nat_eq n.result x ≡ b → (if b then Some n else None) ≡ Some m → passes m.form m.left.source m.right.source s ≡ not (nat_eq v 0)
-          go false eb t = absurd (none-some m t)
-          go true eb t = subst (λ (m : Comparison). passes m.form m.left.source m.right.source s ≡ not (nat_eq v 0)) (same_Some n m t)
-              (new.comparison n v is (ap (read_home a.frame.homes.items r a.slots) (eqb-true n.result x eb) ∙ e))
+    abbrev k : ℕ
+    k = m.number
 
-      branch : (v : ℕ) → read_home a.frame.homes.items r a.slots x ≡ Some v → (t : Option Comparison) → tested last.comparison x ≡ t
-          → (known : Option ℕ) → known_in facts x ≡ known
-          → (c.form).exit ≡ branch_exit t known (last_operand (locations a.frame) facts last.fresh x) (place y) (place z)
-          → Reach 1 (At k (branch_code t known (last_operand (locations a.frame) facts last.fresh x)) s out)
-          (state_at_block (if nat_eq v 0 then z else y) a a.slots (around (callee_saved r) ws g out))
-      branch v e None is_test (Some w) is_known is_exit =
-          let b = if nat_eq v 0 then z else y in
-          let same : w ≡ v = same_Some w v (sym (kn.by x w is_known) ∙ e) in
-          let goes : (c.form).exit ≡ E.Goto (place b) =
-          is_exit ∙ ap (λ w. E.Goto (if nat_eq w 0 then place z else place y)) same ∙ ap E.Goto (either_place place z y (nat_eq v 0)) in
-          jumps leaf (At k [] s out) 1 a link below place head ws placed frame waits b (callee_saved r) a.slots g out s
-          (settled facts.deferred r g (stored_frame leaf a.frame a.slots a.aside link ∷ frames_of ws below) s lz st) (omega arith)
-          (λ block stood. no_head 1 (At k [] s out) (place b) (head b) (code_insts linking (placing_of leaf a.frame place) no_facts no_last (code_of block)) s out
-          (either head z y (nat_eq v 0) c.leads_on)
-          (jump k c.form (place b) (own_block linking (placing_of leaf a.frame place) (head b) stood.next block) s out c.there goes stood.there))
-      branch v e None is_test None is_known is_exit =
-          let code = fetch 1 (last_operand (locations a.frame) facts last.fresh x) in
-          let means = last_means ok.most total gs starts facts.deferred r g (stored_frame leaf a.frame a.slots a.aside link) (frames_of ws below) s st lz (known_in facts)
-          last.fresh x v (frame_homes ok.most a.frame frame) kn new.fresh e in
-          let one = fetches ok.most total gs starts (hide facts.deferred r) g (stored_frame leaf a.frame a.slots a.aside link) (frames_of ws below) s st 1 v
-          (last_operand (locations a.frame) facts last.fresh x) (omega arith) (omega arith) means in
-          let s1 : State = record s { regs = one.regs } in
-          let b = if nat_eq v 0 then z else y in
-          let l1 = code_leads k code s s1 out one.runs in
-          jumps leaf (At k code s out) (length code + 1) a link below place head ws placed frame waits b (callee_saved r) a.slots g out s1
-          (settled facts.deferred r g (stored_frame leaf a.frame a.slots a.aside link ∷ frames_of ws below) s1 lz one.stands) (omega arith)
-          (λ block stood.
-          let rest = code_insts linking (placing_of leaf a.frame place) no_facts no_last (code_of block) in
-          let q = At (place b) (head b ++ rest) s1 out in
-          let l2 = departs k c.form (E.BranchPair NotEqual (operand_register 1 (last_operand (locations a.frame) facts last.fresh x)) 0 (place y) (place z)) s1 out q
-          c.there is_exit (λ n.
-          ap (λ w. outcome_at_block (if not (w == 0) then place y else place z) (slice_get blocks (if not (w == 0) then place y else place z))
-          (items blocks links n) s1 out) one.here
-          ∙ ap (λ t. outcome_at_block t (slice_get blocks t) (items blocks links n) s1 out) (branch_words place z y v (nat_eq v 0))
-          ∙ ap (λ o. outcome_at_block (place b) o (items blocks links n) s1 out) stood.there) in
-          leads_then blocks links (length code) 1 (At k code s out) (At k [] s1 out) (At (place b) rest s1 out) l1
-          (no_head 1 (At k [] s1 out) (place b) (head b) rest s1 out (either head z y (nat_eq v 0) c.leads_on) l2))
-      branch v e (Some m) is_test known is_known is_exit =
-          let b = if nat_eq v 0 then z else y in
-          let taken : passes m.form m.left.source m.right.source s ≡ not (nat_eq v 0) = found v m e last.comparison refl is_test in
-          jumps leaf (At k [] s out) 1 a link below place head ws placed frame waits b (callee_saved r) a.slots g out s
-          (settled facts.deferred r g (stored_frame leaf a.frame a.slots a.aside link ∷ frames_of ws below) s lz st) (omega arith)
-          (λ block stood.
-          let rest = code_insts linking (placing_of leaf a.frame place) no_facts no_last (code_of block) in
-          let to = At (place b) (head b ++ rest) s out in
-          let l2 = departs k c.form (exit_by_form m.form m.left.source m.right.source (place y) (place z)) s out to c.there is_exit (λ n.
-          goes_by blocks links m.form m.left.source m.right.source (place y) (place z) k s out n
-          ∙ ap (λ t. outcome_at_block (if t then place y else place z) (slice_get blocks (if t then place y else place z)) (items blocks links n) s out) taken
-          ∙ ap (λ t. outcome_at_block t (slice_get blocks t) (items blocks links n) s out) (branch_words place z y v (nat_eq v 0))
-          ∙ ap (λ o. outcome_at_block (place b) o (items blocks links n) s out) stood.there) in
-          no_head 1 (At k [] s out) (place b) (head b) rest s out (either head z y (nat_eq v 0) c.leads_on) l2)
-  exits leaf (Out x next) facts last a k link below place head ws r g out s c kn lz new placed frame waits st =
-      value_or_failed (λ run. Reach 1 (At k (exit_code leaf a.frame facts last (Out x next)) s out) run) (read_home a.frame.homes.items r a.slots x) out
-      (λ v. state_at_block next a a.slots (around (callee_saved r) ws g (out ++ v ∷ []))) tt (λ v e.
-      let o = last_operand (locations a.frame) facts last.fresh x in
-      let code = carry 4 o in
-      let means = last_means ok.most total gs starts facts.deferred r g (stored_frame leaf a.frame a.slots a.aside link) (frames_of ws below) s st lz (known_in facts)
-      last.fresh x v (frame_homes ok.most a.frame frame) kn new.fresh e in
-      let st0 = settled facts.deferred r g (stored_frame leaf a.frame a.slots a.aside link ∷ frames_of ws below) s lz st in
-      let one = carries ok.most total gs starts (callee_saved r) g (stored_frame leaf a.frame a.slots a.aside link) (frames_of ws below) s st0 4 v o
-      (record { low = omega arith; high = omega arith }) means in
-      let st1 = caller_saved_kept ok.most total gs starts (callee_saved r) g (stored_frame leaf a.frame a.slots a.aside link ∷ frames_of ws below) code s 4 v
-      (above_arguments r) (omega arith) one st0 in
-      let s1 : State = record s { regs = one.regs } in
-      let s2 = set s1 2 1 in
-      let st2 = words_kept ok.most total gs starts (callee_saved r) g (stored_frame leaf a.frame a.slots a.aside link ∷ frames_of ws below) s1 s2.regs
-      (set_words s1 2 1 st1.words (omega arith)) (λ q low high. put_other s1.regs 2 1 q (omega (arith, low))) st1 in
-      let l1 = code_leads k code s s1 out one.runs in
-      jumps leaf (At k code s out) (length code + 1) a link below place head ws placed frame waits next (callee_saved r) a.slots g (out ++ v ∷ []) s2
-      st2 (omega arith)
-      (λ block stood.
-      let rest = code_insts linking (placing_of leaf a.frame place) no_facts no_last (code_of block) in
-      let q = At (place next) (head next ++ rest) s2 (out ++ v ∷ []) in
-      let l2 = departs k c.form (E.Out (place next)) s1 out q c.there c.exit (λ n.
-      ap (λ w. outcome_at_block (place next) (slice_get blocks (place next)) (items blocks links n) s2 (out ++ w ∷ [])) one.here
-      ∙ ap (λ o. outcome_at_block (place next) o (items blocks links n) s2 (out ++ v ∷ [])) stood.there) in
-      leads_then blocks links (length code) 1 (At k code s out) (At k [] s1 out) (At (place next) rest s2 (out ++ v ∷ [])) l1
-      (no_head 1 (At k [] s1 out) (place next) (head next) rest s2 (out ++ v ∷ []) c.leads_on l2)))
-  exits leaf (Return None) facts last a k link below place head ws r g out s c kn lz new placed frame waits st =
-      let e = leaves_frame ok.most total gs starts ok.small (callee_saved r) g (frames_of ws below) s leaf a.frame a.slots a.aside link frame (linked_frames ws below)
-      (settled facts.deferred r g (stored_frame leaf a.frame a.slots a.aside link ∷ frames_of ws below) s lz st) in
-      returns (At k (epilogue leaf a.frame) s out) (length (epilogue leaf a.frame)) k c.form a ws link below None (callee_saved r) g out e.to c.there c.exit e.link_is
-      (λ v none. absurd (none-some v none)) e.stands waits (code_leads k (epilogue leaf a.frame) s e.to out e.runs)
-  exits leaf (Return (Some x)) facts last a k link below place head ws r g out s c kn lz new placed frame waits st =
-      value_or_failed (λ run. Reach 1 (At k (exit_code leaf a.frame facts last (Return (Some x))) s out) run) (read_home a.frame.homes.items r a.slots x) out
-      (λ v. state_after_return (Some v) a (callee_saved r) ws g out) tt (λ v read_v. gives v read_v (returned last.comparison x) refl)
-    where
-      there_already : (v : ℕ) → read_home a.frame.homes.items r a.slots x ≡ Some v → (p : Option Comparison) → last.comparison ≡ p → returned p x ≡ true
-          → s.regs 2 ≡ v
-      there_already v read_v None is t = absurd (true≢false (sym t))
-      there_already v read_v (Some m) is t =
-          new.result m v is (and_parts (is_result m.form) (nat_eq m.result x) t).0
-          (ap (read_home a.frame.homes.items r a.slots) (eqb-true m.result x (and_parts (is_result m.form) (nat_eq m.result x) t).1) ∙ read_v)
+    abbrev placing : Placing
+    placing = placing_of m.leaf a.frame m.place
 
-      gives : (v : ℕ) → read_home a.frame.homes.items r a.slots x ≡ Some v → (b : Bool) → returned last.comparison x ≡ b
-          → Reach 1 (At k (return_code b (last_operand (locations a.frame) facts last.fresh x) ++ epilogue leaf a.frame) s out)
-          (state_after_return (Some v) a (callee_saved r) ws g out)
-      gives v read_v true is =
-          let two = there_already v read_v last.comparison refl is in
-          let e = leaves_frame ok.most total gs starts ok.small (callee_saved r) g (frames_of ws below) s leaf a.frame a.slots a.aside link frame
-          (linked_frames ws below) (settled facts.deferred r g (stored_frame leaf a.frame a.slots a.aside link ∷ frames_of ws below) s lz st) in
-          returns (At k (epilogue leaf a.frame) s out) (length (epilogue leaf a.frame)) k c.form a ws link below (Some v) (callee_saved r) g out e.to c.there c.exit
-          e.link_is (λ w is. e.same 2 (omega arith) ∙ two ∙ same_Some v w is) e.stands waits (code_leads k (epilogue leaf a.frame) s e.to out e.runs)
-      gives v read_v false is =
-          let o = last_operand (locations a.frame) facts last.fresh x in
-          let means = last_means ok.most total gs starts facts.deferred r g (stored_frame leaf a.frame a.slots a.aside link) (frames_of ws below) s st lz
-          (known_in facts) last.fresh x v (frame_homes ok.most a.frame frame) kn new.fresh read_v in
-          let one = carries ok.most total gs starts (hide facts.deferred r) g (stored_frame leaf a.frame a.slots a.aside link) (frames_of ws below) s st 2 v o
-          (record { low = omega arith; high = omega arith }) means in
-          let st1 = sets_kept ok.most total gs starts (hide facts.deferred r) g (stored_frame leaf a.frame a.slots a.aside link) (frames_of ws below) s st (carry 2 o) 2 v
-          (omega arith) one in
-          let s1 : State = record s { regs = one.regs } in
-          let e = leaves_frame ok.most total gs starts ok.small (callee_saved r) g (frames_of ws below) s1 leaf a.frame a.slots a.aside link frame
-          (linked_frames ws below) (settled facts.deferred r g (stored_frame leaf a.frame a.slots a.aside link ∷ frames_of ws below) s1 lz st1) in
-          let code = carry 2 o ++ epilogue leaf a.frame in
-          returns (At k code s out) (length code) k c.form a ws link below (Some v) (callee_saved r) g out e.to c.there c.exit e.link_is
-          (λ w is. e.same 2 (omega arith) ∙ one.here ∙ same_Some v w is) e.stands waits (code_leads k code s e.to out (runs_then one.runs e.runs))
-  exits true (Call f xs result_to next) facts last a k link below place head ws r g out s c kn lz new placed frame waits st = absurd (true≢false ((c.leads_on).0).0)
-  exits false (Call f xs result_to next) facts last a k link below place head ws r g out s c kn lz new placed frame waits st =
-      value_or_failed (λ run. Reach 1 start run) (read_homes a.frame.homes.items r a.slots xs.items) out _ tt (λ vs read_vs.
-      value_or_failed (λ run. Reach 1 start run) (slice_get a.blocks next) out _ tt (λ block next_there.
-      value_or_failed (λ run. Reach 1 start run) (slice_get (h.rtl.now).functions f) out _ tt (λ func func_there.
-      value_or_failed (λ run. Reach 1 start run) (slice_get h.frames.items f) out _ tt (λ callee frame_there.
-      deep_enough (nat_lt (length (waiting block ∷ ws)) depth) (length vs == func.parameters) _ (λ deep as_many.
-      let is = ok.functions f func callee func_there frame_there in
-      let few = is.parameters in
-      let asked = read_length a.frame.homes.items r a.slots xs.items vs read_vs in
-      let count : length vs ≡ func.parameters = eqb-true (length vs) func.parameters as_many in
-      let stored = stored_frame false a.frame a.slots a.aside link in
-      let st0 = settled facts.deferred r g (stored ∷ frames_of ws below) s lz st in
-      let denote = all_denote ok.most total gs starts r g stored (frames_of ws below) s facts xs.items vs
-      (frame_homes ok.most a.frame frame) kn lz st read_vs in
-      let args = arguments ok.most total gs starts (callee_saved r) g stored (frames_of ws below) s facts 4 xs.items vs (above_arguments r)
-      (omega arith) (omega (arith, asked, count, few)) ((c.leads_on).0).1 denote st0 in
-      let s1 : State = record s { regs = args.regs } in
-      let s2 = set s1 31 (links k) in
-      let st2 = call_kept ok.most total gs starts (callee_saved r) g (stored ∷ frames_of ws below) s1 s2.regs
-      (set_words s1 31 (links k) (args.stands).words (tells.words k)) (λ leaf. absurd (true≢false (sym leaf)))
-      (λ q low high. put_other s1.regs 31 (links k) q (omega (arith, high))) args.stands in
-      let found = return_found links blocks k (ok.entry f) c.next c.form tells c.there c.exit in
-      let at = placed.by next block next_there in
-      let resumes : Resumes (links k) result_to (waiting block) = record {
-        place = place;
-        head = head;
-        placed = placed;
-        frame = frame;
-        number = c.next;
-        found
-            = found;
-        next = next;
-        after = (c.leads_on).1;
-        block = block;
-        code = refl;
-        at = at;
-      } in
-      let d = length (exit_code false a.frame facts last (Call f xs result_to next)) in
-      reach_after 1 1 d start (At k [] s1 out) _ (omega arith) (code_leads k (exit_code false a.frame facts last (Call f xs result_to next)) s s1 out args.runs)
-      (entered (At k [] s1 out) f func callee is (callee_saved r) g (waiting block ∷ ws) (links k) result_to (link ∷ below) vs s2 out
-      (λ form there. departs k c.form (E.Call (ok.entry f) c.next) s1 out (At (ok.entry f) form.insts s2 out) c.there c.exit
-      (λ n. ap (λ o. outcome_at_block (ok.entry f) o (items blocks links n) s2 out) there))
-      st2 (λ q passes. ap (λ b. if b then r q else None) passes) (put_here s1.regs 31 (links k) (record { low = omega arith; high = omega arith }))
-      (λ j v there. (let low = slice_get_within vs j v there in put_other s1.regs 31 (links k) (4 + j) (omega (arith, low, count, few))) ∙ args.here j v there)
-      count (room_for (suc (length ws)) (ltb-true (length (waiting block ∷ ws)) depth deep)) (resumes, waits)))))))
-    where
-      start : Point
-      start = At k (exit_code false a.frame facts last (Call f xs result_to next)) s out
+    abbrev stored : Stored
+    stored = stored_frame m.leaf a.frame a.slots a.aside m.link
 
-      waiting : RBlock → Activation
-      waiting block = at_code a a.slots (code_of block)
+    abbrev fs : List Stored
+    fs = frames_of ws m.below
 
-      deep_enough : (b c : Bool) (run : Run) → (b ≡ true → c ≡ true → Reach 1 start run) → Reach 1 start (if b && c then run else Failed out)
-      deep_enough true true run f = f refl refl
-      deep_enough true false run f = tt
-      deep_enough false c run f = tt
+    -- what an exit reads
+    abbrev operand : ℕ → Source
+    operand x = last_operand (locations a.frame) m.facts m.last.fresh x
+
+    abbrev Reads : (x v : ℕ) → Type 0
+    Reads x v = read_home a.frame.homes.items r a.slots x ≡ Some v
+
+    abbrev Leaving : RExit → Type 0
+    Leaving x = CodeAt placing m.head m.facts m.last k x
+
+    settles : (s : State) → Stand (hide m.facts.deferred r) g (stored ∷ fs) s → Stand (callee_saved r) g (stored ∷ fs) s
+    settles s st = settled m.facts.deferred r g (stored ∷ fs) s m.are_deferred st
+
+    -- what an exit reads is what the home holds
+    means : (x v : ℕ) → Reads x v → Denotes stored.count s (operand x) v
+    means x v e = last_means ok.most total gs starts m.facts.deferred r g stored fs s m.stands m.are_deferred (known_in m.facts) m.last.fresh x v
+        (frame_homes ok.most a.frame m.frame) m.is_known m.is_last.fresh e
+
+    -- on to a block without a head, behind some code
+    goes_on : (code : List Plain) (b : ℕ) (out' : List ℕ) (s1 s2 : State) → RunsTo code s s1 → Stand (callee_saved r) g (stored ∷ fs) s2 → m.head b ≡ []
+        → ((target : BlockParts) → slice_get blocks (m.place b) ≡ Some target → Lead 1 (At k [] s1 out) (At (m.place b) target.insts s2 out'))
+        → Reach 1 (At k code s out) (state_at_block b a a.slots (around (callee_saved r) ws g out'))
+    goes_on code b out' s1 s2 runs st none leave =
+        jumps (At k code s out) a ws m.lives b (callee_saved r) a.slots g out' s2 st (λ block stood.
+        let rest = block_code m.leaf a.frame m.place block in (
+          length code + 1,
+          omega arith,
+          leads_then blocks links (length code) 1 (At k code s out) (At k [] s1 out) (At (m.place b) rest s2 out') (code_leads k code s s1 out runs)
+              (no_head 1 (At k [] s1 out) (m.place b) (m.head b) rest s2 out' none
+              (leave (own_block linking placing (m.head b) stood.next block) stood.there)),
+        ))
+
+    -- back to the activation below, behind some code
+    goes_back : (x : Option ℕ) → Leaving (Return x) → (code : List Plain) (o : Option ℕ) (s1 : State) → RunsTo code s s1
+        → Stand (callee_saved r) g (stored ∷ fs) s1 → ((v : ℕ) → o ≡ Some v → s1.regs 2 ≡ v)
+        → Reach 1 (At k (code ++ epilogue m.leaf a.frame) s out) (state_after_return o a (callee_saved r) ws g out)
+    goes_back x c code o s1 runs st result =
+        let e = leaves_frame ok.most total gs starts ok.small (callee_saved r) g fs s1 m.leaf a.frame a.slots a.aside m.link m.frame
+        (linked_frames ws m.below) st in
+        let all = code ++ epilogue m.leaf a.frame in
+        returns (At k all s out) (length all) k c.form a ws m.link m.below o (callee_saved r) g out e.to c.there c.exit e.link_is
+        (λ v is. e.same 2 (omega arith) ∙ result v is) e.stands m.waits (code_leads k all s e.to out (runs_then runs e.runs))
+
+    branches : (x y z : ℕ) (c : Leaving (Branch x y z)) (v : ℕ) → Reads x v → (t : Option Comparison) → tested m.last.comparison x ≡ t
+        → (known : Option ℕ) → known_in m.facts x ≡ known → c.form.exit ≡ branch_exit t known (operand x) (m.place y) (m.place z)
+        → Reach 1 (At k (branch_code t known (operand x)) s out) (state_at_block (if nat_eq v 0 then z else y) a a.slots (around (callee_saved r) ws g out))
+    branches x y z c v e None is_test (Some w) is_known is_exit =
+        let b = if nat_eq v 0 then z else y in
+        let same : w ≡ v = same_Some w v (sym (m.is_known.by x w is_known) ∙ e) in
+        let goes : c.form.exit ≡ E.Goto (m.place b) =
+        is_exit ∙ ap (λ w. E.Goto (if nat_eq w 0 then m.place z else m.place y)) same ∙ ap E.Goto (either_place m.place z y (nat_eq v 0)) in
+        goes_on [] b out s s (runs_none s) (settles s m.stands) (either m.head z y (nat_eq v 0) c.leads_on)
+        (λ target there. jump k c.form (m.place b) target s out c.there goes there)
+    branches x y z c v e None is_test None is_known is_exit =
+        let one = fetches ok.most total gs starts (hide m.facts.deferred r) g stored fs s m.stands 1 v (operand x) (omega arith) (omega arith)
+        (means x v e) in
+        let s1 : State = record s { regs = one.regs } in
+        let b = if nat_eq v 0 then z else y in
+        goes_on (fetch 1 (operand x)) b out s1 s1 one.runs (settles s1 one.stands) (either m.head z y (nat_eq v 0) c.leads_on) (λ target there.
+        departs k c.form (E.BranchPair NotEqual (operand_register 1 (operand x)) 0 (m.place y) (m.place z)) s1 out (At (m.place b) target.insts s1 out)
+        c.there is_exit (λ n.
+        ap (λ w. outcome_at_block (if not (w == 0) then m.place y else m.place z) (slice_get blocks (if not (w == 0) then m.place y else m.place z))
+        (items blocks links n) s1 out) one.here
+        ∙ ap (λ t. outcome_at_block t (slice_get blocks t) (items blocks links n) s1 out) (branch_words m.place z y v (nat_eq v 0))
+        ∙ ap (λ o. outcome_at_block (m.place b) o (items blocks links n) s1 out) there))
+    branches x y z c v e (Some n) is_test known is_known is_exit =
+        let b = if nat_eq v 0 then z else y in
+        let taken : passes n.form n.left.source n.right.source s ≡ not (nat_eq v 0) = found m.last.comparison refl is_test in
+        goes_on [] b out s s (runs_none s) (settles s m.stands) (either m.head z y (nat_eq v 0) c.leads_on) (λ target there.
+        departs k c.form (exit_by_form n.form n.left.source n.right.source (m.place y) (m.place z)) s out (At (m.place b) target.insts s out) c.there is_exit (λ i.
+        goes_by blocks links n.form n.left.source n.right.source (m.place y) (m.place z) k s out i
+        ∙ ap (λ t. outcome_at_block (if t then m.place y else m.place z) (slice_get blocks (if t then m.place y else m.place z)) (items blocks links i) s out) taken
+        ∙ ap (λ t. outcome_at_block t (slice_get blocks t) (items blocks links i) s out) (branch_words m.place z y v (nat_eq v 0))
+        ∙ ap (λ o. outcome_at_block (m.place b) o (items blocks links i) s out) there))
+      where
+        -- what is left of a comparison says whether the branch is taken
+        found : (p : Option Comparison) → m.last.comparison ≡ p → tested p x ≡ Some n → passes n.form n.left.source n.right.source s ≡ not (nat_eq v 0)
+        found None is t = absurd (none-some n t)
+        found (Some q) is t = go (nat_eq q.result x) refl t
+          where
+            go : (b : Bool) → nat_eq q.result x ≡ b → (if b then Some q else None) ≡ Some n → passes n.form n.left.source n.right.source s ≡ not (nat_eq v 0)
+            go false eb t = absurd (none-some n t)
+            go true eb t = subst (λ (n : Comparison). passes n.form n.left.source n.right.source s ≡ not (nat_eq v 0)) (same_Some q n t)
+                (m.is_last.comparison q v is (ap (read_home a.frame.homes.items r a.slots) (eqb-true q.result x eb) ∙ e))
+
+    outputs : (x next : ℕ) (c : Leaving (Out x next)) (v : ℕ) → Reads x v
+        → Reach 1 (At k (carry 4 (operand x)) s out) (state_at_block next a a.slots (around (callee_saved r) ws g (out ++ v ∷ [])))
+    outputs x next c v e =
+        let code = carry 4 (operand x) in
+        let st0 = settles s m.stands in
+        let one = carries ok.most total gs starts (callee_saved r) g stored fs s st0 4 v (operand x)
+        (record { low = omega arith; high = omega arith }) (means x v e) in
+        let st1 = caller_saved_kept ok.most total gs starts (callee_saved r) g (stored ∷ fs) code s 4 v (above_arguments r) (omega arith) one st0 in
+        let s1 : State = record s { regs = one.regs } in
+        let s2 = set s1 2 1 in
+        let st2 = words_kept ok.most total gs starts (callee_saved r) g (stored ∷ fs) s1 s2.regs (set_words s1 2 1 st1.words (omega arith))
+        (λ q low high. put_other s1.regs 2 1 q (omega (arith, low))) st1 in
+        goes_on code next (out ++ v ∷ []) s1 s2 one.runs st2 c.leads_on (λ target there.
+        departs k c.form (E.Out (m.place next)) s1 out (At (m.place next) target.insts s2 (out ++ v ∷ [])) c.there c.exit (λ n.
+        ap (λ w. outcome_at_block (m.place next) (slice_get blocks (m.place next)) (items blocks links n) s2 (out ++ w ∷ [])) one.here
+        ∙ ap (λ o. outcome_at_block (m.place next) o (items blocks links n) s2 (out ++ v ∷ [])) there))
+
+    gives : (x : ℕ) → Leaving (Return (Some x)) → (v : ℕ) → Reads x v → (b : Bool) → returned m.last.comparison x ≡ b
+        → Reach 1 (At k (return_code b (operand x) ++ epilogue m.leaf a.frame) s out) (state_after_return (Some v) a (callee_saved r) ws g out)
+    gives x c v e true is =
+        goes_back (Some x) c [] (Some v) s (runs_none s) (settles s m.stands) (λ w some. there_already m.last.comparison refl is ∙ same_Some v w some)
+      where
+        there_already : (p : Option Comparison) → m.last.comparison ≡ p → returned p x ≡ true → s.regs 2 ≡ v
+        there_already None is t = absurd (true≢false (sym t))
+        there_already (Some n) is t =
+            m.is_last.result n v is (and_parts (is_result n.form) (nat_eq n.result x) t).0
+            (ap (read_home a.frame.homes.items r a.slots) (eqb-true n.result x (and_parts (is_result n.form) (nat_eq n.result x) t).1) ∙ e)
+    gives x c v e false is =
+        let one = carries ok.most total gs starts (hide m.facts.deferred r) g stored fs s m.stands 2 v (operand x)
+        (record { low = omega arith; high = omega arith }) (means x v e) in
+        let st1 = sets_kept ok.most total gs starts (hide m.facts.deferred r) g stored fs s m.stands (carry 2 (operand x)) 2 v (omega arith) one in
+        let s1 : State = record s { regs = one.regs } in
+        goes_back (Some x) c (carry 2 (operand x)) (Some v) s1 one.runs (settles s1 st1) (λ w some. one.here ∙ same_Some v w some)
+
+    exits : (x : RExit) → Leaving x → Reach 1 (At k (exit_code m.leaf a.frame m.facts m.last x) s out) (state_after_exit h depth x a (around r ws g out))
+    exits (Goto b) c = goes_on [] b out s s (runs_none s) (settles s m.stands) c.leads_on
+        (λ target there. jump k c.form (m.place b) target s out c.there c.exit there)
+    exits (Branch x y z) c =
+        value_or_failed (λ run. Reach 1 (At k (exit_code m.leaf a.frame m.facts m.last (Branch x y z)) s out) run)
+        (read_home a.frame.homes.items r a.slots x) out _ tt
+        (λ v e. branches x y z c v e (tested m.last.comparison x) refl (known_in m.facts x) refl c.exit)
+    exits (Out x next) c =
+        value_or_failed (λ run. Reach 1 (At k (carry 4 (operand x)) s out) run) (read_home a.frame.homes.items r a.slots x) out _ tt (outputs x next c)
+    exits (Return None) c = goes_back None c [] None s (runs_none s) (settles s m.stands) (λ v none. absurd (none-some v none))
+    exits (Return (Some x)) c =
+        value_or_failed (λ run. Reach 1 (At k (exit_code m.leaf a.frame m.facts m.last (Return (Some x))) s out) run)
+        (read_home a.frame.homes.items r a.slots x) out _ tt (λ v e. gives x c v e (returned m.last.comparison x) refl)
+    exits (Call f xs result_to next) c =
+        value_or_failed (λ run. Reach 1 start run) (read_homes a.frame.homes.items r a.slots xs.items) out _ tt (λ vs read_vs.
+        value_or_failed (λ run. Reach 1 start run) (slice_get a.blocks next) out _ tt (λ block next_there.
+        value_or_failed (λ run. Reach 1 start run) (slice_get (h.rtl.now).functions f) out _ tt (λ func func_there.
+        value_or_failed (λ run. Reach 1 start run) (slice_get h.frames.items f) out _ tt (λ callee frame_there.
+        deep_enough (nat_lt (length (waiting block ∷ ws)) depth) (length vs == func.parameters) _ (λ deep as_many.
+        let is = ok.functions f func callee func_there frame_there in
+        let few = is.parameters in
+        let asked = read_length a.frame.homes.items r a.slots xs.items vs read_vs in
+        let count : length vs ≡ func.parameters = eqb-true (length vs) func.parameters as_many in
+        let st = subst (λ leaf. Stand (hide m.facts.deferred r) g (stored_frame leaf a.frame a.slots a.aside m.link ∷ fs) s) no_leaf m.stands in
+        let denote = all_denote ok.most total gs starts r g kept fs s m.facts xs.items vs (frame_homes ok.most a.frame m.frame) m.is_known m.are_deferred
+        st read_vs in
+        let args = arguments ok.most total gs starts (callee_saved r) g kept fs s m.facts 4 xs.items vs (above_arguments r)
+        (omega arith) (omega (arith, asked, count, few)) ((c.leads_on).0).1 denote (settled m.facts.deferred r g (kept ∷ fs) s m.are_deferred st) in
+        let s1 : State = record s { regs = args.regs } in
+        let s2 = set s1 31 (links k) in
+        let st2 = call_kept ok.most total gs starts (callee_saved r) g (kept ∷ fs) s1 s2.regs
+        (set_words s1 31 (links k) (args.stands).words (tells.words k)) (λ leaf. absurd (true≢false (sym leaf)))
+        (λ q low high. put_other s1.regs 31 (links k) q (omega (arith, high))) args.stands in
+        let placed = subst (λ leaf. Placed leaf a.frame m.place m.head a.blocks) no_leaf m.placed in
+        let resumes : Resumes (links k) result_to (waiting block) = record {
+          place = m.place;
+          head = m.head;
+          placed = placed;
+          frame = m.frame;
+          number = c.next;
+          found = return_found links blocks k (ok.entry f) c.next c.form tells c.there c.exit;
+          next = next;
+          after = (c.leads_on).1;
+          block = block;
+          code = refl;
+          at = placed.by next block next_there;
+        } in
+        let code = exit_code m.leaf a.frame m.facts m.last (Call f xs result_to next) in
+        reach_after 1 1 (length code) start (At k [] s1 out) _ (omega arith) (code_leads k code s s1 out args.runs)
+        (entered (At k [] s1 out) f func callee is (callee_saved r) g (waiting block ∷ ws) (links k) result_to (m.link ∷ m.below) vs s2 out
+        (λ form there. departs k c.form (E.Call (ok.entry f) c.next) s1 out (At (ok.entry f) form.insts s2 out) c.there c.exit
+        (λ n. ap (λ o. outcome_at_block (ok.entry f) o (items blocks links n) s2 out) there))
+        st2 (λ q passes. ap (λ b. if b then r q else None) passes) (put_here s1.regs 31 (links k) (record { low = omega arith; high = omega arith }))
+        (λ j v there. (let low = slice_get_within vs j v there in put_other s1.regs 31 (links k) (4 + j) (omega (arith, low, count, few)))
+        ∙ args.here j v there)
+        count (room_for (suc (length ws)) (ltb-true (length (waiting block ∷ ws)) depth deep)) (resumes, m.waits)))))))
+      where
+        start : Point
+        start = At k (exit_code m.leaf a.frame m.facts m.last (Call f xs result_to next)) s out
+
+        no_leaf : m.leaf ≡ false
+        no_leaf = ((c.leads_on).0).0
+
+        kept : Stored
+        kept = stored_frame false a.frame a.slots a.aside m.link
+
+        waiting : RBlock → Activation
+        waiting block = at_code a a.slots (code_of block)
+
+        deep_enough : (b c : Bool) (run : Run) → (b ≡ true → c ≡ true → Reach 1 start run) → Reach 1 start (if b && c then run else Failed out)
+        deep_enough true true run f = f refl refl
+        deep_enough true false run f = tt
+        deep_enough false c run f = tt
+
+    -- the code where some instructions are left, and the match there
+    abbrev left : List RInst → Code
+    left is = record { insts = is; exit = a.code.exit }
+
+    abbrev behind : List RInst → Facts → Last → List Plain
+    behind is facts last = code_insts linking placing facts last (left is)
+
+    matched : (is : List RInst) (facts : Facts) (last : Last) (r' slots' : Places) (g' : Arrays) (s' : State)
+        → CodeBefore placing m.head facts last k (left is)
+        → IsKnown (known_in facts) a.frame.homes.items r' slots' → AreDeferred facts.deferred r' → AreBases gs starts facts s'.regs
+        → IsLast last a.frame.homes.items r' slots' s' → Stand (hide facts.deferred r') g' (stored_frame m.leaf a.frame slots' a.aside m.link ∷ fs) s'
+        → Match r' (at_code a slots' (left is)) ws g' out (At k (behind is facts last) s' out)
+    matched is facts last r' slots' g' s' code known deferred bases fresh stands = record {
+      state = s';
+      number = k;
+      lives = m.lives;
+      facts = facts;
+      last = last;
+      point = refl;
+      code = code;
+      is_known = known;
+      are_deferred = deferred;
+      are_bases = bases;
+      is_last = fresh;
+      stands = stands;
+    }
+
+    -- the next instruction, with the comparison that is one with the branch if it is such
+    next : (i : RInst) (is : List RInst) (o : Option Comparison)
+        → comparison_of (locations a.frame) m.facts (asked_last (asked_of a.code.exit) is) i ≡ o
+        → CodeBefore placing m.head (learned (locations a.frame) i m.facts) (last_with o (fresh_of (locations a.frame) i)) k (left is)
+        → Reach 1 (At k (next_code (context_in linking placing) m.facts o i
+        ++ behind is (learned (locations a.frame) i m.facts) (last_with o (fresh_of (locations a.frame) i))) s out)
+        (step_at h depth (i ∷ is) a.code.exit a (around r ws g out))
+    next i is None e0 c =
+        let code = inst_code gs starts (locations a.frame) m.facts i in
+        let now = learned (locations a.frame) i m.facts in
+        let last = last_with None (fresh_of (locations a.frame) i) in
+        performs ok.most total gs starts g fs (λ run. Reach 1 (At k (code ++ behind is now last) s out) run) out tt i m.facts r stored s
+        (λ r' s' g'. Running r' (at_code a s' (left is) ∷ ws) g' out) (frame_homes ok.most a.frame m.frame) m.is_known m.are_deferred m.are_bases m.stands
+        (λ r' slots' g' s' some e st lz kp kn new. record {
+          to = At k (behind is now last) s' out;
+          count = length code;
+          enough = some;
+          leads = leads_run blocks links k code (behind is now last) s s' out e;
+          match = matched is now last r' slots' g' s' c kn lz kp new st;
+        })
+    next i (j ∷ js) (Some n) is c = absurd (none_asked (locations a.frame) m.facts i n is)
+    next i [] (Some n) is c =
+        let code = comparison_code n in
+        let now = learned (locations a.frame) i m.facts in
+        let rest = exit_code m.leaf a.frame now (last_with (Some n) None) a.code.exit in
+        compares ok.most total gs starts g fs (λ run. Reach 1 (At k (code ++ rest) s out) run) out tt i m.facts (asked_of a.code.exit) n r stored s
+        (λ r' s' g'. Running r' (at_code a s' (left []) ∷ ws) g' out) is (frame_homes ok.most a.frame m.frame) m.is_known m.are_deferred m.stands
+        (λ q u s' some e st lz new. record {
+          to = At k (exit_code m.leaf a.frame (waiting m.facts q u) (last_with (Some n) None) a.code.exit) s' out;
+          count = length code;
+          enough = some;
+          leads = subst (λ l. Lead (length code) (At k (code ++ rest) s out) (At k l s' out))
+              (same_code m.leaf a.frame m.facts now (waiting m.facts q u) i n a.code.exit is) (leads_run blocks links k code rest s s' out e);
+          match = matched [] (waiting m.facts q u) (last_with (Some n) None) (places_with r q (Some u)) a.slots g s'
+              (record {
+                form = c.form;
+                next = c.next;
+                there = c.there;
+                exit = c.exit ∙ same_exit linking placing m.facts now (waiting m.facts q u) i n c.next a.code.exit is;
+                leads_on = c.leads_on;
+              })
+              (nothing_known a.frame.homes.items (places_with r q (Some u)) a.slots) lz (no_bases gs starts s'.regs) new st;
+        })
+
+    step : (is : List RInst) → CodeBefore placing m.head m.facts m.last k (left is)
+        → Reach 1 (At k (behind is m.facts m.last) s out) (step_at h depth is a.code.exit a (around r ws g out))
+    step [] c = exits a.code.exit c
+    step (i ∷ is) c = next i is (comparison_of (locations a.frame) m.facts (asked_last (asked_of a.code.exit) is) i) refl c
 
   -- a step
   advances : (run : Run) (p : Point) → MatchRun run p → Reach 1 p (homed_step h depth run)
@@ -658,105 +737,7 @@ module _ (h : Homed) (depth : ℕ) (blocks : List BlockParts) (ok : IsSelected h
   }
   advances (Running r [] g out) p m = absurd m
   advances (Running r (a ∷ ws) g out) p m =
-      subst (λ p. Reach 1 p (step_at h depth a.code.insts a.code.exit a (around r ws g out))) (sym m.point) (step a.code.insts m.code)
-    where
-      asked : Asked
-      asked = asked_of a.code.exit
-
-      at : List RInst → Facts → Last → State → Point
-      at is facts last s = At m.number (insts_code (context_in linking (placing_of m.leaf a.frame m.place)) asked facts is
-          (exit_code m.leaf a.frame (known_after (locations a.frame) is facts) (last_after (locations a.frame) asked facts is last) a.code.exit)) s out
-
-      Coded : List RInst → Facts → Last → Type 0
-      Coded is facts last = CodeAt m.leaf a.frame m.place m.head (known_after (locations a.frame) is facts)
-          (last_after (locations a.frame) asked facts is last) m.number a.code.exit
-
-      -- the match where some instructions are left
-      matched : (is : List RInst) (facts : Facts) (last : Last) (r' slots' : Places) (g' : Arrays) (s' : State) → Coded is facts last
-          → IsKnown (known_in facts) a.frame.homes.items r' slots' → AreDeferred facts.deferred r' → AreBases gs starts facts s'.regs → IsLast last a.frame.homes.items r' slots' s'
-          → Stand (hide facts.deferred r') g' (stored_frame m.leaf a.frame slots' a.aside m.link ∷ frames_of ws m.below) s'
-          → Match r' (at_code a slots' (record { insts = is; exit = a.code.exit })) ws g' out (at is facts last s')
-      matched is facts last r' slots' g' s' code known deferred bases fresh stands = record {
-        state = s';
-        spot = m.spot;
-        facts = facts;
-        last = last;
-        point = refl;
-        code = code;
-        is_known = known;
-        are_deferred = deferred;
-        are_bases = bases;
-        is_last = fresh;
-        placed = m.placed;
-        frame = m.frame;
-        stands = stands;
-        waits = m.waits;
-      }
-
-      -- the next instruction, with the comparison that is one with the branch if it is such
-      next : (i : RInst) (is : List RInst) (o : Option Comparison) → comparison_of (locations a.frame) m.facts (asked_last asked is) i ≡ o
-          → Coded is (learned (locations a.frame) i m.facts) (last_with o (fresh_of (locations a.frame) i))
-          → Reach 1 (At m.number (next_code (context_in linking (placing_of m.leaf a.frame m.place)) m.facts o i
-          ++ insts_code (context_in linking (placing_of m.leaf a.frame m.place)) asked (learned (locations a.frame) i m.facts) is
-          (exit_code m.leaf a.frame (known_after (locations a.frame) is (learned (locations a.frame) i m.facts))
-          (last_after (locations a.frame) asked (learned (locations a.frame) i m.facts) is (last_with o (fresh_of (locations a.frame) i))) a.code.exit)) m.state out)
-          (step_at h depth (i ∷ is) a.code.exit a (around r ws g out))
-      next i is None e0 c =
-          performs ok.most total gs starts g (frames_of ws m.below)
-          (λ run. Reach 1 (At m.number (inst_code gs starts (locations a.frame) m.facts i
-          ++ insts_code (context_in linking (placing_of m.leaf a.frame m.place)) asked (learned (locations a.frame) i m.facts) is
-          (exit_code m.leaf a.frame (known_after (locations a.frame) is (learned (locations a.frame) i m.facts))
-          (last_after (locations a.frame) asked (learned (locations a.frame) i m.facts) is (last_with None (fresh_of (locations a.frame) i))) a.code.exit)) m.state out)
-          run) out tt i
-          m.facts r (stored_frame m.leaf a.frame a.slots a.aside m.link) m.state
-          (λ r' s' g'. Running r' (at_code a s' (record { insts = is; exit = a.code.exit }) ∷ ws) g' out) (frame_homes ok.most a.frame m.frame) m.is_known m.are_deferred
-          m.are_bases m.stands
-          (λ r' slots' g' s' some e st lz kp kn new. record {
-            to = at is (learned (locations a.frame) i m.facts) (last_with None (fresh_of (locations a.frame) i)) s';
-            count = length (inst_code gs starts (locations a.frame) m.facts i);
-            enough = some;
-            leads = leads_run blocks links m.number (inst_code gs starts (locations a.frame) m.facts i)
-                (insts_code (context_in linking (placing_of m.leaf a.frame m.place)) asked (learned (locations a.frame) i m.facts) is
-                (exit_code m.leaf a.frame (known_after (locations a.frame) is (learned (locations a.frame) i m.facts))
-                (last_after (locations a.frame) asked (learned (locations a.frame) i m.facts) is (last_with None (fresh_of (locations a.frame) i)))
-                a.code.exit)) m.state s' out e;
-            match = matched is (learned (locations a.frame) i m.facts) (last_with None (fresh_of (locations a.frame) i)) r' slots' g' s' c kn lz kp new st;
-          })
-      next i (j ∷ js) (Some n) is c = absurd (none_asked (locations a.frame) m.facts i n is)
-      next i [] (Some n) is c =
-          compares ok.most total gs starts g (frames_of ws m.below)
-          (λ run. Reach 1 (At m.number (comparison_code n
-          ++ exit_code m.leaf a.frame (learned (locations a.frame) i m.facts) (last_with (Some n) None) a.code.exit) m.state out) run) out tt i
-          m.facts (asked_of a.code.exit) n r (stored_frame m.leaf a.frame a.slots a.aside m.link) m.state
-          (λ r' s' g'. Running r' (at_code a s' (record { insts = []; exit = a.code.exit }) ∷ ws) g' out) is (frame_homes ok.most a.frame m.frame) m.is_known
-          m.are_deferred m.stands
-          (λ q u s' some e st lz new.
-          let behind = exit_code m.leaf a.frame (learned (locations a.frame) i m.facts) (last_with (Some n) None) a.code.exit in
-          let start = At m.number (comparison_code n
-          ++ exit_code m.leaf a.frame (learned (locations a.frame) i m.facts) (last_with (Some n) None) a.code.exit) m.state out in
-          record {
-            to = At m.number (exit_code m.leaf a.frame (waiting m.facts q u) (last_with (Some n) None) a.code.exit) s' out;
-            count = length (comparison_code n);
-            enough = some;
-            leads = subst (λ l. Lead (length (comparison_code n)) start (At m.number l s' out))
-                (same_code m.leaf a.frame m.facts (learned (locations a.frame) i m.facts) (waiting m.facts q u) i n a.code.exit is)
-                (leads_run blocks links m.number (comparison_code n) behind m.state s' out e);
-            match = matched [] (waiting m.facts q u) (last_with (Some n) None) (places_with r q (Some u)) a.slots g s'
-                (record {
-                  form = c.form;
-                  next = c.next;
-                  there = c.there;
-                  exit = c.exit
-                      ∙ same_exit linking (placing_of m.leaf a.frame m.place) m.facts (learned (locations a.frame) i m.facts) (waiting m.facts q u) i n c.next a.code.exit is;
-                  leads_on = c.leads_on;
-                })
-                (nothing_known a.frame.homes.items (places_with r q (Some u)) a.slots) lz (no_bases gs starts s'.regs) new st;
-          })
-
-      step : (is : List RInst) → Coded is m.facts m.last → Reach 1 (at is m.facts m.last m.state) (step_at h depth is a.code.exit a (around r ws g out))
-      step [] c = exits m.leaf a.code.exit m.facts m.last a m.number m.link m.below m.place m.head ws r g out m.state c m.is_known m.are_deferred m.is_last m.placed m.frame
-          m.waits m.stands
-      step (i ∷ is) c = next i is (comparison_of (locations a.frame) m.facts (asked_last asked is) i) refl c
+      subst (λ p. Reach 1 p (step_at h depth a.code.insts a.code.exit a (around r ws g out))) (sym m.point) (step r a ws g out p m a.code.insts m.code)
 
   failed_steps : (n : ℕ) (out : List ℕ) → homed_steps h depth n (Failed out) ≡ Failed out
   failed_steps zero out = refl
