@@ -122,71 +122,64 @@ module _ (globals : List RGlobal) (ok : HaveValues globals) (few : length (padde
   }
 
 module _ (h : Homed) (depth : ℕ) (blocks : List BlockParts) (ok : IsSelected h depth blocks) (links : ℕ → ℕ) (tells : TellsApart links blocks) where
-  starts_reach : Reach h depth blocks ok links tells 1 (At 0 (constant 28 data_middle) (start_state (padded_bytes (h.rtl.now).globals)) []) (homed_start h)
+  abbrev globals : List RGlobal
+  globals = (h.rtl.now).globals
+
+  abbrev main : ℕ
+  main = (h.rtl.now).main
+
+  abbrev s : State
+  s = start_state (padded_bytes globals)
+
+  abbrev start : Point
+  start = At 0 (constant 28 data_middle) s []
+
+  abbrev Comes : ℕ → Point → Run → Type 0
+  Comes n p run = Reach h depth blocks ok links tells n p run
+
+  starts_reach : Comes 1 start (homed_start h)
   starts_reach =
-      value_or_failed P (slice_get (h.rtl.now).functions (h.rtl.now).main) [] _ tt (λ func func_there.
-      value_or_failed P (slice_get h.frames.items (h.rtl.now).main) [] _ tt (λ frame frame_there.
-      let is = ok.functions (h.rtl.now).main func frame func_there frame_there in
-      let main = (ok.program).main in
-      let none : func.parameters ≡ 0 = ap (λ (f : RFunc). f.parameters) (same_Some func main.callee (sym func_there ∙ main.there)) ∙ main.takes in
-      let s : State = start_state (padded_bytes (h.rtl.now).globals) in
-      let arrays = map first_values (h.rtl.now).globals in
+      value_or_failed (λ run. Comes 1 start run) (slice_get (h.rtl.now).functions main) [] _ tt (λ func func_there.
+      value_or_failed (λ run. Comes 1 start run) (slice_get h.frames.items main) [] _ tt (λ frame frame_there.
+      let is = ok.functions main func frame func_there frame_there in
+      let callee = (ok.program).main in
+      let none : func.parameters ≡ 0 = ap (λ (f : RFunc). f.parameters) (same_Some func callee.callee (sym func_there ∙ callee.there)) ∙ callee.takes in
+      let arrays = map first_values globals in
       let c = constant_set s 28 data_middle (record { low = omega arith; high = omega arith }) in
       let s0 : State = record s { regs = c.regs } in
-      let values = have_values (h.rtl.now).globals (ok.program).globals in
-      let few = data_fits (h.rtl.now).globals values (ok.program).words_fit in
-      let st0 = start_holds (h.rtl.now).globals values few ok.most c.regs (run_words (map action_of (constant 28 data_middle)) s s0
-      (start_words (padded_bytes (h.rtl.now).globals) (data_below (h.rtl.now).globals)) (c.runs).ends) (c.others 29 (λ e. absurd (omega (arith, e))))
-      c.here in
+      let values = have_values globals (ok.program).globals in
+      let few = data_fits globals values (ok.program).words_fit in
+      let st0 = start_holds globals values few ok.most c.regs (run_words (map action_of (constant 28 data_middle)) s s0
+      (start_words (padded_bytes globals) (data_below globals)) (c.runs).ends) (c.others 29 (λ e. absurd (omega (arith, e)))) c.here in
       let s1 = set s0 31 (links 0) in
-      let st1 = call_kept ok.most (total h depth blocks ok links tells) (h.rtl.now).globals (start_of (h.rtl.now).globals) unset_places arrays [] s0 s1.regs
+      let st1 = call_kept ok.most (total h depth blocks ok links tells) globals (start_of globals) unset_places arrays [] s0 s1.regs
       (set_words s0 31 (links 0) st0.words (tells.words 0)) tt (λ q low high. put_other s0.regs 31 (links 0) q (omega (arith, high))) st0 in
-      let found = return_found links blocks 0 (ok.entry (h.rtl.now).main) 1 (start_block (ok.entry (h.rtl.now).main)) tells ok.start refl in
-      let first = code_leads h depth blocks ok links tells 0 (constant 28 data_middle) s s0 [] c.runs in
-      reach_after h depth blocks ok links tells 1 1 2 (At 0 (constant 28 data_middle) s []) (At 0 [] s0 []) _ (omega arith) first
-      (subst (λ registers. Reach h depth blocks ok links tells 1 (At 0 [] s0 [])
+      let first = start_block (ok.entry main) in
+      reach_after h depth blocks ok links tells 1 1 2 start (At 0 [] s0 []) _ (omega arith)
+      (code_leads h depth blocks ok links tells 0 (constant 28 data_middle) s s0 [] c.runs)
+      (subst (λ registers. Comes 1 (At 0 [] s0 [])
       (state_at_block 0 (new_activation func.blocks.items frame unset_places unset_places None) unset_places (around registers [] arrays [])))
       (entry_unset frame.saved.items)
-      (entered h depth blocks ok links tells (At 0 [] s0 []) (h.rtl.now).main func frame is unset_places arrays [] (links 0) None [] [] s1 []
-      (λ form there. departs h depth blocks ok links tells 0 (start_block (ok.entry (h.rtl.now).main)) (E.Call (ok.entry (h.rtl.now).main) 1) s0 []
-      (At (ok.entry (h.rtl.now).main) form.insts s1 []) ok.start refl (λ n. ap
-      (λ o. outcome_at_block (ok.entry (h.rtl.now).main) o (items blocks links n) s1 []) there)) st1 (λ q passes. refl)
+      (entered h depth blocks ok links tells (At 0 [] s0 []) main func frame is unset_places arrays [] (links 0) None [] [] s1 []
+      (λ form there. departs h depth blocks ok links tells 0 first (E.Call (ok.entry main) 1) s0 [] (At (ok.entry main) form.insts s1 []) ok.start refl
+      (λ n. ap (λ o. outcome_at_block (ok.entry main) o (items blocks links n) s1 []) there)) st1 (λ q passes. refl)
       (put_here s0.regs 31 (links 0) (record { low = omega arith; high = omega arith })) (λ j v at. absurd (none-some v at)) (sym none)
-      (omega (arith, ok.small)) found))))
-    where
-      P : Run → Type 0
-      P run = Reach h depth blocks ok links tells 1 (At 0 (constant 28 data_middle) (start_state (padded_bytes (h.rtl.now).globals)) []) run
+      (omega (arith, ok.small)) (return_found links blocks 0 (ok.entry main) 1 first tells ok.start refl)))))
 
-  same_end : (n : ℕ) (run : Run) → Reach h depth blocks ok links tells n (At 0 (constant 28 data_middle) (start_state (padded_bytes (h.rtl.now).globals)) [])
-      run → (outcome run).end ≢ Wrong → (i : ℕ) × (n ≤ i) × (unit_run blocks links (start_state (padded_bytes (h.rtl.now).globals)) i ≡ outcome run)
-  same_end n run r ne = go run r ne
-    where
-      s : State
-      s = start_state (padded_bytes (h.rtl.now).globals)
+  led : (count : ℕ) (to : Point) (u : Outcome) → Lead h depth blocks ok links tells count start to → from blocks links 0 to ≡ u
+      → unit_run blocks links s count ≡ u
+  led count to u lead e =
+      let none : count ≡ count + 0 = omega arith in
+      ap (λ o. outcome_at_block 0 o (items blocks links count) s []) ok.start ∙ ap (λ n. from blocks links n start) none ∙ lead 0 ∙ e
 
-      entry : (i : ℕ) → unit_run blocks links s i ≡ from blocks links i (At 0 (constant 28 data_middle) s [])
-      entry i = ap (λ o. outcome_at_block 0 o (items blocks links i) s []) ok.start
-
-      at : (count : ℕ) (to : Point) (u : Outcome) → Lead h depth blocks ok links tells count (At 0 (constant 28 data_middle) s []) to
-          → from blocks links 0 to ≡ u → unit_run blocks links s count ≡ u
-      at count to u lead e =
-          let none : count ≡ count + 0 = omega arith in
-          entry count ∙ ap (λ n. from blocks links n (At 0 (constant 28 data_middle) s [])) none ∙ lead 0 ∙ e
-
-      go : (run : Run) → Reach h depth blocks ok links tells n (At 0 (constant 28 data_middle) s []) run → (outcome run).end ≢ Wrong
-          → (i : ℕ) × (n ≤ i) × (unit_run blocks links s i ≡ outcome run)
-      go (Running r [] g out) x ne = absurd x.match
-      go (Running r (a ∷ ws) g out) x ne = (
-        x.count,
-        x.enough,
-        at x.count x.to (outcome (Running r (a ∷ ws) g out)) x.leads
-            (ap (from blocks links 0) (x.match).point),
-      )
-      go (Ended v out) x ne = (x.count, x.enough, at x.count x.to (outcome (Ended v out)) x.leads (ap (from blocks links 0) x.match))
-      go (Failed out) x ne = absurd (ne refl)
+  same_end : (n : ℕ) (run : Run) → Comes n start run → (outcome run).end ≢ Wrong → (i : ℕ) × (n ≤ i) × (unit_run blocks links s i ≡ outcome run)
+  same_end n (Running r [] g out) x ne = absurd x.match
+  same_end n (Running r (a ∷ ws) g out) x ne =
+      (x.count, x.enough, led x.count x.to (outcome (Running r (a ∷ ws) g out)) x.leads (ap (from blocks links 0) (x.match).point))
+  same_end n (Ended v out) x ne = (x.count, x.enough, led x.count x.to (outcome (Ended v out)) x.leads (ap (from blocks links 0) x.match))
+  same_end n (Failed out) x ne = absurd (ne refl)
 
 pub keep_homed_runs : (h : Homed) (depth : ℕ) (blocks : List BlockParts) → IsSelected h depth blocks → KeepHomedRuns h depth blocks
 keep_homed_runs h depth blocks ok n ne links tells =
     same_end h depth blocks ok links tells n (homed_steps h depth n (homed_start h))
-    (then_runs h depth blocks ok links tells n (At 0 (constant 28 data_middle) (start_state (padded_bytes (h.rtl.now).globals)) []) (homed_start h)
-    (starts_reach h depth blocks ok links tells)) ne
+    (then_runs h depth blocks ok links tells n (start h depth blocks ok links tells) (homed_start h) (starts_reach h depth blocks ok links tells)) ne
