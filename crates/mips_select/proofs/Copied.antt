@@ -1,6 +1,6 @@
 -- The copies of a function's slots are in registers of their own.
 use Rattle.std.proofs.Common.{◌≡◌, ℕ, zero, suc, ◌<◌, ◌≤◌, Bool, true, false, List, [], ◌∷◌, Some}
-use Rattle.std.proofs.Common.{refl, sym, ap, ◌∙◌, arith, eq-eqb, true≢false}
+use Rattle.std.proofs.Common.{refl, sym, ap, ◌∙◌, arith, true≢false}
 use Rattle.std.specs.Prelude.{if◌then◌else◌, slice_get}
 use Rattle.std.proofs.lemmas.Option.{same_Some, none-some}
 use Rattle.std.proofs.lemmas.Bool.{cond_both}
@@ -9,7 +9,7 @@ use Rattle.mips_homes.specs.declared.homed.Home.{Home}
 use Rattle.mips_homes.specs.declared.homed.Home.TheVariants.{Reg, Slot, Copied}
 use Rattle.mips_homes.specs.Homes.{cell}
 use Rattle.mips_homes.specs.Convention.{temporaries}
-use Rattle.mips_homes.specs.Copies.{is_register, lives_in, is_leaf, unused, copied_onto, copied}
+use Rattle.mips_homes.specs.Copies.{lives_in, is_leaf, unused, copied_onto, copied}
 use Rattle.mips_homes.proofs.Copying.{onto_get}
 use Rattle.mips_homes.proofs.Located.{IsTemporary, unused_temporary, lives}
 use Rattle.mips_emit.specs.Frames.{AreCopies, HaveNoCopies}

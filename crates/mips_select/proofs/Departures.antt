@@ -1,6 +1,6 @@
 -- How blocks are left, apart from what the unit does then: branches and comparisons, and what is known there.
 use Rattle.std.proofs.Common.{◌≡◌, ℕ, suc, ◌≤◌, Bool, true, false, ◌&&◌, List, [], ◌∷◌, ◌++◌, length, Option, Some, None, refl, sym, ap, ◌∙◌, arith, nat_lt}
-use Rattle.std.proofs.Common.{true≢false, ltb-true}
+use Rattle.std.proofs.Common.{ltb-true}
 use Rattle.std.specs.Prelude.{if◌then◌else◌, not, slice_get}
 use Rattle.std.proofs.lemmas.Option.{same_Some, none-some}
 use Rattle.runs.specs.Stores.{Places, chain}

@@ -24,7 +24,7 @@ use Rattle.mips_emit.specs.Comparisons.{exit_by_form, last_after, no_last, teste
 use Rattle.mips_select.specs.Functions.{blocks_of, owners_of, IsFrom, GoesWithin, IsFunctionAt, AreFunctions}
 use Rattle.mips_select.proofs.Owned.{functions_owned}
 use Rattle.mips_select.specs.declared.heads.Head.{Head}
-use Rattle.mips_select.specs.declared.heads.Head.TheVariants.{Bare, Enters, Takes}
+use Rattle.mips_select.specs.declared.heads.Head.TheVariants.{Bare, Enters}
 use Rattle.mips_select.specs.Heads.{heads_of, resumes, count, lead_of, lead_in}
 use Rattle.mips_select.specs.Plans.{Linking, Planning}
 use Rattle.mips_select.specs.Code.{asked_of, exit_of, own_block, head_code, after_block, prologue_block, start_block, end_block}

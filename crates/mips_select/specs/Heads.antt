@@ -1,5 +1,5 @@
 -- What blocks begin with, from how the exits of their function name them.
-use Rattle.std.specs.Prelude.{◌≡◌, ℕ, Bool, true, false, List, [], ◌∷◌, map, Option, Some, None, nat_eq, if◌then◌else◌, slice_get}
+use Rattle.std.specs.Prelude.{◌≡◌, ℕ, Bool, false, List, [], ◌∷◌, map, Option, Some, nat_eq, if◌then◌else◌, slice_get}
 use Rattle.std.specs.Prelude.{slice_set, not}
 use Rattle.std.specs.Option.{is_some}
 use Rattle.std.specs.declared.alloc.Global.{Global}

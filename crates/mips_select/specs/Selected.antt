@@ -1,5 +1,5 @@
 -- Which blocks stand for a program over homes, whatever their numbers.
-use Rattle.std.specs.Prelude.{◌≡◌, ◌≢◌, ◌⊎◌, ℕ, zero, suc, ◌*◌, ◌≤◌, Bool, false, List, [], ◌∷◌, Option, None, Some, slice_get}
+use Rattle.std.specs.Prelude.{◌≡◌, ◌≢◌, ◌⊎◌, ℕ, zero, suc, ◌*◌, ◌≤◌, Bool, false, List, [], ◌∷◌, Option, Some, slice_get}
 use Rattle.runs.specs.declared.ran.End.TheVariants.{Wrong}
 use Rattle.mips_isa.specs.declared.inst.Plain.{Plain}
 use Rattle.mips_isa.specs.Starting.{start_state}
@@ -17,7 +17,7 @@ use Rattle.mips_homes.specs.declared.convention.TheConstants.{FIRST_ARGUMENT, FI
 use Rattle.mips_homes.specs.HomedRun.{homed_run}
 use Rattle.mips_emit.specs.declared.limits.TheConstants.{FRAME_BYTES}
 use Rattle.mips_homes.specs.declared.homed.Home.{Home}
-use Rattle.mips_homes.specs.declared.homed.Home.TheVariants.{Reg, Slot, Copied}
+use Rattle.mips_homes.specs.declared.homed.Home.TheVariants.{Reg, Copied}
 use Rattle.mips_emit.specs.Locations.{Locations, locations}
 use Rattle.mips_emit.specs.Frames.{HaveNoCopies, IsFrame}
 use Rattle.mips_select.specs.declared.limits.TheConstants.{STACK_BYTES}

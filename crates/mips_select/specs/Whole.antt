@@ -13,7 +13,7 @@ use Rattle.mips_homes.specs.declared.homed.Frame.{Frame}
 use Rattle.mips_homes.specs.declared.homed.Homed.{Homed}
 use Rattle.mips_select.specs.Split.{first_piece_of, split_blocks, split_owners}
 use Rattle.mips_select.specs.declared.heads.Head.{Head}
-use Rattle.mips_select.specs.declared.heads.Head.TheVariants.{Bare, Enters, Takes}
+use Rattle.mips_select.specs.declared.heads.Head.TheVariants.{Enters}
 use Rattle.mips_select.specs.Heads.{heads_of, is_leaf, resumes, count, lead_in}
 use Rattle.mips_select.specs.Data.{data_bytes, start_of}
 use Rattle.mips_select.specs.Plans.{Linking, Planning, placing_of}
