@@ -1,7 +1,8 @@
 -- Two phases over one unit that decided each block come to the same.
-use Rattle.std.proofs.Common.{◌≡◌, ◌<◌, ℕ, zero, suc, List, [], ◌∷◌, length, Some, slice_get, refl, sym, ap, ap₂, ◌∙◌, subst, arith}
+use Rattle.std.proofs.Common.{◌≡◌, ◌<◌, ℕ, zero, suc, List, [], ◌∷◌, length, Some, slice_get, refl, sym, ap, ◌∙◌, subst, arith}
+use Rattle.std.proofs.lemmas.List.{same_lists}
 use Rattle.std.proofs.lemmas.List.Sums.{sum_by-cons}
-use Rattle.std.proofs.lemmas.Option.{same_Some, none-some, slice_get_within}
+use Rattle.std.proofs.lemmas.Option.{same_Some, none-some, slice_get_within, slice_get-get_or}
 use Rattle.std.specs.List.{sum_by}
 use Rattle.mblock.specs.Parts.{BlockParts, OrderParts}
 use Rattle.image.specs.Images.{CountsOf}
@@ -9,6 +10,7 @@ use Rattle.block_validator.specs.Verdicts.{Decision, Decides}
 use Rattle.block_validator.specs.Verdicts as decisions
 use Rattle.block_validator.proofs.Deciding.{one_decision}
 use Rattle.sched_phase.specs.Phases.{Proposals, Kind, same, unclean, differs, full, no_memory, missed, Counts, Suits, MayCome, AreSettled, count_of}
+use Rattle.sched_phase.proofs.Settled.{there}
 use Rattle.sched_phase.specs.Outcomes.{ProposesOne, EachDecided, OneOutcome}
 
 abbrev kind_decided : Decision → Kind
@@ -47,17 +49,10 @@ zero_each f [] h i k at = absurd (none-some k at)
 zero_each f (j ∷ ks) h zero k at = subst (λ j. f j ≡ 0) (same_Some j k at) (omega (arith, sum_by-cons f j ks, h))
 zero_each f (j ∷ ks) h (suc i) k at = zero_each f ks (omega (arith, sum_by-cons f j ks, h)) i k at
 
-there : {X : Type 0} (xs : List X) (k : ℕ) → k < length xs → (x : X) × (slice_get xs k ≡ Some x)
-there [] k lt = absurd (omega (arith, lt))
-there (x ∷ xs) zero lt = (x, refl)
-there (x ∷ xs) (suc k) lt = there xs k (omega (arith, lt))
-
-same_lists : {X : Type 0} (xs ys : List X) → length xs ≡ length ys
+same_each : {X : Type 0} (xs ys : List X) → length xs ≡ length ys
     → ((i : ℕ) (x y : X) → slice_get xs i ≡ Some x → slice_get ys i ≡ Some y → x ≡ y) → xs ≡ ys
-same_lists [] [] e h = refl
-same_lists [] (y ∷ ys) e h = absurd (omega (arith, e))
-same_lists (x ∷ xs) [] e h = absurd (omega (arith, e))
-same_lists (x ∷ xs) (y ∷ ys) e h = ap₂ (λ x xs. x ∷ xs) (h 0 x y refl refl) (same_lists xs ys (omega (arith, e)) (λ i u v a b. h (suc i) u v a b))
+same_each xs ys long h =
+    same_lists xs ys long (λ k d low. h k _ _ (slice_get-get_or xs k d low) (slice_get-get_or ys k d (subst (λ n. k < n) long low)))
 
 -- the kind of a place is decided
 kind_at : (proposes : Proposals) (c : CountsOf) (ks : List Kind) → Counts ks c → EachDecided c → (b : BlockParts) (o : OrderParts) (i : ℕ) (k : Kind)
@@ -81,10 +76,10 @@ module _ (proposes : Proposals) (one : ProposesOne proposes) (blocks : List Bloc
       (x.1, y.1, x.3, y.3, e, one_order proposes one x.0 o p y.1 (subst (λ k. Suits proposes x.0 o k) e x.4) suits)
 
   same_orders : length os ≡ length ps → os ≡ ps
-  same_orders long = same_lists os ps long (λ i o p at to. let w = same_at i o p at to in w.5)
+  same_orders long = same_each os ps long (λ i o p at to. let w = same_at i o p at to in w.5)
 
   same_kinds : length os ≡ length ps → h.kinds ≡ g.kinds
-  same_kinds long = same_lists h.kinds g.kinds (h.long ∙ long ∙ sym g.long) (λ i j k at to.
+  same_kinds long = same_each h.kinds g.kinds (h.long ∙ long ∙ sym g.long) (λ i j k at to.
       let lt : i < length os = subst (λ n. i < n) h.long (slice_get_within h.kinds i j at) in
       let o = there os i lt in
       let p = there ps i (subst (λ n. i < n) long lt) in

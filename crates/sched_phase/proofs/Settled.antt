@@ -1,30 +1,15 @@
 -- One more block has its order.
 use Rattle.std.proofs.Common.{◌≡◌, ◌<◌, ℕ, zero, suc, ◌+◌, List, [], ◌∷◌, ◌++◌, length, Some, slice_get, refl, sym, ◌∙◌, subst, arith, length-append}
 use Rattle.std.proofs.lemmas.List.Sums.{sum_by_push}
-use Rattle.std.proofs.lemmas.Option.{same_Some, none-some, slice_get_within}
+use Rattle.std.proofs.lemmas.Option.{same_Some, slice_get_within}
 use Rattle.std.specs.List.{sum_by}
 use Rattle.mblock.specs.Parts.{BlockParts, OrderParts}
 use Rattle.mblock.specs.Orders.{AreOrders}
 use Rattle.image.specs.Images.{CountsOf}
+use Rattle.steal_pool.proofs.Shares.{each_more}
+use Rattle.steal_pool.proofs.Pairing.{slice_left, slice_last}
 use Rattle.sched_phase.specs.Phases.{Proposals, Kind, Counts, Suits, AreSettled, count_of}
 use Rattle.sched_phase.specs.Settling.{AddsOne, Serves}
-
-snoc_last : {X : Type 0} (xs : List X) (x : X) → slice_get (xs ++ x ∷ []) (length xs) ≡ Some x
-snoc_last [] x = refl
-snoc_last (y ∷ ys) x = snoc_last ys x
-
-snoc_before : {X : Type 0} (xs : List X) (x y : X) (k : ℕ) → slice_get xs k ≡ Some y → slice_get (xs ++ x ∷ []) k ≡ Some y
-snoc_before [] x y k at = absurd (none-some y at)
-snoc_before (z ∷ zs) x y zero at = at
-snoc_before (z ∷ zs) x y (suc k) at = snoc_before zs x y k at
-
--- what holds of each element and its place holds of one more
-each_more : {X : Type 0} (R : ℕ → X → Type 0) (xs : List X) (x : X) → ((k : ℕ) (y : X) → slice_get xs k ≡ Some y → R k y) → R (length xs) x
-    → (k : ℕ) (y : X) → slice_get (xs ++ x ∷ []) k ≡ Some y → R k y
-each_more R [] x h last zero y at = subst (R zero) (same_Some x y at) last
-each_more R [] x h last (suc k) y at = absurd (none-some y at)
-each_more R (z ∷ zs) x h last zero y at = h zero y at
-each_more R (z ∷ zs) x h last (suc k) y at = each_more (λ j. R (suc j)) zs x (λ j u e. h (suc j) u e) last k y at
 
 one_more : (part : CountsOf → ℕ) (ks : List Kind) (k : Kind) (n m : ℕ) → n ≡ sum_by (λ j. part (count_of j)) ks → m ≡ n + part (count_of k)
     → m ≡ sum_by (λ j. part (count_of j)) (ks ++ k ∷ [])
@@ -50,11 +35,11 @@ settled_more proposes blocks orders old new b k o here h suits adds =
     let ks = h.kinds in
     let R : ℕ → OrderParts → Type 0 = λ i u.
     (d : BlockParts) × (j : Kind) × (slice_get blocks i ≡ Some d) × (slice_get (ks ++ k ∷ []) i ≡ Some j) × Suits proposes d u j in
-    let last : slice_get (ks ++ k ∷ []) (length orders) ≡ Some k = subst (λ n. slice_get (ks ++ k ∷ []) n ≡ Some k) h.long (snoc_last ks k) in
+    let last : slice_get (ks ++ k ∷ []) (length orders) ≡ Some k = subst (λ n. slice_get (ks ++ k ∷ []) n ≡ Some k) h.long (slice_last ks k) in
     record {
       kinds = ks ++ k ∷ [];
       long = omega (arith, length-append ks (k ∷ []), length-append orders (o ∷ []), h.long);
-      each = each_more R orders o (λ i u at. let w = h.each i u at in (w.0, w.1, w.2, snoc_before ks k w.1 i w.3, w.4)) (b, k, here, last, suits);
+      each = each_more R orders o (λ i u at. let w = h.each i u at in (w.0, w.1, w.2, slice_left ks (k ∷ []) i w.1 w.3, w.4)) (b, k, here, last, suits);
       counted = counts_more ks k old new h.counted adds;
     }
 
@@ -67,6 +52,11 @@ serve_more blocks orders b o here one all i d u at there =
     let R : ℕ → OrderParts → Type 0 = λ i u. (d : BlockParts) → slice_get blocks i ≡ Some d → Serves d u in
     each_more R orders o (λ i u e d f. all i d u f e) (λ d f. subst (λ d. Serves d o) (same_Some b d (sym here ∙ f)) one) i u there d at
 
+pub there : {X : Type 0} (xs : List X) (k : ℕ) → k < length xs → (x : X) × (slice_get xs k ≡ Some x)
+there [] k lt = absurd (omega (arith, lt))
+there (x ∷ xs) zero lt = (x, refl)
+there (x ∷ xs) (suc k) lt = there xs k (omega (arith, lt))
+
 -- where each block has its order, they are the orders of the blocks
 pub are_orders : (blocks : List BlockParts) (orders : List OrderParts) → length orders ≡ length blocks → ServeAll blocks orders → AreOrders blocks orders
 are_orders blocks orders long all = record {
@@ -76,8 +66,3 @@ are_orders blocks orders long all = record {
   exits = λ k b o at e. (all k b o at e).exit;
   means = λ k b o at e. (all k b o at e).means;
 }
-  where
-    there : {X : Type 0} (xs : List X) (k : ℕ) → k < length xs → (x : X) × (slice_get xs k ≡ Some x)
-    there [] k lt = absurd (omega (arith, lt))
-    there (x ∷ xs) zero lt = (x, refl)
-    there (x ∷ xs) (suc k) lt = there xs k (omega (arith, lt))

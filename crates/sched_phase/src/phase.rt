@@ -8,8 +8,8 @@ use crate::batch::{batch_from, run_length, workers_for};
 use crate::options::PhaseOpts;
 use crate::scheduled::Scheduled;
 use crate::settle::Progress;
-use crate::terms::{BatchTerms, open_terms};
-use crate::work::{BlockJob, RunVerdicts, last_verdict};
+use crate::terms::open_terms;
+use crate::work::{BlockJob, Judge, RunVerdicts};
 use block_validator::Verdict;
 use list_scheduler::Reorder;
 use mblock::Unit;
@@ -64,15 +64,18 @@ fn schedule_batch<T: Threads + Wait + Sync, R: Reorder + Sync, G: Gate + Sync>(
     let count = end - first;
     let length = run_length(count);
     let (terms, passes) = open_terms(alloc, workers_for(options, count), options, terms)?;
-    let job = BlockJob {
+    let judge = Judge {
         alloc,
+        options,
+        terms: &terms,
+        reorder,
+    };
+    let job = BlockJob {
+        judge,
         unit,
         first,
         end,
         length,
-        options,
-        terms: &terms,
-        reorder,
         gate,
     };
     let runs = run(rt, alloc, count.div_ceil(length), passes, &job, &Open);
@@ -193,42 +196,36 @@ fn batch_by_one<R: Reorder>(
     let Some(mut pass) = passes.pop() else {
         unreachable!()
     };
-    one_by_one(
+    let judge = Judge {
         alloc,
-        unit,
         options,
-        &terms,
-        &mut pass,
+        terms: &terms,
         reorder,
-        end - first,
-        progress,
-    )
+    };
+    one_by_one(&judge, unit, &mut pass, end - first, progress)
 }
 
 /// Gives each of the next blocks an order, one after another.
 fn one_by_one<R: Reorder>(
-    alloc: Global,
+    judge: &Judge<'_, R>,
     unit: &Unit,
-    options: PhaseOpts,
-    terms: &BatchTerms,
     pass: &mut Pass,
-    reorder: &R,
     count: usize,
     progress: &mut Progress,
 ) -> Result<(), AllocError>
-    requires pass { ServesTerms terms.now pass.old }
+    requires pass { ServesTerms judge.now.terms.now pass.old }
     requires room { length progress.old.orders.items + count ≤ length unit.now.blocks }
-    requires done { AreDone (R.proposes reorder.now) unit.now.blocks progress.old }
+    requires done { AreDone (R.proposes judge.now.reorder.now) unit.now.blocks progress.old }
     ensures more { OnOk result (length progress.new.orders.items ≡ length progress.old.orders.items + count) }
-    ensures done { OnOk result (AreDone (R.proposes reorder.now) unit.now.blocks progress.new) }
+    ensures done { OnOk result (AreDone (R.proposes judge.now.reorder.now) unit.now.blocks progress.new) }
     ensures asked { OnOk result (progress.new.report.missed ≡ progress.old.report.missed) }
 {
     let first = progress.orders.len();
     let blocks = unit.blocks();
     for i in 0..count {
         let block = &blocks[first + i];
-        let verdict = last_verdict(alloc, options, terms, pass, reorder, block);
-        progress.settle(alloc, reorder, unit, block, Some(verdict))?;
+        let verdict = judge.last_verdict(pass, block);
+        progress.settle(judge.alloc, judge.reorder, unit, block, Some(verdict))?;
     }
     Ok(())
 }

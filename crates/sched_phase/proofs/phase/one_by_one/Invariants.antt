@@ -4,8 +4,8 @@ use Rattle.sched_phase.proofs.phase.one_by_one.Given as goal
 
 abbrev pub invariant-loop-i : goal.invariant-loop-i
 invariant-loop-i g l =
-    ServesTerms l.terms l.pass
-    × AreDone (g.R.Reorder.proposes l.reorder) l.unit.blocks l.progress
+    ServesTerms l.judge.terms.now l.pass
+    × AreDone (g.R.Reorder.proposes l.judge.reorder.now) l.unit.blocks l.progress
     × (length l.progress.orders.items ≡ l.first + l.i)
     × (l.progress.report.missed ≡ l.fn.progress.report.missed)
     × (l.blocks ≡ l.unit.blocks)

@@ -1,7 +1,7 @@
 use Rattle.std.proofs.Common.{Some}
 use Rattle.std.proofs.lemmas.List.Elements.{All-pop}
 use Rattle.term_table.specs.Passes.{IsOf}
-use Rattle.sched_phase.proofs.work.verdict_alone.Goals as goal
+use Rattle.sched_phase.proofs.work.Judge.verdict_alone.Goals as goal
 
 pub proposal_verdict-requires : goal.proposal_verdict-requires
 proposal_verdict-requires g c =

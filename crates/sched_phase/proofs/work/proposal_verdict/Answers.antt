@@ -1,6 +1,0 @@
-use Rattle.sched_phase.proofs.Starting.{knows_on}
-use Rattle.sched_phase.proofs.work.proposal_verdict.Goals as goal
-
-pub returns-in-Some-clause-pass : goal.returns-in-Some-clause-pass
-returns-in-Some-clause-pass g c =
-    (c.validate_from.ensures.table, knows_on c.args.terms.now.start c.validate_from.ensures.later c.requires.1)
