@@ -9,7 +9,7 @@ ghost use Rattle.image.specs.Images.{IsImageFault};
 use crate::listings::list_image;
 use crate::pages::print_page;
 use crate::run_command::tell_image;
-use host::{BadFile, Broken, Complaints, FileCommand, HostFault, Output};
+use host::{BadFile, Broken, Complaints, FileCommand, Output};
 use image::{ImageFault, read_image};
 use show::assembler_source;
 use std::alloc::Global;
@@ -29,14 +29,9 @@ fn source_of(alloc: Global, bytes: &[u8]) -> Result<Vec<u8>, ImageFault>
     ensures shown { IfOk result (λ page. All IsShown page.items) }
     ensures fault { IfErr result (IsImageFault bytes.now) }
 {
-    let image = match read_image(alloc, bytes) {
-        Ok(image) => image,
-        Err(fault) => return Err(fault),
-    };
-    match assembler_source(alloc, &image, &[]) {
-        Ok(page) => Ok(page.into_bytes()),
-        Err(_) => Err(ImageFault::NoMemory),
-    }
+    let image = read_image(alloc, bytes)?;
+    let page = assembler_source(alloc, &image, &[])?;
+    Ok(page.into_bytes())
 }
 
 /// `mcc list`, or with `asm` `mcc list --asm`.
@@ -80,14 +75,9 @@ impl FileCommand for ImageCommand {
         bytes: &[u8],
         out: &mut W,
     ) -> Result<(), Broken<ImageFault>> {
-        let page = match self.page(alloc, bytes) {
-            Ok(page) => page,
-            Err(fault) => return Err(Broken::Faulty(fault)),
-        };
-        match print_page(out, page.as_slice()) {
-            Ok(()) => Ok(()),
-            Err(_) => Err(Broken::Unprinted(HostFault::CannotWrite)),
-        }
+        let page = self.page(alloc, bytes).map_err(Broken::Faulty)?;
+        print_page(out, page.as_slice())?;
+        Ok(())
     }
 
     fn status_of(&self, _end: &()) -> u8 {

@@ -17,10 +17,7 @@ pub fn interp_rtl(alloc: Global, text: &[u8], depth: u32, steps: u64) -> Result<
     ensures fault { IfErr result (IsBuildFault text.now 1) }
 {
     let rtl = rtl_of(alloc, text)?;
-    match run(alloc, &rtl, depth, steps) {
-        Ok(ran) => Ok(ran),
-        Err(_) => Err(BuildFault::NoMemory),
-    }
+    Ok(run(alloc, &rtl, depth, steps)?)
 }
 
 /// Returns what the blocks of the program that the text spells do within so many items, with a stack for so many calls at once. Each runs
@@ -31,8 +28,5 @@ pub fn interp_blocks(alloc: Global, text: &[u8], depth: u32, steps: u64) -> Resu
     ensures fault { IfErr result (IsBuildFault text.now depth) }
 {
     let unit = unit_of(alloc, text, depth)?;
-    match run_unit(alloc, &unit, steps) {
-        Ok(ran) => Ok(ran),
-        Err(_) => Err(BuildFault::NoMemory),
-    }
+    Ok(run_unit(alloc, &unit, steps)?)
 }

@@ -13,7 +13,7 @@ use crate::level_runs::{interp_blocks, interp_rtl};
 use crate::run_command::{Counted, Spent, print_run, tell_run};
 use crate::texts::EndLine;
 use command_line::{AskedInterp, Level};
-use host::{BadFile, Broken, Complaints, FileCommand, Files, Host, HostFault, Output, answer_file};
+use host::{BadFile, Broken, Complaints, FileCommand, Files, Host, Output, answer_file};
 use runs::{End, Ran};
 use std::alloc::Global;
 
@@ -73,15 +73,10 @@ impl FileCommand for BelowCommand<'_> {
         bytes: &[u8],
         out: &mut W,
     ) -> Result<End, Broken<BuildFault>> {
-        let ran = match run_below(alloc, bytes, &self.asked, self.below) {
-            Ok(ran) => ran,
-            Err(fault) => return Err(Broken::Faulty(fault)),
-        };
+        let ran = run_below(alloc, bytes, &self.asked, self.below).map_err(Broken::Faulty)?;
         let last = EndLine(ran.end);
-        match print_run(out, self.asked.form, ran.output.as_slice(), &last) {
-            Ok(()) => Ok(ran.end),
-            Err(_) => Err(Broken::Unprinted(HostFault::CannotWrite)),
-        }
+        print_run(out, self.asked.form, ran.output.as_slice(), &last)?;
+        Ok(ran.end)
     }
 
     fn status_of(&self, end: &End) -> u8 {

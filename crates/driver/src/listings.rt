@@ -14,8 +14,5 @@ pub fn list_image(alloc: Global, bytes: &[u8]) -> Result<String, ImageFault>
     ensures fault { IfErr result (IsImageFault bytes.now) }
 {
     let image = read_image(alloc, bytes)?;
-    match list(alloc, &image) {
-        Ok(text) => Ok(text),
-        Err(_) => Err(ImageFault::NoMemory),
-    }
+    Ok(list(alloc, &image)?)
 }

@@ -15,7 +15,7 @@ use crate::reasons::page;
 use crate::run_command::tell_page;
 use c_front::read;
 use c_tree::{Declaration, Program};
-use host::{BadFile, Broken, Complaints, FileCommand, HostFault, Output, tell};
+use host::{BadFile, Broken, Complaints, FileCommand, Output, tell};
 use mips_select::{Numbered, SelectFault, select_numbered};
 use rtl::Rtl;
 use show::{Asked, ShowFault, Shown, show};
@@ -243,14 +243,9 @@ impl FileCommand for ShowCommand<'_> {
         bytes: &[u8],
         out: &mut W,
     ) -> Result<(), Broken<StagesFault>> {
-        let page = match stages(alloc, bytes, &self.asked) {
-            Ok(page) => page,
-            Err(fault) => return Err(Broken::Faulty(fault)),
-        };
-        match print_page(out, page.bytes()) {
-            Ok(()) => Ok(()),
-            Err(_) => Err(Broken::Unprinted(HostFault::CannotWrite)),
-        }
+        let page = stages(alloc, bytes, &self.asked).map_err(Broken::Faulty)?;
+        print_page(out, page.bytes())?;
+        Ok(())
     }
 
     fn status_of(&self, _end: &()) -> u8 {

@@ -7,7 +7,7 @@ use crate::build_command::typed_of;
 use c_run::run;
 use messages::SourceFault;
 use runs::Ran;
-use std::alloc::Global;
+use std::alloc::{AllocError, Global};
 
 /// Why a text has no run.
 #[derive(Clone, Copy, Debug)]
@@ -28,6 +28,16 @@ impl From<SourceFault> for InterpFault {
     }
 }
 
+impl From<AllocError> for InterpFault {
+    ghost use Rattle.driver.specs.declared.source_runs.InterpFault.TheVariants.{NoMemory};
+
+    ghost from_gives = { λ _ e. e ≡ NoMemory };
+
+    fn from(_refused: AllocError) -> InterpFault {
+        InterpFault::NoMemory
+    }
+}
+
 /// Returns what the program that the text spells does within so many steps, with so many calls active at most. It descends into the text:
 /// run it on a thread with a large stack where the text may be hostile.
 pub fn interp(alloc: Global, text: &[u8], depth: u32, steps: u64) -> Result<Ran, InterpFault>
@@ -35,8 +45,5 @@ pub fn interp(alloc: Global, text: &[u8], depth: u32, steps: u64) -> Result<Ran,
     ensures fault { IfErr result (IsInterpFault text.now) }
 {
     let typed = typed_of(alloc, text)?;
-    match run(alloc, &typed, depth, steps) {
-        Ok(ran) => Ok(ran),
-        Err(_) => Err(InterpFault::NoMemory),
-    }
+    Ok(run(alloc, &typed, depth, steps)?)
 }

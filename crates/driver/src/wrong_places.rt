@@ -60,15 +60,15 @@ fn name_in<'t>(text: &'t [u8], function: &FunctionDefinition) -> &'t str {
     str::from_utf8(text.get(start..end).unwrap_or(b"?")).unwrap_or("?")
 }
 
-/// Finds a place of a program's run in the tree that its text spells.
-fn place_in_tree<'t>(
+/// Finds a place of a program's run in its text.
+pub(crate) fn place_in_text<'t>(
     alloc: Global,
     text: &'t [u8],
-    program: &Program,
     typed: &Typed,
     place: WrongPlace<'_>,
 ) -> Option<NamedPlace<'t>> {
-    let function = function_of(program, place.function)?;
+    let program = read(alloc, text).ok()?;
+    let function = function_of(&program, place.function)?;
     let body = &typed.functions().get(place.function)?.body;
     let at = match place.statement {
         Some(wanted) => place_of(alloc, function, body, wanted, place.left),
@@ -78,15 +78,4 @@ fn place_in_tree<'t>(
         function: name_in(text, function),
         spot: at.map(|at| spot_of(text, at)),
     })
-}
-
-/// Finds a place of a program's run in its text.
-pub(crate) fn place_in_text<'t>(
-    alloc: Global,
-    text: &'t [u8],
-    typed: &Typed,
-    place: WrongPlace<'_>,
-) -> Option<NamedPlace<'t>> {
-    let program = read(alloc, text).ok()?;
-    place_in_tree(alloc, text, &program, typed, place)
 }

@@ -56,6 +56,16 @@ impl From<SourceFault> for BuildFault {
     }
 }
 
+impl From<AllocError> for BuildFault {
+    ghost use Rattle.driver.specs.declared.build_command.builds.BuildFault.TheVariants.{NoMemory};
+
+    ghost from_gives = { λ _ e. e ≡ NoMemory };
+
+    fn from(_refused: AllocError) -> BuildFault {
+        BuildFault::NoMemory
+    }
+}
+
 /// An image's bytes, how many blocks of it had which verdict, and how many there are.
 #[derive(Drop)]
 pub struct Built {
@@ -69,14 +79,9 @@ pub(crate) fn front_of(alloc: Global, text: &[u8]) -> Result<(Program, Typed), S
     ensures typed { IfOk result (λ both. SpellsTyped text.now (program_of both.1)) }
     ensures fault { IfErr result (IsSourceFault text.now) }
 {
-    let program = match read(alloc, text) {
-        Ok(program) => program,
-        Err(fault) => return Err(SourceFault::Front(fault)),
-    };
-    match check(alloc, &program) {
-        Ok(typed) => Ok((program, typed)),
-        Err(fault) => Err(SourceFault::Types(fault)),
-    }
+    let program = read(alloc, text).map_err(SourceFault::Front)?;
+    let typed = check(alloc, &program).map_err(SourceFault::Types)?;
+    Ok((program, typed))
 }
 
 /// Returns the typed program that the text spells.
@@ -98,9 +103,7 @@ pub(crate) fn rtl_of_typed(alloc: Global, typed: &Typed) -> Result<Rtl, BuildFau
         Err(LowerFault::Limit) => return Err(BuildFault::Limit(Limit::Lowering)),
         Err(LowerFault::NoMemory) => return Err(BuildFault::NoMemory),
     };
-    let Ok(rtl) = lowered.with_tails(alloc) else {
-        return Err(BuildFault::NoMemory);
-    };
+    let rtl = lowered.with_tails(alloc)?;
     Ok(rtl)
 }
 
@@ -151,11 +154,8 @@ fn written(alloc: Global, scheduled: &Scheduled<'_>) -> Result<Built, BuildFault
         Err(AsmFault::Limit) => return Err(BuildFault::Limit(Limit::Assembly)),
         Err(AsmFault::NoMemory) => return Err(BuildFault::NoMemory),
     };
-    let Ok(bytes) = write_image(alloc, &image) else {
-        return Err(BuildFault::NoMemory);
-    };
     Ok(Built {
-        image: bytes,
+        image: write_image(alloc, &image)?,
         report,
         blocks: scheduled.count(),
     })
@@ -170,9 +170,7 @@ pub(crate) fn write(
     ensures written { IfOk result (IsWrittenOf scheduled.entry) }
     ensures fault { IfErr result (IsUnwrittenOf scheduled.entry) }
 {
-    let Ok(scheduled) = scheduled else {
-        return Err(BuildFault::NoMemory);
-    };
+    let scheduled = scheduled?;
     let built = written(alloc, &scheduled);
     match orders {
         Orders::Freed => drop(scheduled),

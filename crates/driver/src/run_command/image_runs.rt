@@ -14,8 +14,5 @@ pub fn run_image(alloc: Global, bytes: &[u8], steps: u64) -> Result<MachineRan, 
     ensures fault { IfErr result (IsImageFault bytes.now) }
 {
     let image = read_image(alloc, bytes)?;
-    match run(alloc, &image, steps) {
-        Ok(ran) => Ok(ran),
-        Err(_) => Err(ImageFault::NoMemory),
-    }
+    Ok(run(alloc, &image, steps)?)
 }
