@@ -489,24 +489,13 @@ if_emits b0 b1 b2 b3 b4 e a b c join y n likely after r il sealing one other tes
       test = does bs sp.3;
     }))
 
--- what is told where a part of an `if` is refused: where it goes on, a side, or the side behind it
-
-pub side_stops : (old new : List RBlock) (s : TypedStatement) (c : Context) (join : ℕ) (f : LowerFault) (r : Result ℕ LowerFault) → r ≡ Err f
-    → Emits (statement_code s c (Block join)) old new (Err f) → Emits (side_code s c join) old new r
-side_stops old new s c join f r is e =
-    part_refused 0 e is (omega arith) (omega arith) (omega arith) (grows_same old) (omega arith)
+-- what is told where a part of an `if` is refused: where it goes on, or its second side
 
 pub join_stops : (old new : List RBlock) (s : TypedStatement) (c : Context) (after : Spot) (f : LowerFault) (r : Result OpenBlock LowerFault) → r ≡ Err f
     → new ≡ old → joint after ≤ statement_blocks s (joint after) → (f ≡ Limit → MAX_BLOCKS < length old + joint after)
     → Emits (statement_code s c after) old new (made_of r)
 join_stops old new s c after f r is same few limit =
     refused f (ap made_of is) same (λ l. let more = limit l in omega (arith, more, few))
-
-pub if_first_stops : (b0 b1 b2 : List RBlock) (e : TypedExpression) (a b : TypedStatement) (c : Context) (join : ℕ) (after : Spot) (f : LowerFault)
-    (r : Result OpenBlock LowerFault) → r ≡ Err f → Sealing b0 b1 join after → Emits (side_code a c join) b1 b2 (Err f)
-    → Emits (statement_code (if_else e a b) c after) b0 b2 (made_of r)
-if_first_stops b0 b1 b2 e a b c join after f r is sealing one =
-    part_refused (joint after) one (ap made_of is) (omega arith) (omega arith) (omega arith) sealing.grows sealing.count
 
 pub if_second_stops : (b0 b1 b2 b3 : List RBlock) (e : TypedExpression) (a b : TypedStatement) (c : Context) (join y : ℕ) (after : Spot)
     (f : LowerFault) (r : Result OpenBlock LowerFault) → r ≡ Err f → Sealing b0 b1 join after → Emits (side_code a c join) b1 b2 (Ok y)
@@ -659,22 +648,7 @@ loop_emits b0 b1 b2 b3 b4 b5 b6 e last body c inner many left head turn code top
           };
     }
 
--- what is told where a part of a loop's turn is refused
-
-pub bottom_stops : (old new : List RBlock) (e : TypedExpression) (last : TypedStatement) (c : Context) (many : Bool) (again : Targets)
-    (f : LowerFault) (r : Result Turn LowerFault) → r ≡ Err f → Emits (condition_branch e again c.free) old new (Err f)
-    → Emits (last_code e last c many again) old new r
-bottom_stops old new e last c many again f r is test =
-    part_refused 0 test is (omega arith) (omega arith) (omega arith) (grows_same old) (omega arith)
-
-pub last_stops : (b0 b1 b2 : List RBlock) (e : TypedExpression) (last : TypedStatement) (c : Context) (many : Bool) (again : Targets)
-    (bottom : OpenBlock) (f : LowerFault) (r : Result Turn LowerFault) → r ≡ Err f
-    → Emits (condition_branch e again c.free) b0 b1 (Ok bottom)
-    → Emits (statement_code last c (Line (open_code bottom))) b1 b2 (Err f) → Emits (last_code e last c many again) b0 b2 r
-last_stops b0 b1 b2 e last c many again bottom f r is test part =
-    part_refused (condition_blocks e) part is (omega arith) (omega arith) (omega arith) test.grows test.count
-
--- and of a loop
+-- what is told where a part of a loop is refused
 
 pub loop_head_stops : (b0 b1 b2 : List RBlock) (e : TypedExpression) (last body : TypedStatement) (c : Context) (left : ℕ) (after : Spot)
     (f : LowerFault) (r : Result OpenBlock LowerFault) → r ≡ Err f → Sealing b0 b1 left after → b2 ≡ b1

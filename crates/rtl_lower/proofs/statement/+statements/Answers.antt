@@ -3,11 +3,14 @@ use Rattle.c_typed.specs.Shape.{typed_expression_of, typed_expressions_of, state
 use Rattle.c_typed.specs.Trees.{block, call, if_else, loop}
 use Rattle.c_typed.proofs.Shapes.{block-is}
 use Rattle.rtl_emit.specs.Blocks.{spot}
+use Rattle.rtl_emit.specs.Sizes.{joint, condition_blocks}
+use Rattle.rtl_emit.proofs.Emitting.{part_refused, grows_same}
+use Rattle.rtl_lower.specs.Emits.{made_of}
 use Rattle.rtl_lower.specs.Sizes.{continues}
 use Rattle.rtl_lower.proofs.Sizes.{any_of, or_first, or_true, weight, weight_within, none_left, one_left}
 use Rattle.rtl_lower.proofs.Emitting.{nothing_emits, break_emits, continue_emits, simple_emits, whole_emits, block_emits, none_emits}
 use Rattle.rtl_lower.proofs.Emitting.{more_emits, all_emitted, list_stopped, side_emits, if_is, if_emits, turn_emits, loop_is, loop_emits}
-use Rattle.rtl_lower.proofs.Emitting.{side_stops, join_stops, if_first_stops, if_second_stops, bottom_stops, last_stops}
+use Rattle.rtl_lower.proofs.Emitting.{join_stops, if_second_stops}
 use Rattle.rtl_lower.proofs.Emitting.{loop_head_stops, loop_turn_stops, loop_body_stops, loop_top_stops}
 use Rattle.rtl_lower.proofs.statement.+statements.Goals as goal
 
@@ -129,7 +132,8 @@ statement-statements-requires t c =
     (omega (arith, w), λ e. c.requires.next (ap continues is ∙ e))
 
 pub side_block-returns-in_err-code : goal.side_block-returns-in_err-code
-side_block-returns-in_err-code t c = side_stops _ _ _ c.args.context c.args.join c.in_err-code.field-0.0 _ (search rules) c.in_err-code.ensures
+side_block-returns-in_err-code t c = part_refused 0 c.in_err-code.ensures (search rules) (omega arith) (omega arith) (omega arith) (grows_same _)
+    (omega arith)
 
 pub if_statement-returns-in_err-join : goal.if_statement-returns-in_err-join
 if_statement-returns-in_err-join t c =
@@ -140,9 +144,8 @@ if_statement-returns-in_err-join t c =
 pub if_statement-returns-in_err-yes_block : goal.if_statement-returns-in_err-yes_block
 if_statement-returns-in_err-yes_block t c =
     let join = c.in_ok-join.ensures in
-    if_first_stops _ _ _ _ _ _ c.args.context c.in_ok-join.join (spot c.args.after) c.in_err-yes_block.field-0.0
-    c.from_residual-in_err-yes_block.result (search rules)
-    (record { grows = join.grows; count = join.count; insts = join.insts; sound = join.sound; lands = join.lands }) c.in_err-yes_block.ensures
+    let is : c.from_residual-in_err-yes_block.result ≡ Err c.in_err-yes_block.field-0.0 = search rules in
+    part_refused (joint (spot c.args.after)) c.in_err-yes_block.ensures (ap made_of is) (omega arith) (omega arith) (omega arith) join.grows join.count
 
 pub if_statement-returns-in_err-no_block : goal.if_statement-returns-in_err-no_block
 if_statement-returns-in_err-no_block t c =
@@ -152,13 +155,14 @@ if_statement-returns-in_err-no_block t c =
     (record { grows = join.grows; count = join.count; insts = join.insts; sound = join.sound; lands = join.lands }) c.in_ok-yes_block.ensures c.in_err-no_block.ensures
 
 pub turn_of-returns-in_err-bottom : goal.turn_of-returns-in_err-bottom
-turn_of-returns-in_err-bottom t c =
-    bottom_stops _ _ _ _ c.args.context c.args.many c.args.again c.in_err-bottom.field-0.0 _ (search rules) c.in_err-bottom.ensures
+turn_of-returns-in_err-bottom t c = part_refused 0 c.in_err-bottom.ensures (search rules) (omega arith) (omega arith) (omega arith) (grows_same _)
+    (omega arith)
 
 pub turn_of-returns-in_err-code : goal.turn_of-returns-in_err-code
 turn_of-returns-in_err-code t c =
-    last_stops _ _ _ _ _ c.args.context c.args.many c.args.again c.in_ok-bottom.bottom c.in_err-code.field-0.0 _ (search rules) c.in_ok-bottom.ensures
-    c.in_err-code.ensures
+    let test = c.in_ok-bottom.ensures in
+    part_refused (condition_blocks (typed_expression_of c.args.test.now)) c.in_err-code.ensures (search rules) (omega arith) (omega arith) (omega arith)
+    test.grows test.count
 
 pub loop_statement-returns-in_err-left : goal.loop_statement-returns-in_err-left
 loop_statement-returns-in_err-left t c =
