@@ -1,14 +1,18 @@
 -- A program's run in portions: what was written before it, and one step more of a portion.
-use Rattle.std.proofs.Common.{◌≡◌, ℕ, zero, suc, ◌+◌, ◌<◌, ◌++◌, true, false, cond, List, [], ◌∷◌, Option, Some, None, refl, sym, ap, ◌∙◌, arith}
-use Rattle.std.proofs.Common.{append_assoc, append-nil, inl, inr, ◌⊎◌, length, nat_lt, slice_get}
+use Rattle.std.proofs.Common.{◌≡◌, ℕ, zero, suc, ◌+◌, ◌<◌, ◌++◌, true, false, cond, List, [], ◌∷◌, Option, Some, None, refl, sym, ap, ◌∙◌}
+use Rattle.std.proofs.Common.{append_assoc, append-nil, length, nat_lt, slice_get}
 use Rattle.runs.specs.Stores.{Places}
-use Rattle.runs.specs.Runs.{Outcome, Running, Ended, Failed, with_value, outcome}
-use Rattle.runs.specs.Steps.{after_step, end_of, outcome_after}
+use Rattle.runs.specs.Runs.{Running, Ended, Failed, with_value, outcome}
+use Rattle.runs.specs.Portions.{WentOn, after_output}
+use Rattle.runs.specs.Portions.{behind as behind_run}
+use Rattle.runs.specs.Steps.{end_of, outcome_after}
+use Rattle.runs.specs.Calls.{reached_by}
 use Rattle.runs.specs.declared.reached.Reached.{Reached}
 use Rattle.runs.specs.declared.reached.Reached.TheVariants as Reach
 use Rattle.runs.specs.declared.ran.End.{End}
 use Rattle.runs.specs.declared.ran.End.TheVariants.{More}
 use Rattle.runs.proofs.Running.{by-step}
+use Rattle.runs.proofs.Portions.{one_more}
 use Rattle.c_typed.specs.declared.tree.Destination.{Destination}
 use Rattle.c_typed.specs.declared.tree.Destination.TheVariants.{Local, Global as Variable}
 use Rattle.c_typed.specs.Trees.{TypedProgram, TypedFunction, assign, store, call, output, if_else, loop, return_with}
@@ -16,7 +20,10 @@ use Rattle.c_typed.specs.Values.{value_of, values_of}
 use Rattle.c_typed.specs.Meaning.{Todo, Do, Going, Frame, Run, before_all, next_point, Surroundings, at, argument_places, elements_with}
 use Rattle.c_typed.specs.Meaning.{state_after_store, state_after_assignment, frame_at, around_callee, state_after_call, state_with_result, step_at}
 use Rattle.c_typed.specs.Meaning.{source_step, source_steps}
-use Rattle.c_run.specs.Portions.{WentOn, after_output, emptied, run_behind}
+use Rattle.c_types.specs.Shape.{program_of}
+use Rattle.c_run.specs.Portions.{comes_to, emptied, state_of}
+use Rattle.c_run.specs.Interpreter.{Interpreter, frame_of}
+use Rattle.c_run.specs.declared.portions.UnderWay.{UnderWay}
 
 -- ---- what was written before a run
 
@@ -104,30 +111,19 @@ output_before p depth n s =
 
 -- ---- a portion, step by step
 
-below_or : (k n : ℕ) → k < n + 1 → (k < n) ⊎ (k ≡ n + 0)
-below_or k n lt = grind arith
+behind_step : (m : UnderWay) (n : ℕ) (r : Reached) (end : Option End) → end_of r ≡ end
+    → outcome_after r (comes_to m n) (outcome (state_of m)).output ≡ behind_run comes_to end m n
+behind_step m n Reach.Going end e = ap (λ e. behind_run comes_to e m n) e
+behind_step m n _ end e = ap (λ e. behind_run comes_to e m n) e
 
-behind_step : (p : TypedProgram) (depth n : ℕ) (r : Reached) (end : Option End) (t : Run) → end_of r ≡ end
-    → outcome_after r (outcome (source_steps p depth n t)) (outcome t).output ≡ run_behind p depth end t n
-behind_step p depth n Reach.Going end t e = ap (λ e. run_behind p depth e t n) e
-behind_step p depth n _ end t e = ap (λ e. run_behind p depth e t n) e
-
-module _ (p : TypedProgram) (depth asked : ℕ) (old : Run) where
-  more_before : (s : Run) (done k : ℕ) → WentOn p depth asked old s None done → (outcome s).end ≡ More → (k < done) ⊎ (k ≡ done + 0)
-      → (outcome (source_steps p depth k old)).end ≡ More
-  more_before s done k went more (inl less) = went.before k less
-  more_before s done k went more (inr same) =
-      ap (λ i. (outcome (source_steps p depth i old)).end) same ∙ ap (λ (o : Outcome). o.end) (went.behind 0) ∙ more
-
-  pub one_more : (s new : Run) (r : Reached) (end : Option End) (done : ℕ) → done < asked → WentOn p depth asked old s None done
-      → (outcome s).end ≡ More → source_step p depth s ≡ after_step r new (outcome new).output → end_of r ≡ end
-      → WentOn p depth asked old new end (done + 1)
-  one_more s new r end done lt went more e is = record {
-    within = omega arith;
-    before = λ k less. more_before s done k went more (below_or k done less);
-    behind = λ n.
-        let one : done + 1 + n ≡ done + suc n = omega arith in
-        ap (λ i. outcome (source_steps p depth i old)) one ∙ went.behind (suc n)
-        ∙ by-step (source_step p depth) s new r (outcome new).output (record { ended = λ w out. refl; failed = λ out. refl }) e n
-        ∙ behind_step p depth n r end new is;
-  }
+pub one_step : (asked : ℕ) (old m : UnderWay) (i : Interpreter) (r : Reached) (end : Option End) (ran : ℕ) → ran < asked
+    → WentOn comes_to More asked old m (record { end = None; ran = ran }) → m.program ≡ old.program → m.depth ≡ old.depth
+    → source_step (program_of old.program.now) old.depth (state_of m) ≡ reached_by frame_of r i → end_of r ≡ end
+    → WentOn comes_to More asked old (record m { interpreter = i }) (record { end = end; ran = ran + 1 })
+one_step asked old m i r end ran lt went program depth e is =
+    let new : UnderWay = record m { interpreter = i } in
+    let step = source_step (program_of m.program.now) m.depth in
+    let stepped = rw (sym depth) at (rw (sym program) at e) in
+    one_more comes_to More asked old m new end ran lt went refl (λ n.
+    by-step step (state_of m) (state_of new) r i.output.items (record { ended = λ w out. refl; failed = λ out. refl }) stepped n
+    ∙ behind_step new n r end is)

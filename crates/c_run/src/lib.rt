@@ -20,6 +20,6 @@ mod steps;
 mod value;
 
 pub use places::{WrongPlace, wrong_place_of};
-pub use portions::{Portion, UnderWay, begin, output_goes_before};
+pub use portions::{UnderWay, begin, output_goes_before};
 pub use reasons::{Reason, reason_of};
 pub use steps::run;

@@ -3,12 +3,14 @@ ghost use Rattle.std.specs.Prelude.{◌≡◌, ◌<◌, IfOk};
 ghost use Rattle.c_types.specs.Shape.{program_of};
 ghost use Rattle.c_typed.specs.Meaning.{source_start};
 ghost use Rattle.runs.specs.Runs.{outcome};
-ghost use Rattle.c_run.specs.Portions.{OutputGoesBefore, WentOn, emptied, state_of};
+ghost use Rattle.runs.specs.Portions.{WentOn};
+ghost use Rattle.runs.specs.declared.ran.End.TheVariants.{More};
+ghost use Rattle.c_run.specs.Portions.{OutputGoesBefore, comes_to, emptied, state_of};
 
 use crate::interpreter::{Interpreter, step};
 use crate::steps::start;
 use c_types::Typed;
-use runs::End;
+use runs::{Advance, End};
 use std::alloc::{AllocError, Global};
 
 /// A typed program under way, with at most `depth` calls active at once.
@@ -17,15 +19,6 @@ pub struct UnderWay<'a> {
     pub program: &'a Typed,
     pub depth: u32,
     pub(crate) interpreter: Interpreter<'a>,
-}
-
-/// How far a program went on.
-#[derive(Clone, Copy)]
-pub struct Portion {
-    /// How it ended; None where it would go on.
-    pub end: Option<End>,
-    /// The steps that were done, with the last one, at which it ended.
-    pub steps: u64,
 }
 
 /// Returns a program before its first step.
@@ -49,35 +42,28 @@ impl<'a> UnderWay<'a> {
         alloc: Global,
         steps: u64,
         outputs: usize,
-    ) -> Result<Portion, AllocError>
-        ensures went { IfOk result (λ p. WentOn (program_of self.old.program.now) self.old.depth steps (state_of self.old) (state_of self.new)
-            p.end p.steps) }
-        ensures moved { IfOk result (λ p. 0 < steps → 0 < p.steps) }
+    ) -> Result<Advance<End>, AllocError>
+        ensures went { IfOk result (λ a. WentOn comes_to More steps self.old self.new a) }
+        ensures moved { IfOk result (λ a. 0 < steps → 0 < a.ran) }
         ensures program { self.new.program ≡ self.old.program }
         ensures depth { self.new.depth ≡ self.old.depth }
     {
         let (program, depth) = (self.program, self.depth);
-        let mut done = 0;
-        while done < steps {
+        let mut ran = 0;
+        while ran < steps {
             let reached = step(alloc, program, depth, &mut self.interpreter)?;
-            done += 1;
+            ran += 1;
             if let Some(end) = reached.end() {
-                return Ok(Portion {
+                return Ok(Advance {
                     end: Some(end),
-                    steps: done,
+                    ran,
                 });
             }
             if outputs <= self.interpreter.output.len() {
-                return Ok(Portion {
-                    end: None,
-                    steps: done,
-                });
+                return Ok(Advance { end: None, ran });
             }
         }
-        Ok(Portion {
-            end: None,
-            steps: done,
-        })
+        Ok(Advance { end: None, ran })
     }
 
     /// Returns what was written so far, the first word first.

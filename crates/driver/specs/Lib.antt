@@ -22,6 +22,5 @@ pub mod OneBuild
 pub mod RunTexts
 pub mod ImageRuns
 pub mod RunCommand
-pub mod Portions
 -- words of private functions
 pub mod Halves

@@ -8,7 +8,6 @@ ghost use Rattle.driver.specs.Texts.{end_status, interp_fault_text};
 use crate::build_command::{source_place, typed_of};
 use crate::reasons::wrong_page;
 use crate::run_command::{Counted, Cut, Finish, Spent, stream, tell_run};
-use crate::running_source::RunningSource;
 use crate::source_runs::InterpFault;
 use c_run::begin;
 use host::{BadFile, Broken, Complaints, FileCommand, HostFault, Output, WordForm, tell_placed};
@@ -86,10 +85,9 @@ impl FileCommand for InterpCommand<'_> {
             Ok(typed) => typed,
             Err(fault) => return Err(Broken::Faulty(InterpFault::Source(fault))),
         };
-        let Ok(begun) = begin(alloc, &typed, self.depth) else {
+        let Ok(mut running) = begin(alloc, &typed, self.depth) else {
             return Err(Broken::Faulty(InterpFault::NoMemory));
         };
-        let mut running = RunningSource { run: begun };
         match stream(alloc, &mut running, self.form, self.steps, out) {
             Ok(finish) => Ok(finish),
             Err(Cut::Unprinted) => Err(Broken::Unprinted(HostFault::CannotWrite)),

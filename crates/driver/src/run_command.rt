@@ -11,7 +11,7 @@ mod texts;
 pub use command::{RunCommand, run_file};
 pub use image_faults::tell_image;
 pub use image_runs::run_image;
-pub use portions::{Advance, Cut, Finish, Resumable, stream};
+pub use portions::{Cut, Finish, Resumable, stream};
 pub(crate) use reasons::tell_page;
 pub use remarks::{Counted, Spent, tell_run};
 pub use texts::print_run;

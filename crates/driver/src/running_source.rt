@@ -1,32 +1,22 @@
 //! A C program under way, as what runs in portions.
 
-ghost use Rattle.runs.specs.Runs.{outcome};
-ghost use Rattle.c_run.specs.Portions.{state_of};
-ghost use Rattle.driver.specs.Interps.{comes_to};
+ghost use Rattle.c_run.specs.Portions.{comes_to};
 ghost use Rattle.driver.specs.Texts.{end_text};
 
-use crate::run_command::{Advance, Resumable};
+use crate::run_command::Resumable;
 use crate::texts::EndLine;
 use c_run::UnderWay;
 use host::Output;
-use runs::End;
+use runs::{Advance, End};
 use std::alloc::{AllocError, Global};
 use std::io;
 
-/// A C program under way.
-#[derive(Drop)]
-pub(crate) struct RunningSource<'a> {
-    pub run: UnderWay<'a>,
-}
-
-impl Resumable for RunningSource<'_> {
+impl Resumable for UnderWay<'_> {
     type End = End;
 
     ghost use Rattle.runs.specs.declared.ran.End.TheVariants.{More};
 
-    ghost comes_to = { λ m n. comes_to m.run n };
-
-    ghost written = { λ m. (outcome (state_of m.run)).output };
+    ghost comes_to = { λ m n. comes_to m n };
 
     ghost more = { More };
 
@@ -38,19 +28,15 @@ impl Resumable for RunningSource<'_> {
         most: u64,
         outputs: usize,
     ) -> Result<Advance<End>, AllocError> {
-        let portion = self.run.go_on(alloc, most, outputs)?;
-        Ok(Advance {
-            end: portion.end,
-            ran: portion.steps,
-        })
+        UnderWay::go_on(self, alloc, most, outputs)
     }
 
     fn output(&self) -> &[u32] {
-        self.run.output()
+        UnderWay::output(self)
     }
 
     fn clear_output(&mut self) {
-        self.run.clear_output()
+        UnderWay::clear_output(self)
     }
 
     fn more(&self) -> End {

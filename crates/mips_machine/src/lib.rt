@@ -16,7 +16,7 @@ mod state;
 mod unit_runs;
 
 pub use machine::{Machine, MachineRan, load, run};
-pub use portions::{Portion, output_goes_before};
+pub use portions::output_goes_before;
 pub use registers::Registers;
 pub use state::Load;
 pub use unit_runs::run_unit;

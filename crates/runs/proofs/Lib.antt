@@ -6,3 +6,4 @@ pub mod Running
 pub mod Kept
 pub mod Waiting
 pub mod Lookups
+pub mod Portions

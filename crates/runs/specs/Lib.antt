@@ -5,3 +5,4 @@ pub mod Steps
 pub mod Calls
 pub mod Results
 pub mod Refines
+pub mod Portions

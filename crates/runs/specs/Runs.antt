@@ -5,9 +5,14 @@ use Rattle.runs.specs.declared.ran.End.TheVariants.{Done, Wrong, More}
 use Rattle.runs.specs.declared.ran.Ran.{Ran}
 use Rattle.runs.specs.Stores.{Arrays, IsWord, ArraysHoldWords}
 
-pub record Outcome : Type 0 where
-  pub end : End
+-- how a run ended, in the way of its kind, and what it wrote
+pub record RunOutcome (E : Type 0) : Type 0 where
+  pub end : E
   pub output : List ℕ
+
+-- of a program's run, at any level
+abbrev pub Outcome : Type 0
+Outcome = RunOutcome End
 
 abbrev pub outcome_of : Ran → Outcome
 outcome_of r = record { end = r.end; output = r.output.items }

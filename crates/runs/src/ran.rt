@@ -15,3 +15,12 @@ pub struct Ran {
     pub end: End,
     pub output: Vec<u32>,
 }
+
+/// How far a run went on.
+#[derive(Clone, Copy)]
+pub struct Advance<E> {
+    /// How it ended; None where it would go on.
+    pub end: Option<E>,
+    /// How many steps or words of code ran, with the last one, at which it ended.
+    pub ran: u64,
+}

@@ -3,11 +3,13 @@ use Rattle.std.proofs.Common.{◌≡◌, ℕ, ◌+◌, ◌-◌, ◌<◌, ◌≤�
 use Rattle.std.proofs.lemmas.Grind.{flat_map-append}
 use Rattle.std.proofs.KnownBytes.{Appends-nil, Appends-trans}
 use Rattle.std.specs.Io.KnownBytes.{Appends}
+use Rattle.runs.specs.Runs.{RunOutcome}
+use Rattle.runs.specs.Portions.{IsEnough, WentOn, after_output, behind}
+use Rattle.runs.specs.declared.ran.Advance.{Advance}
 use Rattle.host.specs.Numbers.{word_text}
 use Rattle.host.specs.declared.numbers.WordForm.{WordForm}
 use Rattle.host.specs.OneFile.{TookPrint}
 use Rattle.driver.specs.RunCommand.{AreFirstLines, words_in}
-use Rattle.driver.specs.Portions.{IsEnough, RunOutcome, WentOn, after_output, behind}
 
 words_append : (form : WordForm) (a b : List ℕ) → words_in form (a ++ b) ≡ words_in form a ++ words_in form b
 words_append form a b = flat_map-append (λ w. word_text form w ++ 10 ∷ []) a b
@@ -22,8 +24,7 @@ lines_on form output printed line f =
 below_or : (k m r : ℕ) → k < m + r → (k < m) ⊎ ((m ≤ k) × (k - m < r))
 below_or k m r lt = grind arith
 
-module _ {S E : Type 0} (comes_to : S → ℕ → RunOutcome E) (written : S → List ℕ) (more : E) (form : WordForm) (most : ℕ) (old : S)
-    (start : Option (List ℕ)) where
+module _ {S E : Type 0} (comes_to : S → ℕ → RunOutcome E) (more : E) (form : WordForm) (most : ℕ) (old : S) (start : Option (List ℕ)) where
   -- some portions are printed, and so many words or steps are left
   pub record Begun (left : ℕ) (now : S) (out : Option (List ℕ)) : Type 0 where
     pub first : List ℕ
@@ -56,72 +57,86 @@ module _ {S E : Type 0} (comes_to : S → ℕ → RunOutcome E) (written : S →
           },
         )
 
-    module _ (asked ran : ℕ) (next : S) (end : Option E) (le : asked ≤ left) (went : WentOn comes_to written more asked now next end ran) where
-      ran_before : (k : ℕ) → k < most - (left - ran) → (comes_to old k).end ≡ more
+    module _ (asked : ℕ) (next : S) (advance : Advance E) (le : asked ≤ left) (went : WentOn comes_to more asked now next advance) where
+      abbrev left_behind : ℕ
+      left_behind = left - advance.ran
+
+      abbrev written : List ℕ
+      written = (comes_to next 0).output
+
+      ran_before : (k : ℕ) → k < most - left_behind → (comes_to old k).end ≡ more
       ran_before k lt =
           let h = b.within in
           let w = went.within in
-          let in_all : k < most - left + ran = omega arith in
-          by (below_or k (most - left) ran in_all)
+          let in_all : k < most - left + advance.ran = omega arith in
+          by (below_or k (most - left) advance.ran in_all)
         where
-          by : (k < most - left) ⊎ ((most - left ≤ k) × (k - (most - left) < ran)) → (comes_to old k).end ≡ more
+          by : (k < most - left) ⊎ ((most - left ≤ k) × (k - (most - left) < advance.ran)) → (comes_to old k).end ≡ more
           by (inl less) = b.before k less
           by (inr (ge, less)) =
               let is : k ≡ most - left + (k - (most - left)) = omega arith in
               ap (λ i. (comes_to old i).end) is ∙ ap (λ (o : RunOutcome E). o.end) (b.rest (k - (most - left)))
               ∙ went.before (k - (most - left)) less
 
-      ran_behind : (n : ℕ) → comes_to old (most - (left - ran) + n) ≡ after_output b.first (behind comes_to written end next n)
+      ran_behind : (n : ℕ) → comes_to old (most - left_behind + n) ≡ after_output b.first (behind comes_to advance.end next n)
       ran_behind n =
           let h = b.within in
           let w = went.within in
-          let is : most - (left - ran) + n ≡ most - left + (ran + n) = omega arith in
-          ap (comes_to old) is ∙ b.rest (ran + n) ∙ ap (after_output b.first) (went.behind n)
+          let is : most - left_behind + n ≡ most - left + (advance.ran + n) = omega arith in
+          ap (comes_to old) is ∙ b.rest (advance.ran + n) ∙ ap (after_output b.first) (went.behind n)
 
-    -- a portion behind which the run would go on
-    pub portion : (asked ran : ℕ) (next clear : S) (out' : Option (List ℕ)) → asked ≤ left → WentOn comes_to written more asked now next None ran
-        → ((n : ℕ) → comes_to next n ≡ after_output (written next) (comes_to clear n)) → Appends out out' (words_in form (written next))
-        → Begun (left - ran) clear out'
-    portion asked ran next clear out' le went cleared took = record {
-      first = b.first ++ written next;
-      took = subst (Appends start out') (sym (words_append form b.first (written next)))
-          (Appends-trans start out out' (words_in form b.first) (words_in form (written next)) b.took took);
-      within = let h = b.within in omega arith;
-      before = ran_before asked ran next None le went;
-      rest = λ n. ran_behind asked ran next None le went n ∙ ap (after_output b.first) (cleared n)
-          ∙ ap (λ out. record { end = (comes_to clear n).end; output = out }) (sym (append_assoc b.first (written next) (comes_to clear n).output));
-    }
+      -- a portion behind which the run would go on
+      pub portion : (clear : S) (out' : Option (List ℕ)) → advance.end ≡ None
+          → ((n : ℕ) → comes_to next n ≡ after_output written (comes_to clear n)) → Appends out out' (words_in form written)
+          → Begun left_behind clear out'
+      portion clear out' goes cleared took = record {
+        first = b.first ++ written;
+        took = subst (Appends start out') (sym (words_append form b.first written))
+            (Appends-trans start out out' (words_in form b.first) (words_in form written) b.took took);
+        within = let h = b.within in omega arith;
+        before = ran_before;
+        rest = λ n. ran_behind n ∙ ap (λ end. after_output b.first (behind comes_to end next n)) goes ∙ ap (after_output b.first) (cleared n)
+            ∙ ap (λ out. record { end = (comes_to clear n).end; output = out }) (sym (append_assoc b.first written (comes_to clear n).output));
+      }
 
-    -- the last one
-    module _ (asked ran : ℕ) (next : S) (end : Option E) (last : E) (le : asked ≤ left) (went : WentOn comes_to written more asked now next end ran)
-        (at : (n : ℕ) → (n ≡ 0) ⊎ (n ≡ left - ran) → behind comes_to written end next n ≡ record { end = last; output = written next }) where
-      outcome_at : (n : ℕ) → (n ≡ 0) ⊎ (n ≡ left - ran)
-          → comes_to old (most - (left - ran) + n) ≡ record { end = last; output = b.first ++ written next }
-      outcome_at n h = ran_behind asked ran next end le went n ∙ ap (after_output b.first) (at n h)
+      -- the last one
+      module _ (last : E)
+          (at : (n : ℕ) → (n ≡ 0) ⊎ (n ≡ left_behind) → behind comes_to advance.end next n ≡ record { end = last; output = written }) where
+        outcome_at : (n : ℕ) → (n ≡ 0) ⊎ (n ≡ left_behind)
+            → comes_to old (most - left_behind + n) ≡ record { end = last; output = b.first ++ written }
+        outcome_at n h = ran_behind n ∙ ap (after_output b.first) (at n h)
 
-      whole : comes_to old most ≡ record { end = last; output = b.first ++ written next }
-      whole =
-          let h = b.within in
-          let is : most - (left - ran) + (left - ran) ≡ most = omega arith in
-          ap (comes_to old) (sym is) ∙ outcome_at (left - ran) (inr refl)
+        whole : comes_to old most ≡ record { end = last; output = b.first ++ written }
+        whole =
+            let h = b.within in
+            let is : most - left_behind + left_behind ≡ most = omega arith in
+            ap (comes_to old) (sym is) ∙ outcome_at left_behind (inr refl)
 
-      pub last_end : last ≡ (comes_to old most).end
-      last_end = sym (ap (λ (o : RunOutcome E). o.end) whole)
+        pub last_end : last ≡ (comes_to old most).end
+        last_end = sym (ap (λ (o : RunOutcome E). o.end) whole)
 
-      pub enough : IsEnough (comes_to old) more most (most - (left - ran))
-      enough =
-          let none : most - (left - ran) ≡ most - (left - ran) + 0 = omega arith in
-          record {
-            within = omega arith;
-            same = ap (comes_to old) none ∙ outcome_at 0 (inl refl) ∙ sym whole;
-            before = ran_before asked ran next end le went;
-          }
+        pub enough : IsEnough (comes_to old) more most (most - left_behind)
+        enough =
+            let none : most - left_behind ≡ most - left_behind + 0 = omega arith in
+            record {
+              within = omega arith;
+              same = ap (comes_to old) none ∙ outcome_at 0 (inl refl) ∙ sym whole;
+              before = ran_before;
+            }
 
-      pub all_printed : (out' : Option (List ℕ)) (line : List ℕ) → Appends out out' (words_in form (written next) ++ line)
-          → Appends start out' (words_in form (comes_to old most).output ++ line)
-      all_printed out' line took =
-          let lines = words_in form (written next) in
-          let is : words_in form (comes_to old most).output ++ line ≡ words_in form b.first ++ (lines ++ line)
-          = ap (λ (o : RunOutcome E). words_in form o.output ++ line) whole ∙ ap (λ t. t ++ line) (words_append form b.first (written next))
-          ∙ append_assoc (words_in form b.first) lines line in
-          subst (Appends start out') (sym is) (Appends-trans start out out' (words_in form b.first) (lines ++ line) b.took took)
+        pub all_printed : (out' : Option (List ℕ)) (line : List ℕ) → Appends out out' (words_in form written ++ line)
+            → Appends start out' (words_in form (comes_to old most).output ++ line)
+        all_printed out' line took =
+            let lines = words_in form written in
+            let is : words_in form (comes_to old most).output ++ line ≡ words_in form b.first ++ (lines ++ line)
+            = ap (λ (o : RunOutcome E). words_in form o.output ++ line) whole ∙ ap (λ t. t ++ line) (words_append form b.first written)
+            ∙ append_assoc (words_in form b.first) lines line in
+            subst (Appends start out') (sym is) (Appends-trans start out out' (words_in form b.first) (lines ++ line) b.took took)
+
+-- the end of a run that would go on, once nothing is left
+pub at_more : {S E : Type 0} (comes_to : S → ℕ → RunOutcome E) (more e : E) (end : Option E) (left : ℕ) (s : S) → end ≡ None → left ≡ 0
+    → e ≡ more → (comes_to s 0).end ≡ more → (n : ℕ) → (n ≡ 0) ⊎ (n ≡ left)
+    → behind comes_to end s n ≡ record { end = e; output = (comes_to s 0).output }
+at_more {S} {E} comes_to more e end left s goes none is now n h =
+    ap (λ end. behind comes_to end s n) goes ∙ ap (comes_to s) (elim h [ inl zero ↦ zero | inr all ↦ all ∙ none ])
+    ∙ ap (λ (x : E). record { end = x; output = (comes_to s 0).output }) (now ∙ sym is)

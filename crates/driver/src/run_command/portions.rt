@@ -3,10 +3,12 @@
 ghost use Rattle.std.specs.Prelude.{◌≡◌, ◌<◌, ◌≤◌, ℕ, List, [], ◌∷◌, ◌++◌, IfErr, IfOk, OnErr, OnOk};
 ghost use Rattle.std.specs.Io.KnownBytes.{Appends};
 ghost use Rattle.host.specs.Requests.{IsSent, WasRefused};
+ghost use Rattle.runs.specs.Runs.{RunOutcome};
+ghost use Rattle.runs.specs.Portions.{IsEnough, WentOn, after_output};
 ghost use Rattle.driver.specs.RunCommand.{CutsOff, words_in};
-ghost use Rattle.driver.specs.Portions.{IsEnough, RunOutcome, WentOn, after_output};
 
 use host::{FormedWord, Output, WordForm};
+use runs::Advance;
 use std::alloc::{AllocError, Global};
 use std::io;
 
@@ -15,15 +17,6 @@ const PORTION: u64 = 1000000;
 
 /// The words of output that end a portion.
 const OUTPUTS: usize = 8192;
-
-/// How far a run went on.
-#[derive(Clone, Copy)]
-pub struct Advance<E> {
-    /// How it ended; None where it would go on.
-    pub end: Option<E>,
-    /// How many words or steps ran, with the last one, at which it ended.
-    pub ran: u64,
-}
 
 /// How a run ended, and how many words or steps it took.
 #[derive(Clone, Copy)]
@@ -45,10 +38,8 @@ pub enum Cut {
 pub trait Resumable {
     type End: Copy + Drop;
 
-    // what so many words or steps more come to, and what was written so far
+    // what so many words or steps more come to
     ghost comes_to: { Self → ℕ → RunOutcome Self.End };
-
-    ghost written: { Self → List ℕ };
 
     // the end of a run that would go on, and the text of an end
     ghost more: { Self.End };
@@ -62,20 +53,21 @@ pub trait Resumable {
         most: u64,
         outputs: usize,
     ) -> Result<Advance<Self::End>, AllocError>
-        ensures { IfOk result (λ a. WentOn comes_to written more most self.old self.new a.end a.ran) };
+        ensures went { IfOk result (λ a. WentOn comes_to more most self.old self.new a) }
+        ensures moved { IfOk result (λ a. 0 < most → 0 < a.ran) };
 
     /// Returns what was written so far, the first word first.
     fn output(&self) -> &[u32]
-        ensures { result.now ≡ written self.now };
+        ensures { result.now ≡ (comes_to self.now 0).output };
 
     /// Forgets what was written so far.
     fn clear_output(&mut self)
-        ensures { (n : ℕ) → comes_to self.old n ≡ after_output (written self.old) (comes_to self.new n) };
+        ensures { (n : ℕ) → comes_to self.old n ≡ after_output (comes_to self.old 0).output (comes_to self.new n) };
 
     /// Returns the end of a run that would go on.
     fn more(&self) -> Self::End
         ensures end { result ≡ more }
-        ensures now { comes_to self.now 0 ≡ record { end = more; output = written self.now } };
+        ensures now { (comes_to self.now 0).end ≡ more };
 
     /// Prints an end on a line.
     fn put_end<W: Output>(&self, end: Self::End, out: &mut W) -> io::Result<()>
@@ -111,7 +103,7 @@ fn put_last<R: Resumable, W: Output>(
     form: WordForm,
     end: R::End,
 ) -> io::Result<()>
-    ensures lines { OnOk result (Appends (W.contents out.old) (W.contents out.new) (words_in form (R.written run.now) ++ (R.end_text end ++ 10 ∷ []))) }
+    ensures lines { OnOk result (Appends (W.contents out.old) (W.contents out.new) (words_in form (R.comes_to run.now 0).output ++ (R.end_text end ++ 10 ∷ []))) }
     ensures sent { OnOk result (IsSent W.sends out.new) }
     ensures refused { OnErr result (WasRefused W.refuses out.new) }
 {

@@ -1,14 +1,14 @@
 //! The machine, as what runs in portions.
 
-ghost use Rattle.driver.specs.ImageRuns.{comes_to};
 ghost use Rattle.driver.specs.RunTexts.{ending_text};
-ghost use Rattle.mips_machine.specs.Views.{machine_of};
+ghost use Rattle.mips_machine.specs.Portions.{comes_to};
 
-use crate::run_command::portions::{Advance, Resumable};
+use crate::run_command::portions::Resumable;
 use crate::run_command::texts::EndingLine;
 use host::Output;
 use mips_code::Ending;
 use mips_machine::Machine;
+use runs::Advance;
 use std::alloc::{AllocError, Global};
 use std::io;
 
@@ -18,8 +18,6 @@ impl Resumable for Machine<'_> {
     ghost use Rattle.mips_code.specs.declared.steps.Ending.TheVariants.{More};
 
     ghost comes_to = { λ m n. comes_to m n };
-
-    ghost written = { λ m. (machine_of m).output };
 
     ghost more = { More };
 
@@ -31,11 +29,7 @@ impl Resumable for Machine<'_> {
         most: u64,
         outputs: usize,
     ) -> Result<Advance<Ending>, AllocError> {
-        let portion = Machine::go_on(self, most, outputs)?;
-        Ok(Advance {
-            end: portion.end,
-            ran: portion.words,
-        })
+        Machine::go_on(self, most, outputs)
     }
 
     fn output(&self) -> &[u32] {

@@ -1,14 +1,15 @@
 use Rattle.std.proofs.Common.{◌≡◌, ◌-◌, None}
-use Rattle.c_types.specs.Shape.{program_of}
-use Rattle.c_run.specs.Portions.{WentOn, state_of}
+use Rattle.runs.specs.Portions.{WentOn}
+use Rattle.runs.specs.declared.ran.End.TheVariants.{More}
+use Rattle.c_run.specs.Portions.{comes_to}
 use Rattle.c_run.proofs.portions.UnderWay.go_on.Given as goal
 
-abbrev pub invariant-loop-done : goal.invariant-loop-done
-invariant-loop-done l = record {
-  went : WentOn (program_of l.fn.self.program.now) l.fn.self.depth l.steps (state_of l.fn.self) (state_of l.self) None l.done;
+abbrev pub invariant-loop-ran : goal.invariant-loop-ran
+invariant-loop-ran l = record {
+  went : WentOn comes_to More l.steps l.fn.self l.self (record { end = None; ran = l.ran });
   program : l.self.program ≡ l.fn.self.program;
   depth : l.self.depth ≡ l.fn.self.depth;
 }
 
-abbrev pub decreases-loop-done : goal.decreases-loop-done
-decreases-loop-done l = l.steps - l.done
+abbrev pub decreases-loop-ran : goal.decreases-loop-ran
+decreases-loop-ran l = l.steps - l.ran

@@ -4,13 +4,13 @@ use Rattle.c_types.specs.Shape.{TypedParts, program_of}
 use Rattle.c_types.specs.Typed.{SpellsTyped}
 use Rattle.c_typed.specs.Trees.{TypedProgram}
 use Rattle.c_typed.specs.Meaning.{Run, source_run, source_start, source_steps}
-use Rattle.c_run.specs.Portions.{state_of}
+use Rattle.c_run.specs.Portions.{comes_to, state_of}
 use Rattle.c_run.specs.declared.portions.UnderWay.{UnderWay}
 use Rattle.host.specs.declared.numbers.WordForm.{WordForm}
 use Rattle.host.specs.OneFile.{IsBeginning}
 use Rattle.driver.specs.RunCommand.{AreFirstLines, words_in}
 use Rattle.driver.proofs.run_command.Streamed.{lines_on}
-use Rattle.driver.specs.Interps.{IsRun, comes_to}
+use Rattle.driver.specs.Interps.{IsRun}
 use Rattle.driver.specs.Program.{interpreting}
 use Rattle.driver.specs.Texts.{end_text}
 use Rattle.driver.proofs.interp_command.InterpCommandFileCommand.run.Goals as goal
@@ -54,7 +54,7 @@ returns-clause-broken g c =
       (
         cut.0,
         cut.1,
-        begins c.args.bytes.now c.args.self.now.depth c.args.self.now.steps c.args.self.now.form c.args.self.now.count c.in-Ok.typed c.in-Ok-begin.begun cut.0 c.in-Ok.ensures.typed
+        begins c.args.bytes.now c.args.self.now.depth c.args.self.now.steps c.args.self.now.form c.args.self.now.count c.in-Ok.typed c.in-Ok-begin.running cut.0 c.in-Ok.ensures.typed
             c.in-Ok-begin.ensures.start c.in-Ok-begin.ensures.program c.in-Ok-begin.ensures.depth cut.2,
       ),
     )

@@ -4,11 +4,12 @@ use Rattle.mips_code.specs.Machines as def
 use Rattle.mips_code.specs.Machines.{MachineOutcome, machine_run, words_code}
 use Rattle.mips_machine.specs.Views.{machine_of}
 use Rattle.mips_machine.specs.ImageRuns.{image_run, start_machine}
+use Rattle.mips_machine.specs.Portions.{comes_to}
 use Rattle.mips_machine.specs.declared.machine.Machine.{Machine}
 use Rattle.host.specs.OneFile.{IsBeginning}
 use Rattle.driver.specs.RunCommand.{AreFirstLines, running, words_in}
 use Rattle.host.specs.declared.numbers.WordForm.{WordForm}
-use Rattle.driver.specs.ImageRuns.{IsImageRun, comes_to}
+use Rattle.driver.specs.ImageRuns.{IsImageRun}
 use Rattle.driver.specs.RunTexts.{ending_text}
 use Rattle.driver.proofs.run_command.Streamed.{lines_on}
 use Rattle.driver.proofs.run_command.command.RunCommandFileCommand.run.Goals as goal
