@@ -1,13 +1,13 @@
 -- Declarations at file scope with one more at the end.
 use Rattle.std.proofs.Common.{◌≡◌, ◌⊎◌, ◌+◌, ◌<◌, ◌≤◌, arith, ℕ, List, [], ◌∷◌, ◌++◌, length, get_or, take, Result, Ok, Err, IfOk, IfErr}
-use Rattle.std.proofs.Common.{inl, inr, refl, sym, subst, ap, ◌∙◌, Option}
+use Rattle.std.proofs.Common.{inl, inr, refl, sym, subst, ap, ◌∙◌}
 use Rattle.std.proofs.lemmas.List.{take_more}
 use Rattle.c_tree.specs.declared.tree.Declaration.{Declaration}
-use Rattle.c_tree.specs.declared.tree.Parameter.{Parameter}
+use Rattle.c_tree.specs.declared.tree.Declaration.TheVariants.{Function as Define}
+use Rattle.c_tree.specs.declared.tree.FunctionDefinition.{FunctionDefinition}
 use Rattle.c_tree.specs.Shape.{declaration_of, declarations_of}
 use Rattle.c_tree.specs.Tree as Tree
 use Rattle.c_tokens.specs.declared.token.Identifier.{Identifier}
-use Rattle.c_tokens.specs.declared.token.IntegerType.{IntegerType}
 use Rattle.c_statements.specs.declared.fault.TypeFaultKind.{TypeFaultKind}
 use Rattle.c_statements.specs.declared.fault.TypeStop.{TypeStop}
 use Rattle.c_statements.specs.declared.fault.TypeStop.TheVariants.{NoMemory}
@@ -29,13 +29,12 @@ use Rattle.c_types.specs.Programs.{function_typed, functions_in, globals_in, mor
 use Rattle.c_types.specs.Programs.{no_declarations}
 
 -- a function under the names that its own name is among
-pub function-typed : (text : List ℕ) (f : File) (names : Bindings) (r : Option IntegerType) (x : Identifier) (ps : List Parameter)
-    (body : Tree.Items) (t : TypedFunction) → (after text f (Tree.function r x ps body)).names ≡ names
-    → IsFunction text names r x ps body t → TypesDeclaration text f (Tree.function r x ps body) (a_function t)
-function-typed text f names r x ps body t e h =
-    let Q : Bindings → Type 0 = λ n. IsFunction text n r x ps body t in
+pub function-typed : (text : List ℕ) (f : File) (names : Bindings) (d : FunctionDefinition) (t : TypedFunction)
+    → (after text f (declaration_of (Define d))).names ≡ names → IsFunction text names d t → TypesDeclaration text f (declaration_of (Define d)) (a_function t)
+function-typed text f names d t e h =
+    let Q : Bindings → Type 0 = λ n. IsFunction text n d t in
     let l = subst Q (sym e) h in
-    let P : TypedFunction → Type 0 = λ y. TypesDeclaration text f (Tree.function r x ps body) (a_function y) in
+    let P : TypedFunction → Type 0 = λ y. TypesDeclaration text f (declaration_of (Define d)) (a_function y) in
     subst P (sym l.is) (function_typed l.types)
 
 -- the name of a declaration and what follows it together

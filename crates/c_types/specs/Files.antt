@@ -1,15 +1,14 @@
 -- What the walk over the declarations keeps.
-use Rattle.std.specs.Prelude.{length, [], ◌∷◌, ◌++◌, Result, Ok, ◌≡◌, ◌+◌, ◌<◌, ◌≤◌, ◌⊎◌, ℕ, List, Option, Bool, true, false, nat_eq}
+use Rattle.std.specs.Prelude.{length, [], ◌∷◌, ◌++◌, Result, Ok, ◌≡◌, ◌+◌, ◌<◌, ◌≤◌, ◌⊎◌, ℕ, List, Bool, true, false, nat_eq}
 use Rattle.std.specs.Prelude.{bytes_eq}
-use Rattle.c_tree.specs.Tree.{Declaration, Items, variable, array, function}
+use Rattle.c_tree.specs.Tree.{Declaration, variable, array, function}
+use Rattle.c_tree.specs.Shape.{items_of}
 use Rattle.words.specs.Widths.{words_of_elements}
 use Rattle.c_typed.specs.declared.limits.TheConstants.{MAX_FUNCTIONS, MAX_GLOBAL_WORDS}
 use Rattle.c_statements.specs.declared.symbol_table.Scopes.{Scopes}
 use Rattle.c_statements.specs.Shape.{scopes_of}
 use Rattle.c_types.specs.declared.declaration.Tally.{Tally}
-use Rattle.c_tree.specs.declared.tree.Parameter.{Parameter}
-use Rattle.c_tokens.specs.declared.token.Identifier.{Identifier}
-use Rattle.c_tokens.specs.declared.token.IntegerType.{IntegerType}
+use Rattle.c_tree.specs.declared.tree.FunctionDefinition.{FunctionDefinition}
 use Rattle.c_statements.specs.Names as Names
 use Rattle.c_statements.specs.Names.{Bindings, spelling_in, behind_items}
 use Rattle.c_typed.specs.Shape.{function_of, functions_of}
@@ -48,15 +47,14 @@ abbrev pub file_scopes : Bindings → Names.Scopes
 file_scopes names = record { inner = names; around = []; locals = 0 }
 
 -- what a function at file scope comes to, under the names there
-pub record IsFunction (text : List ℕ) (names : Bindings) (r : Option IntegerType) (x : Identifier) (ps : List Parameter) (body : Items)
-    (t : TypedFunction) : Type 0 where
+pub record IsFunction (text : List ℕ) (names : Bindings) (f : FunctionDefinition) (t : TypedFunction) : Type 0 where
   pub typed : TypedStatements
-  pub types : TypesItems text (behind_parameters text (scopes_at names) ps) body typed
+  pub types : TypesItems text (behind_parameters text (scopes_at names) f.parameters.items) (items_of f.body.items) typed
   pub is : t ≡ record {
-    result = r;
-    parameters = length ps;
-    locals = (behind_items text (behind_parameters text (scopes_at names) ps) body).locals;
-    body = with_last typed (closing (bytes_eq (spelling_in text x) main_name) r);
+    result = f.result;
+    parameters = length f.parameters.items;
+    locals = (behind_items text (behind_parameters text (scopes_at names) f.parameters.items) (items_of f.body.items)).locals;
+    body = with_last typed (closing (bytes_eq (spelling_in text f.name) main_name) f.result);
   }
 
 abbrev pub declared_of : Declared → TypedDeclaration

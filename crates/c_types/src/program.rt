@@ -73,8 +73,7 @@ fn function<'a>(
     f: &FunctionDefinition,
 ) -> Result<Function, TypeStop>
     requires { scopes_of scopes.now ≡ file_scopes (scopes_of scopes.now).inner }
-    ensures typed { Answers (λ t. IsFunction program.now.text.items (scopes_of scopes.old).inner
-        f.now.result f.now.name f.now.parameters.items (items_of f.now.body.items) (function_of t))
+    ensures typed { Answers (λ t. IsFunction program.now.text.items (scopes_of scopes.old).inner f.now (function_of t))
         (FaultyBody program.now.text.items (scopes_of scopes.old).inner
         (function f.now.result f.now.name f.now.parameters.items (items_of f.now.body.items))) result }
     ensures scopes { (result ≡ Err NoMemory → ⊥) → scopes_of scopes.new ≡ scopes_of scopes.old }

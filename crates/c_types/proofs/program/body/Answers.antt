@@ -1,5 +1,4 @@
 use Rattle.std.proofs.Common.{rules}
-use Rattle.c_tree.specs.Shape.{items_of}
 use Rattle.c_statements.specs.Shape.{scopes_of}
 use Rattle.c_typed.specs.Shape.{function_of}
 use Rattle.c_types.specs.Programs.{variable_typed, array_typed}
@@ -20,8 +19,7 @@ returns-in-Ok-clause-typed c =
       ok =
           rw c.in-Function.is
           (λ f e. function-typed c.args.program.now.text.items f
-          (scopes_of c.args.scopes.now).inner c.in-Function.f.result c.in-Function.f.name c.in-Function.f.parameters.items
-          (items_of c.in-Function.f.body.items) (function_of c.in-Ok.typed) e c.in-Ok.ensures.typed.ok);
+          (scopes_of c.args.scopes.now).inner c.in-Function.f (function_of c.in-Ok.typed) e c.in-Ok.ensures.typed.ok);
       none = search rules;
       err = tt;
     }
