@@ -42,19 +42,19 @@ name_more xs k none inside =
     take_more ns k [] (omega arith)
     ∙ ap (λ (n : List ℕ). take k ns ++ n ∷ []) (get_or-map (λ (s : Bor (List ℕ)). s.now) xs k none [] inside)
 
-module _ {F E : Type 0} (answers : F → Request → F → Type 0) (tells : E → List ℕ → E → Type 0) (explain : Bool) where
+module _ {F W E : Type 0} (by : Relations F W E) (explain : Bool) where
   -- files, what standard output holds, and standard error
   abbrev Seen : Type 0
   Seen = HostState F (Option (List ℕ)) E
 
-  pub none_yet : (s : Seen) → AreChecked answers tells s s explain [] no_totals
+  pub none_yet : (s : Seen) → AreChecked by s s explain [] no_totals
   none_yet s = record { files = []; right = All-nil (IsRight explain); named = refl; asked = refl; took = Appends-nil s.out; told = refl; counted = refl }
 
   -- one more of the files
-  next : (a b c : Seen) (ns : List (List ℕ)) (name : List ℕ) (t : Totals) (line : FileLine) → AreChecked answers tells a b explain ns t
-      → ((r : Request) × answers b.files r c.files × IsChecked tells b.err c.err explain (file_of name r line))
+  next : (a b c : Seen) (ns : List (List ℕ)) (name : List ℕ) (t : Totals) (line : FileLine) → AreChecked by a b explain ns t
+      → ((r : Request) × by.answers b.files r c.files × IsChecked by.tells b.err c.err explain (file_of name r line))
       → Appends b.out c.out (line_text name line.said line.more)
-      → AreChecked answers tells a c explain (ns ++ name ∷ []) (totals_after kept_more t line.said)
+      → AreChecked by a c explain (ns ++ name ∷ []) (totals_after kept_more t line.said)
   next a b c ns name t line so_far (r, answered, one) took =
       let before = so_far.files in
       let file = file_of name r line in
@@ -63,40 +63,40 @@ module _ {F E : Type 0} (answers : F → Request → F → Type 0) (tells : E �
         files = before ++ this;
         right = All-append (IsRight explain) before this so_far.right (All-cons (IsRight explain) file [] one.0 (All-nil (IsRight explain)));
         named = map-append (λ (f : CheckedFile). f.name) before this ∙ ap (λ (xs : List (List ℕ)). xs ++ name ∷ []) so_far.named;
-        asked = subst (λ (rs : List Request). FoldsTo answers a.files rs c.files) (sym (map-append (λ (f : CheckedFile). f.request) before this))
-            (folds_on answers a.files b.files c.files (map (λ (f : CheckedFile). f.request) before) (r ∷ []) so_far.asked (c.files, answered, refl));
+        asked = subst (λ (rs : List Request). FoldsTo by.answers a.files rs c.files) (sym (map-append (λ (f : CheckedFile). f.request) before this))
+            (folds_on by.answers a.files b.files c.files (map (λ (f : CheckedFile). f.request) before) (r ∷ []) so_far.asked (c.files, answered, refl));
         took = subst (λ (bs : List ℕ). Appends a.out c.out bs) (sym (flat_map-append lines_of before this))
             (Appends-trans a.out b.out c.out (flat_map lines_of before) (flat_map lines_of this) so_far.took
             (subst (λ (bs : List ℕ). Appends b.out c.out bs) (sym (append-nil (lines_of file))) took));
-        told = subst (λ (ts : List (List ℕ)). FoldsTo (TellsLine tells) a.err ts c.err) (sym (flat_map-append faults_of before this))
-            (folds_on (TellsLine tells) a.err b.err c.err (flat_map faults_of before) (flat_map faults_of this) so_far.told
-            (subst (λ (ts : List (List ℕ)). FoldsTo (TellsLine tells) b.err ts c.err) (sym (append-nil (faults_of file))) one.1));
+        told = subst (λ (ts : List (List ℕ)). FoldsTo (TellsLine by.tells) a.err ts c.err) (sym (flat_map-append faults_of before this))
+            (folds_on (TellsLine by.tells) a.err b.err c.err (flat_map faults_of before) (flat_map faults_of this) so_far.told
+            (subst (λ (ts : List (List ℕ)). FoldsTo (TellsLine by.tells) b.err ts c.err) (sym (append-nil (faults_of file))) one.1));
         counted = ap (λ (u : Totals). totals_after kept_more u line.said) so_far.counted
             ∙ sym (fold-append (λ (u : Totals) (f : CheckedFile). totals_after kept_more u f.said) no_totals before this);
       }
 
   -- the same by the place of its name
   pub next_at : (a b c : Seen) (xs : List (Bor (List ℕ))) (k : ℕ) (none : Bor (List ℕ)) (t both : Totals) (line : FileLine) → k < length xs
-      → both ≡ totals_after kept_more t line.said → AreChecked answers tells a b explain (take k (map (λ s. s.now) xs)) t
-      → ((r : Request) × answers b.files r c.files × IsChecked tells b.err c.err explain (file_of (get_or xs k none).now r line))
+      → both ≡ totals_after kept_more t line.said → AreChecked by a b explain (take k (map (λ s. s.now) xs)) t
+      → ((r : Request) × by.answers b.files r c.files × IsChecked by.tells b.err c.err explain (file_of (get_or xs k none).now r line))
       → Appends b.out c.out (line_text (get_or xs k none).now line.said line.more)
-      → AreChecked answers tells a c explain (take (k + 1) (map (λ s. s.now) xs)) both
+      → AreChecked by a c explain (take (k + 1) (map (λ s. s.now) xs)) both
   next_at a b c xs k none t both line inside is so_far one took =
-      subst (λ (u : Totals). AreChecked answers tells a c explain (take (k + 1) (map (λ (s : Bor (List ℕ)). s.now) xs)) u) (sym is)
-      (subst (λ (ms : List (List ℕ)). AreChecked answers tells a c explain ms (totals_after kept_more t line.said)) (sym (name_more xs k none inside))
+      subst (λ (u : Totals). AreChecked by a c explain (take (k + 1) (map (λ (s : Bor (List ℕ)). s.now) xs)) u) (sym is)
+      (subst (λ (ms : List (List ℕ)). AreChecked by a c explain ms (totals_after kept_more t line.said)) (sym (name_more xs k none inside))
       (next a b c (take k (map (λ (s : Bor (List ℕ)). s.now) xs)) (get_or xs k none).now t line so_far one took))
 
   -- none is left
   pub whole : (a b : Seen) (xs : List (Bor (List ℕ))) (k : ℕ) (t : Totals) → length xs ≤ k
-      → AreChecked answers tells a b explain (take k (map (λ s. s.now) xs)) t → AreChecked answers tells a b explain (map (λ s. s.now) xs) t
+      → AreChecked by a b explain (take k (map (λ s. s.now) xs)) t → AreChecked by a b explain (map (λ s. s.now) xs) t
   whole a b xs k t end so_far =
       let ns = map (λ (s : Bor (List ℕ)). s.now) xs in
       let names = length-map xs (λ (s : Bor (List ℕ)). s.now) in
-      subst (λ (ms : List (List ℕ)). AreChecked answers tells a b explain ms t) (take_all k ns (omega arith)) so_far
+      subst (λ (ms : List (List ℕ)). AreChecked by a b explain ms t) (take_all k ns (omega arith)) so_far
 
   -- nothing is said of standard output
-  pub unprinted : (a b : Seen) (ns : List (List ℕ)) (t : Totals) → AreChecked answers tells a b explain ns t
-      → AreChecked answers tells (record a { out = None }) (record b { out = None }) explain ns t
+  pub unprinted : (a b : Seen) (ns : List (List ℕ)) (t : Totals) → AreChecked by a b explain ns t
+      → AreChecked by (record a { out = None }) (record b { out = None }) explain ns t
   unprinted a b ns t all = record {
     files = all.files;
     right = all.right;
@@ -110,7 +110,7 @@ module _ {F E : Type 0} (answers : F → Request → F → Type 0) (tells : E �
 module _ {F W E : Type 0} (by : Relations F W E) (explain : Bool) (old new : HostState F W E) where
   -- all of them, and then the totals
   pub all_checked : (p : Option (List ℕ)) (d : E) (ns : List (List ℕ)) (t : Totals) (n : ℕ) → length ns ≡ n → n < 2 ^ 64
-      → AreChecked by.answers by.tells (host_of old.files (by.contents old.out) old.err) (host_of new.files p d) explain ns t
+      → AreChecked by (host_of old.files (by.contents old.out) old.err) (host_of new.files p d) explain ns t
       → Keeps p (by.contents new.out) → by.tells d (totals_text n t ++ 10 ∷ []) new.err → ChecksAll by old new explain ns t.status
   all_checked p d ns t n long few these kept told =
       let counts = these.counted ∙ kept_totals these.files (subst (λ (m : ℕ). m < 2 ^ 64)
@@ -132,7 +132,7 @@ module _ {F W E : Type 0} (by : Relations F W E) (explain : Bool) (old new : Hos
 
   -- standard output was refused
   pub broken : (o p : Option (List ℕ)) (d : E) (ns rest all : List (List ℕ)) (t : Totals) → ns ++ rest ≡ all
-      → AreChecked by.answers by.tells (host_of old.files o old.err) (host_of new.files p d) explain ns t → WasRefused by.refuses new.out
+      → AreChecked by (host_of old.files o old.err) (host_of new.files p d) explain ns t → WasRefused by.refuses new.out
       → TellsLine by.tells d (host_fault_text CannotWrite) new.err → Asks by old new (BreaksOff explain all)
   broken o p d ns rest all t same these refused told = record {
     requests = map (λ (f : CheckedFile). f.request) these.files;
