@@ -15,15 +15,15 @@ use Rattle.rtl.specs.declared.instruction.RInst.TheVariants as I
 use Rattle.rtl.specs.declared.instruction.RExit.TheVariants as X
 use Rattle.rtl.specs.declared.block.RBlock.{RBlock}
 use Rattle.rtl.specs.Meaning.{Code, Surroundings, at, rtl_step, state_at_block}
-use Rattle.rtl_emit.specs.Operations.{ComputesContrary}
+use Rattle.rtl_emit.specs.Operations.{ComputesContrary, result_of}
 use Rattle.rtl_emit.specs.Blocks.{goto, exit_code, first, Spot, line_of, Lands, At}
 use Rattle.rtl_emit.specs.Runs.{Goes, Moves, Holds, Puts, Yields, Arrives}
-use Rattle.rtl_emit.specs.Expressions.{IsPlace, Evaluates, Fetches, Operates, Combines, Decides, IsTruth}
+use Rattle.rtl_emit.specs.Expressions.{IsPlace, Gives, Evaluates, Fetches, Decides, IsTruth, at_values, at_constant}
 use Rattle.rtl_emit.specs.declared.operation.Operation.{Operation}
 use Rattle.rtl_emit.proofs.Operations.{straight_op}
 use Rattle.rtl_emit.proofs.Steps.{goes_then, goes_one, moves_one, moves_then, moves_after, goes_of, with_some, chained, both_valued, written_here, written_other}
 use Rattle.rtl_emit.proofs.Steps.{jump_to, joins, holds_kept}
-use Rattle.rtl_emit.proofs.Values.{taken, yields_after, yields_then}
+use Rattle.rtl_emit.proofs.Values.{at_both, taken, yields_after, yields_then}
 
 -- a branch, by the word in a register
 branch : (w : Surroundings) (bs : List RBlock) (p yes_block no_block : ℕ) (r : Places) (v : ℕ) → r p ≡ Some v
@@ -69,10 +69,10 @@ same_way false c d = refl
 
 -- a contrary test, which goes the other way
 pub negated_decides : (bs : List RBlock) (e : TypedExpression) (z yes_block no_block free : ℕ) (from : Code) → free ≤ z
-    → Combines bs (straight_op O.Eq) e 0 free z from (exit_code (X.Branch z no_block yes_block)) → Decides bs e free yes_block no_block from
+    → Gives bs (at_constant (straight_op O.Eq) e 0) free z from (exit_code (X.Branch z no_block yes_block)) → Decides bs e free yes_block no_block from
 negated_decides bs e z yes_block no_block free from le ne = record {
   by = λ w l r v h is.
-      let y = ne.by w l r v (truth (nat_eq v 0)) h is refl in
+      let y = ne.by w l r (truth (nat_eq v 0)) h (ap (λ o. chain o (λ x. result_of (straight_op O.Eq) x 0)) is) in
       arrives_at w bs free r from _ _ (flipped (nat_eq v 0) yes_block no_block) (record {
         regs = y.regs;
         moves = moves_then y.moves (goes_one w.program w.depth _ _ (branch w bs z no_block yes_block y.regs (truth (nat_eq v 0)) y.done.value));
@@ -82,7 +82,7 @@ negated_decides bs e z yes_block no_block free from le ne = record {
 
 pub contrary_decides : (bs : List RBlock) (o : BinaryOp) (k : IntegerType) (op : Operation) (a b : TypedExpression) (z yes_block no_block free : ℕ)
     (from : Code)
-    → ComputesContrary o (sign_of k) op → free ≤ z → Operates bs op a b free z from (exit_code (X.Branch z no_block yes_block))
+    → ComputesContrary o (sign_of k) op → free ≤ z → Gives bs (at_values op a b) free z from (exit_code (X.Branch z no_block yes_block))
     → Decides bs (binary o k a b) free yes_block no_block from
 contrary_decides bs o k op a b z yes_block no_block free from tests le o' = record {
   by = λ w l r v h e.
@@ -90,7 +90,7 @@ contrary_decides bs o k op a b z yes_block no_block free from tests le o' = reco
       let t = tests.by c.x c.y in
       let some : Some (truth t.0) ≡ Some v = sym t.1 ∙ c.is in
       let is : truth t.0 ≡ v = cc in
-      let y = o'.by w l r c.x c.y (truth (not t.0)) h c.left_is c.right_is t.2 in
+      let y = o'.by w l r (truth (not t.0)) h (at_both op a b l w.globals c.x c.y (truth (not t.0)) c.left_is c.right_is t.2) in
       arrives_at w bs free r from _ _ (same_way t.0 yes_block no_block ∙ sym (flipped t.0 no_block yes_block)
       ∙ ap (λ v. if nat_eq v 0 then no_block else yes_block) is) (record {
         regs = y.regs;

@@ -14,7 +14,7 @@ use Rattle.rtl.specs.declared.block.RBlock.{RBlock}
 use Rattle.rtl.specs.Meaning.{Code}
 use Rattle.rtl_emit.specs.Operations.{inst_of}
 use Rattle.rtl_emit.specs.Blocks.{goto, exit_code, first, Spot, Lands, Grows, Has, At}
-use Rattle.rtl_emit.specs.Expressions.{IsPlace, IsTruth, Evaluates, Fetches, Combines, Decides}
+use Rattle.rtl_emit.specs.Expressions.{IsPlace, IsTruth, Gives, Evaluates, Fetches, Decides, at_constant}
 use Rattle.rtl_emit.specs.declared.operation.Operation.{Operation}
 use Rattle.rtl_emit.proofs.Operations.{straight_op}
 use Rattle.rtl_emit.proofs.Blocks.{split3}
@@ -67,14 +67,14 @@ conditional_is k p q is iq = is ∙ ap (λ p. conditional k (typed_expression_of
 
 pub combine_from : (bs : List RBlock) (op : Operation) (e : TypedExpression) (c d free p next z : ℕ) (inst : RInst) (from middle last after : Code)
     → inst ≡ inst_of op d p z → last ≡ first inst after → middle ≡ first (I.Const z c) last → IsPlace e free p next → z ≡ next
-    → Fetches bs e free p from middle → Combines bs op e c free d from after
+    → Fetches bs e free p from middle → Gives bs (at_constant op e c) free d from after
 combine_from bs op e c d free p next z inst from middle last after ii f1 f2 pl iz f =
     combines bs op e c d free p next z from after pl (omega arith) (finds_to (f2 ∙ ap (first (I.Const z c)) (f1 ∙ ap (λ i. first i after) ii)) f)
 
 combines_to : {bs : List RBlock} {op op' : Operation} {e : TypedExpression} {c free d : ℕ} {from to to' : Code} → op ≡ op' → to ≡ to'
-    → Combines bs op e c free d from to → Combines bs op' e c free d from to'
+    → Gives bs (at_constant op e c) free d from to → Gives bs (at_constant op' e c) free d from to'
 combines_to {bs} {op} {op'} {e} {c} {free} {d} {from} {to} {to'} io is ev =
-    subst (λ op. Combines bs op e c free d from to') io (subst (λ t. Combines bs op e c free d from t) is ev)
+    subst (λ op. Gives bs (at_constant op e c) free d from to') io (subst (λ t. Gives bs (at_constant op e c) free d from t) is ev)
 
 -- conditions
 
@@ -83,7 +83,7 @@ pub plain_from : (bs : List RBlock) (e : TypedExpression) (p y n free next : ℕ
 plain_from bs e p y n free next from end fe pl f = plain_decides bs e p y n free next from pl (finds_to fe f)
 
 pub negated_from : (bs : List RBlock) (e : TypedExpression) (op : Operation) (z y n free : ℕ) (from end : Code) → end ≡ exit_code (X.Branch z n y)
-    → op ≡ straight_op O.Eq → z ≡ free → Combines bs op e 0 free z from end → Decides bs e free y n from
+    → op ≡ straight_op O.Eq → z ≡ free → Gives bs (at_constant op e 0) free z from end → Decides bs e free y n from
 negated_from bs e op z y n free from end fe io iz m = negated_decides bs e z y n free from (omega arith) (combines_to io fe m)
 
 -- values by conditions

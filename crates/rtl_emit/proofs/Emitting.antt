@@ -16,7 +16,7 @@ use Rattle.rtl.specs.declared.limits.TheConstants.{MAX_REGISTERS, MAX_BLOCKS}
 use Rattle.rtl_emit.specs.Blocks.{open_code, first, line_of, insts_of, insts_at, insts_in, Spot, Grows, At}
 use Rattle.rtl_emit.specs.Emits.{Size, Covers, Description, Emits, KeepsCode, value_size, condition_size, both_size, value, operand, two_operands}
 use Rattle.rtl_emit.specs.Emits.{branch, condition_branch, own_branch, left_targets}
-use Rattle.rtl_emit.specs.Expressions.{IsPlace, IsTruth, Decides, Evaluates, Fetches, Combines}
+use Rattle.rtl_emit.specs.Expressions.{IsPlace, IsTruth, Decides, Evaluates, Fetches, Gives, at_constant}
 use Rattle.rtl_emit.specs.Operations.{IsPrefix, Computes, inst_of}
 use Rattle.rtl_emit.specs.Sizes.{spare_registers, both_registers, logical_of, joint, Beyond, by_branches, is_logical, place_registers, next_free, value_registers, value_blocks, globals_named}
 use Rattle.rtl_emit.specs.Sizes.{condition_registers, condition_blocks, combined_registers, test_registers, has_contrary}
@@ -292,7 +292,7 @@ pub prefix_emits : (old new : List RBlock) (o : UnaryOp) (with : Combination) (k
     → IfOk w (λ w. IsPlace a free w.place.register w.place.free)
     → OnOk w (spare_registers a free ≤ MAX_REGISTERS)
     → IfOk w (λ w. (bs : List RBlock) (from : Code) → Fetches bs a free w.place.register from (open_code w.code)
-    → Combines bs with.operation a with.word free d from (open_code opened))
+    → Gives bs (at_constant with.operation a with.word) free d from (open_code opened))
     → IfOk w (λ w. insts_of (open_code w.code) ≡ insts_of (open_code opened) + 2)
     → IfOk w (λ w. (s : Scope) → d < s.registers → spare_registers a free ≤ s.registers
     → IsSound s (open_code opened) → IsSound s (open_code w.code))
@@ -312,7 +312,7 @@ prefix_emits old new o with k a b d free opened after (Ok w) x prefix ib fe pl r
       (let m = keeps.1 in let n = ap insts_of fe in let l = line_insts after in omega (arith, m, insts, n, l)),
     ))
     (λ from made bs h. prefix_value bs o k with a d free (open_code from) (line_of after) prefix.1.1
-    (subst (λ c. Combines bs with.operation a with.word free d (open_code from) c) fe (does bs (open_code from) (made bs h)))))
+    (subst (λ c. Gives bs (at_constant with.operation a with.word) free d (open_code from) c) fe (does bs (open_code from) (made bs h)))))
 prefix_emits old new o with k a b d free opened after (Err f) x prefix ib fe pl room does insts sound limit v err =
     combined_along after (prefix_size o k a free (joint after) prefix.0 (λ io. sym ib ∙ prefix.1.0 io))
     (refused f err.0 err.1

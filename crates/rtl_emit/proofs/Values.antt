@@ -4,7 +4,7 @@ use Rattle.std.proofs.Common.{subst, arith, nat_eq}
 use Rattle.std.specs.Prelude.{map, if◌then◌else◌}
 use Rattle.std.proofs.lemmas.Bool.Decides.{eqb_tells}
 use Rattle.words.specs.Words.{wrap}
-use Rattle.runs.specs.Stores.{Places, places_with, chain, element_at}
+use Rattle.runs.specs.Stores.{Places, Arrays, places_with, chain, element_at}
 use Rattle.runs.specs.Runs.{with_value}
 use Rattle.c_tokens.specs.declared.token.IntegerType.{IntegerType}
 use Rattle.c_tokens.specs.declared.token.Literal.{Literal}
@@ -19,10 +19,10 @@ use Rattle.rtl.specs.declared.instruction.RInst.TheVariants as I
 use Rattle.rtl.specs.declared.block.RBlock.{RBlock}
 use Rattle.rtl.specs.Operators.{op_result}
 use Rattle.rtl.specs.Meaning.{Code, Surroundings, at, rtl_step, words_in}
-use Rattle.rtl_emit.specs.Operations.{inst_of, Computes, ComputesPrefix}
+use Rattle.rtl_emit.specs.Operations.{inst_of, result_of, Computes, ComputesPrefix}
 use Rattle.rtl_emit.specs.Blocks.{first}
 use Rattle.rtl_emit.specs.Runs.{Goes, Holds, Puts, Yields, Takes}
-use Rattle.rtl_emit.specs.Expressions.{Reads, IsPlace, Evaluates, Fetches, Operates, Combines, ArePlaces, FetchAll}
+use Rattle.rtl_emit.specs.Expressions.{Reads, IsPlace, Gives, Evaluates, Fetches, ArePlaces, FetchAll, at_values, at_constant, word_of}
 use Rattle.rtl_emit.specs.declared.operation.Combination.{Combination}
 use Rattle.rtl_emit.specs.declared.operation.Operation.{Operation}
 use Rattle.rtl_emit.specs.declared.place.Place.{Place}
@@ -150,51 +150,59 @@ operated w bs r false op d p q x y v after ep eq ev =
 -- two operands and an operation
 pub operates : (bs : List RBlock) (op : Operation) (a b : TypedExpression) (d free p next q last : ℕ) (from mid after : Code)
     → IsPlace a free p next → IsPlace b next q last → Fetches bs a free p from mid → Fetches bs b next q mid (first (inst_of op d p q) after)
-    → Operates bs op a b free d from after
+    → Gives bs (at_values op a b) free d from after
 operates bs op a b d free p next q last from mid after pa pb fa fb = record {
-  by = λ w l r x y v h ea eb ev.
-      let ta = taken w bs a free p next from mid l r x pa fa h ea in
-      let tb = taken w bs b next q last mid _ l ta.regs y pb fb (holds_kept free next l r ta.regs w.globals pa.rooms h ta.kept) eb in
-      let x_there : tb.regs p ≡ Some x = tb.kept p ta.held ∙ ta.value in
+  by = λ w l r v h e.
+      let ca = chained (value_of a l w.globals) (λ x. chain (value_of b l w.globals) (λ y. result_of op x y)) v e in
+      let cb = chained (value_of b l w.globals) (λ y. result_of op ca.value y) v ca.then_is in
+      let ta = taken w bs a free p next from mid l r ca.value pa fa h ca.is in
+      let tb = taken w bs b next q last mid _ l ta.regs cb.value pb fb (holds_kept free next l r ta.regs w.globals pa.rooms h ta.kept) cb.is in
+      let x_there : tb.regs p ≡ Some ca.value = tb.kept p ta.held ∙ ta.value in
       yields_after w bs free d r tb.regs _ _ _ v (goes_then ta.goes tb.goes)
       (λ x k. let k' : x < next = omega (arith, pa.rooms) in tb.kept x k' ∙ ta.kept x k)
-      (yields_one w bs free d tb.regs _ _ v (operated w bs tb.regs op.turned op.op d p q x y v after x_there tb.value ev));
+      (yields_one w bs free d tb.regs _ _ v (operated w bs tb.regs op.turned op.op d p q ca.value cb.value v after x_there tb.value cb.then_is));
 }
+
+pub at_both : (op : Operation) (a b : TypedExpression) (l : Places) (g : Arrays) (x y v : ℕ) → value_of a l g ≡ Some x → value_of b l g ≡ Some y
+    → result_of op x y ≡ Some v → word_of (at_values op a b) l g ≡ Some v
+at_both op a b l g x y v is_a is_b is = rw (is_a, is_b) is
 
 -- an operator whose operands are both evaluated
 pub operator_value : (bs : List RBlock) (o : BinaryOp) (k : IntegerType) (op : Operation) (a b : TypedExpression) (d free : ℕ) (from after : Code)
-    → Computes o (sign_of k) op → Operates bs op a b free d from after → Evaluates bs (binary o k a b) free d from after
+    → Computes o (sign_of k) op → Gives bs (at_values op a b) free d from after → Evaluates bs (binary o k a b) free d from after
 operator_value bs o k op a b d free from after c o' = record {
   by = λ w l r v h e.
       let g = w.globals in
       let t = both_valued o (sign_of k) (value_of a l g) (value_of b l g) v c.both e in
-      o'.by w l r t.x t.y v h t.left_is t.right_is
-      (c.by t.x t.y v (value-word a l g h.locals h.globals t.x t.left_is) (value-word b l g h.locals h.globals t.y t.right_is) t.is);
+      o'.by w l r v h (at_both op a b l g t.x t.y v t.left_is t.right_is
+      (c.by t.x t.y v (value-word a l g h.locals h.globals t.x t.left_is) (value-word b l g h.locals h.globals t.y t.right_is) t.is));
 }
 
 -- an operation at a value and a constant
 pub combines : (bs : List RBlock) (op : Operation) (e : TypedExpression) (c d free p next z : ℕ) (from after : Code) → IsPlace e free p next → next ≤ z
-    → Fetches bs e free p from (first (I.Const z c) (first (inst_of op d p z) after)) → Combines bs op e c free d from after
+    → Fetches bs e free p from (first (I.Const z c) (first (inst_of op d p z) after)) → Gives bs (at_constant op e c) free d from after
 combines bs op e c d free p next z from after pl le f = record {
-  by = λ w l r x v h is ev.
-      let t = taken w bs e free p next from _ l r x pl f h is in
+  by = λ w l r v h is.
+      let ch = chained (value_of e l w.globals) (λ x. result_of op x (wrap c)) v is in
+      let t = taken w bs e free p next from _ l r ch.value pl f h ch.is in
       let r1 = places_with t.regs z (Some (wrap c)) in
       let p_ne : p ≢ z = omega (arith, t.held) in
-      let p_there : r1 p ≡ Some x = written_other t.regs z (Some (wrap c)) p p_ne ∙ t.value in
+      let p_there : r1 p ≡ Some ch.value = written_other t.regs z (Some (wrap c)) p p_ne ∙ t.value in
       let z_there : r1 z ≡ Some (wrap c) = written_here t.regs z (Some (wrap c)) in
       yields_after w bs free d r r1 _ _ _ v (goes_then t.goes (sets w bs t.regs z c _))
       (λ y k. let ne : y ≢ z = omega (arith, pl.rooms) in written_other t.regs z (Some (wrap c)) y ne ∙ t.kept y k)
-      (yields_one w bs free d r1 _ _ v (operated w bs r1 op.turned op.op d p z x (wrap c) v after p_there z_there ev));
+      (yields_one w bs free d r1 _ _ v (operated w bs r1 op.turned op.op d p z ch.value (wrap c) v after p_there z_there ch.then_is));
 }
 
 -- a prefix operator by an operation at a constant
 pub prefix_value : (bs : List RBlock) (o : UnaryOp) (k : IntegerType) (with : Combination) (e : TypedExpression) (d free : ℕ) (from after : Code)
-    → ComputesPrefix o with → Combines bs with.operation e with.word free d from after → Evaluates bs (unary o k e) free d from after
+    → ComputesPrefix o with → Gives bs (at_constant with.operation e with.word) free d from after → Evaluates bs (unary o k e) free d from after
 prefix_value bs o k with e d free from after fits o' = record {
   by = λ w l r v h is.
       let g = w.globals in
       let ch = chained (value_of e l g) (λ x. unary_of o (sign_of k) x) v is in
-      o'.by w l r ch.value v h ch.is (fits.by (sign_of k) ch.value v (value-word e l g h.locals h.globals ch.value ch.is) ch.then_is);
+      o'.by w l r v h (ap (λ o. chain o (λ x. result_of with.operation x (wrap with.word))) ch.is
+      ∙ fits.by (sign_of k) ch.value v (value-word e l g h.locals h.globals ch.value ch.is) ch.then_is);
 }
 
 pub identity_value : (bs : List RBlock) (k : IntegerType) (e : TypedExpression) (d free : ℕ) (from after : Code)

@@ -1,8 +1,8 @@
 -- Which code stands for an expression: what the emitter promises of every list of blocks that has those which it made.
 -- In all of this `free` is the first register that is free, from which on code may write.
-use Rattle.std.specs.Prelude.{◌≡◌, ℕ, ◌+◌, ◌<◌, ◌≤◌, ◌⊎◌, ◌==◌, List, [], ◌∷◌, ◌++◌, Some, if◌then◌else◌}
+use Rattle.std.specs.Prelude.{◌≡◌, ℕ, ◌+◌, ◌<◌, ◌≤◌, ◌⊎◌, ◌==◌, List, [], ◌∷◌, ◌++◌, Option, Some, if◌then◌else◌}
 use Rattle.words.specs.Words.{wrap}
-use Rattle.runs.specs.Stores.{Places, Arrays}
+use Rattle.runs.specs.Stores.{Places, Arrays, chain}
 use Rattle.c_typed.specs.Trees.{TypedExpression}
 use Rattle.c_typed.specs.Values.{value_of}
 use Rattle.rtl.specs.Meaning.{Code, Surroundings}
@@ -28,25 +28,30 @@ pub record IsPlace (e : TypedExpression) (free p next : ℕ) : Type 0 where
   pub counted : place_registers e free ≡ p + 1
   pub is : Reads e p ⊎ ((free ≤ p) × (p < next))
 
--- the code from here on puts the value of e into the register d, and goes on there
-pub record Evaluates (bs : List RBlock) (e : TypedExpression) (free d : ℕ) (from to : Code) : Type 0 where
-  pub by : (w : Surroundings) (l r : Places) (v : ℕ) → Holds free l r w.globals → value_of e l w.globals ≡ Some v
+-- what code is to give: the value of an expression, or what an operation makes of two values, or of a value and a constant
+pub data Wanted : Type 0 where
+  the_value : TypedExpression → Wanted
+  at_values : Operation → (left right : TypedExpression) → Wanted
+  at_constant : Operation → TypedExpression → (constant : ℕ) → Wanted
+
+-- the word that this is, at these locals and globals, or none
+abbrev pub word_of : Wanted → Places → Arrays → Option ℕ
+word_of (the_value e) l g = value_of e l g
+word_of (at_values op a b) l g = chain (value_of a l g) (λ x. chain (value_of b l g) (λ y. result_of op x y))
+word_of (at_constant op e c) l g = chain (value_of e l g) (λ x. result_of op x (wrap c))
+
+-- the code from here on puts that word into the register d, where there is one, and goes on there
+pub record Gives (bs : List RBlock) (wanted : Wanted) (free d : ℕ) (from to : Code) : Type 0 where
+  pub by : (w : Surroundings) (l r : Places) (v : ℕ) → Holds free l r w.globals → word_of wanted l w.globals ≡ Some v
       → Yields w bs r from to (Puts free d v r)
+
+abbrev pub Evaluates : List RBlock → TypedExpression → (free d : ℕ) → (from to : Code) → Type 0
+Evaluates bs e free d from to = Gives bs (the_value e) free d from to
 
 -- the value of e is in the register p, or the code from here on puts it there
 pub record Fetches (bs : List RBlock) (e : TypedExpression) (free p : ℕ) (from to : Code) : Type 0 where
   pub by : (w : Surroundings) (l r : Places) (v : ℕ) → Holds free l r w.globals → value_of e l w.globals ≡ Some v
       → Takes w bs r from to (Puts free p v r)
-
--- the code from here on puts what an operation gives at the values of a and b into the register d
-pub record Operates (bs : List RBlock) (op : Operation) (a b : TypedExpression) (free d : ℕ) (from to : Code) : Type 0 where
-  pub by : (w : Surroundings) (l r : Places) (x y v : ℕ) → Holds free l r w.globals → value_of a l w.globals ≡ Some x
-      → value_of b l w.globals ≡ Some y → result_of op x y ≡ Some v → Yields w bs r from to (Puts free d v r)
-
--- the same at the value of e and the word of a constant
-pub record Combines (bs : List RBlock) (op : Operation) (e : TypedExpression) (c free d : ℕ) (from to : Code) : Type 0 where
-  pub by : (w : Surroundings) (l r : Places) (x v : ℕ) → Holds free l r w.globals → value_of e l w.globals ≡ Some x
-      → result_of op x (wrap c) ≡ Some v → Yields w bs r from to (Puts free d v r)
 
 -- the code from here on goes to the block yes where e isn't 0, and to the block no where it is
 pub record Decides (bs : List RBlock) (e : TypedExpression) (free yes no : ℕ) (from : Code) : Type 0 where

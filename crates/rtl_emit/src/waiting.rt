@@ -7,7 +7,7 @@ ghost use Rattle.rtl.specs.declared.instruction.RInst.TheVariants.{Const, Load};
 ghost use Rattle.rtl.specs.declared.instruction.RExit.TheVariants.{Branch};
 ghost use Rattle.rtl.specs.declared.limits.TheConstants.{MAX_REGISTERS};
 ghost use Rattle.rtl_emit.specs.Blocks.{open_code, exit_code, first, spot, line_of, insts_of};
-ghost use Rattle.rtl_emit.specs.Expressions.{IsPlace, Fetches, Combines, Decides};
+ghost use Rattle.rtl_emit.specs.Expressions.{IsPlace, Fetches, Gives, Decides, at_constant};
 ghost use Rattle.rtl_emit.specs.Operations.{inst_of};
 ghost use Rattle.rtl_emit.specs.Sizes.{place_registers, spare_registers, both_registers, tested_registers, Beyond};
 ghost use Rattle.rtl_emit.specs.Sound.{Scope, IsSound};
@@ -67,7 +67,7 @@ pub(crate) fn combination_at(
     ensures place { IfOk result (λ w. IsPlace (typed_expression_of e.now) free w.place.register w.place.free) }
     ensures does { IfOk result (λ w. (bs : List RBlock) (from : Code)
         → Fetches bs (typed_expression_of e.now) free w.place.register from (open_code w.code)
-        → Combines bs with.operation (typed_expression_of e.now) with.word free to from (open_code after)) }
+        → Gives bs (at_constant with.operation (typed_expression_of e.now) with.word) free to from (open_code after)) }
     ensures insts { IfOk result (λ w. insts_of (open_code w.code) ≡ insts_of (open_code after) + 2) }
     ensures sound { IfOk result (λ w. (s : Scope) → to < s.registers → spare_registers (typed_expression_of e.now) free ≤ s.registers
         → IsSound s (open_code after) → IsSound s (open_code w.code)) }
