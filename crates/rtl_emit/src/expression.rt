@@ -30,6 +30,12 @@ use c_typed::TypedExpression;
 use rtl::{BlockNumber, RBlock, Register};
 use std::alloc::Global;
 
+/// The left operand and the right one.
+type Operands = (TypedExpression, TypedExpression);
+
+/// The test of a conditional expression, and its sides.
+type Parts = (TypedExpression, TypedExpression, TypedExpression);
+
 /// Returns the word that a constant means.
 fn constant(value: u32) -> u32
     ensures { result ≡ wrap value }
@@ -78,13 +84,9 @@ pub fn value_into(
         }
         TypedExpression::Unary(operator, _, part) => unary_into(aim, blocks, *operator, part),
         TypedExpression::Binary(operator, integer_type, operands) => {
-            let (left, right) = &**operands;
-            binary_into(aim, blocks, *operator, *integer_type, left, right)
+            binary_into(aim, blocks, *operator, *integer_type, operands)
         }
-        TypedExpression::Conditional(_, parts) => {
-            let (test, first, second) = &**parts;
-            conditional_into(aim, blocks, test, first, second)
-        }
+        TypedExpression::Conditional(_, parts) => conditional_into(aim, blocks, parts),
     }
 }
 
@@ -136,15 +138,15 @@ fn binary_into(
     blocks: &mut Vec<RBlock>,
     operator: BinaryOp,
     integer_type: IntegerType,
-    left: &TypedExpression,
-    right: &TypedExpression,
+    operands: &Operands,
 ) -> Result<OpenBlock, LowerFault>
-    ensures { Emits (value (binary operator integer_type (typed_expression_of left.now) (typed_expression_of right.now))
+    ensures { Emits (value (binary operator integer_type (typed_expression_of operands.now.0) (typed_expression_of operands.now.1))
         aim.to aim.free (spot aim.after)) blocks.old.items blocks.new.items result }
 {
     match form_of(operator, integer_type) {
-        Form::Logical { both } => told_into(aim, blocks, both, left, right),
+        Form::Logical { both } => told_into(aim, blocks, both, operands),
         Form::Plain(operation) => {
+            let (left, right) = operands;
             let (alloc, to, free, after) = (aim.alloc, aim.to, aim.free, aim.after);
             let values = operation_at(operation, left, right, to, free, open_block(alloc, after));
             await_both(alloc, blocks, left, right, free, values)
@@ -158,14 +160,13 @@ fn told_into(
     aim: Aim,
     blocks: &mut Vec<RBlock>,
     both: bool,
-    left: &TypedExpression,
-    right: &TypedExpression,
+    operands: &Operands,
 ) -> Result<OpenBlock, LowerFault>
-    ensures { (k : IntegerType) → Emits (value (binary (logical_of both) k (typed_expression_of left.now) (typed_expression_of right.now))
+    ensures { (k : IntegerType) → Emits (value (binary (logical_of both) k (typed_expression_of operands.now.0) (typed_expression_of operands.now.1))
         aim.to aim.free (spot aim.after)) blocks.old.items blocks.new.items result }
 {
     let truth = truth_blocks(aim.alloc, blocks, aim.to, aim.after)?;
-    logical_branches(aim.alloc, blocks, both, left, right, truth, aim.free)
+    logical_branches(aim.alloc, blocks, both, operands, truth, aim.free)
 }
 
 /// Emits the value of a conditional expression, each side of which is a block of its own.
@@ -173,13 +174,12 @@ fn told_into(
 fn conditional_into(
     aim: Aim,
     blocks: &mut Vec<RBlock>,
-    test: &TypedExpression,
-    first: &TypedExpression,
-    second: &TypedExpression,
+    parts: &Parts,
 ) -> Result<OpenBlock, LowerFault>
-    ensures { (k : IntegerType) → Emits (value (conditional k (typed_expression_of test.now) (typed_expression_of first.now)
-        (typed_expression_of second.now)) aim.to aim.free (spot aim.after)) blocks.old.items blocks.new.items result }
+    ensures { (k : IntegerType) → Emits (value (conditional k (typed_expression_of parts.now.0) (typed_expression_of parts.now.1)
+        (typed_expression_of parts.now.2)) aim.to aim.free (spot aim.after)) blocks.old.items blocks.new.items result }
 {
+    let (test, first, second) = parts;
     let (alloc, to, free, after) = (aim.alloc, aim.to, aim.free, aim.after);
     let join = block_of(blocks, after)?;
     let yes = value_block(alloc, blocks, first, to, free, join)?;
@@ -323,10 +323,9 @@ pub fn condition(
             _ => test(alloc, blocks, e, targets, free),
         },
         TypedExpression::Binary(operator, integer_type, operands) => {
-            let (left, right) = &**operands;
             match form_of(*operator, *integer_type) {
                 Form::Logical { both } => {
-                    logical_branches(alloc, blocks, both, left, right, targets, free)
+                    logical_branches(alloc, blocks, both, operands, targets, free)
                 }
                 Form::Plain(_) => {
                     let Some(operation) = contrary_of(*operator, *integer_type) else {
@@ -335,14 +334,11 @@ pub fn condition(
                     if targets.likely {
                         return test(alloc, blocks, e, targets, free);
                     }
-                    contrary_test(alloc, blocks, operation, left, right, targets, free)
+                    contrary_test(alloc, blocks, operation, operands, targets, free)
                 }
             }
         }
-        TypedExpression::Conditional(_, parts) => {
-            let (test, first, second) = &**parts;
-            sides(alloc, blocks, test, first, second, targets, free)
-        }
+        TypedExpression::Conditional(_, parts) => sides(alloc, blocks, parts, targets, free),
         _ => test(alloc, blocks, e, targets, free),
     }
 }
@@ -353,16 +349,16 @@ fn contrary_test(
     alloc: Global,
     blocks: &mut Vec<RBlock>,
     operation: Operation,
-    left: &TypedExpression,
-    right: &TypedExpression,
+    operands: &Operands,
     targets: Targets,
     free: Register,
 ) -> Result<OpenBlock, LowerFault>
     ensures { (o : BinaryOp) (k : IntegerType) → ComputesContrary o (sign_of k) operation → Sizes.is_logical o ≡ false
         → has_contrary o ≡ true → targets.likely ≡ false
-        → Emits (condition_branch (binary o k (typed_expression_of left.now) (typed_expression_of right.now)) targets free)
+        → Emits (condition_branch (binary o k (typed_expression_of operands.now.0) (typed_expression_of operands.now.1)) targets free)
         blocks.old.items blocks.new.items result }
 {
+    let (left, right) = operands;
     let values = contrary_at(alloc, operation, left, right, targets, free);
     await_both(alloc, blocks, left, right, free, values)
 }
@@ -373,15 +369,15 @@ fn logical_branches(
     alloc: Global,
     blocks: &mut Vec<RBlock>,
     both: bool,
-    left: &TypedExpression,
-    right: &TypedExpression,
+    operands: &Operands,
     targets: Targets,
     free: Register,
 ) -> Result<OpenBlock, LowerFault>
-    ensures { (k : IntegerType) → Emits (condition_branch (binary (logical_of both) k (typed_expression_of left.now)
-        (typed_expression_of right.now)) targets free)
+    ensures { (k : IntegerType) → Emits (condition_branch (binary (logical_of both) k (typed_expression_of operands.now.0)
+        (typed_expression_of operands.now.1)) targets free)
         blocks.old.items blocks.new.items result }
 {
+    let (left, right) = operands;
     let second = branch_block(alloc, blocks, right, targets, free)?;
     condition(alloc, blocks, left, targets.of_left(both, second), free)
 }
@@ -391,15 +387,14 @@ fn logical_branches(
 fn sides(
     alloc: Global,
     blocks: &mut Vec<RBlock>,
-    test: &TypedExpression,
-    first: &TypedExpression,
-    second: &TypedExpression,
+    parts: &Parts,
     targets: Targets,
     free: Register,
 ) -> Result<OpenBlock, LowerFault>
-    ensures { (k : IntegerType) → Emits (condition_branch (conditional k (typed_expression_of test.now) (typed_expression_of first.now)
-        (typed_expression_of second.now)) targets free) blocks.old.items blocks.new.items result }
+    ensures { (k : IntegerType) → Emits (condition_branch (conditional k (typed_expression_of parts.now.0) (typed_expression_of parts.now.1)
+        (typed_expression_of parts.now.2)) targets free) blocks.old.items blocks.new.items result }
 {
+    let (test, first, second) = parts;
     let yes = branch_block(alloc, blocks, first, targets, free)?;
     let no = branch_block(alloc, blocks, second, targets, free)?;
     condition(alloc, blocks, test, likely_first(yes, no), free)

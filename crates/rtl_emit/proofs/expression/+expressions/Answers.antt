@@ -103,7 +103,7 @@ pub conditional_into-returns-in_err-no : goal.conditional_into-returns-in_err-no
 conditional_into-returns-in_err-no t c = λ k.
     let join = c.in_ok-join.ensures in
     let yes = c.in_ok-yes.ensures in
-    part_refused (joint (spot c.args.aim.after) + (value_blocks (typed_expression_of c.args.first.now) 0 + 1)) c.in_err-no.ensures (search rules)
+    part_refused (joint (spot c.args.aim.after) + (value_blocks (typed_expression_of c.args.parts.now.1) 0 + 1)) c.in_err-no.ensures (search rules)
     (omega arith) (omega arith) (omega arith) (grows_then _ _ _ join.grows yes.grows) (omega (arith, join.count, yes.count))
 
 pub conditional_into-returns : goal.conditional_into-returns
@@ -159,10 +159,10 @@ condition-returns-in-Not t c =
 
 pub condition-returns-in-Logical : goal.condition-returns-in-Logical
 condition-returns-in-Logical t c =
-    rw (binary_is _ _ _ _ _ (ap typed_expression_of c.in-Binary.is) c.in-Logical.ensures.form c.deref-in-Binary.ensures) (c.logical_branches.ensures _)
+    rw (binary_is _ _ _ _ _ (ap typed_expression_of c.in-Binary.is) c.in-Logical.ensures.form c.deref-in-Logical.ensures) (c.logical_branches.ensures _)
 
 pub condition-returns-else-targets : goal.condition-returns-else-targets
-condition-returns-else-targets t c = rw (binary_is _ _ _ _ _ (ap typed_expression_of c.in-Binary.is) refl c.deref-in-Binary.ensures)
+condition-returns-else-targets t c = rw (binary_is _ _ _ _ _ (ap typed_expression_of c.in-Binary.is) refl c.deref-in-Plain.ensures)
     (c.contrary_test.ensures _ _ c.in-Some.ensures.computes c.in-Plain.ensures.branches (sym c.in-Some.ensures.is) c.if-targets.false)
 
 pub condition-returns-in-Conditional : goal.condition-returns-in-Conditional
@@ -190,12 +190,12 @@ sides-returns-in_err-yes t c = λ k.
 pub sides-returns-in_err-no : goal.sides-returns-in_err-no
 sides-returns-in_err-no t c = λ k.
     let yes = c.in_ok-yes.ensures in
-    part_refused (condition_blocks (typed_expression_of c.args.first.now) + 1) c.in_err-no.ensures (search rules) (omega arith) (omega arith)
+    part_refused (condition_blocks (typed_expression_of c.args.parts.now.1) + 1) c.in_err-no.ensures (search rules) (omega arith) (omega arith)
     (omega arith) yes.grows yes.count
 
 pub sides-returns : goal.sides-returns
 sides-returns t c = λ k.
-    conditional_branches _ _ _ _ k _ (typed_expression_of c.args.first.now) (typed_expression_of c.args.second.now) c.args.targets _ _ c.in_ok-yes.yes
+    conditional_branches _ _ _ _ k _ (typed_expression_of c.args.parts.now.1) (typed_expression_of c.args.parts.now.2) c.args.targets _ _ c.in_ok-yes.yes
     c.in_ok-no.no _ c.likely_first.ensures c.in_ok-yes.ensures c.in_ok-no.ensures c.condition.ensures
 
 pub branch_block-returns-in_err-code : goal.branch_block-returns-in_err-code
@@ -230,8 +230,8 @@ condition-sides-requires t c =
 
 pub condition-logical_branches-requires : goal.condition-logical_branches-requires
 condition-logical_branches-requires t c =
-    let w = ap weight (binary_is _ _ _ _ _ (ap typed_expression_of c.in-Binary.is) refl c.deref-in-Binary.ensures) in (omega (arith, w), tt)
+    let w = ap weight (binary_is _ _ _ _ _ (ap typed_expression_of c.in-Binary.is) refl c.deref-in-Logical.ensures) in (omega (arith, w), tt)
 
 pub condition-contrary_test-requires : goal.condition-contrary_test-requires
 condition-contrary_test-requires t c =
-    let w = ap weight (binary_is _ _ _ _ _ (ap typed_expression_of c.in-Binary.is) refl c.deref-in-Binary.ensures) in (omega (arith, w), tt)
+    let w = ap weight (binary_is _ _ _ _ _ (ap typed_expression_of c.in-Binary.is) refl c.deref-in-Plain.ensures) in (omega (arith, w), tt)

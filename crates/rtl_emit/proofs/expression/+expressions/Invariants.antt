@@ -34,21 +34,21 @@ abbrev pub decreases-await_both : goal.decreases-await_both
 decreases-await_both l = weight (typed_expression_of l.left.now) + weight (typed_expression_of l.right.now) + 6
 
 abbrev pub decreases-logical_branches : goal.decreases-logical_branches
-decreases-logical_branches l = weight (typed_expression_of l.left.now) + weight (typed_expression_of l.right.now) + 6
+decreases-logical_branches l = weight (typed_expression_of l.operands.now.0) + weight (typed_expression_of l.operands.now.1) + 6
 
 abbrev pub decreases-contrary_test : goal.decreases-contrary_test
-decreases-contrary_test l = weight (typed_expression_of l.left.now) + weight (typed_expression_of l.right.now) + 7
+decreases-contrary_test l = weight (typed_expression_of l.operands.now.0) + weight (typed_expression_of l.operands.now.1) + 7
 
 abbrev pub decreases-told_into : goal.decreases-told_into
-decreases-told_into l = weight (typed_expression_of l.left.now) + weight (typed_expression_of l.right.now) + 7
+decreases-told_into l = weight (typed_expression_of l.operands.now.0) + weight (typed_expression_of l.operands.now.1) + 7
 
 abbrev pub decreases-binary_into : goal.decreases-binary_into
-decreases-binary_into l = weight (typed_expression_of l.left.now) + weight (typed_expression_of l.right.now) + 8
+decreases-binary_into l = weight (typed_expression_of l.operands.now.0) + weight (typed_expression_of l.operands.now.1) + 8
 
 abbrev pub decreases-sides : goal.decreases-sides
 decreases-sides l =
-    weight (typed_expression_of l.test.now) + weight (typed_expression_of l.first.now) + weight (typed_expression_of l.second.now) + 6
+    weight (typed_expression_of l.parts.now.0) + weight (typed_expression_of l.parts.now.1) + weight (typed_expression_of l.parts.now.2) + 6
 
 abbrev pub decreases-conditional_into : goal.decreases-conditional_into
 decreases-conditional_into l =
-    weight (typed_expression_of l.test.now) + weight (typed_expression_of l.first.now) + weight (typed_expression_of l.second.now) + 6
+    weight (typed_expression_of l.parts.now.0) + weight (typed_expression_of l.parts.now.1) + weight (typed_expression_of l.parts.now.2) + 6
