@@ -91,7 +91,7 @@ fn operand(e: &TypedExpression, locals: &[Option<u32>], globals: &[Vec<u32>]) ->
 
 /// Returns the value of an expression at these locals and globals; None if C leaves it undefined, or a local isn't set.
 #[cycle(value)]
-pub(crate) fn value(
+pub fn value(
     e: &TypedExpression,
     locals: &[Option<u32>],
     globals: &[Vec<u32>],

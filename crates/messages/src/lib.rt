@@ -13,7 +13,6 @@ mod chains;
 mod constants;
 mod expected;
 mod fault;
-mod folded;
 mod headers;
 mod lexical;
 mod missing;

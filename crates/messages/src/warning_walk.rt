@@ -3,9 +3,9 @@
 //! A typed tree has no places. The walk comes to names and signs in the order of the text, so it finds them one by one among the tokens.
 
 use crate::chains::may_chain;
-use crate::folded::constant;
 use crate::source::{Source, after};
 use crate::warnings::Warning;
+use c_run::expression_value;
 use c_tokens::{IntegerType, Mark};
 use c_tree::{BinaryOp, Declaration, Program};
 use c_typed::{Destination, Function, Global as Variable, TypedExpression, TypedStatement};
@@ -42,6 +42,11 @@ struct Walk<'a, 't> {
     has_return: bool,
     /// Of each function so far, whether its calls never end.
     endless: Vec<bool>,
+}
+
+/// Returns the value of an expression that is a constant; None if it has no meaning.
+fn constant(e: &TypedExpression) -> Option<u32> {
+    expression_value(e, &[], &[])
 }
 
 /// Returns the sign of an operator that may have no meaning, or may compare comparisons.
