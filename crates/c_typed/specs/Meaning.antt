@@ -71,8 +71,8 @@ pub record Frame : Type 0 where
 abbrev pub Run : Type 0
 Run = Configuration Frame
 
--- what surrounds the statements that run: the program and the bound on the calls that are active, where the result of
--- this call goes, the calls that wait, the globals, and the output so far
+-- what surrounds the statements that run: the program, with a bound on the calls that are active. This call's result
+-- goes somewhere, other calls wait, globals hold words, and there is output
 pub record Surroundings : Type 0 where
   pub program : TypedProgram
   pub depth : ℕ

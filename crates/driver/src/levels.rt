@@ -98,8 +98,8 @@ impl FileCommand for BelowCommand<'_> {
     }
 }
 
-/// Runs the C program of a file at the level that is asked for, and prints its output and how it ended: at the level of C while it runs. The
-/// answer is the exit status.
+/// Runs the C program of a file at the level that is asked for, and prints its output and how it ended. At the level of C it prints while
+/// the program runs. The answer is the exit status.
 pub(crate) fn interp_at<F: Files, W: Output, E: Complaints>(
     host: &mut Host<F, W, E>,
     asked: AskedInterp<'_>,

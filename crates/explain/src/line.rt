@@ -231,7 +231,7 @@ fn expected_line(stage: Stage) -> &'static str {
     }
 }
 
-/// Returns what is said of a line where no instruction or exit is wanted, or by how it begins or ends, and what to do; else None.
+/// Returns what is said of a line, and what to do: where nothing is wanted there, or by how it begins or ends. Else it is None.
 fn fault_of(stage: Stage, line: &[u8]) -> Option<(&'static str, Option<&'static str>)> {
     match (stage, line) {
         (_, [.., b'\r']) => Some((

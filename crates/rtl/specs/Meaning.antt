@@ -60,8 +60,8 @@ with_inst globals (Store a i b) r g out go =
     with_value (r i) out (λ x. with_value (r b) out (λ v. with_value (kept_in globals a v) out
     (λ w. with_value (arrays_with g a x w) out (λ g'. go r g'))))
 
--- what is around code that runs: the program and the bound on activations, where the result of the code's activation goes, the activations
--- that wait, the globals and the output
+-- what surrounds code that runs: the program, with a bound on activations. This activation's result goes somewhere, others wait, globals
+-- hold words, and there is output
 pub record Surroundings : Type 0 where
   pub program : Program
   pub depth : ℕ

@@ -29,14 +29,14 @@ pub record Size : Type 0 where
 abbrev pub Covers : Size → Scope → Type 0
 Covers size s = (size.registers ≤ s.registers) × (size.globals ≤ s.globals)
 
--- what a call emits: how big it is, what it keeps of the blocks that were there as they become new ones, and what it does in a list of blocks
+-- what a call emits: how big it is, what holds of old and new blocks, and what it does in a list that has the new ones
 pub record Description (A : Type 0) : Type 1 where
   pub size : Size
   pub Keeps : (old new : List RBlock) → A → Type 0
   pub Does : A → List RBlock → Type 0
 
--- the call emits this: the blocks that were there stay, whatever is answered. An Ok adds so many and is within the limits, keeps that, and
--- does its work in every list of blocks that has those which were added. A Limit comes only where one of the sizes is beyond one
+-- the call emits this: the blocks that were there stay, whatever is answered. An Ok adds so many and is within the limits. It does its work
+-- in every list of blocks that has those which were added. A Limit comes only where one of the sizes is beyond one
 pub record Emits {A : Type 0} (d : Description A) (old new : List RBlock) (r : Result A LowerFault) : Type 0 where
   pub grows : Grows old new
   pub count : OnOk r (length new ≡ length old + d.size.blocks)

@@ -51,8 +51,8 @@ fn put_refused(alloc: Global, out: &mut Writer, block: &Block) -> Result<(), All
     Ok(())
 }
 
-/// Writes the verdict on the order that is proposed for a block, in the words of `mcc check`, and the order that is taken; the one that
-/// was refused before it.
+/// Writes the verdict on the order that is proposed for a block, in the words of `mcc check`, and the order that is taken. One that was
+/// refused stands before it.
 pub(crate) fn put_settled(
     alloc: Global,
     out: &mut Writer,

@@ -180,7 +180,8 @@ impl<'a> View<'a> {
         Ok(())
     }
 
-    /// Writes what is made of the whole image, each block in its order; a fault if memory ran out to one of them, which would keep its own.
+    /// Writes what is made of the whole image, each block in its order. It is a fault if memory ran out for one of them: that one would keep
+    /// its own order.
     fn put_image(&self, out: &mut Writer) -> Result<(), ShowFault> {
         let Some(options) = PhaseOpts::new(1, 65536, 1024) else {
             return Ok(());
