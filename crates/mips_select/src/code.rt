@@ -10,11 +10,11 @@ ghost use Rattle.mips_select.specs.Emittable.{IsEmittable};
 ghost use Rattle.mips_select.specs.Plans.{linking_of, planning_of};
 ghost use Rattle.mips_select.specs.Whole.{behind, blocks_for};
 
-use crate::exits::{asked_of, emit_exit, next_at};
+use crate::exits::{Known, asked_of, emit_exit, next_at};
 use crate::heads::{Head, head_at, resumes};
 use crate::long::LongBlock;
 use crate::numbers::number_at;
-use crate::plan::{Linkage, Plan};
+use crate::plan::{Emitter, Linkage, Plan};
 use crate::prologue::emit_prologue;
 use crate::push::push;
 use mblock::{BlockNumber, Exit};
@@ -76,8 +76,11 @@ fn emit_own(
     // (rattle 13f: handing on `last` itself ends in "it was not told which modules hold the type": CONTRIBUTING.md)
     let fresh = last.fresh;
     let comparison: Option<Comparison> = last.comparison;
-    let last = Last { fresh, comparison };
-    emit_exit(code, facts, &last, linkage, plan, next, &block.exit)
+    let known = Known {
+        facts,
+        last: Last { fresh, comparison },
+    };
+    emit_exit(code, &known, linkage, plan, next, &block.exit)
 }
 
 /// Returns for how many instructions there is room at once, as most blocks need: a list that grows is copied at each step.
@@ -141,8 +144,7 @@ fn emit_behind(
 
 /// Emits the blocks for block j, the first of which has the number k.
 pub(crate) fn emit_block(
-    out: &mut Vec<LongBlock>,
-    facts: &mut Knowledge,
+    emitter: &mut Emitter,
     linkage: &Linkage<'_>,
     plan: &Plan<'_>,
     k: usize,
@@ -151,11 +153,12 @@ pub(crate) fn emit_block(
 ) -> Result<(), AllocError>
     requires number { k + count (heads_in plan.now.table.now) block.now.exit ≤ UNIT_BLOCKS }
     requires block { IsEmittable (length linkage.now.starts.now) block.now }
-    ensures { OnOk result (out.new.items ≡ out.old.items ++ blocks_for (linking_of linkage.now) (planning_of plan.now) k j block.now) }
+    ensures { OnOk result (emitter.new.blocks.items
+        ≡ emitter.old.blocks.items ++ blocks_for (linking_of linkage.now) (planning_of plan.now) k j block.now) }
 {
     let head = head_at(plan.table, j);
     let next = next_at(plan, k, &block.exit);
-    let first = block_for(facts, linkage, plan, head, next, block)?;
-    push(out, first)?;
-    emit_behind(linkage.alloc, out, plan, &block.exit)
+    let first = block_for(&mut emitter.facts, linkage, plan, head, next, block)?;
+    push(&mut emitter.blocks, first)?;
+    emit_behind(linkage.alloc, &mut emitter.blocks, plan, &block.exit)
 }

@@ -25,6 +25,13 @@ use mips_isa::{PairTest, Plain, Reg};
 use rtl::{RExit, Register};
 use std::alloc::AllocError;
 
+/// Has what is known where a block is left: words of pseudo-registers, and what its last instruction left.
+#[derive(Clone, Copy)]
+pub(crate) struct Known<'a> {
+    pub(crate) facts: &'a Knowledge,
+    pub(crate) last: Last,
+}
+
 /// Returns where the call at the end of block k goes on.
 pub(crate) fn next_at(plan: &Plan<'_>, k: usize, exit: &RExit) -> BlockNumber
     requires { k + count (heads_in plan.now.table.now) exit.now ≤ UNIT_BLOCKS }
@@ -56,28 +63,27 @@ pub(crate) fn asked_of(exit: &RExit) -> Asked
 /// Emits a branch to `then` if a pseudo-register isn't 0, else to `other`, and returns the exit.
 fn emit_branch(
     code: &mut Vec<Plain>,
-    facts: &Knowledge,
-    last: &Last,
+    known: &Known<'_>,
     frame: &Frame,
     c: Register,
     then: BlockNumber,
     other: BlockNumber,
 ) -> Result<Exit, AllocError>
     requires { IsReachable frame.now }
-    ensures code { OnOk result (code.new.items ≡ code.old.items ++ branch_code (tested last.now.comparison c)
-        (known_in (facts_of facts.now) c)
-        (last_operand (locations frame.now) (facts_of facts.now) last.now.fresh c)) }
-    ensures exit { IfOk result (λ x. x ≡ branch_exit (tested last.now.comparison c)
-        (known_in (facts_of facts.now) c)
-        (last_operand (locations frame.now) (facts_of facts.now) last.now.fresh c) then other) }
+    ensures code { OnOk result (code.new.items ≡ code.old.items ++ branch_code (tested known.now.last.comparison c)
+        (known_in (facts_of known.now.facts.now) c)
+        (last_operand (locations frame.now) (facts_of known.now.facts.now) known.now.last.fresh c)) }
+    ensures exit { IfOk result (λ x. x ≡ branch_exit (tested known.now.last.comparison c)
+        (known_in (facts_of known.now.facts.now) c)
+        (last_operand (locations frame.now) (facts_of known.now.facts.now) known.now.last.fresh c) then other) }
 {
-    if let Some(m) = tested(&last.comparison, c) {
+    if let Some(m) = tested(&known.last.comparison, c) {
         return Ok(comparison_exit(&m, then, other));
     }
-    if let Some(word) = known_word(facts, c) {
+    if let Some(word) = known_word(known.facts, c) {
         return Ok(Exit::Goto(if word == 0 { other } else { then }));
     }
-    let operand = last_operand(facts, last.fresh, frame, c);
+    let operand = last_operand(known.facts, known.last.fresh, frame, c);
     emit_fetch(code, register(SCRATCH_1), &operand)?;
     Ok(Exit::BranchPair {
         test: PairTest::NotEqual,
@@ -91,26 +97,31 @@ fn emit_branch(
 /// Emits a pseudo-register into the result's register, except where it is there already.
 fn emit_returned(
     code: &mut Vec<Plain>,
-    facts: &Knowledge,
-    last: &Last,
+    known: &Known<'_>,
     frame: &Frame,
     x: Register,
 ) -> Result<(), AllocError>
     requires { IsReachable frame.now }
-    ensures { OnOk result (code.new.items ≡ code.old.items ++ return_code (returned last.now.comparison x)
-        (last_operand (locations frame.now) (facts_of facts.now) last.now.fresh x)) }
+    ensures { OnOk result (code.new.items ≡ code.old.items ++ return_code (returned known.now.last.comparison x)
+        (last_operand (locations frame.now) (facts_of known.now.facts.now) known.now.last.fresh x)) }
 {
-    if returned(&last.comparison, x) {
+    if returned(&known.last.comparison, x) {
         return Ok(());
     }
-    emit_departure(code, facts, last.fresh, frame, register(RESULT), x)
+    emit_departure(
+        code,
+        known.facts,
+        known.last.fresh,
+        frame,
+        register(RESULT),
+        x,
+    )
 }
 
 /// Emits what stands before the exit of a block, whose call goes on at `next`, and returns the exit.
 pub(crate) fn emit_exit(
     code: &mut Vec<Plain>,
-    facts: &Knowledge,
-    last: &Last,
+    known: &Known<'_>,
     linkage: &Linkage<'_>,
     plan: &Plan<'_>,
     next: BlockNumber,
@@ -118,9 +129,9 @@ pub(crate) fn emit_exit(
 ) -> Result<Exit, AllocError>
     requires few { HasFewArguments exit.now }
     ensures code { OnOk result (code.new.items ≡ code.old.items
-        ++ exit_code plan.now.leaf plan.now.frame.now (facts_of facts.now) last.now exit.now) }
-    ensures exit { IfOk result (λ x. x ≡ exit_of (linking_of linkage.now) (planning_of plan.now).placing (facts_of facts.now) last.now
-        next exit.now) }
+        ++ exit_code plan.now.leaf plan.now.frame.now (facts_of known.now.facts.now) known.now.last exit.now) }
+    ensures exit { IfOk result (λ x. x ≡ exit_of (linking_of linkage.now) (planning_of plan.now).placing
+        (facts_of known.now.facts.now) known.now.last next exit.now) }
 {
     let frame = plan.frame;
     match exit {
@@ -128,10 +139,10 @@ pub(crate) fn emit_exit(
         RExit::Branch(c, then, other) => {
             let then = number_at(plan.places, *then);
             let other = number_at(plan.places, *other);
-            emit_branch(code, facts, last, frame, *c, then, other)
+            emit_branch(code, known, frame, *c, then, other)
         }
         RExit::Call(g, xs, _, _) => {
-            emit_arguments(code, facts, frame, xs.as_slice())?;
+            emit_arguments(code, known.facts, frame, xs.as_slice())?;
             Ok(Exit::Call {
                 function: number_at(linkage.entries, *g),
                 next,
@@ -142,12 +153,19 @@ pub(crate) fn emit_exit(
             Ok(Exit::Return)
         }
         RExit::Return(Some(x)) => {
-            emit_returned(code, facts, last, frame, *x)?;
+            emit_returned(code, known, frame, *x)?;
             emit_epilogue(code, frame, plan.leaf)?;
             Ok(Exit::Return)
         }
         RExit::Out(x, next) => {
-            emit_departure(code, facts, last.fresh, frame, register(FIRST_ARGUMENT), *x)?;
+            emit_departure(
+                code,
+                known.facts,
+                known.last.fresh,
+                frame,
+                register(FIRST_ARGUMENT),
+                *x,
+            )?;
             Ok(Exit::Out(number_at(plan.places, *next)))
         }
     }

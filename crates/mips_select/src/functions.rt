@@ -14,11 +14,11 @@ use crate::code::emit_block;
 use crate::heads::{Head, Naming, count_of, head_at, lead_in};
 use crate::long::LongBlock;
 use crate::numbers::{number, number_at, number_blocks};
-use crate::plan::{Linkage, Plan};
+use crate::plan::{Emitter, Linkage, Plan};
 use crate::prologue::emit_prologue;
 use crate::push::push;
 use mblock::{BlockNumber, Exit};
-use mips_emit::{Knowledge, emit_constant};
+use mips_emit::emit_constant;
 use mips_homes::{Frame, GLOBAL_POINTER, is_leaf};
 use mips_isa::{AluOp, DATA_BASE, Plain, Reg};
 use rtl::{RBlock, RFunc};
@@ -29,8 +29,7 @@ const DATA_MIDDLE: u32 = DATA_BASE + 32_768;
 
 /// Emits the blocks for some blocks, the first of which has the number `first`.
 fn emit_blocks(
-    out: &mut Vec<LongBlock>,
-    facts: &mut Knowledge,
+    emitter: &mut Emitter,
     linkage: &Linkage<'_>,
     plan: &Plan<'_>,
     first: usize,
@@ -38,12 +37,13 @@ fn emit_blocks(
 ) -> Result<(), AllocError>
     requires number { first + size_of_blocks (heads_in plan.now.table.now) blocks.now ≤ UNIT_BLOCKS }
     requires blocks { AreEmittable (length linkage.now.starts.now) blocks.now }
-    ensures { OnOk result (out.new.items ≡ out.old.items ++ blocks_from (linking_of linkage.now) (planning_of plan.now) first 0 blocks.now) }
+    ensures { OnOk result (emitter.new.blocks.items
+        ≡ emitter.old.blocks.items ++ blocks_from (linking_of linkage.now) (planning_of plan.now) first 0 blocks.now) }
 {
     let mut k = first;
     for j in 0..blocks.len() {
         let block = &blocks[j];
-        emit_block(out, facts, linkage, plan, k, j, block)?;
+        emit_block(emitter, linkage, plan, k, j, block)?;
         k += count_of(plan.table, &block.exit);
     }
     Ok(())
@@ -71,8 +71,7 @@ fn emit_lead(
 
 /// Emits the blocks for a function, the first of which has the number k.
 fn emit_function(
-    out: &mut Vec<LongBlock>,
-    facts: &mut Knowledge,
+    emitter: &mut Emitter,
     linkage: &Linkage<'_>,
     frame: &Frame,
     table: &[Naming],
@@ -83,7 +82,8 @@ fn emit_function(
     requires number { k + function_size func.now ≤ UNIT_BLOCKS }
     requires frame { IsReachable frame.now }
     requires function { IsFunctionEmittable (length linkage.now.starts.now) func.now }
-    ensures { OnOk result (out.new.items ≡ out.old.items ++ function_blocks (linking_of linkage.now) k func.now frame.now) }
+    ensures { OnOk result (emitter.new.blocks.items
+        ≡ emitter.old.blocks.items ++ function_blocks (linking_of linkage.now) k func.now frame.now) }
 {
     let blocks = func.blocks.as_slice();
     let first = k + lead_in(table);
@@ -96,33 +96,33 @@ fn emit_function(
         table,
         places,
     };
-    emit_lead(linkage.alloc, out, &plan, head_at(table, 0))?;
-    emit_blocks(out, facts, linkage, &plan, first, blocks)
+    emit_lead(linkage.alloc, &mut emitter.blocks, &plan, head_at(table, 0))?;
+    emit_blocks(emitter, linkage, &plan, first, blocks)
 }
 
 /// Emits the blocks for all functions, after the two for start and end.
 pub(crate) fn emit_functions(
-    out: &mut Vec<LongBlock>,
+    emitter: &mut Emitter,
     linkage: &Linkage<'_>,
     namings: &[Vec<Naming>],
     functions: &[RFunc],
     frames: &[Frame],
 ) -> Result<(), AllocError>
     requires named { AreNamed namings.now functions.now }
-    requires behind { length out.now.items ≡ 2 }
+    requires behind { length emitter.old.blocks.items ≡ 2 }
     requires number { 2 + functions_size functions.now ≤ UNIT_BLOCKS }
     requires lengths { length frames.now ≡ length functions.now }
     requires frames { AreReachable frames.now }
     requires functions { AreFunctionsEmittable (length linkage.now.starts.now) functions.now }
-    ensures { OnOk result (out.new.items ≡ out.old.items ++ functions_blocks (linking_of linkage.now) 2 functions.now frames.now) }
+    ensures { OnOk result (emitter.new.blocks.items
+        ≡ emitter.old.blocks.items ++ functions_blocks (linking_of linkage.now) 2 functions.now frames.now) }
 {
-    let mut facts = Knowledge::none(linkage.alloc)?;
     for i in 0..functions.len() {
         let func = &functions[i];
         let frame = &frames[i];
         let table = namings[i].as_slice();
-        let k = out.len();
-        emit_function(out, &mut facts, linkage, frame, table, k, func)?;
+        let k = emitter.blocks.len();
+        emit_function(emitter, linkage, frame, table, k, func)?;
     }
     Ok(())
 }

@@ -7,7 +7,9 @@ ghost use Rattle.mips_emit.specs.Frames.{IsHome-prop, IsReachable};
 ghost use Rattle.mips_select.specs.Emittable.{AreInside};
 
 use crate::heads::Naming;
+use crate::long::LongBlock;
 use mblock::BlockNumber;
+use mips_emit::Knowledge;
 use mips_homes::Frame;
 use rtl::RGlobal;
 use std::alloc::Global;
@@ -20,6 +22,13 @@ pub(crate) struct Linkage<'a> {
     pub(crate) starts: &'a [u32],
     pub(crate) entries: &'a [BlockNumber],
     ghost inside: { AreInside starts.now UNIT_BYTES },
+}
+
+/// Has the blocks that are made, and the memory for what is known within the next one.
+#[derive(Drop)]
+pub(crate) struct Emitter {
+    pub(crate) blocks: Vec<LongBlock>,
+    pub(crate) facts: Knowledge,
 }
 
 /// Says of a function: its frame, whether it makes no call, its parameters, how its blocks are named, and where they are.

@@ -18,8 +18,9 @@ use crate::limits::have_room;
 use crate::long::LongBlock;
 use crate::numbers::{Numbers, number_at, number_functions};
 use crate::pieces::split_unit;
-use crate::plan::Linkage;
+use crate::plan::{Emitter, Linkage};
 use mblock::{BlockNumber, Unit};
+use mips_emit::Knowledge;
 use mips_homes::{Homed, place};
 use rtl::Rtl;
 use std::alloc::{AllocError, Global};
@@ -54,8 +55,11 @@ fn emit_program(
     let mut out = Vec::with_capacity(alloc, count)?;
     emit_start(alloc, &mut out, number_at(entries, homed.rtl.main()))?;
     emit_end(alloc, &mut out)?;
-    emit_functions(&mut out, &linkage, namings, functions, frames)?;
-    Ok(out)
+    let facts = Knowledge::none(alloc)?;
+    let mut emitter = Emitter { blocks: out, facts };
+    emit_functions(&mut emitter, &linkage, namings, functions, frames)?;
+    let Emitter { blocks, .. } = emitter;
+    Ok(blocks)
 }
 
 /// Chooses the homes of a program, if each frame is within reach and `depth` of the largest ones have room.

@@ -29,12 +29,12 @@ emit_function-requires-clause-function c = (c.requires.functions).by c.loop-i.i 
 
 pub loop-i-preserved : goal.loop-i-preserved
 loop-i-preserved c =
-    functions_step _ c.loop-i.i _ c.args.functions.now c.args.frames.now c.index-functions-i.result c.index-frames-i.result c.loop-i.out.items _ _
+    functions_step _ c.loop-i.i _ c.args.functions.now c.args.frames.now c.index-functions-i.result c.index-frames-i.result c.loop-i.emitter.blocks.items _ _
     c.len-k.result c.loop-i-test.true c.requires.lengths c.index-functions-i.is c.index-frames-i.is
     (omega (arith, c.len-k.ensures)) c.in_ok-emit_function.ensures c.loop-i.invariant
 
 pub returns : goal.returns
 returns c =
-    let out = c.loop-i.out.items in
+    let out = c.loop-i.emitter.blocks.items in
     sym (at_drop_all (λ fs. out ++ functions_blocks (linking_of c.args.linkage.now) (length out) fs (drop c.loop-i.i c.args.frames.now)) c.args.functions.now c.loop-i.i
     c.loop-i-test.false ∙ append-nil out) ∙ c.loop-i.invariant.1
