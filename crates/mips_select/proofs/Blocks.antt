@@ -147,22 +147,18 @@ pub functions_step : (l : Linking) (i total : ℕ) (funcs : List RFunc) (fs : Li
 functions_step l i total funcs fs func f out out' all k within same func_is f_is k_is e before =
     let funcs' = drop (i + 1) funcs in
     let fs' = drop (i + 1) fs in
+    let own = function_blocks l (length out) func f in
     let size = at_drop_more functions_size funcs i func within in
     let one = ap (λ (f : RFunc). function_size f) func_is in
-    let made : out' ≡ out ++ function_blocks l (length out) func f = e
-    ∙ ap (λ k. out ++ function_blocks l k func f) k_is in
-    let long : length out' ≡ length out + function_size func = ap length made ∙ length-append out (function_blocks l (length out) func f)
-    ∙ ap (λ n. length out + n) (function_length l (length out) func f) in
+    let long : length out' ≡ length out + function_size func = cc (length-append out own, function_length l (length out) func f) in
     let count = before.0 in (
       omega (arith, long, size, one, count),
-      ap₂ (λ out k. out ++ functions_blocks l k funcs' fs') made long
-          ∙ append_assoc out (function_blocks l (length out) func f)
-          (functions_blocks l (length out + function_size func) funcs' fs')
-          ∙ ap (λ (func : RFunc). out ++ functions_blocks l (length out) (func ∷ funcs') (f ∷ fs')) func_is
-          ∙ ap (λ (f : Frame). out ++ functions_blocks l (length out) (get_or funcs i func ∷ funcs') (f ∷ fs')) f_is
-          ∙ sym (at_drop_more (λ funcs. out ++ functions_blocks l (length out) funcs (get_or fs i f ∷ fs')) funcs i func within)
-          ∙ sym (at_drop_more (λ fs. out ++ functions_blocks l (length out) (drop i funcs) fs) fs i f (omega (arith, within, same)))
-          ∙ before.1,
+      cc (
+        append_assoc out own (functions_blocks l (length out + function_size func) funcs' fs'),
+        at_drop_more (λ l. l) funcs i func within,
+        at_drop_more (λ l. l) fs i f (omega (arith, within, same)),
+        before.1,
+      ),
     )
 
 -- the number of one more block

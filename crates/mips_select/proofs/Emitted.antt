@@ -29,33 +29,25 @@ kept false f = f.saved.items ++ 31 ∷ []
 -- one more register
 pub frame_more : (direction : Direction) (at : ℕ) (rs : List ℕ) (r : ℕ) → frame_words direction at (rs ++ r ∷ []) ≡ frame_words direction at rs ++ frame_word direction r (at + 4 * length rs) ∷ []
 frame_more direction at [] r = (let e : at ≡ at + 4 * 0 = omega arith in ap (λ n. frame_word direction r n ∷ []) e)
-frame_more direction at (q ∷ rs) r =
-    let e : at + 4 + 4 * length rs ≡ at + 4 * length (q ∷ rs) = omega arith in
-    ap (λ l. frame_word direction q at ∷ l) (frame_more direction (at + 4) rs r ∙ ap (λ n. frame_words direction (at + 4) rs ++ frame_word direction r n ∷ []) e)
+frame_more direction at (q ∷ rs) r = (let e : at + 4 + 4 * length rs ≡ at + 4 * length (q ∷ rs) = omega arith in cc (frame_more direction (at + 4) rs r))
 
 -- one more parameter
 pub parameters_more : (at : Locations) (t x n : ℕ) → parameters_code at t x (suc n) ≡ parameters_code at t x n ++ arrive (at (x + n)) (t + n)
 parameters_more at t x zero =
     let et : t ≡ t + 0 = omega arith in
     let ex : x ≡ x + 0 = omega arith in
-    append-nil (arrive (at x) t) ∙ ap (λ t. arrive (at x) t) et ∙ ap (λ x. arrive (at x) (t + 0)) ex
+    cc (append-nil (arrive (at x) t))
 parameters_more at t x (suc n) =
     let et : suc t + n ≡ t + suc n = omega arith in
     let ex : suc x + n ≡ x + suc n = omega arith in
-    ap (λ l. arrive (at x) t ++ l) (parameters_more at (suc t) (suc x) n ∙ ap
-    (λ t'. parameters_code at (suc t) (suc x) n ++ arrive (at (suc x + n)) t') et
-    ∙ ap (λ x'. parameters_code at (suc t) (suc x) n ++ arrive (at x') (t + suc n)) ex)
-    ∙ sym (append_assoc (arrive (at x) t) (parameters_code at (suc t) (suc x) n) (arrive (at (x + suc n)) (t + suc n)))
+    cc (parameters_more at (suc t) (suc x) n, append_assoc (arrive (at x) t) (parameters_code at (suc t) (suc x) n) (arrive (at (x + suc n)) (t + suc n)))
 
 pub parameters_step : (at : Locations) (x t : ℕ) (code code' start : List Plain) → code ≡ start ++ parameters_code at 4 0 x
     → code' ≡ code ++ arrive (at x) t → t ≡ 4 + x → code' ≡ start ++ parameters_code at 4 0 (x + 1)
 parameters_step at x t code code' start e f t_is =
     let next : suc x ≡ x + 1 = omega arith in
     let zero_x : 0 + x ≡ x = omega arith in
-    f ∙ ap (λ l. l ++ arrive (at x) t) e ∙ append_assoc start (parameters_code at 4 0 x) (arrive (at x) t)
-    ∙ ap (λ t. start ++ (parameters_code at 4 0 x ++ arrive (at x) t)) t_is
-    ∙ ap (λ y. start ++ (parameters_code at 4 0 x ++ arrive (at y) (4 + x))) (sym zero_x)
-    ∙ ap (λ l. start ++ l) (sym (parameters_more at 4 0 x)) ∙ ap (λ n. start ++ parameters_code at 4 0 n) next
+    cc (append_assoc start (parameters_code at 4 0 x) (arrive (at x) t), parameters_more at 4 0 x)
 
 -- the link, behind the registers that are saved
 pub kept_words : (direction : Direction) (leaf : Bool) (f : Frame) → frame_words direction (4 * f.slots) f.saved.items ++ frame_link direction leaf f ≡ frame_words direction (4 * f.slots) (kept leaf f)
@@ -68,31 +60,22 @@ pub epilogue_made : (leaf : Bool) (f : Frame) (size : ℕ) (saved : List ℕ) (c
     → code3 ≡ code2 ++ stack_step Restore size → code3 ≡ code0 ++ epilogue leaf f
 epilogue_made leaf f size saved code0 code1 code2 code3 size_is saved_is e1 e2 e3 =
     let rs = frame_words Restore (4 * f.slots) f.saved.items in
-    e3 ∙ ap (λ n. code2 ++ stack_step Restore n) size_is
-    ∙ ap (λ l. l ++ stack_step Restore (frame_bytes leaf f)) (e2 ∙ ap (λ l. l ++ frame_link Restore leaf f)
-    (e1 ∙ ap (λ l. code0 ++ frame_words Restore (4 * f.slots) l) saved_is)
-    ∙ append_assoc code0 rs (frame_link Restore leaf f))
-    ∙ append_assoc code0 (rs ++ frame_link Restore leaf f) (stack_step Restore (frame_bytes leaf f))
+    cc (append_assoc code0 rs (frame_link Restore leaf f), append_assoc code0 (rs ++ frame_link Restore leaf f) (stack_step Restore (frame_bytes leaf f)))
 
 pub prologue_made : (leaf : Bool) (f : Frame) (n size : ℕ) (saved : List ℕ) (code0 code1 code2 code3 code4 : List Plain) → size ≡ frame_bytes leaf f
     → saved ≡ f.saved.items
     → code1 ≡ code0 ++ stack_step Save size → code2 ≡ code1 ++ frame_words Save (4 * f.slots) saved → code3 ≡ code2 ++ frame_link Save leaf f
     → code4 ≡ code3 ++ parameters_code (locations f) 4 0 n → code4 ≡ code0 ++ prologue leaf f n
 prologue_made leaf f n size saved code0 code1 code2 code3 code4 size_is saved_is e1 e2 e3 e4 =
+    let step = stack_step Save (frame_bytes leaf f) in
+    let link = frame_link Save leaf f in
+    let words = frame_words Save (4 * f.slots) f.saved.items ++ link in
     let ps = parameters_code (locations f) 4 0 n in
-    let ss = frame_words Save (4 * f.slots) f.saved.items in
-    let l3 : code3 ≡ code1 ++ (ss ++ frame_link Save leaf f) =
-    e3 ∙ ap (λ l. l ++ frame_link Save leaf f) (e2 ∙ ap (λ l. code1 ++ frame_words Save (4 * f.slots) l) saved_is)
-    ∙ append_assoc code1 ss (frame_link Save leaf f) in
-    e4 ∙ ap (λ l. l ++ ps) (l3 ∙ ap (λ l. l ++ (ss ++ frame_link Save leaf f)) (e1 ∙ ap (λ n. code0 ++ stack_step Save n) size_is))
-    ∙ append_assoc (code0 ++ stack_step Save (frame_bytes leaf f)) (ss ++ frame_link Save leaf f) ps
-    ∙ append_assoc code0 (stack_step Save (frame_bytes leaf f)) ((ss ++ frame_link Save leaf f) ++ ps)
+    cc (append_assoc code1 (frame_words Save (4 * f.slots) f.saved.items) link, append_assoc (code0 ++ step) words ps, append_assoc code0 step (words ++ ps))
 
 pub all_parameters : (at : Locations) (x n : ℕ) (code start : List Plain) → code ≡ start ++ parameters_code at 4 0 x → x ≤ n → n ≤ x
     → code ≡ start ++ parameters_code at 4 0 n
-all_parameters at x n code start e up down =
-    let same : x ≡ n = omega (arith, up, down) in
-    e ∙ ap (λ n. start ++ parameters_code at 4 0 n) same
+all_parameters at x n code start e up down = (let same : x ≡ n = omega (arith, up, down) in cc)
 
 -- registers that are saved can be written
 pub saved_number : (rs : List ℕ) (i : ℕ) → ((j r : ℕ) → slice_get rs j ≡ Some r → (16 ≤ r) × (r < 24)) → i < length rs
@@ -110,27 +93,12 @@ pub block_made : (l : Linking) (p : Placing) (head : List Plain) (n : ℕ) (b : 
     → code2 ≡ code1 ++ exit_code p.leaf p.frame facts2 last b.exit → x ≡ exit_of l p facts2 last n b.exit
     → made ≡ (let m : BlockParts = record { insts = code2; exit = x } in m) → made ≡ own_block l p head n b
 block_made l p head n b insts asked last facts0 facts1 facts2 code0 codeh code1 code2 x made e0 eh f0 is f2 a_is new e1 ek e2 ex em =
-    let known : facts2 ≡ known_after (locations p.frame) b.insts.items no_facts = f2 ∙ ek ∙ ap (known_after (locations p.frame) insts) f0 ∙ ap (λ is. known_after (locations p.frame) is no_facts) is in
-    let last_one = last_after (locations p.frame) (asked_of b.exit) no_facts b.insts.items no_last in
-    let new' : last ≡ last_after (locations p.frame) (asked_of b.exit) no_facts b.insts.items no_last = new
-    ∙ ap₂ (λ (a : Asked) (facts : Facts). last_after (locations p.frame) a facts insts no_last) a_is f0
-    ∙ ap (λ is. last_after (locations p.frame) (asked_of b.exit) no_facts is no_last) is in
-    let exit : x ≡ exit_of l p (known_after (locations p.frame) b.insts.items no_facts) last_one n b.exit = ex
-    ∙ ap₂ (λ (known : Facts) (last : Last). exit_of l p known last n b.exit) known new' in
-    let tail = exit_code p.leaf p.frame (known_after (locations p.frame) b.insts.items no_facts) last_one b.exit in
-    let all : code2 ≡ head ++ insts_code (context_in l p) (asked_of b.exit) no_facts b.insts.items tail =
-    e2 ∙ ap₂ (λ (known : Facts) (last : Last). code1 ++ exit_code p.leaf p.frame known last b.exit) known new'
-    ∙ ap (λ l. l ++ tail) (e1 ∙ ap (λ is. is ++ insts_code (context_in l p) asked facts0 insts []) (eh ∙ ap (λ l. l ++ head) e0)
-    ∙ ap₂ (λ (a : Asked) (facts : Facts). head ++ insts_code (context_in l p) a facts insts []) a_is f0)
-    ∙ append_assoc head (insts_code (context_in l p) (asked_of b.exit) no_facts insts []) tail
-    ∙ ap (λ l. head ++ l) (insts_behind (context_in l p) (asked_of b.exit) no_facts insts tail
-    ∙ ap (λ is. insts_code (context_in l p) (asked_of b.exit) no_facts is tail) is) in
-    em ∙ ap₂ (λ (l : List Plain) (x : Exit). let m : BlockParts = record { insts = l; exit = x } in m) all exit
+    let all = insts_code (context_in l p) (asked_of b.exit) no_facts b.insts.items in
+    let tail = exit_code p.leaf p.frame facts2 last b.exit in
+    cc (append_assoc head (all []) tail, insts_behind (context_in l p) (asked_of b.exit) no_facts b.insts.items tail)
 
 -- a block, from what stands before its own code, and that
 pub head_made : (head code0 codeh code1 : List Plain) (x : Exit) (own made : BlockParts) → code0 ≡ [] → codeh ≡ code0 ++ head
     → code1 ≡ codeh ++ own.insts → x ≡ own.exit → made ≡ (let m : BlockParts = record { insts = code1; exit = x } in m)
     → made ≡ (let m : BlockParts = record { insts = head ++ own.insts; exit = own.exit } in m)
-head_made head code0 codeh code1 x own made e0 eh e1 ex em =
-    em ∙ ap₂ (λ (l : List Plain) (x : Exit). let m : BlockParts = record { insts = l; exit = x } in m)
-    (e1 ∙ ap (λ l. l ++ own.insts) (eh ∙ ap (λ l. l ++ head) e0)) ex
+head_made head code0 codeh code1 x own made e0 eh e1 ex em = cc

@@ -19,13 +19,8 @@ get_before (y ∷ a) b (suc i) x e = get_before a b i x e
 -- what is made element by element: behind what one element gives comes what the rest gives
 pub made_more : {A B : Type 0} (f : List A → List B) (xs : List A) (i : ℕ) (x : A) (out out' own rest all : List B) → i < length xs → x ≡ get_or xs i x
     → f (x ∷ drop (i + 1) xs) ≡ own ++ rest → out' ≡ out ++ own → out ++ f (drop i xs) ≡ all → out' ++ rest ≡ all
-made_more f xs i x out out' own rest all within is step made before =
-    ap (λ l. l ++ rest) made
-    ∙ append_assoc out own rest
-    ∙ ap (λ l. out ++ l) (sym step ∙ ap (λ y. f (y ∷ drop (i + 1) xs)) is ∙ sym (at_drop_more f xs i x within))
-    ∙ before
+made_more f xs i x out out' own rest all within is step made before = cc (append_assoc out own rest, at_drop_more f xs i x within)
 
 -- behind the last element nothing is left
 pub all_made : {A B : Type 0} (f : List A → List B) (xs : List A) (i : ℕ) (out all : List B) → length xs ≤ i → f [] ≡ [] → out ++ f (drop i xs) ≡ all → out ≡ all
-all_made f xs i out all past none before =
-    sym (ap (λ l. out ++ l) (at_drop_all f xs i past ∙ none) ∙ append-nil out) ∙ before
+all_made f xs i out all past none before = cc (at_drop_all f xs i past, append-nil out)

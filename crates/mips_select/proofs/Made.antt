@@ -21,19 +21,11 @@ pub piece_step : (exit : Exit) (out out' all : List BlockParts) (insts front bac
     → (length out' + (length back - 1) / 512 < 1048576) × (out' ++ pieces 512 exit ((length back - 1) / 512) (length out') back ≡ all)
 piece_step exit out out' all insts front back next many long front_is back_is next_is made few before =
     let more = (length back - 1) / 512 in
+    let own = piece front (Goto next) ∷ [] in
     let count : (length insts - 1) / 512 ≡ suc more = omega (arith, many, long) in
     let next_suc : next ≡ suc (length out) = omega (arith, next_is) in
-    let longer : length out' ≡ suc (length out) = ap length made ∙ length-append out (piece front (Goto next) ∷ [])
-    ∙ (let one : length out + 1 ≡ suc (length out) = omega arith in one) in (
-      omega (arith, few, count, longer),
-      ap (λ l. l ++ pieces 512 exit more (length out') back) made
-          ∙ append_assoc out (piece front (Goto next) ∷ []) (pieces 512 exit more (length out') back)
-          ∙ ap (λ n. out ++ piece front (Goto next) ∷ pieces 512 exit more n back) longer
-          ∙ ap (λ n. out ++ piece front (Goto n) ∷ pieces 512 exit more (suc (length out)) back) next_suc
-          ∙ ap₂ (λ (a b : List Plain). out ++ piece a (Goto (suc (length out))) ∷ pieces 512 exit more (suc (length out)) b) front_is back_is
-          ∙ ap (λ n. out ++ pieces 512 exit n (length out) insts) (sym count)
-          ∙ before,
-    )
+    let longer : length out' ≡ suc (length out) = omega (arith, ap length made, length-append out own) in
+    (omega (arith, few, count, longer), cc (append_assoc out own (pieces 512 exit more (length out') back)))
 
 -- one more block, of those that are left
 pub block_step : (place : ℕ → ℕ) (b : BlockParts) (bs bs' out out' all : List BlockParts) (count : ℕ) (exit old : Exit) → bs ≡ b ∷ bs'
@@ -42,17 +34,11 @@ pub block_step : (place : ℕ → ℕ) (b : BlockParts) (bs bs' out out' all : L
     → (length out' + total 512 bs' ≡ count) × (out' ++ split_from 512 place (length out') bs' ≡ all)
 block_step place b bs bs' out out' all count exit old left exit_is old_is made counted before =
     let own = pieces 512 (renumbered_exit place b.exit) (more_pieces 512 b) (length out) b.insts in
-    let here : out' ≡ out ++ own = made
-    ∙ ap (λ (x : Exit). out ++ pieces 512 x (more_pieces 512 b) (length out) b.insts) (exit_is ∙ ap (renumbered_exit place) old_is) in
-    let parts = length-pieces 512 (renumbered_exit place b.exit) (more_pieces 512 b) (length out) b.insts in
-    let longer : length out' ≡ length out + count_of 512 b = ap length here ∙ length-append out own ∙ ap (λ n. length out + n) parts in
-    let counts : total 512 bs ≡ count_of 512 b + total 512 bs' = ap (total 512) left in (
-      omega (arith, counted, counts, longer),
-      ap₂ (λ l n. l ++ split_from 512 place n bs') here longer
-          ∙ append_assoc out own (split_from 512 place (length out + count_of 512 b) bs')
-          ∙ ap (λ l. out ++ split_from 512 place (length out) l) (sym left)
-          ∙ before,
-    )
+    let here : out' ≡ out ++ own = cc in
+    let longer : length out' ≡ length out + count_of 512 b =
+    cc (length-append out own, length-pieces 512 (renumbered_exit place b.exit) (more_pieces 512 b) (length out) b.insts) in
+    let counts : total 512 bs ≡ count_of 512 b + total 512 bs' = ap (total 512) left in
+    (omega (arith, counted, counts, longer), cc (append_assoc out own (split_from 512 place (length out + count_of 512 b) bs')))
 
 -- the owner of one more block's pieces
 pub owner_step : (place : ℕ → ℕ) (i o first more : ℕ) (long : List BlockParts) (owner : List ℕ) (b : BlockParts) (out out' all : List ℕ)
@@ -62,17 +48,9 @@ pub owner_step : (place : ℕ → ℕ) (i o first more : ℕ) (long : List Block
 owner_step place i o first more long owner b out out' all within same b_is o_is first_is more_is made before =
     let bs = drop (i + 1) long in
     let os = drop (i + 1) owner in
+    let own = replicate (count_of 512 b) (place o) in
     let count : 1 + more ≡ count_of 512 b = omega (arith, more_is) in
-    let here : out' ≡ out ++ replicate (count_of 512 b) (place o) = made ∙ ap₂ (λ n w. out ++ replicate n w) count first_is in
-    let step : owners_from 512 place (drop i long) (drop i owner) ≡ replicate (count_of 512 b) (place o) ++ owners_from 512 place bs os =
-    at_drop_more (λ l. owners_from 512 place l (drop i owner)) long i b within
-    ∙ at_drop_more (λ l. owners_from 512 place (get_or long i b ∷ bs) l) owner i o (omega (arith, within, same))
-    ∙ ap (λ (b : BlockParts). replicate (count_of 512 b) (place (get_or owner i o)) ++ owners_from 512 place bs os) (sym b_is)
-    ∙ ap (λ o. replicate (count_of 512 b) (place o) ++ owners_from 512 place bs os) (sym o_is) in
-    ap (λ l. l ++ owners_from 512 place bs os) here
-    ∙ append_assoc out (replicate (count_of 512 b) (place o)) (owners_from 512 place bs os)
-    ∙ ap (λ l. out ++ l) (sym step)
-    ∙ before
+    cc (append_assoc out own (owners_from 512 place bs os), at_drop_more (λ l. l) long i b within, at_drop_more (λ l. l) owner i o (omega (arith, within, same)))
 
 -- pieces by a table of the numbers of first pieces
 pub pieces_are : (long : List BlockParts) (numbers table : List ℕ) (blocks : List BlockParts) → numbers ≡ firsts 512 0 long

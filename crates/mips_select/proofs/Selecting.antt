@@ -150,11 +150,7 @@ blocks_well h blocks owners owners' program ok is o_is o_is' =
 pub unit_made : (h : Homed) (u : UnitParts) (blocks : List BlockParts) (owners owners' bytes : List ℕ) (globals : List RGlobal)
     → blocks ≡ program_blocks h → owners ≡ owners_for (h.rtl.now).functions → owners' ≡ owners → globals ≡ (h.rtl.now).globals
     → bytes ≡ data_bytes globals → u ≡ unit_parts (split_blocks blocks) (split_owners blocks owners') bytes → u ≡ unit_for h
-unit_made h u blocks owners owners' bytes globals is o_is o_is' g_is b_is u_is =
-    u_is ∙ ap (λ bs. unit_parts (split_blocks bs) (split_owners bs owners') bytes) is
-    ∙ ap (λ os. unit_parts (split_blocks (program_blocks h)) (split_owners (program_blocks h) os) bytes) (o_is' ∙ o_is)
-    ∙ ap (unit_parts (split_blocks (program_blocks h)) (split_owners (program_blocks h) (owners_for (h.rtl.now).functions)))
-    (b_is ∙ ap data_bytes g_is)
+unit_made h u blocks owners owners' bytes globals is o_is o_is' g_is b_is u_is = cc
 
 pub unit_keeps : (h : Homed) (u : UnitParts) → IsProgram h.rtl.now → ArePlaced h → u ≡ unit_for h → (depth : ℕ) → FramesFit h.rtl.now depth
     → KeepsRuns h.rtl.now depth u
@@ -167,7 +163,7 @@ runs_told h p depth u lent fit runs = subst (λ (p : Program). KeepsRuns p depth
     (runs depth (subst (λ (p : Program). FramesFit p depth) (sym lent) fit))
 
 pub data_told : (h : Homed) (p : Program) (u : UnitParts) → h.rtl.now ≡ p → u ≡ unit_for h → u.globals ≡ data_bytes p.globals
-data_told h p u lent is = ap (λ (u : UnitParts). u.globals) is ∙ ap (λ (p : Program). data_bytes p.globals) lent
+data_told h p u lent is = cc
 
 pub selected : (h : Homed) (p : Program) (u : UnitParts) → h.rtl.now ≡ p → ArePlaced h → u ≡ unit_for h → IsSelected p u
 selected h p u lent ok is = record { homed = h; lent = lent; places = ok; unit = is }
@@ -177,8 +173,7 @@ selected h p u lent ok is = record { homed = h; lent = lent; places = ok; unit =
 pub numbers_found : (long long' : List BlockParts) (funcs : List RFunc) (pieces table numbers numbers' found : List ℕ) → long' ≡ long
     → pieces ≡ firsts BLOCK_INSTS 0 long' → table ≡ pieces → numbers ≡ numbers_from 2 funcs → numbers' ≡ numbers → found ≡ map (slice_index table) numbers'
     → found ≡ map (first_piece_of BLOCK_INSTS long) (numbers_from 2 funcs)
-numbers_found long long' funcs pieces table numbers numbers' found l_is p_is t_is n_is n_is' is =
-    is ∙ ap (λ (t : List ℕ). map (slice_index t) numbers') (t_is ∙ p_is ∙ ap (firsts BLOCK_INSTS 0) l_is) ∙ ap (map (first_piece_of BLOCK_INSTS long)) (n_is' ∙ n_is)
+numbers_found long long' funcs pieces table numbers numbers' found l_is p_is t_is n_is n_is' is = cc
 
 pub numbered : (h : Homed) (p : Program) (u : UnitParts) (blocks : List BlockParts) (funcs : List RFunc) (numbers : List ℕ) → h.rtl.now ≡ p
     → ArePlaced h → u ≡ unit_for h → blocks ≡ program_blocks h → funcs ≡ (h.rtl.now).functions
