@@ -23,8 +23,7 @@ use Rattle.mips_select.proofs.Lists.{made_more}
 pub unnamed_more : (blocks : List RBlock) (i : ℕ) (table table' all : List Naming) → i < length blocks → table' ≡ table ++ Unnamed ∷ []
     → table ++ unnamed (drop i blocks) ≡ all → table' ++ unnamed (drop (i + 1) blocks) ≡ all
 unnamed_more blocks i table table' all within e before =
-    ap (λ l. l ++ unnamed (drop (i + 1) blocks)) e ∙ append_assoc table (Unnamed ∷ []) (unnamed (drop (i + 1) blocks))
-    ∙ ap (λ l. table ++ l) (drops blocks i within) ∙ before
+    cc (append_assoc table (Unnamed ∷ []) (unnamed (drop (i + 1) blocks)), drops blocks i within)
   where
     drops : (blocks : List RBlock) (i : ℕ) → i < length blocks → Unnamed ∷ unnamed (drop (i + 1) blocks) ≡ unnamed (drop i blocks)
     drops [] i lt = absurd (omega (arith, lt))

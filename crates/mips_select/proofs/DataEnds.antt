@@ -15,7 +15,7 @@ use Rattle.mips_select.proofs.DataPlaces.{HaveValues, data_length}
 
 padded_append : (xs ys : List RGlobal) → padded_bytes (xs ++ ys) ≡ padded_bytes xs ++ padded_bytes ys
 padded_append [] ys = refl
-padded_append (x ∷ xs) ys = ap (λ l. global_bytes x ++ l) (padded_append xs ys) ∙ sym (append_assoc (global_bytes x) (padded_bytes xs) (padded_bytes ys))
+padded_append (x ∷ xs) ys = cc (padded_append xs ys, append_assoc (global_bytes x) (padded_bytes xs) (padded_bytes ys))
 
 gap_low : (w : Width) (n : ℕ) → gap_behind w n < 4
 gap_low Word n = omega arith
@@ -39,8 +39,7 @@ data_ends gs =
     let one = one_ends back few in (
       one.0,
       one.1,
-      ap padded_bytes (sym (take-append-drop m gs)) ∙ padded_append front back ∙ ap (λ l. padded_bytes front ++ l) one.2
-          ∙ sym (append_assoc (padded_bytes front) (bare_bytes back) (zeros one.0)),
+      cc (take-append-drop m gs, padded_append front back, one.2, append_assoc (padded_bytes front) (bare_bytes back) (zeros one.0)),
     )
 
 zeros_are_none : (k i : ℕ) → slice_index (zeros k) i ≡ 0

@@ -25,7 +25,7 @@ use Rattle.mips_select.specs.Data.{element_bytes, elements_bytes, gap_behind, ze
 pub zeros_step : (n i : ℕ) (bytes bytes' all : List ℕ) → i < n → bytes' ≡ bytes ++ 0 ∷ [] → bytes ++ zeros (n - i) ≡ all → bytes' ++ zeros (n - (i + 1)) ≡ all
 zeros_step n i bytes bytes' all lt e before =
     let one : suc (n - (i + 1)) ≡ n - i = omega (arith, lt) in
-    ap (λ l. l ++ zeros (n - (i + 1))) e ∙ append_assoc bytes (0 ∷ []) (zeros (n - (i + 1))) ∙ ap (λ m. bytes ++ zeros m) one ∙ before
+    cc (append_assoc bytes (0 ∷ []) (zeros (n - (i + 1))))
 
 -- each has as many first values as elements
 abbrev pub HaveValues : List RGlobal → Type 0
@@ -71,12 +71,13 @@ elements_byte : (w : Width) (vs : List ℕ) (i v k b : ℕ) → slice_get vs i �
 elements_byte w [] i v k b at e = absurd (none-some v at)
 elements_byte w (x ∷ vs) zero v k b at e =
     let place : width_bytes w * 0 + k ≡ k = omega arith in
-    ap (slice_get (elements_bytes w (x ∷ vs))) place
-    ∙ get_before (element_bytes w x) (elements_bytes w vs) k b (ap (λ v. slice_get (element_bytes w v) k) (same_Some x v at) ∙ e)
+    cc (get_before (element_bytes w x) (elements_bytes w vs) k b (ap (λ v. slice_get (element_bytes w v) k) (same_Some x v at) ∙ e))
 elements_byte w (x ∷ vs) (suc i) v k b at e =
-    ap (slice_get (elements_bytes w (x ∷ vs))) (element_behind w i (length (element_bytes w x)) (element_length w x) k)
-    ∙ get_behind (element_bytes w x) (elements_bytes w vs) (width_bytes w * i + k)
-    ∙ elements_byte w vs i v k b at e
+    cc (
+      element_behind w i (length (element_bytes w x)) (element_length w x) k,
+      get_behind (element_bytes w x) (elements_bytes w vs) (width_bytes w * i + k),
+      elements_byte w vs i v k b at e,
+    )
 
 -- an element is inside its global
 element_inside : (w : Width) (i n : ℕ) → i < n → width_bytes w * i + width_bytes w ≤ 4 * words_of_elements w n

@@ -81,8 +81,7 @@ pub same_exit : (l : Linking) (p : Placing) (facts known known' : Facts) (i : RI
     → exit_of l p known (last_with (Some m) None) n x ≡ exit_of l p known' (last_with (Some m) None) n x
 same_exit l p facts known known' i m n (Branch c t e) is =
     let test = asked_test (locations p.frame) facts c i m is in
-    ap (λ o. branch_exit o (known_in known c) (last_operand (locations p.frame) known None c) (p.place t) (p.place e)) test
-    ∙ sym (ap (λ o. branch_exit o (known_in known' c) (last_operand (locations p.frame) known' None c) (p.place t) (p.place e)) test)
+    rw test
 same_exit l p facts known known' i m n (Return (Some x)) is = refl
 same_exit l p facts known known' i m n _ is = absurd (none_asked (locations p.frame) facts i m is)
 
@@ -91,10 +90,8 @@ pub same_code : (leaf : Bool) (f : Frame) (facts known known' : Facts) (i : RIns
     → exit_code leaf f known (last_with (Some m) None) x ≡ exit_code leaf f known' (last_with (Some m) None) x
 same_code leaf f facts known known' i m (Branch c t e) is =
     let test = asked_test (locations f) facts c i m is in
-    ap (λ o. branch_code o (known_in known c) (last_operand (locations f) known None c)) test
-    ∙ sym (ap (λ o. branch_code o (known_in known' c) (last_operand (locations f) known' None c)) test)
+    rw test
 same_code leaf f facts known known' i m (Return (Some x)) is =
     let test = returned_result (locations f) facts x i m is in
-    ap (λ b. return_code b (last_operand (locations f) known None x) ++ epilogue leaf f) test
-    ∙ sym (ap (λ b. return_code b (last_operand (locations f) known' None x) ++ epilogue leaf f) test)
+    rw test
 same_code leaf f facts known known' i m _ is = absurd (none_asked (locations f) facts i m is)

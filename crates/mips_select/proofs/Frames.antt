@@ -100,9 +100,11 @@ saves_run total p n at (r ∷ rs) s kept a4 le h =
         → s.regs 29 + at ≡ p + at → (j q : ℕ) → slice_get (r ∷ rs) j ≡ Some q → word_at (record s { memory = rest.memory }) (p + at + 4 * j) ≡ s.regs q
     here s2 rest ok a_is zero q there =
         let place : p + at + 4 * 0 ≡ s.regs 29 + at = omega (arith, a_is) in
-        ap (word_at (record s { memory = rest.memory })) place
-        ∙ rest.others Word (s.regs 29 + at) (λ j lt e. absurd (omega (arith, e, a_is)))
-        ∙ word_here s (s.regs 29 + at) (s.regs r) ok ((h.words).regs r) ∙ ap s.regs (same_Some r q there)
+        cc (
+          rest.others Word (s.regs 29 + at) (λ j lt e. absurd (omega (arith, e, a_is))),
+          word_here s (s.regs 29 + at) (s.regs r) ok ((h.words).regs r),
+          same_Some r q there,
+        )
     here s2 rest ok a_is (suc j) q there =
         let place : p + at + 4 * suc j ≡ p + (at + 4) + 4 * j = omega arith in
         ap (word_at (record s { memory = rest.memory })) place ∙ rest.here j q there

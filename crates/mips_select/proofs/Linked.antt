@@ -216,9 +216,7 @@ module _ (l : Linking) (functions : List RFunc) (bound : ℕ) (entry_below : (g 
   functions_owners k [] fs same = refl
   functions_owners k (func ∷ funcs) [] same = absurd (omega (arith, same))
   functions_owners k (func ∷ funcs) (f ∷ fs) same =
-      let long = function_length l k func f in
-      ap (λ n. replicate n k ++ owners_of (k + n) (each_function (k + function_size func) funcs fs)) long
-      ∙ ap (λ l. replicate (function_size func) k ++ l) (functions_owners (k + function_size func) funcs fs (omega (arith, same)))
+      cc (function_length l k func f, functions_owners (k + function_size func) funcs fs (omega (arith, same)))
 
 -- as many as the functions take, and two
 pub program_length : (h : Homed) → length h.frames.items ≡ length (h.rtl.now).functions → length (program_blocks h) ≡ 2 + functions_size (h.rtl.now).functions

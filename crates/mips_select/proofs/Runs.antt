@@ -37,10 +37,7 @@ module _ (whole : List BlockParts) (links : ℕ → ℕ) where
   entered i k p q t s out end there is at r = record {
     count = suc r.count;
     enough = (let enough = r.enough in omega (arith, enough));
-    ends = ap (λ o. exit_item whole links k o (items whole links r.count) s out) there
-        ∙ ap (λ x. outcome_of_departure whole links (exit_effect x s (links k)).goes (items whole links r.count) (exit_effect x s (links k)).state out) is
-        ∙ ap (λ o. outcome_at_block t o (items whole links r.count) s out) at
-        ∙ r.ends;
+    ends = rw (there, is, at) r.ends;
   }
 
   -- one instruction
@@ -49,8 +46,7 @@ module _ (whole : List BlockParts) (links : ℕ → ℕ) where
   one_step k x a part i s out end e r = record {
     count = suc r.count;
     enough = (let enough = r.enough in omega (arith, enough));
-    ends = ap (λ x. if is_safe (action_of x) s then items whole links r.count k part (state_after (action_of x) s) out else wrong out) e
-        ∙ ap (λ end. if is_safe (action_of a) s then end else wrong out) r.ends;
+    ends = cc (r.ends);
   }
 
   module _ (most : ℕ) (exit : Exit) (last : ℕ) where
@@ -149,10 +145,7 @@ module _ (whole : List BlockParts) (links : ℕ → ℕ) where
     leaves_last zero k [] i s out end at r = record {
       count = suc r.0;
       enough = (let enough = r.1 in omega (arith, enough));
-      ends = ap (λ o. exit_item whole links k o (items whole links r.0) s out) at.there
-          ∙ ap (λ x. outcome_of_departure whole links (exit_effect x s (links k)).goes (items whole links r.0) (exit_effect x s (links k)).state out) at.leaves
-          ∙ ap (λ k. exit_item whole links k (Some (piece [] exit)) (items whole links r.0) s out) at.is_last
-          ∙ r.2;
+      ends = cc (at.there, at.leaves, at.is_last, r.2);
     }
     leaves_last (suc more) k (x ∷ part) i s out end at r = absurd (none-cons x (part ++ at.behind) at.same)
     leaves_last (suc more) k [] i s out end at r =

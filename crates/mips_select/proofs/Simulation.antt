@@ -203,13 +203,11 @@ module _ (h : Homed) (depth : ℕ) (blocks : List BlockParts) (ok : IsSelected h
   pub departs : (k : ℕ) (form : BlockParts) (x : Exit) (s : State) (out : List ℕ) (q : Point) → slice_get blocks k ≡ Some form → form.exit ≡ x → ((n : ℕ)
       → outcome_of_departure blocks links (exit_effect x s (links k)).goes (items blocks links n) (exit_effect x s (links k)).state out ≡ from blocks links n
       q) → Lead 1 (At k [] s out) q
-  departs k form x s out q there is e = leads_exit blocks links k form s out q there
-      (λ n. ap (λ x. outcome_of_departure blocks links (exit_effect x s (links k)).goes (items blocks links n) (exit_effect x s (links k)).state out) is ∙ e n)
+  departs k form x s out q there is e = leads_exit blocks links k form s out q there (λ n. rw is (e n))
 
   jump : (k : ℕ) (form : BlockParts) (t : ℕ) (target : BlockParts) (s : State) (out : List ℕ) → slice_get blocks k ≡ Some form → form.exit ≡ E.Goto t
       → slice_get blocks t ≡ Some target → Lead 1 (At k [] s out) (At t target.insts s out)
-  jump k form t target s out there is at = departs k form (E.Goto t) s out (At t target.insts s out) there is
-      (λ n. ap (λ o. outcome_at_block t o (items blocks links n) s out) at)
+  jump k form t target s out there is at = departs k form (E.Goto t) s out (At t target.insts s out) there is (λ n. rw at)
 
   -- a block without head
   no_head : (d : ℕ) (p : Point) (k : ℕ) (first code : List Plain) (s : State) (out : List ℕ) → first ≡ [] → Lead d p (At k (first ++ code) s out)
@@ -347,10 +345,7 @@ module _ (h : Homed) (depth : ℕ) (blocks : List BlockParts) (ok : IsSelected h
   -- the link leads back to a block
   back : (k : ℕ) (form : BlockParts) (s : State) (out : List ℕ) (link n : ℕ) (target : BlockParts) → slice_get blocks k ≡ Some form → form.exit ≡ E.Return
       → s.regs 31 ≡ link → return_block_of links link 0 blocks ≡ Some n → slice_get blocks n ≡ Some target → Lead 1 (At k [] s out) (At n target.insts s out)
-  back k form s out link n target there is at found next = departs k form E.Return s out (At n target.insts s out) there is (λ i.
-      ap (λ w. outcome_at_return blocks (return_block_of links w 0 blocks) (items blocks links i) s out) at
-      ∙ ap (λ o. outcome_at_return blocks o (items blocks links i) s out) found
-      ∙ ap (λ o. outcome_at_block n o (items blocks links i) s out) next)
+  back k form s out link n target there is at found next = departs k form E.Return s out (At n target.insts s out) there is (λ i. rw (at, found, next))
 
   -- a return, from a state in which the frame is gone
   returns : (p : Point) (d k : ℕ) (form : BlockParts) (a : Activation) (ws : List Activation) (link : ℕ) (below : List ℕ) (o : Option ℕ) (r : Places)
@@ -504,8 +499,7 @@ module _ (h : Homed) (depth : ℕ) (blocks : List BlockParts) (ok : IsSelected h
     branches x y z c v e None is_test (Some w) is_known is_exit =
         let b = if nat_eq v 0 then z else y in
         let same : w ≡ v = same_Some w v (sym (m.is_known.by x w is_known) ∙ e) in
-        let goes : c.form.exit ≡ E.Goto (m.place b) =
-        is_exit ∙ ap (λ w. E.Goto (if nat_eq w 0 then m.place z else m.place y)) same ∙ ap E.Goto (either_place m.place z y (nat_eq v 0)) in
+        let goes : c.form.exit ≡ E.Goto (m.place b) = cc (either_place m.place z y (nat_eq v 0)) in
         goes_on [] b out s s (runs_none s) (settles s m.stands) (either m.head z y (nat_eq v 0) c.leads_on)
         (λ target there. jump k c.form (m.place b) target s out c.there goes there)
     branches x y z c v e None is_test None is_known is_exit =
@@ -515,20 +509,14 @@ module _ (h : Homed) (depth : ℕ) (blocks : List BlockParts) (ok : IsSelected h
         let b = if nat_eq v 0 then z else y in
         goes_on (fetch 1 (operand x)) b out s1 s1 one.runs (settles s1 one.stands) (either m.head z y (nat_eq v 0) c.leads_on) (λ target there.
         departs k c.form (E.BranchPair NotEqual (operand_register 1 (operand x)) 0 (m.place y) (m.place z)) s1 out (At (m.place b) target.insts s1 out)
-        c.there is_exit (λ n.
-        ap (λ w. outcome_at_block (if not (w == 0) then m.place y else m.place z) (slice_get blocks (if not (w == 0) then m.place y else m.place z))
-        (items blocks links n) s1 out) one.here
-        ∙ ap (λ t. outcome_at_block t (slice_get blocks t) (items blocks links n) s1 out) (branch_words m.place z y v (nat_eq v 0))
-        ∙ ap (λ o. outcome_at_block (m.place b) o (items blocks links n) s1 out) there))
+        c.there is_exit (λ n. rw (one.here, branch_words m.place z y v (nat_eq v 0), there)))
     branches x y z c v e (Some n) is_test known is_known is_exit =
         let b = if nat_eq v 0 then z else y in
         let taken : passes n.form n.left.source n.right.source s ≡ not (nat_eq v 0) = found m.last.comparison refl is_test in
         goes_on [] b out s s (runs_none s) (settles s m.stands) (either m.head z y (nat_eq v 0) c.leads_on) (λ target there.
         departs k c.form (exit_by_form n.form n.left.source n.right.source (m.place y) (m.place z)) s out (At (m.place b) target.insts s out) c.there is_exit (λ i.
         goes_by blocks links n.form n.left.source n.right.source (m.place y) (m.place z) k s out i
-        ∙ ap (λ t. outcome_at_block (if t then m.place y else m.place z) (slice_get blocks (if t then m.place y else m.place z)) (items blocks links i) s out) taken
-        ∙ ap (λ t. outcome_at_block t (slice_get blocks t) (items blocks links i) s out) (branch_words m.place z y v (nat_eq v 0))
-        ∙ ap (λ o. outcome_at_block (m.place b) o (items blocks links i) s out) there))
+        ∙ rw (taken, branch_words m.place z y v (nat_eq v 0), there)))
       where
         -- what is left of a comparison says whether the branch is taken
         found : (p : Option Comparison) → m.last.comparison ≡ p → tested p x ≡ Some n → passes n.form n.left.source n.right.source s ≡ not (nat_eq v 0)
@@ -553,9 +541,7 @@ module _ (h : Homed) (depth : ℕ) (blocks : List BlockParts) (ok : IsSelected h
         let st2 = words_kept ok.most total gs starts (callee_saved r) g (stored ∷ fs) s1 s2.regs (set_words s1 2 1 st1.words (omega arith))
         (λ q low high. put_other s1.regs 2 1 q (omega (arith, low))) st1 in
         goes_on code next (out ++ v ∷ []) s1 s2 one.runs st2 c.leads_on (λ target there.
-        departs k c.form (E.Out (m.place next)) s1 out (At (m.place next) target.insts s2 (out ++ v ∷ [])) c.there c.exit (λ n.
-        ap (λ w. outcome_at_block (m.place next) (slice_get blocks (m.place next)) (items blocks links n) s2 (out ++ w ∷ [])) one.here
-        ∙ ap (λ o. outcome_at_block (m.place next) o (items blocks links n) s2 (out ++ v ∷ [])) there))
+        departs k c.form (E.Out (m.place next)) s1 out (At (m.place next) target.insts s2 (out ++ v ∷ [])) c.there c.exit (λ n. rw (one.here, there)))
 
     gives : (x : ℕ) → Leaving (Return (Some x)) → (v : ℕ) → Reads x v → (b : Bool) → returned m.last.comparison x ≡ b
         → Reach 1 (At k (return_code b (operand x) ++ epilogue m.leaf a.frame) s out) (state_after_return (Some v) a (callee_saved r) ws g out)
@@ -624,8 +610,7 @@ module _ (h : Homed) (depth : ℕ) (blocks : List BlockParts) (ok : IsSelected h
         let code = exit_code m.leaf a.frame m.facts m.last (Call f xs result_to next) in
         reach_after 1 1 (length code) start (At k [] s1 out) _ (omega arith) (code_leads k code s s1 out args.runs)
         (entered (At k [] s1 out) f func callee is (callee_saved r) g (waiting block ∷ ws) (links k) result_to (m.link ∷ m.below) vs s2 out
-        (λ form there. departs k c.form (E.Call (ok.entry f) c.next) s1 out (At (ok.entry f) form.insts s2 out) c.there c.exit
-        (λ n. ap (λ o. outcome_at_block (ok.entry f) o (items blocks links n) s2 out) there))
+        (λ form there. departs k c.form (E.Call (ok.entry f) c.next) s1 out (At (ok.entry f) form.insts s2 out) c.there c.exit (λ n. rw there))
         st2 (λ q passes. ap (λ b. if b then r q else None) passes) (put_here s1.regs 31 (links k) (record { low = omega arith; high = omega arith }))
         (λ j v there. (let low = slice_get_within vs j v there in put_other s1.regs 31 (links k) (4 + j) (omega (arith, low, count, few)))
         ∙ args.here j v there)

@@ -18,25 +18,17 @@ module _ (most : ℕ) (place links : ℕ → ℕ) (word : ℕ) where
   pieces_return exit zero k insts rest =
       let here : k ≡ k + 0 = omega arith in
       let next : suc k ≡ k + 1 = omega arith in
-      ap (λ n. call_return_of exit (links n == word) (return_block_of links word (suc k) rest)) here
-      ∙ ap (λ n. call_return_of exit (links (k + 0) == word) (return_block_of links word n rest)) next
+      cc
   pieces_return exit (suc more) k insts rest =
       let here : suc k + more ≡ k + suc more = omega arith in
       let next : suc k + suc more ≡ k + suc (suc more) = omega arith in
-      pieces_return exit more (suc k) (drop most insts) rest
-      ∙ ap (λ n. call_return_of exit (links n == word) (return_block_of links word (suc k + suc more) rest)) here
-      ∙ ap (λ n. call_return_of exit (links (k + suc more) == word) (return_block_of links word n rest)) next
+      cc (pieces_return exit more (suc k) (drop most insts) rest)
 
   call_renumbered : (exit : Exit) (found : Bool) (rest : Option ℕ)
       → call_return_of (renumbered_exit place exit) found (option_map place rest) ≡ option_map place (call_return_of exit found rest)
-  call_renumbered (Goto t) found rest = refl
-  call_renumbered (BranchPair test a b t e) found rest = refl
-  call_renumbered (BranchZero test a t e) found rest = refl
   call_renumbered (Call f n) true rest = refl
   call_renumbered (Call f n) false rest = refl
-  call_renumbered Return found rest = refl
-  call_renumbered (Out n) found rest = refl
-  call_renumbered Halt found rest = refl
+  call_renumbered _ found rest = refl
 
   -- a return finds the first piece of the block that it finds in the long unit
   pub return_renumbered : (long : ℕ → ℕ) (k n : ℕ) (bs : List BlockParts) → ((j : ℕ) → long (n + j) ≡ links (slice_index (lasts most k bs) j))
@@ -44,13 +36,13 @@ module _ (most : ℕ) (place links : ℕ → ℕ) (word : ℕ) where
   return_renumbered long k n [] same = refl
   return_renumbered long k n (b ∷ bs) same =
       let here : n ≡ n + 0 = omega arith in
-      let rest = split_from most place (k + count_of most b) bs in
-      pieces_return (renumbered_exit place b.exit) (more_pieces most b) k b.insts rest
-      ∙ ap (λ v. call_return_of (renumbered_exit place b.exit) (v == word) (return_block_of links word (k + count_of most b) rest))
-      (sym (same 0) ∙ sym (ap long here))
-      ∙ ap (λ o. call_return_of (renumbered_exit place b.exit) (long n == word) o)
-      (return_renumbered long (k + count_of most b) (suc n) bs (λ j. (let next : suc n + j ≡ n + suc j = omega arith in ap long next) ∙ same (suc j)))
-      ∙ call_renumbered b.exit (long n == word) (return_block_of long word (suc n) bs)
+      let next : k + count_of most b ≡ k + suc (more_pieces most b) = omega arith in
+      let behind = return_renumbered long (k + count_of most b) (suc n) bs (λ j. (let next : suc n + j ≡ n + suc j = omega arith in ap long next) ∙ same (suc j)) in
+      cc (
+        pieces_return (renumbered_exit place b.exit) (more_pieces most b) k b.insts (split_from most place (k + count_of most b) bs),
+        same 0,
+        call_renumbered b.exit (long n == word) (return_block_of long word (suc n) bs),
+      )
 
 -- where a call goes on is below what bounds all targets
 pub return_below : (links : ℕ → ℕ) (word bound k : ℕ) (bs : List BlockParts)
@@ -61,11 +53,6 @@ return_below links word bound k (b ∷ bs) below t e =
   where
     by_exit : (exit : Exit) (found : Bool) → GoesBelow bound exit → (return_block_of links word (suc k) bs ≡ Some t → t < bound)
         → call_return_of exit found (return_block_of links word (suc k) bs) ≡ Some t → t < bound
-    by_exit (Goto n) found low f e = f e
-    by_exit (BranchPair test a b m n) found low f e = f e
-    by_exit (BranchZero test a m n) found low f e = f e
     by_exit (Call g n) true low f e = subst (λ t. t < bound) (same_Some n t e) low.1
     by_exit (Call g n) false low f e = f e
-    by_exit Return found low f e = f e
-    by_exit (Out n) found low f e = f e
-    by_exit Halt found low f e = f e
+    by_exit _ found low f e = f e

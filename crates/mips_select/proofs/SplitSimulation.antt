@@ -49,8 +49,7 @@ module _ (most : ℕ) (blocks : List BlockParts) (linked : AreLinked blocks) (li
       let r = runs t b found.1 b.insts s out (more_pieces most b) (place t) e.block.insts e.inside in (
         r.count,
         r.enough,
-        ap (λ o. outcome_at_block (place t) o (items whole links r.count) s out) e.there ∙ r.ends
-            ∙ sym (ap (λ o. outcome_at_block t o (items blocks long i) s out) found.1),
+        cc (e.there, r.ends, found.1),
       )
 
   -- a return
@@ -65,18 +64,12 @@ module _ (most : ℕ) (blocks : List BlockParts) (linked : AreLinked blocks) (li
           → (j : ℕ) × (i ≤ j)
           × (outcome_at_return whole (return_block_of links word 0 whole) (items whole links j) s out ≡ outcome_at_return blocks
           (return_block_of long word 0 blocks) (items blocks long i) s out)
-      go None e f = (
-        i,
-        omega arith,
-        ap (λ o. outcome_at_return whole o (items whole links i) s out) (f ∙ ap (option_map place) e)
-            ∙ sym (ap (λ o. outcome_at_return blocks o (items blocks long i) s out) e),
-      )
+      go None e f = (i, omega arith, cc)
       go (Some t) e f =
           let r = enter i runs t (return_below long word (length blocks) 0 blocks linked.by t e) s out in (
             r.0,
             r.1,
-            ap (λ o. outcome_at_return whole o (items whole links r.0) s out) (f ∙ ap (option_map place) e) ∙ r.2
-                ∙ sym (ap (λ o. outcome_at_return blocks o (items blocks long i) s out) e),
+            cc (r.2),
           )
 
   -- a branch

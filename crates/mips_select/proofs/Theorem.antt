@@ -55,11 +55,7 @@ data_byte l p b few there =
     let below : data_base + p < stack_base = omega (arith, within, few) in
     let low : data_base ≤ data_base + p = omega arith in
     let place : data_base + p - data_base ≡ p = omega arith in
-    ap (λ t. if t then 0 else (if nat_le data_base (data_base + p) then slice_index l (data_base + p - data_base) else 0))
-    (lt-leb stack_base (data_base + p) below)
-    ∙ ap (λ t. if t then slice_index l (data_base + p - data_base) else 0) (le-leb data_base (data_base + p) low)
-    ∙ ap (slice_index l) place
-    ∙ get_or_from_slice_get l p b 0 there
+    cc (lt-leb stack_base (data_base + p) below, le-leb data_base (data_base + p) low, get_or_from_slice_get l p b 0 there)
 
 -- the bytes of a word
 four_bytes : (v : ℕ) → v < 2 ^ 32 → v / 2 ^ 24 % 256 * 2 ^ 24 + v / 2 ^ 16 % 256 * 2 ^ 16 + v / 2 ^ 8 % 256 * 2 ^ 8 + v % 256 ≡ v
@@ -162,7 +158,7 @@ module _ (h : Homed) (depth : ℕ) (blocks : List BlockParts) (ok : IsSelected h
       (entry_unset frame.saved.items)
       (entered h depth blocks ok links tells (At 0 [] s0 []) main func frame is unset_places arrays [] (links 0) None [] [] s1 []
       (λ form there. departs h depth blocks ok links tells 0 first (E.Call (ok.entry main) 1) s0 [] (At (ok.entry main) form.insts s1 []) ok.start refl
-      (λ n. ap (λ o. outcome_at_block (ok.entry main) o (items blocks links n) s1 []) there)) st1 (λ q passes. refl)
+      (λ n. rw there)) st1 (λ q passes. refl)
       (put_here s0.regs 31 (links 0) (record { low = omega arith; high = omega arith })) (λ j v at. absurd (none-some v at)) (sym none)
       (omega (arith, ok.small)) (return_found links blocks 0 (ok.entry main) 1 first tells ok.start refl)))))
 
@@ -170,7 +166,7 @@ module _ (h : Homed) (depth : ℕ) (blocks : List BlockParts) (ok : IsSelected h
       → unit_run blocks links s count ≡ u
   led count to u lead e =
       let none : count ≡ count + 0 = omega arith in
-      ap (λ o. outcome_at_block 0 o (items blocks links count) s []) ok.start ∙ ap (λ n. from blocks links n start) none ∙ lead 0 ∙ e
+      rw ok.start (ap (λ n. from blocks links n start) none ∙ lead 0 ∙ e)
 
   same_end : (n : ℕ) (run : Run) → Comes n start run → (outcome run).end ≢ Wrong → (i : ℕ) × (n ≤ i) × (unit_run blocks links s i ≡ outcome run)
   same_end n (Running r [] g out) x ne = absurd x.match

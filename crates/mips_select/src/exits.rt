@@ -105,17 +105,11 @@ fn emit_returned(
     ensures { OnOk result (code.new.items ≡ code.old.items ++ return_code (returned known.now.last.comparison x)
         (last_operand (locations frame.now) (facts_of known.now.facts.now) known.now.last.fresh x)) }
 {
+    let facts = known.facts;
     if returned(&known.last.comparison, x) {
         return Ok(());
     }
-    emit_departure(
-        code,
-        known.facts,
-        known.last.fresh,
-        frame,
-        register(RESULT),
-        x,
-    )
+    emit_departure(code, facts, known.last.fresh, frame, register(RESULT), x)
 }
 
 /// Emits what stands before the exit of a block, whose call goes on at `next`, and returns the exit.
@@ -134,6 +128,7 @@ pub(crate) fn emit_exit(
         (facts_of known.now.facts.now) known.now.last next exit.now) }
 {
     let frame = plan.frame;
+    let facts = known.facts;
     match exit {
         RExit::Goto(b) => Ok(Exit::Goto(number_at(plan.places, *b))),
         RExit::Branch(c, then, other) => {
@@ -142,7 +137,7 @@ pub(crate) fn emit_exit(
             emit_branch(code, known, frame, *c, then, other)
         }
         RExit::Call(g, xs, _, _) => {
-            emit_arguments(code, known.facts, frame, xs.as_slice())?;
+            emit_arguments(code, facts, frame, xs.as_slice())?;
             Ok(Exit::Call {
                 function: number_at(linkage.entries, *g),
                 next,
@@ -158,14 +153,8 @@ pub(crate) fn emit_exit(
             Ok(Exit::Return)
         }
         RExit::Out(x, next) => {
-            emit_departure(
-                code,
-                known.facts,
-                known.last.fresh,
-                frame,
-                register(FIRST_ARGUMENT),
-                *x,
-            )?;
+            let fresh = known.last.fresh;
+            emit_departure(code, facts, fresh, frame, register(FIRST_ARGUMENT), *x)?;
             Ok(Exit::Out(number_at(plan.places, *next)))
         }
     }
