@@ -1,5 +1,5 @@
 -- How blocks are left, apart from what the unit does then: branches and comparisons, and what is known there.
-use Rattle.std.proofs.Common.{◌≡◌, ℕ, suc, ◌≤◌, Bool, true, false, ◌&&◌, List, [], ◌∷◌, ◌++◌, length, Option, Some, None, refl, sym, ap, ◌∙◌, arith, nat_lt}
+use Rattle.std.proofs.Common.{◌≡◌, ℕ, suc, ◌≤◌, Bool, true, false, ◌&&◌, List, [], ◌∷◌, length, Option, Some, None, refl, sym, ap, ◌∙◌, arith, nat_lt}
 use Rattle.std.proofs.Common.{ltb-true}
 use Rattle.std.specs.Prelude.{if◌then◌else◌, not, slice_get}
 use Rattle.std.proofs.lemmas.Option.{same_Some, none-some}
@@ -20,12 +20,12 @@ use Rattle.mips_emit.specs.declared.comparison.Form.TheVariants.{Known}
 use Rattle.mips_emit.specs.declared.comparison.Asked.TheVariants.{Branched}
 use Rattle.mips_emit.specs.declared.comparison.Comparison.{Comparison}
 use Rattle.mips_emit.specs.declared.location.Source.{Source}
-use Rattle.mips_emit.specs.Locations.{Locations, Facts, known_in, locations, last_operand}
-use Rattle.mips_emit.specs.Comparisons.{exit_by_form, comparison_of, last_with, tested, branch_code, branch_exit, return_code}
+use Rattle.mips_emit.specs.Locations.{Locations, Facts, locations}
+use Rattle.mips_emit.specs.Comparisons.{exit_by_form, comparison_of, last_with, tested}
 use Rattle.mips_emit.proofs.Operands.{passes}
 use Rattle.mips_emit.proofs.Comparing.{none_asked, asked_result, returned_result}
 use Rattle.mips_select.specs.Plans.{Linking, Placing}
-use Rattle.mips_select.specs.Code.{epilogue, asked_of, exit_code, exit_of}
+use Rattle.mips_select.specs.Code.{asked_of, exit_code, exit_of}
 
 -- as many words as are read
 pub read_length : (homes : List Home) (r slots : Places) (xs vs : List ℕ) → read_homes homes r slots xs ≡ Some vs → length vs ≡ length xs

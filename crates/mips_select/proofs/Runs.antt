@@ -10,8 +10,7 @@ use Rattle.runs.specs.Runs.{Outcome}
 use Rattle.mblock.specs.declared.exit.Exit.{Exit}
 use Rattle.mblock.specs.declared.exit.Exit.TheVariants.{Goto}
 use Rattle.mblock.specs.Parts.{BlockParts}
-use Rattle.mblock.specs.BlockMeaning.{exit_effect}
-use Rattle.mblock.specs.UnitRuns.{wrong, outcome_at_block, outcome_of_departure, exit_item, items}
+use Rattle.mblock.specs.UnitRuns.{wrong, exit_item, items}
 use Rattle.mips_select.specs.Split.{piece, pieces}
 use Rattle.mips_select.proofs.Places.{HasAt, has_head, has_tail}
 

@@ -162,9 +162,6 @@ pub runs_told : (h : Homed) (p : Program) (depth : ℕ) (u : UnitParts) → h.rt
 runs_told h p depth u lent fit runs = subst (λ (p : Program). KeepsRuns p depth u) lent
     (runs depth (subst (λ (p : Program). FramesFit p depth) (sym lent) fit))
 
-pub data_told : (h : Homed) (p : Program) (u : UnitParts) → h.rtl.now ≡ p → u ≡ unit_for h → u.globals ≡ data_bytes p.globals
-data_told h p u lent is = cc
-
 pub selected : (h : Homed) (p : Program) (u : UnitParts) → h.rtl.now ≡ p → ArePlaced h → u ≡ unit_for h → IsSelected p u
 selected h p u lent ok is = record { homed = h; lent = lent; places = ok; unit = is }
 

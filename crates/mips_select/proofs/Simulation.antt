@@ -17,7 +17,7 @@ use Rattle.mblock.specs.declared.exit.Exit.{Exit}
 use Rattle.mblock.specs.declared.exit.Exit.TheVariants as E
 use Rattle.mblock.specs.Parts.{BlockParts}
 use Rattle.mblock.specs.BlockMeaning.{exit_effect}
-use Rattle.mblock.specs.UnitRuns.{items, outcome_at_block, outcome_at_return, outcome_of_departure, return_block_of, TellsApart}
+use Rattle.mblock.specs.UnitRuns.{items, outcome_of_departure, return_block_of, TellsApart}
 use Rattle.rtl.specs.declared.instruction.RInst.{RInst}
 use Rattle.rtl.specs.declared.instruction.RExit.{RExit}
 use Rattle.rtl.specs.declared.instruction.RExit.TheVariants.{Goto, Branch, Call, Return, Out}

@@ -1,7 +1,7 @@
 -- The blocks that stand for a program keep its runs.
 use Rattle.std.proofs.Common.{◌≡◌, ◌≢◌, ℕ, ◌+◌, ◌-◌, ◌*◌, ◌/◌, ◌%◌, ◌^◌, ◌<◌, ◌≤◌, Bool, true, false, cond, List, [], ◌∷◌, map}
 use Rattle.std.proofs.Common.{length, Some, None, refl, sym, ap, ap₂, ◌∙◌, subst, arith, le-leb}
-use Rattle.std.specs.Prelude.{if◌then◌else◌, slice_get, slice_index, nat_le}
+use Rattle.std.specs.Prelude.{if◌then◌else◌, slice_get}
 use Rattle.std.proofs.lemmas.Bool.{lt-leb}
 use Rattle.std.proofs.lemmas.Option.{same_Some, none-some, slice_get_within, get_or_from_slice_get}
 use mathlib.Core.Path.{fun_ext}
@@ -17,7 +17,7 @@ use Rattle.mips_isa.proofs.StateWords.{start_words}
 use Rattle.mblock.specs.declared.exit.Exit.TheVariants as E
 use Rattle.mblock.specs.declared.limits.TheConstants.{UNIT_BYTES}
 use Rattle.mblock.specs.Parts.{BlockParts}
-use Rattle.mblock.specs.UnitRuns.{items, outcome_at_block, unit_run, TellsApart}
+use Rattle.mblock.specs.UnitRuns.{unit_run, TellsApart}
 use Rattle.mblock.proofs.StateWords.{run_words}
 use Rattle.rtl.specs.declared.block.RFunc.{RFunc}
 use Rattle.rtl.specs.declared.block.RGlobal.{RGlobal}

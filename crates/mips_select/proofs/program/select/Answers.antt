@@ -1,5 +1,5 @@
 use Rattle.std.proofs.lemmas.Result.{IfOk-weaker, IfErr-weaker}
-use Rattle.mips_select.proofs.Selecting.{beyond, told_beyond, runs_told, data_told, selected}
+use Rattle.mips_select.proofs.Selecting.{beyond, told_beyond, runs_told, selected}
 use Rattle.mips_select.proofs.program.select.Goals as goal
 
 pub returns-in_err-long-clause-limit : goal.returns-in_err-long-clause-limit
@@ -22,4 +22,4 @@ returns-clause-unit c = IfOk-weaker c.unit_of.result _ _
 
 pub returns-clause-data : goal.returns-clause-data
 returns-clause-data c = IfOk-weaker c.unit_of.result _ _
-    (λ u h. data_told c.in_ok-homed.homed c.args.rtl.now u c.in_ok-homed.ensures.lent h) c.unit_of.ensures.unit
+    (λ u h. cc (c.in_ok-homed.ensures.lent)) c.unit_of.ensures.unit
