@@ -19,15 +19,8 @@ pub insts_behind : (c : Context) (asked : Asked) (facts : Facts) (is : List RIns
     → insts_code c asked facts is [] ++ behind ≡ insts_code c asked facts is behind
 insts_behind c asked facts [] behind = refl
 insts_behind c asked facts (i ∷ is) behind =
-    append_assoc (next_code c facts (comparison_of c.at facts (asked_last asked is) i) i) (insts_code c asked (learned c.at i facts) is [])
-    behind
-    ∙ ap (λ l. next_code c facts (comparison_of c.at facts (asked_last asked is) i) i ++ l) (insts_behind c asked (learned c.at i facts) is behind)
-
--- what stands at a place doesn't depend on what is given for no place
-get_same : {A : Type 0} (xs : List A) (i : ℕ) (d e : A) → i < length xs → get_or xs i d ≡ get_or xs i e
-get_same [] i d e lt = absurd (omega (arith, lt))
-get_same (x ∷ xs) zero d e lt = refl
-get_same (x ∷ xs) (suc i) d e lt = get_same xs i d e (omega (arith, lt))
+    let code = next_code c facts (comparison_of c.at facts (asked_last asked is) i) i in
+    cc (append_assoc code (insts_code c asked (learned c.at i facts) is []) behind, insts_behind c asked (learned c.at i facts) is behind)
 
 -- the branch stands behind the last of them
 last_asked : (asked : Asked) (xs : List RInst) (left : ℕ) → left ≡ suc (length xs) → (if nat_eq (left - 1) 0 then asked else Nothing) ≡ asked_last asked xs
@@ -55,24 +48,12 @@ pub insts_step : (c : Context) (asked asks : Asked) (i left : ℕ) (insts : List
     × (known_after c.at (drop (i + 1) insts) facts' ≡ all_facts)
     × (last_after c.at asked facts' (drop (i + 1) insts) last' ≡ all_last)
 insts_step c asked asks i left insts d m fresh facts facts' all_facts last last' all_last code code' all within asks_is m_is fresh_is e k l before =
-    let inst = get_or insts i d in
-    let is : get_or insts i d ≡ get_or insts i (get_or insts i d) = get_same insts i d (get_or insts i d) within in
-    let rest = drop (i + 1) insts in
-    let m' : m ≡ comparison_of c.at facts (asked_last asked (drop (i + 1) insts)) (get_or insts i d) =
-    m_is ∙ ap (λ a. comparison_of c.at facts a (get_or insts i d)) (asks_is ∙ asks_last asked insts i left within before.0) in (
+    let first = at_drop_more (λ is. is) insts i d within in
+    let asks' = asks_last asked insts i left within before.0 in (
       omega (arith, before.0, within),
-      ap (λ l. l ++ insts_code c asked facts' rest []) e
-          ∙ append_assoc code (next_code c facts m inst) (insts_code c asked facts' rest [])
-          ∙ ap (λ facts'. code ++ (next_code c facts m inst ++ insts_code c asked facts' rest [])) k
-          ∙ ap (λ m. code ++ (next_code c facts m inst ++ insts_code c asked (learned c.at inst facts) rest [])) m'
-          ∙ ap (λ (inst : RInst). code ++ insts_code c asked facts (inst ∷ rest) []) is
-          ∙ sym (at_drop_more (λ is. code ++ insts_code c asked facts is []) insts i inst within)
-          ∙ before.1,
-      ap (known_after c.at rest) k ∙ ap (λ (inst : RInst). known_after c.at (inst ∷ rest) facts) is
-          ∙ sym (at_drop_more (λ is. known_after c.at is facts) insts i inst within) ∙ before.2,
-      ap₂ (λ facts' (l : Last). last_after c.at asked facts' rest l) k (l ∙ ap₂ last_with m' fresh_is)
-          ∙ ap (λ (inst : RInst). last_after c.at asked facts (inst ∷ rest) last) is
-          ∙ sym (at_drop_more (λ is. last_after c.at asked facts is last) insts i inst within) ∙ before.3,
+      cc (append_assoc code (next_code c facts m (get_or insts i d)) (insts_code c asked facts' (drop (i + 1) insts) []), before.1),
+      cc (before.2),
+      cc (before.3),
     )
 
 -- no instruction before others is a comparison
@@ -112,10 +93,8 @@ pub arguments_step : (at : Locations) (facts : Facts) (t t' i d : ℕ) (args : L
     → code' ≡ code ++ carry t' (operand at facts (get_or args i d)) → code ++ arguments_code at facts t (drop i args) ≡ all
     → code' ++ arguments_code at facts (t + 1) (drop (i + 1) args) ≡ all
 arguments_step at facts t t' i d args code code' all within same made before =
-    let rest = drop (i + 1) args in
-    let first = carry t (operand at facts (get_or args i d)) in
     let next : t + 1 ≡ suc t = omega arith in
-    ap (λ l. l ++ arguments_code at facts (t + 1) rest) (made ∙ ap (λ t. code ++ carry t (operand at facts (get_or args i d))) same)
-    ∙ append_assoc code first (arguments_code at facts (t + 1) rest)
-    ∙ ap (λ n. code ++ (first ++ arguments_code at facts n rest)) next
-    ∙ sym (at_drop_more (λ xs. code ++ arguments_code at facts t xs) args i d within) ∙ before
+    cc (
+      append_assoc code (carry t (operand at facts (get_or args i d))) (arguments_code at facts (t + 1) (drop (i + 1) args)),
+      at_drop_more (λ xs. xs) args i d within,
+    )

@@ -171,11 +171,7 @@ module _ (most total : ℕ) (gs : List RGlobal) (starts : ℕ → ℕ) where
       value : At → is_open (width_of gs a) s.mapped (address_of_place (place_in gs starts a i)) ≡ true → (b j w : ℕ) → Now b j w
           → shown_at (width_of gs b) (set_at (width_of gs a) s (address_of_place (place_in gs starts a i)) v) (address_of_place (place_in gs starts b j)) ≡ w
       value at ok b j w (inl x) =
-          ap (λ b. shown_at (width_of gs b) (set_at (width_of gs a) s (address_of_place (place_in gs starts a i)) v)
-          (address_of_place (place_in gs starts b j))) x.0
-          ∙ ap (λ j. shown_at (width_of gs a) (set_at (width_of gs a) s (address_of_place (place_in gs starts a i)) v)
-          (address_of_place (place_in gs starts a j))) x.1
-          ∙ shown_here (width_of gs a) s (address_of_place (place_in gs starts a i)) v ok lt ∙ sym x.2
+          rw (x.0, x.1, x.2) (shown_here (width_of gs a) s (address_of_place (place_in gs starts a i)) v ok lt)
       value at ok b j w (inr x) =
           shown_other (width_of gs a) (width_of gs b) s (address_of_place (place_in gs starts a i)) v (address_of_place (place_in gs starts b j))
           (parts_apart (width_of gs a) (width_of gs b) (place_in gs starts a i) (place_in gs starts b j) total (h.inside a i at.old at.was)
@@ -185,7 +181,7 @@ module _ (most total : ℕ) (gs : List RGlobal) (starts : ℕ → ℕ) where
 
       -- an element that there is, there was
       was : At → (b j w : ℕ) → Now b j w → (old : ℕ) × (element_at g b j ≡ Some old)
-      was at b j w (inl x) = (at.old, ap (λ b. element_at g b j) x.0 ∙ ap (element_at g a) x.1 ∙ at.was)
+      was at b j w (inl x) = (at.old, rw (x.0, x.1) at.was)
       was at b j w (inr x) = (w, x.1)
 
       inside : At → (b j w : ℕ) → Now b j w → place_behind gs starts b j ≤ total

@@ -525,11 +525,10 @@ module _ (most total : ℕ) (gs : List RGlobal) (starts : ℕ → ℕ) where
     finishes P go x v o out known is s0 e some said ok k failed f = by (slice_get top.homes x) refl e f
       where
         slot_read : (j : ℕ) → slice_get top.homes x ≡ Some (Slot j) → read_home top.homes registers (places_with top.slots j (Some v)) x ≡ Some v
-        slot_read j at = ap (λ p. chain p (in_home registers (places_with top.slots j (Some v)))) at
-            ∙ ap (λ b. if b then Some v else top.slots j) (eq-eqb j j refl)
+        slot_read j at = cc (eq-eqb j j refl)
 
         slot_inner : (j c : ℕ) → slice_get top.homes x ≡ Some (Slot j) → x ≡ c → inner_of (slice_get top.homes c) ≡ inner_of (Some (Slot j))
-        slot_inner j c at same = ap (λ y. inner_of (slice_get top.homes y)) (sym same) ∙ ap inner_of at
+        slot_inner j c at same = cc
 
         by : (p : Option Home) → slice_get top.homes x ≡ p → Ends is s0 s (into p) v
             → GoOn P go (is ++ finish p) s0 known x o p v (in_slot p x)

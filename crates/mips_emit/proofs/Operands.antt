@@ -145,9 +145,7 @@ known_register known hs count registers slots x r v o ok there is h = record { b
 
     by : (y w : ℕ) → (b : Bool) → nat_eq y x ≡ b → (if b then o else known y) ≡ Some w → read_home hs (places_with registers r (Some v)) slots y ≡ Some w
     by y w true t e =
-        ap (read_home hs (places_with registers r (Some v)) slots) (eqb-true y x t)
-        ∙ ap (λ p. chain p (in_home (places_with registers r (Some v)) slots)) there
-        ∙ ap (λ b. if b then Some v else registers r) (eq-eqb r r refl) ∙ ap Some (sym (is w e))
+        cc (eqb-true y x t, eq-eqb r r refl, is w e)
     by y w false t e = other y w (eqb-false y x t) (slice_get hs y) refl (h.by y w e)
 
 -- what a home holds is in its cell
@@ -169,10 +167,7 @@ known_slot known hs count registers slots x k v o h ok there in_slot is was = re
 
     by : (y w : ℕ) → (b : Bool) → nat_eq y x ≡ b → (if b then o else known y) ≡ Some w → read_home hs registers (places_with slots k (Some v)) y ≡ Some w
     by y w true t e =
-        ap (read_home hs registers (places_with slots k (Some v))) (eqb-true y x t)
-        ∙ ap (λ p. chain p (in_home registers (places_with slots k (Some v)))) there
-        ∙ in_cell registers (places_with slots k (Some v)) h ∙ ap (in_home registers (places_with slots k (Some v))) in_slot
-        ∙ ap (λ b. if b then Some v else slots k) (eq-eqb k k refl) ∙ ap Some (sym (is w e))
+        cc (eqb-true y x t, in_cell registers (places_with slots k (Some v)) h, eq-eqb k k refl, is w e)
     by y w false t e = other y w (eqb-false y x t) (slice_get hs y) refl (was.by y w e)
 
 -- the word of a pseudo-register is in its inner temporary

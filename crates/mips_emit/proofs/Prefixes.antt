@@ -22,8 +22,7 @@ pub prefix_behind : (was mid now a b : List Plain) → mid ≡ was ++ a → Emit
 prefix_behind was mid now a b e f =
     let n = length now - length mid in
     let k : length now - length was ≡ length a + n = omega (arith, ap length f, ap length e, length-append {A = Plain}) in
-    f ∙ ap (λ m. m ++ take n b) e ∙ append_assoc was a (take n b) ∙ ap (λ l. was ++ l) (sym (take-append-add a b n))
-    ∙ ap (λ m. was ++ take m (a ++ b)) (sym k)
+    cc (append_assoc was a (take n b), take-append-add a b n)
 
 -- and before more
 pub prefix_before : (was now a b : List Plain) → EmitsPrefix was a now → EmitsPrefix was (a ++ b) now
@@ -39,7 +38,7 @@ at_prefix (Err e) was all now is_err some = some
 
 -- code in two parts
 pub in_two : (was mid now a b : List Plain) → mid ≡ was ++ a → now ≡ mid ++ b → now ≡ was ++ (a ++ b)
-in_two was mid now a b e f = f ∙ ap (λ l. l ++ b) e ∙ append_assoc was a b
+in_two was mid now a b e f = cc (append_assoc was a b)
 
 -- the last call of several
 pub emits_behind : {A E : Type 0} (r : Result A E) (was mid now a b : List Plain) → mid ≡ was ++ a → Emits r mid b now → Emits r was (a ++ b) now
@@ -60,9 +59,7 @@ module _ (c : Context) (asked asks : Asked) (insts : List RInst) (i left : ℕ) 
     (facts final : Facts) (was now : List Plain) (lt : i < length insts) (count : left + i ≡ length insts)
     (asks_is : asks ≡ (if nat_eq (left - 1) 0 then asked else Nothing)) (m_is : m ≡ comparison_of c.at facts asks (get_or insts i d)) where
   code_is : next_code c facts m (get_or insts i d) ≡ one_code c asked (drop (i + 1) insts) facts (get_or insts i d)
-  code_is =
-      ap (λ m. next_code c facts m (get_or insts i d))
-      (m_is ∙ ap (λ a. comparison_of c.at facts a (get_or insts i d)) (asks_is ∙ asks_last asked insts i left lt count))
+  code_is = cc (asks_last asked insts i left lt count)
 
   stops : StopsAmong c asked (get_or insts i d ∷ drop (i + 1) insts) (emission facts was) (emission final now)
       → StopsAmong c asked (drop i insts) (emission facts was) (emission final now)

@@ -125,10 +125,12 @@ pub record Stands (most total : ℕ) (gs : List RGlobal) (starts : ℕ → ℕ) 
 
 -- an address in the stack
 pub open_stack : (total a : ℕ) → a % 4 ≡ 0 → stack_base ≤ a → a < stack_end → is_open Word (is_mapped total) a ≡ true
-open_stack total a aligned low high =
-    ap (λ b. b && is_mapped total a) (eq-eqb (a % 4) 0 aligned)
-    ∙ ap₂ (λ x y. (nat_le data_base a && nat_lt a (data_base + 4 * ((total + 3) / 4))) || (x && y)) (le-leb stack_base a low) (lt-ltb a stack_end high)
-    ∙ or_right (nat_le data_base a && nat_lt a (data_base + 4 * ((total + 3) / 4))) (true && true) refl
+open_stack total a aligned low high = cc (
+  eq-eqb (a % 4) 0 aligned,
+  le-leb stack_base a low,
+  lt-ltb a stack_end high,
+  or_right (nat_le data_base a && nat_lt a (data_base + 4 * ((total + 3) / 4))) (true && true) refl,
+)
 
 -- an element of data
 pub element_aligned : (w : Width) (start i : ℕ) → start % 4 ≡ 0 → is_aligned w (address_of_place (element_place w start i)) ≡ true
@@ -139,6 +141,4 @@ pub open_data : (w : Width) (total p : ℕ) → is_aligned w (address_of_place p
 open_data w total p aligned lt =
     let low : data_base ≤ data_base + p = omega arith in
     let high : data_base + p < data_base + 4 * ((total + 3) / 4) = omega (arith, lt) in
-    ap (λ b. b && is_mapped total (data_base + p)) aligned
-    ∙ ap₂ (λ x y. (x && y) || (nat_le stack_base (data_base + p) && nat_lt (data_base + p) stack_end)) (le-leb data_base (data_base + p) low)
-    (lt-ltb (data_base + p) (data_base + 4 * ((total + 3) / 4)) high)
+    cc (le-leb data_base (data_base + p) low, lt-ltb (data_base + p) (data_base + 4 * ((total + 3) / 4)) high)

@@ -163,34 +163,20 @@ address_small s b o lt small =
 -- a word of the frame
 pub loads_word : (s : State) (t o : ℕ) → s.regs 29 + o < 2 ^ 32 → is_open Word s.mapped (s.regs 29 + o) ≡ true
     → RunsTo (load_word_at t o ∷ []) s (set s t (word_at s (s.regs 29 + o)))
-loads_word s t o small ok =
-    record {
-      ends = ap (λ a. if is_open Word s.mapped a then Some (set s t (word_at s a)) else None) (address_small s 29 o (omega arith) small)
-          ∙ ap (λ c. if c then Some (set s t (word_at s (s.regs 29 + o))) else None) ok;
-    }
+loads_word s t o small ok = record { ends = rw (address_small s 29 o (omega arith) small, ok) }
 
 pub stores_word : (s : State) (t o : ℕ) → s.regs 29 + o < 2 ^ 32 → is_open Word s.mapped (s.regs 29 + o) ≡ true
     → RunsTo (store_word_at t o ∷ []) s (set_word s (s.regs 29 + o) (read 0 s.regs t))
-stores_word s t o small ok =
-    record {
-      ends = ap (λ a. if is_open Word s.mapped a then Some (set_word s a (read 0 s.regs t)) else None) (address_small s 29 o (omega arith) small)
-          ∙ ap (λ c. if c then Some (set_word s (s.regs 29 + o) (read 0 s.regs t)) else None) ok;
-    }
+stores_word s t o small ok = record { ends = rw (address_small s 29 o (omega arith) small, ok) }
 
 -- at any offset
 pub loads_at : (w : Width) (s : State) (t b : ℕ) (z : ℤ) (a : ℕ) → wrap (read 0 s.regs b + word_of_offset z) ≡ a → is_open w s.mapped a ≡ true
     → RunsTo (Load w t b z ∷ []) s (set s t (shown_at w s a))
-loads_at w s t b z a e ok = record {
-  ends = ap (λ a. if is_open w s.mapped a then Some (set s t (shown_at w s a)) else None) (sum_value (read 0 s.regs b) (word_of_offset z) ∙ e)
-      ∙ ap (λ c. if c then Some (set s t (shown_at w s a)) else None) ok;
-}
+loads_at w s t b z a e ok = record { ends = rw (sum_value (read 0 s.regs b) (word_of_offset z), e, ok) }
 
 pub stores_at : (w : Width) (s : State) (t b : ℕ) (z : ℤ) (a : ℕ) → wrap (read 0 s.regs b + word_of_offset z) ≡ a → is_open w s.mapped a ≡ true
     → RunsTo (Store w t b z ∷ []) s (set_at w s a (read 0 s.regs t))
-stores_at w s t b z a e ok = record {
-  ends = ap (λ a. if is_open w s.mapped a then Some (set_at w s a (read 0 s.regs t)) else None) (sum_value (read 0 s.regs b) (word_of_offset z) ∙ e)
-      ∙ ap (λ c. if c then Some (set_at w s a (read 0 s.regs t)) else None) ok;
-}
+stores_at w s t b z a e ok = record { ends = rw (sum_value (read 0 s.regs b) (word_of_offset z), e, ok) }
 
 -- ---- constants
 
