@@ -307,7 +307,7 @@ module _ (most total : ℕ) (gs : List RGlobal) (starts : ℕ → ℕ) where
         let right : read 0 c.regs q ≡ v = operand_register_kept x t 2 a.regs c.regs away is_inner.apart (omega arith) c.others ∙ a.here in
         computed (sum ∷ []) (multiple_code t d m x) s2 d u (sets_kept most total gs starts registers g top fs s1 a.stands (shift ∷ []) 2 is.shown (omega arith) c)
         (λ q up. (let ne : q ≢ 2 = omega (arith, up) in c.others q ne) ∙ a.others q (omega (arith, is_inner.high, up))) (λ m e. runs_then a.runs (runs_then c.runs e)) (λ some. longer_behind (fetch t x) (shift ∷ sum ∷ []) (omega arith)) lt
-        (alu_gives m.op s2 d 2 q is.shown v u ok left right is.sums)
+        (alu_gives s2 d 2 q is.shown v u ok left right m.op is.sums)
 
     pub computes : (op : Op) (t d v w u : ℕ) (k l : Option ℕ) (x y : Source) → IsInner t → IsTarget d → IsAway x → IsAway y → Means x v → Means y w
         → ((c : ℕ) → k ≡ Some c → c ≡ v) → ((c : ℕ) → l ≡ Some c → c ≡ w) → v < 2 ^ 32 → w < 2 ^ 32 → op_result op v w ≡ Some u
@@ -323,7 +323,7 @@ module _ (most total : ℕ) (gs : List RGlobal) (starts : ℕ → ℕ) where
             let last = operation op d (operand_register t x) (operand_register 2 y) in
             computed last (fetch t x ++ (fetch 2 y ++ last)) c.to d u c.stands c.others (c.runs last)
             (λ some. longer_behind (fetch t x) (fetch 2 y ++ last) (longer_behind (fetch 2 y) last some)) below
-            (operation_gives op c.to d (operand_register t x) (operand_register 2 y) v w u ok c.left c.right vb wb e)
+            (operation_gives c.to d (operand_register t x) (operand_register 2 y) v w u ok c.left c.right op vb wb e)
 
         on_left : (i : Plain) → (o : Option ℕ) → ((c : ℕ) → o ≡ Some c → c ≡ v) → is_symmetric op ≡ true → immediate_of op d (operand_register 2 y) o ≡ Some i
             → Computed (fetch 2 y ++ i ∷ []) d u

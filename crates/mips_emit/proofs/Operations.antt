@@ -3,6 +3,7 @@ use Rattle.std.proofs.Common.{◌≡◌, ◌≢◌, ℕ, pos, ◌+◌, ◌-◌, 
 use Rattle.std.proofs.Common.{Option, Some, None, refl, sym, ap, ap₂, ◌∙◌, subst, arith, nat_eq, nat_lt, ltb-true, eqb-true, true≢false}
 use Rattle.std.specs.Prelude.{bit_and, if◌then◌else◌, not, int_lt, bit_xor}
 use Rattle.std.proofs.lemmas.Bool.{eqb-false, ltb-false}
+use Rattle.std.proofs.lemmas.Bool.Decides.{nat_tests}
 use Rattle.std.proofs.lemmas.Nat.{and_comm, or_comm, xor_comm, and_mask}
 use Rattle.std.proofs.lemmas.Int.{ints}
 use Rattle.std.proofs.lemmas.Option.{same_Some, none-some}
@@ -81,18 +82,6 @@ direct : (op : Operator) (v w u : ℕ) → value_of op v w ≡ Some u → op_val
 unfolding op_value
 direct op v w u e = ap or_zero e
 
-pub alu_gives : (op : AluOp) (s : State) (d a b v w u : ℕ) → IsTarget d → read 0 s.regs a ≡ v → read 0 s.regs b ≡ w → value_of (alu_operator op) v w ≡ Some u
-    → Gives (Alu op d a b ∷ []) s d u
-alu_gives op s d a b v w u ok left right e =
-    one (Alu op d a b) s d (op_value (alu_operator op) (read 0 s.regs a) (read 0 s.regs b)) u ok (alu_runs s op d a b)
-    (ap₂ (op_value (alu_operator op)) left right ∙ direct (alu_operator op) v w u e)
-
-shift_gives : (op : ShiftOp) (s : State) (d a b v w u : ℕ) → IsTarget d → read 0 s.regs a ≡ v → read 0 s.regs b ≡ w → value_of (shift_operator op) v w ≡ Some u
-    → Gives (ShiftBy op d a b ∷ []) s d u
-shift_gives op s d a b v w u ok left right e =
-    one (ShiftBy op d a b) s d (op_value (shift_operator op) (read 0 s.regs a) (read 0 s.regs b)) u ok (record { ends = refl })
-    (ap₂ (op_value (shift_operator op)) left right ∙ direct (shift_operator op) v w u e)
-
 imm_gives : (op : ImmOp) (s : State) (d a v w u : ℕ) → IsTarget d → read 0 s.regs a ≡ v → w < 2 ^ 32 → op_value (imm_operator op) v w ≡ u
     → Gives (Imm op d a (half w) ∷ []) s d u
 imm_gives op s d a v w u ok left lt e =
@@ -106,22 +95,7 @@ logic_gives op s d a v w u ok left lt e =
     one (Logic op d a w) s d (op_value (logic_operator op) (read 0 s.regs a) (wrap w)) u ok (record { ends = refl })
     (ap₂ (op_value (logic_operator op)) left same ∙ direct (logic_operator op) v w u e)
 
--- ---- products and divisions
-
-product_gives : (s : State) (d a b v w u : ℕ) → IsTarget d → read 0 s.regs a ≡ v → read 0 s.regs b ≡ w → op_result Mul v w ≡ Some u
-    → Gives (operation Mul d a b) s d u
-product_gives s d a b v w u ok left right e =
-    let high = op_value operators.MultuHigh (read 0 s.regs a) (read 0 s.regs b) in
-    let low = op_value operators.MultuLow (read 0 s.regs a) (read 0 s.regs b) in
-    record {
-      regs = put s.regs d low;
-      hi = high;
-      lo = low;
-      runs = record { ends = refl };
-      here = put_here s.regs d low ok ∙ ap₂ (op_value operators.MultuLow) left right ∙ direct operators.MultuLow v w u e;
-      others = λ r ne. put_other s.regs d low r ne;
-      some = omega arith;
-    }
+-- ---- divisions
 
 divided : (sign : Sign) (v w x u : ℕ) → (if has_quotient sign v w then Some x else None) ≡ Some u → has_quotient sign v w ≡ true
 divided sign v w x u e = go (has_quotient sign v w) e
@@ -140,71 +114,16 @@ remainder_in sign s a b = op_value (remainder_operator sign) (read 0 s.regs a) (
 abbrev divided_state : Sign → State → (a b : ℕ) → State
 divided_state sign s a b = record s { hi = remainder_in sign s a b; lo = quotient_in sign s a b }
 
-division_runs : (sign : Sign) (s : State) (a b v w : ℕ) → read 0 s.regs a ≡ v → read 0 s.regs b ≡ w → has_quotient sign v w ≡ true
-    → RunsTo (Divide sign a b ∷ []) s (divided_state sign s a b)
-division_runs sign s a b v w left right fits =
-    record { ends = ap (λ t. if t then Some (divided_state sign s a b) else None) (ap₂ (has_quotient sign) left right ∙ fits) }
-
--- a part of the result, which is moved out of HI or LO
-part_gives : (place : HiLo) (sign : Sign) (operator : Operator) (s : State) (d a b v w u : ℕ)
-    → RunsTo (MoveFrom place d ∷ []) (divided_state sign s a b)
-    (set (divided_state sign s a b) d (op_value operator (read 0 s.regs a) (read 0 s.regs b)))
-    → IsTarget d → read 0 s.regs a ≡ v → read 0 s.regs b ≡ w → has_quotient sign v w ≡ true → op_value operator v w ≡ u
-    → Gives (Divide sign a b ∷ MoveFrom place d ∷ []) s d u
-part_gives place sign operator s d a b v w u moved ok left right fits e =
-    let x = op_value operator (read 0 s.regs a) (read 0 s.regs b) in
-    record {
-      regs = put s.regs d x;
-      hi = remainder_in sign s a b;
-      lo = quotient_in sign s a b;
-      runs = runs_then (division_runs sign s a b v w left right fits) moved;
-      here = put_here s.regs d x ok ∙ ap₂ (op_value operator) left right ∙ e;
-      others = λ r ne. put_other s.regs d x r ne;
-      some = omega arith;
-    }
-
-quotient_gives : (sign : Sign) (s : State) (d a b v w u : ℕ) → IsTarget d → read 0 s.regs a ≡ v → read 0 s.regs b ≡ w → has_quotient sign v w ≡ true
-    → op_value (quotient_operator sign) v w ≡ u → Gives (Divide sign a b ∷ MoveFrom Lo d ∷ []) s d u
-quotient_gives sign s d a b v w u = part_gives Lo sign (quotient_operator sign) s d a b v w u (record { ends = refl })
-
-remainder_gives : (sign : Sign) (s : State) (d a b v w u : ℕ) → IsTarget d → read 0 s.regs a ≡ v → read 0 s.regs b ≡ w → has_quotient sign v w ≡ true
-    → op_value (remainder_operator sign) v w ≡ u → Gives (Divide sign a b ∷ MoveFrom Hi d ∷ []) s d u
-remainder_gives sign s d a b v w u = part_gives Hi sign (remainder_operator sign) s d a b v w u (record { ends = refl })
-
 -- ---- tests
 
 -- two words are equal exactly where their difference is 0
 equal_word : (v w : ℕ) → v < 2 ^ 32 → w < 2 ^ 32 → op_value operators.Sltu (op_value operators.Subu v w) 1 ≡ truth_word (v == w)
 unfolding op_value
-equal_word v w lv lw = go (nat_lt (wrap (v + (2 ^ 32 - w))) 1) (v == w) refl refl
-  where
-    go : (a b : Bool) → nat_lt (wrap (v + (2 ^ 32 - w))) 1 ≡ a → (v == w) ≡ b → (if a then 1 else 0) ≡ truth_word b
-    go true true ea eb = refl
-    go false false ea eb = refl
-    go true false ea eb =
-        let small : wrap (v + (2 ^ 32 - w)) < 1 = ltb-true (wrap (v + (2 ^ 32 - w))) 1 ea in
-        let ne : v ≢ w = eqb-false v w eb in
-        absurd (omega (arith, small, ne, lv, lw))
-    go false true ea eb =
-        let big : 1 ≤ wrap (v + (2 ^ 32 - w)) = ltb-false (wrap (v + (2 ^ 32 - w))) 1 ea in
-        let same : v ≡ w = eqb-true v w eb in
-        absurd (omega (arith, big, same, lv, lw))
+equal_word v w lv lw = grind (arith, nat_tests)
 
 unequal_word : (v w : ℕ) → v < 2 ^ 32 → w < 2 ^ 32 → op_value operators.Sltu 0 (op_value operators.Subu v w) ≡ truth_word (not (v == w))
 unfolding op_value
-unequal_word v w lv lw = go (nat_lt 0 (wrap (v + (2 ^ 32 - w)))) (v == w) refl refl
-  where
-    go : (a b : Bool) → nat_lt 0 (wrap (v + (2 ^ 32 - w))) ≡ a → (v == w) ≡ b → (if a then 1 else 0) ≡ truth_word (not b)
-    go true false ea eb = refl
-    go false true ea eb = refl
-    go true true ea eb =
-        let big : 0 < wrap (v + (2 ^ 32 - w)) = ltb-true 0 (wrap (v + (2 ^ 32 - w))) ea in
-        let same : v ≡ w = eqb-true v w eb in
-        absurd (omega (arith, big, same, lv, lw))
-    go false false ea eb =
-        let small : wrap (v + (2 ^ 32 - w)) ≤ 0 = ltb-false 0 (wrap (v + (2 ^ 32 - w))) ea in
-        let ne : v ≢ w = eqb-false v w eb in
-        absurd (omega (arith, small, ne, lv, lw))
+unequal_word v w lv lw = grind (arith, nat_tests)
 
 -- the other truth word
 turned_truth : (b : Bool) → bit_xor (truth_word b) 1 ≡ truth_word (not b)
@@ -231,51 +150,81 @@ after_alu op a b second f s d u ok runs e =
 -- ---- each operator
 
 -- on two registers
-pub operation_gives : (op : Op) (s : State) (d a b v w u : ℕ) → IsTarget d → read 0 s.regs a ≡ v → read 0 s.regs b ≡ w → v < 2 ^ 32 → w < 2 ^ 32
-    → op_result op v w ≡ Some u
-    → Gives (operation op d a b) s d u
-operation_gives Add s d a b v w u ok left right lv lw e = alu_gives alu.Addu s d a b v w u ok left right e
-operation_gives Sub s d a b v w u ok left right lv lw e = alu_gives alu.Subu s d a b v w u ok left right e
-operation_gives Mul s d a b v w u ok left right lv lw e = product_gives s d a b v w u ok left right e
-operation_gives DivS s d a b v w u ok left right lv lw e =
-    quotient_gives Signed s d a b v w u ok left right (divided Signed v w (quotient Signed v w) u e) (direct operators.DivQuotient v w u e)
-operation_gives DivU s d a b v w u ok left right lv lw e =
-    quotient_gives Unsigned s d a b v w u ok left right (divided Unsigned v w (quotient Unsigned v w) u e) (direct operators.DivuQuotient v w u e)
-operation_gives RemS s d a b v w u ok left right lv lw e =
-    remainder_gives Signed s d a b v w u ok left right (divided Signed v w (remainder Signed v w) u e) (direct operators.DivRemainder v w u e)
-operation_gives RemU s d a b v w u ok left right lv lw e =
-    remainder_gives Unsigned s d a b v w u ok left right (divided Unsigned v w (remainder Unsigned v w) u e) (direct operators.DivuRemainder v w u e)
-operation_gives And s d a b v w u ok left right lv lw e = alu_gives alu.And s d a b v w u ok left right e
-operation_gives Or s d a b v w u ok left right lv lw e = alu_gives alu.Or s d a b v w u ok left right e
-operation_gives Xor s d a b v w u ok left right lv lw e = alu_gives alu.Xor s d a b v w u ok left right e
-operation_gives Shl s d a b v w u ok left right lv lw e = shift_gives Sll s d a b v w u ok left right e
-operation_gives ShrU s d a b v w u ok left right lv lw e = shift_gives Srl s d a b v w u ok left right e
-operation_gives ShrS s d a b v w u ok left right lv lw e = shift_gives Sra s d a b v w u ok left right e
-operation_gives Eq s d a b v w u ok left right lv lw e =
-    after_alu alu.Subu a b (Imm Sltiu d d (pos 1)) (λ x. op_value operators.Sltu x 1) s d u ok (λ t. imm_runs t Sltiu d d 1 (omega arith))
-    (ap₂ (λ x y. op_value operators.Sltu (op_value operators.Subu x y) 1) left right ∙ equal_word v w lv lw ∙ same_Some (truth_word (v == w)) u e)
-operation_gives Ne s d a b v w u ok left right lv lw e =
-    after_alu alu.Subu a b (Alu alu.Sltu d 0 d) (λ x. op_value operators.Sltu 0 x) s d u ok (λ t. alu_runs t alu.Sltu d 0 d)
-    (ap₂ (λ x y. op_value operators.Sltu 0 (op_value operators.Subu x y)) left right ∙ unequal_word v w lv lw ∙ same_Some (truth_word (not (v == w))) u e)
-operation_gives LtS s d a b v w u ok left right lv lw e = alu_gives alu.Slt s d a b v w u ok left right e
-operation_gives LtU s d a b v w u ok left right lv lw e = alu_gives alu.Sltu s d a b v w u ok left right e
-operation_gives LeS s d a b v w u ok left right lv lw e =
-    after_alu alu.Slt b a (Logic Xori d d 1) (λ x. op_value operators.Xor x (wrap 1)) s d u ok (λ t. record { ends = refl })
-    (ap₂ (λ x y. op_value operators.Xor (op_value operators.Slt y x) (wrap 1)) left right ∙ not_below_signed v w
-    ∙ same_Some (truth_word (not (int_lt (signed w) (signed v)))) u e)
-operation_gives LeU s d a b v w u ok left right lv lw e =
-    after_alu alu.Sltu b a (Logic Xori d d 1) (λ x. op_value operators.Xor x (wrap 1)) s d u ok (λ t. record { ends = refl })
-    (ap₂ (λ x y. op_value operators.Xor (op_value operators.Sltu y x) (wrap 1)) left right ∙ not_below v w ∙ same_Some (truth_word (not (nat_lt w v))) u e)
+module _ (s : State) (d a b v w u : ℕ) (ok : IsTarget d) (left : read 0 s.regs a ≡ v) (right : read 0 s.regs b ≡ w) where
+  pub alu_gives : (op : AluOp) → value_of (alu_operator op) v w ≡ Some u → Gives (Alu op d a b ∷ []) s d u
+  alu_gives op e =
+      one (Alu op d a b) s d (op_value (alu_operator op) (read 0 s.regs a) (read 0 s.regs b)) u ok (alu_runs s op d a b)
+      (rw (left, right) (direct (alu_operator op) v w u e))
+
+  shift_gives : (op : ShiftOp) → value_of (shift_operator op) v w ≡ Some u → Gives (ShiftBy op d a b ∷ []) s d u
+  shift_gives op e =
+      one (ShiftBy op d a b) s d (op_value (shift_operator op) (read 0 s.regs a) (read 0 s.regs b)) u ok (record { ends = refl })
+      (rw (left, right) (direct (shift_operator op) v w u e))
+
+  product_gives : op_result Mul v w ≡ Some u → Gives (operation Mul d a b) s d u
+  product_gives e =
+      let low = op_value operators.MultuLow (read 0 s.regs a) (read 0 s.regs b) in
+      record {
+        regs = put s.regs d low;
+        hi = op_value operators.MultuHigh (read 0 s.regs a) (read 0 s.regs b);
+        lo = low;
+        runs = record { ends = refl };
+        here = put_here s.regs d low ok ∙ rw (left, right) (direct operators.MultuLow v w u e);
+        others = λ r ne. put_other s.regs d low r ne;
+        some = omega arith;
+      }
+
+  -- a part of the result of a division, which is moved out of HI or LO
+  part_gives : (place : HiLo) (sign : Sign) (operator : Operator) (x : ℕ)
+      → RunsTo (MoveFrom place d ∷ []) (divided_state sign s a b)
+      (set (divided_state sign s a b) d (op_value operator (read 0 s.regs a) (read 0 s.regs b)))
+      → (if has_quotient sign v w then Some x else None) ≡ Some u → value_of operator v w ≡ Some u → Gives (Divide sign a b ∷ MoveFrom place d ∷ []) s d u
+  part_gives place sign operator x moved fits e =
+      let y = op_value operator (read 0 s.regs a) (read 0 s.regs b) in
+      let divides : RunsTo (Divide sign a b ∷ []) s (divided_state sign s a b) =
+      record { ends = rw (left, right, divided sign v w x u fits) } in
+      record {
+        regs = put s.regs d y;
+        hi = remainder_in sign s a b;
+        lo = quotient_in sign s a b;
+        runs = runs_then divides moved;
+        here = put_here s.regs d y ok ∙ rw (left, right) (direct operator v w u e);
+        others = λ r ne. put_other s.regs d y r ne;
+        some = omega arith;
+      }
+
+  pub operation_gives : (op : Op) → v < 2 ^ 32 → w < 2 ^ 32 → op_result op v w ≡ Some u → Gives (operation op d a b) s d u
+  operation_gives Add lv lw e = alu_gives alu.Addu e
+  operation_gives Sub lv lw e = alu_gives alu.Subu e
+  operation_gives Mul lv lw e = product_gives e
+  operation_gives DivS lv lw e = part_gives Lo Signed operators.DivQuotient (quotient Signed v w) (record { ends = refl }) e e
+  operation_gives DivU lv lw e = part_gives Lo Unsigned operators.DivuQuotient (quotient Unsigned v w) (record { ends = refl }) e e
+  operation_gives RemS lv lw e = part_gives Hi Signed operators.DivRemainder (remainder Signed v w) (record { ends = refl }) e e
+  operation_gives RemU lv lw e = part_gives Hi Unsigned operators.DivuRemainder (remainder Unsigned v w) (record { ends = refl }) e e
+  operation_gives And lv lw e = alu_gives alu.And e
+  operation_gives Or lv lw e = alu_gives alu.Or e
+  operation_gives Xor lv lw e = alu_gives alu.Xor e
+  operation_gives Shl lv lw e = shift_gives Sll e
+  operation_gives ShrU lv lw e = shift_gives Srl e
+  operation_gives ShrS lv lw e = shift_gives Sra e
+  operation_gives Eq lv lw e =
+      after_alu alu.Subu a b (Imm Sltiu d d (pos 1)) (λ x. op_value operators.Sltu x 1) s d u ok (λ t. imm_runs t Sltiu d d 1 (omega arith))
+      (rw (left, right) (equal_word v w lv lw ∙ same_Some (truth_word (v == w)) u e))
+  operation_gives Ne lv lw e =
+      after_alu alu.Subu a b (Alu alu.Sltu d 0 d) (λ x. op_value operators.Sltu 0 x) s d u ok (λ t. alu_runs t alu.Sltu d 0 d)
+      (rw (left, right) (unequal_word v w lv lw ∙ same_Some (truth_word (not (v == w))) u e))
+  operation_gives LtS lv lw e = alu_gives alu.Slt e
+  operation_gives LtU lv lw e = alu_gives alu.Sltu e
+  operation_gives LeS lv lw e =
+      after_alu alu.Slt b a (Logic Xori d d 1) (λ x. op_value operators.Xor x (wrap 1)) s d u ok (λ t. record { ends = refl })
+      (rw (left, right) (not_below_signed v w ∙ same_Some (truth_word (not (int_lt (signed w) (signed v)))) u e))
+  operation_gives LeU lv lw e =
+      after_alu alu.Sltu b a (Logic Xori d d 1) (λ x. op_value operators.Xor x (wrap 1)) s d u ok (λ t. record { ends = refl })
+      (rw (left, right) (not_below v w ∙ same_Some (truth_word (not (nat_lt w v))) u e))
 
 -- operands may be turned
 turned : (v w : ℕ) → (v == w) ≡ (w == v)
-turned v w = go (v == w) (w == v) refl refl
-  where
-    go : (a b : Bool) → (v == w) ≡ a → (w == v) ≡ b → a ≡ b
-    go true true ea eb = refl
-    go false false ea eb = refl
-    go true false ea eb = absurd (eqb-false w v eb (sym (eqb-true v w ea)))
-    go false true ea eb = absurd (eqb-false v w ea (sym (eqb-true w v eb)))
+turned v w = grind (arith, nat_tests)
 
 turned_product : (v w : ℕ) → v * w ≡ w * v
 turned_product v w = omega arith
@@ -318,23 +267,11 @@ by_gives op s d a v c u ok left e =
 -- tests against 0
 is_zero : (v : ℕ) → op_value operators.Sltu v 1 ≡ truth_word (v == 0)
 unfolding op_value
-is_zero v = go (nat_lt v 1) (v == 0) refl refl
-  where
-    go : (a b : Bool) → nat_lt v 1 ≡ a → (v == 0) ≡ b → (if a then 1 else 0) ≡ truth_word b
-    go true true ea eb = refl
-    go false false ea eb = refl
-    go true false ea eb = (let small : v < 1 = ltb-true v 1 ea in let ne : v ≢ 0 = eqb-false v 0 eb in absurd (omega (arith, small, ne)))
-    go false true ea eb = (let big : 1 ≤ v = ltb-false v 1 ea in let same : v ≡ 0 = eqb-true v 0 eb in absurd (omega (arith, big, same)))
+is_zero v = grind (arith, nat_tests)
 
 is_some : (v : ℕ) → op_value operators.Sltu 0 v ≡ truth_word (not (v == 0))
 unfolding op_value
-is_some v = go (nat_lt 0 v) (v == 0) refl refl
-  where
-    go : (a b : Bool) → nat_lt 0 v ≡ a → (v == 0) ≡ b → (if a then 1 else 0) ≡ truth_word (not b)
-    go true false ea eb = refl
-    go false true ea eb = refl
-    go true true ea eb = (let big : 0 < v = ltb-true 0 v ea in let same : v ≡ 0 = eqb-true v 0 eb in absurd (omega (arith, big, same)))
-    go false false ea eb = (let small : v ≤ 0 = ltb-false 0 v ea in let ne : v ≢ 0 = eqb-false v 0 eb in absurd (omega (arith, small, ne)))
+is_some v = grind (arith, nat_tests)
 
 complemented : (s : State) (d q c v u : ℕ) → IsTarget d → read 0 s.regs q ≡ v → v < 2 ^ 32 → c ≡ 4294967295 → op_result Xor v c ≡ Some u
     → Gives (Alu alu.Nor d q 0 ∷ []) s d u
@@ -357,14 +294,7 @@ not_above_signed v c lv lc small = ap truth_word (turn (int_lt (signed v) (signe
 
 not_above : (v c : ℕ) → c < 2 ^ 32 → c ≢ 4294967295 → op_value operators.Sltu v (next_word c) ≡ truth_word (not (nat_lt c v))
 unfolding op_value
-not_above v c lc ne = ap truth_word (turn (nat_lt v (next_word c)) (nat_lt c v) refl refl)
-  where
-    turn : (a b : Bool) → nat_lt v (next_word c) ≡ a → nat_lt c v ≡ b → a ≡ not b
-    turn true false ea eb = refl
-    turn false true ea eb = refl
-    turn true true ea eb = (let x : v < next_word c = ltb-true v (next_word c) ea in let y : c < v = ltb-true c v eb in absurd (omega (arith, x, y, lc, ne)))
-    turn false false ea eb = (let x : next_word c ≤ v = ltb-false v (next_word c) ea in let y : v ≤ c = ltb-false c v eb in
-        absurd (omega (arith, x, y, lc, ne)))
+not_above v c lc ne = grind (arith, nat_tests)
 
 prefix_of : (b : Bool) (x u : ℕ) → (if b then Some x else None) ≡ Some u → Some x ≡ Some u
 prefix_of true x u e = e
