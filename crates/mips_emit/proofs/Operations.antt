@@ -2,7 +2,7 @@
 use Rattle.std.proofs.Common.{◌≡◌, ◌≢◌, ℕ, pos, ◌+◌, ◌-◌, ◌*◌, ◌/◌, ◌%◌, ◌^◌, ◌<◌, ◌≤◌, ◌==◌, Bool, true, false, List, [], ◌∷◌, length}
 use Rattle.std.proofs.Common.{Option, Some, None, refl, sym, ap, ap₂, ◌∙◌, subst, arith, nat_eq, nat_lt, ltb-true, eqb-true, true≢false}
 use Rattle.std.specs.Prelude.{bit_and, if◌then◌else◌, not, int_lt, bit_xor}
-use Rattle.std.proofs.lemmas.Bool.{eqb-false, ltb-false}
+use Rattle.std.proofs.lemmas.Bool.{eqb-false}
 use Rattle.std.proofs.lemmas.Bool.Decides.{nat_tests}
 use Rattle.std.proofs.lemmas.Nat.{and_comm, or_comm, xor_comm, and_mask}
 use Rattle.std.proofs.lemmas.Int.{ints}
@@ -284,13 +284,7 @@ complemented s d q c v u ok left lv all e =
 not_above_signed : (v c : ℕ) → v < 2 ^ 32 → c < 2 ^ 32 → is_small (next_word c) ≡ true
     → op_value operators.Slt v (next_word c) ≡ truth_word (not (int_lt (signed c) (signed v)))
 unfolding op_value
-not_above_signed v c lv lc small = ap truth_word (turn (int_lt (signed v) (signed (next_word c))) (int_lt (signed c) (signed v)) refl refl)
-  where
-    turn : (a b : Bool) → int_lt (signed v) (signed (next_word c)) ≡ a → int_lt (signed c) (signed v) ≡ b → a ≡ not b
-    turn true false ea eb = refl
-    turn false true ea eb = refl
-    turn true true ea eb = absurd (grind (arith, ints))
-    turn false false ea eb = absurd (grind (arith, ints))
+not_above_signed v c lv lc small = grind (arith, ints)
 
 not_above : (v c : ℕ) → c < 2 ^ 32 → c ≢ 4294967295 → op_value operators.Sltu v (next_word c) ≡ truth_word (not (nat_lt c v))
 unfolding op_value

@@ -4,9 +4,9 @@ use Rattle.std.specs.Option.{is_none}
 use Rattle.rtl.specs.declared.operator.Op.{Op}
 use Rattle.rtl.specs.declared.operator.Op.TheVariants.{Add, Sub}
 use Rattle.mips_homes.specs.declared.homed.Home.{Home}
-use Rattle.mips_homes.specs.declared.homed.Home.TheVariants.{Reg, Slot, Copied}
+use Rattle.mips_homes.specs.declared.homed.Home.TheVariants.{Reg}
 use Rattle.mips_emit.specs.declared.location.Source.{Source}
-use Rattle.mips_emit.specs.declared.location.Source.TheVariants.{Zero, Word, From}
+use Rattle.mips_emit.specs.declared.location.Source.TheVariants.{From}
 use Rattle.mips_emit.specs.Offsets.{addend, offset_from, sum_offset}
 
 -- an operator adds a word or none, whatever the word is

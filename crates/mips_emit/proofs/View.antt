@@ -1,8 +1,9 @@
 -- Registers and words of a state, and what single instructions do to them.
-use Rattle.std.proofs.Common.{◌≡◌, ◌≢◌, ℕ, ℤ, pos, negsuc, zero, suc, ◌+◌, ◌-◌, ◌*◌, ◌/◌, ◌%◌, ◌^◌, ◌<◌, ◌≤◌, Bool, true, false, cond, ◌&&◌}
+use Rattle.std.proofs.Common.{◌≡◌, ◌≢◌, ℕ, ℤ, pos, negsuc, zero, suc, ◌+◌, ◌-◌, ◌*◌, ◌/◌, ◌%◌, ◌^◌, ◌<◌, Bool, true, false, cond, ◌&&◌}
 use Rattle.std.proofs.Common.{List, [], ◌∷◌, Option, Some, None, refl, sym, ap, ap₂, ◌∙◌, arith, eq-eqb, eqb-true, ne_eqb, lt-ltb, ltb-true}
 use Rattle.std.specs.Prelude.{if◌then◌else◌, nat_eq, nat_lt, bit_or}
-use Rattle.std.proofs.lemmas.Bool.{ltb-false, and_right, cond_both}
+use Rattle.std.proofs.lemmas.Bool.{and_right, cond_both}
+use Rattle.std.proofs.lemmas.Bool.Decides.{nat_tests}
 use Rattle.std.proofs.lemmas.Nat.{or_shifted}
 use Rattle.words.specs.declared.operator.Operator.TheVariants as operators
 use Rattle.words.specs.declared.width.Width.{Width}
@@ -253,20 +254,10 @@ li_sets s t w ok lt = go (is_small w) (nat_lt w 65536) (nat_eq (w % 65536) 0) re
 
 -- from register 28
 pub near_word : (p k : ℕ) → p < 65536 → p + k < 1048576 → wrap (k + data_middle + word_of_offset (near p)) ≡ address_of_place (p + k)
-near_word p k lt few = go (nat_lt p 32768) refl
-  where
-    go : (b : Bool) → nat_lt p 32768 ≡ b → wrap (k + data_middle + word_of_offset (if b then negsuc (32767 - p) else pos (p - 32768)))
-        ≡ address_of_place (p + k)
-    go true e = (let below : p < 32768 = ltb-true p 32768 e in omega (arith, below, few))
-    go false e = (let above : 32768 ≤ p = ltb-false p 32768 e in omega (arith, above, lt, few))
+near_word p k lt few = grind (arith, nat_tests)
 
 low_word : (at k : ℕ) → at + k < 2 ^ 31 → wrap (k + page at * 65536 + word_of_offset (low at)) ≡ at + k
-low_word at k few = go (nat_lt (at % 65536) 32768) refl
-  where
-    go : (b : Bool) → nat_lt (at % 65536) 32768 ≡ b → wrap (k + page at * 65536 + word_of_offset
-        (if b then pos (at % 65536) else negsuc (65535 - at % 65536))) ≡ at + k
-    go true e = (let below : at % 65536 < 32768 = ltb-true (at % 65536) 32768 e in omega (arith, below, few))
-    go false e = (let above : 32768 ≤ at % 65536 = ltb-false (at % 65536) 32768 e in omega (arith, above, few))
+low_word at k few = grind (arith, nat_tests)
 
 -- an index times the width of its elements
 record Scaled (is : List Plain) (s : State) (t q k : ℕ) : Type 0 where
