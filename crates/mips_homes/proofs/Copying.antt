@@ -16,13 +16,12 @@ pub copied_step : (free : List ℕ) (hs : List Home) (i used used' : ℕ) (out o
     → h ≡ get_or hs i h → is_slot h ≡ b → used' ≡ (if b then used + 1 else used) → out' ≡ out ++ with_copy h (slice_get free used) ∷ []
     → out ++ copied_onto (drop used free) (drop i hs) ≡ all → out' ++ copied_onto (drop used' free) (drop (i + 1) hs) ≡ all
 copied_step free hs i used used' out out' all h b within here slot used_is out_is before =
-    let rest = drop (i + 1) hs in
-    ap₂ (λ o u. o ++ copied_onto (drop u free) rest) out_is used_is
-    ∙ append_assoc out (with_copy h (slice_get free used) ∷ []) (copied_onto (drop (if b then used + 1 else used) free) rest)
-    ∙ ap₂ (λ o l. out ++ with_copy h o ∷ copied_onto l rest) (sym (got_drop free used)) (left b)
-    ∙ ap (λ c. out ++ with_copy h (slice_get (drop used free) 0) ∷ copied_onto (if c then drop 1 (drop used free) else drop used free) rest) (sym slot)
-    ∙ ap (λ h. out ++ copied_onto (drop used free) (h ∷ rest)) here
-    ∙ sym (at_drop_more (λ hs. out ++ copied_onto (drop used free) hs) hs i h within) ∙ before
+    cc (
+      append_assoc out (with_copy h (slice_get free used) ∷ []) (copied_onto (drop (if b then used + 1 else used) free) (drop (i + 1) hs)),
+      got_drop free used,
+      left b,
+      at_drop_more (λ l. l) hs i h within,
+    )
   where
     got_drop : (l : List ℕ) (n : ℕ) → slice_get (drop n l) 0 ≡ slice_get l n
     got_drop [] zero = refl
@@ -43,10 +42,9 @@ copied_step free hs i used used' out out' all h b within here slot used_is out_i
 -- ---- what copies are
 
 with_copy_cell : (h : Home) (o : Option ℕ) → cell h ≡ cell (with_copy h o)
-with_copy_cell (Reg q) o = refl
 with_copy_cell (Slot k) None = refl
 with_copy_cell (Slot k) (Some r) = refl
-with_copy_cell (Copied q k) o = refl
+with_copy_cell _ o = refl
 
 -- a home has its cell without the copy too
 abbrev pub HasCell : List Home → ℕ → Home → Type 0

@@ -3,6 +3,7 @@ use Rattle.std.proofs.Common.{◌≡◌, ℕ, suc, ◌+◌, ◌<◌, ◌≤◌, 
 use Rattle.std.specs.Prelude.{if◌then◌else◌}
 use Rattle.std.proofs.Math.Seq.{drop-cons}
 use Rattle.std.proofs.lemmas.List.{append_assoc, drop_all}
+use Rattle.std.proofs.lemmas.List.{at_drop_more}
 use Rattle.rtl.specs.Names.{occurrences, bound, exit_names, insts_names, blocks_names}
 use Rattle.mips_homes.specs.Counts.{Adds}
 use Rattle.rtl.specs.declared.instruction.RInst.{RInst}
@@ -32,8 +33,7 @@ pub counts_step : {X : Type 0} (names : List X → List ℕ) (name : X → List 
     → ((ys : List ℕ) → Adds us ys (names (drop i xs)) → Adds start ys (names xs)) → (ys : List ℕ) → Adds vs ys (names (drop (i + 1) xs))
     → Adds start ys (names xs)
 counts_step names name split xs i x d start us vs lt is one before ys rest =
-    let next : i + 1 ≡ suc i = omega arith in
-    let here : drop i xs ≡ x ∷ drop (i + 1) xs = drop-cons xs i d lt ∙ ap (λ y. y ∷ drop (suc i) xs) (sym is) ∙ ap (λ k. x ∷ drop k xs) (sym next) in
+    let here : drop i xs ≡ x ∷ drop (i + 1) xs = cc (at_drop_more (λ l. l) xs i d lt) in
     before ys (subst (λ l. Adds us ys l) (sym (ap names here ∙ split x (drop (i + 1) xs))) (adds_then us vs ys (name x) (names (drop (i + 1) xs)) one rest))
 
 pub counts_end : {X : Type 0} (names : List X → List ℕ) → names [] ≡ [] → (xs : List X) (i : ℕ) (start us : List ℕ) → length xs ≤ i

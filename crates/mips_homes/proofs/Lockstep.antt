@@ -150,16 +150,13 @@ restored_write : (saved : List ℕ) (aside registers : Places) (r : ℕ) (v : Op
     → below saved aside (places_with registers r v) ≡ below saved aside registers
 restored_write saved aside registers r v kept = fun_ext (λ q. by q (nat_eq q r) refl (is_callee_saved q) refl)
   where
-    at : ℕ → Bool → Option ℕ → Option ℕ
-    at q c w = if is_in saved q then aside q else (if c then w else None)
-
     by : (q : ℕ) (b : Bool) → nat_eq q r ≡ b → (c : Bool) → is_callee_saved q ≡ c → below saved aside (places_with registers r v) q ≡ below saved aside registers q
     by q true e true l =
         let q_r : q ≡ r = eqb-true q r e in
         let yes_saved : is_in saved q ≡ true = ap (is_in saved) q_r ∙ kept (sym (ap is_callee_saved q_r) ∙ l) in
-        ap (λ c. if c then aside q else callee_saved (places_with registers r v) q) yes_saved ∙ sym (ap (λ c. if c then aside q else callee_saved registers q) yes_saved)
-    by q true e false l = ap (λ c. at q c (places_with registers r v q)) l ∙ sym (ap (λ c. at q c (registers q)) l)
-    by q false e c l = ap (at q (is_callee_saved q)) (ap (λ c. if c then v else registers q) e)
+        rw yes_saved
+    by q true e false l = rw l
+    by q false e c l = rw e
 
 pub callee_saved_twice : (registers : Places) → callee_saved (callee_saved registers) ≡ callee_saved registers
 callee_saved_twice registers = fun_ext (λ q. by q (is_callee_saved q))
@@ -195,8 +192,7 @@ writes hs saved blocks aside registers slots regs d v out go t wanted wanted' ok
         → ((k : Home) → cell k ≢ cell h → in_home registers' slots' k ≡ in_home registers slots k) → (x : ℕ) → matters hs wanted' x ≡ true → (b : Bool) → nat_eq x d ≡ b
         → read_home hs registers' slots' x ≡ (if b then Some v else regs x)
     elsewhere h is registers' slots' here there x m true e =
-        let x_d : x ≡ d = eqb-true x d e in
-        ap (λ o. chain o (in_home registers' slots')) (ap (slice_get hs) x_d ∙ is) ∙ here
+        rw (eqb-true x d e, is) here
     elsewhere h is registers' slots' here there x m false e = by (slice_get hs x) refl
       where
         before : (c : Bool) → (if c then wanted' x else true) ≡ true → (if c then wanted x else true) ≡ true
@@ -207,10 +203,10 @@ writes hs saved blocks aside registers slots regs d v out go t wanted wanted' ok
         same = ag.by x (before (is_caller_saved (slice_get hs x)) m)
 
         by : (o : Option Home) → slice_get hs x ≡ o → read_home hs registers' slots' x ≡ regs x
-        by None none = ap (λ o. chain o (in_home registers' slots')) none ∙ sym (ap (λ o. chain o (in_home registers slots)) none) ∙ same
+        by None none = rw none (rw none at same)
         by (Some k) some =
             let ne : cell k ≢ cell h = λ k_h. let x_d : x ≡ d = ok.apart x d k h some is k_h in let yes_eq = eq-eqb x d x_d in cc in
-            ap (λ o. chain o (in_home registers' slots')) some ∙ there k ne ∙ sym (ap (λ o. chain o (in_home registers slots)) some) ∙ same
+            rw some (there k ne ∙ rw some at same)
 
     reg_other : (r : ℕ) (k : Home) → cell k ≢ Reg r → in_home (places_with registers r (Some v)) slots k ≡ in_home registers slots k
     reg_other r (Reg q) ne = other registers r (Some v) q (λ e. ne (ap Reg e))
@@ -358,22 +354,19 @@ settles hs saved blocks registers slots regs wanted ok ag b goes block there = r
     Same x o = (if is_caller_saved o then block_reads_first block x else true) ≡ true → chain o (in_home (callee_saved registers) slots) ≡ regs x
 
     as_was : (x : ℕ) (o : Option Home) → slice_get hs x ≡ o → is_caller_saved o ≡ false → chain o (in_home registers slots) ≡ regs x
-    as_was x o e out = sym (ap (λ o. chain o (in_home registers slots)) e)
-        ∙ ag.by x (ap (λ o. if is_caller_saved o then wanted x else true) e ∙ ap (λ c. if c then wanted x else true) out)
+    as_was x o e out = rw e at (ag.by x (rw (e, out)))
 
     reg : (x r : ℕ) → slice_get hs x ≡ Some (Reg r) → (l : Bool) → is_callee_saved r ≡ l → Same x (Some (Reg r))
     reg x r e true l m =
-        ap (λ c. if c then registers r else None) l ∙ as_was x (Some (Reg r)) e (ap (λ c. if c then false else true) l)
+        rw l (as_was x (Some (Reg r)) e (rw l))
     reg x r e false l m =
         absurd (true≢false (sym (sym (ap (λ c. if (if c then false else true) then block_reads_first block x else true) l) ∙ m)
         ∙ ok.local x r e l b block there goes))
 
     by : (x : ℕ) (o : Option Home) → slice_get hs x ≡ o → matters hs (block_reads_first block) x ≡ true → read_home hs (callee_saved registers) slots x ≡ regs x
-    by x None e m = ap (λ o. chain o (in_home (callee_saved registers) slots)) e ∙ as_was x None e refl
-    by x (Some (Slot k)) e m = ap (λ o. chain o (in_home (callee_saved registers) slots)) e ∙ as_was x (Some (Slot k)) e refl
-    by x (Some (Copied r k)) e m = ap (λ o. chain o (in_home (callee_saved registers) slots)) e ∙ as_was x (Some (Copied r k)) e refl
-    by x (Some (Reg r)) e m = ap (λ o. chain o (in_home (callee_saved registers) slots)) e
-        ∙ reg x r e (is_callee_saved r) refl (sym (ap (λ o. if is_caller_saved o then block_reads_first block x else true) e) ∙ m)
+    by x None e m = rw e (as_was x None e refl)
+    by x (Some (Reg r)) e m = rw e (reg x r e (is_callee_saved r) refl (rw e at m))
+    by x (Some h) e m = rw e (as_was x (Some h) e refl)
 
 as_deep : (registers : Places) (ws : List Activation) (rs : List Places) → Stack registers ws rs → length (plain ws rs) ≡ length ws
 as_deep registers [] [] s = refl
@@ -415,8 +408,8 @@ home_unset hs saved bs registers ok x (Reg r) e = by (is_callee_saved r) refl
     none false = refl
 
     by : (l : Bool) → is_callee_saved r ≡ l → (if is_in saved r then None else (if is_callee_saved r then registers r else None)) ≡ None
-    by true l = ap (λ c. if c then None else callee_saved registers r) (ok.kept x r e l)
-    by false l = ap (λ l. if is_in saved r then None else (if l then registers r else None)) l ∙ none (is_in saved r)
+    by true l = rw (ok.kept x r e l)
+    by false l = rw l (none (is_in saved r))
 home_unset hs saved bs registers ok x _ e = refl
 
 all_unset : (hs : List Home) (saved : List ℕ) (bs : List RBlock) (registers : Places) → AreHomes hs saved bs
@@ -424,8 +417,8 @@ all_unset : (hs : List Home) (saved : List ℕ) (bs : List RBlock) (registers : 
 all_unset hs saved bs registers ok = record { by = λ x m. at x (slice_get hs x) refl }
   where
     at : (x : ℕ) (o : Option Home) → slice_get hs x ≡ o → read_home hs (registers_at_entry saved (callee_saved registers)) unset_places x ≡ None
-    at x None e = ap (λ o. chain o (in_home (registers_at_entry saved (callee_saved registers)) unset_places)) e
-    at x (Some h) e = ap (λ o. chain o (in_home (registers_at_entry saved (callee_saved registers)) unset_places)) e ∙ home_unset hs saved bs registers ok x h e
+    at x None e = rw e
+    at x (Some h) e = rw e (home_unset hs saved bs registers ok x h e)
 
 -- a call
 enough : (hs : List Home) (registers slots regs : Places) (wanted : ℕ → Bool) → Agrees hs registers slots regs (λ x. true)

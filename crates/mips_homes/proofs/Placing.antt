@@ -56,8 +56,7 @@ pub register_told : (local local' : Bool) (taken taken' : List ℕ) (preference 
     → register ≡ (if local then free_register taken preference else None) → local ≡ local' → taken ≡ taken' → preference ≡ preference'
     → register ≡ (if local' then free_register taken' preference' else None)
 register_told local local' taken taken' preference preference' register is same same_taken same_preference =
-    is ∙ ap (λ b. if b then free_register taken preference else None) same
-    ∙ ap₂ (λ t h. if local' then free_register t h else None) same_taken same_preference
+    cc
 
 -- one more place
 pub places_step : (local : ℕ → Bool) (preference : ℕ → Option ℕ) (x : ℕ) (taken taken' : List ℕ) (homes out out' all : List Home) (d h : Home)
@@ -65,11 +64,5 @@ pub places_step : (local : ℕ → Bool) (preference : ℕ → Option ℕ) (x : 
     → h ≡ home_or register (get_or homes x d) → out' ≡ out ++ h ∷ [] → out ++ places_from local preference x taken (drop x homes) ≡ all
     → out' ++ places_from local preference (x + 1) taken' (drop (x + 1) homes) ≡ all
 places_step local preference x taken taken' homes out out' all d h register within register_is taken_is h_is out_is before =
-    let rest = drop (x + 1) homes in
     let next : x + 1 ≡ suc x = omega arith in
-    ap (λ l. l ++ places_from local preference (x + 1) taken' rest) out_is
-    ∙ append_assoc out (h ∷ []) (places_from local preference (x + 1) taken' rest)
-    ∙ ap (λ h. out ++ h ∷ places_from local preference (x + 1) taken' rest) h_is
-    ∙ ap₂ (λ n t. out ++ home_or register (get_or homes x d) ∷ places_from local preference n t rest) next taken_is
-    ∙ ap (λ r. out ++ home_or r (get_or homes x d) ∷ places_from local preference (suc x) (also taken r) rest) register_is
-    ∙ sym (at_drop_more (λ hs. out ++ places_from local preference x taken hs) homes x d within) ∙ before
+    cc (append_assoc out (h ∷ []) (places_from local preference (x + 1) taken' (drop (x + 1) homes)), at_drop_more (λ l. l) homes x d within)

@@ -12,8 +12,7 @@ raise_step xs i start old new lt one before y =
     let next : suc i ≡ i + 1 = omega arith in
     let here : drop i xs ≡ get_or xs i 0 ∷ drop (suc i) xs = drop-cons xs i 0 lt in
     let split : reach_from i (drop i xs) y ≡ max (if nat_eq y (get_or xs i 0) then i + 1 else 0) (reach_from (i + 1) (drop (i + 1) xs) y) =
-    ap (λ l. reach_from i l y) here
-    ∙ ap (λ n. max (if nat_eq y (get_or xs i 0) then n else 0) (reach_from n (drop n xs) y)) next in
+    cc in
     let e = one y in
     let f = before y in
     omega (arith, e, f, split)

@@ -4,6 +4,7 @@ use Rattle.std.specs.Prelude.{if◌then◌else◌, ◌||◌, not}
 use Rattle.std.proofs.Common.{ne_eqb}
 use Rattle.std.proofs.Math.Seq.{drop-cons}
 use Rattle.std.proofs.lemmas.List.{drop_all}
+use Rattle.std.proofs.lemmas.List.{at_drop_more}
 use Rattle.rtl.specs.declared.instruction.RInst.{RInst}
 use Rattle.rtl.specs.declared.block.RBlock.{RBlock}
 use Rattle.mips_homes.specs.HomedRun.{is_in}
@@ -36,11 +37,8 @@ in_append (y ∷ xs) ys x = by (nat_eq x y) (in_append xs ys x)
 -- reads, and then more of them and writes
 pub sees_then : (k : ℕ) (s t u : List Sight) (xs ys ws : List ℕ) → Sees k s t xs [] → Sees k t u ys ws → Sees k s u (xs ++ ys) ws
 sees_then k s t u xs ys ws a b = record {
-  first = λ x. b.first x
-      ∙ ap₂ (λ f n. f || (n && is_in ys x)) (a.first x) (a.unwritten x)
-      ∙ both (is_read_first s x) (is_unwritten k s x) (is_in xs x) (is_in ys x)
-      ∙ ap (λ c. is_read_first s x || (is_unwritten k s x && c)) (sym (in_append xs ys x));
-  unwritten = λ x. b.unwritten x ∙ ap (λ n. n && not (is_in ws x)) (a.unwritten x) ∙ still (is_unwritten k s x) (is_in ws x);
+  first = λ x. cc (b.first x, a.first x, a.unwritten x, both (is_read_first s x) (is_unwritten k s x) (is_in xs x) (is_in ys x), in_append xs ys x);
+  unwritten = λ x. cc (b.unwritten x, a.unwritten x, still (is_unwritten k s x) (is_in ws x));
   late = λ up. b.late (a.late up);
 }
   where
@@ -73,20 +71,18 @@ seen_start k s block before = record {
 pub seen_step : (k : ℕ) (s t u : List Sight) (is is' : List RInst) (j : ℕ) (i d : RInst) (block : RBlock) → is' ≡ is → j < length is'
     → i ≡ get_or is' j d → Sees k t u (inst_reads i) (inst_writes i) → IsSeenTo k s t (drop j is) block → IsSeenTo k s u (drop (j + 1) is) block
 seen_step k s t u is is' j i d block same lt at one before = record {
-  first = λ x.
-      ap₂ (λ f n. f || (n && reads_first (drop (j + 1) is) block.exit x)) (one.first x) (one.unwritten x)
-      ∙ step (is_read_first t x) (is_unwritten k t x) (is_in (inst_reads i) x) (is_in (inst_writes i) x) (reads_first (drop (j + 1) is) block.exit x)
-      ∙ ap (λ l. is_read_first t x || (is_unwritten k t x && reads_first l block.exit x)) (sym here)
-      ∙ before.first x;
+  first = λ x. cc (
+    one.first x,
+    one.unwritten x,
+    here,
+    before.first x,
+    step (is_read_first t x) (is_unwritten k t x) (is_in (inst_reads i) x) (is_in (inst_writes i) x) (reads_first (drop (j + 1) is) block.exit x),
+  );
   late = one.late before.late;
 }
   where
-    next : j + 1 ≡ suc j
-    next = omega arith
-
     here : drop j is ≡ i ∷ drop (j + 1) is
-    here = ap (drop j) (sym same) ∙ drop-cons is' j d lt ∙ ap (λ y. y ∷ drop (suc j) is') (sym at) ∙ ap (λ k. i ∷ drop k is') (sym next)
-        ∙ ap (λ l. i ∷ drop (j + 1) l) same
+    here = cc (at_drop_more (λ l. l) is' j d lt)
 
     step : (f n r w rest : Bool) → ((f || (n && r)) || ((n && not w) && rest)) ≡ (f || (n && (if r then true else if w then false else rest)))
     step true n r w rest = refl
@@ -106,8 +102,7 @@ pub all_step : (k : ℕ) (xs : List ℕ) (i x d : ℕ) (start s t : List Sight) 
     → ((end : List Sight) → Sees k s end (drop i xs) [] → Sees k start end xs []) → (end : List Sight) → Sees k t end (drop (i + 1) xs) []
     → Sees k start end xs []
 all_step k xs i x d start s t lt at one before end rest =
-    let next : i + 1 ≡ suc i = omega arith in
-    let here : drop i xs ≡ x ∷ drop (i + 1) xs = drop-cons xs i d lt ∙ ap (λ y. y ∷ drop (suc i) xs) (sym at) ∙ ap (λ k. x ∷ drop k xs) (sym next) in
+    let here : drop i xs ≡ x ∷ drop (i + 1) xs = cc (at_drop_more (λ l. l) xs i d lt) in
     before end (subst (λ l. Sees k s end l []) (sym here) (sees_then k s t end (x ∷ []) (drop (i + 1) xs) [] one rest))
 
 pub all_end : (k : ℕ) (xs : List ℕ) (i : ℕ) (start s : List Sight) → length xs ≤ i
@@ -125,19 +120,12 @@ pub are_seen_step : (bs : List RBlock) (i : ℕ) (b : RBlock) (s t : List Sight)
     → ((x : ℕ) → is_read_first t x ≡ (is_read_first s x || block_reads_first b x)) → IsUpTo (i + 1) t → AreSeenTo i s (drop i bs) bs
     → AreSeenTo (i + 1) t (drop (i + 1) bs) bs
 are_seen_step bs i b s t lt at one late before = record {
-  first = λ x.
-      ap (λ c. not c && none_reads_first true (drop (i + 1) bs) x) (one x)
-      ∙ step (is_read_first s x) (block_reads_first b x) (none_reads_first true (drop (i + 1) bs) x)
-      ∙ ap (λ l. not (is_read_first s x) && none_reads_first true l x) (sym here)
-      ∙ before.first x;
+  first = λ x. cc (one x, here, step (is_read_first s x) (block_reads_first b x) (none_reads_first true (drop (i + 1) bs) x), before.first x);
   late = late;
 }
   where
-    next : i + 1 ≡ suc i
-    next = omega arith
-
     here : drop i bs ≡ b ∷ drop (i + 1) bs
-    here = drop-cons bs i b lt ∙ ap (λ y. y ∷ drop (suc i) bs) (sym at) ∙ ap (λ k. b ∷ drop k bs) (sym next)
+    here = cc (at_drop_more (λ l. l) bs i b lt)
 
     step : (f r rest : Bool) → (not (f || r) && rest) ≡ (not f && (if true && r then false else rest))
     step true r rest = refl
