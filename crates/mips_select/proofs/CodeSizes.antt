@@ -48,27 +48,10 @@ either : (b : Bool) (n : ℕ) (x y : List Plain) → length x ≤ n → length y
 either true n x y lx ly = lx
 either false n x y lx ly = ly
 
--- code and what is behind it
-joined : (y : List Plain) (a b n : ℕ) (x : List Plain) → length x ≤ a → length y ≤ b → a + b ≤ n → length (x ++ y) ≤ n
-joined y a b n x lx ly le = let sum = length-append x y in omega (arith, lx, ly, sum, le)
-
-one_behind : (i : Plain) (a n : ℕ) (x : List Plain) → length x ≤ a → a + 1 ≤ n → length (x ++ i ∷ []) ≤ n
-one_behind i a n x lx le = let sum = length-append x (i ∷ []) in omega (arith, lx, sum, le)
-
-two_behind : (i j : Plain) (a n : ℕ) (x : List Plain) → length x ≤ a → a + 2 ≤ n → length (x ++ i ∷ j ∷ []) ≤ n
-two_behind i j a n x lx le = let sum = length-append x (i ∷ j ∷ []) in omega (arith, lx, sum, le)
-
 -- ---- operands and results
 
 li_few : (t w : ℕ) → length (li t w) ≤ 2
-li_few t w = by (is_small w) (nat_lt w 65536) (nat_eq (w % 65536) 0)
-  where
-    by : (small low upper : Bool) → length (if small then Imm Addiu t 0 (half w) ∷ [] else if low then Logic Ori t 0 w ∷ []
-        else if upper then LoadUpper t (w / 65536 % 65536) ∷ [] else constant t w) ≤ 2
-    by true low upper = omega arith
-    by false true upper = omega arith
-    by false false true = omega arith
-    by false false false = omega arith
+li_few t w = grind arith
 
 fetch_few : (t : ℕ) (x : Source) → length (fetch t x) ≤ 2
 fetch_few t (Known w) = li_few t w
@@ -81,7 +64,7 @@ bring_few t (From (Reg r)) = omega arith
 bring_few t _ = omega arith
 
 carry_few : (t : ℕ) (x : Source) → length (carry t x) ≤ 2
-carry_few t x = either (stays t x) 2 [] (bring t x) (omega arith) (bring_few t x)
+carry_few t x = grind (arith, bring_few t x)
 
 finish_few : (o : Option Home) → length (finish o) ≤ 1
 finish_few (Some (Reg r)) = omega arith
@@ -90,14 +73,15 @@ finish_few _ = omega arith
 put_few : (o : Option Home) (x : Source) → length (put_at o x) ≤ 8
 put_few None x = omega arith
 put_few (Some (Reg r)) x = let n = bring_few r x in omega (arith, n)
-put_few (Some (Copied r k)) x = one_behind _ 2 8 (bring r x) (bring_few r x) (omega arith)
-put_few (Some (Slot k)) x = one_behind _ 2 8 (fetch (inner_of (Some (Slot k))) x) (fetch_few (inner_of (Some (Slot k))) x) (omega arith)
+put_few (Some (Copied r k)) x = omega (arith, length-append {A = Plain}, bring_few r x)
+put_few (Some (Slot k)) x = omega (arith, length-append {A = Plain}, fetch_few (inner_of (Some (Slot k))) x)
 
 -- two, of which the second is the store of a copy
 arrive_few : (o : Option Home) (t : ℕ) → length (arrive o t) ≤ 2
 arrive_few (Some (Reg r)) t = either (stays r (From (Reg t))) 2 [] (bring r (From (Reg t))) (omega arith) (omega arith)
 arrive_few (Some (Copied r k)) t =
-    one_behind _ 1 2 (carry r (From (Reg t))) (either (stays r (From (Reg t))) 1 [] (bring r (From (Reg t))) (omega arith) (omega arith)) (omega arith)
+    let one = either (stays r (From (Reg t))) 1 [] (bring r (From (Reg t))) (omega arith) (omega arith) in
+    omega (arith, length-append {A = Plain}, one)
 arrive_few _ t = omega arith
 
 -- and one where no slot has a copy
@@ -117,20 +101,19 @@ operation_few ops.Add d a b = omega arith
 operation_few _ d a b = omega arith
 
 less_few : (op : Op) (t d : ℕ) (less : Option Plain) (x y : Source) → length (code_by_less op t d less x y) ≤ 6
-less_few op t d None x y =
-    joined _ 2 4 6 (fetch t x) (fetch_few t x) (joined _ 2 2 4 (fetch 2 y) (fetch_few 2 y) (operation_few op d (operand_register t x) (operand_register 2 y)) (omega arith)) (omega arith)
-less_few op t d (Some i) x y = two_behind _ _ 2 6 (fetch 2 y) (fetch_few 2 y) (omega arith)
+less_few op t d None x y = omega (arith, length-append {A = Plain}, fetch_few, operation_few)
+less_few op t d (Some i) x y = omega (arith, length-append {A = Plain}, fetch_few)
 
 left_few : (op : Op) (t d : ℕ) (left : Option Plain) (x y : Operand) → length (code_by_left op t d left x y) ≤ 6
 left_few op t d None x y = less_few op t d (turned_less_of op d (operand_register 2 y.source) x.known) x.source y.source
-left_few op t d (Some i) x y = one_behind _ 2 6 (fetch 2 y.source) (fetch_few 2 y.source) (omega arith)
+left_few op t d (Some i) x y = omega (arith, length-append {A = Plain}, fetch_few)
 
 right_few : (op : Op) (t d : ℕ) (right : Option Plain) (x y : Operand) → length (code_by_right op t d right x y) ≤ 6
 right_few op t d None x y = left_few op t d (turned_immediate_of op d (operand_register 2 y.source) x.known) x y
-right_few op t d (Some i) x y = one_behind _ 2 6 (fetch t x.source) (fetch_few t x.source) (omega arith)
+right_few op t d (Some i) x y = omega (arith, length-append {A = Plain}, fetch_few)
 
 product_few : (t d : ℕ) (m : _) (x : Source) → length (multiple_code t d m x) ≤ 6
-product_few t d m x = two_behind _ _ 2 6 (fetch t x) (fetch_few t x) (omega arith)
+product_few t d m x = omega (arith, length-append {A = Plain}, fetch_few)
 
 multiple_few : (t d : ℕ) (multiple : Option _) (x : Source) (other : List Plain) → length other ≤ 6
     → length (code_by_multiple t d multiple x other) ≤ 6
@@ -154,11 +137,8 @@ sum_few t start q = either (nat_lt start 65536) 2 (Alu Addu t q 28 ∷ []) (Load
     (omega arith) (omega arith)
 
 element_few : (w : Width) (start : ℕ) (by : Reach) (x : Source) → length (element_code w start by x) ≤ 5
-element_few w start ByScratch x =
-    joined _ 2 3 5 (fetch 1 x) (fetch_few 1 x)
-    (joined _ 1 2 3 (scaled w 1 (operand_register 1 x)) (scaled_few w 1 (operand_register 1 x)) (sum_few 1 start (scaled_register w 1 (operand_register 1 x))) (omega arith)) (omega arith)
-element_few w start (ByNew q c) x =
-    joined _ 1 2 5 (scaled w 30 q) (scaled_few w 30 q) (sum_few 30 start (scaled_register w 30 q)) (omega arith)
+element_few w start ByScratch x = omega (arith, length-append {A = Plain}, fetch_few, scaled_few, sum_few)
+element_few w start (ByNew q c) x = omega (arith, length-append {A = Plain}, scaled_few, sum_few)
 element_few w start _ x = omega arith
 
 const_few : (o : Option Home) (w : ℕ) → length (const_code o w) ≤ 8
@@ -170,28 +150,15 @@ const_few o w = put_few o (word_source w)
 inst_few : (globals : List RGlobal) (starts : ℕ → ℕ) (at : Locations) (facts : Facts) (i : RInst) → length (inst_code globals starts at facts i) ≤ 8
 inst_few globals starts at facts (Const d w) = const_few (at d) (wrap w)
 inst_few globals starts at facts (Move d a) = put_few (at d) (operand at facts a)
-inst_few globals starts at facts (Bin op d a b) =
-    joined _ 6 1 8 (op_code op (inner_of (at d)) (into (at d)) (operand_with at facts a) (operand_with at facts b))
-    (op_few op (inner_of (at d)) (into (at d)) (operand_with at facts a) (operand_with at facts b)) (finish_few (at d))
-    (omega arith)
-inst_few globals starts at facts (Load d a i) =
-    let w = width_of globals a in
-    let by = reach_of globals starts at facts a i in
-    joined _ 6 1 8 (element_code w (starts a) by (operand at facts i) ++ element_load w (into (at d)) (starts a) by ∷ [])
-    (one_behind _ 5 6 (element_code w (starts a) by (operand at facts i)) (element_few w (starts a) by (operand at facts i)) (omega arith))
-    (finish_few (at d)) (omega arith)
-inst_few globals starts at facts (Store a i b) =
-    let w = width_of globals a in
-    let by = reach_of globals starts at facts a i in
-    joined _ 5 3 8 (element_code w (starts a) by (operand at facts i)) (element_few w (starts a) by (operand at facts i))
-    (one_behind _ 2 3 (fetch 2 (operand at facts b)) (fetch_few 2 (operand at facts b)) (omega arith)) (omega arith)
+inst_few globals starts at facts (Bin op d a b) = omega (arith, length-append {A = Plain}, op_few, finish_few)
+inst_few globals starts at facts (Load d a i) = omega (arith, length-append {A = Plain}, element_few, finish_few)
+inst_few globals starts at facts (Store a i b) = omega (arith, length-append {A = Plain}, element_few, fetch_few)
 
 form_few : (f : Form) (op : Op) (x y : Operand) → length (code_by_form f op x y) ≤ 8
 form_few (Known b) op x y = omega arith
-form_few (OnPair test) op x y =
-    joined _ 2 3 8 (fetch 1 x.source) (fetch_few 1 x.source) (one_behind _ 2 3 (fetch 3 y.source) (fetch_few 3 y.source) (omega arith)) (omega arith)
-form_few (OnLeft test) op x y = one_behind _ 2 8 (fetch 3 x.source) (fetch_few 3 x.source) (omega arith)
-form_few (OnRight test) op x y = one_behind _ 2 8 (fetch 3 y.source) (fetch_few 3 y.source) (omega arith)
+form_few (OnPair test) op x y = omega (arith, length-append {A = Plain}, fetch_few)
+form_few (OnLeft test) op x y = omega (arith, length-append {A = Plain}, fetch_few)
+form_few (OnRight test) op x y = omega (arith, length-append {A = Plain}, fetch_few)
 form_few ByResult op x y = let n = op_few op 1 3 x y in omega (arith, n)
 form_few ByOpposite op x y = let n = op_few (opposite_op op) 1 3 y x in omega (arith, n)
 form_few InResult op x y = let n = op_few op 1 2 x y in omega (arith, n)
@@ -203,10 +170,7 @@ next_few c facts (Some m) i = form_few m.form m.op m.left m.right
 pub insts_few : (c : Context) (asked : Asked) (facts : Facts) (is : List RInst) (behind : List Plain)
     → length (insts_code c asked facts is behind) ≤ 8 * length is + length behind
 insts_few c asked facts [] behind = omega arith
-insts_few c asked facts (i ∷ is) behind =
-    let m = comparison_of c.at facts (asked_last asked is) i in
-    let sum = length-append (next_code c facts m i) (insts_code c asked (learned c.at i facts) is behind) in
-    omega (arith, next_few c facts m i, insts_few c asked (learned c.at i facts) is behind, sum)
+insts_few c asked facts (i ∷ is) behind = omega (arith, length-append {A = Plain}, next_few, insts_few c asked (learned c.at i facts) is behind)
 
 -- ---- frames and exits
 
@@ -219,15 +183,11 @@ step_few direction n = either (nat_eq n 0) 1 [] (Imm Addiu 29 29 (step_of direct
 
 parameters_few : (at : Locations) (t x n : ℕ) → length (parameters_code at t x n) ≤ 2 * n
 parameters_few at t x zero = omega arith
-parameters_few at t x (suc n) =
-    let rest = parameters_few at (suc t) (suc x) n in
-    omega (arith, arrive_few (at x) t, rest, length-append (arrive (at x) t) (parameters_code at (suc t) (suc x) n))
+parameters_few at t x (suc n) = omega (arith, length-append {A = Plain}, arrive_few (at x) t, parameters_few at (suc t) (suc x) n)
 
 parameters_one : (hs : List Home) (t x n : ℕ) → HaveNoCopies hs → length (parameters_code (slice_get hs) t x n) ≤ n
 parameters_one hs t x zero none = omega arith
-parameters_one hs t x (suc n) none =
-    let sum = length-append (arrive (slice_get hs x) t) (parameters_code (slice_get hs) (suc t) (suc x) n) in
-    omega (arith, arrive_one hs x t none, parameters_one hs (suc t) (suc x) n none, sum)
+parameters_one hs t x (suc n) none = omega (arith, length-append {A = Plain}, arrive_one hs x t none, parameters_one hs (suc t) (suc x) n none)
 
 -- a leaf has no link, but it may have copies of its parameters; what it has more at its beginning it has less at a return
 abbrev pub prologue_most : Bool → ℕ
@@ -240,14 +200,7 @@ exit_most false = 12
 
 prologue_by : (leaf : Bool) (f : Frame) (n p most : ℕ) → length f.saved.items ≤ 8 → length (parameters_code (locations f) 4 0 n) ≤ p
     → 9 + length (frame_link Save leaf f) + p ≤ most → length (prologue leaf f n) ≤ most
-prologue_by leaf f n p most eight moved room =
-    let saved = words_many Save (4 * f.slots) f.saved.items in
-    let down = step_few Save (frame_bytes leaf f) in
-    let a = length-append (stack_step Save (frame_bytes leaf f))
-    ((frame_words Save (4 * f.slots) f.saved.items ++ frame_link Save leaf f) ++ parameters_code (locations f) 4 0 n) in
-    let b = length-append (frame_words Save (4 * f.slots) f.saved.items ++ frame_link Save leaf f) (parameters_code (locations f) 4 0 n) in
-    let c = length-append (frame_words Save (4 * f.slots) f.saved.items) (frame_link Save leaf f) in
-    omega (arith, saved, eight, moved, room, down, a, b, c)
+prologue_by leaf f n p most eight moved room = omega (arith, length-append {A = Plain}, words_many, step_few, eight, moved, room)
 
 pub prologue_few : (leaf : Bool) (f : Frame) (n : ℕ) → length f.saved.items ≤ 8 → n ≤ 4 → (leaf ≡ false → HaveNoCopies f.homes.items)
     → length (prologue leaf f n) ≤ prologue_most leaf
@@ -277,10 +230,7 @@ epilogue_few leaf f eight =
 
 arguments_few : (at : Locations) (facts : Facts) (t : ℕ) (xs : List ℕ) → length (arguments_code at facts t xs) ≤ 2 * length xs
 arguments_few at facts t [] = omega arith
-arguments_few at facts t (x ∷ xs) =
-    let one = carry_few t (operand at facts x) in
-    let rest = arguments_few at facts (suc t) xs in
-    omega (arith, one, rest, length-append (carry t (operand at facts x)) (arguments_code at facts (suc t) xs))
+arguments_few at facts t (x ∷ xs) = omega (arith, length-append {A = Plain}, carry_few t (operand at facts x), arguments_few at facts (suc t) xs)
 
 branch_few : (o : Option Comparison) (known : Option ℕ) (x : Source) → length (branch_code o known x) ≤ 2
 branch_few None None x = fetch_few 1 x
