@@ -214,11 +214,8 @@ prologue_few false f n eight four alone =
 -- an epilogue, and two instructions for what is returned
 epilogue_few : (leaf : Bool) (f : Frame) → length f.saved.items ≤ 8 → length (epilogue leaf f) + 2 ≤ exit_most leaf
 epilogue_few leaf f eight =
-    let saved = words_many Restore (4 * f.slots) f.saved.items in
-    let up = step_few Restore (frame_bytes leaf f) in
-    let b = length-append (frame_words Restore (4 * f.slots) f.saved.items ++ frame_link Restore leaf f) (stack_step Restore (frame_bytes leaf f)) in
-    let c = length-append (frame_words Restore (4 * f.slots) f.saved.items) (frame_link Restore leaf f) in
-    by leaf (length (epilogue leaf f)) (length (frame_link Restore leaf f)) (omega (arith, saved, up, b, c, eight)) (link_most leaf)
+    by leaf (length (epilogue leaf f)) (length (frame_link Restore leaf f)) (omega (arith, length-append {A = Plain}, words_many, step_few, eight))
+    (link_most leaf)
   where
     link_most : (leaf : Bool) → length (frame_link Restore leaf f) + 11 ≤ exit_most leaf
     link_most true = omega arith
@@ -253,20 +250,17 @@ pub exit_few : (leaf : Bool) (f : Frame) (facts : Facts) (last : Last) (x : RExi
     → length (exit_code leaf f facts last x) + behind_most x ≤ exit_most leaf
 exit_few leaf f facts last (Goto b) eight few = ten_most leaf 0 (omega arith)
 exit_few leaf f facts last (Branch c t e) eight few =
-    let code = branch_code (tested last.comparison c) (known_in facts c) (last_operand (locations f) facts last.fresh c) in
     let n = branch_few (tested last.comparison c) (known_in facts c) (last_operand (locations f) facts last.fresh c) in
-    ten_most leaf (length code + 0) (omega (arith, n))
+    ten_most leaf _ (omega (arith, n))
 exit_few leaf f facts last (Call g xs d next) eight few =
     let n = arguments_few (locations f) facts 4 xs.items in
-    ten_most leaf (length (arguments_code (locations f) facts 4 xs.items) + 2) (omega (arith, n, few))
+    ten_most leaf _ (omega (arith, n, few))
 exit_few leaf f facts last (Return None) eight few = let n = epilogue_few leaf f eight in omega (arith, n)
 exit_few leaf f facts last (Return (Some x)) eight few =
-    let code = return_code (returned last.comparison x) (last_operand (locations f) facts last.fresh x) in
-    let n = return_few (returned last.comparison x) (last_operand (locations f) facts last.fresh x) in
-    omega (arith, n, epilogue_few leaf f eight, length-append code (epilogue leaf f))
+    omega (arith, return_few, epilogue_few leaf f eight, length-append {A = Plain})
 exit_few leaf f facts last (Out x next) eight few =
     let n = carry_few 4 (last_operand (locations f) facts last.fresh x) in
-    ten_most leaf (length (carry 4 (last_operand (locations f) facts last.fresh x)) + 0) (omega (arith, n))
+    ten_most leaf _ (omega (arith, n))
 
 pub result_few : (at : Locations) (o : Option ℕ) → length (result_code at o) ≤ 2
 result_few at None = omega arith

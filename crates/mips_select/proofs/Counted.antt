@@ -29,6 +29,7 @@ use Rattle.mips_select.proofs.FrameSizes.{placed_eight, are_alone}
 use Rattle.mips_select.proofs.Lists.{all_at}
 use Rattle.mips_select.proofs.Selecting.{functions_emittable}
 use Rattle.rtl.specs.Programs.{IsFunction}
+use Rattle.mips_isa.specs.declared.inst.Plain.{Plain}
 
 -- the instructions of blocks
 abbrev words_in : List BlockParts → ℕ
@@ -55,9 +56,7 @@ record Few (bs : List BlockParts) (blocks words : ℕ) : Type 0 where
 
 both : (xs ys : List BlockParts) (a b c d : ℕ) → Few xs a b → Few ys c d → Few (xs ++ ys) (a + c) (b + d)
 both xs ys a b c d x y =
-    let n = length-append xs ys in
-    let m = words_append xs ys in
-    record { blocks_few = omega (arith, n, x.blocks_few, y.blocks_few); words_few = omega (arith, m, x.words_few, y.words_few) }
+    record { blocks_few = omega (arith, length-append xs ys, x.blocks_few, y.blocks_few); words_few = omega (arith, words_append xs ys, x.words_few, y.words_few) }
 
 -- ---- one function
 
@@ -78,9 +77,7 @@ module _ (l : Linking) (p : Planning) (eight : length p.frame.saved.items ≤ 8)
       let last = last_after at (asked_of b.exit) no_facts b.insts.items no_last in
       let exit = exit_few p.leaf p.frame facts last b.exit eight few in
       let code = insts_few (context_in l p.placing) (asked_of b.exit) no_facts b.insts.items (exit_code p.leaf p.frame facts last b.exit) in
-      let sum = length-append (head_code p (p.heads j)) (insts_code (context_in l p.placing) (asked_of b.exit) no_facts b.insts.items
-      (exit_code p.leaf p.frame facts last b.exit)) in
-      omega (arith, exit, code, sum)
+      omega (arith, exit, code, length-append {A = Plain})
 
   one_or_more : (x : RExit) → 1 ≤ exit_blocks x
   one_or_more (Call g xs d next) = omega arith
@@ -145,9 +142,10 @@ function_few l n k (b ∷ bs) f eight four alone some few =
     let fits = (most l p eight four alone (is_leaf all)).1 in
     let rest = rest_few l p eight four alone (λ j. small j) (k + lead_in heads + count heads b.exit) 0 bs (λ i c e. few (suc i) c e) in
     let first = one_few l p eight four alone (k + lead_in heads) 0 b bs (exits_blocks bs) (14 * length bs + 8 * insts_in bs) (few 0 b refl) rest in
-    let m = length-append (lead_blocks p (heads 0)) (blocks_from l p (k + lead_in heads) 0 all) in
-    let w = words_append (lead_blocks p (heads 0)) (blocks_from l p (k + lead_in heads) 0 all) in
-    record { blocks_few = omega (arith, lead.0, first.blocks_few, m); words_few = omega (arith, lead.1, fits, first.words_few, w) }
+    record {
+      blocks_few = omega (arith, lead.0, first.blocks_few, length-append {A = BlockParts});
+      words_few = omega (arith, lead.1, fits, first.words_few, words_append);
+    }
 
 -- ---- the program
 
@@ -167,8 +165,7 @@ functions_few l k (func ∷ funcs) (f ∷ fs) each =
     let is = each 0 func f refl refl in
     let one = function_few l func.parameters k func.blocks.items f is.eight is.four is.alone is.some is.few in
     let rest = functions_few l (k + function_size func) funcs fs (λ i g h eg eh. each (suc i) g h eg eh) in
-    let sum = total_append (function_blocks l k func f) (functions_blocks l (k + function_size func) funcs fs) in
-    omega (arith, one.blocks_few, one.words_few, total_few (function_blocks l k func f), rest, sum)
+    omega (arith, one.blocks_few, one.words_few, total_few, rest, total_append)
 
 pub each_counted_by_exits : EachUnitIsCountedByExits
 each_counted_by_exits h ok places =

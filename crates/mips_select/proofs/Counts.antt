@@ -15,9 +15,7 @@ use Rattle.mips_select.proofs.Places.{length-pieces}
 pub length-split_from : (most : ℕ) (place : ℕ → ℕ) (k : ℕ) (bs : List BlockParts) → length (split_from most place k bs) ≡ total most bs
 length-split_from most place k [] = refl
 length-split_from most place k (b ∷ bs) =
-    let long = length-pieces most (renumbered_exit place b.exit) (more_pieces most b) k b.insts in
-    let sum = length-append (pieces most (renumbered_exit place b.exit) (more_pieces most b) k b.insts) (split_from most place (k + count_of most b) bs) in
-    omega (arith, long, length-split_from most place (k + count_of most b) bs, sum)
+    omega (arith, length-pieces, length-split_from most place (k + count_of most b) bs, length-append {A = BlockParts})
 
 -- there is a piece for each block
 pub total_above : (most : ℕ) (bs : List BlockParts) → length bs ≤ total most bs

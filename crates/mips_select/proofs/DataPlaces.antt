@@ -40,11 +40,8 @@ element_length Byte v = refl
 elements_length : (w : Width) (vs : List ℕ) → length (elements_bytes w vs) ≡ width_bytes w * length vs
 elements_length w [] = omega arith
 elements_length w (v ∷ vs) =
-    let one = element_length w v in
-    let rest = elements_length w vs in
-    let sum = length-append (element_bytes w v) (elements_bytes w vs) in
     let next : width_bytes w * length (v ∷ vs) ≡ width_bytes w + width_bytes w * length vs = omega arith in
-    omega (arith, one, rest, sum, next)
+    omega (arith, element_length, elements_length w vs, length-append {A = ℕ}, next)
 
 whole_words : (w : Width) (n : ℕ) → width_bytes w * n + gap_behind w n ≡ 4 * words_of_elements w n
 whole_words Word n = omega arith
@@ -52,14 +49,9 @@ whole_words Byte n = omega arith
 
 pub global_length : (x : RGlobal) → length x.first.items ≡ x.length → length (global_bytes x) ≡ 4 * word_count x
 global_length x same =
-    let values = length-map x.first.items (λ v. kept x.width (wrap v)) in
-    let many = elements_length x.width (first_values x) in
-    let gap = length-replicate {A = ℕ} (gap_behind x.width x.length) 0 in
-    let sum = length-append (elements_bytes x.width (first_values x)) (zeros (gap_behind x.width x.length)) in
-    let all = whole_words x.width x.length in
-    let n : length (first_values x) ≡ x.length = values ∙ same in
-    let size : length (elements_bytes x.width (first_values x)) ≡ width_bytes x.width * x.length = many ∙ ap (λ n. width_bytes x.width * n) n in
-    omega (arith, size, gap, sum, all)
+    let n : length (first_values x) ≡ x.length = length-map x.first.items (λ v. kept x.width (wrap v)) ∙ same in
+    let size : length (elements_bytes x.width (first_values x)) ≡ width_bytes x.width * x.length = rw n at (elements_length x.width (first_values x)) in
+    omega (arith, size, length-replicate {A = ℕ} (gap_behind x.width x.length) 0, length-append {A = ℕ}, whole_words)
 
 -- ---- one global
 
@@ -103,14 +95,10 @@ pub element_within : (n : ℕ) (gs : List RGlobal) → HaveValues gs → (a i v 
 element_within n [] ok a i v e = absurd (none-some v e)
 element_within n (x ∷ gs) ok zero i v e =
     let inside = global_inside x i v (ok 0 x refl) e in
-    let long = global_length x (ok 0 x refl) in
-    let sum = length-append (global_bytes x) (padded_bytes gs) in
-    (omega arith, omega (arith, inside, long, sum))
+    (omega arith, omega (arith, inside, global_length x (ok 0 x refl), length-append {A = ℕ}))
 element_within n (x ∷ gs) ok (suc a) i v e =
     let rest = element_within (n + 4 * word_count x) gs (later x gs ok) a i v e in
-    let long = global_length x (ok 0 x refl) in
-    let sum = length-append (global_bytes x) (padded_bytes gs) in
-    (omega (arith, rest.0), omega (arith, rest.1, long, sum))
+    (omega (arith, rest.0), omega (arith, rest.1, global_length x (ok 0 x refl), length-append {A = ℕ}))
 
 pub element_byte : (n : ℕ) (gs : List RGlobal) → HaveValues gs → (a i v k b p : ℕ) → element_at (map first_values gs) a i ≡ Some v
     → slice_get (element_bytes (width_of gs a) v) k ≡ Some b

@@ -48,9 +48,8 @@ one_at_least heads _ = omega arith
 pub blocks_length : (l : Linking) (p : Planning) (k j : ℕ) (bs : List RBlock) → length (blocks_from l p k j bs) ≡ size_of_blocks p.heads bs
 blocks_length l p k j [] = refl
 blocks_length l p k j (b ∷ bs) =
-    let rest = blocks_length l p (k + count p.heads b.exit) (suc j) bs in
-    let one = behind_length p b.exit in
-    omega (arith, rest, one, length-append (behind p b.exit) (blocks_from l p (k + count p.heads b.exit) (suc j) bs))
+    let rest = blocks_from l p (k + count p.heads b.exit) (suc j) bs in
+    omega (arith, blocks_length l p (k + count p.heads b.exit) (suc j) bs, behind_length p b.exit, length-append (behind p b.exit) rest)
 
 pub lead_length : (p : Planning) (head : Head) → length (lead_blocks p head) ≡ lead_of head
 lead_length p Bare = refl
@@ -58,13 +57,7 @@ lead_length p _ = refl
 
 pub function_length : (l : Linking) (k : ℕ) (func : RFunc) (f : Frame)
     → length (function_blocks l k func f) ≡ function_size func
-function_length l k func f =
-    let bs = func.blocks.items in
-    let heads = heads_of bs in
-    let p = planning_in func.parameters k bs f in
-    let front = lead_length p (heads 0) in
-    let long = blocks_length l p (k + lead_in heads) 0 bs in
-    omega (arith, front, long, length-append (lead_blocks p (heads 0)) (blocks_from l p (k + lead_in heads) 0 bs))
+function_length l k func f = omega (arith, lead_length, blocks_length, length-append {A = BlockParts})
 
 -- numbers of blocks are from the first on, and below the end
 numbers_from : (heads : ℕ → Head) (k : ℕ) (bs : List RBlock) (b : ℕ) → b < length bs → IsFrom k (size_of_blocks heads bs) (slice_index (numbers heads k bs) b)
@@ -208,9 +201,7 @@ module _ (l : Linking) (functions : List RFunc) (bound : ℕ) (entry_below : (g 
   functions_length k [] fs same = refl
   functions_length k (func ∷ funcs) [] same = absurd (omega (arith, same))
   functions_length k (func ∷ funcs) (f ∷ fs) same =
-      let here = function_length l k func f in
-      let sum = length-append (function_blocks l k func f) (blocks_of (each_function (k + function_size func) funcs fs)) in
-      omega (arith, here, functions_length (k + function_size func) funcs fs (omega (arith, same)), sum)
+      omega (arith, function_length, functions_length (k + function_size func) funcs fs (omega (arith, same)), length-append {A = BlockParts})
 
   functions_owners : (k : ℕ) (funcs : List RFunc) (fs : List Frame) → length fs ≡ length funcs → owners_of k (each_function k funcs fs) ≡ owners_from k funcs
   functions_owners k [] fs same = refl

@@ -16,9 +16,7 @@ use Rattle.mips_select.proofs.Well.{get_replicate}
 length-owners_of : (k : ℕ) (fs : List (List BlockParts)) → length (owners_of k fs) ≡ length (blocks_of fs)
 length-owners_of k [] = refl
 length-owners_of k (f ∷ fs) =
-    let rest = length-owners_of (k + length f) fs in
-    let left = length-append (replicate (length f) k) (owners_of (k + length f) fs) in
-    omega (arith, rest, length-replicate (length f) k, left, length-append f (blocks_of fs))
+    omega (arith, length-owners_of (k + length f) fs, length-replicate (length f) k, length-append {A = ℕ}, length-append f (blocks_of fs))
 
 module _ (bound : ℕ) (blocks : List BlockParts) (owner : List ℕ) where
   -- block i is in the function that begins at `start`
