@@ -1,5 +1,5 @@
 -- How far arguments reach, one after another.
-use Rattle.std.proofs.Common.{◌≡◌, ℕ, suc, ◌+◌, ◌<◌, List, ◌∷◌, ap, ◌∙◌, arith, length, drop, get_or, nat_eq}
+use Rattle.std.proofs.Common.{◌≡◌, ℕ, suc, ◌+◌, ◌<◌, List, ◌∷◌, arith, length, drop, get_or, nat_eq}
 use Rattle.std.specs.Prelude.{if◌then◌else◌, max}
 use Rattle.std.proofs.Math.Seq.{drop-cons}
 use Rattle.mips_homes.specs.Preferences.{reach_from}

@@ -1,8 +1,7 @@
 -- What a walk over blocks sees, one instruction after another.
-use Rattle.std.proofs.Common.{◌≡◌, ℕ, suc, ◌+◌, ◌<◌, ◌≤◌, Bool, true, false, ◌&&◌, List, [], ◌∷◌, ◌++◌, refl, sym, ap, ap₂, ◌∙◌, subst, arith, length, drop, get_or, nat_eq}
+use Rattle.std.proofs.Common.{◌≡◌, ℕ, ◌+◌, ◌<◌, ◌≤◌, Bool, true, false, ◌&&◌, List, [], ◌∷◌, ◌++◌, refl, sym, ap, ◌∙◌, subst, arith, length, drop, get_or, nat_eq}
 use Rattle.std.specs.Prelude.{if◌then◌else◌, ◌||◌, not}
 use Rattle.std.proofs.Common.{ne_eqb}
-use Rattle.std.proofs.Math.Seq.{drop-cons}
 use Rattle.std.proofs.lemmas.List.{drop_all}
 use Rattle.std.proofs.lemmas.List.{at_drop_more}
 use Rattle.rtl.specs.declared.instruction.RInst.{RInst}
