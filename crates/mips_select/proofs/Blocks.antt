@@ -88,22 +88,9 @@ pub function_made : (l : Linking) (k : ℕ) (func : RFunc) (f : Frame) (leaf : B
     (k + first) 0 blocks
     → out2 ≡ out ++ function_blocks l k func f
 function_made l k func f leaf blocks table' places numbers' first head out out1 out2 is leaf_is t_is first_is n_is p_is head_is e1 e2 =
-    let bs = func.blocks.items in
-    let heads : heads_in table' ≡ heads_of bs = ap heads_in t_is in
-    let start : k + first ≡ k + lead_in (heads_of bs) = ap (λ n. k + n) (first_is ∙ ap lead_in heads) in
-    let place : slice_index places ≡ place_in k bs = ap slice_index (p_is ∙ n_is
-    ∙ ap (λ h. numbers h (k + first) blocks) heads ∙ ap (λ n. numbers (heads_of bs) n blocks) start
-    ∙ ap (numbers (heads_of bs) (k + lead_in (heads_of bs))) is) in
-    let same : planned leaf (slice_index places) (heads_in table') ≡ planning_in func.parameters k bs f =
-    ap (λ leaf. planned leaf (slice_index places) (heads_in table')) (leaf_is ∙ ap is_leaf is) ∙ ap₂ (planned (is_leaf bs)) place heads in
-    let lead = ap₂ lead_blocks same (head_is ∙ ap (λ h. h 0) heads) in
-    let body = ap (λ p. blocks_from l p (k + first) 0 blocks) same ∙ ap₂ (λ m bs. blocks_from l (planning_in func.parameters k func.blocks.items f) m 0 bs) start is in
-    e2 ∙ ap₂ (λ a b. a ++ b) (e1 ∙ ap (λ l. out ++ l) lead) body
-    ∙ append_assoc out (lead_blocks (planning_in func.parameters k bs f) (heads_of bs 0))
-    (blocks_from l (planning_in func.parameters k bs f) (k + lead_in (heads_of bs)) 0 bs)
-  where
-    planned : Bool → (ℕ → ℕ) → (ℕ → Head) → Planning
-    planned leaf place heads = record { placing = placing_of leaf f place; parameters = func.parameters; heads = heads }
+    let plan = planning_in func.parameters k func.blocks.items f in
+    rw (e2, e1, head_is, p_is, n_is, first_is, t_is, leaf_is, is)
+    (append_assoc out (lead_blocks plan (plan.heads 0)) (blocks_from l plan (k + lead_in plan.heads) 0 func.blocks.items))
 
 -- room for the blocks of a function, and behind what stands before them
 pub function_room : (k first bound : ℕ) (func : RFunc) (blocks : List RBlock) (table : List Naming) → blocks ≡ func.blocks.items

@@ -1,8 +1,8 @@
 -- Where the bytes of globals stand.
 use Rattle.std.proofs.Common.{◌≡◌, ◌⊎◌, inl, inr, ℕ, zero, suc, ◌+◌, ◌-◌, ◌*◌, ◌%◌, ◌^◌, ◌<◌, ◌≤◌, List, [], ◌∷◌, ◌++◌, map, length}
-use Rattle.std.proofs.Common.{length-append, Some, Bool, true, false, nat_lt, ltb-true, refl, sym, ap, ◌∙◌, subst, arith}
+use Rattle.std.proofs.Common.{◌≢◌, ⊎_elim, length-append, Some, Bool, true, false, nat_lt, ltb-true, refl, sym, ap, ◌∙◌, subst, arith}
 use Rattle.std.specs.Prelude.{All, slice_get, slice_index, sum_by}
-use Rattle.std.proofs.lemmas.Bool.{ltb-false}
+use Rattle.std.proofs.lemmas.Bool.{cases_lt}
 use Rattle.std.proofs.lemmas.List.{append_assoc, length-map, length-replicate}
 use Rattle.std.proofs.lemmas.List.Elements.{All-append}
 use Rattle.std.proofs.lemmas.List.Sums.{sum_by-cons}
@@ -106,10 +106,9 @@ pub element_byte : (n : ℕ) (gs : List RGlobal) → HaveValues gs → (a i v k 
 element_byte n [] ok a i v k b p e at place = absurd (none-some v e)
 element_byte n (x ∷ gs) ok zero i v k b p e at place =
     let here : p ≡ width_bytes x.width * i + k = omega (arith, place) in
-    ap (slice_get (padded_bytes (x ∷ gs))) here
-    ∙ get_before (global_bytes x) (padded_bytes gs) (width_bytes x.width * i + k) b
+    rw here (get_before (global_bytes x) (padded_bytes gs) (width_bytes x.width * i + k) b
     (get_before (elements_bytes x.width (first_values x)) (zeros (gap_behind x.width x.length)) (width_bytes x.width * i + k) b
-    (elements_byte x.width (first_values x) i v k b e at))
+    (elements_byte x.width (first_values x) i v k b e at)))
 element_byte n (x ∷ gs) ok (suc a) i v k b p e at place =
     let low = (element_within (n + 4 * word_count x) gs (later x gs ok) a i v e).0 in
     let long = global_length x (ok 0 x refl) in
@@ -136,17 +135,8 @@ pub elements_apart : (n : ℕ) (gs : List RGlobal) → HaveValues gs → (a i b 
     ⊎ (element_place (width_of gs b) (slice_index (starts_from n gs) b) j + width_bytes (width_of gs b) ≤ element_place (width_of gs a)
     (slice_index (starts_from n gs) a) i)
 elements_apart n [] ok a i b j v w e f ne = absurd (none-some v e)
-elements_apart n (x ∷ gs) ok zero i zero j v w e f ne = by (nat_lt i j) (nat_lt j i) refl refl
-  where
-    by : (c d : Bool) → nat_lt i j ≡ c → nat_lt j i ≡ d
-        → (element_place x.width n i + width_bytes x.width ≤ element_place x.width n j) ⊎
-        (element_place x.width n j + width_bytes x.width ≤ element_place x.width n i)
-    by true d ec ed = inl (element_before x.width n i j (ltb-true i j ec))
-    by false true ec ed = inr (element_before x.width n j i (ltb-true j i ed))
-    by false false ec ed =
-        let up = ltb-false i j ec in
-        let down = ltb-false j i ed in
-        absurd (ne refl (omega (arith, up, down)))
+elements_apart n (x ∷ gs) ok zero i zero j v w e f ne = ⊎_elim (λ lt. inl (element_before x.width n i j lt))
+    (λ le. (let apart : i ≢ j = ne refl in inr (element_before x.width n j i (omega (arith, le, apart))))) (cases_lt i j)
 elements_apart n (x ∷ gs) ok zero i (suc b) j v w e f ne =
     let inside = global_inside x i v (ok 0 x refl) e in
     let low = (element_within (n + 4 * word_count x) gs (later x gs ok) b j w f).0 in

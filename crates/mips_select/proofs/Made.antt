@@ -66,16 +66,14 @@ pub unit_made : (long : List BlockParts) (owner globals : List ℕ) (numbers tab
     → owners ≡ owners_from 512 (λ n. slice_index table2 n) long owner
     → IsUnit (unit_parts blocks owners globals)
 unit_made long owner globals numbers table table2 blocks owners linked owned some data_few data_small few numbers_is table_is table2_is blocks_is owners_is =
-    subst (λ blocks. IsUnit (unit_parts blocks owners globals)) (sym (pieces_are long numbers table blocks numbers_is table_is blocks_is))
-    (subst (λ owners. IsUnit (unit_parts (split_blocks long) owners globals))
-    (sym (owners_is ∙ ap (λ (t : List ℕ). owners_from 512 (λ n. slice_index t n) long owner) (table2_is ∙ numbers_is))) (record {
+    rw (blocks_is, owners_is, table_is, table2_is, numbers_is) (record {
       some = (let many = total_above 512 long in omega (arith, some, many, count));
       few = omega (arith, few, count);
       linked = pieces_linked 512 positive long linked;
       owners = pieces_owned 512 positive long owner owned;
       data_fits = data_few;
       data_bytes = data_small;
-    }))
+    })
   where
     positive : 0 < 512
     positive = omega arith

@@ -92,20 +92,7 @@ pub program_made : (h : Homed) (starts es : List ℕ) (funcs : List RFunc) (glob
     → out3 ≡ out2 ++ functions_blocks (record { globals = globals; starts = slice_index starts; entry = slice_index es }) 2 funcs frames
     → out3 ≡ program_blocks h
 program_made h starts es funcs globals frames main n out0 out1 out2 out3 es_is s_is g_is f_is fr_is main_is n_is o0 o1 o2 o3 =
-    let head : n ≡ entry_of (h.rtl.now).functions (h.rtl.now).main = n_is ∙ ap₂ (λ (l : List ℕ) m. slice_index l m) es_is main_is in
-    let one : out1 ≡ start_block (entry_of (h.rtl.now).functions (h.rtl.now).main) ∷ [] = o1 ∙ ap (λ l. l ++ start_block n ∷ []) o0
-    ∙ ap (λ m. start_block m ∷ []) head in
-    let two : out2 ≡ start_block (entry_of (h.rtl.now).functions (h.rtl.now).main) ∷ end_block ∷ [] = o2
-    ∙ ap (λ l. l ++ end_block ∷ []) one in
-    let rest : functions_blocks (linked globals starts es) 2 funcs frames
-    ≡ functions_blocks (linking_for h.rtl.now) 2 (h.rtl.now).functions h.frames.items =
-    ap₂ (λ (l m : List ℕ). functions_blocks (linked globals l m) 2 funcs frames) (s_is ∙ ap (starts_from 0) g_is) es_is
-    ∙ ap (λ gs. functions_blocks (linked gs (starts_from 0 (h.rtl.now).globals) (entries_from 2 (h.rtl.now).functions)) 2 funcs frames) g_is
-    ∙ ap₂ (functions_blocks (linking_for h.rtl.now) 2) f_is fr_is in
-    o3 ∙ ap₂ (λ l m. l ++ m) two rest
-  where
-    linked : List RGlobal → (starts es : List ℕ) → Linking
-    linked globals starts es = record { globals = globals; starts = slice_index starts; entry = slice_index es }
+    rw (o3, o2, o1, o0, n_is, es_is, s_is, g_is, f_is, fr_is, main_is)
 
 -- ---- the unit
 
@@ -141,10 +128,7 @@ told_beyond {T} {h} {p} {fault} depth r told lent ok many =
 
 pub blocks_well : (h : Homed) (blocks : List BlockParts) (owners owners' : List ℕ) → IsProgram h.rtl.now → ArePlaced h → blocks ≡ program_blocks h
     → owners ≡ owners_for (h.rtl.now).functions → owners' ≡ owners → AreLinked blocks × AreOwners blocks owners'
-blocks_well h blocks owners owners' program ok is o_is o_is' =
-    let well = program_well h program ok.long in
-    subst (λ bs. AreLinked bs × AreOwners bs owners') (sym is)
-    (subst (λ os. AreLinked (program_blocks h) × AreOwners (program_blocks h) os) (sym (o_is' ∙ o_is)) well)
+blocks_well h blocks owners owners' program ok is o_is o_is' = rw (is, o_is', o_is) (program_well h program ok.long)
 
 -- what is put together is the unit of the program over its homes
 pub unit_made : (h : Homed) (u : UnitParts) (blocks : List BlockParts) (owners owners' bytes : List ℕ) (globals : List RGlobal)
@@ -178,8 +162,7 @@ pub numbered : (h : Homed) (p : Program) (u : UnitParts) (blocks : List BlockPar
 unfolding selected
 numbered h p u blocks funcs numbers lent ok u_is is f_is n_is = record {
   selected = selected h p u lent ok u_is;
-  begin = n_is ∙ ap (λ bs. map (first_piece_of BLOCK_INSTS bs) (numbers_from 2 funcs)) is
-      ∙ ap (λ fs. map (first_piece_of BLOCK_INSTS (program_blocks h)) (numbers_from 2 fs)) f_is;
+  begin = rw (is, f_is) at n_is;
 }
 
 pub bytes_fit : (p : Program) (bytes : List ℕ) (globals : List RGlobal) → IsProgram p → globals ≡ p.globals → bytes ≡ data_bytes globals
