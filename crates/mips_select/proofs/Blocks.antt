@@ -38,9 +38,7 @@ read_at xs i x lt is = slice_get_read xs (length xs) i x refl lt is
 pub block_room : (heads : ℕ → Head) (k i bound : ℕ) (blocks : List RBlock) (b : RBlock) → i < length blocks → b ≡ get_or blocks i b
     → k + size_of_blocks heads (drop i blocks) ≤ bound → k + count heads b.exit ≤ bound
 block_room heads k i bound blocks b within b_is le =
-    let e = at_drop_more (size_of_blocks heads) blocks i b within in
-    let one = ap (λ (b : RBlock). count heads b.exit) b_is in
-    omega (arith, e, one, le)
+    omega (arith, at_drop_more (size_of_blocks heads) blocks i b within, ap (λ (b : RBlock). count heads b.exit) b_is, le)
 
 pub blocks_step : (l : Linking) (p : Planning) (k c i bound : ℕ) (blocks : List RBlock) (b : RBlock) (out out' all : List BlockParts)
     → c ≡ count p.heads b.exit → i < length blocks → b ≡ get_or blocks i b → out' ≡ out ++ blocks_for l p k i b
@@ -97,18 +95,13 @@ pub function_room : (k first bound : ℕ) (func : RFunc) (blocks : List RBlock) 
     → table ≡ namings_of func → first ≡ lead_in (heads_in table) → k + function_size func ≤ bound
     → k + first + size_of_blocks (heads_in table) blocks ≤ bound
 function_room k first bound func blocks table is t_is first_is le =
-    let heads : heads_in table ≡ heads_of func.blocks.items = ap heads_in t_is in
-    let lead = first_is ∙ ap lead_in heads in
-    let size = ap₂ size_of_blocks heads is in
-    omega (arith, lead, size, le)
+    rw (first_is, t_is, is) (omega (arith, le))
 
 -- one more function
 pub functions_room : (out i bound : ℕ) (funcs : List RFunc) (func : RFunc) → i < length funcs → func ≡ get_or funcs i func
     → out + functions_size (drop i funcs) ≡ 2 + functions_size funcs → 2 + functions_size funcs ≤ bound → out + function_size func ≤ bound
 functions_room out i bound funcs func within func_is same le =
-    let e = at_drop_more functions_size funcs i func within in
-    let one = ap (λ (f : RFunc). function_size f) func_is in
-    omega (arith, e, one, same, le)
+    omega (arith, at_drop_more functions_size funcs i func within, ap (λ (f : RFunc). function_size f) func_is, same, le)
 
 pub numbers_step : (k size i total : ℕ) (funcs : List RFunc) (func : RFunc) (out out' all : List ℕ) → i < length funcs → func ≡ get_or funcs i func
     → size ≡ function_size func → out' ≡ out ++ numbers_in k func.blocks.items

@@ -55,8 +55,7 @@ owner_step place i o first more long owner b out out' all within same b_is o_is 
 -- pieces by a table of the numbers of first pieces
 pub pieces_are : (long : List BlockParts) (numbers table : List ℕ) (blocks : List BlockParts) → numbers ≡ firsts 512 0 long
     → table ≡ numbers → blocks ≡ split_from 512 (λ n. slice_index table n) 0 long → blocks ≡ split_blocks long
-pieces_are long numbers table blocks numbers_is table_is blocks_is = blocks_is
-    ∙ ap (λ (t : List ℕ). split_from 512 (λ n. slice_index t n) 0 long) (table_is ∙ numbers_is)
+pieces_are long numbers table blocks numbers_is table_is blocks_is = rw (blocks_is, table_is, numbers_is)
 
 -- pieces with their owners are a unit
 pub unit_made : (long : List BlockParts) (owner globals : List ℕ) (numbers table table2 : List ℕ) (blocks : List BlockParts)

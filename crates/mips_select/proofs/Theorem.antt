@@ -71,7 +71,7 @@ module _ (l : List ℕ) (few : length l ≤ UNIT_BYTES) where
       let zero_k : p + 0 ≡ p = omega arith in
       let here : slice_get l p ≡ Some v = ap (slice_get l) (sym zero_k) ∙ there 0 v refl in
       let ok = open_data Byte (length l) p (element_aligned Byte start i even) (slice_get_within l p v here) in
-      ap (λ x. cond x ((start_state l).memory (data_base + p)) 0) ok ∙ data_byte l p v few here
+      rw ok (data_byte l p v few here)
   element_shown Word start i v lt even there =
       let p = element_place Word start i in
       let s = start_state l in
@@ -83,9 +83,7 @@ module _ (l : List ℕ) (few : length l ≤ UNIT_BYTES) where
       let b1 : s.memory (a + 1) ≡ byte_of v 1 = next 1 (byte_of v 1) (there 1 (byte_of v 1) refl) in
       let b2 : s.memory (a + 2) ≡ byte_of v 2 = next 2 (byte_of v 2) (there 2 (byte_of v 2) refl) in
       let b3 : s.memory (a + 3) ≡ byte_of v 3 = next 3 (byte_of v 3) (there 3 (byte_of v 3) refl) in
-      ap (λ x. cond x (s.memory a * 2 ^ 24 + s.memory (a + 1) * 2 ^ 16 + s.memory (a + 2) * 2 ^ 8 + s.memory (a + 3)) 0) ok
-      ∙ ap₂ (λ x y. x + y) (ap₂ (λ x y. x + y) (ap₂ (λ x y. x * 2 ^ 24 + y * 2 ^ 16) b0 b1) (ap (λ x. x * 2 ^ 8) b2)) b3
-      ∙ four_bytes v lt
+      rw (ok, b0, b1, b2, b3) (four_bytes v lt)
     where
       next : (k b : ℕ) → slice_get l (element_place Word start i + k) ≡ Some b → (start_state l).memory (data_base + element_place Word start i + k) ≡ b
       next k b at =
