@@ -12,9 +12,9 @@ use Rattle.rtl.specs.declared.block.RBlock.{RBlock}
 use Rattle.mips_select.specs.declared.heads.Naming.{Naming}
 use Rattle.mips_select.specs.declared.heads.Naming.TheVariants.{Unnamed}
 use Rattle.mips_select.specs.declared.heads.Head.{Head}
-use Rattle.mips_select.specs.Heads.{is_leaf, unnamed, namings_of, AreNamed, heads_in, heads_of, count, lead_in}
+use Rattle.mips_select.specs.Heads.{is_leaf, unnamed, namings_of, AreNamed, heads_in, count, lead_in}
 use Rattle.mips_select.specs.Plans.{Linking, Planning, placing_of}
-use Rattle.mips_select.specs.Whole.{size_of_blocks, numbers, blocks_for, blocks_from, place_in, lead_blocks, planning_in, function_blocks, function_size}
+use Rattle.mips_select.specs.Whole.{size_of_blocks, numbers, blocks_for, blocks_from, lead_blocks, planning_in, function_blocks, function_size}
 use Rattle.mips_select.specs.Whole.{functions_size, numbers_in, numbers_from, entries_from, owners_from, functions_blocks}
 use Rattle.mips_select.proofs.Linked.{function_length}
 use Rattle.mips_select.proofs.Lists.{made_more}

@@ -1,14 +1,13 @@
 -- At most how many machine instructions stand for an instruction, an exit and the beginning of a function.
-use Rattle.std.proofs.Common.{◌≡◌, ℕ, zero, suc, ◌+◌, ◌*◌, ◌≤◌, Bool, true, false, List, [], ◌∷◌, ◌++◌, length, length-append, Option, Some, None, arith, refl}
-use Rattle.std.specs.Prelude.{slice_get, ◌/◌, ◌%◌, nat_eq, nat_lt, if◌then◌else◌}
+use Rattle.std.proofs.Common.{◌≡◌, ℕ, zero, suc, ◌+◌, ◌*◌, ◌≤◌, Bool, true, false, List, [], ◌∷◌, length, length-append, Option, Some, None, arith, refl}
+use Rattle.std.specs.Prelude.{slice_get, nat_eq, nat_lt, if◌then◌else◌}
 use Rattle.words.specs.Words.{wrap}
 use Rattle.words.specs.declared.width.Width.{Width}
 use Rattle.words.specs.declared.width.Width.TheVariants.{Word, Byte}
 use Rattle.mips_isa.specs.declared.inst.AluOp.TheVariants.{Addu}
 use Rattle.mips_isa.specs.declared.inst.ImmOp.TheVariants.{Addiu}
-use Rattle.mips_isa.specs.declared.inst.LogicOp.TheVariants.{Ori}
 use Rattle.mips_isa.specs.declared.inst.Plain.{Plain}
-use Rattle.mips_isa.specs.declared.inst.Plain.TheVariants.{Alu, Imm, Logic, LoadUpper}
+use Rattle.mips_isa.specs.declared.inst.Plain.TheVariants.{Alu, Imm, LoadUpper}
 use Rattle.rtl.specs.declared.operator.Op.{Op}
 use Rattle.rtl.specs.declared.operator.Op.TheVariants as ops
 use Rattle.rtl.specs.declared.instruction.RInst.{RInst}
@@ -31,16 +30,16 @@ use Rattle.mips_emit.specs.declared.facts.Last.{Last}
 use Rattle.mips_emit.specs.Locations.{Locations, Facts, locations, known_in, learned, operand, last_operand, inner_of, word_source}
 use Rattle.mips_emit.specs.declared.element.Reach.{Reach}
 use Rattle.mips_emit.specs.declared.element.Reach.TheVariants.{ByScratch, ByNew}
-use Rattle.mips_emit.specs.Elements.{scaled, base_sum, scaled_register, width_of, page, address_of_place}
-use Rattle.mips_emit.specs.Code.{constant, is_small, half, li, fetch, operand_register, bring, stays, carry, into, finish, put_at, arrive, operation, code_by_less}
+use Rattle.mips_emit.specs.Elements.{scaled, base_sum, page, address_of_place}
+use Rattle.mips_emit.specs.Code.{li, fetch, operand_register, bring, stays, carry, finish, put_at, arrive, operation, code_by_less}
 use Rattle.mips_emit.specs.declared.operation.Operand.{Operand}
-use Rattle.mips_emit.specs.Code.{Context, operand_with, code_by_left, code_by_right, code_by_word, multiple_of, multiple_code, code_by_multiple, op_code, reach_of, element_code}
-use Rattle.mips_emit.specs.Code.{immediate_of, turned_immediate_of, turned_less_of, element_load, const_code, nop, inst_code, arguments_code}
-use Rattle.mips_emit.specs.Comparisons.{code_by_form, opposite_op, comparison_of, asked_last, next_code, insts_code, branch_code}
-use Rattle.mips_emit.specs.Comparisons.{tested, returned, return_code}
+use Rattle.mips_emit.specs.Code.{Context, code_by_left, code_by_right, code_by_word, multiple_of, multiple_code, code_by_multiple, op_code, element_code}
+use Rattle.mips_emit.specs.Code.{immediate_of, turned_immediate_of, turned_less_of, const_code, nop, inst_code, arguments_code}
+use Rattle.mips_emit.specs.Comparisons.{code_by_form, opposite_op, next_code, insts_code, branch_code}
+use Rattle.mips_emit.specs.Comparisons.{tested, return_code}
 use Rattle.mips_select.specs.declared.prologue.Direction.{Direction}
 use Rattle.mips_select.specs.declared.prologue.Direction.TheVariants.{Save, Restore}
-use Rattle.mips_select.specs.Code.{frame_words, frame_link, frame_bytes, step_of, stack_step}
+use Rattle.mips_select.specs.Code.{frame_words, frame_link, step_of, stack_step}
 use Rattle.mips_select.specs.Code.{parameters_code, prologue, epilogue, exit_code, result_code}
 use Rattle.mips_select.specs.Emittable.{HasFewArguments}
 

@@ -11,7 +11,7 @@ use Rattle.rtl.specs.declared.block.RFunc.{RFunc}
 use Rattle.mips_homes.specs.declared.homed.Frame.{Frame}
 use Rattle.mips_emit.specs.Frames.{HaveNoCopies}
 use Rattle.mips_emit.specs.Locations.{locations, no_facts, known_after}
-use Rattle.mips_emit.specs.Comparisons.{insts_code, last_after, no_last}
+use Rattle.mips_emit.specs.Comparisons.{last_after, no_last}
 use Rattle.mips_select.specs.Split.{first_piece_of, total}
 use Rattle.mips_select.proofs.Counts.{length-split_from}
 use Rattle.mips_select.specs.declared.heads.Naming.{Naming}
@@ -23,7 +23,7 @@ use Rattle.mips_select.specs.Emittable.{HasFewArguments}
 use Rattle.mips_select.specs.Heads.{head_at, heads_of, is_leaf, namings, unnamed, resumes, count, lead_in}
 use Rattle.mips_select.specs.Laws.{EachUnitIsCounted, EachUnitIsCountedByExits}
 use Rattle.mips_select.specs.Limits.{insts_in, exit_blocks, exits_blocks, most_blocks_for, most_by_exits_for}
-use Rattle.mips_select.specs.Whole.{behind, next_of, blocks_from, blocks_in, lead_blocks, planning_in, function_blocks, function_size, functions_blocks, linking_for, program_blocks}
+use Rattle.mips_select.specs.Whole.{behind, next_of, blocks_from, blocks_in, lead_blocks, planning_in, function_size, functions_blocks, linking_for, program_blocks}
 use Rattle.mips_select.proofs.CodeSizes.{insts_few, prologue_most, prologue_few, exit_most, exit_few, behind_most, result_few}
 use Rattle.mips_select.proofs.FrameSizes.{placed_eight, are_alone}
 use Rattle.mips_select.proofs.Lists.{all_at}

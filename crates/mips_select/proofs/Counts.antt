@@ -8,7 +8,7 @@ use Rattle.mips_isa.specs.declared.inst.Plain.{Plain}
 use Rattle.mblock.specs.declared.exit.Exit.{Exit}
 use Rattle.mblock.specs.declared.exit.Exit.TheVariants.{Goto}
 use Rattle.mblock.specs.Parts.{BlockParts}
-use Rattle.mips_select.specs.Split.{renumbered_exit, more_pieces, piece, pieces, count_of, firsts, split_from, total}
+use Rattle.mips_select.specs.Split.{more_pieces, piece, pieces, count_of, firsts, split_from, total}
 use Rattle.mips_select.proofs.Places.{length-pieces}
 
 -- as many as the count says

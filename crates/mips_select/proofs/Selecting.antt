@@ -1,6 +1,6 @@
 -- The parts of a program's unit, put together.
 use Rattle.std.proofs.Common.{◌≡◌, ℕ, zero, suc, ◌+◌, ◌<◌, ◌≤◌, Bool, true, false, true≢false, List, [], ◌∷◌, ◌++◌, length, length-append, Some, sym, ap}
-use Rattle.std.proofs.Common.{ap₂, ◌∙◌, subst, arith, Result, IfErr}
+use Rattle.std.proofs.Common.{◌∙◌, subst, arith, Result, IfErr}
 use Rattle.std.specs.Prelude.{All, IsTrue, map, slice_get, slice_index, sum_by}
 use Rattle.std.proofs.lemmas.List.Sums.{sum_by-cons}
 use Rattle.std.proofs.lemmas.Option.{same_Some, none-some}
@@ -23,11 +23,10 @@ use Rattle.mips_select.specs.declared.fault.SelectFault.TheVariants.{Limit}
 use Rattle.mips_select.specs.Split.{split_blocks, split_owners, first_piece_of, firsts, total}
 use Rattle.mips_select.proofs.Counts.{total_above, length-split_from}
 use Rattle.mips_select.specs.Data.{zeros, data_bytes, starts_from}
-use Rattle.mips_select.specs.Plans.{Linking}
 use Rattle.mips_select.specs.Code.{start_block, end_block}
 use Rattle.mips_select.specs.Emittable.{HasFewArguments, IsEmittable, AreFunctionsEmittable}
 use Rattle.mips_select.specs.Limits.{FramesFit, HaveRoom}
-use Rattle.mips_select.specs.Whole.{functions_size, entries_from, entry_of, numbers_from, owners_for, functions_blocks, linking_for, program_blocks, unit_for}
+use Rattle.mips_select.specs.Whole.{functions_size, entries_from, numbers_from, owners_for, functions_blocks, program_blocks, unit_for}
 use Rattle.mips_select.specs.Laws.{KeepsRuns, IsSelected, IsNumbered, IsBeyond}
 use Rattle.mips_select.proofs.Lists.{all_at}
 use Rattle.mips_select.proofs.DataPlaces.{have_values, data_fits}
