@@ -4,6 +4,7 @@ use Rattle.std.proofs.Common.{Some, refl, sym, ap, ◌∙◌, subst, arith, leng
 use Rattle.std.specs.Prelude.{if◌then◌else◌, ◌||◌, max, Option, None, nat_le, not, slice_get}
 use Rattle.std.proofs.lemmas.Bool.{and_parts, or_parts, or_from, or_right, not-true, le-ltb, ltb-false}
 use Rattle.std.proofs.lemmas.Option.{slice_get_within, same_Some, none-some}
+use Rattle.std.proofs.lemmas.Bool.Decides.{nat_tests}
 use Rattle.rtl.specs.Names.{blocks_names, how_many, optional}
 use Rattle.mips_homes.specs.HomedRun.{is_in, is_callee_saved, homed_run}
 use Rattle.mips_homes.specs.Homes.{AreApart, Serves, cell}
@@ -135,10 +136,7 @@ all_temporary [] = true
 all_temporary (r ∷ rs) = temporary_test r && all_temporary rs
 
 is_caller_saved : (r : ℕ) → temporary_test r ≡ true → IsTemporary r
-is_caller_saved r e =
-    let low = and_parts (nat_le 8 r) (nat_lt r 28 && not (is_callee_saved r)) e in
-    let high = and_parts (nat_lt r 28) (not (is_callee_saved r)) low.1 in
-    (leb-true 8 r low.0, ltb-true r 28 high.0, not-true (is_callee_saved r) high.1)
+is_caller_saved r e = grind (arith, nat_tests)
 
 each_temporary : (rs : List ℕ) → all_temporary rs ≡ true → (r : ℕ) → is_in rs r ≡ true → IsTemporary r
 each_temporary [] all r e = absurd (true≢false (sym e))
