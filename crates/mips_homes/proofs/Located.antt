@@ -2,7 +2,7 @@
 use Rattle.std.proofs.Common.{◌≡◌, ℕ, zero, suc, ◌+◌, ◌<◌, ◌≤◌, ◌⊎◌, inl, inr, Bool, true, false, ◌&&◌, List, [], ◌∷◌, ◌++◌}
 use Rattle.std.proofs.Common.{Some, refl, sym, ap, ◌∙◌, subst, arith, length, nat_eq, nat_lt, true≢false, eqb-true, ltb-true, leb-true, eq-eqb}
 use Rattle.std.specs.Prelude.{if◌then◌else◌, ◌||◌, max, Option, None, nat_le, not, slice_get}
-use Rattle.std.proofs.lemmas.Bool.{and_parts, or_parts, or_from, or_right, not-true, le-ltb, ltb-false}
+use Rattle.std.proofs.lemmas.Bool.{and_parts, or_parts, or_from, or_right, le-ltb, ltb-false}
 use Rattle.std.proofs.lemmas.Option.{slice_get_within, same_Some, none-some}
 use Rattle.std.proofs.lemmas.Bool.Decides.{nat_tests}
 use Rattle.rtl.specs.Names.{blocks_names, how_many, optional}
