@@ -1,16 +1,13 @@
 -- What pseudo-registers are known to hold, and what operands mean in a state.
-use Rattle.std.proofs.Common.{◌≡◌, ◌≢◌, ℕ, ◌+◌, ◌*◌, ◌/◌, ◌%◌, ◌^◌, ◌<◌, ◌≤◌, Bool, true, false, List, [], ◌∷◌, ◌++◌, length, length-append}
+use Rattle.std.proofs.Common.{◌≡◌, ◌≢◌, ℕ, ◌+◌, ◌*◌, ◌^◌, ◌<◌, ◌≤◌, Bool, true, false, List, [], ◌∷◌, ◌++◌, length, length-append}
 use Rattle.std.proofs.Common.{Option, Some, None, refl, sym, ap, ◌∙◌, subst, arith, eq-eqb, eqb-true, ne_eqb, nat_eq}
-use Rattle.std.specs.Prelude.{if◌then◌else◌, not, slice_get, ◌||◌}
+use Rattle.std.specs.Prelude.{if◌then◌else◌, not, slice_get}
 use Rattle.std.proofs.lemmas.Bool.{eqb-false, or_parts, cond_both, cond-false}
 use Rattle.std.proofs.lemmas.Option.{same_Some, none-some}
 use Rattle.words.specs.declared.width.Width.{Width}
 use Rattle.words.specs.declared.width.Width.TheVariants as widths
 use Rattle.runs.specs.Stores.{Places, places_with, chain}
-use Rattle.mips_isa.specs.declared.inst.ImmOp.TheVariants.{Addiu}
-use Rattle.mips_isa.specs.declared.inst.LogicOp.TheVariants.{Ori}
 use Rattle.mips_isa.specs.declared.inst.Plain.{Plain}
-use Rattle.mips_isa.specs.declared.inst.Plain.TheVariants.{Imm, Logic, LoadUpper}
 use Rattle.mips_isa.specs.States.{State, AreApart, read}
 use Rattle.mips_isa.specs.Starting.{stack_base, stack_end}
 use Rattle.mips_isa.specs.declared.inst.PairTest.TheVariants.{Equal, NotEqual}
@@ -38,7 +35,7 @@ use Rattle.words.specs.Words.{wrap}
 use Rattle.mips_emit.specs.Elements.{width_bytes, width_of, base_word, fits_offset, base_index, address_of_place}
 use Rattle.mips_emit.specs.declared.offset.Offset.{Offset}
 use Rattle.mips_emit.specs.Offsets.{no_offset, touches, without, past, offset_past, offset_in}
-use Rattle.mips_emit.specs.Code.{nop, is_small, half, constant, li, operand_register, bring}
+use Rattle.mips_emit.specs.Code.{nop, li, operand_register, bring}
 use Rattle.mips_emit.proofs.Runs.{RunsTo}
 use Rattle.mips_emit.proofs.View.{word_at}
 use Rattle.mips_emit.proofs.View.{read_other}
@@ -251,17 +248,7 @@ pub longer_behind : (a b : List Plain) → 1 ≤ length b → 1 ≤ length (a ++
 longer_behind a b h = omega (arith, h, length-append a b)
 
 li_some : (t w : ℕ) → 1 ≤ length (li t w)
-li_some t w = go (is_small w) (nat_lt' w) (nat_eq (w % 65536) 0)
-  where
-    nat_lt' : ℕ → Bool
-    nat_lt' w = Rattle.std.specs.Prelude.nat_lt w 65536
-
-    go : (a b c : Bool) → 1 ≤ length (if a then Imm Addiu t 0 (half w) ∷ [] else if b then Logic Ori t 0 w ∷ [] else if c then LoadUpper t
-        (w / 65536 % 65536) ∷ [] else constant t w)
-    go true b c = omega arith
-    go false true c = omega arith
-    go false false true = omega arith
-    go false false false = omega arith
+li_some t w = grind arith
 
 pub bring_some : (t : ℕ) (x : Source) → 1 ≤ length (bring t x)
 bring_some t (Word w) = li_some t w
