@@ -1,38 +1,123 @@
--- Where a sequence of symbols gets stuck, and what it reads, from its first symbol and the others.
-use Rattle.std.proofs.Common.{◌≡◌, List, [], ◌∷◌, ◌++◌, Some, ◌≢◌, refl, sym, ap, ◌∙◌, subst}
+-- What a sequence of symbols reads, and where it gets stuck, from its first symbols and the others.
+use Rattle.std.proofs.Common.{◌≡◌, ◌<◌, suc, List, [], ◌∷◌, ◌++◌, Option, Some, None, length, refl, sym, ap, ◌∙◌, subst, append_assoc, arith}
+use Rattle.std.specs.Borrow.{Bor}
 use Rattle.c_tokens.specs.declared.token.Identifier.{Identifier}
 use Rattle.c_tokens.specs.declared.token.Token.{Token}
 use Rattle.c_tokens.specs.declared.token.Token.TheVariants.{Name, Constant, The}
 use Rattle.c_tokens.specs.declared.token.Mark.{Mark}
-use Rattle.c_front.specs.Grammar.{Sort, a_name, a_constant, the, Nonterminal, Symbol, T, N, PhraseTree, SortTree, PhraseTrees, Rule, first, second, IsToken, is_name, tree_of}
-use Rattle.c_front.specs.Grammar.{is_constant, is_the}
-use Rattle.c_front.specs.Reading.{Reads, read_nothing, read_token, read_phrase, Stuck, stuck_token, stuck_past, stuck_inside}
+use Rattle.c_front.specs.Grammar.{Sort, a_name, a_constant, the, Nonterminal, Symbol, T, N, PhraseTree, SortTree, PhraseTrees, Rule, first, second, IsToken}
+use Rattle.c_front.specs.Grammar.{tree_of, is_the, is_name, is_constant}
+use Rattle.c_front.specs.Reading.{Reads, read_nothing, read_token, read_phrase, Stuck, stuck_token, stuck_phrase, stuck_inside}
 use Rattle.c_front.specs.Choosing.{chosen_rule, Peeks}
 use Rattle.c_tokens.specs.declared.token.Literal.{Literal}
 use Rattle.c_front.specs.declared.cursor.ParseStop.{ParseStop}
 use Rattle.c_front.specs.declared.cursor.ParseStop.TheVariants.{Syntax, NoMemory}
-use Rattle.c_front.specs.Parsing.{StartsWith, IsRead, AreStuck, IsStuck, IsMissing, IsNameMissing, IsConstantMissing}
-use Rattle.c_front.specs.Parsing.{IsEndedRead, IsEndedStuck}
-use Rattle.c_front.proofs.Reading.{stuck_after}
+use Rattle.c_front.specs.Parsing.{StartsWith, IsRead, AreStuck, are_stuck, without_memory, IsStuck, IsMissing, IsNameMissing, IsConstantMissing}
+use Rattle.c_front.proofs.Reading.{stuck_after, stuck-within}
 
-pub missing-stuck : (u : Mark) (ts : List Token) → first ts ≢ Some (The u) → (symbols : List Symbol) → Stuck (T (the u) ∷ symbols) ts ts
-missing-stuck u ts h symbols = stuck_token (λ t v e i. go t v e i)
-  where
-    go : (t : Token) (v : SortTree (the u)) → first ts ≡ Some t → IsToken (the u) t v → ⊥
-    go t v e is_the = h e
+-- the trees of some symbols, and of those after them
+abbrev pub trees : (symbols more : List Symbol) → PhraseTrees symbols → PhraseTrees more → PhraseTrees (symbols ++ more)
+trees [] more m w = w
+trees (s ∷ symbols) more m w = (m.0, trees symbols more m.1 w)
 
-pub missing-first : (u : Mark) (more : List Symbol) (ts : List Token) (s : ParseStop) → IsMissing u ts s → AreStuck (T (the u) ∷ more) ts s
-missing-first u more ts (Syntax rest) h = λ symbols.
-    let P : List Token → Type 0 = λ x. Stuck (T (the u) ∷ more ++ symbols) ts x in
-    subst P (sym h.0) (missing-stuck u ts h.1 (more ++ symbols))
-missing-first u more ts NoMemory h = tt
+pub followed : {symbols more : List Symbol} {ts middle rest : List Token} {m : PhraseTrees symbols} {w : PhraseTrees more} → Reads symbols ts middle m
+    → Reads more middle rest w → Reads (symbols ++ more) ts rest (trees symbols more m w)
+followed read_nothing q = q
+followed (read_token i d) q = read_token i (followed d q)
+followed (read_phrase r c d e d') q = read_phrase r c d e (followed d' q)
 
--- a token of another sort stands first
-not-there : {k : Sort} (more : List Symbol) (ts rest : List Token) → rest ≡ ts
-    → ((t : Token) (v : SortTree k) → first ts ≡ Some t → IsToken k t v → ⊥) → (symbols : List Symbol) → Stuck (T k ∷ more ++ symbols) ts rest
-not-there {k = k} more ts rest same none symbols =
+-- what stands in front, by its parts
+pub at-first : {ts rest : List Token} {t u : Token} → ts ≡ t ∷ rest → t ≡ u → ts ≡ u ∷ rest
+at-first some is = cc
+
+pub at-mark : {ts rest : List Token} {t : Token} {m n : Mark} → ts ≡ t ∷ rest → t ≡ The m → m ≡ n → ts ≡ The n ∷ rest
+at-mark some is same = cc
+
+pub shorter : {ts rest : List Token} {t : Token} → ts ≡ t ∷ rest → length ts ≡ suc (length rest)
+shorter some = ap length some
+
+-- one token
+pub one : {k : Sort} {t : Token} {v : SortTree k} {ts rest : List Token} → IsToken k t v → ts ≡ t ∷ rest → Reads (T k ∷ []) ts rest (v, tt)
+one {k = k} {v = v} {rest = rest} is e =
+    let P : List Token → Type 0 = λ x. Reads (T k ∷ []) x rest (v, tt) in
+    subst P (sym e) (read_token is read_nothing)
+
+pub mark : {u : Mark} {ts rest : List Token} → StartsWith u ts rest → Reads (T (the u) ∷ []) ts rest (tt, tt)
+mark e = one is_the e
+
+pub whole : {n : Nonterminal} {inner : List Symbol} {ts rest : List Token} {m : PhraseTrees inner} (r : Rule n inner)
+    → chosen_rule n (first ts) (second ts) ≡ Some (inner, r) → Reads inner ts rest m → IsRead n ts rest (tree_of r m)
+whole r c d = read_phrase r c d refl read_nothing
+
+-- a phrase that is another, with what stands after it
+pub wrapped : {n inner : Nonterminal} {more : List Symbol} {ts rest : List Token} {v : PhraseTree inner} {w : PhraseTrees more} (r : Rule n (N inner ∷ []))
+    → chosen_rule n (first ts) (second ts) ≡ Some (N inner ∷ [], r) → Reads (N inner ∷ more) ts rest (v, w)
+    → Reads (N n ∷ more) ts rest (tree_of r (v, tt), w)
+wrapped r c (read_phrase r' c' d e z) = read_phrase r c (read_phrase r' c' d e read_nothing) refl z
+
+-- a phrase whose rule a token chooses
+pub by-first : (n : Nonterminal) {ts rest : List Token} {t : Token} → ts ≡ t ∷ rest
+    → chosen_rule n (first ts) (second ts) ≡ chosen_rule n (Some t) (first rest)
+by-first n e = ap (λ (x : List Token). chosen_rule n (first x) (second x)) e
+
+pub by-second : (n : Nonterminal) (t : Token) {u : Token} {rest after : List Token} → rest ≡ u ∷ after
+    → chosen_rule n (Some t) (first rest) ≡ chosen_rule n (Some t) (Some u)
+by-second n t e = ap (λ (x : List Token). chosen_rule n (Some t) (first x)) e
+
+-- a phrase whose rule begins with a token, which chooses it
+pub taken : {n : Nonterminal} {k : Sort} {more : List Symbol} {t : Token} {v : SortTree k} {ts a rest : List Token} {m : PhraseTrees more}
+    (r : Rule n (T k ∷ more)) → IsToken k t v → ts ≡ t ∷ a → chosen_rule n (Some t) (first a) ≡ Some (T k ∷ more, r) → Reads more a rest m
+    → IsRead n ts rest (tree_of r (v, m))
+taken {n = n} r is e c d = whole r (by-first n e ∙ c) (followed (one is e) d)
+
+pub past : {symbols more : List Symbol} {ts middle : List Token} {m : PhraseTrees symbols} {s : ParseStop} → Reads symbols ts middle m
+    → AreStuck more middle s → AreStuck (symbols ++ more) ts s
+past d (are_stuck h) = are_stuck (λ others. rw append_assoc (stuck_after d (h others)))
+past d without_memory = without_memory
+
+-- stuck within the first symbols
+pub within : {symbols : List Symbol} {ts : List Token} {s : ParseStop} (more : List Symbol) → AreStuck symbols ts s → AreStuck (symbols ++ more) ts s
+within more (are_stuck h) = are_stuck (λ others. rw append_assoc (h (more ++ others)))
+within more without_memory = without_memory
+
+pub inside : {n : Nonterminal} {inner : List Symbol} {ts : List Token} {s : ParseStop} (r : Rule n inner)
+    → chosen_rule n (first ts) (second ts) ≡ Some (inner, r) → (Peeks n (first ts) → ⊥) → AreStuck inner ts s → IsStuck n ts s
+inside r c k (are_stuck h) = are_stuck (λ symbols. stuck_inside r c (λ z. absurd (k z)) (h symbols))
+inside r c k without_memory = without_memory
+
+-- with what stands after the phrase
+pub inside-more : {n : Nonterminal} {inner more : List Symbol} {ts : List Token} {s : ParseStop} (r : Rule n inner)
+    → chosen_rule n (first ts) (second ts) ≡ Some (inner, r) → (Peeks n (first ts) → ⊥) → AreStuck (inner ++ more) ts s → AreStuck (N n ∷ more) ts s
+inside-more {inner = inner} {more = more} r c k (are_stuck h) =
+    are_stuck (λ symbols. stuck_inside r c (λ z. absurd (k z)) (rw (sym (append_assoc inner more symbols)) (h symbols)))
+inside-more r c k without_memory = without_memory
+
+-- stuck after a part that has a token at least, as the second token may have a say
+pub inside-past : {n : Nonterminal} {symbols more : List Symbol} {ts middle : List Token} {m : PhraseTrees symbols} {s : ParseStop}
+    (r : Rule n (symbols ++ more)) → chosen_rule n (first ts) (second ts) ≡ Some (symbols ++ more, r) → Reads symbols ts middle m
+    → length middle < length ts → AreStuck more middle s → IsStuck n ts s
+inside-past r c d l (are_stuck h) = are_stuck (λ symbols.
+    let w = stuck-within (h symbols) in
+    stuck_inside r c (λ z. omega (arith, w, l)) (rw append_assoc (stuck_after d (h symbols))))
+inside-past r c d l without_memory = without_memory
+
+pub begun : {n : Nonterminal} {k : Sort} {more : List Symbol} {t : Token} {v : SortTree k} {ts a : List Token} {s : ParseStop} (r : Rule n (T k ∷ more))
+    → IsToken k t v → ts ≡ t ∷ a → chosen_rule n (Some t) (first a) ≡ Some (T k ∷ more, r) → AreStuck more a s → IsStuck n ts s
+begun {n = n} r is e c h = let l = ap length e in inside-past r (by-first n e ∙ c) (one is e) (omega (arith, l)) h
+
+-- no rule begins with what stands there
+pub no-phrase : {n : Nonterminal} {more : List Symbol} {ref : Bor (List Token)} {ts : List Token} → ref.now ≡ ts
+    → ((after : Option Token) → chosen_rule n (first ts) after ≡ None) → AreStuck (N n ∷ more) ref.now (Syntax ref)
+no-phrase {n = n} e h = are_stuck (λ symbols. stuck_phrase (λ after. ap (λ (x : List Token). chosen_rule n (first x) after) e ∙ h after))
+
+missing-sort : {k : Sort} {more : List Symbol} {ts : List Token} {rest : Bor (List Token)} → rest.now ≡ ts
+    → ((t : Token) (v : SortTree k) → first ts ≡ Some t → IsToken k t v → ⊥) → AreStuck (T k ∷ more) ts (Syntax rest)
+missing-sort {k = k} {more = more} {ts = ts} e none = are_stuck (λ symbols.
     let P : List Token → Type 0 = λ x. Stuck (T k ∷ more ++ symbols) ts x in
-    subst P (sym same) (stuck_token none)
+    subst P (sym e) (stuck_token none))
+
+the-is : {u : Mark} {t : Token} {v : SortTree (the u)} → IsToken (the u) t v → t ≡ The u
+the-is is_the = refl
 
 name-is : {t : Token} {x : Identifier} → IsToken a_name t x → t ≡ Name x
 name-is is_name = refl
@@ -40,73 +125,43 @@ name-is is_name = refl
 constant-is : {t : Token} {k : Literal} → IsToken a_constant t k → t ≡ Constant k
 constant-is is_constant = refl
 
-pub name-missing-first : (more : List Symbol) (ts : List Token) (s : ParseStop) → IsNameMissing ts s → AreStuck (T a_name ∷ more) ts s
-name-missing-first more ts (Syntax rest) h = not-there more ts rest.now h.0 (λ t v e is. h.1 v (e ∙ ap Some (name-is is)))
-name-missing-first more ts NoMemory h = tt
+pub missing : {u : Mark} {more : List Symbol} {ts : List Token} {s : ParseStop} → IsMissing u ts s → AreStuck (T (the u) ∷ more) ts s
+missing {s = Syntax rest} h = missing-sort h.0 (λ t v e is. h.1 (e ∙ ap Some (the-is is)))
+missing {s = NoMemory} h = without_memory
 
-pub constant-missing-first : (more : List Symbol) (ts : List Token) (s : ParseStop) → IsConstantMissing ts s → AreStuck (T a_constant ∷ more) ts s
-constant-missing-first more ts (Syntax rest) h = not-there more ts rest.now h.0 (λ t v e is. h.1 v (e ∙ ap Some (constant-is is)))
-constant-missing-first more ts NoMemory h = tt
+pub name-missing : {more : List Symbol} {ts : List Token} {s : ParseStop} → IsNameMissing ts s → AreStuck (T a_name ∷ more) ts s
+name-missing {s = Syntax rest} h = missing-sort h.0 (λ t v e is. h.1 v (e ∙ ap Some (name-is is)))
+name-missing {s = NoMemory} h = without_memory
 
-pub past-token : {k : Sort} {t : Token} {v : SortTree k} → IsToken k t v → (more : List Symbol) (ts a : List Token) (s : ParseStop) → ts ≡ t ∷ a
-    → AreStuck more a s → AreStuck (T k ∷ more) ts s
-past-token {k = k} is more ts a (Syntax rest) e h = λ symbols.
-    let P : List Token → Type 0 = λ x. Stuck (T k ∷ more ++ symbols) x rest.now in
-    subst P (sym e) (stuck_past is (h symbols))
-past-token is more ts a NoMemory e h = tt
+pub constant-missing : {more : List Symbol} {ts : List Token} {s : ParseStop} → IsConstantMissing ts s → AreStuck (T a_constant ∷ more) ts s
+constant-missing {s = Syntax rest} h = missing-sort h.0 (λ t v e is. h.1 v (e ∙ ap Some (constant-is is)))
+constant-missing {s = NoMemory} h = without_memory
 
-pub past-phrase : (n : Nonterminal) (more : List Symbol) (ts a : List Token) (v : PhraseTree n) (s : ParseStop) → IsRead n ts a v → AreStuck more a s
-    → AreStuck (N n ∷ more) ts s
-past-phrase n more ts a v (Syntax rest) d h = λ symbols. stuck_after d (h symbols)
-past-phrase n more ts a v NoMemory d h = tt
+-- a place within a phrase: what was read before, and what goes on from there
+pub record GoesOn (n more : Nonterminal) (ts middle : List Token) (tree : PhraseTree more → PhraseTree n) : Type 0 where
+  pub reads : (rest : List Token) (m : PhraseTree more) → IsRead more middle rest m → IsRead n ts rest (tree m)
+  pub stuck : (s : ParseStop) → IsStuck more middle s → IsStuck n ts s
 
-pub past-ended : (n : Nonterminal) (u : Mark) (more : List Symbol) (ts a : List Token) (v : PhraseTree n) (s : ParseStop) → IsEndedRead n u ts a v
-    → AreStuck more a s → AreStuck (N n ∷ T (the u) ∷ more) ts s
-past-ended n u more ts a v (Syntax rest) d h = λ symbols. stuck_after d (h symbols)
-past-ended n u more ts a v NoMemory d h = tt
+pub goes-first : {n more : Nonterminal} {symbols : List Symbol} {ts middle : List Token} {v : PhraseTrees symbols} (r : Rule n (symbols ++ N more ∷ []))
+    → chosen_rule n (first ts) (second ts) ≡ Some (symbols ++ N more ∷ [], r) → (Peeks n (first ts) → ⊥) → Reads symbols ts middle v
+    → GoesOn n more ts middle (λ m. tree_of r (trees symbols (N more ∷ []) v (m, tt)))
+goes-first r c k d = record {
+  reads = λ rest m q. whole r c (followed d q);
+  stuck = λ s h. inside r c k (past d h);
+}
 
-pub first-phrase : (n : Nonterminal) (more : List Symbol) (ts : List Token) (s : ParseStop) → IsStuck n ts s → AreStuck (N n ∷ more) ts s
-first-phrase n more ts (Syntax rest) h = λ symbols. h (more ++ symbols)
-first-phrase n more ts NoMemory h = tt
+pub goes-more : {n more : Nonterminal} {symbols : List Symbol} {ts middle next : List Token} {v : PhraseTrees symbols}
+    {tree : PhraseTree more → PhraseTree n} → GoesOn n more ts middle tree → (r : Rule more (symbols ++ N more ∷ []))
+    → chosen_rule more (first middle) (second middle) ≡ Some (symbols ++ N more ∷ [], r) → (Peeks more (first middle) → ⊥)
+    → Reads symbols middle next v → GoesOn n more ts next (λ m. tree (tree_of r (trees symbols (N more ∷ []) v (m, tt))))
+goes-more g r c k d = record {
+  reads = λ rest m q. g.reads rest _ (whole r c (followed d q));
+  stuck = λ s h. g.stuck s (inside r c k (past d h));
+}
 
-pub first-ended : (n : Nonterminal) (u : Mark) (more : List Symbol) (ts : List Token) (s : ParseStop) → IsEndedStuck n u ts s
-    → AreStuck (N n ∷ T (the u) ∷ more) ts s
-first-ended n u more ts (Syntax rest) h = λ symbols. h (more ++ symbols)
-first-ended n u more ts NoMemory h = tt
-
-pub inside : {n : Nonterminal} {inner : List Symbol} (r : Rule n inner) (ts : List Token) (s : ParseStop)
-    → chosen_rule n (first ts) (second ts) ≡ Some (inner, r) → (Peeks n (first ts) → ⊥) → AreStuck inner ts s → IsStuck n ts s
-inside r ts (Syntax rest) c k h = λ symbols. stuck_inside r c (λ z. absurd (k z)) (h symbols)
-inside r ts NoMemory c k h = tt
-
-pub token-then : {k : Sort} {t : Token} {v : SortTree k} {symbols : List Symbol} {ts a rest : List Token} {m : PhraseTrees symbols} → IsToken k t v
-    → ts ≡ t ∷ a → Reads symbols a rest m → Reads (T k ∷ symbols) ts rest (v, m)
-token-then {k = k} {v = v} {symbols = symbols} {rest = rest} {m = m} is e d =
-    let P : List Token → Type 0 = λ x. Reads (T k ∷ symbols) x rest (v, m) in
-    subst P (sym e) (read_token is d)
-
--- a phrase whose rule begins with a token, which chooses it
-pub taken : {n : Nonterminal} {k : Sort} {more : List Symbol} {t : Token} {v : SortTree k} {ts a rest : List Token} {m : PhraseTrees more}
-    (r : Rule n (T k ∷ more)) → IsToken k t v → ts ≡ t ∷ a → chosen_rule n (Some t) (first a) ≡ Some (T k ∷ more, r) → Reads more a rest m
-    → IsRead n ts rest (tree_of r (v, m))
-taken {n = n} {v = v} {rest = rest} {m = m} r is e c d =
-    let P : List Token → Type 0 = λ x. IsRead n x rest (tree_of r (v, m)) in
-    subst P (sym e) (read_phrase r c (read_token is d) refl read_nothing)
-
-pub begun : {n : Nonterminal} {k : Sort} {more : List Symbol} {t : Token} {v : SortTree k} (r : Rule n (T k ∷ more)) → IsToken k t v
-    → (ts a : List Token) (s : ParseStop) → ts ≡ t ∷ a → chosen_rule n (Some t) (first a) ≡ Some (T k ∷ more, r) → (Peeks n (Some t) → ⊥)
-    → AreStuck more a s → IsStuck n ts s
-begun {n = n} {more = more} {t = t} r is ts a s e c k h =
-    let P : List Token → Type 0 = λ x. IsStuck n x s in
-    subst P (sym e) (inside r (t ∷ a) s c k (past-token is more (t ∷ a) a s refl h))
-
--- a phrase whose rule a token chooses
-pub by-first : (n : Nonterminal) {ts a : List Token} {t : Token} → ts ≡ t ∷ a → chosen_rule n (first ts) (second ts) ≡ chosen_rule n (Some t) (first a)
-by-first n e = ap (λ (x : List Token). chosen_rule n (first x) (second x)) e
-
-pub mark-end : {u : Mark} {ts a : List Token} → StartsWith u ts a → Reads (T (the u) ∷ []) ts a (tt, tt)
-mark-end e = token-then is_the e read_nothing
-
-pub ended-then : {n : Nonterminal} {u : Mark} {symbols : List Symbol} {ts a rest : List Token} {v : PhraseTree n} {m : PhraseTrees symbols}
-    → IsEndedRead n u ts a v → Reads symbols a rest m → Reads (N n ∷ T (the u) ∷ symbols) ts rest (v, (tt, m))
-ended-then (read_phrase r c d q (read_token is_the read_nothing)) z = read_phrase r c d q (read_token is_the z)
+pub goes-same : {n more : Nonterminal} {ts middle : List Token} {f g : PhraseTree more → PhraseTree n} → ((m : PhraseTree more) → f m ≡ g m)
+    → GoesOn n more ts middle f → GoesOn n more ts middle g
+goes-same {n = n} {ts = ts} e go = record {
+  reads = λ rest m q. (let P : PhraseTree n → Type 0 = λ x. IsRead n ts rest x in subst P (e m) (go.reads rest m q));
+  stuck = go.stuck;
+}

@@ -3,11 +3,14 @@ use Rattle.std.proofs.lemmas.List.{take-append-drop, take-take}
 use Rattle.std.proofs.Common.{drop, append_assoc, ◌≡◌, ◌+◌, ◌<◌, ◌≤◌, ℕ, suc, List, [], ◌∷◌, ◌++◌, take, length, Option, Some, refl, sym, ap, subst, ◌∙◌, arith}
 use Rattle.std.proofs.Common.{add-one, length-append, ◌-◌}
 use Rattle.c_tokens.specs.declared.token.Token.{Token}
+use Rattle.std.specs.Borrow.{Bor}
+use Rattle.c_front.specs.declared.cursor.ParseStop.TheVariants.{Syntax}
+use Rattle.c_front.specs.Parsing.{IsStuck, are_stuck}
 use Rattle.c_front.specs.Grammar.{a_program, N, first, Spells}
-use Rattle.c_front.specs.Reading.{Reads, Stuck, CanRead, can_read}
+use Rattle.c_front.specs.Reading.{Reads, CanRead, can_read}
 use Rattle.c_tree.specs.Tree.{Declaration}
 use Rattle.c_front.specs.Syntax.{Begins, IsFirstWrong}
-use Rattle.c_front.proofs.Reading.{Before, before_here, before_past, StuckAt, stuck_at, derived, unique, dead, Reading}
+use Rattle.c_front.proofs.Reading.{Before, before_past, StuckAt, stuck_at, derived, unique, dead, Reading, before_here}
 use Rattle.c_front.proofs.Completing.{complete}
 use Rattle.c_front.proofs.Deriving.{determined, by-next}
 
@@ -58,15 +61,16 @@ first-wrong-at p rest s = record {
 }
 
 -- where the derivation of a program gets stuck is the first wrong token
-pub first-wrong : (ts rest : List Token) → Stuck (N a_program ∷ []) ts rest → (length rest ≤ length ts) × IsFirstWrong ts (length ts - length rest)
-first-wrong ts rest s =
-    let r = stuck_at s in
-    let e : ts ≡ r.0 ++ rest = before-append r.1 in
-    let n : length ts ≡ length r.0 + length rest = ap length e ∙ length-append r.0 rest in
-    let k : length r.0 ≡ length ts - length rest = omega (arith, n) in
+pub first-wrong : (ts : List Token) (stop : Bor (List Token)) → IsStuck a_program ts (Syntax stop)
+    → (length stop.now ≤ length ts) × IsFirstWrong ts (length ts - length stop.now)
+first-wrong ts stop (are_stuck h) =
+    let r = stuck_at (h []) in
+    let e : ts ≡ r.0 ++ stop.now = before-append r.1 in
+    let n : length ts ≡ length r.0 + length stop.now = ap length e ∙ length-append r.0 stop.now in
+    let k : length r.0 ≡ length ts - length stop.now = omega (arith, n) in
     let P : ℕ → Type 0 = λ x. IsFirstWrong ts x in
     let Q : List Token → Type 0 = λ x. IsFirstWrong x (length r.0) in
-    (omega (arith, n), subst P k (subst Q (sym e) (first-wrong-at r.0 rest r.2)))
+    (omega (arith, n), subst P k (subst Q (sym e) (first-wrong-at r.0 stop.now r.2)))
 
 -- what begins a program has only beginnings of programs before it
 begins-before : (ts : List Token) (i j : ℕ) → i ≤ j → Begins (take j ts) → Begins (take i ts)

@@ -1,24 +1,19 @@
 -- What a parsing function answers, by the grammar.
-use Rattle.std.specs.Prelude.{ℕ, zero, suc, ◌≤◌, ◌<◌, ◌≡◌, ◌≢◌, List, [], ◌∷◌, ◌++◌, Option, Some}
+use Rattle.std.specs.Prelude.{ℕ, suc, ◌≤◌, ◌<◌, ◌≡◌, ◌≢◌, List, [], ◌∷◌, ◌++◌, Option, Some, zero}
+use Rattle.std.specs.Borrow.{Bor}
 use Rattle.c_tokens.specs.declared.token.Identifier.{Identifier}
 use Rattle.c_tokens.specs.declared.token.IntegerType.{IntegerType}
 use Rattle.c_tokens.specs.declared.token.Token.{Token}
 use Rattle.c_tokens.specs.declared.token.Token.TheVariants.{Name, Constant, The}
 use Rattle.c_tokens.specs.declared.token.Mark.{Mark}
-use Rattle.c_tokens.specs.declared.token.Mark.TheVariants.{Int, Unsigned, Char, Else, Semicolon, LeftParen, RightParen, LeftBracket}
-use Rattle.c_tokens.specs.declared.token.Mark.TheVariants.{RightBracket}
-use Rattle.c_tokens.specs.declared.token.Mark.TheVariants.{Assign, Colon}
-use Rattle.c_tokens.specs.declared.token.Mark.TheVariants.{Plus, Minus, Bang, Tilde}
+use Rattle.c_tokens.specs.declared.token.Mark.TheVariants.{Int, Unsigned, Char, Else, Semicolon, LeftParen, RightParen, LeftBracket, RightBracket, Assign}
+use Rattle.c_tokens.specs.declared.token.Mark.TheVariants.{Colon, Plus, Minus, Bang, Tilde}
 use Rattle.c_tokens.specs.declared.token.IntegerType.TheVariants.{SignedInt}
 use Rattle.words.specs.declared.width.Width.TheVariants.{Byte}
 use Rattle.c_tree.specs.declared.tree.BinaryOp.{BinaryOp}
-use Rattle.c_front.specs.Grammar.{a_name, a_constant, the, Level, unary_expressions, above, Nonterminal, a_program, a_type, after_global}
-use Rattle.c_front.specs.Grammar.{a_statement}
-use Rattle.c_front.specs.Grammar.{else_part}
-use Rattle.c_front.specs.Grammar.{maybe_simple, maybe_expression, value, arguments, an_expression, Symbol, T, N, Tail, PhraseTree, Operator}
-use Rattle.c_front.specs.Grammar.{if_of}
-use Rattle.c_front.specs.Grammar.{typed_declaration}
-use Rattle.c_front.specs.Grammar.{first, second}
+use Rattle.c_front.specs.Grammar.{a_name, a_constant, the, Level, unary_expressions, above, Nonterminal, a_type, after_global, a_statement, else_part}
+use Rattle.c_front.specs.Grammar.{maybe_simple, maybe_expression, value, arguments, an_expression, Symbol, T, N, Tail, PhraseTree, Operator, if_of}
+use Rattle.c_front.specs.Grammar.{typed_declaration, first, second}
 use Rattle.c_front.specs.declared.cursor.ParseStop.{ParseStop}
 use Rattle.c_front.specs.declared.cursor.ParseStop.TheVariants.{Syntax, NoMemory}
 use Rattle.c_tree.specs.Tree.{Expression, Value, Simple, Statement, Declaration, array}
@@ -50,9 +45,9 @@ abbrev pub IsRead : (n : Nonterminal) → List Token → List Token → PhraseTr
 IsRead n ts rest v = Reads (N n ∷ []) ts rest (v, tt)
 
 -- no derivation of the symbols goes on at the rest of the tokens, whatever is wanted after them
-abbrev pub AreStuck : List Symbol → List Token → ParseStop → Type 0
-AreStuck wanted ts (Syntax rest) = (symbols : List Symbol) → Stuck (wanted ++ symbols) ts rest.now
-AreStuck wanted ts NoMemory = Unit {0}
+pub data AreStuck (wanted : List Symbol) (ts : List Token) : ParseStop → Type 0 where
+  are_stuck : {rest : Bor (List Token)} → ((symbols : List Symbol) → Stuck (wanted ++ symbols) ts rest.now) → AreStuck wanted ts (Syntax rest)
+  without_memory : AreStuck wanted ts NoMemory
 
 -- no phrase goes on at the rest of the tokens, whatever is wanted after it
 abbrev pub IsStuck : Nonterminal → List Token → ParseStop → Type 0
@@ -199,7 +194,3 @@ IsBytesStuck = AreStuck bytes_symbols
 -- what stands after the type and the name of a declaration
 abbrev pub IsTailRead : IntegerType → Identifier → List Token → List Token → Declaration → Type 0
 IsTailRead k x ts rest d = (t : Tail) × IsRead after_global ts rest t × (d ≡ typed_declaration k x t)
-
-abbrev pub IsProgramStuck : List Token → ParseStop → Type 0
-IsProgramStuck ts (Syntax rest) = Stuck (N a_program ∷ []) ts rest.now
-IsProgramStuck ts NoMemory = Unit {0}

@@ -1,8 +1,8 @@
 //! Declarations at file scope: variables, arrays and functions (C99 6.7, 6.9).
 ghost use Rattle.std.specs.Prelude.{◌≡◌, ◌<◌, length, IfOk, IfErr, List};
-ghost use Rattle.c_front.specs.Grammar.{Spells, initial, parameters, function_rest, after_global, a_declaration};
+ghost use Rattle.c_front.specs.Grammar.{Spells, initial, parameters, function_rest, after_global, a_declaration, a_program};
 ghost use Rattle.c_tree.specs.Shape.{declaration_of, declarations_of};
-ghost use Rattle.c_front.specs.Parsing.{IsRead, IsStuck, IsParameterRead, IsParameterStuck, IsTailRead, IsProgramStuck, IsLengthRead};
+ghost use Rattle.c_front.specs.Parsing.{IsRead, IsStuck, IsParameterRead, IsParameterStuck, IsTailRead, IsLengthRead};
 ghost use Rattle.c_front.specs.Parsing.{IsLengthStuck};
 ghost use Rattle.c_front.specs.Parsing.{IsBytesRead, IsBytesStuck};
 ghost use Rattle.c_front.specs.Syntax.{IsFault};
@@ -180,7 +180,7 @@ fn declaration<'a>(alloc: Global, tokens: &'a [Token]) -> Parsed<'a, Declaration
 /// Parses the declarations up to the last token.
 fn declarations<'a>(alloc: Global, tokens: &'a [Token]) -> Result<Vec<Declaration>, ParseStop<'a>>
     ensures ok { IfOk result (λ all. Spells tokens.now (declarations_of all.items)) }
-    ensures err { IfErr result (IsProgramStuck tokens.now) }
+    ensures err { IfErr result (IsStuck a_program tokens.now) }
 {
     let mut all = Vec::new(alloc);
     let mut rest = tokens;
@@ -199,7 +199,7 @@ pub enum SyntaxFault {
 
 /// Returns the number of the first wrong token, where parsing stopped at the rest of the tokens.
 fn fault_at(tokens: &[Token], stop: ParseStop) -> SyntaxFault
-    requires { IsProgramStuck tokens.now stop }
+    requires { IsStuck a_program tokens.now stop }
     ensures { IsFault tokens.now result }
 {
     match stop {

@@ -1,23 +1,30 @@
-use Rattle.std.proofs.Common.{rules, arith, ◌<◌, ◌≤◌, length}
+use Rattle.std.proofs.Common.{arith, ◌<◌, ◌≤◌, length, refl, sym, append_assoc, append-nil}
 use Rattle.std.proofs.lemmas.Result.{IfOk-at_ok}
-use Rattle.c_front.proofs.Ends.{stops}
-use Rattle.c_front.specs.Parsing.{IsProgramStuck}
-use Rattle.c_front.proofs.DeclarationPaths.{declarations-more, declarations-spelled, declaration-stuck, declarations_of-append}
+use Rattle.c_front.specs.Grammar.{declarations, program_rule, declarations_end, declarations_more}
+use Rattle.c_front.specs.Reading.{read_nothing}
+use Rattle.c_tree.specs.Shape.{declarations_of}
+use Rattle.c_front.proofs.Ends.{failed, stops}
+use Rattle.c_front.proofs.Reading.{derived}
+use Rattle.c_front.proofs.Steps.{by-first, whole, within, inside, goes-more, goes-same}
+use Rattle.c_front.proofs.DeclarationPaths.{declarations_of-append}
 use Rattle.c_front.proofs.declaration.declarations.Goals as goal
 
 pub returns-in_err-rest-clause-err : goal.returns-in_err-rest-clause-err
-returns-in_err-rest-clause-err c =
-    let k = stops _ _ _ c.in_err-rest.ensures.err c.declaration.ensures.err tt in
-    let h : IsProgramStuck c.args.tokens.now c.in_err-rest.field-0.0 =
-    declaration-stuck _ _ _ _ _ _ c.declarations.invariant c.in-Some.ensures.some k in search rules
+returns-in_err-rest-clause-err c = failed _ c.from_residual.ensures.1 (inside program_rule refl (λ z. z) (c.declarations.invariant.goes.stuck _
+    (inside declarations_more (by-first declarations c.in-Some.ensures.some) (λ z. z)
+    (within _ (stops _ _ _ _ c.in_err-rest.ensures.err c.declaration.ensures.err)))))
 
 pub declarations-preserved : goal.declarations-preserved
 declarations-preserved c =
     let r = c.in_ok-rest.ensures.ok in
     let d : length c.declarations.rest.now ≤ length c.args.tokens.now = c.declarations.invariant.shorter in
     let e : length c.in_ok-rest.rest.now < length c.declarations.rest.now = IfOk-at_ok _ r.1 c.declaration.ensures.shorter in
-    rw (r.2, declarations_of-append c.declarations.all.items r.0)
-    (declarations-more _ _ _ _ _ _ _ c.declarations.invariant c.in-Some.ensures.some (IfOk-at_ok _ r.1 c.declaration.ensures.ok) (omega (arith, d, e)))
+    rw (r.2, declarations_of-append c.declarations.all.items r.0) (record {
+      goes = goes-same (λ m. sym (append_assoc (declarations_of c.declarations.all.items) _ m)) (goes-more c.declarations.invariant.goes declarations_more
+          (by-first declarations c.in-Some.ensures.some) (λ z. z) (IfOk-at_ok _ r.1 c.declaration.ensures.ok));
+      shorter = omega (arith, d, e);
+    })
 
 pub returns-clause-ok : goal.returns-clause-ok
-returns-clause-ok c = declarations-spelled _ _ _ c.declarations.invariant c.in_default.ensures.none
+returns-clause-ok c = rw (sym (append-nil (declarations_of c.declarations.all.items))) (derived (whole program_rule refl
+    (c.declarations.invariant.goes.reads _ _ (rw c.in_default.ensures.none (whole declarations_end refl read_nothing)))))

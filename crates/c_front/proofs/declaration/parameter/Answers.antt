@@ -1,15 +1,15 @@
-use Rattle.std.proofs.Common.{rules}
-use Rattle.c_front.specs.Parsing.{IsParameterStuck}
-use Rattle.c_front.proofs.DeclarationPaths.{parameter-read, parameter-name-stuck, parameter-type-stuck}
+use Rattle.c_front.specs.Grammar.{is_name}
+use Rattle.c_front.proofs.Ends.{failed}
+use Rattle.c_front.proofs.Steps.{followed, one, past, name-missing, no-phrase}
+use Rattle.c_front.proofs.DeclarationPaths.{no-type}
+use Rattle.std.proofs.Common.{refl}
 use Rattle.c_front.proofs.declaration.parameter.Goals as goal
 
 pub returns-in_default-clause-err : goal.returns-in_default-clause-err
-returns-in_default-clause-err c = parameter-type-stuck _ c.in_default.ensures.none
+returns-in_default-clause-err c = let h = c.in_default.ensures.none in no-phrase refl (λ after. no-type _ h.0 h.1)
 
 pub returns-in_err-name-clause-err : goal.returns-in_err-name-clause-err
-returns-in_err-name-clause-err c =
-    let h : IsParameterStuck c.args.tokens.now c.in_err-name.field-0.0 = parameter-name-stuck _ _ _ _ c.in-Some.ensures.some c.in_err-name.ensures.err in
-    search rules
+returns-in_err-name-clause-err c = failed _ c.from_residual.ensures.1 (past c.in-Some.ensures.some (name-missing c.in_err-name.ensures.err))
 
 pub returns-clause-ok : goal.returns-clause-ok
-returns-clause-ok c = parameter-read _ _ _ _ _ c.in-Some.ensures.some c.in_ok-name.ensures.ok
+returns-clause-ok c = followed c.in-Some.ensures.some (one is_name c.in_ok-name.ensures.ok)

@@ -1,56 +1,58 @@
-use Rattle.std.proofs.Common.{rules, arith, ◌≡◌, ◌<◌, suc, length, ap}
+use Rattle.std.proofs.Common.{arith, ◌<◌, length, refl, sym, append_assoc, append-nil}
 use Rattle.std.proofs.lemmas.Result.{IfOk-at_ok, IfOk-weaker, IfErr-weaker}
-use Rattle.c_front.proofs.Ends.{stops, plain-ended, plain-unended}
+use Rattle.c_front.proofs.Ends.{failed, stops, plain-ended, plain-unended}
 use Rattle.c_tokens.specs.declared.token.Mark.TheVariants.{RightParen}
-use Rattle.c_front.specs.Parsing.{IsArgumentsStuck}
-use Rattle.c_front.proofs.Simply.{no-arguments-read, first-argument-stuck, arguments-first, arguments-more, next-argument-stuck, arguments-read}
-use Rattle.c_front.proofs.Simply.{arguments-end-stuck}
+use Rattle.c_tree.specs.Shape.{expressions_of}
+use Rattle.c_front.proofs.Simply.{expressions_of-append, some-chosen, none-more}
+use Rattle.c_front.proofs.Steps.{shorter, followed, mark, missing, by-first, whole, past, within, inside, begun, goes-first, goes-more, goes-same}
+use Rattle.c_front.specs.Grammar.{arguments, more_arguments, arguments_none, arguments_some, more_arguments_end, more_arguments_more, is_the}
+use Rattle.c_front.specs.Reading.{read_nothing}
 use Rattle.c_front.proofs.expression.arguments.Goals as goal
 
 pub returns-in-Some-clause-ok : goal.returns-in-Some-clause-ok
-returns-in-Some-clause-ok c = rw c.new-all.ensures.items (no-arguments-read _ _ c.in-Some.ensures.some)
+returns-in-Some-clause-ok c = rw c.new-all.ensures.items
+    (followed (whole arguments_none (by-first arguments c.in-Some.ensures.some) read_nothing) (mark c.in-Some.ensures.some))
 
 pub returns-in_err-rest-clause-err : goal.returns-in_err-rest-clause-err
-returns-in_err-rest-clause-err c =
-    let k = stops _ _ _ c.in_err-rest.ensures.err c.expression.ensures.err tt in
-    let h : IsArgumentsStuck c.args.tokens.now c.in_err-rest.field-0.0 = first-argument-stuck _ _ c.in_default.ensures.none k in search rules
+returns-in_err-rest-clause-err c = failed _ c.from_residual.ensures.1 (within _ (inside arguments_some (some-chosen _ c.in_default.ensures.none) (λ z. z)
+    (within _ (stops _ _ _ _ c.in_err-rest.ensures.err c.expression.ensures.err))))
 
 pub more-init : goal.more-init
 more-init c =
     let r = c.in_ok-rest.ensures.ok in
-    arguments-first _ _ _ _ c.in_default.ensures.none (IfOk-at_ok _ r.1 c.expression.ensures.ok) (IfOk-at_ok _ r.1 c.expression.ensures.shorter)
-    (rw c.new-all.ensures.items at r.2)
+    rw (r.2, c.new-all.ensures.items) (record {
+      goes = goes-first arguments_some (some-chosen _ c.in_default.ensures.none) (λ z. z) (IfOk-at_ok _ r.1 c.expression.ensures.ok);
+      shorter = IfOk-at_ok _ r.1 c.expression.ensures.shorter;
+    })
 
 pub returns-in_err-rest-2-clause-err : goal.returns-in_err-rest-2-clause-err
-returns-in_err-rest-2-clause-err c =
-    let k = stops _ _ _ c.in_err-rest-2.ensures.err c.expression-in-Some-starts.ensures.err tt in
-    let h : IsArgumentsStuck c.args.tokens.now c.in_err-rest-2.field-0.0 =
-    next-argument-stuck _ _ _ _ _ c.more.invariant c.in-Some-starts.ensures.some k in search rules
+returns-in_err-rest-2-clause-err c = failed _ c.from_residual-in_err-rest-2.ensures.1 (within _ (c.more.invariant.goes.stuck _
+    (begun more_arguments_more is_the c.in-Some-starts.ensures.some refl
+    (within _ (stops _ _ _ _ c.in_err-rest-2.ensures.err c.expression-in-Some-starts.ensures.err)))))
 
 pub more-preserved : goal.more-preserved
 more-preserved c =
     let r = c.in_ok-rest-2.ensures.ok in
-    let e : length c.more.rest.now ≡ suc (length c.in-Some-starts.after.now) = ap length c.in-Some-starts.ensures.some in
     let d : length c.more.rest.now < length c.args.tokens.now = c.more.invariant.shorter in
     let f : length c.in_ok-rest-2.rest.now < length c.in-Some-starts.after.now = IfOk-at_ok _ r.1 c.expression-in-Some-starts.ensures.shorter in
-    arguments-more _ _ _ _ _ _ _ c.more.invariant c.in-Some-starts.ensures.some (IfOk-at_ok _ r.1 c.expression-in-Some-starts.ensures.ok)
-    (omega (arith, e, d, f)) r.2
+    rw (r.2, expressions_of-append c.more.all.items r.0) (record {
+      goes = goes-same (λ m. sym (append_assoc (expressions_of c.more.all.items) _ m))
+          (goes-more c.more.invariant.goes more_arguments_more (by-first more_arguments c.in-Some-starts.ensures.some) (λ z. z)
+          (followed (mark c.in-Some-starts.ensures.some) (IfOk-at_ok _ r.1 c.expression-in-Some-starts.ensures.ok)));
+      shorter = omega (arith, shorter c.in-Some-starts.ensures.some, d, f);
+    })
 
 pub returns-clause-err : goal.returns-clause-err
-returns-clause-err c =
-    IfErr-weaker c.expect_after.result _ _
-    (λ s d. arguments-end-stuck _ _ _ _ c.more.invariant c.in_default-starts.ensures.none (plain-unended RightParen s d))
-    c.expect_after.ensures.err
+returns-clause-err c = IfErr-weaker c.expect_after.result _ _
+    (λ s d. past (c.more.invariant.goes.reads _ _ (whole more_arguments_end (none-more _ c.in_default-starts.ensures.none) read_nothing))
+    (missing (plain-unended RightParen s d))) c.expect_after.ensures.err
 
 pub returns-clause-ok : goal.returns-clause-ok
-returns-clause-ok c =
-    IfOk-weaker c.expect_after.result _ _
-    (λ r d. let h = plain-ended RightParen r d in rw h.0 (arguments-read _ _ _ _ c.more.invariant c.in_default-starts.ensures.none h.1))
+returns-clause-ok c = IfOk-weaker c.expect_after.result _ _
+    (λ r d. let h = plain-ended RightParen r d in rw (h.0, sym (append-nil (expressions_of c.more.all.items)))
+    (followed (c.more.invariant.goes.reads _ _ (whole more_arguments_end (none-more _ c.in_default-starts.ensures.none) read_nothing)) (mark h.1)))
     c.expect_after.ensures.ok
 
 pub returns-clause-shorter : goal.returns-clause-shorter
-returns-clause-shorter c =
-    IfOk-weaker c.expect_after.result _ _
-    (λ r d.
-    let e : length c.more.rest.now ≡ suc (length r.1.now) = ap length (plain-ended RightParen r d).1 in
-    omega (arith, e, c.more.invariant.shorter)) c.expect_after.ensures.ok
+returns-clause-shorter c = IfOk-weaker c.expect_after.result _ _
+    (λ r d. omega (arith, shorter (plain-ended RightParen r d).1, c.more.invariant.shorter)) c.expect_after.ensures.ok

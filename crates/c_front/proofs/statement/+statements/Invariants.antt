@@ -1,6 +1,8 @@
-use Rattle.std.proofs.Common.{◌+◌, ◌*◌, length}
+use Rattle.std.proofs.Common.{◌+◌, ◌*◌, ◌≤◌, length}
 use Rattle.c_tree.specs.Shape.{items_of}
-use Rattle.c_front.proofs.StatementPaths.{GoesOnItems}
+use Rattle.c_front.specs.Grammar.{items}
+use Rattle.c_front.proofs.Steps.{GoesOn}
+use Rattle.c_front.proofs.StatementPaths.{after_items}
 use Rattle.c_front.proofs.statement.+statements.Given as goal
 
 abbrev pub decreases-statement : goal.decreases-statement
@@ -22,7 +24,7 @@ abbrev pub decreases-items : goal.decreases-items
 decreases-items l = 4 * length l.tokens.now + 3
 
 abbrev pub invariant-items-items : goal.invariant-items-items
-invariant-items-items l = GoesOnItems l.fn.tokens l.rest (items_of l.all.items)
+invariant-items-items l = record { goes : GoesOn items items l.fn.tokens l.rest (after_items (items_of l.all.items)); shorter : length l.rest ≤ length l.fn.tokens }
 
 abbrev pub decreases-items-items : goal.decreases-items-items
 decreases-items-items l = length l.rest

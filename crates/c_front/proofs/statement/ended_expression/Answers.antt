@@ -1,17 +1,16 @@
-use Rattle.std.proofs.Common.{rules}
-use Rattle.c_front.specs.Parsing.{IsEndedStuck}
-use Rattle.c_front.specs.Grammar.{maybe_expression}
-use Rattle.c_tokens.specs.declared.token.Mark.TheVariants.{Semicolon}
-use Rattle.c_front.proofs.StatementPaths.{no-expression-read, some-expression-read, some-expression-stuck}
+use Rattle.c_front.specs.Grammar.{maybe_expression, expression_none, expression_some}
+use Rattle.c_front.specs.Reading.{read_nothing}
+use Rattle.c_front.proofs.Ends.{failed}
+use Rattle.c_front.proofs.Steps.{followed, mark, by-first, whole, wrapped, inside-more}
+use Rattle.c_front.proofs.StatementPaths.{chosen-expression}
 use Rattle.c_front.proofs.statement.ended_expression.Goals as goal
 
 pub returns-in-Some-clause-ok : goal.returns-in-Some-clause-ok
-returns-in-Some-clause-ok c = no-expression-read _ _ c.in-Some.ensures.some
+returns-in-Some-clause-ok c = let e = c.in-Some.ensures.some in followed (whole expression_none (by-first maybe_expression e) read_nothing) (mark e)
 
 pub returns-in_err-inner-clause-err : goal.returns-in_err-inner-clause-err
-returns-in_err-inner-clause-err c =
-    let h : IsEndedStuck maybe_expression Semicolon c.args.tokens.now c.in_err-inner.field-0.0 =
-    some-expression-stuck _ _ c.in_default.ensures.none c.in_err-inner.ensures.err in search rules
+returns-in_err-inner-clause-err c = failed _ c.from_residual.ensures.1
+    (inside-more expression_some (chosen-expression _ c.in_default.ensures.none) (λ z. z) c.in_err-inner.ensures.err)
 
 pub returns-clause-ok : goal.returns-clause-ok
-returns-clause-ok c = some-expression-read _ _ _ c.in_default.ensures.none c.in_ok-inner.ensures.ok
+returns-clause-ok c = wrapped expression_some (chosen-expression _ c.in_default.ensures.none) c.in_ok-inner.ensures.ok

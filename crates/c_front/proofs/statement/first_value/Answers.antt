@@ -1,16 +1,17 @@
-use Rattle.std.proofs.Common.{rules}
-use Rattle.c_front.specs.Parsing.{IsStuck}
-use Rattle.c_front.specs.Grammar.{declared}
-use Rattle.c_front.proofs.StatementPaths.{undeclared-read, declared-read, declared-stuck}
+use Rattle.std.proofs.Common.{refl}
+use Rattle.c_front.specs.Grammar.{is_the, declared_none, declared_some}
+use Rattle.c_front.specs.Reading.{read_nothing}
+use Rattle.c_front.proofs.Ends.{failed}
+use Rattle.c_front.proofs.Steps.{whole, taken, begun}
+use Rattle.c_front.proofs.StatementPaths.{no-value}
 use Rattle.c_front.proofs.statement.first_value.Goals as goal
 
 pub returns-in_err-given-in-Some-clause-err : goal.returns-in_err-given-in-Some-clause-err
 returns-in_err-given-in-Some-clause-err c =
-    let h : IsStuck declared c.args.tokens.now c.in_err-given-in-Some.field-0.0 =
-    declared-stuck _ _ _ c.in-Some.ensures.some c.in_err-given-in-Some.ensures.err in search rules
+    failed _ c.from_residual.ensures.1 (begun declared_some is_the c.in-Some.ensures.some refl c.in_err-given-in-Some.ensures.err)
 
 pub returns-in-None-clause-ok : goal.returns-in-None-clause-ok
-returns-in-None-clause-ok c = undeclared-read _ c.in-None.ensures.none
+returns-in-None-clause-ok c = whole declared_none (no-value _ c.in-None.ensures.none) read_nothing
 
 pub returns-in_ok-given-in-Some-clause-ok : goal.returns-in_ok-given-in-Some-clause-ok
-returns-in_ok-given-in-Some-clause-ok c = declared-read _ _ _ _ c.in-Some.ensures.some c.in_ok-given-in-Some.ensures.ok
+returns-in_ok-given-in-Some-clause-ok c = taken declared_some is_the c.in-Some.ensures.some refl c.in_ok-given-in-Some.ensures.ok
