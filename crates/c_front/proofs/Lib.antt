@@ -1,5 +1,6 @@
 pub mod Reading
 pub mod Ranks
+pub mod Operators
 pub mod Completing
 pub mod Deriving
 pub mod Theorems

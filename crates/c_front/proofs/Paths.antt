@@ -9,10 +9,8 @@ use Rattle.c_tokens.specs.declared.token.Mark.TheVariants.{Bar, Caret, Ampersand
 use Rattle.c_tokens.specs.declared.token.Mark.TheVariants.{LessLess, GreaterGreater}
 use Rattle.c_tree.specs.declared.tree.UnaryOp.{UnaryOp}
 use Rattle.c_tree.specs.declared.tree.BinaryOp.{BinaryOp}
-use Rattle.c_front.specs.Grammar.{a_name, the, Level, unary_expressions, above, operands, more_operands, Symbol, T, N, Operator, multiply, divide, remainder}
-use Rattle.c_front.specs.Grammar.{add, subtract, shift_left, shift_right, less, greater, less_or_equal, greater_or_equal, equal, not_equal, bit_and, bit_xor}
-use Rattle.c_front.specs.Grammar.{bit_or, logical_and, logical_or, Prefix, negate, operands_rule, operands_end, operands_more, operand_name, operand_unary}
-use Rattle.c_front.specs.Grammar.{grouping_of, first, second}
+use Rattle.c_front.specs.Grammar.{a_name, the, Level, unary_expressions, above, operands, more_operands, Symbol, T, N, Operator, multiply, Prefix, negate}
+use Rattle.c_front.specs.Grammar.{operands_rule, operands_end, operands_more, operand_name, operand_unary, grouping_of, first, second}
 use Rattle.c_front.specs.Reading.{read_nothing}
 use Rattle.c_front.specs.Choosing.{Choice, operator_at, more_choice, chosen_rule, EndsOperands, EndsChoice}
 use Rattle.c_front.specs.declared.cursor.ParseStop.{ParseStop}
@@ -166,23 +164,7 @@ none-operates : {l : Level} {w : BinaryOp} {t : Mark} → Operator l w t → t �
     → t ≢ GreaterGreater → t ≢ LessSign → t ≢ GreaterSign → t ≢ LessEqual → t ≢ GreaterEqual →
     t ≢ EqualEqual → t ≢ BangEqual → t ≢ Ampersand → t ≢ Caret → t ≢ Bar → t ≢ AndAnd → t ≢ BarBar → ⊥
 none-operates multiply a b c d e f g h i j k m n o p q r s = a refl
-none-operates divide a b c d e f g h i j k m n o p q r s = b refl
-none-operates remainder a b c d e f g h i j k m n o p q r s = c refl
-none-operates add a b c d e f g h i j k m n o p q r s = d refl
-none-operates subtract a b c d e f g h i j k m n o p q r s = e refl
-none-operates shift_left a b c d e f g h i j k m n o p q r s = f refl
-none-operates shift_right a b c d e f g h i j k m n o p q r s = g refl
-none-operates less a b c d e f g h i j k m n o p q r s = h refl
-none-operates greater a b c d e f g h i j k m n o p q r s = i refl
-none-operates less_or_equal a b c d e f g h i j k m n o p q r s = j refl
-none-operates greater_or_equal a b c d e f g h i j k m n o p q r s = k refl
-none-operates equal a b c d e f g h i j k m n o p q r s = m refl
-none-operates not_equal a b c d e f g h i j k m n o p q r s = n refl
-none-operates bit_and a b c d e f g h i j k m n o p q r s = o refl
-none-operates bit_xor a b c d e f g h i j k m n o p q r s = p refl
-none-operates bit_or a b c d e f g h i j k m n o p q r s = q refl
-none-operates logical_and a b c d e f g h i j k m n o p q r s = r refl
-none-operates logical_or a b c d e f g h i j k m n o p q r s = s refl
+none-operates _ a b c d e f g h i j k m n o p q r s = grind arith
 
 no-operator-at : (l : Level) (t : Mark) → ((w : BinaryOp) → Operator l w t → ⊥) → (x : Option ((w : BinaryOp) × Operator l w t))
     → Some (more_choice l t x) ≡ Some ([], operands_end)

@@ -1,13 +1,13 @@
 -- The ways through statements and items.
-use Rattle.std.proofs.Common.{◌≡◌, ◌≢◌, List, [], ◌∷◌, Option, Some, None, refl, sym, ap, ◌∙◌}
+use Rattle.std.proofs.Common.{◌≡◌, ◌≢◌, List, [], ◌∷◌, Option, Some, None, refl, ap}
 use Rattle.c_tokens.specs.declared.token.Identifier.{Identifier}
 use Rattle.c_tokens.specs.declared.token.Token.{Token}
 use Rattle.c_tokens.specs.declared.token.Token.TheVariants.{Name, The}
 use Rattle.c_tokens.specs.declared.token.Mark.{Mark}
 use Rattle.c_tokens.specs.declared.token.Mark.TheVariants.{Int, Unsigned, If, While, For, Semicolon, LeftBrace, RightBrace, Assign}
-use Rattle.c_front.specs.Grammar.{maybe_int, items, an_item, declared, a_statement, maybe_simple, maybe_expression, an_expression, Symbol, N, int_none}
-use Rattle.c_front.specs.Grammar.{items_end, items_more, item_statement, declared_none, simple_none, expression_some}
-use Rattle.c_front.specs.Choosing.{Choice, one_choice, EndsItems}
+use Rattle.c_front.specs.Grammar.{maybe_int, an_item, declared, a_statement, maybe_simple, maybe_expression, an_expression, N, int_none, item_statement}
+use Rattle.c_front.specs.Grammar.{declared_none, simple_none, expression_some}
+use Rattle.c_front.specs.Choosing.{one_choice, StartsItem}
 use Rattle.c_front.specs.declared.cursor.ParseStop.{ParseStop}
 use Rattle.c_front.specs.declared.cursor.ParseStop.TheVariants.{Syntax, NoMemory}
 use Rattle.c_tree.specs.Tree.{Items, no_items, more_items}
@@ -53,10 +53,13 @@ pub unnamed : (ts : List Token) (s : ParseStop) → IsNameMissing ts s → Start
 unnamed ts (Syntax rest) h = h.1
 unnamed ts NoMemory h = elim h [ ]
 
-pub items-go-on : (next : Option Token) → (EndsItems next → ⊥) → one_choice items next ≡ Some (N an_item ∷ N items ∷ [], items_more)
-items-go-on None h = absurd (h refl)
-items-go-on (Some (The RightBrace)) h = absurd (h refl)
-items-go-on (Some _) h = refl
+pub mark-item : (t : Mark) → t ≢ RightBrace → StartsItem (Some (The t))
+mark-item RightBrace h = absurd (h refl)
+mark-item _ h = refl
+
+pub other-item : (t : Token) → ((m : Mark) → t ≢ The m) → StartsItem (Some t)
+other-item (The m) h = absurd (h m refl)
+other-item _ h = refl
 
 pub after-none : (all : Items) → after_items all no_items ≡ all
 after-none no_items = refl
@@ -65,24 +68,3 @@ after-none (more_items i rest) = ap (more_items i) (after-none rest)
 pub after-after : (a b c : Items) → after_items (after_items a b) c ≡ after_items a (after_items b c)
 after-after no_items b c = refl
 after-after (more_items i rest) b c = ap (more_items i) (after-after rest b c)
-
-symbols-of : Option (Choice items) → List Symbol
-symbols-of None = []
-symbols-of (Some z) = z.0
-
-more-not-end : (more end : Choice items) → more.0 ≡ N an_item ∷ N items ∷ [] → end.0 ≡ [] → Some more ≡ Some end → ⊥
-unfolding symbols-of
-more-not-end more end a b e =
-    let same : more.0 ≡ end.0 = ap symbols-of e in
-    let bad : N an_item ∷ N items ∷ [] ≡ [] = sym a ∙ same ∙ b in
-    cc
-
-pub not-end : (t : Token) → t ≢ The RightBrace → EndsItems (Some t) → ⊥
-not-end (The RightBrace) h e = h refl
-not-end _ h e = more-not-end (N an_item ∷ N items ∷ [], items_more) ([], items_end) refl refl e
-
-pub mark-not-end : (t : Mark) → t ≢ RightBrace → EndsItems (Some (The t)) → ⊥
-mark-not-end t h = not-end (The t) (λ e. h (cc))
-
-pub other-not-end : (t : Token) → ((m : Mark) → t ≢ The m) → EndsItems (Some t) → ⊥
-other-not-end t h = not-end t (h RightBrace)

@@ -4,40 +4,24 @@ use Rattle.c_tokens.specs.declared.token.JumpWord.TheVariants.{Break, Continue, 
 use Rattle.c_tokens.specs.declared.token.Token.{Token}
 use Rattle.c_tokens.specs.declared.token.Token.TheVariants.{Name, Constant, Jump, The}
 use Rattle.c_tokens.specs.declared.token.Mark.{Mark}
-use Rattle.c_tokens.specs.declared.token.Mark.TheVariants.{Int, Unsigned, Char, Void, If, Else, While, For, Semicolon, Comma, LeftBrace}
-use Rattle.c_tokens.specs.declared.token.Mark.TheVariants.{RightBrace, LeftParen, RightParen, LeftBracket, Assign, Question, Plus, Minus}
-use Rattle.c_tokens.specs.declared.token.Mark.TheVariants.{Star, Slash}
-use Rattle.c_tokens.specs.declared.token.Mark.TheVariants.{Percent, Bang, Tilde, BarBar}
-use Rattle.c_tokens.specs.declared.token.Mark.TheVariants.{AndAnd, Bar, Caret, Ampersand, EqualEqual, BangEqual, LessSign, GreaterSign}
-use Rattle.c_tokens.specs.declared.token.Mark.TheVariants.{LessEqual, GreaterEqual}
+use Rattle.c_tokens.specs.declared.token.Mark.TheVariants.{Int, Unsigned, Char, Void, If, Else, While, For, Semicolon, Comma, LeftBrace, RightBrace, LeftParen}
+use Rattle.c_tokens.specs.declared.token.Mark.TheVariants.{RightParen, LeftBracket, Assign, Question, Plus, Minus, Star, Slash, Percent, Bang, Tilde, BarBar}
+use Rattle.c_tokens.specs.declared.token.Mark.TheVariants.{AndAnd, Bar, Caret, Ampersand, EqualEqual, BangEqual, LessSign, GreaterSign, LessEqual, GreaterEqual}
 use Rattle.c_tokens.specs.declared.token.Mark.TheVariants.{LessLess, GreaterGreater}
 use Rattle.c_tree.specs.declared.tree.BinaryOp.{BinaryOp}
-use Rattle.c_front.specs.Grammar.{the, Level, unary_expressions, above, Nonterminal, a_program, declarations, a_declaration, a_type}
-use Rattle.c_front.specs.Grammar.{maybe_int, after_global}
-use Rattle.c_front.specs.Grammar.{initial, function_rest, parameters, more_parameters, items, an_item, declared, a_statement, else_part}
-use Rattle.c_front.specs.Grammar.{maybe_simple}
-use Rattle.c_front.specs.Grammar.{maybe_expression, simple, value, a_call, arguments, more_arguments, an_expression, choice, operands}
-use Rattle.c_front.specs.Grammar.{more_operands, Symbol, T}
-use Rattle.c_front.specs.Grammar.{N, Operator, multiply, divide, remainder, add, subtract, shift_left, shift_right, less, greater}
-use Rattle.c_front.specs.Grammar.{less_or_equal}
-use Rattle.c_front.specs.Grammar.{greater_or_equal, equal, not_equal, bit_and, bit_xor, bit_or, logical_and, logical_or, negate, identity}
-use Rattle.c_front.specs.Grammar.{complement, not}
-use Rattle.c_front.specs.Grammar.{Rule, program_rule, declarations_end, declarations_more, declaration_typed, declaration_bytes}
-use Rattle.c_front.specs.Grammar.{declaration_void, type_int}
-use Rattle.c_front.specs.Grammar.{type_unsigned, int_none, int_some, global_plain, global_initial, global_array, global_function}
-use Rattle.c_front.specs.Grammar.{initial_plain}
-use Rattle.c_front.specs.Grammar.{initial_negative}
-use Rattle.c_front.specs.Grammar.{function_rule, parameters_void, parameters_some, more_parameters_end, more_parameters_more, items_end}
-use Rattle.c_front.specs.Grammar.{items_more}
-use Rattle.c_front.specs.Grammar.{item_declare, item_statement, declared_none, declared_some, statement_empty, statement_block}
-use Rattle.c_front.specs.Grammar.{statement_if, statement_while}
-use Rattle.c_front.specs.Grammar.{statement_for, statement_break, statement_continue, statement_return, statement_simple, else_none}
-use Rattle.c_front.specs.Grammar.{else_some, simple_none}
-use Rattle.c_front.specs.Grammar.{simple_some, expression_none, expression_some, simple_assign, simple_assign_at, simple_call, value_plain}
-use Rattle.c_front.specs.Grammar.{value_call}
-use Rattle.c_front.specs.Grammar.{call_rule, arguments_none, arguments_some, more_arguments_end, more_arguments_more, expression_rule}
-use Rattle.c_front.specs.Grammar.{choice_none, choice_some}
-use Rattle.c_front.specs.Grammar.{operands_rule, operands_end, operands_more, operand_constant, operand_name, operand_index, operand_unary}
+use Rattle.c_front.specs.Grammar.{the, Level, unary_expressions, above, Nonterminal, a_program, declarations, a_declaration, a_type, maybe_int, after_global}
+use Rattle.c_front.specs.Grammar.{initial, function_rest, parameters, more_parameters, items, an_item, declared, a_statement, else_part, maybe_simple}
+use Rattle.c_front.specs.Grammar.{maybe_expression, simple, value, a_call, arguments, more_arguments, an_expression, choice, operands, more_operands, Symbol, T}
+use Rattle.c_front.specs.Grammar.{N, Operator, multiply, divide, remainder, add, subtract, shift_left, shift_right, less, greater, less_or_equal}
+use Rattle.c_front.specs.Grammar.{greater_or_equal, equal, not_equal, bit_and, bit_xor, bit_or, logical_and, logical_or, negate, identity, complement, not}
+use Rattle.c_front.specs.Grammar.{Rule, program_rule, declarations_end, declarations_more, declaration_typed, declaration_bytes, declaration_void, type_int}
+use Rattle.c_front.specs.Grammar.{type_unsigned, int_none, int_some, global_plain, global_initial, global_array, global_function, initial_plain}
+use Rattle.c_front.specs.Grammar.{initial_negative, function_rule, parameters_void, parameters_some, more_parameters_end, more_parameters_more, items_end}
+use Rattle.c_front.specs.Grammar.{items_more, item_declare, item_statement, declared_none, declared_some, statement_empty, statement_block, statement_if}
+use Rattle.c_front.specs.Grammar.{statement_while, statement_for, statement_break, statement_continue, statement_return, statement_simple, else_none, else_some}
+use Rattle.c_front.specs.Grammar.{simple_none, simple_some, expression_none, expression_some, simple_assign, simple_assign_at, simple_call, value_plain}
+use Rattle.c_front.specs.Grammar.{value_call, call_rule, arguments_none, arguments_some, more_arguments_end, more_arguments_more, expression_rule, choice_none}
+use Rattle.c_front.specs.Grammar.{choice_some, operands_rule, operands_end, operands_more, operand_constant, operand_name, operand_index, operand_unary}
 use Rattle.c_front.specs.Grammar.{operand_paren}
 
 abbrev pub Choice : Nonterminal → Type 0
@@ -178,6 +162,10 @@ EndsChoice next = chosen_rule choice next None ≡ Some ([], choice_none)
 -- the token ends a list of items
 abbrev pub EndsItems : Option Token → Type 0
 EndsItems next = chosen_rule items next None ≡ Some ([], items_end)
+
+-- the token begins one more item
+abbrev pub StartsItem : Option Token → Type 0
+StartsItem next = chosen_rule items next None ≡ Some (N an_item ∷ N items ∷ [], items_more)
 
 -- the token ends a list of arguments after its first
 abbrev pub EndsArguments : Option Token → Type 0

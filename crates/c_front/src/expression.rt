@@ -16,6 +16,7 @@ use c_tree::{BinaryOp, Call, Expression, UnaryOp, Value};
 use std::alloc::{AllocError, AllocFailed, Global};
 
 /// Returns the operator that a token is, and the level of its operands.
+#[tactic(auto, using(crate::proofs::Operators::operators))]
 fn operator_of(mark: Mark) -> Option<(usize, BinaryOp)>
     ensures none { IfNone result ((l : Level) → EndsOperands l (Some (The mark))) }
     ensures some { IfSome result (λ r. Operator (level_of r.0) r.1 mark) }
@@ -58,6 +59,7 @@ fn operator<'a>(tokens: &'a [Token]) -> Option<(usize, BinaryOp, &'a [Token])>
 }
 
 /// Returns the prefix operator that a mark is.
+#[tactic(auto, using(crate::proofs::Operators::prefixes))]
 fn prefix_of(mark: Mark) -> Option<UnaryOp>
     ensures none { IfNone result (IsNoPrefix mark) }
     ensures some { IfSome result (λ o. Prefix o mark) }

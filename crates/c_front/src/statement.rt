@@ -1,7 +1,7 @@
 //! Statements (C99 6.8), and the simple statements of this subset.
-ghost use Rattle.std.specs.Prelude.{◌∷◌, ◌<◌, ◌≤◌, ◌↔◌, length, IfOk, IfErr, IfSome, IfNone, IsTrue};
+ghost use Rattle.std.specs.Prelude.{◌≡◌, ◌∷◌, ◌<◌, ◌≤◌, length, true, false, IfOk, IfErr, IfSome, IfNone};
 ghost use Rattle.c_front.specs.Grammar.{first, a_statement, an_item, items, simple, a_type, declared, maybe_simple, maybe_expression};
-ghost use Rattle.c_front.specs.Choosing.{EndsItems};
+ghost use Rattle.c_front.specs.Choosing.{EndsItems, StartsItem};
 ghost use Rattle.c_tree.specs.Shape.{expression_of, value_tree, maybe_value_tree, simple_of, maybe_simple_of, maybe_expression_of};
 ghost use Rattle.c_tree.specs.Shape.{statement_of};
 ghost use Rattle.c_tree.specs.Shape.{item_of, items_of};
@@ -244,7 +244,8 @@ fn item<'a>(alloc: Global, tokens: &'a [Token]) -> Parsed<'a, Item>
 
 /// Reports whether no item can stand here: at a closing brace, or at the end.
 fn ends_items(tokens: &[Token]) -> bool
-    ensures { IsTrue result ↔ EndsItems (first tokens.now) }
+    ensures ends { result ≡ true → EndsItems (first tokens.now) }
+    ensures more { result ≡ false → StartsItem (first tokens.now) }
 {
     match split(tokens) {
         None => true,

@@ -1,7 +1,6 @@
-use Rattle.std.proofs.Common.{arith, ◌≡◌, ◌<◌, ◌≤◌, length, Bool, true, false, refl, sym}
-use Rattle.c_front.specs.Grammar.{first, is_the, is_name, items_end, items_more, item_declare, item_statement, statement_empty, statement_block, statement_if}
+use Rattle.std.proofs.Common.{arith, ◌<◌, ◌≤◌, length, refl, sym}
+use Rattle.c_front.specs.Grammar.{is_the, is_name, items_end, items_more, item_declare, item_statement, statement_empty, statement_block, statement_if}
 use Rattle.c_front.specs.Grammar.{statement_while, statement_for, statement_simple, else_none, else_some}
-use Rattle.c_front.specs.Choosing.{EndsItems}
 use Rattle.c_tree.specs.Shape.{items_of}
 use Rattle.std.proofs.lemmas.Result.{IfOk-at_ok, IfOk-weaker, IfErr-weaker}
 use Rattle.c_front.proofs.Ends.{failed, stops, unended}
@@ -9,16 +8,13 @@ use Rattle.c_front.proofs.Steps.{at-first, at-mark, shorter, followed, one, mark
 use Rattle.c_front.proofs.Steps.{goes-same}
 use Rattle.c_tree.proofs.Shapes.{block-is}
 use Rattle.c_front.proofs.Shapes.{items_of-append}
-use Rattle.c_front.proofs.StatementPaths.{no-mark, chosen-item, items-go-on, after-none, after-after}
+use Rattle.c_front.proofs.StatementPaths.{no-mark, chosen-item, after-none, after-after}
 use Rattle.c_front.proofs.Reading.{derived}
 use Rattle.c_front.proofs.Deriving.{type-starts}
 use Rattle.c_front.specs.Reading.{read_nothing}
 use Rattle.c_front.proofs.Completing.{else-none}
 use Rattle.c_front.specs.Parsing.{without_memory}
 use Rattle.c_front.proofs.statement.+statements.Goals as goal
-
-test-differs : (b : Bool) → b ≡ true → b ≡ false → ⊥
-test-differs b e f = cc
 
 pub statement-returns-in_default-clause-err : goal.statement-returns-in_default-clause-err
 statement-returns-in_default-clause-err t c = no-phrase c.in_default.ensures.none (λ after. refl)
@@ -173,26 +169,24 @@ item-returns-in_ok-inner-in-None-clause-ok t c = let h = c.in-None.ensures.none 
 
 pub items-returns-clause-ok : goal.items-returns-clause-ok
 items-returns-clause-ok t c = rw (sym (after-none (items_of c.items.all.items)))
-    (c.items.invariant.goes.reads _ _ (whole items_end (c.ends_items.ensures.0 c.items-test.false) read_nothing))
+    (c.items.invariant.goes.reads _ _ (whole items_end (c.ends_items.ensures.ends c.items-test.false) read_nothing))
 
 pub items-returns-in_default-clause-err : goal.items-returns-in_default-clause-err
 items-returns-in_default-clause-err t c = without_memory
 
 pub items-returns-in_err-rest-clause-err : goal.items-returns-in_err-rest-clause-err
 items-returns-in_err-rest-clause-err t c =
-    let g : EndsItems (first c.items.rest.now) → ⊥ = λ h. test-differs _ (c.ends_items.ensures.1 h) c.items-test.true in
     failed _ c.from_residual.ensures.1 (c.items.invariant.goes.stuck _
-    (inside items_more (items-go-on _ g) (λ z. z) (within _ (stops _ _ _ _ c.in_err-rest.ensures.err c.item.ensures.err))))
+    (inside items_more (c.ends_items.ensures.more c.items-test.true) (λ z. z) (within _ (stops _ _ _ _ c.in_err-rest.ensures.err c.item.ensures.err))))
 
 pub items-items-preserved : goal.items-items-preserved
 items-items-preserved t c =
     let r = c.in_ok-rest.ensures.ok in
-    let g : EndsItems (first c.items.rest.now) → ⊥ = λ h. test-differs _ (c.ends_items.ensures.1 h) c.items-test.true in
     let d : length c.items.rest.now ≤ length c.args.tokens.now = c.items.invariant.shorter in
     let e : length c.in_ok-rest.rest.now < length c.items.rest.now = IfOk-at_ok _ r.1 c.item.ensures.shorter in
     rw (r.2, items_of-append c.items.all.items r.0) (record {
       goes = goes-same (λ m. sym (after-after (items_of c.items.all.items) _ m))
-          (goes-more c.items.invariant.goes items_more (items-go-on _ g) (λ z. z) (IfOk-at_ok _ r.1 c.item.ensures.ok));
+          (goes-more c.items.invariant.goes items_more (c.ends_items.ensures.more c.items-test.true) (λ z. z) (IfOk-at_ok _ r.1 c.item.ensures.ok));
       shorter = omega (arith, d, e);
     })
 
