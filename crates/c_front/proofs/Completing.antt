@@ -1,24 +1,23 @@
 -- What was read before a derivation got stuck is the beginning of another.
-use Rattle.std.proofs.Common.{◌≤◌, suc, arith, ◌⊎◌, inl, inr, lit≤, ◌≡◌, ◌≢◌, List, [], ◌∷◌, ◌++◌, Option, Some, None, refl, ap, subst, ◌∙◌}
+use Rattle.std.proofs.Common.{◌≤◌, suc, arith, ◌⊎◌, inl, inr, lit≤, ◌≡◌, ◌≢◌, List, [], ◌∷◌, ◌++◌, Option, Some, None, refl, ap, subst, ◌∙◌, length}
 use Rattle.c_tokens.specs.declared.token.Identifier.{Identifier}
 use Rattle.c_tokens.specs.declared.token.IntegerType.TheVariants.{SignedInt}
 use Rattle.c_tokens.specs.declared.token.Token.{Token}
 use Rattle.c_tokens.specs.declared.token.Token.TheVariants.{Name, Constant, Jump, The}
-use Rattle.c_tokens.specs.declared.token.Mark.TheVariants.{Int, Unsigned, Void, Else, Semicolon, LeftBrace, RightBrace, LeftParen, RightParen}
-use Rattle.c_tokens.specs.declared.token.Mark.TheVariants.{LeftBracket, Assign}
+use Rattle.c_tokens.specs.declared.token.Mark.TheVariants.{Int, Unsigned, Void, Else, Semicolon, LeftBrace, RightBrace, LeftParen, RightParen, LeftBracket}
+use Rattle.c_tokens.specs.declared.token.Mark.TheVariants.{Assign}
 use Rattle.c_front.specs.Grammar.{Sort, a_name, a_constant, a_jump, the, Level, unary_expressions, above, ors, Nonterminal, a_program, declarations}
 use Rattle.c_front.specs.Grammar.{a_declaration, a_type, maybe_int, after_global, initial, function_rest, parameters, more_parameters, items, an_item, declared}
 use Rattle.c_front.specs.Grammar.{a_statement, else_part, maybe_simple, maybe_expression, simple, value, a_call, arguments, more_arguments, an_expression}
 use Rattle.c_front.specs.Grammar.{choice, operands, more_operands, Symbol, T, N, SortTree, Rule, program_rule, declarations_end, declarations_more}
-use Rattle.c_front.specs.Grammar.{declaration_typed, declaration_void, type_int, type_unsigned, int_none, global_plain}
-use Rattle.c_front.specs.Grammar.{global_initial}
-use Rattle.c_front.specs.Grammar.{global_function, initial_plain, function_rule, parameters_void, parameters_some, more_parameters_end}
-use Rattle.c_front.specs.Grammar.{more_parameters_more, items_end, items_more, item_declare, item_statement, declared_none, declared_some, statement_empty}
-use Rattle.c_front.specs.Grammar.{statement_block, statement_if, statement_while, statement_for, statement_return}
-use Rattle.c_front.specs.Grammar.{statement_simple, else_none, else_some, simple_none, simple_some, expression_none, expression_some, simple_assign}
-use Rattle.c_front.specs.Grammar.{simple_assign_at, simple_call, value_plain, value_call, call_rule, arguments_none, arguments_some, more_arguments_end}
-use Rattle.c_front.specs.Grammar.{more_arguments_more, expression_rule, choice_none, choice_some, operands_rule, operands_end, operands_more, operand_constant}
-use Rattle.c_front.specs.Grammar.{operand_name, operand_index, operand_unary, operand_paren, first, second, IsToken, is_name, is_constant, is_jump, is_the}
+use Rattle.c_front.specs.Grammar.{declaration_typed, declaration_void, type_int, type_unsigned, int_none, global_plain, global_initial, global_function}
+use Rattle.c_front.specs.Grammar.{initial_plain, function_rule, parameters_void, parameters_some, more_parameters_end, more_parameters_more, items_end}
+use Rattle.c_front.specs.Grammar.{items_more, item_declare, item_statement, declared_none, declared_some, statement_empty, statement_block, statement_if}
+use Rattle.c_front.specs.Grammar.{statement_while, statement_for, statement_return, statement_simple, else_none, else_some, simple_none, simple_some}
+use Rattle.c_front.specs.Grammar.{expression_none, expression_some, simple_assign, simple_assign_at, simple_call, value_plain, value_call, call_rule}
+use Rattle.c_front.specs.Grammar.{arguments_none, arguments_some, more_arguments_end, more_arguments_more, expression_rule, choice_none, choice_some}
+use Rattle.c_front.specs.Grammar.{operands_rule, operands_end, operands_more, operand_constant, operand_name, operand_index, operand_unary, operand_paren}
+use Rattle.c_front.specs.Grammar.{first, second, IsToken, is_name, is_constant, is_jump, is_the}
 use Rattle.c_tokens.specs.declared.token.Literal.{Literal}
 use Rattle.c_front.specs.Reading.{read_nothing, read_token, read_phrase, CanRead, can_read}
 use Rattle.c_front.specs.Choosing.{Choice, one_choice, chosen_rule, Peeks}
@@ -260,19 +259,10 @@ start-from (operands unary_expressions) (Name x) k = ([], λ rest h. name-operan
 start-from _ _ k = absurd k
 
 peeks? : (n : Nonterminal) (next : Option Token) → Peeks n next ⊎ (Peeks n next → ⊥)
-peeks? a_declaration None = inr (λ h. h)
 peeks? a_declaration (Some (The Unsigned)) = inl tt
-peeks? a_declaration (Some _) = inr (λ h. h)
-peeks? simple None = inr (λ h. h)
 peeks? simple (Some (Name x)) = inl tt
-peeks? simple (Some _) = inr (λ h. h)
-peeks? value None = inr (λ h. h)
 peeks? value (Some (Name x)) = inl tt
-peeks? value (Some _) = inr (λ h. h)
-peeks? (operands unary_expressions) None = inr (λ h. h)
 peeks? (operands unary_expressions) (Some (Name x)) = inl tt
-peeks? (operands unary_expressions) (Some _) = inr (λ h. h)
-peeks? (operands (above l)) next = inr (λ h. h)
 peeks? _ _ = inr (λ h. h)
 
 sample-then : (s : Sort) {symbols : List Symbol} {ts rest : List Token} → CanRead symbols ts rest → CanRead (T s ∷ symbols) (sample s ∷ ts) rest

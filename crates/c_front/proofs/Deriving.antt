@@ -5,20 +5,17 @@ use Rattle.c_tokens.specs.declared.token.Token.{Token}
 use Rattle.c_tokens.specs.declared.token.Token.TheVariants.{Name, The}
 use Rattle.c_tokens.specs.declared.token.Mark.{Mark}
 use Rattle.c_tokens.specs.declared.token.Mark.TheVariants.{Semicolon, LeftParen}
-use Rattle.c_front.specs.Grammar.{a_name, the, Level, above, ors, Nonterminal, declarations, a_declaration, a_type, after_global}
-use Rattle.c_front.specs.Grammar.{function_rest, parameters, more_parameters, items, an_item, declared, a_statement, maybe_simple, maybe_expression}
-use Rattle.c_front.specs.Grammar.{simple, value, a_call, arguments, more_arguments, an_expression, choice, operands, more_operands, Symbol, T, N, PhraseTrees}
-use Rattle.c_front.specs.Grammar.{negate, identity, complement, not, Rule, program_rule, declarations_end, declarations_more, declaration_typed}
-use Rattle.c_front.specs.Grammar.{declaration_void, type_int, type_unsigned, int_none, int_some, global_plain, global_initial, global_array, global_function}
-use Rattle.c_front.specs.Grammar.{initial_plain, initial_negative, function_rule, parameters_void, parameters_some, more_parameters_end}
-use Rattle.c_front.specs.Grammar.{more_parameters_more, declaration_bytes}
-use Rattle.c_front.specs.Grammar.{items_end, items_more, item_declare, item_statement, declared_none, declared_some, statement_empty, statement_block}
-use Rattle.c_front.specs.Grammar.{statement_if, statement_while, statement_for, statement_break, statement_continue, statement_return, statement_simple}
-use Rattle.c_front.specs.Grammar.{else_none, else_some, simple_none, simple_some, expression_none, expression_some, simple_assign, simple_assign_at}
-use Rattle.c_front.specs.Grammar.{simple_call, value_plain, value_call, call_rule, arguments_none, arguments_some, more_arguments_end, more_arguments_more}
-use Rattle.c_front.specs.Grammar.{expression_rule, choice_none, choice_some, operands_rule, operands_end, operands_more, operand_constant, operand_name}
-use Rattle.c_front.specs.Grammar.{operand_index, operand_unary, operand_paren, first, second, MayPrecede, is_name, is_constant, is_jump, is_the, Derives}
-use Rattle.c_front.specs.Grammar.{nothing, token, phrase}
+use Rattle.c_front.specs.Grammar.{a_name, the, Level, above, ors, Nonterminal, declarations, a_declaration, a_type, after_global, function_rest, parameters}
+use Rattle.c_front.specs.Grammar.{more_parameters, items, an_item, declared, a_statement, maybe_simple, maybe_expression, simple, value, a_call, arguments}
+use Rattle.c_front.specs.Grammar.{more_arguments, an_expression, choice, operands, more_operands, Symbol, T, N, PhraseTrees, negate, Rule, program_rule}
+use Rattle.c_front.specs.Grammar.{declarations_end, declarations_more, declaration_typed, declaration_void, type_int, type_unsigned, int_none, int_some}
+use Rattle.c_front.specs.Grammar.{global_initial, global_function, initial_plain, function_rule, parameters_some, more_parameters_end, more_parameters_more}
+use Rattle.c_front.specs.Grammar.{declaration_bytes, items_end, items_more, item_declare, item_statement, declared_none, declared_some, statement_block}
+use Rattle.c_front.specs.Grammar.{statement_if, statement_while, statement_for, statement_return, statement_simple, else_none, else_some, simple_none}
+use Rattle.c_front.specs.Grammar.{simple_some, expression_none, expression_some, simple_assign, simple_assign_at, simple_call, value_plain, value_call}
+use Rattle.c_front.specs.Grammar.{call_rule, arguments_none, arguments_some, more_arguments_end, more_arguments_more, expression_rule, choice_none, choice_some}
+use Rattle.c_front.specs.Grammar.{operands_rule, operands_end, operands_more, operand_constant, operand_name, operand_index, operand_unary, operand_paren}
+use Rattle.c_front.specs.Grammar.{first, second, MayPrecede, is_name, is_constant, is_jump, is_the, Derives, nothing, token, phrase, identity, complement, not}
 use Rattle.c_front.specs.Reading.{Reads, read_nothing, read_token, read_phrase}
 use Rattle.c_front.specs.Choosing.{Choice, one_choice, chosen_rule}
 use Rattle.c_front.proofs.Ranks.{rank_of, operator-rank, ends-operands, ends-choice, chosen-operator}
@@ -87,46 +84,27 @@ by-more-arguments {next = next} h = closed_by go
 
 parts-closed : {n : Nonterminal} {inner : List Symbol} (r : Rule n inner) (next : Option Token) → IsClosed n next → AreClosed inner next
 parts-closed program_rule next h = (by-next h, tt)
-parts-closed declarations_end next h = tt
 parts-closed declarations_more next h = (by-anything (λ x. tt), (by-next h, tt))
 parts-closed declaration_typed next h = (by-name (λ x. refl), (by-next tt, tt))
-parts-closed declaration_bytes next h = tt
 parts-closed declaration_void next h = (by-next tt, tt)
-parts-closed type_int next h = tt
 parts-closed type_unsigned next h = (by-next h, tt)
-parts-closed int_none next h = tt
-parts-closed int_some next h = tt
-parts-closed global_plain next h = tt
 parts-closed global_initial next h = (by-token tt, tt)
-parts-closed global_array next h = tt
 parts-closed global_function next h = (by-next tt, tt)
-parts-closed initial_plain next h = tt
-parts-closed initial_negative next h = tt
 parts-closed function_rule next h = (by-token refl, (by-token refl, tt))
-parts-closed parameters_void next h = tt
 parts-closed parameters_some next h = (by-name (λ x. refl), (by-next h, tt))
-parts-closed more_parameters_end next h = tt
 parts-closed more_parameters_more next h = (by-name (λ x. refl), (by-next h, tt))
-parts-closed items_end next h = tt
 parts-closed items_more next h = (by-anything (λ x. tt), (by-next h, tt))
 parts-closed item_declare next h = (by-name (λ x. refl), (by-token (refl, lit≤ tt), tt))
 parts-closed item_statement next h = (by-next tt, tt)
-parts-closed declared_none next h = tt
 parts-closed declared_some next h = (by-next h.1, tt)
-parts-closed statement_empty next h = tt
 parts-closed statement_block next h = (by-token refl, tt)
 parts-closed statement_if next h = (by-token (lit≤ tt), (by-anything (λ x. tt), (by-next tt, tt)))
 parts-closed statement_while next h = (by-token (lit≤ tt), (by-next tt, tt))
 parts-closed statement_for next h = (by-token (refl, lit≤ tt), (by-token (refl, lit≤ tt), (by-token (refl, lit≤ tt), (by-next tt, tt))))
-parts-closed statement_break next h = tt
-parts-closed statement_continue next h = tt
 parts-closed statement_return next h = (by-token (refl, lit≤ tt), tt)
 parts-closed statement_simple next h = (by-token (lit≤ tt), tt)
-parts-closed else_none next h = tt
 parts-closed else_some next h = (by-next tt, tt)
-parts-closed simple_none next h = tt
 parts-closed simple_some next h = (by-next h.1, tt)
-parts-closed expression_none next h = tt
 parts-closed expression_some next h = (by-next h.1, tt)
 parts-closed simple_assign next h = (by-next h, tt)
 parts-closed simple_assign_at next h = (by-token (lit≤ tt), (by-next h, tt))
@@ -134,21 +112,16 @@ parts-closed simple_call next h = (by-next tt, tt)
 parts-closed value_plain next h = (by-next h, tt)
 parts-closed value_call next h = (by-next tt, tt)
 parts-closed call_rule next h = (by-token (refl, refl, lit≤ tt), tt)
-parts-closed arguments_none next h = tt
 parts-closed arguments_some next h = (by-more-arguments (h.1, h.2), (by-next (h.1, h.2), tt))
-parts-closed more_arguments_end next h = tt
 parts-closed more_arguments_more next h = (by-more-arguments h, (by-next h, tt))
 parts-closed expression_rule next h = (by-choice h, (by-next h, tt))
-parts-closed choice_none next h = tt
 parts-closed choice_some next h = (by-token (lit≤ tt), (by-next h, tt))
 parts-closed operands_rule next h = (by-more h, (by-next h, tt))
-parts-closed operands_end next h = tt
 parts-closed (operands_more r) next h = (by-more h, (by-next h, tt))
-parts-closed operand_constant next h = tt
-parts-closed operand_name next h = tt
 parts-closed operand_index next h = (by-token (lit≤ tt), tt)
 parts-closed (operand_unary p) next h = (by-next h, tt)
 parts-closed operand_paren next h = (by-token (lit≤ tt), tt)
+parts-closed _ next h = tt
 
 call-starts : {symbols : List Symbol} {ts rest : List Token} {m : PhraseTrees (N a_call ∷ symbols)} → Derives (N a_call ∷ symbols) ts rest m
     → (x : Identifier) × (first ts ≡ Some (Name x)) × (second ts ≡ Some (The LeftParen))
@@ -178,10 +151,10 @@ next-ranked {l = l} (phrase (operands_more r) (token is_the d) f q d') h = let x
 operands-start : {l : Level} {ts rest : List Token} {m : PhraseTrees (N (operands l) ∷ [])} → Derives (N (operands l) ∷ []) ts rest m → 1 ≤ rank_of (first rest)
     → OperandsStart ts
 operands-start (phrase operands_rule (phrase r d f q more) f' q' nothing) h = operands-start (phrase r d f q nothing) (next-ranked more h)
-operands-start (phrase operand_constant (token is_constant nothing) f q nothing) h = record { some = refl; given = refl; plain = refl }
 operands-start (phrase operand_name (token (is_name {x = x}) nothing) f q (nothing {ts = ts})) h =
     record { some = refl; given = refl; plain = name-plain x (first ts) h }
 operands-start (phrase operand_index (token is_name (token is_the d)) f q nothing) h = record { some = refl; given = refl; plain = refl }
+operands-start (phrase operand_constant (token is_constant nothing) f q nothing) h = record { some = refl; given = refl; plain = refl }
 operands-start (phrase (operand_unary negate) (token is_the d) f q nothing) h = record { some = refl; given = refl; plain = refl }
 operands-start (phrase (operand_unary identity) (token is_the d) f q nothing) h = record { some = refl; given = refl; plain = refl }
 operands-start (phrase (operand_unary complement) (token is_the d) f q nothing) h = record { some = refl; given = refl; plain = refl }
@@ -217,15 +190,9 @@ simple-chosen d = let x = simple-name d in ap (one_choice a_statement) x.1
 
 statement-starts : {symbols : List Symbol} {ts rest : List Token} {m : PhraseTrees (N a_statement ∷ symbols)} → Derives (N a_statement ∷ symbols) ts rest m →
     (one_choice items (first ts) ≡ Some (N an_item ∷ N items ∷ [], items_more)) × (one_choice an_item (first ts) ≡ Some (N a_statement ∷ [], item_statement))
-statement-starts (phrase statement_empty (token is_the d) f q d') = (refl, refl)
-statement-starts (phrase statement_block (token is_the d) f q d') = (refl, refl)
-statement-starts (phrase statement_if (token is_the d) f q d') = (refl, refl)
-statement-starts (phrase statement_while (token is_the d) f q d') = (refl, refl)
-statement-starts (phrase statement_for (token is_the d) f q d') = (refl, refl)
-statement-starts (phrase statement_break (token is_jump d) f q d') = (refl, refl)
-statement-starts (phrase statement_continue (token is_jump d) f q d') = (refl, refl)
-statement-starts (phrase statement_return (token is_jump d) f q d') = (refl, refl)
 statement-starts (phrase statement_simple d f q d') = simple-starts d
+statement-starts (phrase _ (token is_the d) f q d') = (refl, refl)
+statement-starts (phrase _ (token is_jump d) f q d') = (refl, refl)
 
 -- a type begins one of some declarations, a parameter or an item
 pub record TypeStart (next : Option Token) : Type 0 where
@@ -269,72 +236,42 @@ item-starts (phrase item_statement d f q d') = (statement-starts d).0
 -- the rule is the one that the next token chooses
 chooses : {n : Nonterminal} {inner : List Symbol} {ts rest : List Token} {m : PhraseTrees inner} (r : Rule n inner) → Derives inner ts rest m →
     MayPrecede r (first rest) → IsClosed n (first rest) → chosen_rule n (first ts) (second ts) ≡ Some (inner, r)
-chooses program_rule d f h = refl
 chooses declarations_end nothing f h = h
 chooses declarations_more d f h = declaration-starts d
 chooses declaration_typed d f h = typed-chosen d
 chooses declaration_bytes (token is_the (token is_the d)) f h = refl
-chooses declaration_void (token is_the d) f h = refl
-chooses type_int (token is_the d) f h = refl
-chooses type_unsigned (token is_the d) f h = refl
 chooses int_none nothing f h = h
-chooses int_some (token is_the d) f h = refl
-chooses global_plain (token is_the d) f h = refl
-chooses global_initial (token is_the d) f h = refl
-chooses global_array (token is_the d) f h = refl
 chooses global_function d f h = function-starts d
 chooses initial_plain (token is_constant d) f h = refl
-chooses initial_negative (token is_the d) f h = refl
-chooses function_rule d f h = refl
-chooses parameters_void (token is_the d) f h = refl
 chooses parameters_some d f h = (type-starts d).parameters
 chooses more_parameters_end nothing f h = h
-chooses more_parameters_more (token is_the d) f h = refl
 chooses items_end nothing f h = h
 chooses items_more d f h = item-starts d
 chooses item_declare d f h = (type-starts d).item
 chooses item_statement d f h = (statement-starts d).1
 chooses declared_none nothing f h = h.0
-chooses declared_some (token is_the d) f h = refl
-chooses statement_empty (token is_the d) f h = refl
-chooses statement_block (token is_the d) f h = refl
-chooses statement_if (token is_the d) f h = refl
-chooses statement_while (token is_the d) f h = refl
-chooses statement_for (token is_the d) f h = refl
-chooses statement_break (token is_jump d) f h = refl
-chooses statement_continue (token is_jump d) f h = refl
-chooses statement_return (token is_jump d) f h = refl
 chooses statement_simple d f h = simple-chosen d
 chooses else_none nothing f h = else-none _ f
-chooses else_some (token is_the d) f h = refl
 chooses simple_none nothing f h = h.0
 chooses simple_some d f h = simple-given d
 chooses expression_none nothing f h = h.0
 chooses expression_some d f h = let k = h.1 in (expression-start d (omega (arith, k))).given
-chooses simple_assign (token is_name (token is_the d)) f h = refl
-chooses simple_assign_at (token is_name (token is_the d)) f h = refl
 chooses simple_call d f h = call-chosen simple d _ (λ x. refl)
 chooses value_plain d f h = (expression-start d (omega (arith, h))).plain
 chooses value_call d f h = call-chosen value d _ (λ x. refl)
-chooses call_rule d f h = refl
 chooses arguments_none nothing f h = h.0
 chooses arguments_some d f h = let k = h.2 in (arguments-start d (omega (arith, k))).some
 chooses more_arguments_end nothing f h = h.0
-chooses more_arguments_more (token is_the d) f h = refl
-chooses expression_rule d f h = refl
 chooses choice_none nothing f h = ends-choice _ h
-chooses choice_some (token is_the d) f h = refl
-chooses operands_rule d f h = refl
 chooses (operands_end {l = l}) (nothing {ts = ts}) f h = ends-operands l (first ts) (omega (arith, h))
 chooses (operands_more r) (token is_the d) f h = chosen-operator r
 chooses operand_constant (token is_constant d) f h = refl
 chooses operand_name (token (is_name {x = x}) (nothing {ts = ts})) f h = name-chosen x (first ts) h
-chooses operand_index (token is_name (token is_the d)) f h = refl
 chooses (operand_unary negate) (token is_the d) f h = refl
-chooses (operand_unary identity) (token is_the d) f h = refl
-chooses (operand_unary complement) (token is_the d) f h = refl
-chooses (operand_unary not) (token is_the d) f h = refl
-chooses operand_paren (token is_the d) f h = refl
+chooses _ (token is_the d) f h = refl
+chooses _ (token is_jump d) f h = refl
+chooses _ (token is_name (token is_the d)) f h = refl
+chooses _ d f h = refl
 
 pub determined : {symbols : List Symbol} {ts rest : List Token} {m : PhraseTrees symbols} → Derives symbols ts rest m → AreClosed symbols (first rest)
     → Reads symbols ts rest m

@@ -4,13 +4,10 @@ use Rattle.c_tokens.specs.declared.token.JumpWord.{JumpWord}
 use Rattle.c_tokens.specs.declared.token.Token.{Token}
 use Rattle.c_tokens.specs.declared.token.Token.TheVariants.{Name, Jump, The}
 use Rattle.c_tokens.specs.declared.token.Mark.TheVariants.{Unsigned, Else, Minus}
-use Rattle.c_front.specs.Grammar.{Sort, a_name, a_constant, a_jump, the, Level, unary_expressions, above, Nonterminal, a_declaration, a_type}
-use Rattle.c_front.specs.Grammar.{a_statement, else_part}
+use Rattle.c_front.specs.Grammar.{Sort, a_name, a_constant, a_jump, the, Level, unary_expressions, Nonterminal, a_declaration, a_type, a_statement, else_part}
 use Rattle.c_front.specs.Grammar.{simple, value, a_call, an_expression, operands, Symbol, T, N, PhraseTree, SortTree, PhraseTrees, Rule, declaration_typed}
-use Rattle.c_front.specs.Grammar.{declaration_bytes, declaration_void, type_int, type_unsigned, else_none, simple_assign}
-use Rattle.c_front.specs.Grammar.{simple_assign_at, simple_call, value_plain, value_call, call_rule, expression_rule, operands_rule, operand_constant}
-use Rattle.c_front.specs.Grammar.{operand_name, operand_index, operand_unary, operand_paren, tree_of, first, second, MayPrecede, IsToken, is_name, is_constant}
-use Rattle.c_front.specs.Grammar.{is_jump, Derives, nothing, token, phrase}
+use Rattle.c_front.specs.Grammar.{type_int, type_unsigned, else_none, simple_call, value_plain, value_call, call_rule, expression_rule, operands_rule}
+use Rattle.c_front.specs.Grammar.{operand_constant, tree_of, first, second, MayPrecede, IsToken, is_name, is_constant, is_jump, Derives, nothing, token, phrase}
 use Rattle.c_front.specs.Reading.{Reads, read_nothing, read_token, read_phrase, Stuck, stuck_extra, stuck_token, stuck_past, stuck_phrase, stuck_inside}
 use Rattle.c_front.specs.Reading.{CanRead, can_read}
 use Rattle.c_front.specs.Choosing.{Choice, one_choice, chosen_rule, Peeks}
@@ -71,19 +68,11 @@ type-takes (read_phrase type_unsigned c (read_token i d) e d') = let a = reads-w
 -- a phrase for which the second token has a say has a token at least
 pub peeked : {n : Nonterminal} {inner : List Symbol} {ts middle : List Token} {m : PhraseTrees inner} (r : Rule n inner) → Peeks n (first ts)
     → Reads inner ts middle m → length middle < length ts
+peeked _ h (read_token i d) = let a = reads-within d in omega (arith, a)
 peeked declaration_typed h d = type-takes d
-peeked declaration_bytes h (read_token i d) = let a = reads-within d in omega (arith, a)
-peeked declaration_void h (read_token i d) = let a = reads-within d in omega (arith, a)
-peeked simple_assign h (read_token i d) = let a = reads-within d in omega (arith, a)
-peeked simple_assign_at h (read_token i d) = let a = reads-within d in omega (arith, a)
 peeked simple_call h d = call-takes d
 peeked value_plain h d = expression-takes d
 peeked value_call h d = call-takes d
-peeked operand_constant h (read_token i d) = let a = reads-within d in omega (arith, a)
-peeked operand_name h (read_token i d) = let a = reads-within d in omega (arith, a)
-peeked operand_index h (read_token i d) = let a = reads-within d in omega (arith, a)
-peeked (operand_unary r) h (read_token i d) = let a = reads-within d in omega (arith, a)
-peeked operand_paren h (read_token i d) = let a = reads-within d in omega (arith, a)
 peeked _ h d = absurd h
 
 -- past what was read
@@ -184,20 +173,11 @@ first-before (before_past b) = refl
 
 -- where the second token has no say, it may change
 pub one-token : (n : Nonterminal) (next after other : Option Token) → (Peeks n next → ⊥) → chosen_rule n next after ≡ chosen_rule n next other
-one-token a_declaration None after other h = refl
 one-token a_declaration (Some (The Unsigned)) after other h = absurd (h tt)
-one-token a_declaration (Some _) after other h = refl
-one-token simple None after other h = refl
 one-token simple (Some (Name x)) after other h = absurd (h tt)
-one-token simple (Some _) after other h = refl
-one-token value None after other h = refl
 one-token value (Some (Name x)) after other h = absurd (h tt)
-one-token value (Some _) after other h = refl
-one-token (operands unary_expressions) None after other h = refl
 one-token (operands unary_expressions) (Some (Name x)) after other h = absurd (h tt)
 one-token (operands unary_expressions) (Some (The Minus)) after other h = refl
-one-token (operands unary_expressions) (Some _) after other h = refl
-one-token (operands (above l)) _ after other h = refl
 one-token _ _ after other h = refl
 
 before-chosen : {n : Nonterminal} {p ts rest : List Token} {x : Option (Choice n)} → Before p ts rest → chosen_rule n (first ts) (second ts) ≡ x
