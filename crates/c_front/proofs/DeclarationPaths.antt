@@ -39,12 +39,9 @@ chosen-function _ a b c = refl
 
 pub chosen-typed : (next after : Option Token) → next ≢ Some (The Void) → (next ≡ Some (The Unsigned) → after ≢ Some (The Char))
     → chosen_rule a_declaration next after ≡ Some (N a_type ∷ T a_name ∷ N after_global ∷ [], declaration_typed)
-chosen-typed None after h k = refl
 chosen-typed (Some (The Void)) after h k = absurd (h refl)
-chosen-typed (Some (The Unsigned)) None h k = refl
 chosen-typed (Some (The Unsigned)) (Some (The Char)) h k = absurd (k refl refl)
-chosen-typed (Some (The Unsigned)) (Some _) h k = refl
-chosen-typed (Some _) after h k = refl
+chosen-typed _ _ h k = refl
 
 pub no-unsigned : (next : Option Token) → next ≢ Some (The Unsigned) → Peeks a_declaration next → ⊥
 no-unsigned (Some (The Unsigned)) h k = h refl

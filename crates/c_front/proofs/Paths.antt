@@ -15,7 +15,7 @@ use Rattle.c_front.specs.Reading.{read_nothing}
 use Rattle.c_front.specs.Choosing.{Choice, operator_at, more_choice, chosen_rule, EndsOperands, EndsChoice}
 use Rattle.c_front.specs.declared.cursor.ParseStop.{ParseStop}
 use Rattle.c_tree.specs.Tree.{Expression, binary}
-use Rattle.c_front.specs.Parsing.{level_of, EndsUpTo, EndsBelow, IsRead, IsStuck, StartsWithOperator, IsNoPrefix}
+use Rattle.c_front.specs.Parsing.{level_of, EndsBelow, IsRead, IsStuck, StartsWithOperator, IsNoPrefix}
 use Rattle.c_front.proofs.Steps.{followed, mark, whole, by-first, past, within, inside, GoesOn, goes-first, goes-more}
 use Rattle.c_front.proofs.Ranks.{chosen-operator, rank, operator-rank, ends-operands}
 
@@ -52,16 +52,16 @@ rise (suc k) c ts middle left g h e = elim (split-at c k h) [
 -- a place in precedence climbing: the current level, and that no operator of a tighter one stands here
 pub record Climbs (level : ℕ) (ts middle : List Token) (left : Expression) : Type 0 where
   pub current : ℕ
-  pub within : current ≤ level
+  pub within : current < level
   pub tighter : EndsBelow current (first middle)
   pub goes : GoesOnOperands (level_of current) ts middle left
   pub shorter : length middle < length ts
 
-pub climbs-first : (level : ℕ) (ts middle : List Token) (left : Expression) → IsRead (operands unary_expressions) ts middle left → length middle < length ts
-    → Climbs level ts middle left
-climbs-first level ts middle left d h = record {
+pub climbs-first : (level : ℕ) (ts middle : List Token) (left : Expression) → level ≢ 0 → IsRead (operands unary_expressions) ts middle left
+    → length middle < length ts → Climbs level ts middle left
+climbs-first level ts middle left z d h = record {
   current = 0;
-  within = omega arith;
+  within = omega (arith, z);
   tighter = λ k i. absurd (omega (arith, i));
   goes = goes-on-first d;
   shorter = h;
@@ -100,7 +100,7 @@ at-operator level k o ts middle after left g s =
     rise k g.current ts middle left g.goes (omega (arith, no)) (λ j i. other-ends j k o middle after s (λ e. omega (arith, i, e)))
 
 pub climbs-more : (level k : ℕ) (ts middle after next : List Token) (left right : Expression) (o : BinaryOp) → Climbs level ts middle left
-    → StartsWithOperator (level_of k) o middle after → k ≤ level →
+    → StartsWithOperator (level_of k) o middle after → k < level →
     IsRead (operands (level_of k)) after next right → EndsBelow k (first next) → length next < length ts → Climbs level ts next (binary o left right)
 climbs-more level k ts middle after next left right o g s h d e i = record {
   current = k;
@@ -110,14 +110,16 @@ climbs-more level k ts middle after next left right o g s h d e i = record {
   shorter = i;
 }
 
-pub climbs-end : (level : ℕ) (ts middle : List Token) (left : Expression) → Climbs level ts middle left → EndsUpTo level (first middle)
-    → IsRead (operands (above (level_of level))) ts middle left
-climbs-end level ts middle left g e =
-    operands-end (rise level g.current ts middle left g.goes g.within (λ j i. e j (omega (arith, i)))) (e level (omega arith))
+pub climbs-end : (level : ℕ) (ts middle : List Token) (left : Expression) → Climbs level ts middle left → EndsBelow level (first middle)
+    → IsRead (operands (level_of level)) ts middle left
+climbs-end zero ts middle left g e = let w = g.within in absurd (omega (arith, w))
+climbs-end (suc k) ts middle left g e =
+    let w = g.within in
+    operands-end (rise k g.current ts middle left g.goes (omega (arith, w)) (λ j i. e j (omega (arith, i)))) (e k (omega arith))
 
 -- an operator further out ends these operands
-pub further-out : (level k : ℕ) (o : BinaryOp) (middle after : List Token) → StartsWithOperator (level_of k) o middle after → level < k
-    → EndsUpTo level (first middle)
+pub further-out : (level k : ℕ) (o : BinaryOp) (middle after : List Token) → StartsWithOperator (level_of k) o middle after → level ≤ k
+    → EndsBelow level (first middle)
 further-out level k o middle after s h = λ j i. other-ends j k o middle after s (λ e. omega (arith, h, i, e))
 
 -- what gets stuck in operands of a level gets stuck in those of one further out
@@ -132,10 +134,10 @@ lifted (suc k) j ts s h q = elim (split-at j k h) [
 ]
 
 pub climbs-more-stuck : (level k : ℕ) (ts middle after : List Token) (left : Expression) (o : BinaryOp) (s : ParseStop) → Climbs level ts middle left
-    → StartsWithOperator (level_of k) o middle after → k ≤ level →
-    IsStuck (operands (level_of k)) after s → IsStuck (operands (above (level_of level))) ts s
+    → StartsWithOperator (level_of k) o middle after → k < level →
+    IsStuck (operands (level_of k)) after s → IsStuck (operands (level_of level)) ts s
 climbs-more-stuck level k ts middle after left o s g op h q =
-    lifted (suc level) (suc k) ts s (omega (arith, h)) ((at-operator level k o ts middle after left g op).stuck s
+    lifted level (suc k) ts s (omega (arith, h)) ((at-operator level k o ts middle after left g op).stuck s
     (inside (operands_more op.1) (operator-chosen op) (λ z. z) (past (mark op.2) (within _ q))))
 
 pub no-choice : (next : Option Token) → next ≢ Some (The Question) → EndsChoice next
@@ -175,11 +177,3 @@ pub no-operator : (t : Mark) → t ≢ Star → t ≢ Slash → t ≢ Percent �
     → t ≢ LessEqual → t ≢ GreaterEqual →
     t ≢ EqualEqual → t ≢ BangEqual → t ≢ Ampersand → t ≢ Caret → t ≢ Bar → t ≢ AndAnd → t ≢ BarBar → (l : Level) → EndsOperands l (Some (The t))
 no-operator t a b c d e f g h i j k m n o p q r s l = no-operator-at l t (λ w x. none-operates x a b c d e f g h i j k m n o p q r s) (operator_at l t)
-
--- what is known of the operands of one level less
-pub one-less : (P : Level → Type 0) (k : ℕ) → k ≢ 0 → P (above (level_of (k - 1))) → P (level_of k)
-one-less P zero h d = absurd (h refl)
-one-less P (suc k) h d =
-    let e : suc k - 1 ≡ k = omega arith in
-    let Q : ℕ → Type 0 = λ x. P (above (level_of x)) in
-    subst Q e d

@@ -1,5 +1,5 @@
 -- The ways through calls, values and simple statements, where two tokens decide.
-use Rattle.std.proofs.Common.{◌≡◌, ◌≢◌, ◌<◌, ◌+◌, List, [], ◌∷◌, ◌++◌, length, Option, Some, None, refl, sym, ap, subst, arith}
+use Rattle.std.proofs.Common.{◌≡◌, ◌≢◌, ◌<◌, ◌+◌, List, [], ◌∷◌, ◌++◌, length, Option, Some, refl, sym, ap, subst, arith}
 use Rattle.c_tokens.specs.declared.token.Identifier.{Identifier}
 use Rattle.c_tokens.specs.declared.token.Token.{Token}
 use Rattle.c_tokens.specs.declared.token.Token.TheVariants.{Name, The}
@@ -11,7 +11,7 @@ use Rattle.c_front.specs.Choosing.{one_choice, chosen_rule, Peeks, EndsArguments
 use Rattle.c_front.specs.declared.cursor.ParseStop.{ParseStop}
 use Rattle.c_tree.specs.declared.tree.Expression.{Expression}
 use Rattle.c_tree.specs.Shape.{expression_of, expressions_of}
-use Rattle.c_front.specs.Parsing.{IsStuck, IsArgumentsStuck, StartsCall, StartsNoCall, are_stuck, without_memory}
+use Rattle.c_front.specs.Parsing.{IsStuck, StartsCall, StartsNoCall, are_stuck, without_memory, IsEndedStuck}
 use Rattle.c_front.proofs.Reading.{stuck-within, Before, before_here, before_past, StuckAt, stuck_at, dead}
 use Rattle.c_front.proofs.Completing.{name-expression}
 use Rattle.c_tree.specs.Tree as Tree
@@ -49,7 +49,7 @@ none-more _ h = refl
 
 -- calls
 pub call-stuck : {n : Nonterminal} {ts rest : List Token} {x : Identifier} {s : ParseStop} (r : Rule n (N a_call ∷ []))
-    → chosen_rule n (Some (Name x)) (Some (The LeftParen)) ≡ Some (N a_call ∷ [], r) → StartsCall ts x rest → IsArgumentsStuck rest s → IsStuck n ts s
+    → chosen_rule n (Some (Name x)) (Some (The LeftParen)) ≡ Some (N a_call ∷ [], r) → StartsCall ts x rest → IsEndedStuck arguments RightParen rest s → IsStuck n ts s
 call-stuck {n = n} r c e (are_stuck {rest = end} h) = are_stuck (λ symbols.
     let P : List Token → Type 0 = λ y. Stuck (N n ∷ symbols) y end.now in
     let a = stuck-within (h symbols) in
@@ -61,10 +61,7 @@ call-stuck r c e without_memory = without_memory
 pub plain-chosen : (next after : Option Token) → ((x : Identifier) → next ≡ Some (Name x) → after ≢ Some (The LeftParen))
     → chosen_rule value next after ≡ Some (N an_expression ∷ [], value_plain)
 plain-chosen (Some (Name x)) (Some (The LeftParen)) h = absurd (h x refl refl)
-plain-chosen (Some (Name x)) None h = refl
-plain-chosen (Some (Name x)) (Some _) h = refl
-plain-chosen None after h = refl
-plain-chosen (Some _) after h = refl
+plain-chosen _ _ h = refl
 
 peeked-name : (ts rest : List Token) (next : Option Token) → first ts ≡ next → ((x : Identifier) → first ts ≡ Some (Name x) → length rest < length ts)
     → Peeks value next → length rest < length ts

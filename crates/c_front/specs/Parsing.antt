@@ -1,19 +1,19 @@
 -- What a parsing function answers, by the grammar.
-use Rattle.std.specs.Prelude.{ℕ, suc, ◌≤◌, ◌<◌, ◌≡◌, ◌≢◌, List, [], ◌∷◌, ◌++◌, Option, Some, zero}
+use Rattle.std.specs.Prelude.{ℕ, suc, ◌<◌, ◌≡◌, ◌≢◌, List, [], ◌∷◌, ◌++◌, Option, Some, zero}
 use Rattle.std.specs.Borrow.{Bor}
 use Rattle.c_tokens.specs.declared.token.Identifier.{Identifier}
 use Rattle.c_tokens.specs.declared.token.IntegerType.{IntegerType}
 use Rattle.c_tokens.specs.declared.token.Token.{Token}
 use Rattle.c_tokens.specs.declared.token.Token.TheVariants.{Name, Constant, The}
 use Rattle.c_tokens.specs.declared.token.Mark.{Mark}
-use Rattle.c_tokens.specs.declared.token.Mark.TheVariants.{Int, Unsigned, Char, Else, Semicolon, LeftParen, RightParen, LeftBracket, RightBracket, Assign}
-use Rattle.c_tokens.specs.declared.token.Mark.TheVariants.{Colon, Plus, Minus, Bang, Tilde}
+use Rattle.c_tokens.specs.declared.token.Mark.TheVariants.{Int, Unsigned, Char, Semicolon, LeftParen, RightParen, LeftBracket, RightBracket, Assign, Colon}
+use Rattle.c_tokens.specs.declared.token.Mark.TheVariants.{Plus, Minus, Bang, Tilde}
 use Rattle.c_tokens.specs.declared.token.IntegerType.TheVariants.{SignedInt}
 use Rattle.words.specs.declared.width.Width.TheVariants.{Byte}
 use Rattle.c_tree.specs.declared.tree.BinaryOp.{BinaryOp}
 use Rattle.c_front.specs.Grammar.{a_name, a_constant, the, Level, unary_expressions, above, Nonterminal, a_type, after_global, a_statement, else_part}
-use Rattle.c_front.specs.Grammar.{maybe_simple, maybe_expression, value, arguments, an_expression, Symbol, T, N, Tail, PhraseTree, Operator, if_of}
-use Rattle.c_front.specs.Grammar.{typed_declaration, first, second}
+use Rattle.c_front.specs.Grammar.{maybe_simple, maybe_expression, value, an_expression, Symbol, T, N, Tail, PhraseTree, Operator, if_of, typed_declaration}
+use Rattle.c_front.specs.Grammar.{first, second}
 use Rattle.c_front.specs.declared.cursor.ParseStop.{ParseStop}
 use Rattle.c_front.specs.declared.cursor.ParseStop.TheVariants.{Syntax, NoMemory}
 use Rattle.c_tree.specs.Tree.{Expression, Value, Simple, Statement, Declaration, array}
@@ -28,9 +28,6 @@ level_of zero = unary_expressions
 level_of (suc k) = above (level_of k)
 
 -- no operator of these levels stands there
-abbrev pub EndsUpTo : ℕ → Option Token → Type 0
-EndsUpTo level next = (k : ℕ) → k ≤ level → EndsOperands (level_of k) next
-
 abbrev pub EndsBelow : ℕ → Option Token → Type 0
 EndsBelow level next = (k : ℕ) → k < level → EndsOperands (level_of k) next
 
@@ -84,18 +81,6 @@ IsConditionRead ts rest e = Reads (T (the LeftParen) ∷ N an_expression ∷ T (
 abbrev pub IsConditionStuck : List Token → ParseStop → Type 0
 IsConditionStuck = AreStuck (T (the LeftParen) ∷ N an_expression ∷ T (the RightParen) ∷ [])
 
-abbrev pub IsClosedRead : Mark → List Token → List Token → Expression → Type 0
-IsClosedRead t ts rest e = Reads (N an_expression ∷ T (the t) ∷ []) ts rest (e, (tt, tt))
-
-abbrev pub IsClosedStuck : Mark → List Token → ParseStop → Type 0
-IsClosedStuck t = AreStuck (N an_expression ∷ T (the t) ∷ [])
-
-abbrev pub IsArgumentsRead : List Token → List Token → List Expression → Type 0
-IsArgumentsRead ts rest es = Reads (N arguments ∷ T (the RightParen) ∷ []) ts rest (es, (tt, tt))
-
-abbrev pub IsArgumentsStuck : List Token → ParseStop → Type 0
-IsArgumentsStuck = AreStuck (N arguments ∷ T (the RightParen) ∷ [])
-
 abbrev pub IsAssignedRead : List Token → List Token → Value → Type 0
 IsAssignedRead ts rest v = Reads (T (the Assign) ∷ N value ∷ []) ts rest (tt, (v, tt))
 
@@ -119,9 +104,6 @@ IsBranchRead ts rest s = (e : Expression) × (a : Statement) × (b : Option Stat
 abbrev pub IsBranchStuck : List Token → ParseStop → Type 0
 IsBranchStuck = AreStuck (T (the LeftParen) ∷ N an_expression ∷ T (the RightParen) ∷ N a_statement ∷ N else_part ∷ [])
 
-abbrev pub HasNoElse : List Token → Type 0
-HasNoElse ts = first ts ≢ Some (The Else)
-
 abbrev pub HasNoType : List Token → Type 0
 HasNoType ts = (first ts ≢ Some (The Int)) × (first ts ≢ Some (The Unsigned))
 
@@ -138,9 +120,6 @@ StartsWithConstant ts k rest = ts ≡ Constant k ∷ rest
 abbrev pub IsConstantMissing : List Token → ParseStop → Type 0
 IsConstantMissing ts (Syntax rest) = (rest.now ≡ ts) × ((k : Literal) → first ts ≢ Some (Constant k))
 IsConstantMissing ts NoMemory = ⊥
-
-abbrev pub StartsNamed : List Token → Identifier → Type 0
-StartsNamed ts x = first ts ≡ Some (Name x)
 
 abbrev pub StartsUnnamed : List Token → Type 0
 StartsUnnamed ts = (x : Identifier) → first ts ≢ Some (Name x)

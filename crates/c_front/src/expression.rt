@@ -1,12 +1,13 @@
 //! Expressions, level by level of precedence (C99 6.5).
 ghost use Rattle.std.specs.Prelude.{◌<◌, length, IfOk, IfErr, IfSome, IfNone, Some};
-ghost use Rattle.c_front.specs.Grammar.{an_expression, operands, unary_expressions, above, Level, Operator, Prefix, first, value};
+ghost use Rattle.c_front.specs.Grammar.{an_expression, operands, unary_expressions, Level, Operator, Prefix, first, value};
 ghost use Rattle.c_front.specs.Grammar.{arguments};
 ghost use Rattle.c_front.specs.Choosing.{EndsOperands};
 ghost use Rattle.c_tree.specs.Shape.{expression_of, expressions_of, value_tree};
-ghost use Rattle.c_front.specs.Parsing.{IsRead, IsStuck, level_of, StartsWithOperator, EndsUpTo, EndsBelow, IsChoiceRead, IsChoiceStuck};
+ghost use Rattle.c_front.specs.Parsing.{IsRead, IsStuck, level_of, StartsWithOperator, EndsBelow, IsChoiceRead, IsChoiceStuck};
 ghost use Rattle.c_front.specs.Parsing.{IsNoPrefix};
-ghost use Rattle.c_front.specs.Parsing.{IsClosedRead, IsClosedStuck, IsArgumentsRead, IsArgumentsStuck, StartsCall, StartsNoCall};
+ghost use Rattle.c_front.specs.Parsing.{IsEndedRead, IsEndedStuck, StartsCall, StartsNoCall};
+ghost use Rattle.c_tokens.specs.declared.token.Mark.TheVariants.{RightParen};
 ghost use Rattle.c_tokens.specs.declared.token.Token.TheVariants.{The};
 
 use crate::cursor::{ParseStop, Parsed, split, starts};
@@ -80,7 +81,7 @@ pub fn expression<'a>(alloc: Global, tokens: &'a [Token]) -> Parsed<'a, Expressi
     ensures shorter { IfOk result (λ r. length r.1.now < length tokens.now) }
     ensures err { IfErr result (IsStuck an_expression tokens.now) }
 {
-    let (condition, rest) = operands(alloc, 9, tokens)?;
+    let (condition, rest) = operands(alloc, 10, tokens)?;
     match starts(rest, Mark::Question) {
         Some(after) => {
             let (first, second, end) = choice(alloc, after)?;
@@ -113,38 +114,16 @@ pub fn closed_expression<'a>(
     tokens: &'a [Token],
     closing: Mark,
 ) -> Parsed<'a, Expression>
-    ensures ok { IfOk result (λ r. IsClosedRead closing tokens.now r.1.now (expression_of r.0)) }
+    ensures ok { IfOk result (λ r. IsEndedRead an_expression closing tokens.now r.1.now (expression_of r.0)) }
     ensures shorter { IfOk result (λ r. length r.1.now < length tokens.now) }
-    ensures err { IfErr result (IsClosedStuck closing tokens.now) }
+    ensures err { IfErr result (IsEndedStuck an_expression closing tokens.now) }
 {
     expect_after(expression(alloc, tokens), closing)
 }
 
-/// Parses operands and the binary operators between them, up to those of a level, by precedence climbing.
+/// Parses operands and the binary operators between them that bind tighter than those of a level, by precedence climbing.
 #[cycle(expressions)]
 fn operands<'a>(alloc: Global, level: usize, tokens: &'a [Token]) -> Parsed<'a, Expression>
-    ensures ok { IfOk result (λ r. IsRead (operands (above (level_of level))) tokens.now r.1.now (expression_of r.0)) }
-    ensures shorter { IfOk result (λ r. length r.1.now < length tokens.now) }
-    ensures ends { IfOk result (λ r. EndsUpTo level (first r.1.now)) }
-    ensures err { IfErr result (IsStuck (operands (above (level_of level))) tokens.now) }
-{
-    let (mut left, mut rest) = operand(alloc, tokens)?;
-    'climbing: loop {
-        let Some((found, operator, after)) = operator(rest) else {
-            return Ok((left, rest));
-        };
-        if found > level {
-            return Ok((left, rest));
-        }
-        let (right, next) = tighter(alloc, found, after)?;
-        left = Expression::Binary(operator, Box::new(alloc, (left, right))?);
-        rest = next;
-    }
-}
-
-/// Parses an operand of a binary operator of a level.
-#[cycle(expressions)]
-fn tighter<'a>(alloc: Global, level: usize, tokens: &'a [Token]) -> Parsed<'a, Expression>
     ensures ok { IfOk result (λ r. IsRead (operands (level_of level)) tokens.now r.1.now (expression_of r.0)) }
     ensures shorter { IfOk result (λ r. length r.1.now < length tokens.now) }
     ensures ends { IfOk result (λ r. EndsBelow level (first r.1.now)) }
@@ -153,7 +132,18 @@ fn tighter<'a>(alloc: Global, level: usize, tokens: &'a [Token]) -> Parsed<'a, E
     if level == 0 {
         return operand(alloc, tokens);
     }
-    operands(alloc, level - 1, tokens)
+    let (mut left, mut rest) = operand(alloc, tokens)?;
+    'climbing: loop {
+        let Some((found, operator, after)) = operator(rest) else {
+            return Ok((left, rest));
+        };
+        if found >= level {
+            return Ok((left, rest));
+        }
+        let (right, next) = operands(alloc, found, after)?;
+        left = Expression::Binary(operator, Box::new(alloc, (left, right))?);
+        rest = next;
+    }
 }
 
 /// Parses an operand: a constant, a name, a name with an index, a prefix with its operand, or an expression in parentheses.
@@ -192,9 +182,9 @@ fn operand<'a>(alloc: Global, tokens: &'a [Token]) -> Parsed<'a, Expression>
 
 /// Parses arguments and their closing parenthesis.
 pub fn arguments<'a>(alloc: Global, tokens: &'a [Token]) -> Parsed<'a, Vec<Expression>>
-    ensures ok { IfOk result (λ r. IsArgumentsRead tokens.now r.1.now (expressions_of r.0.items)) }
+    ensures ok { IfOk result (λ r. IsEndedRead arguments RightParen tokens.now r.1.now (expressions_of r.0.items)) }
     ensures shorter { IfOk result (λ r. length r.1.now < length tokens.now) }
-    ensures err { IfErr result (IsArgumentsStuck tokens.now) }
+    ensures err { IfErr result (IsEndedStuck arguments RightParen tokens.now) }
 {
     let mut all = Vec::new(alloc);
     if let Some(end) = starts(tokens, Mark::RightParen) {

@@ -1,15 +1,13 @@
-use Rattle.std.proofs.Common.{arith, IfOk, IfErr, ◌≡◌, ◌<◌, suc, length, ap, refl}
+use Rattle.std.proofs.Common.{arith, ◌≡◌, ◌<◌, suc, length, ap, refl}
 use Rattle.c_tokens.specs.declared.token.Token.TheVariants.{Name}
 use Rattle.c_front.specs.Grammar.{operands, unary_expressions, expression_rule, choice_none, choice_some, operand_constant, operand_name, operand_index}
 use Rattle.c_front.specs.Grammar.{operand_unary, operand_paren, is_name, is_constant, is_the}
 use Rattle.c_front.specs.Reading.{read_nothing}
-use Rattle.c_front.specs.Parsing.{IsRead, IsStuck, level_of, without_memory}
-use Rattle.c_tree.specs.Shape.{expression_of}
+use Rattle.c_front.specs.Parsing.{level_of, without_memory}
 use Rattle.std.proofs.lemmas.Result.{IfOk-at_ok, IfOk-weaker, IfErr-weaker}
 use Rattle.c_front.proofs.Ends.{failed, stops, ended-shorter, unended}
 use Rattle.c_front.proofs.Steps.{at-first, at-mark, shorter, followed, mark, whole, taken, by-second, past, within, inside, begun, no-phrase}
-use Rattle.c_front.proofs.Paths.{one-less, climbs-first, climbs-more, climbs-end, further-out, lifted, climbs-more-stuck, no-choice, no-index, chosen-prefix}
-use Rattle.c_front.proofs.Paths.{no-operand}
+use Rattle.c_front.proofs.Paths.{climbs-first, climbs-more, climbs-end, further-out, lifted, climbs-more-stuck, no-choice, no-index, chosen-prefix, no-operand}
 use Rattle.c_front.proofs.expression.+expressions.Goals as goal
 
 pub expression-returns-in_err-condition-clause-err : goal.expression-returns-in_err-condition-clause-err
@@ -59,10 +57,10 @@ closed_expression-returns-clause-err t c = IfErr-weaker c.expect_after.result _ 
 
 pub operands-returns-in_err-left-clause-err : goal.operands-returns-in_err-left-clause-err
 operands-returns-in_err-left-clause-err t c =
-    failed _ c.from_residual.ensures.1 (lifted (suc c.args.level) 0 _ _ (omega arith) c.in_err-left.ensures.err)
+    failed _ c.from_residual.ensures.1 (lifted c.args.level 0 _ _ (omega arith) c.in_err-left.ensures.err)
 
 pub operands-climbing-init : goal.operands-climbing-init
-operands-climbing-init t c = climbs-first _ _ _ _ c.in_ok-left.ensures.ok c.in_ok-left.ensures.shorter
+operands-climbing-init t c = climbs-first _ _ _ _ c.if-level-eq0.false c.in_ok-left.ensures.ok c.in_ok-left.ensures.shorter
 
 pub operands-returns-in_default-clause-ok : goal.operands-returns-in_default-clause-ok
 operands-returns-in_default-clause-ok t c = climbs-end _ _ _ _ c.climbing.invariant (λ k h. c.in_default.ensures.none (level_of k))
@@ -86,15 +84,6 @@ operands-climbing-preserved t c =
     let d : length c.climbing.rest.now < length c.args.tokens.now = c.climbing.invariant.shorter in
     rw c.in_ok-new.ensures.ok (climbs-more _ _ _ _ _ _ _ _ _ c.climbing.invariant c.in-Some.ensures.some c.if-found-level.false
     c.in_ok-right.ensures.ok c.in_ok-right.ensures.ends (omega (arith, e, d, c.in_ok-right.ensures.shorter)))
-
-pub tighter-returns-clause-ok : goal.tighter-returns-clause-ok
-tighter-returns-clause-ok t c =
-    one-less (λ l. IfOk c.operands.result (λ r. IsRead (operands l) c.args.tokens.now r.1.now (expression_of r.0))) c.args.level c.if-level-eq0.false
-    c.operands.ensures.ok
-
-pub tighter-returns-clause-err : goal.tighter-returns-clause-err
-tighter-returns-clause-err t c =
-    one-less (λ l. IfErr c.operands.result (IsStuck (operands l) c.args.tokens.now)) c.args.level c.if-level-eq0.false c.operands.ensures.err
 
 pub operand-returns-in_default-clause-err : goal.operand-returns-in_default-clause-err
 operand-returns-in_default-clause-err t c = no-phrase c.in_default.ensures.none (λ after. refl)
@@ -160,8 +149,8 @@ operand-operand-requires t c = (omega (arith, shorter c.in-Some.ensures.some), t
 pub operand-closed_expression-requires-in-LeftParen : goal.operand-closed_expression-requires-in-LeftParen
 operand-closed_expression-requires-in-LeftParen t c = (omega (arith, shorter c.in-Some.ensures.some), tt)
 
-pub operands-tighter-requires : goal.operands-tighter-requires
-operands-tighter-requires t c = (omega (arith, shorter c.in-Some.ensures.some.2, c.climbing.invariant.shorter), tt)
+pub operands-operands-requires : goal.operands-operands-requires
+operands-operands-requires t c = (omega (arith, shorter c.in-Some.ensures.some.2, c.climbing.invariant.shorter), tt)
 
 pub operand-closed_expression-requires : goal.operand-closed_expression-requires
 operand-closed_expression-requires t c = (omega (arith, shorter c.in-Some.ensures.some, shorter c.in-Some-starts.ensures.some), tt)

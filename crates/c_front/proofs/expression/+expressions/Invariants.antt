@@ -4,16 +4,13 @@ use Rattle.c_front.proofs.Paths.{Climbs}
 use Rattle.c_front.proofs.expression.+expressions.Given as goal
 
 abbrev pub decreases-choice : goal.decreases-choice
-decreases-choice l = 8 * length l.tokens.now + 6
+decreases-choice l = 8 * length l.tokens.now + 5
 
 abbrev pub decreases-closed_expression : goal.decreases-closed_expression
-decreases-closed_expression l = 8 * length l.tokens.now + 5
+decreases-closed_expression l = 8 * length l.tokens.now + 4
 
 abbrev pub decreases-expression : goal.decreases-expression
-decreases-expression l = 8 * length l.tokens.now + 4
-
-abbrev pub decreases-tighter : goal.decreases-tighter
-decreases-tighter l = 8 * length l.tokens.now + 3
+decreases-expression l = 8 * length l.tokens.now + 3
 
 abbrev pub decreases-operands : goal.decreases-operands
 decreases-operands l = 8 * length l.tokens.now + 2
