@@ -5,11 +5,8 @@ pub mod Completing
 pub mod Deriving
 pub mod Theorems
 pub mod Paths
+pub mod Choices
 pub mod Steps
 pub mod Ends
-pub mod Simply
-pub mod Shapes
-pub mod StatementPaths
-pub mod DeclarationPaths
 pub mod Faulting
 pub mod Excluding

@@ -6,17 +6,14 @@ use Rattle.c_tokens.specs.declared.token.IntegerType.{IntegerType}
 use Rattle.c_tokens.specs.declared.token.Token.{Token}
 use Rattle.c_tokens.specs.declared.token.Token.TheVariants.{Name, Constant, The}
 use Rattle.c_tokens.specs.declared.token.Mark.{Mark}
-use Rattle.c_tokens.specs.declared.token.Mark.TheVariants.{Int, Unsigned, Char, Semicolon, LeftParen, RightParen, LeftBracket, RightBracket, Assign, Colon}
-use Rattle.c_tokens.specs.declared.token.Mark.TheVariants.{Plus, Minus, Bang, Tilde}
-use Rattle.c_tokens.specs.declared.token.IntegerType.TheVariants.{SignedInt}
-use Rattle.words.specs.declared.width.Width.TheVariants.{Byte}
+use Rattle.c_tokens.specs.declared.token.Mark.TheVariants.{Int, Unsigned, Char, Semicolon, LeftParen, RightParen, RightBracket, Colon, Plus, Minus, Bang, Tilde}
 use Rattle.c_tree.specs.declared.tree.BinaryOp.{BinaryOp}
 use Rattle.c_front.specs.Grammar.{a_name, a_constant, the, Level, unary_expressions, above, Nonterminal, a_type, after_global, a_statement, else_part}
-use Rattle.c_front.specs.Grammar.{maybe_simple, maybe_expression, value, an_expression, Symbol, T, N, Tail, PhraseTree, Operator, if_of, typed_declaration}
-use Rattle.c_front.specs.Grammar.{first, second}
+use Rattle.c_front.specs.Grammar.{maybe_simple, maybe_expression, an_expression, Symbol, T, N, Tail, PhraseTree, Operator, if_of, typed_declaration, first}
+use Rattle.c_front.specs.Grammar.{second}
 use Rattle.c_front.specs.declared.cursor.ParseStop.{ParseStop}
 use Rattle.c_front.specs.declared.cursor.ParseStop.TheVariants.{Syntax, NoMemory}
-use Rattle.c_tree.specs.Tree.{Expression, Value, Simple, Statement, Declaration, array}
+use Rattle.c_tree.specs.Tree.{Expression, Simple, Statement, Declaration}
 use Rattle.c_tokens.specs.declared.token.Literal.{Literal}
 use Rattle.c_tree.specs.declared.tree.Parameter.{Parameter}
 use Rattle.c_front.specs.Reading.{Reads, Stuck}
@@ -80,12 +77,6 @@ IsConditionRead ts rest e = Reads (T (the LeftParen) ∷ N an_expression ∷ T (
 
 abbrev pub IsConditionStuck : List Token → ParseStop → Type 0
 IsConditionStuck = AreStuck (T (the LeftParen) ∷ N an_expression ∷ T (the RightParen) ∷ [])
-
-abbrev pub IsAssignedRead : List Token → List Token → Value → Type 0
-IsAssignedRead ts rest v = Reads (T (the Assign) ∷ N value ∷ []) ts rest (tt, (v, tt))
-
-abbrev pub IsAssignedStuck : List Token → ParseStop → Type 0
-IsAssignedStuck = AreStuck (T (the Assign) ∷ N value ∷ [])
 
 -- a name and its opening parenthesis
 abbrev pub StartsCall : List Token → Identifier → List Token → Type 0
@@ -158,17 +149,6 @@ IsLengthRead ts rest n = Reads length_symbols ts rest (n, (tt, (tt, tt)))
 
 abbrev pub IsLengthStuck : List Token → ParseStop → Type 0
 IsLengthStuck = AreStuck length_symbols
-
--- what stands after `unsigned char`
-abbrev pub bytes_symbols : List Symbol
-bytes_symbols = T a_name ∷ T (the LeftBracket) ∷ length_symbols
-
-abbrev pub IsBytesRead : List Token → List Token → Declaration → Type 0
-IsBytesRead ts rest d =
-    (x : Identifier) × (n : Literal) × Reads bytes_symbols ts rest (x, (tt, (n, (tt, (tt, tt))))) × (d ≡ array Byte SignedInt x n)
-
-abbrev pub IsBytesStuck : List Token → ParseStop → Type 0
-IsBytesStuck = AreStuck bytes_symbols
 
 -- what stands after the type and the name of a declaration
 abbrev pub IsTailRead : IntegerType → Identifier → List Token → List Token → Declaration → Type 0

@@ -4,7 +4,6 @@ ghost use Rattle.c_front.specs.Grammar.{Spells, initial, parameters, function_re
 ghost use Rattle.c_tree.specs.Shape.{declaration_of, declarations_of};
 ghost use Rattle.c_front.specs.Parsing.{IsRead, IsStuck, IsParameterRead, IsParameterStuck, IsTailRead, IsLengthRead};
 ghost use Rattle.c_front.specs.Parsing.{IsLengthStuck};
-ghost use Rattle.c_front.specs.Parsing.{IsBytesRead, IsBytesStuck};
 ghost use Rattle.c_front.specs.Syntax.{IsFault};
 ghost use Rattle.c_tokens.specs.declared.token.Token.{Token};
 ghost use Rattle.c_tokens.specs.declared.token.Literal.{Literal};
@@ -123,16 +122,6 @@ fn array<'a>(
     Ok((Declaration::Array(width, integer_type, name, length), end))
 }
 
-/// Parses an array of bytes after `unsigned char`.
-fn bytes<'a>(tokens: &'a [Token]) -> Parsed<'a, Declaration>
-    ensures ok { IfOk result (λ r. IsBytesRead tokens.now r.1.now (declaration_of r.0)) }
-    ensures shorter { IfOk result (λ r. length r.1.now < length tokens.now) }
-    ensures err { IfErr result (IsBytesStuck tokens.now) }
-{
-    let (name, start) = expect_after(name(tokens), Mark::LeftBracket)?;
-    array(Width::Byte, IntegerType::SignedInt, name, start)
-}
-
 /// Parses what stands after the type and the name of a declaration.
 fn after_global<'a>(
     alloc: Global,
@@ -168,7 +157,8 @@ fn declaration<'a>(alloc: Global, tokens: &'a [Token]) -> Parsed<'a, Declaration
         return function(alloc, None, name, start);
     }
     if let Some(after) = starts_bytes(tokens) {
-        return bytes(after);
+        let (name, start) = expect_after(name(after), Mark::LeftBracket)?;
+        return array(Width::Byte, IntegerType::SignedInt, name, start);
     }
     let Some((integer_type, after)) = integer_type(tokens) else {
         return Err(ParseStop::Syntax(tokens));

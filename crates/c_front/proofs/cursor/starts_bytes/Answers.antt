@@ -3,7 +3,7 @@ use Rattle.c_tokens.specs.declared.token.Token.{Token}
 use Rattle.c_tokens.specs.declared.token.Token.TheVariants.{The}
 use Rattle.c_tokens.specs.declared.token.Mark.TheVariants.{Unsigned}
 use Rattle.c_front.specs.Parsing.{StartsNoBytes}
-use Rattle.c_front.proofs.DeclarationPaths.{no-char}
+use Rattle.c_front.proofs.Choices.{no-char}
 use Rattle.c_front.proofs.cursor.starts_bytes.Goals as goal
 
 pub returns-in_err-after-clause-none : goal.returns-in_err-after-clause-none

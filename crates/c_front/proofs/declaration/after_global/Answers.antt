@@ -4,7 +4,7 @@ use Rattle.c_front.specs.Grammar.{is_the, global_plain, global_initial, global_f
 use Rattle.c_front.specs.Reading.{read_nothing}
 use Rattle.c_front.proofs.Ends.{failed, unended}
 use Rattle.c_front.proofs.Steps.{followed, mark, whole, taken, inside, begun}
-use Rattle.c_front.proofs.DeclarationPaths.{chosen-function}
+use Rattle.c_front.proofs.Choices.{chosen-function}
 use Rattle.c_front.proofs.declaration.after_global.Goals as goal
 
 pub returns-in-Some-clause-ok : goal.returns-in-Some-clause-ok

@@ -6,7 +6,7 @@ use Rattle.c_tree.specs.Shape.{declarations_of}
 use Rattle.c_front.proofs.Ends.{failed, stops}
 use Rattle.c_front.proofs.Reading.{derived}
 use Rattle.c_front.proofs.Steps.{by-first, whole, within, inside, goes-more, goes-same}
-use Rattle.c_front.proofs.DeclarationPaths.{declarations_of-append}
+use Rattle.c_front.proofs.Choices.{declarations_of-append}
 use Rattle.c_front.proofs.declaration.declarations.Goals as goal
 
 pub returns-in_err-rest-clause-err : goal.returns-in_err-rest-clause-err

@@ -2,7 +2,7 @@ use Rattle.std.proofs.Common.{refl}
 use Rattle.c_front.specs.Grammar.{is_the, is_constant, initial_plain, initial_negative}
 use Rattle.c_front.proofs.Ends.{failed}
 use Rattle.c_front.proofs.Steps.{one, whole, taken, inside, begun, constant-missing}
-use Rattle.c_front.proofs.DeclarationPaths.{chosen-plain}
+use Rattle.c_front.proofs.Choices.{chosen-plain}
 use Rattle.c_front.proofs.declaration.initial.Goals as goal
 
 pub returns-in_err-found-in-Some-clause-err : goal.returns-in_err-found-in-Some-clause-err

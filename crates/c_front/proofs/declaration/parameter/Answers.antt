@@ -1,7 +1,7 @@
 use Rattle.c_front.specs.Grammar.{is_name}
 use Rattle.c_front.proofs.Ends.{failed}
 use Rattle.c_front.proofs.Steps.{followed, one, past, name-missing, no-phrase}
-use Rattle.c_front.proofs.DeclarationPaths.{no-type}
+use Rattle.c_front.proofs.Choices.{no-type}
 use Rattle.std.proofs.Common.{refl}
 use Rattle.c_front.proofs.declaration.parameter.Goals as goal
 

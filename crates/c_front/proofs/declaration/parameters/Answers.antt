@@ -4,7 +4,7 @@ use Rattle.c_front.specs.Grammar.{more_parameters, is_the, parameters_void, para
 use Rattle.c_front.specs.Reading.{read_nothing}
 use Rattle.c_front.proofs.Ends.{failed, stops}
 use Rattle.c_front.proofs.Steps.{shorter, followed, mark, by-first, whole, taken, within, inside, begun, goes-first, goes-more, goes-same}
-use Rattle.c_front.proofs.DeclarationPaths.{some-parameters, no-more-parameters}
+use Rattle.c_front.proofs.Choices.{some-parameters, no-more-parameters}
 use Rattle.c_front.proofs.declaration.parameters.Goals as goal
 
 pub returns-in-Some-clause-ok : goal.returns-in-Some-clause-ok

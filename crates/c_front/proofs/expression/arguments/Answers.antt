@@ -3,7 +3,7 @@ use Rattle.std.proofs.lemmas.Result.{IfOk-at_ok, IfOk-weaker, IfErr-weaker}
 use Rattle.c_front.proofs.Ends.{failed, stops, plain-ended, plain-unended}
 use Rattle.c_tokens.specs.declared.token.Mark.TheVariants.{RightParen}
 use Rattle.c_tree.specs.Shape.{expressions_of}
-use Rattle.c_front.proofs.Simply.{expressions_of-append, some-chosen, none-more}
+use Rattle.c_front.proofs.Choices.{expressions_of-append, some-chosen, none-more}
 use Rattle.c_front.proofs.Steps.{shorter, followed, mark, missing, by-first, whole, past, within, inside, begun, goes-first, goes-more, goes-same}
 use Rattle.c_front.specs.Grammar.{arguments, more_arguments, arguments_none, arguments_some, more_arguments_end, more_arguments_more, is_the}
 use Rattle.c_front.specs.Reading.{read_nothing}

@@ -2,7 +2,7 @@ use Rattle.std.proofs.Common.{refl}
 use Rattle.c_front.specs.Grammar.{value, is_name, value_plain, value_call, call_rule}
 use Rattle.c_front.proofs.Ends.{failed}
 use Rattle.c_front.proofs.Steps.{followed, mark, by-first, whole, taken}
-use Rattle.c_front.proofs.Simply.{call-stuck, plain-chosen, value-plain-stuck}
+use Rattle.c_front.proofs.Choices.{call-stuck, plain-chosen, value-plain-stuck}
 use Rattle.c_front.proofs.expression.value.Goals as goal
 
 pub returns-in_err-arguments-in-Some-clause-err : goal.returns-in_err-arguments-in-Some-clause-err

@@ -7,8 +7,7 @@ use Rattle.c_front.proofs.Ends.{failed, stops, unended}
 use Rattle.c_front.proofs.Steps.{at-first, at-mark, shorter, followed, one, mark, whole, taken, past, within, inside, begun, no-phrase, name-missing, goes-more}
 use Rattle.c_front.proofs.Steps.{goes-same}
 use Rattle.c_tree.proofs.Shapes.{block-is}
-use Rattle.c_front.proofs.Shapes.{items_of-append}
-use Rattle.c_front.proofs.StatementPaths.{no-mark, chosen-item, after-none, after-after}
+use Rattle.c_front.proofs.Choices.{items_of-append, no-mark, chosen-item, after-none, after-after}
 use Rattle.c_front.proofs.Reading.{derived}
 use Rattle.c_front.proofs.Deriving.{type-starts}
 use Rattle.c_front.specs.Reading.{read_nothing}

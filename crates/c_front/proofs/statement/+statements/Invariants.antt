@@ -2,7 +2,7 @@ use Rattle.std.proofs.Common.{◌+◌, ◌*◌, ◌≤◌, length}
 use Rattle.c_tree.specs.Shape.{items_of}
 use Rattle.c_front.specs.Grammar.{items}
 use Rattle.c_front.proofs.Steps.{GoesOn}
-use Rattle.c_front.proofs.StatementPaths.{after_items}
+use Rattle.c_front.proofs.Choices.{after_items}
 use Rattle.c_front.proofs.statement.+statements.Given as goal
 
 abbrev pub decreases-statement : goal.decreases-statement

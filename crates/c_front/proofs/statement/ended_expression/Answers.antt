@@ -2,7 +2,7 @@ use Rattle.c_front.specs.Grammar.{maybe_expression, expression_none, expression_
 use Rattle.c_front.specs.Reading.{read_nothing}
 use Rattle.c_front.proofs.Ends.{failed}
 use Rattle.c_front.proofs.Steps.{followed, mark, by-first, whole, wrapped, inside-more}
-use Rattle.c_front.proofs.StatementPaths.{chosen-expression}
+use Rattle.c_front.proofs.Choices.{chosen-expression}
 use Rattle.c_front.proofs.statement.ended_expression.Goals as goal
 
 pub returns-in-Some-clause-ok : goal.returns-in-Some-clause-ok

@@ -3,7 +3,7 @@ use Rattle.std.proofs.lemmas.Result.{IfOk-at_ok, IfOk-weaker, IfErr-weaker}
 use Rattle.c_front.specs.Reading.{read_nothing}
 use Rattle.c_front.proofs.Ends.{failed, plain-ended, plain-unended, unended}
 use Rattle.c_front.proofs.Steps.{followed, mark, missing, whole, past, inside-more}
-use Rattle.c_front.proofs.StatementPaths.{unnamed, no-simple}
+use Rattle.c_front.proofs.Choices.{unnamed, no-simple}
 use Rattle.c_front.specs.Grammar.{simple_none, simple_some}
 use Rattle.c_front.proofs.statement.ended_simple.Goals as goal
 

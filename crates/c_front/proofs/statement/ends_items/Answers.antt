@@ -2,7 +2,7 @@ use Rattle.std.proofs.Common.{Option, ap, subst, sym}
 use Rattle.c_tokens.specs.declared.token.Token.{Token}
 use Rattle.c_front.specs.Choosing.{StartsItem}
 use Rattle.c_front.specs.Grammar.{first}
-use Rattle.c_front.proofs.StatementPaths.{mark-item, other-item}
+use Rattle.c_front.proofs.Choices.{mark-item, other-item}
 use Rattle.c_front.proofs.Steps.{at-first}
 use Rattle.c_front.proofs.statement.ends_items.Goals as goal
 

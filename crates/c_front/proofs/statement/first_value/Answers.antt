@@ -3,7 +3,7 @@ use Rattle.c_front.specs.Grammar.{is_the, declared_none, declared_some}
 use Rattle.c_front.specs.Reading.{read_nothing}
 use Rattle.c_front.proofs.Ends.{failed}
 use Rattle.c_front.proofs.Steps.{whole, taken, begun}
-use Rattle.c_front.proofs.StatementPaths.{no-value}
+use Rattle.c_front.proofs.Choices.{no-value}
 use Rattle.c_front.proofs.statement.first_value.Goals as goal
 
 pub returns-in_err-given-in-Some-clause-err : goal.returns-in_err-given-in-Some-clause-err

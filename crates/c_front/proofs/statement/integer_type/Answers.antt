@@ -2,7 +2,7 @@ use Rattle.std.proofs.Common.{refl}
 use Rattle.c_front.specs.Grammar.{is_the, type_int, type_unsigned, int_none, int_some}
 use Rattle.c_front.specs.Reading.{read_nothing}
 use Rattle.c_front.proofs.Steps.{whole, taken}
-use Rattle.c_front.proofs.StatementPaths.{no-int}
+use Rattle.c_front.proofs.Choices.{no-int}
 use Rattle.c_front.proofs.statement.integer_type.Goals as goal
 
 pub returns-in-Some-clause-some : goal.returns-in-Some-clause-some
