@@ -1,5 +1,5 @@
 -- What was read before a derivation got stuck is the beginning of another.
-use Rattle.std.proofs.Common.{◌≤◌, suc, arith, ◌⊎◌, inl, inr, lit≤, ◌≡◌, ◌≢◌, List, [], ◌∷◌, ◌++◌, Option, Some, None, refl, ap, subst, ◌∙◌, length}
+use Rattle.std.proofs.Common.{◌≤◌, suc, arith, ◌⊎◌, inl, inr, lit≤, ◌≡◌, ◌≢◌, List, [], ◌∷◌, ◌++◌, Option, Some, None, refl, ap, subst, ◌∙◌}
 use Rattle.c_tokens.specs.declared.token.Identifier.{Identifier}
 use Rattle.c_tokens.specs.declared.token.IntegerType.TheVariants.{SignedInt}
 use Rattle.c_tokens.specs.declared.token.Token.{Token}

@@ -22,9 +22,9 @@ returns-in-Some-clause-err c = IfErr-weaker c.function.result _ _
 pub returns-in_err-name-2-clause-err : goal.returns-in_err-name-2-clause-err
 returns-in_err-name-2-clause-err c = failed _ c.from_residual-in_err-name-2.ensures.1
     (begun declaration_bytes is_the c.in-Some-starts_bytes.ensures.some refl (past (mark refl) (elim c.in_err-name-2.ensures.err [
-  | inl e ↦ name-missing (IfErr-at_err _ e c.name-in-Some-starts_bytes.ensures.err)
-  | inr m ↦ past (one is_name (IfOk-at_ok _ m.2 c.name-in-Some-starts_bytes.ensures.ok)) (missing m.3)
-])))
+      | inl e ↦ name-missing (IfErr-at_err _ e c.name-in-Some-starts_bytes.ensures.err)
+      | inr m ↦ past (one is_name (IfOk-at_ok _ m.2 c.name-in-Some-starts_bytes.ensures.ok)) (missing m.3)
+    ])))
 
 pub returns-in-Some-starts_bytes-clause-ok : goal.returns-in-Some-starts_bytes-clause-ok
 returns-in-Some-starts_bytes-clause-ok c =
