@@ -6,14 +6,14 @@ use Rattle.c_tokens.specs.declared.token.IntegerType.{IntegerType}
 use Rattle.c_tokens.specs.declared.token.Token.{Token}
 use Rattle.c_tokens.specs.declared.token.Token.TheVariants.{Name, Constant, The}
 use Rattle.c_tokens.specs.declared.token.Mark.{Mark}
-use Rattle.c_tokens.specs.declared.token.Mark.TheVariants.{Int, Unsigned, Char, Semicolon, LeftParen, RightParen, RightBracket, Colon, Plus, Minus, Bang, Tilde}
+use Rattle.c_tokens.specs.declared.token.Mark.TheVariants.{Int, Unsigned, Char, Semicolon, LeftParen, RightParen, RightBracket, Colon, Plus, Minus, Bang, Tilde, Assign}
 use Rattle.c_tree.specs.declared.tree.BinaryOp.{BinaryOp}
-use Rattle.c_front.specs.Grammar.{a_name, a_constant, the, Level, unary_expressions, above, Nonterminal, a_type, after_global, a_statement, else_part}
+use Rattle.c_front.specs.Grammar.{a_name, a_constant, the, Level, unary_expressions, above, Nonterminal, a_type, after_global, a_statement, else_part, value}
 use Rattle.c_front.specs.Grammar.{maybe_simple, maybe_expression, an_expression, Symbol, T, N, Tail, PhraseTree, Operator, if_of, typed_declaration, first}
 use Rattle.c_front.specs.Grammar.{second}
 use Rattle.c_front.specs.declared.cursor.ParseStop.{ParseStop}
 use Rattle.c_front.specs.declared.cursor.ParseStop.TheVariants.{Syntax, NoMemory}
-use Rattle.c_tree.specs.Tree.{Expression, Simple, Statement, Declaration}
+use Rattle.c_tree.specs.Tree.{Expression, Simple, Statement, Declaration, Value}
 use Rattle.c_tokens.specs.declared.token.Literal.{Literal}
 use Rattle.c_tree.specs.declared.tree.Parameter.{Parameter}
 use Rattle.c_front.specs.Reading.{Reads, Stuck}
@@ -77,6 +77,12 @@ IsConditionRead ts rest e = Reads (T (the LeftParen) ∷ N an_expression ∷ T (
 
 abbrev pub IsConditionStuck : List Token → ParseStop → Type 0
 IsConditionStuck = AreStuck (T (the LeftParen) ∷ N an_expression ∷ T (the RightParen) ∷ [])
+
+abbrev pub IsAssignedRead : List Token → List Token → Value → Type 0
+IsAssignedRead ts rest v = Reads (T (the Assign) ∷ N value ∷ []) ts rest (tt, (v, tt))
+
+abbrev pub IsAssignedStuck : List Token → ParseStop → Type 0
+IsAssignedStuck = AreStuck (T (the Assign) ∷ N value ∷ [])
 
 -- a name and its opening parenthesis
 abbrev pub StartsCall : List Token → Identifier → List Token → Type 0

@@ -2,10 +2,10 @@
 ghost use Rattle.std.specs.Prelude.{◌≡◌, ◌∷◌, ◌<◌, ◌≤◌, length, true, false, IfOk, IfErr, IfSome, IfNone};
 ghost use Rattle.c_front.specs.Grammar.{first, a_statement, an_item, items, simple, a_type, declared, maybe_simple, maybe_expression};
 ghost use Rattle.c_front.specs.Choosing.{EndsItems, StartsItem};
-ghost use Rattle.c_tree.specs.Shape.{expression_of, maybe_value_tree, simple_of, maybe_simple_of, maybe_expression_of};
+ghost use Rattle.c_tree.specs.Shape.{expression_of, value_tree, maybe_value_tree, simple_of, maybe_simple_of, maybe_expression_of};
 ghost use Rattle.c_tree.specs.Shape.{statement_of};
 ghost use Rattle.c_tree.specs.Shape.{item_of, items_of};
-ghost use Rattle.c_front.specs.Parsing.{IsRead, IsStuck, IsConditionRead, IsConditionStuck, IsBranchRead};
+ghost use Rattle.c_front.specs.Parsing.{IsRead, IsStuck, IsConditionRead, IsConditionStuck, IsAssignedRead, IsAssignedStuck, IsBranchRead};
 ghost use Rattle.c_front.specs.Parsing.{IsBranchStuck, IsEndedRead, IsEndedStuck, IsHeadRead, IsHeadStuck, HasNoType};
 ghost use Rattle.c_tokens.specs.declared.token.Token.TheVariants.{The, Jump, Name};
 ghost use Rattle.c_tokens.specs.declared.token.Mark.TheVariants.{While, For, Semicolon};
@@ -16,6 +16,16 @@ use crate::part::{box_part, expect_after, join_part, push_part};
 use c_tokens::{Identifier, IntegerType, JumpWord, Mark, Token};
 use c_tree::{Call, Expression, ForParts, Item, Simple, Statement, Value};
 use std::alloc::{AllocError, AllocFailed, Global};
+
+/// Parses the value after an equals sign.
+fn assigned_value<'a>(alloc: Global, tokens: &'a [Token]) -> Parsed<'a, Value>
+    ensures ok { IfOk result (λ r. IsAssignedRead tokens.now r.1.now (value_tree r.0)) }
+    ensures shorter { IfOk result (λ r. length r.1.now < length tokens.now) }
+    ensures err { IfErr result (IsAssignedStuck tokens.now) }
+{
+    let start = expect(tokens, Mark::Assign)?;
+    value(alloc, start)
+}
 
 /// Parses an assignment, an indexed assignment or a call, after the name with which it begins.
 fn simple<'a>(alloc: Global, name: Identifier, tokens: &'a [Token]) -> Parsed<'a, Simple>
@@ -35,8 +45,7 @@ fn simple<'a>(alloc: Global, name: Identifier, tokens: &'a [Token]) -> Parsed<'a
         let (given, end) = expression(alloc, start)?;
         return Ok((Simple::AssignAt(name, index, given), end));
     }
-    let start = expect(tokens, Mark::Assign)?;
-    let (given, end) = value(alloc, start)?;
+    let (given, end) = assigned_value(alloc, tokens)?;
     Ok((Simple::Assign(name, given), end))
 }
 

@@ -3,7 +3,7 @@ use Rattle.std.proofs.lemmas.Result.{IfOk-at_ok}
 use Rattle.c_tokens.specs.declared.token.Token.TheVariants.{Name}
 use Rattle.c_front.specs.Grammar.{simple, is_name, simple_assign, simple_assign_at, simple_call, call_rule}
 use Rattle.c_front.proofs.Ends.{failed, unended}
-use Rattle.c_front.proofs.Steps.{followed, mark, by-second, whole, taken, past, within, begun, missing}
+use Rattle.c_front.proofs.Steps.{followed, mark, by-second, whole, taken, past, within, begun}
 use Rattle.c_front.proofs.Choices.{call-stuck, assign-chosen}
 use Rattle.c_tokens.specs.declared.token.Token.{Token}
 use Rattle.c_front.proofs.statement.simple.Goals as goal
@@ -34,14 +34,10 @@ returns-in-Some-starts-clause-ok c =
     taken simple_assign_at is_name refl (by-second simple (Name c.args.name) c.in-Some-starts.ensures.some) (followed (mark c.in-Some-starts.ensures.some)
     (followed (IfOk-at_ok _ r.1 c.closed_expression.ensures.ok) (followed (mark r.2) c.in_ok-given.ensures.ok)))
 
-pub returns-in_err-start-clause-err : goal.returns-in_err-start-clause-err
-returns-in_err-start-clause-err c = failed _ c.from_residual-in_err-start.ensures.1 (begun simple_assign is_name refl
-    (assign-chosen c.args.name _ c.in_default.ensures.none c.in_default-starts.ensures.none) (missing c.in_err-start.ensures.err))
-
 pub returns-in_err-given-2-clause-err : goal.returns-in_err-given-2-clause-err
-returns-in_err-given-2-clause-err c = failed _ c.from_residual-in_err-given-2.ensures.1 (begun simple_assign is_name refl
-    (assign-chosen c.args.name _ c.in_default.ensures.none c.in_default-starts.ensures.none) (past (mark c.in_ok-start.ensures.ok) c.in_err-given-2.ensures.err))
+returns-in_err-given-2-clause-err c = failed _ c.from_residual-in_err-given-2.ensures.1
+    (begun simple_assign is_name refl (assign-chosen c.args.name _ c.in_default.ensures.none c.in_default-starts.ensures.none) c.in_err-given-2.ensures.err)
 
 pub returns-clause-ok : goal.returns-clause-ok
-returns-clause-ok c = taken simple_assign is_name refl (assign-chosen c.args.name _ c.in_default.ensures.none c.in_default-starts.ensures.none)
-    (followed (mark c.in_ok-start.ensures.ok) c.in_ok-given-2.ensures.ok)
+returns-clause-ok c =
+    taken simple_assign is_name refl (assign-chosen c.args.name _ c.in_default.ensures.none c.in_default-starts.ensures.none) c.in_ok-given-2.ensures.ok
