@@ -10,7 +10,7 @@ ghost use Rattle.runs.specs.Calls.{state_by, reached_by};
 ghost use Rattle.c_run.specs.Interpreter.{frame_of, around_next_call, Assigns, Calls, Returns, Does, DoesAtAnyDepth, DoesIn};
 
 use crate::pending::{Agenda, Head};
-use crate::value::{arguments, value};
+use crate::values::{arguments, value};
 use c_typed::{Destination, TypedExpression, TypedStatement};
 use c_types::Typed;
 use runs::{Reached, set_word, store};

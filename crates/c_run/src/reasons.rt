@@ -11,7 +11,7 @@ ghost use Rattle.c_run.specs.Reasons.{IsReason};
 use crate::interpreter::{Interpreter, act};
 use crate::pending::Head;
 use crate::steps::start;
-use crate::value::{binary_value, unary_value, value};
+use crate::values::{binary_value, unary_value, value};
 use c_tokens::IntegerType;
 use c_tree::{BinaryOp, UnaryOp};
 use c_typed::{TypedExpression, TypedStatement};

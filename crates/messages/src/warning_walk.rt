@@ -5,7 +5,7 @@
 use crate::chains::may_chain;
 use crate::source::{Source, after};
 use crate::warnings::Warning;
-use c_run::expression_value;
+use c_run::value;
 use c_tokens::{IntegerType, Mark};
 use c_tree::{BinaryOp, Declaration, Program};
 use c_typed::{Destination, Function, Global as Variable, TypedExpression, TypedStatement};
@@ -46,7 +46,7 @@ struct Walk<'a, 't> {
 
 /// Returns the value of an expression that is a constant; None if it has no meaning.
 fn constant(e: &TypedExpression) -> Option<u32> {
-    expression_value(e, &[], &[])
+    value(e, &[], &[])
 }
 
 /// Returns the sign of an operator that may have no meaning, or may compare comparisons.
