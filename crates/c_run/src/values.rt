@@ -91,11 +91,7 @@ fn operand(e: &TypedExpression, locals: &[Option<u32>], globals: &[Vec<u32>]) ->
 
 /// Returns the value of an expression at these locals and globals; None if C leaves it undefined, or a local isn't set.
 #[cycle(value)]
-pub fn value(
-    e: &TypedExpression,
-    locals: &[Option<u32>],
-    globals: &[Vec<u32>],
-) -> Option<u32>
+pub fn value(e: &TypedExpression, locals: &[Option<u32>], globals: &[Vec<u32>]) -> Option<u32>
     ensures { result ≡ value_of (typed_expression_of e.now) (places locals.now) (arrays globals.now) }
 {
     match e {
