@@ -1,4 +1,4 @@
-use Rattle.std.proofs.Common.{◌≡◌, List, ◌++◌, ◌∷◌, [], ◌-◌, sym, ap, subst, arith}
+use Rattle.std.proofs.Common.{◌≡◌, ◌++◌, ◌∷◌, [], ◌-◌, sym, ap, subst, arith}
 use Rattle.runs.specs.Portions.{IsEnough, behind}
 use Rattle.driver.proofs.run_command.Streamed.{portion, last_end, enough, all_printed, at_more}
 use Rattle.driver.proofs.run_command.portions.stream.Goals as goal
