@@ -120,9 +120,8 @@ local_emits old new to x local e free after r it il lt v =
     (record { blocks = omega arith; registers = omega arith; room = λ le. omega (arith, le, lt); globals = omega arith })
     (λ from keeps. (
       λ p n gives inside f s l g h.
-          let le = h.0.registers_fit in
-          let to_it : local < s.registers = omega (arith, le) in
-          let few : value_registers e free ≤ s.registers = omega (arith, le) in
+          let to_it : local < s.registers = omega (arith, h.0.registers_fit) in
+          let few : value_registers e free ≤ s.registers = omega (arith, h.0.registers_fit) in
           keeps.0 s l g (to_it, ((few, named p s n e h.0 f.1), h.1)),
       keeps.1,
     ))
@@ -141,13 +140,11 @@ variable_emits old new to x g e free p next z last middle after r it ig pl room 
     (λ from keeps. (
       λ p' n gives inside f s l g' h.
           let there = in_scope p' s _ _ h.0 refl f.0 in
-          let le = h.0.registers_fit in
-          let pw = pl.counted in
-          let held : p < s.registers = omega (arith, le, pw) in
-          let spare : z < s.registers = omega (arith, le, next_is) in
-          let few : value_registers e free ≤ s.registers = omega (arith, le) in
+          let held : p < s.registers = omega (arith, h.0.registers_fit, pl.counted) in
+          let spare : z < s.registers = omega (arith, h.0.registers_fit, next_is) in
+          let few : value_registers e free ≤ s.registers = omega (arith, h.0.registers_fit) in
           keeps.0 s l g' (held, ((few, named p' s n e h.0 f.1), sound_first _ fm spare (sound_first _ fl (there, (spare, held)) (sound_line _ h.1)))),
-      (let k = keeps.1 in let n = ap insts_of code in let a = line_insts after in omega (arith, k, n, a)),
+      omega (arith, keeps.1, ap insts_of code, line_insts after),
     ))
     (λ from does bs h leave next'. record { z = z; fetches = fetches_first from pl (finds_to code (does bs h)); spare = omega (arith, iz) }))
 
@@ -165,19 +162,14 @@ store_emits old mid new a a' i e free p next q last code middle after r ia pi ri
     (λ from keeps. (
       λ p' n gives inside f s l g h.
           let there = in_scope p' s _ _ h.0 ia f.0 in
-          let le = h.0.registers_fit in
-          let pw = pi.counted in
-          let qw = pe.counted in
-          let qe = ap (place_registers e) pi.next_is in
-          let ve = ap (value_registers e) pi.next_is in
-          let at_index : p < s.registers = omega (arith, le, pw) in
-          let at_value : q < s.registers = omega (arith, le, qw, qe) in
-          let in_value : value_registers e next ≤ s.registers = omega (arith, le, ve) in
-          let in_index : value_registers i free ≤ s.registers = omega (arith, le) in
+          let at_index : p < s.registers = omega (arith, h.0.registers_fit, pi.counted) in
+          let at_value : q < s.registers = omega (arith, h.0.registers_fit, pe.counted, ap (place_registers e) pi.next_is) in
+          let in_value : value_registers e next ≤ s.registers = omega (arith, h.0.registers_fit, ap (value_registers e) pi.next_is) in
+          let in_index : value_registers i free ≤ s.registers = omega (arith, h.0.registers_fit) in
           let end = sound_first _ fe (there, (at_index, at_value)) (sound_line _ h.1) in
           let m = second.sound.0 s (within one.grows l) g (at_value, ((in_value, named p' s n e h.0 f.1.1), end)) in
           keeps.0 s l m.0 (at_index, ((in_index, named p' s n i h.0 f.1.0), m.1)),
-      (let k = keeps.1 in let m = second.sound.1 in let n = ap insts_of fe in let a' = line_insts after in omega (arith, k, m, n, a')),
+      omega (arith, keeps.1, second.sound.1, ap insts_of fe, line_insts after),
     ))
     (λ from does bs h leave next'. store_code old mid new free a a' i e p next q last (open_code from) (open_code middle) (open_code code) after
     ia fe pi pe second.grows one.grows second.does does leave next' bs h)
@@ -192,12 +184,10 @@ output_emits old mid new e free b p next end after r sealing pl room fe o =
     (λ from keeps. (
       λ p' n gives inside f s l g h.
           let j = sealing.sound s (within o.grows l) g h.1 in
-          let le = h.0.registers_fit in
-          let pw = pl.counted in
-          let held : p < s.registers = omega (arith, le, pw) in
-          let few : value_registers e free ≤ s.registers = omega (arith, le) in
+          let held : p < s.registers = omega (arith, h.0.registers_fit, pl.counted) in
+          let few : value_registers e free ≤ s.registers = omega (arith, h.0.registers_fit) in
           keeps.0 s l j.0 (held, ((few, named p' s n e h.0 f), sound_exit _ fe (held, j.1))),
-      (let k = keeps.1 in let n = ap insts_of fe in omega (arith, k, n, sealing.insts)),
+      omega (arith, keeps.1, ap insts_of fe, sealing.insts),
     ))
     (λ from does bs h leave next'.
     let sp = split2 bs old mid new sealing.grows o.grows h in
@@ -232,8 +222,7 @@ to_local_emits old new to x local free b after it il lt sealing =
       limit = tt;
       sound = (
         λ p n f s l g h.
-            let le = h.0.registers_fit in
-            let to_it : local < s.registers = omega (arith, le) in
+            let to_it : local < s.registers = omega (arith, h.0.registers_fit) in
             let j = sealing.sound s l g h.1 in
             (j.0, (to_it, j.1)),
         omega (arith, sealing.insts),
@@ -257,12 +246,11 @@ to_variable_emits old new to x g free t z b last code after it ig ift lt iz ltz 
       sound = (
         λ p n f s l g' h.
             let there = in_scope p s _ _ h.0 refl f in
-            let le = h.0.registers_fit in
-            let of_result : t < s.registers = omega (arith, le, ift) in
-            let of_index : z < s.registers = omega (arith, le, ift, iz) in
+            let of_result : t < s.registers = omega (arith, h.0.registers_fit, ift) in
+            let of_index : z < s.registers = omega (arith, h.0.registers_fit, ift, iz) in
             let j = sealing.sound s l g' (sound_first _ fc of_index (sound_first _ fl (there, (of_index, of_result)) (sound_line _ h.1))) in
             (j.0, (of_result, j.1)),
-        (let n = ap insts_of both in let a = line_insts after in omega (arith, n, a, sealing.insts)),
+        omega (arith, ap insts_of both, line_insts after, sealing.insts),
       );
       does = λ bs h. record {
         t = t;
@@ -286,16 +274,15 @@ call_emits old mid new to f f' es free x places0 places ps1 ps2 args end after r
     (λ from keeps. (
       λ p n gives inside fits s l g h.
           let j = receiver.sound.0 p n fits.0 s (within values.grows l) g (fewer h.0 (omega arith), h.1) in
-          let le = h.0.registers_fit in
-          let in_places : places_registers es free ≤ s.registers = omega (arith, le) in
-          let few : values_registers es free ≤ s.registers = omega (arith, le) in
+          let in_places : places_registers es free ≤ s.registers = omega (arith, h.0.registers_fit) in
+          let few : values_registers es free ≤ s.registers = omega (arith, h.0.registers_fit) in
           let all : places ≡ add.0 = add.1 ∙ ap (λ l. l ++ add.0) i0 in
           let registers = ia ∙ ap (map (λ p. p.register)) (i1 ∙ all) in
           let named_call = fits.1.0 in
           let callee = callee_sound p s _ _ named_call.callee _ _ _ _ h.0 ig named_call.there named_call.count registers add.2 in
           let exit = sound_exit _ fe (callee, (place_registers_sound s.registers _ _ _ _ registers add.2 in_places, j.1)) in
           keeps.0 s l j.0 (in_places, ((few, named_all p s n es h.0 fits.1.1), exit)),
-      (let k = keeps.1 in let m = receiver.sound.1 in let n = ap insts_of fe in omega (arith, k, m, n)),
+      omega (arith, keeps.1, receiver.sound.1, ap insts_of fe),
     ))
     (λ from does bs h leave next. call_code old mid new free to f f' x.to es places0 places ps1 ps2 args (open_code from) (open_code end) after x.block
     ig i0 add i1 i2 ia fe receiver.grows values.grows receiver.does does leave next bs h)
@@ -306,7 +293,7 @@ pub nothing_returned : (old : List RBlock) (given : Option TypedExpression) (fre
     → open_code code ≡ exit_code (X.Return None) → Emits (simple_code (return_with given) free after) old old (Ok code)
 nothing_returned old given free code after ig fe = subst (λ given. Emits (simple_code (return_with given) free after) old old (Ok code)) (sym ig)
     (emitted _ (grows_same old) (omega arith) (omega arith)
-    (λ p n gives inside f s l g h. (g, sound_exit _ fe tt), (let n = ap insts_of fe in omega (arith, n))) (λ bs h leave next. ap Line fe))
+    (λ p n gives inside f s l g h. (g, sound_exit _ fe tt), omega (arith, ap insts_of fe)) (λ bs h leave next. ap Line fe))
 
 pub value_returned : (old new : List RBlock) (given : Option TypedExpression) (e : TypedExpression) (free p next : ℕ) (end : OpenBlock) (after : Spot)
     (r : Result OpenBlock LowerFault) → given ≡ Some e → IsPlace e free p next → place_registers e free ≤ MAX_REGISTERS
@@ -317,12 +304,10 @@ value_returned old new given e free p next end after r ig pl room fe o =
     (record { blocks = omega arith; registers = omega arith; room = λ le. omega (arith, le, room); globals = omega arith })
     (λ from keeps. (
       λ p' n gives inside f s l g h.
-          let le = h.0.registers_fit in
-          let pw = pl.counted in
-          let held : p < s.registers = omega (arith, le, pw) in
-          let few : value_registers e free ≤ s.registers = omega (arith, le) in
+          let held : p < s.registers = omega (arith, h.0.registers_fit, pl.counted) in
+          let few : value_registers e free ≤ s.registers = omega (arith, h.0.registers_fit) in
           keeps.0 s l g (held, ((few, named p' s n e h.0 f.1), sound_exit _ fe held)),
-      (let k = keeps.1 in let n = ap insts_of fe in omega (arith, k, n)),
+      omega (arith, keeps.1, ap insts_of fe),
     ))
     (λ from does bs h leave next'. fetches_first from pl (finds_to fe (does bs h))))
 
@@ -380,7 +365,7 @@ more_emits old mid new all s rest c after middle r is others one =
       λ p n gives inside f s' l g h.
           let m = others.sound.1 p n gives inside f.1 s' (within one.grows l) g (fewer h.0 (omega arith), h.1) in
           keeps.1 p n gives inside f.0 s' l m.0 (fewer h.0 (omega arith), (h.1.0, (h.1.1.0, m.1))),
-      (let k = keeps.2 in let n = others.sound.2 in omega (arith, k, n)),
+      omega (arith, keeps.2, others.sound.2),
     ))
     (λ from does bs h.
     let sp = split2 bs old mid new others.grows one.grows h in
@@ -420,7 +405,7 @@ side_emits old mid new s c join code (Ok b) e g count insts limit sound lands =
         λ p n gives inside f s' l g0 h.
             let m = e.sound.1 p n gives inside f s' (within g l) g0 h in
             sound s' l m.0 m.1,
-        (let a = e.sound.2 in omega (arith, a, insts)),
+        omega (arith, e.sound.2, insts),
       );
       does = λ bs h.
           let sp = split2 bs old mid new e.grows g h in
@@ -433,7 +418,7 @@ side_emits old mid new s c join code (Err f) e g count insts limit sound lands =
       grows = grows_then old mid new e.grows g;
       count = tt;
       room = tt;
-      limit = λ is. let much = limit is in omega (arith, c1, same, much);
+      limit = λ is. omega (arith, c1, same, limit is);
       sound = tt;
       does = tt;
     }
@@ -464,10 +449,9 @@ if_emits b0 b1 b2 b3 b4 e a b c join y n likely after r il sealing one other tes
           let j = sealing.sound s (within one.grows l2) g h.1.1.1 in
           let x = one.sound.0 p k gives inside f.1.0 s l2 j.0 (fewer h.0 (omega arith), (h.1.0, (h.1.1.0, j.1))) in
           let z = other.sound.0 p k gives inside f.1.1 s l3 x.0 (fewer h.0 (omega arith), (h.1.0, (h.1.1.0, j.1))) in
-          let le = h.0.registers_fit in
-          let few : condition_registers e (stays a && not (is_equality e)) c.free ≤ s.registers = omega (arith, le) in
+          let few : condition_registers e (stays a && not (is_equality e)) c.free ≤ s.registers = omega (arith, h.0.registers_fit) in
           keeps.0 s l z.0 ((few, named p s k e h.0 f.0), (x.1, z.1)),
-      (let k = keeps.1 in let x = one.sound.1 in let z = other.sound.1 in omega (arith, k, x, z, sealing.insts)),
+      omega (arith, keeps.1, one.sound.1, other.sound.1, sealing.insts),
     ))
     (λ from does bs h.
     let sp = split4 bs b0 b1 b2 b3 b4 sealing.grows one.grows other.grows test'.grows h in
@@ -494,8 +478,7 @@ if_emits b0 b1 b2 b3 b4 e a b c join y n likely after r il sealing one other tes
 pub join_stops : (old new : List RBlock) (s : TypedStatement) (c : Context) (after : Spot) (f : LowerFault) (r : Result OpenBlock LowerFault) → r ≡ Err f
     → new ≡ old → joint after ≤ statement_blocks s (joint after) → (f ≡ Limit → MAX_BLOCKS < length old + joint after)
     → Emits (statement_code s c after) old new (made_of r)
-join_stops old new s c after f r is same few limit =
-    refused f (ap made_of is) same (λ l. let more = limit l in omega (arith, more, few))
+join_stops old new s c after f r is same few limit = refused f (ap made_of is) same (λ l. omega (arith, limit l, few))
 
 pub if_second_stops : (b0 b1 b2 b3 : List RBlock) (e : TypedExpression) (a b : TypedStatement) (c : Context) (join y : ℕ) (after : Spot)
     (f : LowerFault) (r : Result OpenBlock LowerFault) → r ≡ Err f → Sealing b0 b1 join after → Emits (side_code a c join) b1 b2 (Ok y)
@@ -552,12 +535,11 @@ turn_emits b0 b1 b2 b3 e last c many again bottom code r test part end =
       subst (λ n. IsEnd many t n) same keeps.0,
       λ p n gives fe fl s l g h.
           let l2 = within end.grows l in
-          let le = h.0.registers_fit in
-          let few : condition_registers e again.likely c.free ≤ s.registers = omega (arith, le) in
+          let few : condition_registers e again.likely c.free ≤ s.registers = omega (arith, h.0.registers_fit) in
           let x = test.sound.0 s (within part.grows l2) g ((few, named p s n e h.0 fe), h.1.1.1) in
           let y = part.sound.1 p n gives false fl s l2 x.0 (fewer h.0 (omega arith), (h.1.0, (h.1.1.0, x.1))) in
           keeps.1 s l y.0 y.1,
-      (let k = keeps.2 in let x = test.sound.1 in let y = part.sound.2 in omega (arith, k, x, y)),
+      omega (arith, keeps.2, test.sound.1, part.sound.2),
     ))
     (λ t does bs h.
     let sp = split3 bs b0 b1 b2 b3 test.grows part.grows end.grows h in
@@ -589,7 +571,6 @@ loop_emits b0 b1 b2 b3 b4 b5 b6 e last body c inner many left head turn code top
     let low : length b0 ≤ head = omega (arith, sealing.grows.longer, res.number) in
     let in_b2 : head < length b2 = omega (arith, res.number, res.longer) in
     let same : joint (spot turn.after) ≡ (if continues body then 0 else statement_joint last 1) = turn_emits'.sound.0.1 in
-    let body_blocks = ap (statement_blocks body) same in
     let c2 : length b3 ≡ length b2 + (last_size e last (continues body) true c.free).blocks = turn_emits'.count in
     let c3 : length b4 ≡ length b3 + statement_blocks body (joint (spot turn.after)) = body_emits.count in
     let c4 : length b5 ≡ length b4 + condition_blocks e = test.count in
@@ -597,7 +578,7 @@ loop_emits b0 b1 b2 b3 b4 b5 b6 e last body c inner many left head turn code top
     let r3 : statement_registers body c.free ≤ MAX_REGISTERS = body_emits.room in
     record {
       grows = grows_filled b0 b5 b6 head filled g05 low f;
-      count = omega (arith, sealing.count, res.longer, c2, c3, c4, body_blocks, f.same_length);
+      count = omega (arith, sealing.count, res.longer, c2, c3, c4, ap (statement_blocks body) same, f.same_length);
       room = omega (arith, r2, r3);
       limit = tt;
       sound = (
@@ -611,16 +592,10 @@ loop_emits b0 b1 b2 b3 b4 b5 b6 e last body c inner many left head turn code top
             let at : head < s.blocks = reserved_within res l2 in
             let x = turn_emits'.sound.1 p n gives f'.0 f'.1.0 s l3 (kept s j.0) (fewer h.0 (omega arith), (h.1.0, (h.1.1.0, (at, j.1)))) in
             let y = body_emits.sound.1 p n gives true f'.1.1 s l4 x.0 (fewer h.0 (omega arith), (j.1, x.1)) in
-            let le = h.0.registers_fit in
-            let few : condition_registers e true c.free ≤ s.registers = omega (arith, le) in
+            let few : condition_registers e true c.free ≤ s.registers = omega (arith, h.0.registers_fit) in
             let z = test.sound.0 s l5 y.0 ((few, named p s n e h.0 f'.0), (at, j.1)) in
             (sound s z.0 (sound_along ie (sound_line _ y.1)), z.1),
-        (let x = turn_emits'.sound.2 in
-            let y = body_emits.sound.2 in
-            let z = test.sound.1 in
-            let n = ap insts_of ie in
-            let a = line_insts (spot code) in
-            omega (arith, x, y, z, n, a, i2, i6, sealing.insts)),
+        omega (arith, turn_emits'.sound.2, body_emits.sound.2, test.sound.1, ap insts_of ie, line_insts (spot code), i2, i6, sealing.insts),
       );
       does = λ bs h.
           let h2 = has_past bs b0 b2 b5 b6 head filled (omega (arith, sealing.grows.longer, res.longer)) in_b2 f h in
@@ -658,7 +633,7 @@ loop_head_stops b0 b1 b2 e last body c left after f r is sealing same limit =
       grows = subst (λ b. Grows b0 b) (sym same) sealing.grows;
       count = tt;
       room = tt;
-      limit = λ l. let more = limit l in omega (arith, more, sealing.count);
+      limit = λ l. omega (arith, limit l, sealing.count);
       sound = tt;
       does = tt;
     })
@@ -686,10 +661,9 @@ loop_body_stops b0 b1 b2 b3 b4 e last body c inner many left head turn after f r
     let body_emits = subst (λ inner. Emits (statement_code body inner (spot turn.after)) b3 b4 (Err f)) ii inside in
     let turns' = subst (λ many. Emits (last_code e last c many (record { yes = head; no = left; likely = true })) b2 b3 (Ok turn)) im turns in
     let same : joint (spot turn.after) ≡ (if continues body then 0 else statement_joint last 1) = turns'.sound.0.1 in
-    let blocks = ap (statement_blocks body) same in
     let c2 : length b3 ≡ length b2 + (last_size e last (continues body) true c.free).blocks = turns'.count in
     part_refused (joint after + 1 + (last_size e last (continues body) true c.free).blocks) body_emits
-    (ap made_of is) (omega arith) (omega (arith, blocks)) (omega arith)
+    (ap made_of is) (omega arith) (omega (arith, ap (statement_blocks body) same)) (omega arith)
     (grows_then b0 b1 b3 h.sealing.grows (grows_then b1 b2 b3 h.reserves.grows turns'.grows)) (omega (arith, h.sealing.count, h.reserves.longer, c2))
 
 pub loop_top_stops : (b0 b1 b2 b3 b4 b5 : List RBlock) (e : TypedExpression) (last body : TypedStatement) (c inner : Context) (many : Bool)
@@ -703,10 +677,9 @@ loop_top_stops b0 b1 b2 b3 b4 b5 e last body c inner many left head turn code af
     let body_emits = subst (λ inner. Emits (statement_code body inner (spot turn.after)) b3 b4 (Ok code)) ii inside in
     let turns' = subst (λ many. Emits (last_code e last c many (record { yes = head; no = left; likely = true })) b2 b3 (Ok turn)) im turns in
     let same : joint (spot turn.after) ≡ (if continues body then 0 else statement_joint last 1) = turns'.sound.0.1 in
-    let blocks = ap (statement_blocks body) same in
     let c2 : length b3 ≡ length b2 + (last_size e last (continues body) true c.free).blocks = turns'.count in
     let c3 : length b4 ≡ length b3 + statement_blocks body (joint (spot turn.after)) = body_emits.count in
     part_refused (joint after + 1 + (last_size e last (continues body) true c.free).blocks + statement_blocks body (joint (spot turn.after))) test
-    (ap made_of is) (omega arith) (omega (arith, blocks)) (omega arith)
+    (ap made_of is) (omega arith) (omega (arith, ap (statement_blocks body) same)) (omega arith)
     (grows_then b0 b1 b4 h.sealing.grows (grows_then b1 b2 b4 h.reserves.grows (grows_then b2 b3 b4 turns'.grows body_emits.grows)))
     (omega (arith, h.sealing.count, h.reserves.longer, c2, c3))

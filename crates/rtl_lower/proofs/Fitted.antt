@@ -41,9 +41,7 @@ functions_length (f ∷ all) = ap suc (functions_length all)
 
 pub each_at : (P : TypedFunction → Type 0) (all : List Function) (i : ℕ) (d : Function) → i < length all → All P (functions_of all)
     → P (function_of (get_or all i d))
-each_at P all i d lt a =
-    let n = functions_length all in
-    subst P (functions_at all i d (function_of d) lt) (a i (function_of d) (omega (arith, lt, n)))
+each_at P all i d lt a = subst P (functions_at all i d (function_of d) lt) (a i (function_of d) (omega (arith, lt, functions_length all)))
 
 alone : (f : TypedFunction) → function_registers f ≤ MAX_REGISTERS → All (λ f. function_registers f ≤ MAX_REGISTERS) (f ∷ [])
 alone f r zero d lt = r
@@ -52,24 +50,17 @@ alone f r (suc k) d lt = absurd (omega arith)
 blocks_at : (all : List Function) (i : ℕ) (d : Function) → i < length all
     → function_blocks (function_of (get_or all i d)) ≤ sum_by function_blocks (functions_of all)
 blocks_at [] i d lt = absurd (omega arith)
-blocks_at (f ∷ all) zero d lt =
-    let s = sum_by-cons function_blocks (function_of f) (functions_of all) in
-    omega (arith, s)
-blocks_at (f ∷ all) (suc i) d lt =
-    let s = sum_by-cons function_blocks (function_of f) (functions_of all) in
-    let r = blocks_at all i d (omega arith) in
-    omega (arith, s, r)
+blocks_at (f ∷ all) zero d lt = omega (arith, sum_by-cons function_blocks (function_of f) (functions_of all))
+blocks_at (f ∷ all) (suc i) d lt = omega (arith, sum_by-cons function_blocks (function_of f) (functions_of all), blocks_at all i d (omega arith))
 
 -- a function that is beyond puts the program beyond
 pub too_large : (all : List Function) (i : ℕ) (f : Function) → i < length all → f ≡ get_or all i f
     → Beyond (function_registers (function_of f)) (function_blocks (function_of f)) 0 → HaveRoom (functions_of all) → ⊥
 too_large all i f lt is b room =
     let r = each_at (λ f. function_registers f ≤ MAX_REGISTERS) all i f lt room.registers in
-    let n = blocks_at all i f lt in
     let er = ap (λ f. function_registers (function_of f)) is in
     let en = ap (λ f. function_blocks (function_of f)) is in
-    let t = room.blocks in
-    omega (arith, b, r, n, er, en, t)
+    omega (arith, b, r, blocks_at all i f lt, er, en, room.blocks)
 
 -- functions that are emitted
 pub record Fitted (fs : List TypedFunction) (rs : List RFunc) : Type 0 where
@@ -92,11 +83,8 @@ pub one_fitted : (all : List Function) (rs rs' : List RFunc) (i : ℕ) (f : Func
     → length r.blocks.items ≡ function_blocks (function_of f) → function_registers (function_of f) ≤ MAX_REGISTERS
     → Fitted (functions_of (take i all)) rs → Fitted (functions_of (take (i + 1) all)) rs'
 one_fitted all rs rs' i f r e lt is eb room m =
-    let sr = sum_by_push block_count rs r in
-    let sf = sum_by_push function_blocks (functions_of (take i all)) (function_of f) in
-    let er = ap (sum_by block_count) e in
-    let mb = m.blocks in
-    let sum : sum_by block_count rs' ≡ sum_by function_blocks (functions_of (take i all) ++ function_of f ∷ []) = omega (arith, sr, sf, er, mb, eb) in
+    let sum : sum_by block_count rs' ≡ sum_by function_blocks (functions_of (take i all) ++ function_of f ∷ []) = omega (arith,
+    sum_by_push block_count rs r, sum_by_push function_blocks (functions_of (take i all)) (function_of f), ap (sum_by block_count) e, m.blocks, eb) in
     let each = All-append (λ f. function_registers f ≤ MAX_REGISTERS) (functions_of (take i all)) (function_of f ∷ []) m.registers
     (alone (function_of f) room) in
     subst (λ fs. Fitted fs rs') (sym (functions_more all i f lt is)) (record { blocks = sum; registers = each })
@@ -109,45 +97,36 @@ room_of fs rs h sum each = record { registers = each; blocks = omega (arith, h, 
 -- the same of those of a program
 pub have_room : (p : Program) (fs : List TypedFunction) (rs : List RFunc) → IsProgram p → p.functions ≡ rs
     → sum_by block_count rs ≡ sum_by function_blocks fs → All (λ f. function_registers f ≤ MAX_REGISTERS) fs → HaveRoom fs
-have_room p fs rs is e sum each =
-    let h = is.blocks_fit in
-    let q = ap (sum_by block_count) e in
-    room_of fs rs (omega (arith, h, q)) sum each
+have_room p fs rs is e sum each = room_of fs rs (omega (arith, is.blocks_fit, ap (sum_by block_count) e)) sum each
 
 -- what a well-formed program keeps
 
 mutual
   no_continue : (p : TypedProgram) (n : ℕ) (gives : Bool) (s : TypedStatement) → FitsStatement p n gives false s → continues s ≡ false
   no_continue p n gives (block all) f = no_continues p n gives all f
-  no_continue p n gives (if_else c a b) f =
-      or_none (continues a) (continues b) (no_continue p n gives a f.1.0) (no_continue p n gives b f.1.1)
+  no_continue p n gives (if_else c a b) f = or_none (continues a) (continues b) (no_continue p n gives a f.1.0) (no_continue p n gives b f.1.1)
   no_continue p n gives (loop c last body) f = no_continue p n gives last f.1.0
   no_continue p n gives continue_loop f = sym f
   no_continue p n gives _ f = refl
 
   no_continues : (p : TypedProgram) (n : ℕ) (gives : Bool) (all : TypedStatements) → FitsStatements p n gives false all → any_continues all ≡ false
   no_continues p n gives no_statements f = refl
-  no_continues p n gives (more_statements s rest) f =
-      or_none (continues s) (any_continues rest) (no_continue p n gives s f.0) (no_continues p n gives rest f.1)
+  no_continues p n gives (more_statements s rest) f = or_none (continues s) (any_continues rest) (no_continue p n gives s f.0) (no_continues p n gives rest f.1)
 
 -- numbers of globals and functions
 
 pub expression_numbers : (p : TypedProgram) (n : ℕ) (e : TypedExpression) → FitsExpression p n e → globals_named e ≤ length p.globals
 expression_numbers p n (global x k) f = omega (arith, f)
-expression_numbers p n (element x k e) f = let r = expression_numbers p n e f.1 in let h = f.0 in omega (arith, h, r)
+expression_numbers p n (element x k e) f = omega (arith, f.0, expression_numbers p n e f.1)
 expression_numbers p n (unary o k e) f = expression_numbers p n e f.1
-expression_numbers p n (binary o k a b) f =
-    let ra = expression_numbers p n a f.1.0 in let rb = expression_numbers p n b f.1.1 in omega (arith, ra, rb)
+expression_numbers p n (binary o k a b) f = omega (arith, expression_numbers p n a f.1.0, expression_numbers p n b f.1.1)
 expression_numbers p n (conditional k c a b) f =
-    let rc = expression_numbers p n c f.1.0 in
-    let ra = expression_numbers p n a f.1.1.0 in
-    let rb = expression_numbers p n b f.1.1.1 in
-    omega (arith, rc, ra, rb)
+    omega (arith, expression_numbers p n c f.1.0, expression_numbers p n a f.1.1.0, expression_numbers p n b f.1.1.1)
 expression_numbers p n _ f = omega arith
 
 pub list_numbers : (p : TypedProgram) (n : ℕ) (es : List TypedExpression) → FitsAll p n es → globals_named_in es ≤ length p.globals
 list_numbers p n [] f = omega arith
-list_numbers p n (e ∷ es) f = let r = expression_numbers p n e f.0 in let q = list_numbers p n es f.1 in omega (arith, r, q)
+list_numbers p n (e ∷ es) f = omega (arith, expression_numbers p n e f.0, list_numbers p n es f.1)
 
 place_number : (p : TypedProgram) (n : ℕ) (to : Destination) → FitsPlace p n to → target_number (Some to) ≤ length p.globals
 place_number p n (Local x) f = omega arith
@@ -165,34 +144,23 @@ mutual
   statement_numbers : (p : TypedProgram) (n : ℕ) (gives inside : Bool) (s : TypedStatement) → FitsStatement p n gives inside s
       → numbers_named s ≤ length p.globals + length p.functions
   statement_numbers p n gives inside (block all) f = statements_numbers p n gives inside all f
-  statement_numbers p n gives inside (assign to e) f =
-      let a = place_number p n to f.0 in let b = expression_numbers p n e f.1 in omega (arith, a, b)
-  statement_numbers p n gives inside (store x i e) f =
-      let h = f.0 in let a = expression_numbers p n i f.1.0 in let b = expression_numbers p n e f.1.1 in omega (arith, h, a, b)
+  statement_numbers p n gives inside (assign to e) f = omega (arith, place_number p n to f.0, expression_numbers p n e f.1)
+  statement_numbers p n gives inside (store x i e) f = omega (arith, f.0, expression_numbers p n i f.1.0, expression_numbers p n e f.1.1)
   statement_numbers p n gives inside (call to g es) f =
-      let a = target_numbers p n to f.0 in let b = list_numbers p n es f.1.1 in
-      let c = slice_get_within p.functions g f.1.0.callee f.1.0.there in omega (arith, a, b, c)
-  statement_numbers p n gives inside (output e) f = let a = expression_numbers p n e f in omega (arith, a)
+      omega (arith, target_numbers p n to f.0, list_numbers p n es f.1.1, slice_get_within p.functions g f.1.0.callee f.1.0.there)
+  statement_numbers p n gives inside (output e) f = omega (arith, expression_numbers p n e f)
   statement_numbers p n gives inside (if_else e a b) f =
-      let re = expression_numbers p n e f.0 in
-      let ra = statement_numbers p n gives inside a f.1.0 in
-      let rb = statement_numbers p n gives inside b f.1.1 in
-      omega (arith, re, ra, rb)
+      omega (arith, expression_numbers p n e f.0, statement_numbers p n gives inside a f.1.0, statement_numbers p n gives inside b f.1.1)
   statement_numbers p n gives inside (loop e last body) f =
-      let re = expression_numbers p n e f.0 in
-      let ra = statement_numbers p n gives false last f.1.0 in
-      let rb = statement_numbers p n gives true body f.1.1 in
-      omega (arith, re, ra, rb)
-  statement_numbers p n gives inside (return_with e) f = let a = maybe_numbers p n e f.1 in omega (arith, a)
+      omega (arith, expression_numbers p n e f.0, statement_numbers p n gives false last f.1.0, statement_numbers p n gives true body f.1.1)
+  statement_numbers p n gives inside (return_with e) f = omega (arith, maybe_numbers p n e f.1)
   statement_numbers p n gives inside _ f = omega arith
 
   statements_numbers : (p : TypedProgram) (n : ℕ) (gives inside : Bool) (all : TypedStatements) → FitsStatements p n gives inside all
       → numbers_named_in all ≤ length p.globals + length p.functions
   statements_numbers p n gives inside no_statements f = omega arith
   statements_numbers p n gives inside (more_statements s rest) f =
-      let a = statement_numbers p n gives inside s f.0 in
-      let b = statements_numbers p n gives inside rest f.1 in
-      omega (arith, a, b)
+      omega (arith, statement_numbers p n gives inside s f.0, statements_numbers p n gives inside rest f.1)
 
 a_word : (w : Width) (n : ℕ) → 1 ≤ n → 1 ≤ words_of_elements w n
 a_word Word n le = le
@@ -201,21 +169,17 @@ a_word Byte n le = omega (arith, le)
 words_enough : (gs : List Global) → All (λ (g : Global). 1 ≤ g.length) gs → length gs ≤ words_in gs
 words_enough [] a = omega arith
 words_enough (g ∷ gs) a =
-    let w = a_word g.width g.length (a 0 g (omega arith)) in
     let r = words_enough gs (λ k d lt. a (suc k) d (omega arith)) in
-    omega (arith, w, r)
+    omega (arith, a_word g.width g.length (a 0 g (omega arith)), r)
 
 plain : (p : TypedProgram) (f : TypedFunction) → IsWellFormed p → FitsFunction p f → IsPlain f
 plain p f well fits =
-    let n = statements_numbers p f.locals (is_some f.result) false f.body fits.body in
-    let gs = words_enough p.globals well.globals in
-    let wf = well.words_fit in
-    let ff = well.functions_fit in
     record {
       parameters = fits.first;
       locals = omega (arith, fits.locals);
       jumps = no_continues p f.locals (is_some f.result) f.body fits.body;
-      numbers = omega (arith, n, gs, wf, ff);
+      numbers = omega (arith, statements_numbers p f.locals (is_some f.result) false f.body fits.body,
+          words_enough p.globals well.globals, well.words_fit, well.functions_fit);
     }
 
 pub plain_functions : (p : TypedProgram) → IsWellFormed p → All IsPlain p.functions

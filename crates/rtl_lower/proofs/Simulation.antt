@@ -386,8 +386,7 @@ module _ (src : TypedProgram) (p : Program) (ok : IsCodeOfProgram src p) (well :
       waits : (r' : Places) (place : Option Destination) (to : Option ℕ) (b : ℕ) → Receives (enclosing bs n) place to b after → FitsTarget src n place
           → Located n l r' → (code : Code) × At bs b code
           × Awaits src place to (Src.frame_at (source w) l k) (activation (target w) bs r' code)
-      waits r' None to b re ft h' =
-          let s = rest_in b re.1 in (s.0, s.1, (re.0, record { count = n; stands = s.2; located = h' }))
+      waits r' None to b re ft h' = let s = rest_in b re.1 in (s.0, s.1, (re.0, record { count = n; stands = s.2; located = h' }))
       waits r' (Some (Local x)) to b re ft h' =
           let s = rest_in b re.1 in
           (s.0, s.1, record { is = re.0; match = record { count = n; stands = s.2; located = h' }; low = ft })

@@ -27,7 +27,7 @@ pub weight_within : (all : List TypedStatement) (k : ℕ) (d : TypedStatement) �
     → weight (statement_of (get_or all k d)) < weight_all (statements_of all)
 weight_within [] k d lt = absurd (omega arith)
 weight_within (s ∷ all) zero d lt = omega arith
-weight_within (s ∷ all) (suc k) d lt = let r = weight_within all k d (omega arith) in omega (arith, r)
+weight_within (s ∷ all) (suc k) d lt = omega (arith, weight_within all k d (omega arith))
 
 pub or_true : (a b : Bool) → b ≡ true → (a || b) ≡ true
 or_true true b e = refl
@@ -95,18 +95,18 @@ one_left all s k k' j lt ik is ij =
 pub rest_blocks : (k : ℕ) (all : List TypedStatement) (n : ℕ) → statements_blocks (statements_of (drop k all)) n ≤ statements_blocks (statements_of all) n
 rest_blocks zero all n = omega arith
 rest_blocks (suc k) [] n = omega arith
-rest_blocks (suc k) (s ∷ all) n = let r = rest_blocks k all n in omega (arith, r)
+rest_blocks (suc k) (s ∷ all) n = omega (arith, rest_blocks k all n)
 
 pub rest_registers : (k : ℕ) (all : List TypedStatement) (free : ℕ)
     → statements_registers (statements_of (drop k all)) free ≤ statements_registers (statements_of all) free
 rest_registers zero all free = omega arith
 rest_registers (suc k) [] free = omega arith
-rest_registers (suc k) (s ∷ all) free = let r = rest_registers k all free in omega (arith, r)
+rest_registers (suc k) (s ∷ all) free = omega (arith, rest_registers k all free)
 
 pub rest_numbers : (k : ℕ) (all : List TypedStatement) → numbers_named_in (statements_of (drop k all)) ≤ numbers_named_in (statements_of all)
 rest_numbers zero all = omega arith
 rest_numbers (suc k) [] = omega arith
-rest_numbers (suc k) (s ∷ all) = let r = rest_numbers k all in omega (arith, r)
+rest_numbers (suc k) (s ∷ all) = omega (arith, rest_numbers k all)
 
 -- the last statement of a list
 last_below : (all : List TypedStatement) (x s : TypedStatement) → slice_get (x ∷ all) (length all) ≡ Some s

@@ -43,18 +43,18 @@ use Rattle.rtl_lower.proofs.Functions.{pairs_at}
 -- expressions
 
 pub named : {r : ℕ} (p : TypedProgram) (s : Scope) (n : ℕ) (e : TypedExpression) → Suits p r s → FitsExpression p n e → globals_named e ≤ s.globals
-named p s n e su f = let a = expression_numbers p n e f in let b = su.globals in omega (arith, a, b)
+named p s n e su f = omega (arith, expression_numbers p n e f, su.globals)
 
 pub named_all : {r : ℕ} (p : TypedProgram) (s : Scope) (n : ℕ) (es : List TypedExpression) → Suits p r s → FitsAll p n es
     → globals_named_in es ≤ s.globals
-named_all p s n es su f = let a = list_numbers p n es f in let b = su.globals in omega (arith, a, b)
+named_all p s n es su f = omega (arith, list_numbers p n es f, su.globals)
 
 pub in_scope : {r : ℕ} (p : TypedProgram) (s : Scope) (g g' : ℕ) → Suits p r s → g' ≡ g → g < length p.globals → g' < s.globals
-in_scope p s g g' su e lt = let b = su.globals in omega (arith, e, lt, b)
+in_scope p s g g' su e lt = omega (arith, e, lt, su.globals)
 
 -- fewer registers
 pub fewer : {p : TypedProgram} {n m : ℕ} {s : Scope} → Suits p n s → m ≤ n → Suits p m s
-fewer su le = record { registers_fit = (let r = su.registers_fit in omega (arith, r, le)); functions = su.functions; globals = su.globals }
+fewer su le = record { registers_fit = omega (arith, su.registers_fit, le); functions = su.functions; globals = su.globals }
 
 -- calls
 
@@ -64,9 +64,8 @@ callee_registers n [] free [] a le = All-nil (λ x. x < n)
 callee_registers n [] free (p ∷ ps) a le = absurd a
 callee_registers n (e ∷ es) free [] a le = absurd a
 callee_registers n (e ∷ es) free (p ∷ ps) a le =
-    let w = a.0.counted in
-    let is = ap (places_registers es) a.0.next_is in
-    All-cons (λ x. x < n) p.register (map (λ p. p.register) ps) (omega (arith, w, le)) (callee_registers n es p.free ps a.1 (omega (arith, is, le)))
+    All-cons (λ x. x < n) p.register (map (λ p. p.register) ps) (omega (arith, a.0.counted, le))
+    (callee_registers n es p.free ps a.1 (omega (arith, ap (places_registers es) a.0.next_is, le)))
 
 pub place_registers_sound : (n : ℕ) (es : List TypedExpression) (free : ℕ) (ps : List Place) (rs : List ℕ) → rs ≡ map (λ p. p.register) ps
     → ArePlaces es free ps → places_registers es free ≤ n → All (λ x. x < n) rs
@@ -95,7 +94,7 @@ bytes_more Byte n = omega arith
 
 pub too_long_at : (gs : List Global) (i : ℕ) (d : Global) → i < length gs → 2 ^ 32 < (get_or gs i d).length + 1 → words_in gs ≤ MAX_GLOBAL_WORDS → ⊥
 too_long_at [] i d lt much le = absurd (omega arith)
-too_long_at (x ∷ gs) zero d lt much le = let w = bytes_more x.width x.length in omega (arith, w, much, le)
+too_long_at (x ∷ gs) zero d lt much le = omega (arith, bytes_more x.width x.length, much, le)
 too_long_at (x ∷ gs) (suc i) d lt much le = too_long_at gs i d (omega arith) much (omega (arith, le))
 
 globals_length : (gs : List Global) (rs : List RGlobal) → AreGlobalsOf gs rs → length rs ≡ length gs
@@ -117,10 +116,8 @@ globals_are (g ∷ gs) [] m a = absurd m
 same_words : (gs : List Global) (rs : List RGlobal) → AreGlobalsOf gs rs → sum_by word_count rs ≡ words_in gs
 same_words [] [] m = refl
 same_words (g ∷ gs) (r ∷ rs) m =
-    let s = sum_by-cons word_count r rs in
-    let i = same_words gs rs m.1 in
     let w = ap (λ w. words_of_elements w r.length) m.0.width ∙ ap (words_of_elements g.width) m.0.elements in
-    omega (arith, s, i, w)
+    omega (arith, sum_by-cons word_count r rs, same_words gs rs m.1, w)
 same_words [] (r ∷ rs) m = absurd m
 same_words (g ∷ gs) [] m = absurd m
 
@@ -194,7 +191,7 @@ bound_within n m (x ∷ xs) le a = bound_within (if nat_lt x n then n else suc x
   where
     one : (b : Bool) → (if b then n else suc x) ≤ m
     one true = le
-    one false = (let lt = a.0 in omega (arith, lt))
+    one false = omega (arith, a.0)
 
 -- what there is to name in a function
 abbrev scope_of : TypedFunction → (rs : List RFunc) (globals : ℕ) → RFunc → Scope
@@ -211,10 +208,8 @@ size_is : (p : TypedProgram) (rs : List RFunc) (f : TypedFunction) (r : RFunc)
     → IsCodeOf f r → IsOfSize f r
 size_is p rs f r callees fits c =
     let s = scope_of f rs (length p.globals) r in
-    let q = c.parameters in
-    let m = fits.first in
     record {
-      registers = bound_within r.parameters (function_registers f) (blocks_names r.blocks.items) (omega (arith, q, m))
+      registers = bound_within r.parameters (function_registers f) (blocks_names r.blocks.items) (omega (arith, c.parameters, fits.first))
           (blocks_below s r.blocks.items (sound_function p rs (length p.globals) f r callees (omega arith) fits c));
       blocks = c.count;
       insts = c.insts;
@@ -226,10 +221,8 @@ function_is : (p : TypedProgram) (rs : List RFunc) (globals : ℕ) (f : TypedFun
 function_is p rs globals f r callees gs fits few c =
     let s = scope_of f rs globals r in
     let at = c.entry_at in
-    let q = c.parameters in
-    let m = fits.parameters in
     record {
-      parameters = omega (arith, q, m);
+      parameters = omega (arith, c.parameters, fits.parameters);
       entry = slice_get_within r.blocks.items 0 at.block at.there;
       blocks = blocks_are s r.blocks.items few (sound_function p rs globals f r callees gs fits c);
     }
@@ -272,29 +265,25 @@ pub is_program : (p : TypedProgram) (rs : List RFunc) (gs : List RGlobal) (main 
     → IsProgram (Programs.program_of rs gs main)
 is_program p rs gs main well room codes globals sum em =
     let callees = callee_of p.functions rs codes in
-    let n = globals_length p.globals gs globals in
-    let w = same_words p.globals gs globals in
-    let wf = well.words_fit in
-    let b = room.blocks in
     let m = callees p.main well.main well.entry in
     record {
-      functions = functions_are p rs (length gs) callees (omega (arith, n)) p.functions rs codes well.functions room.registers;
+      functions = functions_are p rs (length gs) callees (omega (arith, globals_length p.globals gs globals)) p.functions rs codes well.functions room.registers;
       globals = globals_are p.globals gs globals well.globals;
       main = record { callee = m.callee; there = ap (λ i. slice_get rs i) em ∙ m.there; takes = m.takes ∙ well.alone };
-      blocks_fit = omega (arith, sum, b);
-      words_fit = omega (arith, w, wf);
+      blocks_fit = omega (arith, sum, room.blocks);
+      words_fit = omega (arith, same_words p.globals gs globals, well.words_fit);
     }
 
 -- statements
 
 pub within_filled : {old new : List RBlock} {b : ℕ} {c : Code} {n : ℕ} → Fills old new b c → length new ≤ n → length old ≤ n
-within_filled f le = let l = f.same_length in omega (arith, l, le)
+within_filled f le = omega (arith, f.same_length, le)
 
 pub reserved_within : {old new : List RBlock} {b n : ℕ} → Reserves old new b → length new ≤ n → b < n
-reserved_within r le = let e = r.number in let l = r.longer in omega (arith, e, l, le)
+reserved_within r le = omega (arith, r.number, r.longer, le)
 
 pub some_within : {old new : List RBlock} {b n : ℕ} → Reserves old new b → length new ≤ n → 0 < n
-some_within r le = let l = r.longer in omega (arith, l, le)
+some_within r le = omega (arith, r.longer, le)
 
 -- the same of parts that are equal
 pub parts_program : (parts : TypedParts) (fs : List Function) (gs : List Global) (rfs : List RFunc) (rgs : List RGlobal) (m : ℕ) → m ≡ parts.main

@@ -118,9 +118,8 @@ statements-returns-in_err-code t c =
 
 pub statements-statement-requires : goal.statements-statement-requires
 statements-statement-requires t c = (
-  (let h = weight_within c.args.all.now (length c.args.all.now - 1 - c.loop-done.done) c.index-all-count.result (omega (arith, c.loop-done-test.true)) in
-      let e = ap (λ s. weight (statement_of s)) c.index-all-count.is in
-      omega (arith, h, e)),
+  omega (arith, ap (λ s. weight (statement_of s)) c.index-all-count.is,
+      weight_within c.args.all.now (length c.args.all.now - 1 - c.loop-done.done) c.index-all-count.result (omega (arith, c.loop-done-test.true))),
   λ e. c.requires.next (any_of c.args.all.now (length c.args.all.now - 1 - c.loop-done.done) c.index-all-count.result
       (omega (arith, c.loop-done-test.true)) c.index-all-count.is e),
 )
@@ -128,8 +127,7 @@ statements-statement-requires t c = (
 pub statement-statements-requires : goal.statement-statements-requires
 statement-statements-requires t c =
     let is = (ap statement_of c.in-Block.is) ∙ block-is c.in-Block.all ∙ ap (λ l. block (statements_of l)) (sym c.as_slice.ensures.value) in
-    let w = ap weight is in
-    (omega (arith, w), λ e. c.requires.next (ap continues is ∙ e))
+    (omega (arith, ap weight is), λ e. c.requires.next (ap continues is ∙ e))
 
 pub side_block-returns-in_err-code : goal.side_block-returns-in_err-code
 side_block-returns-in_err-code t c = part_refused 0 c.in_err-code.ensures (search rules) (omega arith) (omega arith) (omega arith) (grows_same _)
@@ -227,11 +225,9 @@ loop_statement-statement-requires t c = (omega arith, search rules)
 pub statement-if_statement-requires : goal.statement-if_statement-requires
 statement-if_statement-requires t c =
     let is = if_is (ap statement_of c.in-If.is) (ap statement_of c.deref.ensures) (ap statement_of c.deref-in-If.ensures) in
-    let w = ap weight is in
-    (omega (arith, w), λ e. c.requires.next (ap continues is ∙ e))
+    (omega (arith, ap weight is), λ e. c.requires.next (ap continues is ∙ e))
 
 pub statement-loop_statement-requires : goal.statement-loop_statement-requires
 statement-loop_statement-requires t c =
     let is = loop_is (ap statement_of c.in-Loop.is) (ap statement_of c.deref-in-Loop.ensures) (ap statement_of c.deref-in-Loop-2.ensures) in
-    let w = ap weight is in
-    (omega (arith, w), λ e. c.requires.next (ap continues is ∙ e))
+    (omega (arith, ap weight is), λ e. c.requires.next (ap continues is ∙ e))
