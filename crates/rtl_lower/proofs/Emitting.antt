@@ -81,6 +81,11 @@ pub record Sealing (old new : List RBlock) (block : ℕ) (after : Spot) : Type 0
   pub sound : KeepsSound old new (λ s. IsSoundSpot s after) (λ s. block < s.blocks)
   pub lands : Joins old new block after
 
+pub sealed : {old new : List RBlock} {block : ℕ} (after : Spot) → Grows old new → length new ≡ length old + joint after
+    → insts_in new ≡ insts_in old + insts_at after → KeepsSound old new (λ s. IsSoundSpot s after) (λ s. block < s.blocks) → Joins old new block after
+    → Sealing old new block after
+sealed after grows count insts sound lands = record { grows = grows; count = count; insts = insts; sound = sound; lands = lands }
+
 -- code that first has a value in its place
 abbrev fetches_first : {bs : List RBlock} {free p next : ℕ} {e : TypedExpression} {rest : ℕ → Code} (from : OpenBlock) → IsPlace e free p next
     → Fetches bs e free p (open_code from) (rest p) → FetchesFirst (enclosing bs free) e (Line (open_code from)) rest
@@ -99,24 +104,21 @@ pub simple_emits : (old new : List RBlock) (s s' : TypedStatement) (c : Context)
     (r : Result Continuation LowerFault) → s ≡ s' → ((n : ℕ) → statement_joint s' n ≡ 1) → r ≡ made_of code → Emits (simple_code s' c.free after) old new code
     → Emits (statement_code s c after) old new r
 simple_emits old new s s' c after code r is one ir e =
-    subst (λ r. Emits (statement_code s c after) old new r) (sym ir) (subst (λ s. Emits (statement_code s c after) old new (made_of code)) (sym is)
-    (made_emits (statement_code s' c after) old new code
+    rw (ir, is) (made_emits (statement_code s' c after) old new code
     (meant e (same_size (statement_size s' c.free (joint after)))
     (λ from keeps. (sym (one (joint after)), λ p n gives inside f s l g h. keeps.0 p n gives inside f s l g (h.0, h.1.1.1), keeps.1))
-    (λ from does bs h. does bs h c.leave c.next))))
+    (λ from does bs h. does bs h c.leave c.next)))
 
 pub whole_emits : (old new : List RBlock) (s s' : TypedStatement) (c : Context) (after : Spot) (code : Result OpenBlock LowerFault)
     (r : Result Continuation LowerFault) → s ≡ s' → r ≡ made_of code → Emits (statement_code s' c after) old new (made_of code)
     → Emits (statement_code s c after) old new r
-whole_emits old new s s' c after code r is ir e =
-    subst (λ r. Emits (statement_code s c after) old new r) (sym ir) (subst (λ s. Emits (statement_code s c after) old new (made_of code)) (sym is) e)
+whole_emits old new s s' c after code r is ir e = rw (ir, is) e
 
 pub local_emits : (old new : List RBlock) (to : Destination) (x local : ℕ) (e : TypedExpression) (free : ℕ) (after : Spot)
     (r : Result OpenBlock LowerFault) → to ≡ Local x → local ≡ x → local < MAX_REGISTERS → Emits (value e local free after) old new r
     → Emits (simple_code (assign to e) free after) old new r
 local_emits old new to x local e free after r it il lt v =
-    subst (λ to. Emits (simple_code (assign to e) free after) old new r) (sym (it ∙ ap Local (sym il)))
-    (meant v
+    rw (it, ← il) (meant v
     (record { blocks = omega arith; registers = omega arith; room = λ le. omega (arith, le, lt); globals = omega arith })
     (λ from keeps. (
       λ p n gives inside f s l g h.
@@ -134,8 +136,7 @@ pub variable_emits : (old new : List RBlock) (to : Destination) (x g : ℕ) (e :
 variable_emits old new to x g e free p next z last middle after r it ig pl room iz lt fl fm o =
     let next_is : z ≡ next_free e free = iz ∙ pl.next_is in
     let code : open_code middle ≡ first (I.Const z 0) (first (I.Store g z p) (line_of after)) = fm ∙ ap (first (I.Const z 0)) fl in
-    subst (λ to. Emits (simple_code (assign to e) free after) old new r) (sym (it ∙ ap Variable (sym ig)))
-    (meant o
+    rw (it, ← ig) (meant o
     (record { blocks = omega arith; registers = omega arith; room = λ le. omega (arith, le, room, lt, next_is); globals = omega arith })
     (λ from keeps. (
       λ p' n gives inside f s l g' h.
@@ -199,68 +200,41 @@ output_emits old mid new e free b p next end after r sealing pl room fe o =
 
 -- calls
 
-pub nowhere_emits : (old new : List RBlock) (to : Option Destination) (free b : ℕ) (after : Spot) → to ≡ None → Sealing old new b after
+pub nowhere_emits : {old new : List RBlock} {to : Option Destination} {b : ℕ} {after : Spot} (free : ℕ) → to ≡ None → Sealing old new b after
     → Emits (receiver to free after) old new (Ok (record { to = None; block = b }))
-nowhere_emits old new to free b after it sealing =
-    subst (λ to. Emits (receiver to free after) old new (Ok (record { to = None; block = b }))) (sym it) (record {
-      grows = sealing.grows;
-      count = sealing.count;
-      room = omega arith;
-      limit = tt;
-      sound = (λ p n f s l g h. let j = sealing.sound s l g h.1 in (j.0, (tt, j.1)), omega (arith, sealing.insts));
-      does = λ bs h. (refl, sealing.lands bs h);
-    })
+nowhere_emits free it sealing = rw it (emitted _ sealing.grows sealing.count (omega arith)
+    (λ p n f s l g h. let j = sealing.sound s l g h.1 in (j.0, (tt, j.1)), omega (arith, sealing.insts)) (λ bs h. (refl, sealing.lands bs h)))
 
-pub to_local_emits : (old new : List RBlock) (to : Option Destination) (x local free b : ℕ) (after : Spot) → to ≡ Some (Local x) → local ≡ x
+pub to_local_emits : {old new : List RBlock} {to : Option Destination} {x local b : ℕ} {after : Spot} (free : ℕ) → to ≡ Some (Local x) → local ≡ x
     → local < MAX_REGISTERS → Sealing old new b after → Emits (receiver to free after) old new (Ok (record { to = Some local; block = b }))
-to_local_emits old new to x local free b after it il lt sealing =
-    subst (λ to. Emits (receiver to free after) old new (Ok (record { to = Some local; block = b }))) (sym (it ∙ ap (λ x. Some (Local x)) (sym il)))
-    (record {
-      grows = sealing.grows;
-      count = sealing.count;
-      room = omega (arith, lt);
-      limit = tt;
-      sound = (
-        λ p n f s l g h.
-            let to_it : local < s.registers = omega (arith, h.0.registers_fit) in
-            let j = sealing.sound s l g h.1 in
-            (j.0, (to_it, j.1)),
-        omega (arith, sealing.insts),
-      );
-      does = λ bs h. (refl, sealing.lands bs h);
-    })
+to_local_emits {local = local} free it il lt sealing = rw (it, ← il) (emitted _ sealing.grows sealing.count (omega (arith, lt))
+    (λ p n f s l g h.
+        let to_it : local < s.registers = omega (arith, h.0.registers_fit) in
+        let j = sealing.sound s l g h.1 in
+        (j.0, (to_it, j.1)), omega (arith, sealing.insts)) (λ bs h. (refl, sealing.lands bs h)))
 
-pub to_variable_emits : (old new : List RBlock) (to : Option Destination) (x g free t z b : ℕ) (last code : OpenBlock) (after : Spot)
+pub to_variable_emits : {old new : List RBlock} {to : Option Destination} {x g t z b : ℕ} (free : ℕ) (last code : OpenBlock) (after : Spot)
     → to ≡ Some (Variable x) → g ≡ x → t ≡ free → t < MAX_REGISTERS → z ≡ t + 1 → z < MAX_REGISTERS
     → open_code last ≡ first (I.Store g z t) (line_of after)
     → open_code code ≡ first (I.Const z 0) (open_code last) → Sealing old new b (Line (open_code code))
     → Emits (receiver to free after) old new (Ok (record { to = Some t; block = b }))
-to_variable_emits old new to x g free t z b last code after it ig ift lt iz ltz fl fc sealing =
+to_variable_emits {g = g} {t = t} {z = z} {b = b} free last code after it ig ift lt iz ltz fl fc sealing =
     let both : open_code code ≡ first (I.Const z 0) (first (I.Store g z t) (line_of after)) = fc ∙ ap (first (I.Const z 0)) fl in
-    subst (λ to. Emits (receiver to free after) old new (Ok (record { to = Some t; block = b }))) (sym (it ∙ ap (λ x. Some (Variable x)) (sym ig)))
-    (record {
-      grows = sealing.grows;
-      count = sealing.count;
-      room = omega (arith, ltz, iz, ift);
-      limit = tt;
-      sound = (
-        λ p n f s l g' h.
-            let there = in_scope p s _ _ h.0 refl f in
-            let of_result : t < s.registers = omega (arith, h.0.registers_fit, ift) in
-            let of_index : z < s.registers = omega (arith, h.0.registers_fit, ift, iz) in
-            let j = sealing.sound s l g' (sound_first _ fc of_index (sound_first _ fl (there, (of_index, of_result)) (sound_line _ h.1))) in
-            (j.0, (of_result, j.1)),
-        omega (arith, ap insts_of both, line_insts after, sealing.insts),
-      );
-      does = λ bs h. record {
-        t = t;
-        z = z;
-        is = refl;
-        low = omega (arith, ift);
-        apart = omega (arith, iz);
-        there = subst (λ c. Lands bs b (Line c)) both (sealing.lands bs h);
-      };
-    })
+    rw (it, ← ig) (emitted _ sealing.grows sealing.count (omega (arith, ltz, iz, ift))
+    (λ p n f s l g' h.
+        let there = in_scope p s _ _ h.0 refl f in
+        let of_result : t < s.registers = omega (arith, h.0.registers_fit, ift) in
+        let of_index : z < s.registers = omega (arith, h.0.registers_fit, ift, iz) in
+        let j = sealing.sound s l g' (sound_first _ fc of_index (sound_first _ fl (there, (of_index, of_result)) (sound_line _ h.1))) in
+        (j.0, (of_result, j.1)), omega (arith, ap insts_of both, line_insts after, sealing.insts))
+    (λ bs h. record {
+      t = t;
+      z = z;
+      is = refl;
+      low = omega (arith, ift);
+      apart = omega (arith, iz);
+      there = subst (λ c. Lands bs b (Line c)) both (sealing.lands bs h);
+    }))
 
 pub call_emits : (old mid new : List RBlock) (to : Option Destination) (f f' : ℕ) (es : List TypedExpression) (free : ℕ) (x : Receiver)
     (places0 places ps1 ps2 : List Place) (args : Vec ℕ Global) (end : OpenBlock) (after : Spot) (r : Result OpenBlock LowerFault)
@@ -291,16 +265,13 @@ call_emits old mid new to f f' es free x places0 places ps1 ps2 args end after r
 
 pub nothing_returned : (old : List RBlock) (given : Option TypedExpression) (free : ℕ) (code : OpenBlock) (after : Spot) → given ≡ None
     → open_code code ≡ exit_code (X.Return None) → Emits (simple_code (return_with given) free after) old old (Ok code)
-nothing_returned old given free code after ig fe = subst (λ given. Emits (simple_code (return_with given) free after) old old (Ok code)) (sym ig)
-    (emitted _ (grows_same old) (omega arith) (omega arith)
+nothing_returned old given free code after ig fe = rw ig (emitted _ (grows_same old) (omega arith) (omega arith)
     (λ p n gives inside f s l g h. (g, sound_exit _ fe tt), omega (arith, ap insts_of fe)) (λ bs h leave next. ap Line fe))
 
 pub value_returned : (old new : List RBlock) (given : Option TypedExpression) (e : TypedExpression) (free p next : ℕ) (end : OpenBlock) (after : Spot)
     (r : Result OpenBlock LowerFault) → given ≡ Some e → IsPlace e free p next → place_registers e free ≤ MAX_REGISTERS
     → open_code end ≡ exit_code (X.Return (Some p)) → Emits (operand e p free end) old new r → Emits (simple_code (return_with given) free after) old new r
-value_returned old new given e free p next end after r ig pl room fe o =
-    subst (λ given. Emits (simple_code (return_with given) free after) old new r) (sym ig)
-    (meant o
+value_returned old new given e free p next end after r ig pl room fe o = rw ig (meant o
     (record { blocks = omega arith; registers = omega arith; room = λ le. omega (arith, le, room); globals = omega arith })
     (λ from keeps. (
       λ p' n gives inside f s l g h.
@@ -315,33 +286,27 @@ value_returned old new given e free p next end after r ig pl room fe o =
 
 pub nothing_emits : (old : List RBlock) (s : Tree.TypedStatement) (c : Context) (after : Continuation)
     → (s ≡ Tree.Empty) ⊎ ((x : ℕ) × s ≡ Tree.Unset x) → Emits (statement_code (statement_of s) c (spot after)) old old (Ok after)
-nothing_emits old s c after (inl is) = subst (λ s. Emits (statement_code (statement_of s) c (spot after)) old old (Ok after)) (sym is)
-    (emitted _ (grows_same old) (omega arith) (omega arith) (refl, λ p n gives inside f s l g h. (g, h.1.1.1), omega arith) (λ bs h. refl))
-nothing_emits old s c after (inr is) = subst (λ s. Emits (statement_code (statement_of s) c (spot after)) old old (Ok after)) (sym is.1)
-    (emitted _ (grows_same old) (omega arith) (omega arith) (refl, λ p n gives inside f s l g h. (g, h.1.1.1), omega arith) (λ bs h. refl))
+nothing_emits old s c after (inl is) = rw is (emitted _ (grows_same old) (omega arith) (omega arith) (refl, λ p n gives inside f s l g h. (g, h.1.1.1), omega arith) (λ bs h. refl))
+nothing_emits old s c after (inr is) = rw is.1 (emitted _ (grows_same old) (omega arith) (omega arith) (refl, λ p n gives inside f s l g h. (g, h.1.1.1), omega arith) (λ bs h. refl))
 
 pub break_emits : (old : List RBlock) (s : TypedStatement) (c : Context) (after : Spot) → s ≡ break_loop
     → Emits (statement_code s c after) old old (Ok (Jump c.leave))
-break_emits old s c after is = subst (λ s. Emits (statement_code s c after) old old (Ok (Jump c.leave))) (sym is)
-    (emitted _ (grows_same old) (omega arith) (omega arith) (refl, λ p n gives inside f s l g h. (g, h.1.0), omega arith) (λ bs h. refl))
+break_emits old s c after is = rw is (emitted _ (grows_same old) (omega arith) (omega arith) (refl, λ p n gives inside f s l g h. (g, h.1.0), omega arith) (λ bs h. refl))
 
 pub continue_emits : (old : List RBlock) (s : TypedStatement) (c : Context) (b : ℕ) (after : Spot) → s ≡ continue_loop → c.next ≡ Some b
     → Emits (statement_code s c after) old old (Ok (Jump b))
-continue_emits old s c b after is ib = subst (λ s. Emits (statement_code s c after) old old (Ok (Jump b))) (sym is)
-    (emitted _ (grows_same old) (omega arith) (omega arith)
+continue_emits old s c b after is ib = rw is (emitted _ (grows_same old) (omega arith) (omega arith)
     (refl, λ p n gives inside f s l g h. (g, subst (λ next. IfSome next (λ b. b < s.blocks)) ib h.1.1.0), omega arith) (λ bs h. (b, ib, refl)))
 
 -- lists of statements
 
 pub block_emits : (old new : List RBlock) (s : TypedStatement) (all : TypedStatements) (c : Context) (after : Spot)
     (r : Result Continuation LowerFault) → s ≡ block all → Emits (statements_code all c after) old new r → Emits (statement_code s c after) old new r
-block_emits old new s all c after r is e = subst (λ s. Emits (statement_code s c after) old new r) (sym is)
-    (meant e (same_size (statements_size all c.free (joint after))) (λ from keeps. keeps) (λ from does. does))
+block_emits old new s all c after r is e = rw is (meant e (same_size (statements_size all c.free (joint after))) (λ from keeps. keeps) (λ from does. does))
 
 pub none_emits : (old : List RBlock) (all : TypedStatements) (c : Context) (after : Continuation) → all ≡ no_statements
     → Emits (statements_code all c (spot after)) old old (Ok after)
-none_emits old all c after is = subst (λ all. Emits (statements_code all c (spot after)) old old (Ok after)) (sym is)
-    (emitted _ (grows_same old) (omega arith) (omega arith) (refl, λ p n gives inside f s l g h. (g, h.1.1.1), omega arith) (λ bs h. refl))
+none_emits old all c after is = rw is (emitted _ (grows_same old) (omega arith) (omega arith) (refl, λ p n gives inside f s l g h. (g, h.1.1.1), omega arith) (λ bs h. refl))
 
 pub more_emits : (old mid new : List RBlock) (all : TypedStatements) (s : TypedStatement) (rest : TypedStatements) (c : Context) (after : Spot)
     (middle : Continuation) (r : Result Continuation LowerFault) → all ≡ more_statements s rest → Emits (statements_code rest c after) old mid (Ok middle)
@@ -351,14 +316,8 @@ more_emits old mid new all s rest c after middle r is others one =
     let blocks : statement_blocks s (joint (spot middle)) ≡ statement_blocks s (statements_joint rest (joint after)) = ap (statement_blocks s) same in
     let c1 : length mid ≡ length old + statements_blocks rest (joint after) = others.count in
     let room1 : statements_registers rest c.free ≤ MAX_REGISTERS = others.room in
-    subst (λ all. Emits (statements_code all c after) old new r) (sym is)
-    (ended (statements_blocks rest (joint after)) one
-    (record {
-      blocks = omega (arith, blocks);
-      registers = omega arith;
-      room = λ le. omega (arith, le, room1);
-      globals = omega arith;
-    })
+    rw is (ended (statements_blocks rest (joint after)) one
+    (record { blocks = omega (arith, blocks); registers = omega arith; room = λ le. omega (arith, le, room1); globals = omega arith })
     others.grows c1
     (λ from keeps. (
       keeps.0 ∙ ap (statement_joint s) same,
@@ -380,7 +339,7 @@ list_stopped old new all k c after f r ir e =
 
 pub all_emitted : (old new : List RBlock) (all : List Tree.TypedStatement) (k : ℕ) (c : Context) (after : Spot) (r : Result Continuation LowerFault)
     → k ≡ 0 → Emits (statements_code (statements_of (drop k all)) c after) old new r → Emits (statements_code (statements_of all) c after) old new r
-all_emitted old new all k c after r ik e = subst (λ k. Emits (statements_code (statements_of (drop k all)) c after) old new r) ik e
+all_emitted old new all k c after r ik e = rw ik at e
 
 -- `if`
 
@@ -396,21 +355,9 @@ pub side_emits : (old mid new : List RBlock) (s : TypedStatement) (c : Context) 
 side_emits old mid new s c join code (Ok b) e g count insts limit sound lands =
     let c1 : length mid ≡ length old + statement_blocks s 0 = e.count in
     let same : joint (spot code) ≡ statement_joint s 0 = e.sound.0 in
-    record {
-      grows = grows_then old mid new e.grows g;
-      count = omega (arith, c1, count, same);
-      room = e.room;
-      limit = tt;
-      sound = (
-        λ p n gives inside f s' l g0 h.
-            let m = e.sound.1 p n gives inside f s' (within g l) g0 h in
-            sound s' l m.0 m.1,
-        omega (arith, e.sound.2, insts),
-      );
-      does = λ bs h.
-          let sp = split2 bs old mid new e.grows g h in
-          (spot code, lands bs sp.1, e.does bs sp.0);
-    }
+    emitted b (grows_then old mid new e.grows g) (omega (arith, c1, count, same)) e.room
+    (λ p n gives inside f s' l g0 h. let m = e.sound.1 p n gives inside f s' (within g l) g0 h in sound s' l m.0 m.1, omega (arith, e.sound.2, insts))
+    (λ bs h. let sp = split2 bs old mid new e.grows g h in (spot code, lands bs sp.1, e.does bs sp.0))
 side_emits old mid new s c join code (Err f) e g count insts limit sound lands =
     let c1 : length mid ≡ length old + statement_blocks s 0 = e.count in
     let same : joint (spot code) ≡ statement_joint s 0 = e.sound.0 in
@@ -493,29 +440,15 @@ if_second_stops b0 b1 b2 b3 e a b c join y after f r is sealing one other =
 pub loop_is : {s : TypedStatement} {e : TypedExpression} {a b a' b' : TypedStatement} → s ≡ loop e a b → a' ≡ a → b' ≡ b → s ≡ loop e a' b'
 loop_is {s} {e} {a} {b} {a'} is ia ib = is ∙ ap (λ a. loop e a b) (sym ia) ∙ ap (λ b. loop e a' b) (sym ib)
 
-pub block_ends : (old new : List RBlock) (many : Bool) (last : Spot) (b : ℕ) → many ≡ true → Sealing old new b last
+pub block_ends : {old new : List RBlock} {many : Bool} {last : Spot} {b : ℕ} → many ≡ true → Sealing old new b last
     → Emits (end_of_turn many last) old new (Ok (record { next = Some b; after = Jump b }))
-block_ends old new many last b im sealing =
-    subst (λ many. Emits (end_of_turn many last) old new (Ok (record { next = Some b; after = Jump b }))) (sym im) (record {
-      grows = sealing.grows;
-      count = sealing.count;
-      room = omega arith;
-      limit = tt;
-      sound = ((refl, refl), λ s l g h. let j = sealing.sound s l g h in (j.0, (j.1, j.1)), omega (arith, sealing.insts));
-      does = turn_block old new b last sealing.lands;
-    })
+block_ends {old} {new} {many} {last} {b} im sealing = rw im (emitted _ sealing.grows sealing.count (omega arith)
+    ((refl, refl), λ s l g h. let j = sealing.sound s l g h in (j.0, (j.1, j.1)), omega (arith, sealing.insts)) (turn_block old new b last sealing.lands))
 
 pub line_ends : (old : List RBlock) (many : Bool) (last : Continuation) → many ≡ false
     → Emits (end_of_turn many (spot last)) old old (Ok (record { next = None; after = last }))
-line_ends old many last im =
-    subst (λ many. Emits (end_of_turn many (spot last)) old old (Ok (record { next = None; after = last }))) (sym im) (record {
-      grows = grows_same old;
-      count = omega arith;
-      room = omega arith;
-      limit = tt;
-      sound = ((refl, refl), λ s l g h. (g, (tt, h)), omega arith);
-      does = λ bs h. record { comes = comes_equal bs (spot last) (spot last) refl; continues = λ b e. cc };
-    })
+line_ends old many last im = rw im (emitted _ (grows_same old) (omega arith) (omega arith) ((refl, refl), λ s l g h. (g, (tt, h)), omega arith)
+    (λ bs h. record { comes = comes_equal bs (spot last) (spot last) refl; continues = λ b e. cc }))
 
 pub turn_emits : (b0 b1 b2 b3 : List RBlock) (e : TypedExpression) (last : TypedStatement) (c : Context) (many : Bool) (again : Targets)
     (bottom : OpenBlock) (code : Continuation) (r : Result Turn LowerFault)

@@ -10,7 +10,7 @@ use Rattle.rtl_lower.specs.Sizes.{continues}
 use Rattle.rtl_lower.proofs.Sizes.{any_of, or_first, or_true, weight, weight_within, none_left, one_left}
 use Rattle.rtl_lower.proofs.Emitting.{nothing_emits, break_emits, continue_emits, simple_emits, whole_emits, block_emits, none_emits}
 use Rattle.rtl_lower.proofs.Emitting.{more_emits, all_emitted, list_stopped, side_emits, if_is, if_emits, turn_emits, loop_is, loop_emits}
-use Rattle.rtl_lower.proofs.Emitting.{join_stops, if_second_stops}
+use Rattle.rtl_lower.proofs.Emitting.{sealed, join_stops, if_second_stops}
 use Rattle.rtl_lower.proofs.Emitting.{loop_head_stops, loop_turn_stops, loop_body_stops, loop_top_stops}
 use Rattle.rtl_lower.proofs.statement.+statements.Goals as goal
 
@@ -72,7 +72,7 @@ pub if_statement-returns : goal.if_statement-returns
 if_statement-returns t c =
     let join = c.in_ok-join.ensures in
     if_emits _ _ _ _ _ _ _ _ c.args.context _ _ _ _ (spot c.args.after) _ c.is_likely.ensures
-    (record { grows = join.grows; count = join.count; insts = join.insts; sound = join.sound; lands = join.lands }) c.in_ok-yes_block.ensures c.in_ok-no_block.ensures
+    (sealed (spot c.args.after) join.grows join.count join.insts join.sound join.lands) c.in_ok-yes_block.ensures c.in_ok-no_block.ensures
     c.condition.ensures
 
 pub turn_of-returns : goal.turn_of-returns
@@ -85,7 +85,7 @@ loop_statement-returns t c =
     let join = c.in_ok-left.ensures in
     let head = c.in_ok-head.ensures in
     loop_emits _ _ _ _ _ _ _ _ _ _ c.args.context _ _ _ _ c.in_ok-turn.turn c.in_ok-body_code.body_code c.in_ok-top.top _ (spot c.args.after)
-    c.may_continue.ensures c.inside_loop-inner.ensures (record { grows = join.grows; count = join.count; insts = join.insts; sound = join.sound; lands = join.lands })
+    c.may_continue.ensures c.inside_loop-inner.ensures (sealed (spot c.args.after) join.grows join.count join.insts join.sound join.lands)
     head.reserves head.insts head.sound c.in_ok-turn.ensures c.in_ok-body_code.ensures c.in_ok-top.ensures c.open_block.ensures c.fill.ensures.fills
     c.fill.ensures.insts c.fill.ensures.sound
 
@@ -150,7 +150,7 @@ if_statement-returns-in_err-no_block t c =
     let join = c.in_ok-join.ensures in
     if_second_stops _ _ _ _ _ _ _ c.args.context c.in_ok-join.join c.in_ok-yes_block.yes_block (spot c.args.after) c.in_err-no_block.field-0.0
     c.from_residual-in_err-no_block.result (search rules)
-    (record { grows = join.grows; count = join.count; insts = join.insts; sound = join.sound; lands = join.lands }) c.in_ok-yes_block.ensures c.in_err-no_block.ensures
+    (sealed (spot c.args.after) join.grows join.count join.insts join.sound join.lands) c.in_ok-yes_block.ensures c.in_err-no_block.ensures
 
 pub turn_of-returns-in_err-bottom : goal.turn_of-returns-in_err-bottom
 turn_of-returns-in_err-bottom t c = part_refused 0 c.in_err-bottom.ensures (search rules) (omega arith) (omega arith) (omega arith) (grows_same _)
@@ -172,7 +172,7 @@ pub loop_statement-returns-in_err-head : goal.loop_statement-returns-in_err-head
 loop_statement-returns-in_err-head t c =
     let join = c.in_ok-left.ensures in
     loop_head_stops _ _ _ _ _ _ c.args.context c.in_ok-left.left (spot c.args.after) c.in_err-head.field-0.0 c.from_residual-in_err-head.result (search rules)
-    (record { grows = join.grows; count = join.count; insts = join.insts; sound = join.sound; lands = join.lands }) c.in_err-head.ensures.left c.in_err-head.ensures.limit
+    (sealed (spot c.args.after) join.grows join.count join.insts join.sound join.lands) c.in_err-head.ensures.left c.in_err-head.ensures.limit
 
 pub loop_statement-returns-in_err-turn : goal.loop_statement-returns-in_err-turn
 loop_statement-returns-in_err-turn t c =
@@ -180,7 +180,7 @@ loop_statement-returns-in_err-turn t c =
     loop_turn_stops _ _ _ _ _ _ _ c.args.context _ c.in_ok-left.left c.in_ok-head.head (spot c.args.after) c.in_err-turn.field-0.0
     c.from_residual-in_err-turn.result (search rules) c.may_continue.ensures
     (record {
-      sealing = record { grows = join.grows; count = join.count; insts = join.insts; sound = join.sound; lands = join.lands };
+      sealing = sealed (spot c.args.after) join.grows join.count join.insts join.sound join.lands;
       reserves = c.in_ok-head.ensures.reserves;
     }) c.in_err-turn.ensures
 
@@ -190,7 +190,7 @@ loop_statement-returns-in_err-body_code t c =
     loop_body_stops _ _ _ _ _ _ _ _ c.args.context _ _ c.in_ok-left.left c.in_ok-head.head c.in_ok-turn.turn (spot c.args.after)
     c.in_err-body_code.field-0.0 c.from_residual-in_err-body_code.result (search rules) c.may_continue.ensures c.inside_loop-inner.ensures
     (record {
-      sealing = record { grows = join.grows; count = join.count; insts = join.insts; sound = join.sound; lands = join.lands };
+      sealing = sealed (spot c.args.after) join.grows join.count join.insts join.sound join.lands;
       reserves = c.in_ok-head.ensures.reserves;
     }) c.in_ok-turn.ensures c.in_err-body_code.ensures
 
@@ -200,7 +200,7 @@ loop_statement-returns-in_err-top t c =
     loop_top_stops _ _ _ _ _ _ _ _ _ c.args.context _ _ c.in_ok-left.left c.in_ok-head.head c.in_ok-turn.turn c.in_ok-body_code.body_code
     (spot c.args.after) c.in_err-top.field-0.0 c.from_residual-in_err-top.result (search rules) c.may_continue.ensures c.inside_loop-inner.ensures
     (record {
-      sealing = record { grows = join.grows; count = join.count; insts = join.insts; sound = join.sound; lands = join.lands };
+      sealing = sealed (spot c.args.after) join.grows join.count join.insts join.sound join.lands;
       reserves = c.in_ok-head.ensures.reserves;
     }) c.in_ok-turn.ensures c.in_ok-body_code.ensures c.in_err-top.ensures
 
