@@ -484,56 +484,110 @@ grows_filled b0 b5 b6 head c g low f = record {
   kept = λ i lt. let ne : i ≢ head = omega arith in f.others i ne ∙ g.kept i lt;
 }
 
-pub loop_emits : (b0 b1 b2 b3 b4 b5 b6 : List RBlock) (e : TypedExpression) (last body : TypedStatement) (c inner : Context) (many : Bool)
-    (left head : ℕ) (turn : Turn) (code : Continuation) (top : OpenBlock) (filled : Code) (after : Spot) → many ≡ continues body
-    → inner ≡ record { alloc = c.alloc; free = c.free; leave = left; next = turn.next } → Sealing b0 b1 left after → Reserves b1 b2 head
-    → insts_in b2 ≡ insts_in b1 → ((s : Scope) → AreSound s b1 → AreSound s b2) → Emits (last_code e last c many (record { yes = head; no = left; likely = true })) b2 b3 (Ok turn)
-    → Emits (statement_code body inner (spot turn.after)) b3 b4 (Ok code)
-    → Emits (condition_branch e (record { yes = head; no = left; likely = true }) c.free) b4 b5 (Ok top)
-    → filled ≡ line_of (spot code) → Fills b5 b6 head filled → insts_in b6 ≤ insts_in b5 + insts_of filled
-    → ((s : Scope) → AreSound s b5 → IsSound s filled → AreSound s b6)
-    → Emits (statement_code (loop e last body) c after) b0 b6 (Ok (Made top))
-loop_emits b0 b1 b2 b3 b4 b5 b6 e last body c inner many left head turn code top filled after im ii sealing res i2 kept turns inside test ie f i6 sound =
-    let body_emits = subst (λ inner. Emits (statement_code body inner (spot turn.after)) b3 b4 (Ok code)) ii inside in
-    let turn_emits' =
-    subst (λ many. Emits (last_code e last c many (record { yes = head; no = left; likely = true })) b2 b3 (Ok turn)) im turns in
-    let g35 = grows_then b3 b4 b5 body_emits.grows test.grows in
-    let g25 = grows_then b2 b3 b5 turn_emits'.grows g35 in
-    let g15 = grows_then b1 b2 b5 res.grows g25 in
-    let g05 = grows_then b0 b1 b5 sealing.grows g15 in
-    let low : length b0 ≤ head = omega (arith, sealing.grows.longer, res.number) in
-    let in_b2 : head < length b2 = omega (arith, res.number, res.longer) in
-    let same : joint (spot turn.after) ≡ (if continues body then 0 else statement_joint last 1) = turn_emits'.sound.0.1 in
-    let c2 : length b3 ≡ length b2 + (last_size e last (continues body) true c.free).blocks = turn_emits'.count in
-    let c3 : length b4 ≡ length b3 + statement_blocks body (joint (spot turn.after)) = body_emits.count in
-    let c4 : length b5 ≡ length b4 + condition_blocks e = test.count in
-    let r2 : (last_size e last (continues body) true c.free).registers ≤ MAX_REGISTERS = turn_emits'.room in
-    let r3 : statement_registers body c.free ≤ MAX_REGISTERS = body_emits.room in
-    record {
-      grows = grows_filled b0 b5 b6 head filled g05 low f;
-      count = omega (arith, sealing.count, res.longer, c2, c3, c4, ap (statement_blocks body) same, f.same_length);
-      room = omega (arith, r2, r3);
-      limit = tt;
-      sound = (
-        refl,
-        λ p n gives inside f' s l g h.
-            let l5 = within_filled f l in
-            let l4 = within test.grows l5 in
-            let l3 = within body_emits.grows l4 in
-            let l2 = within turn_emits'.grows l3 in
-            let j = sealing.sound s (within res.grows l2) g h.1.1.1 in
-            let at : head < s.blocks = reserved_within res l2 in
-            let x = turn_emits'.sound.1 p n gives f'.0 f'.1.0 s l3 (kept s j.0) (fewer h.0 (omega arith), (h.1.0, (h.1.1.0, (at, j.1)))) in
-            let y = body_emits.sound.1 p n gives true f'.1.1 s l4 x.0 (fewer h.0 (omega arith), (j.1, x.1)) in
-            let few : condition_registers e true c.free ≤ s.registers = omega (arith, h.0.registers_fit) in
-            let z = test.sound.0 s l5 y.0 ((few, named p s n e h.0 f'.0), (at, j.1)) in
-            (sound s z.0 (sound_along ie (sound_line _ y.1)), z.1),
-        omega (arith, turn_emits'.sound.2, body_emits.sound.2, test.sound.1, ap insts_of ie, line_insts (spot code), i2, i6, sealing.insts),
-      );
-      does = λ bs h.
+-- what is told where a loop's first block is refused
+
+pub loop_head_stops : (b0 b1 b2 : List RBlock) (e : TypedExpression) (last body : TypedStatement) (c : Context) (left : ℕ) (after : Spot)
+    (f : LowerFault) (r : Result OpenBlock LowerFault) → r ≡ Err f → Sealing b0 b1 left after → b2 ≡ b1
+    → (f ≡ Limit → MAX_BLOCKS < length b1 + 1) → Emits (statement_code (loop e last body) c after) b0 b2 (made_of r)
+loop_head_stops b0 b1 b2 e last body c left after f r is sealing same limit = rw (ap made_of is) (record {
+      grows = subst (λ b. Grows b0 b) (sym same) sealing.grows;
+      count = tt;
+      room = tt;
+      limit = λ l. omega (arith, limit l, sealing.count);
+      sound = tt;
+      does = tt;
+    })
+
+-- where the test of a loop leads, and what surrounds its body
+abbrev again : (head left : ℕ) → Targets
+again head left = record { yes = head; no = left; likely = true }
+
+abbrev inside_of : Context → (left : ℕ) → Turn → Context
+inside_of c left turn = record { alloc = c.alloc; free = c.free; leave = left; next = turn.next }
+
+-- a loop whose blocks before its turn are there
+module _ {b0 b1 b2 : List RBlock} {left head : ℕ} {many : Bool} {after : Spot} (e : TypedExpression) (last body : TypedStatement) (c : Context)
+    (sealing : Sealing b0 b1 left after) (res : Reserves b1 b2 head) (im : many ≡ continues body) where
+  pub loop_turn_stops : {b3 : List RBlock} {f : LowerFault} {r : Result OpenBlock LowerFault} → r ≡ Err f
+      → Emits (last_code e last c many (again head left)) b2 b3 (Err f) → Emits (statement_code (loop e last body) c after) b0 b3 (made_of r)
+  loop_turn_stops {b3} {f} is turns =
+      let turn = subst (λ many. Emits (last_code e last c many (again head left)) b2 b3 (Err f)) im turns in
+      part_refused (joint after + 1) turn (ap made_of is) (omega arith) (omega arith) (omega arith)
+      (grows_then b0 b1 b2 sealing.grows res.grows) (omega (arith, sealing.count, res.longer))
+
+  -- and its turn
+  module _ {b3 : List RBlock} {inner : Context} {turn : Turn} (turns : Emits (last_code e last c many (again head left)) b2 b3 (Ok turn))
+      (ii : inner ≡ inside_of c left turn) where
+    turn_made : Emits (last_code e last c (continues body) (again head left)) b2 b3 (Ok turn)
+    turn_made = subst (λ many. Emits (last_code e last c many (again head left)) b2 b3 (Ok turn)) im turns
+
+    body_made : {b4 : List RBlock} {r : Result Continuation LowerFault} → Emits (statement_code body inner (spot turn.after)) b3 b4 r
+        → Emits (statement_code body (inside_of c left turn) (spot turn.after)) b3 b4 r
+    body_made {b4} {r} part = subst (λ inner. Emits (statement_code body inner (spot turn.after)) b3 b4 r) ii part
+
+    body_blocks : statement_blocks body (joint (spot turn.after)) ≡ statement_blocks body (if continues body then 0 else statement_joint last 1)
+    body_blocks = ap (statement_blocks body) turn_made.sound.0.1
+
+    turn_grows : Grows b0 b3
+    turn_grows = grows_then b0 b1 b3 sealing.grows (grows_then b1 b2 b3 res.grows turn_made.grows)
+
+    turn_count : length b3 ≡ length b0 + (joint after + 1 + (last_size e last (continues body) true c.free).blocks)
+    turn_count =
+        let c2 : length b3 ≡ length b2 + (last_size e last (continues body) true c.free).blocks = turn_made.count in
+        omega (arith, sealing.count, res.longer, c2)
+
+    pub loop_body_stops : {b4 : List RBlock} {f : LowerFault} {r : Result OpenBlock LowerFault} → r ≡ Err f
+        → Emits (statement_code body inner (spot turn.after)) b3 b4 (Err f) → Emits (statement_code (loop e last body) c after) b0 b4 (made_of r)
+    loop_body_stops is part = part_refused (joint after + 1 + (last_size e last (continues body) true c.free).blocks) (body_made part)
+        (ap made_of is) (omega arith) (omega (arith, body_blocks)) (omega arith) turn_grows turn_count
+
+    -- and its body
+    module _ {b4 b5 : List RBlock} {code : Continuation} (part : Emits (statement_code body inner (spot turn.after)) b3 b4 (Ok code)) where
+      pub loop_top_stops : {f : LowerFault} {r : Result OpenBlock LowerFault} → r ≡ Err f
+          → Emits (condition_branch e (again head left) c.free) b4 b5 (Err f) → Emits (statement_code (loop e last body) c after) b0 b5 (made_of r)
+      loop_top_stops is test =
+          let c3 : length b4 ≡ length b3 + statement_blocks body (joint (spot turn.after)) = (body_made part).count in
+          part_refused (joint after + 1 + (last_size e last (continues body) true c.free).blocks + statement_blocks body (joint (spot turn.after))) test
+          (ap made_of is) (omega arith) (omega (arith, body_blocks)) (omega arith)
+          (grows_then b0 b3 b4 turn_grows (body_made part).grows) (omega (arith, turn_count, c3))
+
+      pub loop_emits : {b6 : List RBlock} {top : OpenBlock} {filled : Code} → insts_in b2 ≡ insts_in b1
+          → ((s : Scope) → AreSound s b1 → AreSound s b2) → Emits (condition_branch e (again head left) c.free) b4 b5 (Ok top)
+          → filled ≡ line_of (spot code) → Fills b5 b6 head filled → insts_in b6 ≤ insts_in b5 + insts_of filled
+          → ((s : Scope) → AreSound s b5 → IsSound s filled → AreSound s b6)
+          → Emits (statement_code (loop e last body) c after) b0 b6 (Ok (Made top))
+      loop_emits {b6} {top} {filled} i2 kept test ie f i6 sound =
+          let made = body_made part in
+          let g25 = grows_then b2 b3 b5 turn_made.grows (grows_then b3 b4 b5 made.grows test.grows) in
+          let g15 = grows_then b1 b2 b5 res.grows g25 in
+          let low : length b0 ≤ head = omega (arith, sealing.grows.longer, res.number) in
+          let in_b2 : head < length b2 = omega (arith, res.number, res.longer) in
+          let c3 : length b4 ≡ length b3 + statement_blocks body (joint (spot turn.after)) = made.count in
+          let c4 : length b5 ≡ length b4 + condition_blocks e = test.count in
+          let r2 : (last_size e last (continues body) true c.free).registers ≤ MAX_REGISTERS = turn_made.room in
+          let r3 : statement_registers body c.free ≤ MAX_REGISTERS = made.room in
+          emitted (Made top) (grows_filled b0 b5 b6 head filled (grows_then b0 b1 b5 sealing.grows g15) low f)
+          (omega (arith, turn_count, c3, c4, body_blocks, f.same_length)) (omega (arith, r2, r3))
+          (
+            refl,
+            λ p n gives inside f' s l g h.
+                let l5 = within_filled f l in
+                let l4 = within test.grows l5 in
+                let l3 = within made.grows l4 in
+                let l2 = within turn_made.grows l3 in
+                let j = sealing.sound s (within res.grows l2) g h.1.1.1 in
+                let at : head < s.blocks = reserved_within res l2 in
+                let x = turn_made.sound.1 p n gives f'.0 f'.1.0 s l3 (kept s j.0) (fewer h.0 (omega arith), (h.1.0, (h.1.1.0, (at, j.1)))) in
+                let y = made.sound.1 p n gives true f'.1.1 s l4 x.0 (fewer h.0 (omega arith), (j.1, x.1)) in
+                let few : condition_registers e true c.free ≤ s.registers = omega (arith, h.0.registers_fit) in
+                let z = test.sound.0 s l5 y.0 ((few, named p s n e h.0 f'.0), (at, j.1)) in
+                (sound s z.0 (sound_along ie (sound_line _ y.1)), z.1),
+            omega (arith, turn_made.sound.2, made.sound.2, test.sound.1, ap insts_of ie, line_insts (spot code), i2, i6, sealing.insts),
+          )
+          (λ bs h.
           let h2 = has_past bs b0 b2 b5 b6 head filled (omega (arith, sealing.grows.longer, res.longer)) in_b2 f h in
-          let sp = split3 bs b2 b3 b4 b5 turn_emits'.grows body_emits.grows test.grows h2 in
-          let t = turn_emits'.does bs sp.0 in
+          let sp = split3 bs b2 b3 b4 b5 turn_made.grows made.grows test.grows h2 in
+          let t = turn_made.does bs sp.0 in
           record {
             blocks = record {
               leave = left;
@@ -543,7 +597,7 @@ loop_emits b0 b1 b2 b3 b4 b5 b6 e last body c inner many left head turn code top
               body_spot = spot code;
               body_at = subst (λ c. Lands bs head (Line c)) ie (at_filled bs b0 b5 b6 head filled low (omega (arith, f.same_length, g25.longer)) f h);
               turn = spot turn.after;
-              body_for = body_emits.does bs sp.1;
+              body_for = made.does bs sp.1;
               last_spot = t.from;
               is_turn = t.is_turn;
               bottom = t.bottom;
@@ -553,66 +607,4 @@ loop_emits b0 b1 b2 b3 b4 b5 b6 e last body c inner many left head turn code top
             top = open_code top;
             is = refl;
             test = test.does bs sp.2;
-          };
-    }
-
--- what is told where a part of a loop is refused
-
-pub loop_head_stops : (b0 b1 b2 : List RBlock) (e : TypedExpression) (last body : TypedStatement) (c : Context) (left : ℕ) (after : Spot)
-    (f : LowerFault) (r : Result OpenBlock LowerFault) → r ≡ Err f → Sealing b0 b1 left after → b2 ≡ b1
-    → (f ≡ Limit → MAX_BLOCKS < length b1 + 1) → Emits (statement_code (loop e last body) c after) b0 b2 (made_of r)
-loop_head_stops b0 b1 b2 e last body c left after f r is sealing same limit =
-    subst (λ r. Emits (statement_code (loop e last body) c after) b0 b2 r) (sym (ap made_of is)) (record {
-      grows = subst (λ b. Grows b0 b) (sym same) sealing.grows;
-      count = tt;
-      room = tt;
-      limit = λ l. omega (arith, limit l, sealing.count);
-      sound = tt;
-      does = tt;
-    })
-
--- the blocks before the turn of a loop
-pub record Heading (b0 b1 b2 : List RBlock) (left head : ℕ) (after : Spot) : Type 0 where
-  pub sealing : Sealing b0 b1 left after
-  pub reserves : Reserves b1 b2 head
-
-pub loop_turn_stops : (b0 b1 b2 b3 : List RBlock) (e : TypedExpression) (last body : TypedStatement) (c : Context) (many : Bool) (left head : ℕ)
-    (after : Spot) (f : LowerFault) (r : Result OpenBlock LowerFault) → r ≡ Err f → many ≡ continues body → Heading b0 b1 b2 left head after
-    → Emits (last_code e last c many (record { yes = head; no = left; likely = true })) b2 b3 (Err f)
-    → Emits (statement_code (loop e last body) c after) b0 b3 (made_of r)
-loop_turn_stops b0 b1 b2 b3 e last body c many left head after f r is im h turns =
-    let turn = subst (λ many. Emits (last_code e last c many (record { yes = head; no = left; likely = true })) b2 b3 (Err f)) im turns in
-    part_refused (joint after + 1) turn (ap made_of is) (omega arith) (omega arith) (omega arith)
-    (grows_then b0 b1 b2 h.sealing.grows h.reserves.grows) (omega (arith, h.sealing.count, h.reserves.longer))
-
-pub loop_body_stops : (b0 b1 b2 b3 b4 : List RBlock) (e : TypedExpression) (last body : TypedStatement) (c inner : Context) (many : Bool)
-    (left head : ℕ) (turn : Turn) (after : Spot) (f : LowerFault) (r : Result OpenBlock LowerFault) → r ≡ Err f → many ≡ continues body
-    → inner ≡ record { alloc = c.alloc; free = c.free; leave = left; next = turn.next } → Heading b0 b1 b2 left head after
-    → Emits (last_code e last c many (record { yes = head; no = left; likely = true })) b2 b3 (Ok turn)
-    → Emits (statement_code body inner (spot turn.after)) b3 b4 (Err f) → Emits (statement_code (loop e last body) c after) b0 b4 (made_of r)
-loop_body_stops b0 b1 b2 b3 b4 e last body c inner many left head turn after f r is im ii h turns inside =
-    let body_emits = subst (λ inner. Emits (statement_code body inner (spot turn.after)) b3 b4 (Err f)) ii inside in
-    let turns' = subst (λ many. Emits (last_code e last c many (record { yes = head; no = left; likely = true })) b2 b3 (Ok turn)) im turns in
-    let same : joint (spot turn.after) ≡ (if continues body then 0 else statement_joint last 1) = turns'.sound.0.1 in
-    let c2 : length b3 ≡ length b2 + (last_size e last (continues body) true c.free).blocks = turns'.count in
-    part_refused (joint after + 1 + (last_size e last (continues body) true c.free).blocks) body_emits
-    (ap made_of is) (omega arith) (omega (arith, ap (statement_blocks body) same)) (omega arith)
-    (grows_then b0 b1 b3 h.sealing.grows (grows_then b1 b2 b3 h.reserves.grows turns'.grows)) (omega (arith, h.sealing.count, h.reserves.longer, c2))
-
-pub loop_top_stops : (b0 b1 b2 b3 b4 b5 : List RBlock) (e : TypedExpression) (last body : TypedStatement) (c inner : Context) (many : Bool)
-    (left head : ℕ) (turn : Turn) (code : Continuation) (after : Spot) (f : LowerFault) (r : Result OpenBlock LowerFault) → r ≡ Err f
-    → many ≡ continues body → inner ≡ record { alloc = c.alloc; free = c.free; leave = left; next = turn.next } → Heading b0 b1 b2 left head after
-    → Emits (last_code e last c many (record { yes = head; no = left; likely = true })) b2 b3 (Ok turn)
-    → Emits (statement_code body inner (spot turn.after)) b3 b4 (Ok code)
-    → Emits (condition_branch e (record { yes = head; no = left; likely = true }) c.free) b4 b5 (Err f)
-    → Emits (statement_code (loop e last body) c after) b0 b5 (made_of r)
-loop_top_stops b0 b1 b2 b3 b4 b5 e last body c inner many left head turn code after f r is im ii h turns inside test =
-    let body_emits = subst (λ inner. Emits (statement_code body inner (spot turn.after)) b3 b4 (Ok code)) ii inside in
-    let turns' = subst (λ many. Emits (last_code e last c many (record { yes = head; no = left; likely = true })) b2 b3 (Ok turn)) im turns in
-    let same : joint (spot turn.after) ≡ (if continues body then 0 else statement_joint last 1) = turns'.sound.0.1 in
-    let c2 : length b3 ≡ length b2 + (last_size e last (continues body) true c.free).blocks = turns'.count in
-    let c3 : length b4 ≡ length b3 + statement_blocks body (joint (spot turn.after)) = body_emits.count in
-    part_refused (joint after + 1 + (last_size e last (continues body) true c.free).blocks + statement_blocks body (joint (spot turn.after))) test
-    (ap made_of is) (omega arith) (omega (arith, ap (statement_blocks body) same)) (omega arith)
-    (grows_then b0 b1 b4 h.sealing.grows (grows_then b1 b2 b4 h.reserves.grows (grows_then b2 b3 b4 turns'.grows body_emits.grows)))
-    (omega (arith, h.sealing.count, h.reserves.longer, c2, c3))
+          })

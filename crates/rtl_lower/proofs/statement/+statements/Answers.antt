@@ -84,10 +84,9 @@ pub loop_statement-returns : goal.loop_statement-returns
 loop_statement-returns t c =
     let join = c.in_ok-left.ensures in
     let head = c.in_ok-head.ensures in
-    loop_emits _ _ _ _ _ _ _ _ _ _ c.args.context _ _ _ _ c.in_ok-turn.turn c.in_ok-body_code.body_code c.in_ok-top.top _ (spot c.args.after)
-    c.may_continue.ensures c.inside_loop-inner.ensures (sealed (spot c.args.after) join.grows join.count join.insts join.sound join.lands)
-    head.reserves head.insts head.sound c.in_ok-turn.ensures c.in_ok-body_code.ensures c.in_ok-top.ensures c.open_block.ensures c.fill.ensures.fills
-    c.fill.ensures.insts c.fill.ensures.sound
+    loop_emits _ _ _ c.args.context (sealed (spot c.args.after) join.grows join.count join.insts join.sound join.lands) head.reserves c.may_continue.ensures
+    c.in_ok-turn.ensures c.inside_loop-inner.ensures c.in_ok-body_code.ensures head.insts head.sound c.in_ok-top.ensures c.open_block.ensures
+    c.fill.ensures.fills c.fill.ensures.insts c.fill.ensures.sound
 
 pub statements-returns : goal.statements-returns
 statements-returns t c =
@@ -177,32 +176,20 @@ loop_statement-returns-in_err-head t c =
 pub loop_statement-returns-in_err-turn : goal.loop_statement-returns-in_err-turn
 loop_statement-returns-in_err-turn t c =
     let join = c.in_ok-left.ensures in
-    loop_turn_stops _ _ _ _ _ _ _ c.args.context _ c.in_ok-left.left c.in_ok-head.head (spot c.args.after) c.in_err-turn.field-0.0
-    c.from_residual-in_err-turn.result (search rules) c.may_continue.ensures
-    (record {
-      sealing = sealed (spot c.args.after) join.grows join.count join.insts join.sound join.lands;
-      reserves = c.in_ok-head.ensures.reserves;
-    }) c.in_err-turn.ensures
+    loop_turn_stops _ _ _ c.args.context (sealed (spot c.args.after) join.grows join.count join.insts join.sound join.lands) c.in_ok-head.ensures.reserves
+    c.may_continue.ensures (search rules) c.in_err-turn.ensures
 
 pub loop_statement-returns-in_err-body_code : goal.loop_statement-returns-in_err-body_code
 loop_statement-returns-in_err-body_code t c =
     let join = c.in_ok-left.ensures in
-    loop_body_stops _ _ _ _ _ _ _ _ c.args.context _ _ c.in_ok-left.left c.in_ok-head.head c.in_ok-turn.turn (spot c.args.after)
-    c.in_err-body_code.field-0.0 c.from_residual-in_err-body_code.result (search rules) c.may_continue.ensures c.inside_loop-inner.ensures
-    (record {
-      sealing = sealed (spot c.args.after) join.grows join.count join.insts join.sound join.lands;
-      reserves = c.in_ok-head.ensures.reserves;
-    }) c.in_ok-turn.ensures c.in_err-body_code.ensures
+    loop_body_stops _ _ _ c.args.context (sealed (spot c.args.after) join.grows join.count join.insts join.sound join.lands) c.in_ok-head.ensures.reserves
+    c.may_continue.ensures c.in_ok-turn.ensures c.inside_loop-inner.ensures (search rules) c.in_err-body_code.ensures
 
 pub loop_statement-returns-in_err-top : goal.loop_statement-returns-in_err-top
 loop_statement-returns-in_err-top t c =
     let join = c.in_ok-left.ensures in
-    loop_top_stops _ _ _ _ _ _ _ _ _ c.args.context _ _ c.in_ok-left.left c.in_ok-head.head c.in_ok-turn.turn c.in_ok-body_code.body_code
-    (spot c.args.after) c.in_err-top.field-0.0 c.from_residual-in_err-top.result (search rules) c.may_continue.ensures c.inside_loop-inner.ensures
-    (record {
-      sealing = sealed (spot c.args.after) join.grows join.count join.insts join.sound join.lands;
-      reserves = c.in_ok-head.ensures.reserves;
-    }) c.in_ok-turn.ensures c.in_ok-body_code.ensures c.in_err-top.ensures
+    loop_top_stops _ _ _ c.args.context (sealed (spot c.args.after) join.grows join.count join.insts join.sound join.lands) c.in_ok-head.ensures.reserves
+    c.may_continue.ensures c.in_ok-turn.ensures c.inside_loop-inner.ensures c.in_ok-body_code.ensures (search rules) c.in_err-top.ensures
 
 pub side_block-statement-requires : goal.side_block-statement-requires
 side_block-statement-requires t c = (omega arith, c.requires.next)
