@@ -55,14 +55,7 @@ same_size s = record { blocks = omega arith; registers = omega arith; room = λ 
 -- what an Ok promises
 emitted : {A : Type 0} {d : Description A} {old new : List RBlock} (x : A) → Grows old new → length new ≡ length old + d.size.blocks
     → d.size.registers ≤ MAX_REGISTERS → d.Keeps old new x → Over old new (d.Does x) → Emits d old new (Ok x)
-emitted x grows count room keeps does = record {
-  grows = grows;
-  count = count;
-  room = room;
-  limit = tt;
-  sound = keeps;
-  does = does;
-}
+emitted x grows count room keeps does = record { grows = grows; count = count; room = room; limit = tt; sound = keeps; does = does }
 
 -- code as what other code goes on at
 abbrev made : Description Continuation → Description OpenBlock
@@ -192,11 +185,7 @@ output_emits old mid new e free b p next end after r sealing pl room fe o =
     ))
     (λ from does bs h leave next'.
     let sp = split2 bs old mid new sealing.grows o.grows h in
-    record {
-      block = b;
-      lands = sealing.lands bs sp.0;
-      leaves = fetches_first from pl (finds_to fe (does bs sp.1));
-    })
+    record { block = b; lands = sealing.lands bs sp.0; leaves = fetches_first from pl (finds_to fe (does bs sp.1)) })
 
 -- calls
 
@@ -207,11 +196,13 @@ nowhere_emits free it sealing = rw it (emitted _ sealing.grows sealing.count (om
 
 pub to_local_emits : {old new : List RBlock} {to : Option Destination} {x local b : ℕ} {after : Spot} (free : ℕ) → to ≡ Some (Local x) → local ≡ x
     → local < MAX_REGISTERS → Sealing old new b after → Emits (receiver to free after) old new (Ok (record { to = Some local; block = b }))
-to_local_emits {local = local} free it il lt sealing = rw (it, ← il) (emitted _ sealing.grows sealing.count (omega (arith, lt))
-    (λ p n f s l g h.
-        let to_it : local < s.registers = omega (arith, h.0.registers_fit) in
-        let j = sealing.sound s l g h.1 in
-        (j.0, (to_it, j.1)), omega (arith, sealing.insts)) (λ bs h. (refl, sealing.lands bs h)))
+to_local_emits {local = local} free it il lt sealing = rw (it, ← il) (emitted _ sealing.grows sealing.count (omega (arith, lt)) (
+  λ p n f s l g h.
+      let to_it : local < s.registers = omega (arith, h.0.registers_fit) in
+      let j = sealing.sound s l g h.1 in
+      (j.0, (to_it, j.1)),
+  omega (arith, sealing.insts),
+) (λ bs h. (refl, sealing.lands bs h)))
 
 pub to_variable_emits : {old new : List RBlock} {to : Option Destination} {x g t z b : ℕ} (free : ℕ) (last code : OpenBlock) (after : Spot)
     → to ≡ Some (Variable x) → g ≡ x → t ≡ free → t < MAX_REGISTERS → z ≡ t + 1 → z < MAX_REGISTERS
@@ -220,13 +211,15 @@ pub to_variable_emits : {old new : List RBlock} {to : Option Destination} {x g t
     → Emits (receiver to free after) old new (Ok (record { to = Some t; block = b }))
 to_variable_emits {g = g} {t = t} {z = z} {b = b} free last code after it ig ift lt iz ltz fl fc sealing =
     let both : open_code code ≡ first (I.Const z 0) (first (I.Store g z t) (line_of after)) = fc ∙ ap (first (I.Const z 0)) fl in
-    rw (it, ← ig) (emitted _ sealing.grows sealing.count (omega (arith, ltz, iz, ift))
-    (λ p n f s l g' h.
-        let there = in_scope p s _ _ h.0 refl f in
-        let of_result : t < s.registers = omega (arith, h.0.registers_fit, ift) in
-        let of_index : z < s.registers = omega (arith, h.0.registers_fit, ift, iz) in
-        let j = sealing.sound s l g' (sound_first _ fc of_index (sound_first _ fl (there, (of_index, of_result)) (sound_line _ h.1))) in
-        (j.0, (of_result, j.1)), omega (arith, ap insts_of both, line_insts after, sealing.insts))
+    rw (it, ← ig) (emitted _ sealing.grows sealing.count (omega (arith, ltz, iz, ift)) (
+      λ p n f s l g' h.
+          let there = in_scope p s _ _ h.0 refl f in
+          let of_result : t < s.registers = omega (arith, h.0.registers_fit, ift) in
+          let of_index : z < s.registers = omega (arith, h.0.registers_fit, ift, iz) in
+          let j = sealing.sound s l g' (sound_first _ fc of_index (sound_first _ fl (there, (of_index, of_result)) (sound_line _ h.1))) in
+          (j.0, (of_result, j.1)),
+      omega (arith, ap insts_of both, line_insts after, sealing.insts),
+    )
     (λ bs h. record {
       t = t;
       z = z;
@@ -490,13 +483,13 @@ pub loop_head_stops : (b0 b1 b2 : List RBlock) (e : TypedExpression) (last body 
     (f : LowerFault) (r : Result OpenBlock LowerFault) → r ≡ Err f → Sealing b0 b1 left after → b2 ≡ b1
     → (f ≡ Limit → MAX_BLOCKS < length b1 + 1) → Emits (statement_code (loop e last body) c after) b0 b2 (made_of r)
 loop_head_stops b0 b1 b2 e last body c left after f r is sealing same limit = rw (ap made_of is) (record {
-      grows = subst (λ b. Grows b0 b) (sym same) sealing.grows;
-      count = tt;
-      room = tt;
-      limit = λ l. omega (arith, limit l, sealing.count);
-      sound = tt;
-      does = tt;
-    })
+  grows = subst (λ b. Grows b0 b) (sym same) sealing.grows;
+  count = tt;
+  room = tt;
+  limit = λ l. omega (arith, limit l, sealing.count);
+  sound = tt;
+  does = tt;
+})
 
 -- where the test of a loop leads, and what surrounds its body
 abbrev again : (head left : ℕ) → Targets
@@ -567,8 +560,7 @@ module _ {b0 b1 b2 : List RBlock} {left head : ℕ} {many : Bool} {after : Spot}
           let r2 : (last_size e last (continues body) true c.free).registers ≤ MAX_REGISTERS = turn_made.room in
           let r3 : statement_registers body c.free ≤ MAX_REGISTERS = made.room in
           emitted (Made top) (grows_filled b0 b5 b6 head filled (grows_then b0 b1 b5 sealing.grows g15) low f)
-          (omega (arith, turn_count, c3, c4, body_blocks, f.same_length)) (omega (arith, r2, r3))
-          (
+          (omega (arith, turn_count, c3, c4, body_blocks, f.same_length)) (omega (arith, r2, r3)) (
             refl,
             λ p n gives inside f' s l g h.
                 let l5 = within_filled f l in

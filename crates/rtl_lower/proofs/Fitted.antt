@@ -83,8 +83,9 @@ pub one_fitted : (all : List Function) (rs rs' : List RFunc) (i : ℕ) (f : Func
     → length r.blocks.items ≡ function_blocks (function_of f) → function_registers (function_of f) ≤ MAX_REGISTERS
     → Fitted (functions_of (take i all)) rs → Fitted (functions_of (take (i + 1) all)) rs'
 one_fitted all rs rs' i f r e lt is eb room m =
-    let sum : sum_by block_count rs' ≡ sum_by function_blocks (functions_of (take i all) ++ function_of f ∷ []) = omega (arith,
-    sum_by_push block_count rs r, sum_by_push function_blocks (functions_of (take i all)) (function_of f), ap (sum_by block_count) e, m.blocks, eb) in
+    let sf = sum_by_push function_blocks (functions_of (take i all)) (function_of f) in
+    let sum : sum_by block_count rs' ≡ sum_by function_blocks (functions_of (take i all) ++ function_of f ∷ []) =
+    omega (arith, sum_by_push block_count rs r, sf, ap (sum_by block_count) e, m.blocks, eb) in
     let each = All-append (λ f. function_registers f ≤ MAX_REGISTERS) (functions_of (take i all)) (function_of f ∷ []) m.registers
     (alone (function_of f) room) in
     subst (λ fs. Fitted fs rs') (sym (functions_more all i f lt is)) (record { blocks = sum; registers = each })
@@ -174,12 +175,12 @@ words_enough (g ∷ gs) a =
 
 plain : (p : TypedProgram) (f : TypedFunction) → IsWellFormed p → FitsFunction p f → IsPlain f
 plain p f well fits =
+    let n = statements_numbers p f.locals (is_some f.result) false f.body fits.body in
     record {
       parameters = fits.first;
       locals = omega (arith, fits.locals);
       jumps = no_continues p f.locals (is_some f.result) f.body fits.body;
-      numbers = omega (arith, statements_numbers p f.locals (is_some f.result) false f.body fits.body,
-          words_enough p.globals well.globals, well.words_fit, well.functions_fit);
+      numbers = omega (arith, n, words_enough p.globals well.globals, well.words_fit, well.functions_fit);
     }
 
 pub plain_functions : (p : TypedProgram) → IsWellFormed p → All IsPlain p.functions

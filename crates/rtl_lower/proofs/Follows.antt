@@ -114,16 +114,7 @@ mutual
       → Follows src bs n (before s k) leave next from
   follows_before src bs n empty k leave next from middle c sc f = subst (λ m. Follows src bs n k leave next m) (sym c) f
   follows_before src bs n (block all) k leave next from middle c sc f = follows_all src bs n all k leave next from middle c sc.0 sc.1 sc.2 f
-  follows_before src bs n (unset x) k leave next from middle c sc f = follows_do src bs n (unset x) k leave next from middle c sc f
-  follows_before src bs n (assign x e) k leave next from middle c sc f = follows_do src bs n (assign x e) k leave next from middle c sc f
-  follows_before src bs n (store a i e) k leave next from middle c sc f = follows_do src bs n (store a i e) k leave next from middle c sc f
-  follows_before src bs n (call to g es) k leave next from middle c sc f = follows_do src bs n (call to g es) k leave next from middle c sc f
-  follows_before src bs n (output e) k leave next from middle c sc f = follows_do src bs n (output e) k leave next from middle c sc f
-  follows_before src bs n (if_else e a b) k leave next from middle c sc f = follows_do src bs n (if_else e a b) k leave next from middle c sc f
-  follows_before src bs n (loop e last body) k leave next from middle c sc f = follows_do src bs n (loop e last body) k leave next from middle c sc f
-  follows_before src bs n break_loop k leave next from middle c sc f = follows_do src bs n break_loop k leave next from middle c sc f
-  follows_before src bs n continue_loop k leave next from middle c sc f = follows_do src bs n continue_loop k leave next from middle c sc f
-  follows_before src bs n (return_with e) k leave next from middle c sc f = follows_do src bs n (return_with e) k leave next from middle c sc f
+  follows_before src bs n s k leave next from middle c sc f = follows_do src bs n s k leave next from middle c sc f
 
   pub follows_all : (src : TypedProgram) (bs : List RBlock) (n : ℕ) (all : TypedStatements) (k : List Todo) (leave : ℕ) (next : Option ℕ)
       (from middle : Spot) → CodedAll (enclosing bs n) all leave next from middle → (gives inside : Bool) → FitsStatements src n gives inside all

@@ -90,8 +90,7 @@ same_depth : (src : TypedProgram) (place : Option Destination) (to : Option ℕ)
     → length fs ≡ length ws
 same_depth src place to [] [] m = refl
 same_depth src place to (f ∷ fs) (a ∷ ws) m = ap suc (same_depth src f.result_to a.result_to fs ws m.1)
-same_depth src place to [] (a ∷ ws) m = absurd m
-same_depth src place to (f ∷ fs) [] m = absurd m
+same_depth src place to _ _ m = absurd m
 
 pub record MatchFrames (src : TypedProgram) (f : Src.Frame) (fs : List Src.Frame) (g : Arrays) (out : List ℕ) (t : Blk.Run) : Type 0 where
   pub a : Blk.Frame
@@ -501,14 +500,12 @@ module _ (src : TypedProgram) (p : Program) (ok : IsCodeOfProgram src p) (well :
           ∙ with_some (slice_get bs c.block) at_block.block w.output (λ b. begun (code_of b) vs) at_block.there
           ∙ ap (λ (code : Code). begun code vs) at_block.is in
           advance_after src p depth _ (at (target w) bs y.regs (exit_code c.exit)) _ y.goes
-          (calls (record {
+          (calls (record w {
             place = place;
             to = c.to;
             waiting = Src.frame_at (source w) l k ∷ w.waiting;
             activations = activation (target w) bs y.regs a.0 ∷ w.activations;
             stack = (a.2, w.stack);
-            globals = w.globals;
-            output = w.output;
           }) callee vs _ count step)))
       acts_at (return_with None) from code si c sc =
           in_line from (exit_code (X.Return None)) code _ c si (returns w None w.place w.to w.waiting w.activations _ w.stack refl)

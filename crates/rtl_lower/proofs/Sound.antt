@@ -61,11 +61,10 @@ fewer su le = record { registers_fit = omega (arith, su.registers_fit, le); func
 callee_registers : (n : ℕ) (es : List TypedExpression) (free : ℕ) (ps : List Place) → ArePlaces es free ps → places_registers es free ≤ n
     → All (λ x. x < n) (map (λ p. p.register) ps)
 callee_registers n [] free [] a le = All-nil (λ x. x < n)
-callee_registers n [] free (p ∷ ps) a le = absurd a
-callee_registers n (e ∷ es) free [] a le = absurd a
 callee_registers n (e ∷ es) free (p ∷ ps) a le =
     All-cons (λ x. x < n) p.register (map (λ p. p.register) ps) (omega (arith, a.0.counted, le))
     (callee_registers n es p.free ps a.1 (omega (arith, ap (places_registers es) a.0.next_is, le)))
+callee_registers n _ free _ a le = absurd a
 
 pub place_registers_sound : (n : ℕ) (es : List TypedExpression) (free : ℕ) (ps : List Place) (rs : List ℕ) → rs ≡ map (λ p. p.register) ps
     → ArePlaces es free ps → places_registers es free ≤ n → All (λ x. x < n) rs
@@ -73,9 +72,8 @@ place_registers_sound n es free ps rs e a le = subst (λ rs. All (λ x. x < n) r
 
 places_length : (es : List TypedExpression) (free : ℕ) (ps : List Place) → ArePlaces es free ps → length (map (λ p. p.register) ps) ≡ length es
 places_length [] free [] a = refl
-places_length [] free (p ∷ ps) a = absurd a
-places_length (e ∷ es) free [] a = absurd a
 places_length (e ∷ es) free (p ∷ ps) a = ap suc (places_length es p.free ps a.1)
+places_length _ free _ a = absurd a
 
 pub callee_sound : {r : ℕ} (p : TypedProgram) (s : Scope) (f f' : ℕ) (callee : TypedFunction) (es : List TypedExpression) (free : ℕ) (ps : List Place)
     (rs : List ℕ) → Suits p r s → f' ≡ f → slice_get p.functions f ≡ Some callee → length es ≡ callee.parameters → rs ≡ map (λ p. p.register) ps
@@ -100,8 +98,7 @@ too_long_at (x ∷ gs) (suc i) d lt much le = too_long_at gs i d (omega arith) m
 globals_length : (gs : List Global) (rs : List RGlobal) → AreGlobalsOf gs rs → length rs ≡ length gs
 globals_length [] [] m = refl
 globals_length (g ∷ gs) (r ∷ rs) m = ap suc (globals_length gs rs m.1)
-globals_length [] (r ∷ rs) m = absurd m
-globals_length (g ∷ gs) [] m = absurd m
+globals_length _ _ m = absurd m
 
 globals_are : (gs : List Global) (rs : List RGlobal) → AreGlobalsOf gs rs → All (λ (g : Global). 1 ≤ g.length) gs → All IsGlobal rs
 globals_are [] [] m a = All-nil IsGlobal
@@ -110,16 +107,14 @@ globals_are (g ∷ gs) (r ∷ rs) m a =
     let l = m.0.elements in
     All-cons IsGlobal r rs (record { some = omega (arith, h, l); first = m.0.values ∙ sym l })
     (globals_are gs rs m.1 (All-tail (λ (g : Global). 1 ≤ g.length) g gs a))
-globals_are [] (r ∷ rs) m a = absurd m
-globals_are (g ∷ gs) [] m a = absurd m
+globals_are _ _ m a = absurd m
 
 same_words : (gs : List Global) (rs : List RGlobal) → AreGlobalsOf gs rs → sum_by word_count rs ≡ words_in gs
 same_words [] [] m = refl
 same_words (g ∷ gs) (r ∷ rs) m =
     let w = ap (λ w. words_of_elements w r.length) m.0.width ∙ ap (words_of_elements g.width) m.0.elements in
     omega (arith, sum_by-cons word_count r rs, same_words gs rs m.1, w)
-same_words [] (r ∷ rs) m = absurd m
-same_words (g ∷ gs) [] m = absurd m
+same_words _ _ m = absurd m
 
 -- functions
 
@@ -197,55 +192,43 @@ bound_within n m (x ∷ xs) le a = bound_within (if nat_lt x n then n else suc x
 abbrev scope_of : TypedFunction → (rs : List RFunc) (globals : ℕ) → RFunc → Scope
 scope_of f rs globals r = record { registers = function_registers f; functions = rs; globals = globals; blocks = length r.blocks.items }
 
-sound_function : (p : TypedProgram) (rs : List RFunc) (globals : ℕ) (f : TypedFunction) (r : RFunc)
-    → ((i : ℕ) (f : TypedFunction) → slice_get p.functions i ≡ Some f → IsCallee rs i f.parameters) → length p.globals ≤ globals → FitsFunction p f
-    → IsCodeOf f r → AreSound (scope_of f rs globals r) r.blocks.items
-sound_function p rs globals f r callees gs fits c =
-    c.sound p (scope_of f rs globals r) (record { registers_fit = omega arith; functions = callees; globals = gs }) fits (omega arith)
+-- functions whose callees are among those of a program
+module _ (p : TypedProgram) (rs : List RFunc)
+    (callees : (i : ℕ) (f : TypedFunction) → slice_get p.functions i ≡ Some f → IsCallee rs i f.parameters) where
+  sound_function : (globals : ℕ) (f : TypedFunction) (r : RFunc) → length p.globals ≤ globals → FitsFunction p f → IsCodeOf f r
+      → AreSound (scope_of f rs globals r) r.blocks.items
+  sound_function globals f r gs fits c =
+      c.sound p (scope_of f rs globals r) (record { registers_fit = omega arith; functions = callees; globals = gs }) fits (omega arith)
 
-size_is : (p : TypedProgram) (rs : List RFunc) (f : TypedFunction) (r : RFunc)
-    → ((i : ℕ) (f : TypedFunction) → slice_get p.functions i ≡ Some f → IsCallee rs i f.parameters) → FitsFunction p f
-    → IsCodeOf f r → IsOfSize f r
-size_is p rs f r callees fits c =
-    let s = scope_of f rs (length p.globals) r in
-    record {
-      registers = bound_within r.parameters (function_registers f) (blocks_names r.blocks.items) (omega (arith, c.parameters, fits.first))
-          (blocks_below s r.blocks.items (sound_function p rs (length p.globals) f r callees (omega arith) fits c));
-      blocks = c.count;
-      insts = c.insts;
-    }
+  size_is : (f : TypedFunction) (r : RFunc) → FitsFunction p f → IsCodeOf f r → IsOfSize f r
+  size_is f r fits c = record {
+    registers = bound_within r.parameters (function_registers f) (blocks_names r.blocks.items) (omega (arith, c.parameters, fits.first))
+        (blocks_below (scope_of f rs (length p.globals) r) r.blocks.items (sound_function (length p.globals) f r (omega arith) fits c));
+    blocks = c.count;
+    insts = c.insts;
+  }
 
-function_is : (p : TypedProgram) (rs : List RFunc) (globals : ℕ) (f : TypedFunction) (r : RFunc)
-    → ((i : ℕ) (f : TypedFunction) → slice_get p.functions i ≡ Some f → IsCallee rs i f.parameters) → length p.globals ≤ globals → FitsFunction p f
-    → function_registers f ≤ MAX_REGISTERS → IsCodeOf f r → IsFunction rs globals r
-function_is p rs globals f r callees gs fits few c =
-    let s = scope_of f rs globals r in
-    let at = c.entry_at in
-    record {
-      parameters = omega (arith, c.parameters, fits.parameters);
-      entry = slice_get_within r.blocks.items 0 at.block at.there;
-      blocks = blocks_are s r.blocks.items few (sound_function p rs globals f r callees gs fits c);
-    }
+  function_is : (globals : ℕ) (f : TypedFunction) (r : RFunc) → length p.globals ≤ globals → FitsFunction p f → function_registers f ≤ MAX_REGISTERS
+      → IsCodeOf f r → IsFunction rs globals r
+  function_is globals f r gs fits few c = record {
+    parameters = omega (arith, c.parameters, fits.parameters);
+    entry = slice_get_within r.blocks.items 0 c.entry_at.block c.entry_at.there;
+    blocks = blocks_are (scope_of f rs globals r) r.blocks.items few (sound_function globals f r gs fits c);
+  }
 
-functions_are : (p : TypedProgram) (rs : List RFunc) (globals : ℕ)
-    → ((i : ℕ) (f : TypedFunction) → slice_get p.functions i ≡ Some f → IsCallee rs i f.parameters) → length p.globals ≤ globals
-    → (fs : List TypedFunction) (some : List RFunc) → AreCodesOf fs some → All (FitsFunction p) fs
-    → All (λ f. function_registers f ≤ MAX_REGISTERS) fs → All (IsFunction rs globals) some
-functions_are p rs globals callees gs [] [] m a few = All-nil (IsFunction rs globals)
-functions_are p rs globals callees gs (f ∷ fs) (r ∷ some) m a few =
-    All-cons (IsFunction rs globals) r some (function_is p rs globals f r callees gs (All-head (FitsFunction p) f fs a)
-    (All-head (λ f. function_registers f ≤ MAX_REGISTERS) f fs few) m.0)
-    (functions_are p rs globals callees gs fs some m.1 (All-tail (FitsFunction p) f fs a) (All-tail (λ f. function_registers f ≤ MAX_REGISTERS) f fs few))
-functions_are p rs globals callees gs [] (r ∷ some) m a few = absurd m
-functions_are p rs globals callees gs (f ∷ fs) [] m a few = absurd m
+  functions_are : (globals : ℕ) → length p.globals ≤ globals → (fs : List TypedFunction) (some : List RFunc) → AreCodesOf fs some → All (FitsFunction p) fs
+      → All (λ f. function_registers f ≤ MAX_REGISTERS) fs → All (IsFunction rs globals) some
+  functions_are globals gs [] [] m a few = All-nil (IsFunction rs globals)
+  functions_are globals gs (f ∷ fs) (r ∷ some) m a few =
+      All-cons (IsFunction rs globals) r some (function_is globals f r gs (All-head (FitsFunction p) f fs a)
+      (All-head (λ f. function_registers f ≤ MAX_REGISTERS) f fs few) m.0)
+      (functions_are globals gs fs some m.1 (All-tail (FitsFunction p) f fs a) (All-tail (λ f. function_registers f ≤ MAX_REGISTERS) f fs few))
+  functions_are globals gs _ _ m a few = absurd m
 
-sizes_of : (p : TypedProgram) (rs : List RFunc) → ((i : ℕ) (f : TypedFunction) → slice_get p.functions i ≡ Some f → IsCallee rs i f.parameters)
-    → (fs : List TypedFunction) (some : List RFunc) → AreCodesOf fs some → All (FitsFunction p) fs → AreOfSizes fs some
-sizes_of p rs callees [] [] m a = tt
-sizes_of p rs callees (f ∷ fs) (r ∷ some) m a =
-    (size_is p rs f r callees (All-head (FitsFunction p) f fs a) m.0, sizes_of p rs callees fs some m.1 (All-tail (FitsFunction p) f fs a))
-sizes_of p rs callees [] (r ∷ some) m a = absurd m
-sizes_of p rs callees (f ∷ fs) [] m a = absurd m
+  sizes_of : (fs : List TypedFunction) (some : List RFunc) → AreCodesOf fs some → All (FitsFunction p) fs → AreOfSizes fs some
+  sizes_of [] [] m a = tt
+  sizes_of (f ∷ fs) (r ∷ some) m a = (size_is f r (All-head (FitsFunction p) f fs a) m.0, sizes_of fs some m.1 (All-tail (FitsFunction p) f fs a))
+  sizes_of _ _ m a = absurd m
 
 callee_of : (fs : List TypedFunction) (rs : List RFunc) → AreCodesOf fs rs → (i : ℕ) (f : TypedFunction) → slice_get fs i ≡ Some f
     → IsCallee rs i f.parameters
@@ -260,17 +243,21 @@ sizes_are parts fs rs all ifs ia codes well =
 
 -- a program of RTL
 
-pub is_program : (p : TypedProgram) (rs : List RFunc) (gs : List RGlobal) (main : ℕ) → IsWellFormed p → HaveRoom p.functions → AreCodesOf p.functions rs
-    → AreGlobalsOf p.globals gs → sum_by block_count rs ≡ sum_by function_blocks p.functions → main ≡ p.main
+pub parts_program : (parts : TypedParts) (fs : List Function) (ds : List Global) (rs : List RFunc) (gs : List RGlobal) (main : ℕ) → main ≡ parts.main
+    → fs ≡ parts.functions → ds ≡ parts.globals → AreCodesOf (functions_of fs) rs → AreGlobalsOf ds gs
+    → sum_by block_count rs ≡ sum_by function_blocks (functions_of fs) → IsWellFormed (program_of parts) → HaveRoom (functions_of parts.functions)
     → IsProgram (Programs.program_of rs gs main)
-is_program p rs gs main well room codes globals sum em =
+parts_program parts fs ds rs gs main em ifs ids of_parts of_globals sum well room =
+    let p = program_of parts in
+    let codes = subst (λ fs. AreCodesOf (functions_of fs) rs) ifs of_parts in
+    let globals = subst (λ ds. AreGlobalsOf ds gs) ids of_globals in
     let callees = callee_of p.functions rs codes in
     let m = callees p.main well.main well.entry in
     record {
-      functions = functions_are p rs (length gs) callees (omega (arith, globals_length p.globals gs globals)) p.functions rs codes well.functions room.registers;
+      functions = functions_are p rs callees (length gs) (omega (arith, globals_length p.globals gs globals)) p.functions rs codes well.functions room.registers;
       globals = globals_are p.globals gs globals well.globals;
       main = record { callee = m.callee; there = ap (λ i. slice_get rs i) em ∙ m.there; takes = m.takes ∙ well.alone };
-      blocks_fit = omega (arith, sum, room.blocks);
+      blocks_fit = omega (arith, sum, ap (λ fs. sum_by function_blocks (functions_of fs)) ifs, room.blocks);
       words_fit = omega (arith, same_words p.globals gs globals, well.words_fit);
     }
 
@@ -284,12 +271,3 @@ reserved_within r le = omega (arith, r.number, r.longer, le)
 
 pub some_within : {old new : List RBlock} {b n : ℕ} → Reserves old new b → length new ≤ n → 0 < n
 some_within r le = omega (arith, r.longer, le)
-
--- the same of parts that are equal
-pub parts_program : (parts : TypedParts) (fs : List Function) (gs : List Global) (rfs : List RFunc) (rgs : List RGlobal) (m : ℕ) → m ≡ parts.main
-    → fs ≡ parts.functions → gs ≡ parts.globals → AreCodesOf (functions_of fs) rfs → AreGlobalsOf gs rgs
-    → sum_by block_count rfs ≡ sum_by function_blocks (functions_of fs) → IsWellFormed (program_of parts) → HaveRoom (functions_of parts.functions)
-    → IsProgram (Programs.program_of rfs rgs m)
-parts_program parts fs gs rfs rgs m im ifs igs codes globals sum well room =
-    is_program (program_of parts) rfs rgs m well room (subst (λ fs. AreCodesOf (functions_of fs) rfs) ifs codes)
-    (subst (λ gs. AreGlobalsOf gs rgs) igs globals) (sum ∙ ap (λ fs. sum_by function_blocks (functions_of fs)) ifs) im

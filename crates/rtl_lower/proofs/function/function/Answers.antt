@@ -18,9 +18,8 @@ returns-clause-code c =
     function_code _ _ _ _ _ _ _ _ _ _ _ c.in_ok-free.ensures.is c.in_ok-parameters.ensures.is (ap statements_of c.as_slice.ensures.value)
     c.in_ok-blocks.ensures.items
     c.in_ok-entry.ensures.reserves c.in_ok-code.ensures.does c.open_block.ensures c.fill.ensures.fills c.in_ok-code.ensures.count
-    (let body = c.in_ok-code.ensures.sound.2 in
-    omega (arith, c.in_ok-entry.ensures.insts, ap insts_in c.in_ok-blocks.ensures.items, body, ap insts_of c.open_block.ensures,
-    line_insts (spot c.in_ok-code.code), ap insts_of c.exit_block.ensures, c.fill.ensures.insts))
+    (let filled = ap insts_of c.open_block.ensures in let end = ap insts_of c.exit_block.ensures in let line = line_insts (spot c.in_ok-code.code) in
+    omega (arith, c.in_ok-entry.ensures.insts, ap insts_in c.in_ok-blocks.ensures.items, c.in_ok-code.ensures.sound.2, filled, line, end, c.fill.ensures.insts))
     (λ p s su fits le.
     let n = within_filled c.fill.ensures.fills le in
     let some = some_within c.in_ok-entry.ensures.reserves (within c.in_ok-code.ensures.grows n) in
@@ -29,7 +28,7 @@ returns-clause-code c =
     (sym (ap statements_of c.as_slice.ensures.value))
     fits.body in
     let same = ap (λ b. statements_registers b c.in_ok-free.free) (ap statements_of c.as_slice.ensures.value) in
+    let low = ap (statements_registers (function_of c.args.f.now).body) c.in_ok-free.ensures.is in
     let m = c.in_ok-code.ensures.sound.1 p c.args.f.now.locals (is_some c.args.f.now.result) false body s n g
-    (fewer su (omega (arith, same, ap (statements_registers (function_of c.args.f.now).body) c.in_ok-free.ensures.is)),
-    (some, (tt, sound_exit (X.Return None) c.exit_block.ensures tt))) in
+    (fewer su (omega (arith, same, low)), (some, (tt, sound_exit (X.Return None) c.exit_block.ensures tt))) in
     c.fill.ensures.sound s m.0 (sound_along c.open_block.ensures (sound_line _ m.1)))

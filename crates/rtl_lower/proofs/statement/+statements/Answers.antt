@@ -117,8 +117,8 @@ statements-returns-in_err-code t c =
 
 pub statements-statement-requires : goal.statements-statement-requires
 statements-statement-requires t c = (
-  omega (arith, ap (λ s. weight (statement_of s)) c.index-all-count.is,
-      weight_within c.args.all.now (length c.args.all.now - 1 - c.loop-done.done) c.index-all-count.result (omega (arith, c.loop-done-test.true))),
+  (let h = weight_within c.args.all.now (length c.args.all.now - 1 - c.loop-done.done) c.index-all-count.result (omega (arith, c.loop-done-test.true)) in
+      omega (arith, h, ap (λ s. weight (statement_of s)) c.index-all-count.is)),
   λ e. c.requires.next (any_of c.args.all.now (length c.args.all.now - 1 - c.loop-done.done) c.index-all-count.result
       (omega (arith, c.loop-done-test.true)) c.index-all-count.is e),
 )
