@@ -82,30 +82,23 @@ sealed after grows count insts sound lands = record { grows = grows; count = cou
 -- code that first has a value in its place
 abbrev fetches_first : {bs : List RBlock} {free p next : ℕ} {e : TypedExpression} {rest : ℕ → Code} (from : OpenBlock) → IsPlace e free p next
     → Fetches bs e free p (open_code from) (rest p) → FetchesFirst (enclosing bs free) e (Line (open_code from)) rest
-fetches_first {p = p} {next = next} from is_place value = record {
-  code = open_code from;
-  is = refl;
-  p = p;
-  next = next;
-  is_place = is_place;
-  value = value;
-}
+fetches_first {p = p} {next = next} from is_place value = record { code = open_code from; is = refl; p = p; next = next; is_place = is_place; value = value }
 
 -- statements that go on behind themselves alone
 
-pub simple_emits : (old new : List RBlock) (s s' : TypedStatement) (c : Context) (after : Spot) (code : Result OpenBlock LowerFault)
-    (r : Result Continuation LowerFault) → s ≡ s' → ((n : ℕ) → statement_joint s' n ≡ 1) → r ≡ made_of code → Emits (simple_code s' c.free after) old new code
+pub simple_emits : {old new : List RBlock} {s s' : TypedStatement} {code : Result OpenBlock LowerFault} {r : Result Continuation LowerFault}
+    (c : Context) (after : Spot) → s ≡ s' → ((n : ℕ) → statement_joint s' n ≡ 1) → r ≡ made_of code → Emits (simple_code s' c.free after) old new code
     → Emits (statement_code s c after) old new r
-simple_emits old new s s' c after code r is one ir e =
+simple_emits {old} {new} {s} {s'} {code} c after is one ir e =
     rw (ir, is) (made_emits (statement_code s' c after) old new code
     (meant e (same_size (statement_size s' c.free (joint after)))
     (λ from keeps. (sym (one (joint after)), λ p n gives inside f s l g h. keeps.0 p n gives inside f s l g (h.0, h.1.1.1), keeps.1))
     (λ from does bs h. does bs h c.leave c.next)))
 
-pub whole_emits : (old new : List RBlock) (s s' : TypedStatement) (c : Context) (after : Spot) (code : Result OpenBlock LowerFault)
-    (r : Result Continuation LowerFault) → s ≡ s' → r ≡ made_of code → Emits (statement_code s' c after) old new (made_of code)
+pub whole_emits : {old new : List RBlock} {s s' : TypedStatement} (c : Context) (after : Spot) (code : Result OpenBlock LowerFault)
+    {r : Result Continuation LowerFault} → s ≡ s' → r ≡ made_of code → Emits (statement_code s' c after) old new (made_of code)
     → Emits (statement_code s c after) old new r
-whole_emits old new s s' c after code r is ir e = rw (ir, is) e
+whole_emits c after code is ir e = rw (ir, is) e
 
 pub local_emits : (old new : List RBlock) (to : Destination) (x local : ℕ) (e : TypedExpression) (free : ℕ) (after : Spot)
     (r : Result OpenBlock LowerFault) → to ≡ Local x → local ≡ x → local < MAX_REGISTERS → Emits (value e local free after) old new r
@@ -354,14 +347,7 @@ side_emits old mid new s c join code (Ok b) e g count insts limit sound lands =
 side_emits old mid new s c join code (Err f) e g count insts limit sound lands =
     let c1 : length mid ≡ length old + statement_blocks s 0 = e.count in
     let same : joint (spot code) ≡ statement_joint s 0 = e.sound.0 in
-    record {
-      grows = grows_then old mid new e.grows g;
-      count = tt;
-      room = tt;
-      limit = λ is. omega (arith, c1, same, limit is);
-      sound = tt;
-      does = tt;
-    }
+    record { grows = grows_then old mid new e.grows g; count = tt; room = tt; limit = λ is. omega (arith, c1, same, limit is); sound = tt; does = tt }
 
 pub if_emits : (b0 b1 b2 b3 b4 : List RBlock) (e : TypedExpression) (a b : TypedStatement) (c : Context) (join y n : ℕ) (likely : Bool)
     (after : Spot) (r : Result OpenBlock LowerFault) → likely ≡ (stays a && not (is_equality e)) → Sealing b0 b1 join after
@@ -472,10 +458,8 @@ turn_emits b0 b1 b2 b3 e last c many again bottom code r test part end =
     record { from = spot code; is_turn = does bs sp.2; bottom = open_code bottom; coded = part.does bs sp.1; test = test.does bs sp.0 })
 
 grows_filled : (b0 b5 b6 : List RBlock) (head : ℕ) (c : Code) → Grows b0 b5 → length b0 ≤ head → Fills b5 b6 head c → Grows b0 b6
-grows_filled b0 b5 b6 head c g low f = record {
-  longer = omega (arith, g.longer, f.same_length);
-  kept = λ i lt. let ne : i ≢ head = omega arith in f.others i ne ∙ g.kept i lt;
-}
+grows_filled b0 b5 b6 head c g low f =
+    record { longer = omega (arith, g.longer, f.same_length); kept = λ i lt. let ne : i ≢ head = omega arith in f.others i ne ∙ g.kept i lt }
 
 -- what is told where a loop's first block is refused
 

@@ -25,7 +25,7 @@ use Rattle.rtl.specs.declared.block.RFunc.{RFunc}
 use Rattle.rtl_emit.specs.Sizes.{globals_named, globals_named_in, Beyond}
 use Rattle.rtl_lower.specs.Sizes.{continues, any_continues, numbers_named, numbers_named_in, target_number, function_blocks, function_registers, IsPlain}
 use Rattle.rtl_lower.specs.Sizes.{HaveRoom}
-use Rattle.rtl_lower.proofs.Sizes.{or_none}
+use Rattle.rtl_lower.proofs.Sizes.{or_none, take_one}
 
 -- one of a list
 
@@ -74,10 +74,7 @@ functions-append (x ∷ xs) ys = ap (λ l. function_of x ∷ l) (functions-appen
 -- the functions up to one, and that one
 pub functions_more : (all : List Function) (i : ℕ) (f : Function) → i < length all → f ≡ get_or all i f
     → functions_of (take (i + 1) all) ≡ functions_of (take i all) ++ function_of f ∷ []
-functions_more all i f lt is =
-    let n : i + 1 ≡ suc i = omega arith in
-    let cut : take (i + 1) all ≡ take i all ++ f ∷ [] = ap (λ n. take n all) n ∙ take-suc all i f lt ∙ ap (λ x. take i all ++ x ∷ []) (sym is) in
-    ap functions_of cut ∙ functions-append (take i all) (f ∷ [])
+functions_more all i f lt is = ap functions_of (take_one all i (i + 1) f f lt refl is) ∙ functions-append (take i all) (f ∷ [])
 
 pub one_fitted : (all : List Function) (rs rs' : List RFunc) (i : ℕ) (f : Function) (r : RFunc) → rs' ≡ rs ++ r ∷ [] → i < length all → f ≡ get_or all i f
     → length r.blocks.items ≡ function_blocks (function_of f) → function_registers (function_of f) ≤ MAX_REGISTERS

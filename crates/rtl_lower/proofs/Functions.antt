@@ -27,6 +27,7 @@ use Rattle.rtl_lower.specs.Sound.{Suits}
 use Rattle.rtl_lower.specs.Laws.{KeepsRuns}
 use Rattle.rtl_lower.specs.Coded.{enclosing, IsCodeOf, IsGlobalOf, ArePairs, AreCodesOf, AreGlobalsOf, CodedAll}
 use Rattle.rtl_lower.proofs.Fitted.{functions_more}
+use Rattle.rtl_lower.proofs.Sizes.{take_one}
 use Rattle.rtl_lower.proofs.Statements.{MakesAll}
 use Rattle.rtl_lower.proofs.Simulation.{keeps_runs}
 
@@ -73,8 +74,7 @@ pairs_push : {A B : Type 0} (IsPair : A → B → Type 0) (xs : List A) (ys : Li
     → ArePairs IsPair (xs ++ x ∷ []) (ys ++ y ∷ [])
 pairs_push IsPair [] [] x y m c = (c, tt)
 pairs_push IsPair (a ∷ xs) (b ∷ ys) x y m c = (m.0, pairs_push IsPair xs ys x y m.1 c)
-pairs_push IsPair [] (b ∷ ys) x y m c = absurd m
-pairs_push IsPair (a ∷ xs) [] x y m c = absurd m
+pairs_push IsPair _ _ x y m c = absurd m
 
 pub one_function : (all : List Function) (rs rs' : List RFunc) (i : ℕ) (f : Function) (r : RFunc) → rs' ≡ rs ++ r ∷ [] → i < length all → f ≡ get_or all i f
     → IsCodeOf (function_of f) r → AreCodesOf (functions_of (take i all)) rs → AreCodesOf (functions_of (take (i + 1) all)) rs'
@@ -85,9 +85,7 @@ one_function all rs rs' i f r e lt is c m =
 pub one_global : (all : List Global) (rs rs' : List RGlobal) (i : ℕ) (g d : Global) (r : RGlobal) → rs' ≡ rs ++ r ∷ [] → i < length all → g ≡ get_or all i d
     → IsGlobalOf g r → AreGlobalsOf (take i all) rs → AreGlobalsOf (take (i + 1) all) rs'
 one_global all rs rs' i g d r e lt is c m =
-    let n : i + 1 ≡ suc i = omega arith in
-    let cut : take (i + 1) all ≡ take i all ++ g ∷ [] = ap (λ n. take n all) n ∙ take-suc all i d lt ∙ ap (λ x. take i all ++ x ∷ []) (sym is) in
-    subst (λ gs. AreGlobalsOf gs rs') (sym cut) (subst (λ rs. AreGlobalsOf (take i all ++ g ∷ []) rs) (sym e) (pairs_push IsGlobalOf (take i all) rs g r m c))
+    subst (λ gs. AreGlobalsOf gs rs') (sym (take_one all i (i + 1) g d lt refl is)) (subst (λ rs. AreGlobalsOf (take i all ++ g ∷ []) rs) (sym e) (pairs_push IsGlobalOf (take i all) rs g r m c))
 
 pub pairs_at : {A B : Type 0} (IsPair : A → B → Type 0) (xs : List A) (ys : List B) → ArePairs IsPair xs ys → (i : ℕ) (x : A) → slice_get xs i ≡ Some x
     → (y : B) × (slice_get ys i ≡ Some y) × IsPair x y
@@ -99,26 +97,16 @@ pairs_at IsPair (a ∷ xs) [] m i x e = absurd m
 firsts : (gs : List Global) (rs : List RGlobal) → AreGlobalsOf gs rs → map first_values rs ≡ map first_words gs
 firsts [] [] m = refl
 firsts (x ∷ gs) (y ∷ rs) m = ap (λ v. v ∷ map first_values rs) m.0.first ∙ ap (λ l. first_words x ∷ l) (firsts gs rs m.1)
-firsts [] (y ∷ rs) m = absurd m
-firsts (x ∷ gs) [] m = absurd m
-
-pub program_code : (src : TypedProgram) (p : Program) → p.main ≡ src.main → AreCodesOf src.functions p.functions → AreGlobalsOf src.globals p.globals
-    → IsWellFormed src
-    → KeepsRuns src p
-program_code src p em fs gs well = keeps_runs src p
-    (record {
-      main = em;
-      functions = pairs_at IsCodeOf src.functions p.functions fs;
-      globals = pairs_at IsGlobalOf src.globals p.globals gs;
-      first = firsts src.globals p.globals gs;
-    })
-    well
+firsts _ _ m = absurd m
 
 pub program_made : (parts : TypedParts) (fs : List Function) (gs : List Global) (rfs : List RFunc) (rgs : List RGlobal) (m : ℕ) (p : Program)
     → p ≡ Programs.program_of rfs rgs m → m ≡ parts.main → fs ≡ parts.functions → gs ≡ parts.globals → AreCodesOf (functions_of fs) rfs
-    → AreGlobalsOf gs rgs
-    → IsWellFormed (program_of parts) → KeepsRuns (program_of parts) p
+    → AreGlobalsOf gs rgs → IsWellFormed (program_of parts) → KeepsRuns (program_of parts) p
 program_made parts fs gs rfs rgs m p ip im ifs igs cs ds well =
-    subst (λ p. KeepsRuns (program_of parts) p) (sym ip)
-    (program_code (program_of parts) (Programs.program_of rfs rgs m) im (subst (λ fs. AreCodesOf (functions_of fs) rfs) ifs cs)
-    (subst (λ gs. AreGlobalsOf gs rgs) igs ds) well)
+    let globals = subst (λ gs. AreGlobalsOf gs rgs) igs ds in
+    subst (λ p. KeepsRuns (program_of parts) p) (sym ip) (keeps_runs (program_of parts) (Programs.program_of rfs rgs m) (record {
+      main = im;
+      functions = pairs_at IsCodeOf (functions_of parts.functions) rfs (subst (λ fs. AreCodesOf (functions_of fs) rfs) ifs cs);
+      globals = pairs_at IsGlobalOf parts.globals rgs globals;
+      first = firsts parts.globals rgs globals;
+    }) well)

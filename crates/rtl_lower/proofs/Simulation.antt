@@ -222,11 +222,7 @@ module _ (src : TypedProgram) (p : Program) (ok : IsCodeOfProgram src p) (well :
       → r y ≡ Some i → r q ≡ Some v → Src.elements_with src.globals w.globals a i v ≡ Some g
       → rtl_step p depth (at (target w) bs r (first (I.Store a y q) after)) ≡ at (target (record w { globals = g })) bs r after
   store_step w bs r a i v y q after g low index value is =
-      let done = λ (g : Arrays). at (target (record w { globals = g })) bs r after in
-      with_some (r y) i w.output (λ i. with_value (r q) w.output (λ v. with_value (kept_in p.globals a v) w.output
-      (λ k. with_value (arrays_with w.globals a i k) w.output done))) index
-      ∙ with_some (r q) v w.output (λ v. with_value (kept_in p.globals a v) w.output (λ k. with_value (arrays_with w.globals a i k) w.output done)) value
-      ∙ stored w a i v g done low is
+      rw (index, value) (stored w a i v g (λ (g : Arrays). at (target (record w { globals = g })) bs r after) low is)
 
   -- a word from a register to a global variable
   puts : (w : Around src) (bs : List RBlock) (r : Places) (x z q v : ℕ) (after : Code) (g : Arrays) → x < length src.globals → q ≢ z

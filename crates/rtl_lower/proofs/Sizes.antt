@@ -1,6 +1,6 @@
 -- The sizes of lists of statements, taken from the last one on.
 use Rattle.std.proofs.Common.{◌≡◌, ℕ, zero, suc, ◌+◌, ◌-◌, ◌<◌, ◌≤◌, Bool, true, false, List, [], ◌∷◌, ◌++◌, Some, None, refl, sym, ◌∙◌, ap, subst}
-use Rattle.std.proofs.Common.{arith, length, get_or, take, drop, take_all, drop_of_length-le}
+use Rattle.std.proofs.Common.{add-one, arith, length, get_or, take, drop, take_all, drop_of_length-le}
 use Rattle.std.specs.Prelude.{◌||◌, slice_get}
 use Rattle.std.proofs.lemmas.Option.{none-some}
 use Rattle.std.proofs.Math.Seq.{take-suc, drop-cons}
@@ -69,12 +69,12 @@ none_append (x ∷ xs) s e f =
     let b = any_continues (statements_of xs) in
     or_none a (any_continues (statements_of (xs ++ s ∷ []))) (or_left a b e) (none_append xs s (or_right a b e) f)
 
+pub take_one : {A : Type 0} (all : List A) (i j : ℕ) (x d : A) → i < length all → j ≡ i + 1 → x ≡ get_or all i d → take j all ≡ take i all ++ x ∷ []
+take_one all i j x d lt ij is = rw (ij, add-one, is) (take-suc all i d lt)
+
 pub none_more : (all : List TypedStatement) (i j : ℕ) (s : TypedStatement) → i < length all → s ≡ get_or all i s → j ≡ i + 1
     → continues (statement_of s) ≡ false → any_continues (statements_of (take i all)) ≡ false → any_continues (statements_of (take j all)) ≡ false
-none_more all i j s lt is ij f e =
-    let n : j ≡ suc i = omega arith in
-    let cut : take j all ≡ take i all ++ s ∷ [] = ap (λ n. take n all) n ∙ take-suc all i s lt ∙ ap (λ x. take i all ++ x ∷ []) (sym is) in
-    subst (λ l. any_continues (statements_of l) ≡ false) (sym cut) (none_append (take i all) s e f)
+none_more all i j s lt is ij f e = subst (λ l. any_continues (statements_of l) ≡ false) (sym (take_one all i j s s lt ij is)) (none_append (take i all) s e f)
 
 pub none_all : (all : List TypedStatement) (i : ℕ) → length all ≤ i → any_continues (statements_of (take i all)) ≡ false
     → any_continues (statements_of all) ≡ false
@@ -84,12 +84,14 @@ none_all all i le e = subst (λ l. any_continues (statements_of l) ≡ false) (t
 pub none_left : (all : List TypedStatement) (n : ℕ) → n ≡ length all → statements_of (drop n all) ≡ no_statements
 none_left all n e = ap statements_of (drop_of_length-le all (omega (arith, e)))
 
-pub one_left : (all : List TypedStatement) (s : TypedStatement) (k k' j : ℕ) → k < length all → k' ≡ k → s ≡ get_or all k' s → j ≡ suc k
-    → statements_of (drop k all) ≡ more_statements (statement_of s) (statements_of (drop j all))
-one_left all s k k' j lt ik is ij =
-    let cut : drop k all ≡ s ∷ drop j all = drop-cons all k s lt ∙ ap (λ x. x ∷ drop (suc k) all) (sym (is ∙ ap (λ n. get_or all n s) ik))
-    ∙ ap (λ n. s ∷ drop n all) (sym ij) in
-    ap statements_of cut
+pub one_left : (all : List TypedStatement) (s : TypedStatement) (done : ℕ) → done < length all → s ≡ get_or all (length all - 1 - done) s
+    → statements_of (drop (length all - (done + 1)) all) ≡ more_statements (statement_of s) (statements_of (drop (length all - done) all))
+one_left all s done lt is =
+    let k = length all - (done + 1) in
+    let same : length all - 1 - done ≡ k = omega arith in
+    let more : length all - done ≡ suc k = omega (arith, lt) in
+    let at : s ≡ get_or all k s = is ∙ ap (λ n. get_or all n s) same in
+    ap statements_of (drop-cons all k s (omega (arith, lt)) ∙ ap (λ x. x ∷ drop (suc k) all) (sym at) ∙ ap (λ n. s ∷ drop n all) (sym more))
 
 -- a rest takes no more than the whole
 pub rest_blocks : (k : ℕ) (all : List TypedStatement) (n : ℕ) → statements_blocks (statements_of (drop k all)) n ≤ statements_blocks (statements_of all) n

@@ -29,8 +29,7 @@ lands_there {bs} b (Block b') l t = (t.0, subst (λ b. At bs b t.0) (sym l) t.1)
 lands_there {bs} b (Line c) l t = (c, l)
 
 pub comes_equal : (bs : List RBlock) (from to : Spot) → from ≡ to → Comes bs from to
-comes_equal bs from to e =
-    subst (λ s. Comes bs from s) e (record { there = λ t. t; by = λ c s w r. (c, s, goes_nowhere w.program w.depth _) })
+comes_equal bs from to e = subst (λ s. Comes bs from s) e (record { there = λ t. t; by = λ c s w r. (c, s, goes_nowhere w.program w.depth _) })
 
 pub comes_join : (bs : List RBlock) (b : ℕ) (s : Spot) → Lands bs b s → Comes bs (Block b) s
 comes_join bs b s l = record { there = λ t. lands_there b s l t; by = λ c si w r. by c si w r }

@@ -5,5 +5,4 @@ use Rattle.rtl_lower.proofs.Fitted.{Fitted}
 use Rattle.rtl_lower.proofs.program.functions.Given as goal
 
 abbrev pub invariant-loop-f : goal.invariant-loop-f
-invariant-loop-f l =
-    AreCodesOf (functions_of (take l.f-index l.all)) l.lowered.items × Fitted (functions_of (take l.f-index l.all)) l.lowered.items
+invariant-loop-f l = AreCodesOf (functions_of (take l.f-index l.all)) l.lowered.items × Fitted (functions_of (take l.f-index l.all)) l.lowered.items

@@ -24,43 +24,41 @@ statement-returns-in-Block t c =
 
 pub statement-returns-in-Assign : goal.statement-returns-in-Assign
 statement-returns-in-Assign t c =
-    simple_emits _ _ _ _ c.args.context (spot c.args.after) _ _ (ap statement_of c.in-Assign.is) (λ n. refl) c.continuation_of.ensures c.assignment.ensures
+    simple_emits c.args.context (spot c.args.after) (ap statement_of c.in-Assign.is) (λ n. refl) c.continuation_of.ensures c.assignment.ensures
 
 pub statement-returns-in-Store : goal.statement-returns-in-Store
 statement-returns-in-Store t c =
-    simple_emits _ _ _ _ c.args.context (spot c.args.after) _ _ (ap statement_of c.in-Store.is) (λ n. refl) c.continuation_of-in-Store.ensures
-    c.element_store.ensures
+    simple_emits c.args.context (spot c.args.after) (ap statement_of c.in-Store.is) (λ n. refl) c.continuation_of-in-Store.ensures c.element_store.ensures
 
 pub statement-returns-in-Call : goal.statement-returns-in-Call
 statement-returns-in-Call t c =
-    simple_emits _ _ _ _ c.args.context (spot c.args.after) _ _
+    simple_emits c.args.context (spot c.args.after)
     (ap statement_of c.in-Call.is ∙ ap (λ es. call c.in-Call.to c.in-Call.function (typed_expressions_of es)) (sym c.as_slice-in-Call.ensures.value))
     (λ n. refl) c.continuation_of-in-Call.ensures c.call_code.ensures
 
 pub statement-returns-in-Output : goal.statement-returns-in-Output
 statement-returns-in-Output t c =
-    simple_emits _ _ _ _ c.args.context (spot c.args.after) _ _ (ap statement_of c.in-Output.is) (λ n. refl) c.continuation_of-in-Output.ensures c.output_code.ensures
+    simple_emits c.args.context (spot c.args.after) (ap statement_of c.in-Output.is) (λ n. refl) c.continuation_of-in-Output.ensures c.output_code.ensures
 
 pub statement-returns-in-If : goal.statement-returns-in-If
 statement-returns-in-If t c =
-    whole_emits _ _ _ _ c.args.context (spot c.args.after) _ _
+    whole_emits c.args.context (spot c.args.after) _
     (if_is (ap statement_of c.in-If.is) (ap statement_of c.deref.ensures) (ap statement_of c.deref-in-If.ensures)) c.continuation_of-in-If.ensures c.if_statement.ensures
 
 pub statement-returns-in-Loop : goal.statement-returns-in-Loop
 statement-returns-in-Loop t c =
-    whole_emits _ _ _ _ c.args.context (spot c.args.after) _ _
+    whole_emits c.args.context (spot c.args.after) _
     (loop_is (ap statement_of c.in-Loop.is) (ap statement_of c.deref-in-Loop.ensures) (ap statement_of c.deref-in-Loop-2.ensures)) c.continuation_of-in-Loop.ensures c.loop_statement.ensures
 
 pub statement-returns-in-Break : goal.statement-returns-in-Break
 statement-returns-in-Break t c = break_emits _ _ c.args.context (spot c.args.after) (ap statement_of c.in-Break.is)
 
 pub statement-returns-in-Some : goal.statement-returns-in-Some
-statement-returns-in-Some t c =
-    continue_emits _ _ c.args.context _ (spot c.args.after) (ap statement_of c.in-Continue.is) c.in-Some.is
+statement-returns-in-Some t c = continue_emits _ _ c.args.context _ (spot c.args.after) (ap statement_of c.in-Continue.is) c.in-Some.is
 
 pub statement-returns-in-Return : goal.statement-returns-in-Return
 statement-returns-in-Return t c =
-    simple_emits _ _ _ _ c.args.context (spot c.args.after) _ _ (ap statement_of c.in-Return.is) (λ n. refl) c.continuation_of-in-Return.ensures
+    simple_emits c.args.context (spot c.args.after) (ap statement_of c.in-Return.is) (λ n. refl) c.continuation_of-in-Return.ensures
     (c.return_code.ensures (spot c.args.after))
 
 pub side_block-returns : goal.side_block-returns
@@ -98,22 +96,15 @@ statements-loop-done-init t c = none_emits _ _ c.args.context c.args.after (none
 
 pub statements-loop-done-preserved : goal.statements-loop-done-preserved
 statements-loop-done-preserved t c =
-    let all = c.args.all.now in
-    let lt : c.loop-done.done < length all = c.loop-done-test.true in
-    let k = length all - (c.loop-done.done + 1) in
     more_emits _ _ _ _ _ _ c.args.context (spot c.args.after) c.loop-done.code _
-    (one_left all c.index-all-count.result k (length all - 1 - c.loop-done.done) (length all - c.loop-done.done) (omega (arith, lt))
-    (omega (arith, lt)) c.index-all-count.is (omega (arith, lt))) c.loop-done.invariant c.in_ok-code.ensures
+    (one_left c.args.all.now c.index-all-count.result c.loop-done.done c.loop-done-test.true c.index-all-count.is) c.loop-done.invariant c.in_ok-code.ensures
 
 pub statements-returns-in_err-code : goal.statements-returns-in_err-code
 statements-returns-in_err-code t c =
-    let all = c.args.all.now in
-    let lt : c.loop-done.done < length all = c.loop-done-test.true in
-    let k = length all - (c.loop-done.done + 1) in
     let same : c.from_residual.result ≡ Err c.in_err-code.field-0.0 = search rules in
-    list_stopped _ _ all k c.args.context (spot c.args.after) _ _ same (more_emits _ _ _ _ _ _ c.args.context (spot c.args.after) c.loop-done.code _
-    (one_left all c.index-all-count.result k (length all - 1 - c.loop-done.done) (length all - c.loop-done.done) (omega (arith, lt))
-    (omega (arith, lt)) c.index-all-count.is (omega (arith, lt))) c.loop-done.invariant c.in_err-code.ensures)
+    list_stopped _ _ c.args.all.now (length c.args.all.now - (c.loop-done.done + 1)) c.args.context (spot c.args.after) _ _ same
+    (more_emits _ _ _ _ _ _ c.args.context (spot c.args.after) c.loop-done.code _
+    (one_left c.args.all.now c.index-all-count.result c.loop-done.done c.loop-done-test.true c.index-all-count.is) c.loop-done.invariant c.in_err-code.ensures)
 
 pub statements-statement-requires : goal.statements-statement-requires
 statements-statement-requires t c = (
