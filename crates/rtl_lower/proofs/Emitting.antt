@@ -1,7 +1,7 @@
 -- What the call for a statement promises (`Emits`), from what the calls for its parts did: one lemma for each kind.
 use Rattle.std.proofs.Common.{Vec, Global, ◌≡◌, ◌≢◌, ℕ, ◌+◌, ◌<◌, ◌≤◌, Bool, true, false, List, [], ◌++◌, Option, Some, None, ◌⊎◌, inl, inr, Ok, Err}
 use Rattle.std.proofs.Common.{Result, refl, sym, ◌∙◌, ap, subst, arith, length, drop}
-use Rattle.std.specs.Prelude.{◌&&◌, not, IfSome, IfOk, IfErr, OnOk, map, if◌then◌else◌}
+use Rattle.std.specs.Prelude.{slice_get, ◌&&◌, not, IfSome, IfOk, IfErr, OnOk, map, if◌then◌else◌}
 use Rattle.c_typed.specs.declared.tree.Destination.{Destination}
 use Rattle.c_typed.specs.declared.tree.Destination.TheVariants.{Local, Global as Variable}
 use Rattle.c_typed.specs.declared.tree.TypedStatement as Tree
@@ -12,10 +12,11 @@ use Rattle.rtl.specs.declared.instruction.RInst.TheVariants as I
 use Rattle.rtl.specs.declared.instruction.RExit.TheVariants as X
 use Rattle.rtl.specs.declared.block.RBlock.{RBlock}
 use Rattle.rtl.specs.declared.limits.TheConstants.{MAX_REGISTERS, MAX_BLOCKS}
-use Rattle.rtl.specs.Meaning.{Code}
+use Rattle.runs.specs.Runs.{with_value}
+use Rattle.rtl.specs.Meaning.{Code, activation, around_callee, code_of, words_in, state_after_call}
 use Rattle.rtl_emit.specs.Blocks.{Spot, Block, Line, Lands, Grows, Has, Reserves, Fills, open_code, exit_code, first, spot, line_of, insts_of, insts_at, insts_in}
 use Rattle.rtl_emit.specs.Emits.{Size, Description, Emits, condition_size, value, operand, operands, condition_branch}
-use Rattle.rtl_emit.specs.Expressions.{IsPlace, Fetches, AddPlaces}
+use Rattle.rtl_emit.specs.Expressions.{IsPlace, Fetches, FetchAll, AddPlaces}
 use Rattle.rtl_emit.specs.Sizes.{joint, place_registers, places_registers, next_free, value_registers, value_blocks, condition_blocks}
 use Rattle.rtl_emit.specs.Sizes.{values_registers, condition_registers}
 use Rattle.rtl_emit.specs.Sound.{Scope, IsSound, IsSoundSpot, AreSound, KeepsSound}
@@ -40,7 +41,7 @@ use Rattle.rtl_lower.specs.declared.simple.Receiver.{Receiver}
 use Rattle.rtl_lower.specs.declared.statement.Turn.{Turn}
 use Rattle.rtl_lower.proofs.Sizes.{rest_blocks, rest_registers, rest_numbers}
 use Rattle.rtl_lower.proofs.Sound.{fewer, named, named_all, in_scope, callee_sound, place_registers_sound, within_filled, reserved_within}
-use Rattle.rtl_lower.proofs.Statements.{store_code, call_code, turn_block, has_before, has_past, at_filled}
+use Rattle.rtl_lower.proofs.Statements.{turn_block, has_before, has_past, at_filled}
 use Rattle.rtl_lower.proofs.Spots.{comes_equal}
 
 -- the same size, and less told
@@ -143,12 +144,12 @@ store_emits old mid new a a' i e free p next q last code middle after r ia pi ri
     let values : value_registers e (next_free i free) ≤ MAX_REGISTERS = subst (λ n. value_registers e n ≤ MAX_REGISTERS) pi.next_is second.room in
     let places : place_registers e (next_free i free) ≤ MAX_REGISTERS = subst (λ n. place_registers e n ≤ MAX_REGISTERS) pi.next_is re in
     let c1 : length mid ≡ length old + value_blocks e 1 = second.count in
-    ended (value_blocks e 1) one
+    rw (← ia) (ended (value_blocks e 1) one
     (record { blocks = omega arith; registers = omega arith; room = λ le. omega (arith, le, ri, places, values); globals = omega arith })
     second.grows c1
     (λ from keeps. (
       λ p' n gives inside f s l g h.
-          let there = in_scope p' s _ _ h.0 ia f.0 in
+          let there = in_scope p' s _ _ h.0 refl f.0 in
           let at_index : p < s.registers = omega (arith, h.0.registers_fit, pi.counted) in
           let at_value : q < s.registers = omega (arith, h.0.registers_fit, pe.counted, ap (place_registers e) pi.next_is) in
           let in_value : value_registers e next ≤ s.registers = omega (arith, h.0.registers_fit, ap (value_registers e) pi.next_is) in
@@ -158,8 +159,21 @@ store_emits old mid new a a' i e free p next q last code middle after r ia pi ri
           keeps.0 s l m.0 (at_index, ((in_index, named p' s n i h.0 f.1.0), m.1)),
       omega (arith, keeps.1, second.sound.1, ap insts_of fe, line_insts after),
     ))
-    (λ from does bs h leave next'. store_code old mid new free a a' i e p next q last (open_code from) (open_code middle) (open_code code) after
-    ia fe pi pe second.grows one.grows second.does does leave next' bs h)
+    (λ from does bs h leave next'.
+    let sp = split2 bs old mid new second.grows one.grows h in
+    record {
+      code = open_code from;
+      is = refl;
+      p = p;
+      q = q;
+      next = next;
+      last = last;
+      index_place = pi;
+      value_place = pe;
+      middle = open_code middle;
+      index = does bs sp.1;
+      value = finds_to fe (second.does bs sp.0);
+    }))
 
 pub output_emits : (old mid new : List RBlock) (e : TypedExpression) (free b p next : ℕ) (end : OpenBlock) (after : Spot)
     (r : Result OpenBlock LowerFault) → Sealing old mid b after → IsPlace e free p next → place_registers e free ≤ MAX_REGISTERS
@@ -228,7 +242,9 @@ pub call_emits : (old mid new : List RBlock) (to : Option Destination) (f f' : �
     → ps1 ≡ places → ps2 ≡ places → args.items ≡ map (λ p. p.register) ps1 → open_code end ≡ exit_code (X.Call f' args x.to x.block)
     → Emits (operands es ps2 free end) mid new r → Emits (simple_code (call to f es) free after) old new r
 call_emits old mid new to f f' es free x places0 places ps1 ps2 args end after r ig receiver i0 add room i1 i2 ia fe values =
-    ended (receiver_blocks to (joint after)) values
+    let all : places ≡ add.0 = add.1 ∙ ap (λ l. l ++ add.0) i0 in
+    let registers : args.items ≡ map (λ p. p.register) add.0 = ia ∙ ap (map (λ p. p.register)) (i1 ∙ all) in
+    rw (← ig) (ended (receiver_blocks to (joint after)) values
     (record { blocks = omega arith; registers = omega arith; room = λ le. omega (arith, le, room, receiver.room); globals = omega arith })
     receiver.grows receiver.count
     (λ from keeps. (
@@ -236,16 +252,29 @@ call_emits old mid new to f f' es free x places0 places ps1 ps2 args end after r
           let j = receiver.sound.0 p n fits.0 s (within values.grows l) g (fewer h.0 (omega arith), h.1) in
           let in_places : places_registers es free ≤ s.registers = omega (arith, h.0.registers_fit) in
           let few : values_registers es free ≤ s.registers = omega (arith, h.0.registers_fit) in
-          let all : places ≡ add.0 = add.1 ∙ ap (λ l. l ++ add.0) i0 in
-          let registers = ia ∙ ap (map (λ p. p.register)) (i1 ∙ all) in
           let named_call = fits.1.0 in
-          let callee = callee_sound p s _ _ named_call.callee _ _ _ _ h.0 ig named_call.there named_call.count registers add.2 in
+          let callee = callee_sound p s _ _ named_call.callee _ _ _ _ h.0 refl named_call.there named_call.count registers add.2 in
           let exit = sound_exit _ fe (callee, (place_registers_sound s.registers _ _ _ _ registers add.2 in_places, j.1)) in
           keeps.0 s l j.0 (in_places, ((few, named_all p s n es h.0 fits.1.1), exit)),
       omega (arith, keeps.1, receiver.sound.1, ap insts_of fe),
     ))
-    (λ from does bs h leave next. call_code old mid new free to f f' x.to es places0 places ps1 ps2 args (open_code from) (open_code end) after x.block
-    ig i0 add i1 i2 ia fe receiver.grows values.grows receiver.does does leave next bs h)
+    (λ from does bs h leave next.
+    let sp = split2 bs old mid new receiver.grows values.grows h in
+    let exit = X.Call f' args x.to x.block in
+    record {
+      code = open_code from;
+      is = refl;
+      to = x.to;
+      block = x.block;
+      receives = receiver.does bs sp.0;
+      places = add.0;
+      are_places = add.2;
+      exit = exit;
+      leaves = λ w r. ap (λ l. with_value (words_in r l) w.output (λ vs. with_value (slice_get bs x.block) w.output (λ b.
+          state_after_call (around_callee w (activation w bs r (code_of b)) x.to) f' vs))) registers;
+      values = subst (λ ps. FetchAll bs es free ps (open_code from) (exit_code exit)) (i2 ∙ all)
+          (subst (λ c. FetchAll bs es free ps2 (open_code from) c) fe (does bs sp.1));
+    }))
 
 -- returns
 
@@ -272,8 +301,10 @@ value_returned old new given e free p next end after r ig pl room fe o = rw ig (
 
 pub nothing_emits : (old : List RBlock) (s : Tree.TypedStatement) (c : Context) (after : Continuation)
     → (s ≡ Tree.Empty) ⊎ ((x : ℕ) × s ≡ Tree.Unset x) → Emits (statement_code (statement_of s) c (spot after)) old old (Ok after)
-nothing_emits old s c after (inl is) = rw is (emitted _ (grows_same old) (omega arith) (omega arith) (refl, λ p n gives inside f s l g h. (g, h.1.1.1), omega arith) (λ bs h. refl))
-nothing_emits old s c after (inr is) = rw is.1 (emitted _ (grows_same old) (omega arith) (omega arith) (refl, λ p n gives inside f s l g h. (g, h.1.1.1), omega arith) (λ bs h. refl))
+nothing_emits old s c after (inl is) = rw is (emitted _ (grows_same old) (omega arith) (omega arith)
+    (refl, λ p n gives inside f s l g h. (g, h.1.1.1), omega arith) (λ bs h. refl))
+nothing_emits old s c after (inr is) = rw is.1 (emitted _ (grows_same old) (omega arith) (omega arith)
+    (refl, λ p n gives inside f s l g h. (g, h.1.1.1), omega arith) (λ bs h. refl))
 
 pub break_emits : (old : List RBlock) (s : TypedStatement) (c : Context) (after : Spot) → s ≡ break_loop
     → Emits (statement_code s c after) old old (Ok (Jump c.leave))
@@ -292,7 +323,8 @@ block_emits old new s all c after r is e = rw is (meant e (same_size (statements
 
 pub none_emits : (old : List RBlock) (all : TypedStatements) (c : Context) (after : Continuation) → all ≡ no_statements
     → Emits (statements_code all c (spot after)) old old (Ok after)
-none_emits old all c after is = rw is (emitted _ (grows_same old) (omega arith) (omega arith) (refl, λ p n gives inside f s l g h. (g, h.1.1.1), omega arith) (λ bs h. refl))
+none_emits old all c after is = rw is (emitted _ (grows_same old) (omega arith) (omega arith)
+    (refl, λ p n gives inside f s l g h. (g, h.1.1.1), omega arith) (λ bs h. refl))
 
 pub more_emits : (old mid new : List RBlock) (all : TypedStatements) (s : TypedStatement) (rest : TypedStatements) (c : Context) (after : Spot)
     (middle : Continuation) (r : Result Continuation LowerFault) → all ≡ more_statements s rest → Emits (statements_code rest c after) old mid (Ok middle)

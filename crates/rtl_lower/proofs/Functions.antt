@@ -85,7 +85,8 @@ one_function all rs rs' i f r e lt is c m =
 pub one_global : (all : List Global) (rs rs' : List RGlobal) (i : ℕ) (g d : Global) (r : RGlobal) → rs' ≡ rs ++ r ∷ [] → i < length all → g ≡ get_or all i d
     → IsGlobalOf g r → AreGlobalsOf (take i all) rs → AreGlobalsOf (take (i + 1) all) rs'
 one_global all rs rs' i g d r e lt is c m =
-    subst (λ gs. AreGlobalsOf gs rs') (sym (take_one all i (i + 1) g d lt refl is)) (subst (λ rs. AreGlobalsOf (take i all ++ g ∷ []) rs) (sym e) (pairs_push IsGlobalOf (take i all) rs g r m c))
+    subst (λ gs. AreGlobalsOf gs rs') (sym (take_one all i (i + 1) g d lt refl is)) (subst (λ rs. AreGlobalsOf (take i all ++ g ∷ []) rs) (sym e)
+    (pairs_push IsGlobalOf (take i all) rs g r m c))
 
 pub pairs_at : {A B : Type 0} (IsPair : A → B → Type 0) (xs : List A) (ys : List B) → ArePairs IsPair xs ys → (i : ℕ) (x : A) → slice_get xs i ≡ Some x
     → (y : B) × (slice_get ys i ≡ Some y) × IsPair x y

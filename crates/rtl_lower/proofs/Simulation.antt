@@ -202,9 +202,7 @@ module _ (src : TypedProgram) (p : Program) (ok : IsCodeOfProgram src p) (well :
   same_kept a v lt =
       let there = get_some src.globals a lt in
       let r = ok.globals a there.0 there.1 in
-      ap (λ (o : Option RGlobal). chain o (λ global. Some (kept global.width v))) r.1
-      ∙ ap (λ (w : Width). Some (kept w v)) r.2.width
-      ∙ sym (ap (λ (o : Option Global). chain o (λ global. Some (kept global.width v))) there.1)
+      rw (r.1, there.1) (ap (λ (w : Width). Some (kept w v)) r.2.width)
 
   -- a store that has its global in the source has it in RTL
   stored : (w : Around src) (a i v : ℕ) (g : Arrays) (done : Arrays → Blk.Run) → a < length src.globals
@@ -278,12 +276,8 @@ module _ (src : TypedProgram) (p : Program) (ok : IsCodeOfProgram src p) (well :
   call_step : (w : Around src) (f : ℕ) (vs : List ℕ) (r : RFunc) → slice_get p.functions f ≡ Some r → length vs ≡ r.parameters
       → Blk.state_after_call (target w) f vs
       ≡ (if nat_lt (length w.activations) depth then state_at_block (target w) r.blocks.items (argument_registers vs) 0 else Failed w.output)
-  call_step w f vs r there many =
-      with_some (slice_get p.functions f) r w.output
-      (λ func. if nat_lt (length w.activations) depth && (length vs == func.parameters)
-      then state_at_block (target w) func.blocks.items (argument_registers vs) 0 else Failed w.output) there
-      ∙ if_both (nat_lt (length w.activations) depth) (length vs == r.parameters) (state_at_block (target w) r.blocks.items (argument_registers vs) 0)
-      (Failed w.output) (eq-eqb (length vs) r.parameters many)
+  call_step w f vs r there many = rw there (if_both (nat_lt (length w.activations) depth) (length vs == r.parameters)
+      (state_at_block (target w) r.blocks.items (argument_registers vs) 0) (Failed w.output) (eq-eqb (length vs) r.parameters many))
 
   -- a call
   calls : (w : Around src) (f : ℕ) (vs : List ℕ) (t : Blk.Run)
@@ -487,14 +481,7 @@ module _ (src : TypedProgram) (p : Program) (ok : IsCodeOfProgram src p) (well :
           let some : Some fits.callee ≡ Some func = sym fits.there ∙ there in
           let same : fits.callee ≡ func = cc in
           values_length es l w.globals vs is ∙ fits.count ∙ ap (λ (f : TypedFunction). f.parameters) same in
-          let begun : Code → List ℕ → Blk.Run = λ code vs.
-          Blk.state_after_call (around_callee (target w) (activation (target w) bs y.regs code) c.to) callee vs in
-          let step =
-          c.leaves (target w) y.regs
-          ∙ with_some (words_in y.regs (map (λ p. p.register) c.places)) vs w.output
-          (λ vs. with_value (slice_get bs c.block) w.output (λ b. begun (code_of b) vs)) y.values
-          ∙ with_some (slice_get bs c.block) at_block.block w.output (λ b. begun (code_of b) vs) at_block.there
-          ∙ ap (λ (code : Code). begun code vs) at_block.is in
+          let step = rw (y.values, at_block.there, at_block.is) at (c.leaves (target w) y.regs) in
           advance_after src p depth _ (at (target w) bs y.regs (exit_code c.exit)) _ y.goes
           (calls (record w {
             place = place;
@@ -527,15 +514,7 @@ module _ (src : TypedProgram) (p : Program) (ok : IsCodeOfProgram src p) (well :
   advances (Running (f ∷ fs) g out) t words m =
       let a = m.a in
       let top = m.top in
-      let w : Around src = record {
-        place = f.result_to;
-        to = a.result_to;
-        waiting = fs;
-        activations = m.ws;
-        stack = m.below;
-        globals = g;
-        output = out;
-      } in
+      let w : Around src = record { place = f.result_to; to = a.result_to; waiting = fs; activations = m.ws; stack = m.below; globals = g; output = out } in
       let h : Holds top.count f.locals a.registers g = record { by = top.located; locals = All-head FrameHoldsWords f fs words.0; globals = words.1.0 } in
       let s = settles src (target w) a.blocks top.count a.registers Going f.locals f.todo top.leave top.next top.spot a.code top.sits top.targets
       top.follows h in
