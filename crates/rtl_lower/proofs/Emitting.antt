@@ -143,10 +143,9 @@ pub store_emits : (old mid new : List RBlock) (a a' : ℕ) (i e : TypedExpressio
 store_emits old mid new a a' i e free p next q last code middle after r ia pi ri pe re fe second one =
     let values : value_registers e (next_free i free) ≤ MAX_REGISTERS = subst (λ n. value_registers e n ≤ MAX_REGISTERS) pi.next_is second.room in
     let places : place_registers e (next_free i free) ≤ MAX_REGISTERS = subst (λ n. place_registers e n ≤ MAX_REGISTERS) pi.next_is re in
-    let c1 : length mid ≡ length old + value_blocks e 1 = second.count in
     rw (← ia) (ended (value_blocks e 1) one
     (record { blocks = omega arith; registers = omega arith; room = λ le. omega (arith, le, ri, places, values); globals = omega arith })
-    second.grows c1
+    second.grows second.count
     (λ from keeps. (
       λ p' n gives inside f s l g h.
           let there = in_scope p' s _ _ h.0 refl f.0 in
@@ -332,11 +331,9 @@ pub more_emits : (old mid new : List RBlock) (all : TypedStatements) (s : TypedS
 more_emits old mid new all s rest c after middle r is others one =
     let same : joint (spot middle) ≡ statements_joint rest (joint after) = others.sound.0 in
     let blocks : statement_blocks s (joint (spot middle)) ≡ statement_blocks s (statements_joint rest (joint after)) = ap (statement_blocks s) same in
-    let c1 : length mid ≡ length old + statements_blocks rest (joint after) = others.count in
-    let room1 : statements_registers rest c.free ≤ MAX_REGISTERS = others.room in
     rw is (ended (statements_blocks rest (joint after)) one
-    (record { blocks = omega (arith, blocks); registers = omega arith; room = λ le. omega (arith, le, room1); globals = omega arith })
-    others.grows c1
+    (record { blocks = omega (arith, blocks); registers = omega arith; room = λ le. omega (arith, le, others.room); globals = omega arith })
+    others.grows others.count
     (λ from keeps. (
       keeps.0 ∙ ap (statement_joint s) same,
       λ p n gives inside f s' l g h.
@@ -371,15 +368,13 @@ pub side_emits : (old mid new : List RBlock) (s : TypedStatement) (c : Context) 
     → IfOk r (λ b. KeepsSound mid new (λ s. IsSoundSpot s (spot code)) (λ s. b < s.blocks))
     → IfOk r (λ b. (bs : List RBlock) → Has bs mid new → Lands bs b (spot code)) → Emits (side_code s c join) old new r
 side_emits old mid new s c join code (Ok b) e g count insts limit sound lands =
-    let c1 : length mid ≡ length old + statement_blocks s 0 = e.count in
     let same : joint (spot code) ≡ statement_joint s 0 = e.sound.0 in
-    emitted b (grows_then old mid new e.grows g) (omega (arith, c1, count, same)) e.room
+    emitted b (grows_then old mid new e.grows g) (omega (arith, e.count, count, same)) e.room
     (λ p n gives inside f s' l g0 h. let m = e.sound.1 p n gives inside f s' (within g l) g0 h in sound s' l m.0 m.1, omega (arith, e.sound.2, insts))
     (λ bs h. let sp = split2 bs old mid new e.grows g h in (spot code, lands bs sp.1, e.does bs sp.0))
 side_emits old mid new s c join code (Err f) e g count insts limit sound lands =
-    let c1 : length mid ≡ length old + statement_blocks s 0 = e.count in
     let same : joint (spot code) ≡ statement_joint s 0 = e.sound.0 in
-    record { grows = grows_then old mid new e.grows g; count = tt; room = tt; limit = λ is. omega (arith, c1, same, limit is); sound = tt; does = tt }
+    record { grows = grows_then old mid new e.grows g; count = tt; room = tt; limit = λ is. omega (arith, e.count, same, limit is); sound = tt; does = tt }
 
 pub if_emits : (b0 b1 b2 b3 b4 : List RBlock) (e : TypedExpression) (a b : TypedStatement) (c : Context) (join y n : ℕ) (likely : Bool)
     (after : Spot) (r : Result OpenBlock LowerFault) → likely ≡ (stays a && not (is_equality e)) → Sealing b0 b1 join after
@@ -390,15 +385,11 @@ if_emits b0 b1 b2 b3 b4 e a b c join y n likely after r il sealing one other tes
     let likely' = stays a && not (is_equality e) in
     let test' = subst (λ l. Emits (condition_branch e (record { yes = y; no = n; likely = l }) c.free) b3 b4 r) il test in
     let g13 = grows_then b1 b2 b3 one.grows other.grows in
-    let c1 : length b2 ≡ length b1 + (statement_blocks a 0 + statement_joint a 0) = one.count in
-    let c2 : length b3 ≡ length b2 + (statement_blocks b 0 + statement_joint b 0) = other.count in
-    let r1 : statement_registers a c.free ≤ MAX_REGISTERS = one.room in
-    let r2 : statement_registers b c.free ≤ MAX_REGISTERS = other.room in
     let sides = statement_blocks a 0 + statement_joint a 0 + statement_blocks b 0 + statement_joint b 0 in
     made_emits (statement_code (if_else e a b) c after) b0 b4 r
     (ended (joint after + sides) test'
-    (record { blocks = omega arith; registers = omega arith; room = λ le. omega (arith, le, r1, r2); globals = omega arith })
-    (grows_then b0 b1 b3 sealing.grows g13) (omega (arith, sealing.count, c1, c2))
+    (record { blocks = omega arith; registers = omega arith; room = λ le. omega (arith, le, one.room, other.room); globals = omega arith })
+    (grows_then b0 b1 b3 sealing.grows g13) (omega (arith, sealing.count, one.count, other.count))
     (λ from keeps. (
       refl,
       λ p k gives inside f s l g h.
@@ -433,18 +424,17 @@ if_emits b0 b1 b2 b3 b4 e a b c join y n likely after r il sealing one other tes
 
 -- what is told where a part of an `if` is refused: where it goes on, or its second side
 
-pub join_stops : (old new : List RBlock) (s : TypedStatement) (c : Context) (after : Spot) (f : LowerFault) (r : Result OpenBlock LowerFault) → r ≡ Err f
+pub join_stops : {old new : List RBlock} {f : LowerFault} {r : Result OpenBlock LowerFault} (s : TypedStatement) (c : Context) (after : Spot) → r ≡ Err f
     → new ≡ old → joint after ≤ statement_blocks s (joint after) → (f ≡ Limit → MAX_BLOCKS < length old + joint after)
     → Emits (statement_code s c after) old new (made_of r)
-join_stops old new s c after f r is same few limit = refused f (ap made_of is) same (λ l. omega (arith, limit l, few))
+join_stops s c after is same few limit = refused _ (ap made_of is) same (λ l. omega (arith, limit l, few))
 
-pub if_second_stops : (b0 b1 b2 b3 : List RBlock) (e : TypedExpression) (a b : TypedStatement) (c : Context) (join y : ℕ) (after : Spot)
-    (f : LowerFault) (r : Result OpenBlock LowerFault) → r ≡ Err f → Sealing b0 b1 join after → Emits (side_code a c join) b1 b2 (Ok y)
+pub if_second_stops : {b0 b1 b2 b3 : List RBlock} {join y : ℕ} {after : Spot} {f : LowerFault} {r : Result OpenBlock LowerFault} (e : TypedExpression)
+    (a b : TypedStatement) (c : Context) → r ≡ Err f → Sealing b0 b1 join after → Emits (side_code a c join) b1 b2 (Ok y)
     → Emits (side_code b c join) b2 b3 (Err f) → Emits (statement_code (if_else e a b) c after) b0 b3 (made_of r)
-if_second_stops b0 b1 b2 b3 e a b c join y after f r is sealing one other =
-    let c1 : length b2 ≡ length b1 + (statement_blocks a 0 + statement_joint a 0) = one.count in
+if_second_stops {b0} {b1} {b2} {after = after} e a b c is sealing one other =
     part_refused (joint after + (statement_blocks a 0 + statement_joint a 0)) other (ap made_of is) (omega arith) (omega arith) (omega arith)
-    (grows_then b0 b1 b2 sealing.grows one.grows) (omega (arith, sealing.count, c1))
+    (grows_then b0 b1 b2 sealing.grows one.grows) (omega (arith, sealing.count, one.count))
 
 -- loops
 
@@ -468,13 +458,9 @@ pub turn_emits : (b0 b1 b2 b3 : List RBlock) (e : TypedExpression) (last : Typed
 turn_emits b0 b1 b2 b3 e last c many again bottom code r test part end =
     let same : joint (spot code) ≡ statement_joint last 1 = part.sound.0 in
     let blocks : (if many then joint (spot code) else 0) ≡ (if many then statement_joint last 1 else 0) = ap (λ n. if many then n else 0) same in
-    let c1 : length b1 ≡ length b0 + condition_blocks e = test.count in
-    let c2 : length b2 ≡ length b1 + statement_blocks last 1 = part.count in
-    let r1 : (condition_size e again.likely c.free).registers ≤ MAX_REGISTERS = test.room in
-    let r2 : statement_registers last c.free ≤ MAX_REGISTERS = part.room in
     ended (condition_blocks e + statement_blocks last 1) end
-    (record { blocks = omega (arith, blocks); registers = omega arith; room = λ le. omega (arith, r1, r2); globals = omega arith })
-    (grows_then b0 b1 b2 test.grows part.grows) (omega (arith, c1, c2))
+    (record { blocks = omega (arith, blocks); registers = omega arith; room = λ le. omega (arith, test.room, part.room); globals = omega arith })
+    (grows_then b0 b1 b2 test.grows part.grows) (omega (arith, test.count, part.count))
     (λ t keeps. (
       subst (λ n. IsEnd many t n) same keeps.0,
       λ p n gives fe fl s l g h.
@@ -495,10 +481,10 @@ grows_filled b0 b5 b6 head c g low f =
 
 -- what is told where a loop's first block is refused
 
-pub loop_head_stops : (b0 b1 b2 : List RBlock) (e : TypedExpression) (last body : TypedStatement) (c : Context) (left : ℕ) (after : Spot)
-    (f : LowerFault) (r : Result OpenBlock LowerFault) → r ≡ Err f → Sealing b0 b1 left after → b2 ≡ b1
-    → (f ≡ Limit → MAX_BLOCKS < length b1 + 1) → Emits (statement_code (loop e last body) c after) b0 b2 (made_of r)
-loop_head_stops b0 b1 b2 e last body c left after f r is sealing same limit = rw (ap made_of is) (record {
+pub loop_head_stops : {b0 b1 b2 : List RBlock} {left : ℕ} {after : Spot} {f : LowerFault} {r : Result OpenBlock LowerFault} (e : TypedExpression)
+    (last body : TypedStatement) (c : Context) → r ≡ Err f → Sealing b0 b1 left after → b2 ≡ b1 → (f ≡ Limit → MAX_BLOCKS < length b1 + 1)
+    → Emits (statement_code (loop e last body) c after) b0 b2 (made_of r)
+loop_head_stops {b0} e last body c is sealing same limit = rw (ap made_of is) (record {
   grows = subst (λ b. Grows b0 b) (sym same) sealing.grows;
   count = tt;
   room = tt;
@@ -542,8 +528,7 @@ module _ {b0 b1 b2 : List RBlock} {left head : ℕ} {many : Bool} {after : Spot}
 
     turn_count : length b3 ≡ length b0 + (joint after + 1 + (last_size e last (continues body) true c.free).blocks)
     turn_count =
-        let c2 : length b3 ≡ length b2 + (last_size e last (continues body) true c.free).blocks = turn_made.count in
-        omega (arith, sealing.count, res.longer, c2)
+        omega (arith, sealing.count, res.longer, turn_made.count)
 
     pub loop_body_stops : {b4 : List RBlock} {f : LowerFault} {r : Result OpenBlock LowerFault} → r ≡ Err f
         → Emits (statement_code body inner (spot turn.after)) b3 b4 (Err f) → Emits (statement_code (loop e last body) c after) b0 b4 (made_of r)
@@ -555,10 +540,9 @@ module _ {b0 b1 b2 : List RBlock} {left head : ℕ} {many : Bool} {after : Spot}
       pub loop_top_stops : {f : LowerFault} {r : Result OpenBlock LowerFault} → r ≡ Err f
           → Emits (condition_branch e (again head left) c.free) b4 b5 (Err f) → Emits (statement_code (loop e last body) c after) b0 b5 (made_of r)
       loop_top_stops is test =
-          let c3 : length b4 ≡ length b3 + statement_blocks body (joint (spot turn.after)) = (body_made part).count in
           part_refused (joint after + 1 + (last_size e last (continues body) true c.free).blocks + statement_blocks body (joint (spot turn.after))) test
           (ap made_of is) (omega arith) (omega (arith, body_blocks)) (omega arith)
-          (grows_then b0 b3 b4 turn_grows (body_made part).grows) (omega (arith, turn_count, c3))
+          (grows_then b0 b3 b4 turn_grows (body_made part).grows) (omega (arith, turn_count, (body_made part).count))
 
       pub loop_emits : {b6 : List RBlock} {top : OpenBlock} {filled : Code} → insts_in b2 ≡ insts_in b1
           → ((s : Scope) → AreSound s b1 → AreSound s b2) → Emits (condition_branch e (again head left) c.free) b4 b5 (Ok top)
@@ -571,12 +555,8 @@ module _ {b0 b1 b2 : List RBlock} {left head : ℕ} {many : Bool} {after : Spot}
           let g15 = grows_then b1 b2 b5 res.grows g25 in
           let low : length b0 ≤ head = omega (arith, sealing.grows.longer, res.number) in
           let in_b2 : head < length b2 = omega (arith, res.number, res.longer) in
-          let c3 : length b4 ≡ length b3 + statement_blocks body (joint (spot turn.after)) = made.count in
-          let c4 : length b5 ≡ length b4 + condition_blocks e = test.count in
-          let r2 : (last_size e last (continues body) true c.free).registers ≤ MAX_REGISTERS = turn_made.room in
-          let r3 : statement_registers body c.free ≤ MAX_REGISTERS = made.room in
           emitted (Made top) (grows_filled b0 b5 b6 head filled (grows_then b0 b1 b5 sealing.grows g15) low f)
-          (omega (arith, turn_count, c3, c4, body_blocks, f.same_length)) (omega (arith, r2, r3)) (
+          (omega (arith, turn_count, made.count, test.count, body_blocks, f.same_length)) (omega (arith, turn_made.room, made.room)) (
             refl,
             λ p n gives inside f' s l g h.
                 let l5 = within_filled f l in

@@ -245,8 +245,7 @@ module _ (src : TypedProgram) (p : Program) (ok : IsCodeOfProgram src p) (well :
   enters_block : (w : Around src) (bs : List RBlock) (n : ℕ) (l r : Places) (k : List Todo) (b : ℕ) → Starts src bs n b k → Located n l r
       → MatchRun src (Src.at (source w) l k) (state_at_block (target w) bs r b)
   enters_block w bs n l r k b s h =
-      subst (λ t. MatchRun src (Src.at (source w) l k) t) (sym (jump_to s.1 (target w) r))
-      (matches w bs n l r k s.0 s.2 h)
+      rw (jump_to s.1 (target w) r) (matches w bs n l r k s.0 s.2 h)
 
   -- what a function begins with
   begins : (i : ℕ) (f : TypedFunction) (r : RFunc) → slice_get src.functions i ≡ Some f → (c : IsCodeOf f r)
@@ -538,11 +537,6 @@ module _ (src : TypedProgram) (p : Program) (ok : IsCodeOfProgram src p) (well :
   starts : MatchRun src (source_start src) (rtl_start p)
   starts = first_frame (slice_get src.functions src.main) refl
     where
-      enter : Arrays → RFunc → Blk.Run
-      enter g func =
-          let w : Surroundings = record { program = p; depth = depth; result_to = None; waiting = []; globals = g; output = [] } in
-          state_at_block w func.blocks.items unset_places 0
-
       first_frame : (o : Option TypedFunction) → slice_get src.functions src.main ≡ o
           → MatchRun src (with_value o [] (λ func. Running (record { locals = unset_places; todo = before_all func.body []; result_to = None } ∷ [])
           (map first_words src.globals) [])) (rtl_start p)
@@ -559,8 +553,7 @@ module _ (src : TypedProgram) (p : Program) (ok : IsCodeOfProgram src p) (well :
             globals = map first_words src.globals;
             output = [];
           } in
-          let is = with_some (slice_get p.functions p.main) r.0 [] (enter (map first_values p.globals)) there ∙ ap (λ (g : Arrays). enter g r.0) ok.first in
-          subst (λ t. MatchRun src (Src.at (source w) unset_places (before_all func.body [])) t) (sym is)
+          rw (there, ok.first)
           (enters_block w r.0.blocks.items func.locals unset_places unset_places (before_all func.body []) 0 (begins src.main func r.0 e r.2)
           (λ x v e. absurd (none-some v e)))
 

@@ -125,9 +125,8 @@ side_block-returns-in_err-code t c = part_refused 0 c.in_err-code.ensures (searc
 
 pub if_statement-returns-in_err-join : goal.if_statement-returns-in_err-join
 if_statement-returns-in_err-join t c =
-    join_stops _ _ (if_else (typed_expression_of c.args.test.now) (statement_of c.args.yes.now) (statement_of c.args.no.now)) c.args.context
-    (spot c.args.after) c.in_err-join.field-0.0 c.from_residual.result (search rules) c.in_err-join.ensures.left
-    (omega arith) c.in_err-join.ensures.limit
+    join_stops (if_else (typed_expression_of c.args.test.now) (statement_of c.args.yes.now) (statement_of c.args.no.now)) c.args.context
+    (spot c.args.after) (search rules) c.in_err-join.ensures.left (omega arith) c.in_err-join.ensures.limit
 
 pub if_statement-returns-in_err-yes_block : goal.if_statement-returns-in_err-yes_block
 if_statement-returns-in_err-yes_block t c =
@@ -138,9 +137,8 @@ if_statement-returns-in_err-yes_block t c =
 pub if_statement-returns-in_err-no_block : goal.if_statement-returns-in_err-no_block
 if_statement-returns-in_err-no_block t c =
     let join = c.in_ok-join.ensures in
-    if_second_stops _ _ _ _ _ _ _ c.args.context c.in_ok-join.join c.in_ok-yes_block.yes_block (spot c.args.after) c.in_err-no_block.field-0.0
-    c.from_residual-in_err-no_block.result (search rules)
-    (sealed (spot c.args.after) join.grows join.count join.insts join.sound join.lands) c.in_ok-yes_block.ensures c.in_err-no_block.ensures
+    if_second_stops _ _ _ c.args.context (search rules) (sealed (spot c.args.after) join.grows join.count join.insts join.sound join.lands)
+    c.in_ok-yes_block.ensures c.in_err-no_block.ensures
 
 pub turn_of-returns-in_err-bottom : goal.turn_of-returns-in_err-bottom
 turn_of-returns-in_err-bottom t c = part_refused 0 c.in_err-bottom.ensures (search rules) (omega arith) (omega arith) (omega arith) (grows_same _)
@@ -154,15 +152,14 @@ turn_of-returns-in_err-code t c =
 
 pub loop_statement-returns-in_err-left : goal.loop_statement-returns-in_err-left
 loop_statement-returns-in_err-left t c =
-    join_stops _ _ (loop (typed_expression_of c.args.test.now) (statement_of c.args.last.now) (statement_of c.args.body.now)) c.args.context
-    (spot c.args.after) c.in_err-left.field-0.0 c.from_residual.result (search rules) c.in_err-left.ensures.left
-    (omega arith) c.in_err-left.ensures.limit
+    join_stops (loop (typed_expression_of c.args.test.now) (statement_of c.args.last.now) (statement_of c.args.body.now)) c.args.context
+    (spot c.args.after) (search rules) c.in_err-left.ensures.left (omega arith) c.in_err-left.ensures.limit
 
 pub loop_statement-returns-in_err-head : goal.loop_statement-returns-in_err-head
 loop_statement-returns-in_err-head t c =
     let join = c.in_ok-left.ensures in
-    loop_head_stops _ _ _ _ _ _ c.args.context c.in_ok-left.left (spot c.args.after) c.in_err-head.field-0.0 c.from_residual-in_err-head.result (search rules)
-    (sealed (spot c.args.after) join.grows join.count join.insts join.sound join.lands) c.in_err-head.ensures.left c.in_err-head.ensures.limit
+    loop_head_stops _ _ _ c.args.context (search rules) (sealed (spot c.args.after) join.grows join.count join.insts join.sound join.lands)
+    c.in_err-head.ensures.left c.in_err-head.ensures.limit
 
 pub loop_statement-returns-in_err-turn : goal.loop_statement-returns-in_err-turn
 loop_statement-returns-in_err-turn t c =
