@@ -110,8 +110,7 @@ local_emits old new to x local e free after r it il lt v =
     (λ from keeps. (
       λ p n gives inside f s l g h.
           let to_it : local < s.registers = omega (arith, h.0.registers_fit) in
-          let few : value_registers e free ≤ s.registers = omega (arith, h.0.registers_fit) in
-          keeps.0 s l g (to_it, ((few, named p s n e h.0 f.1), h.1)),
+          keeps.0 s l g (to_it, ((omega (arith, h.0.registers_fit), named p s n e h.0 f.1), h.1)),
       keeps.1,
     ))
     (λ from does bs h leave next. record { code = open_code from; is = refl; value = does bs h }))
@@ -185,8 +184,7 @@ output_emits old mid new e free b p next end after r sealing pl room fe o =
       λ p' n gives inside f s l g h.
           let j = sealing.sound s (within o.grows l) g h.1 in
           let held : p < s.registers = omega (arith, h.0.registers_fit, pl.counted) in
-          let few : value_registers e free ≤ s.registers = omega (arith, h.0.registers_fit) in
-          keeps.0 s l j.0 (held, ((few, named p' s n e h.0 f), sound_exit _ fe (held, j.1))),
+          keeps.0 s l j.0 (held, ((omega (arith, h.0.registers_fit), named p' s n e h.0 f), sound_exit _ fe (held, j.1))),
       omega (arith, keeps.1, ap insts_of fe, sealing.insts),
     ))
     (λ from does bs h leave next'.
@@ -250,11 +248,10 @@ call_emits old mid new to f f' es free x places0 places ps1 ps2 args end after r
       λ p n gives inside fits s l g h.
           let j = receiver.sound.0 p n fits.0 s (within values.grows l) g (fewer h.0 (omega arith), h.1) in
           let in_places : places_registers es free ≤ s.registers = omega (arith, h.0.registers_fit) in
-          let few : values_registers es free ≤ s.registers = omega (arith, h.0.registers_fit) in
           let named_call = fits.1.0 in
           let callee = callee_sound p s _ _ named_call.callee _ _ _ _ h.0 refl named_call.there named_call.count registers add.2 in
           let exit = sound_exit _ fe (callee, (place_registers_sound s.registers _ _ _ _ registers add.2 in_places, j.1)) in
-          keeps.0 s l j.0 (in_places, ((few, named_all p s n es h.0 fits.1.1), exit)),
+          keeps.0 s l j.0 (in_places, ((omega (arith, h.0.registers_fit), named_all p s n es h.0 fits.1.1), exit)),
       omega (arith, keeps.1, receiver.sound.1, ap insts_of fe),
     ))
     (λ from does bs h leave next.
@@ -290,8 +287,7 @@ value_returned old new given e free p next end after r ig pl room fe o = rw ig (
     (λ from keeps. (
       λ p' n gives inside f s l g h.
           let held : p < s.registers = omega (arith, h.0.registers_fit, pl.counted) in
-          let few : value_registers e free ≤ s.registers = omega (arith, h.0.registers_fit) in
-          keeps.0 s l g (held, ((few, named p' s n e h.0 f.1), sound_exit _ fe held)),
+          keeps.0 s l g (held, ((omega (arith, h.0.registers_fit), named p' s n e h.0 f.1), sound_exit _ fe held)),
       omega (arith, keeps.1, ap insts_of fe),
     ))
     (λ from does bs h leave next'. fetches_first from pl (finds_to fe (does bs h))))
@@ -330,9 +326,8 @@ pub more_emits : (old mid new : List RBlock) (all : TypedStatements) (s : TypedS
     → Emits (statement_code s c (spot middle)) mid new r → Emits (statements_code all c after) old new r
 more_emits old mid new all s rest c after middle r is others one =
     let same : joint (spot middle) ≡ statements_joint rest (joint after) = others.sound.0 in
-    let blocks : statement_blocks s (joint (spot middle)) ≡ statement_blocks s (statements_joint rest (joint after)) = ap (statement_blocks s) same in
     rw is (ended (statements_blocks rest (joint after)) one
-    (record { blocks = omega (arith, blocks); registers = omega arith; room = λ le. omega (arith, le, others.room); globals = omega arith })
+    (record { blocks = omega (arith, ap (statement_blocks s) same); registers = omega arith; room = λ le. omega (arith, le, others.room); globals = omega arith })
     others.grows others.count
     (λ from keeps. (
       keeps.0 ∙ ap (statement_joint s) same,
@@ -368,28 +363,24 @@ pub side_emits : (old mid new : List RBlock) (s : TypedStatement) (c : Context) 
     → IfOk r (λ b. KeepsSound mid new (λ s. IsSoundSpot s (spot code)) (λ s. b < s.blocks))
     → IfOk r (λ b. (bs : List RBlock) → Has bs mid new → Lands bs b (spot code)) → Emits (side_code s c join) old new r
 side_emits old mid new s c join code (Ok b) e g count insts limit sound lands =
-    let same : joint (spot code) ≡ statement_joint s 0 = e.sound.0 in
-    emitted b (grows_then old mid new e.grows g) (omega (arith, e.count, count, same)) e.room
+    emitted b (grows_then old mid new e.grows g) (omega (arith, e.count, count, e.sound.0)) e.room
     (λ p n gives inside f s' l g0 h. let m = e.sound.1 p n gives inside f s' (within g l) g0 h in sound s' l m.0 m.1, omega (arith, e.sound.2, insts))
     (λ bs h. let sp = split2 bs old mid new e.grows g h in (spot code, lands bs sp.1, e.does bs sp.0))
 side_emits old mid new s c join code (Err f) e g count insts limit sound lands =
-    let same : joint (spot code) ≡ statement_joint s 0 = e.sound.0 in
-    record { grows = grows_then old mid new e.grows g; count = tt; room = tt; limit = λ is. omega (arith, e.count, same, limit is); sound = tt; does = tt }
+    record { grows = grows_then old mid new e.grows g; count = tt; room = tt; limit = λ is. omega (arith, e.count, e.sound.0, limit is); sound = tt; does = tt }
 
-pub if_emits : (b0 b1 b2 b3 b4 : List RBlock) (e : TypedExpression) (a b : TypedStatement) (c : Context) (join y n : ℕ) (likely : Bool)
-    (after : Spot) (r : Result OpenBlock LowerFault) → likely ≡ (stays a && not (is_equality e)) → Sealing b0 b1 join after
+pub if_emits : {b0 b1 b2 b3 b4 : List RBlock} {join y n : ℕ} {likely : Bool} {after : Spot} {r : Result OpenBlock LowerFault} (e : TypedExpression)
+    (a b : TypedStatement) (c : Context) → likely ≡ (stays a && not (is_equality e)) → Sealing b0 b1 join after
     → Emits (side_code a c join) b1 b2 (Ok y) → Emits (side_code b c join) b2 b3 (Ok n)
     → Emits (condition_branch e (record { yes = y; no = n; likely = likely }) c.free) b3 b4 r
     → Emits (statement_code (if_else e a b) c after) b0 b4 (made_of r)
-if_emits b0 b1 b2 b3 b4 e a b c join y n likely after r il sealing one other test =
-    let likely' = stays a && not (is_equality e) in
+if_emits {b0} {b1} {b2} {b3} {b4} {join} {y} {n} {likely} {after} {r} e a b c il sealing one other test =
     let test' = subst (λ l. Emits (condition_branch e (record { yes = y; no = n; likely = l }) c.free) b3 b4 r) il test in
-    let g13 = grows_then b1 b2 b3 one.grows other.grows in
     let sides = statement_blocks a 0 + statement_joint a 0 + statement_blocks b 0 + statement_joint b 0 in
     made_emits (statement_code (if_else e a b) c after) b0 b4 r
     (ended (joint after + sides) test'
     (record { blocks = omega arith; registers = omega arith; room = λ le. omega (arith, le, one.room, other.room); globals = omega arith })
-    (grows_then b0 b1 b3 sealing.grows g13) (omega (arith, sealing.count, one.count, other.count))
+    (grows_then b0 b1 b3 sealing.grows (grows_then b1 b2 b3 one.grows other.grows)) (omega (arith, sealing.count, one.count, other.count))
     (λ from keeps. (
       refl,
       λ p k gives inside f s l g h.
@@ -398,8 +389,7 @@ if_emits b0 b1 b2 b3 b4 e a b c join y n likely after r il sealing one other tes
           let j = sealing.sound s (within one.grows l2) g h.1.1.1 in
           let x = one.sound.0 p k gives inside f.1.0 s l2 j.0 (fewer h.0 (omega arith), (h.1.0, (h.1.1.0, j.1))) in
           let z = other.sound.0 p k gives inside f.1.1 s l3 x.0 (fewer h.0 (omega arith), (h.1.0, (h.1.1.0, j.1))) in
-          let few : condition_registers e (stays a && not (is_equality e)) c.free ≤ s.registers = omega (arith, h.0.registers_fit) in
-          keeps.0 s l z.0 ((few, named p s k e h.0 f.0), (x.1, z.1)),
+          keeps.0 s l z.0 ((omega (arith, h.0.registers_fit), named p s k e h.0 f.0), (x.1, z.1)),
       omega (arith, keeps.1, one.sound.1, other.sound.1, sealing.insts),
     ))
     (λ from does bs h.
@@ -451,22 +441,19 @@ pub line_ends : (old : List RBlock) (many : Bool) (last : Continuation) → many
 line_ends old many last im = rw im (emitted _ (grows_same old) (omega arith) (omega arith) ((refl, refl), λ s l g h. (g, (tt, h)), omega arith)
     (λ bs h. record { comes = comes_equal bs (spot last) (spot last) refl; continues = λ b e. cc }))
 
-pub turn_emits : (b0 b1 b2 b3 : List RBlock) (e : TypedExpression) (last : TypedStatement) (c : Context) (many : Bool) (again : Targets)
-    (bottom : OpenBlock) (code : Continuation) (r : Result Turn LowerFault)
-    → Emits (condition_branch e again c.free) b0 b1 (Ok bottom)
+pub turn_emits : {b0 b1 b2 b3 : List RBlock} {bottom : OpenBlock} {code : Continuation} {r : Result Turn LowerFault} (e : TypedExpression)
+    (last : TypedStatement) (c : Context) (many : Bool) (again : Targets) → Emits (condition_branch e again c.free) b0 b1 (Ok bottom)
     → Emits (statement_code last c (Line (open_code bottom))) b1 b2 (Ok code) → Emits (end_of_turn many (spot code)) b2 b3 r → Emits (last_code e last c many again) b0 b3 r
-turn_emits b0 b1 b2 b3 e last c many again bottom code r test part end =
+turn_emits {b0} {b1} {b2} {b3} {bottom} {code} e last c many again test part end =
     let same : joint (spot code) ≡ statement_joint last 1 = part.sound.0 in
-    let blocks : (if many then joint (spot code) else 0) ≡ (if many then statement_joint last 1 else 0) = ap (λ n. if many then n else 0) same in
     ended (condition_blocks e + statement_blocks last 1) end
-    (record { blocks = omega (arith, blocks); registers = omega arith; room = λ le. omega (arith, test.room, part.room); globals = omega arith })
+    (record { blocks = omega (arith, ap (λ n. if many then n else 0) same); registers = omega arith; room = λ le. omega (arith, test.room, part.room); globals = omega arith })
     (grows_then b0 b1 b2 test.grows part.grows) (omega (arith, test.count, part.count))
     (λ t keeps. (
       subst (λ n. IsEnd many t n) same keeps.0,
       λ p n gives fe fl s l g h.
           let l2 = within end.grows l in
-          let few : condition_registers e again.likely c.free ≤ s.registers = omega (arith, h.0.registers_fit) in
-          let x = test.sound.0 s (within part.grows l2) g ((few, named p s n e h.0 fe), h.1.1.1) in
+          let x = test.sound.0 s (within part.grows l2) g ((omega (arith, h.0.registers_fit), named p s n e h.0 fe), h.1.1.1) in
           let y = part.sound.1 p n gives false fl s l2 x.0 (fewer h.0 (omega arith), (h.1.0, (h.1.1.0, x.1))) in
           keeps.1 s l y.0 y.1,
       omega (arith, keeps.2, test.sound.1, part.sound.2),
@@ -527,8 +514,7 @@ module _ {b0 b1 b2 : List RBlock} {left head : ℕ} {many : Bool} {after : Spot}
     turn_grows = grows_then b0 b1 b3 sealing.grows (grows_then b1 b2 b3 res.grows turn_made.grows)
 
     turn_count : length b3 ≡ length b0 + (joint after + 1 + (last_size e last (continues body) true c.free).blocks)
-    turn_count =
-        omega (arith, sealing.count, res.longer, turn_made.count)
+    turn_count = omega (arith, sealing.count, res.longer, turn_made.count)
 
     pub loop_body_stops : {b4 : List RBlock} {f : LowerFault} {r : Result OpenBlock LowerFault} → r ≡ Err f
         → Emits (statement_code body inner (spot turn.after)) b3 b4 (Err f) → Emits (statement_code (loop e last body) c after) b0 b4 (made_of r)
@@ -567,8 +553,7 @@ module _ {b0 b1 b2 : List RBlock} {left head : ℕ} {many : Bool} {after : Spot}
                 let at : head < s.blocks = reserved_within res l2 in
                 let x = turn_made.sound.1 p n gives f'.0 f'.1.0 s l3 (kept s j.0) (fewer h.0 (omega arith), (h.1.0, (h.1.1.0, (at, j.1)))) in
                 let y = made.sound.1 p n gives true f'.1.1 s l4 x.0 (fewer h.0 (omega arith), (j.1, x.1)) in
-                let few : condition_registers e true c.free ≤ s.registers = omega (arith, h.0.registers_fit) in
-                let z = test.sound.0 s l5 y.0 ((few, named p s n e h.0 f'.0), (at, j.1)) in
+                let z = test.sound.0 s l5 y.0 ((omega (arith, h.0.registers_fit), named p s n e h.0 f'.0), (at, j.1)) in
                 (sound s z.0 (sound_along ie (sound_line _ y.1)), z.1),
             omega (arith, turn_made.sound.2, made.sound.2, test.sound.1, ap insts_of ie, line_insts (spot code), i2, i6, sealing.insts),
           )

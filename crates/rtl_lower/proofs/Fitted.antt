@@ -118,8 +118,7 @@ expression_numbers p n (global x k) f = omega (arith, f)
 expression_numbers p n (element x k e) f = omega (arith, f.0, expression_numbers p n e f.1)
 expression_numbers p n (unary o k e) f = expression_numbers p n e f.1
 expression_numbers p n (binary o k a b) f = omega (arith, expression_numbers p n a f.1.0, expression_numbers p n b f.1.1)
-expression_numbers p n (conditional k c a b) f =
-    omega (arith, expression_numbers p n c f.1.0, expression_numbers p n a f.1.1.0, expression_numbers p n b f.1.1.1)
+expression_numbers p n (conditional k c a b) f = omega (arith, expression_numbers p n c f.1.0, expression_numbers p n a f.1.1.0, expression_numbers p n b f.1.1.1)
 expression_numbers p n _ f = omega arith
 
 pub list_numbers : (p : TypedProgram) (n : ℕ) (es : List TypedExpression) → FitsAll p n es → globals_named_in es ≤ length p.globals
@@ -157,8 +156,7 @@ mutual
   statements_numbers : (p : TypedProgram) (n : ℕ) (gives inside : Bool) (all : TypedStatements) → FitsStatements p n gives inside all
       → numbers_named_in all ≤ length p.globals + length p.functions
   statements_numbers p n gives inside no_statements f = omega arith
-  statements_numbers p n gives inside (more_statements s rest) f =
-      omega (arith, statement_numbers p n gives inside s f.0, statements_numbers p n gives inside rest f.1)
+  statements_numbers p n gives inside (more_statements s rest) f = omega (arith, statement_numbers p n gives inside s f.0, statements_numbers p n gives inside rest f.1)
 
 a_word : (w : Width) (n : ℕ) → 1 ≤ n → 1 ≤ words_of_elements w n
 a_word Word n le = le

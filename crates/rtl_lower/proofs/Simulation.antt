@@ -244,8 +244,7 @@ module _ (src : TypedProgram) (p : Program) (ok : IsCodeOfProgram src p) (well :
 
   enters_block : (w : Around src) (bs : List RBlock) (n : ℕ) (l r : Places) (k : List Todo) (b : ℕ) → Starts src bs n b k → Located n l r
       → MatchRun src (Src.at (source w) l k) (state_at_block (target w) bs r b)
-  enters_block w bs n l r k b s h =
-      rw (jump_to s.1 (target w) r) (matches w bs n l r k s.0 s.2 h)
+  enters_block w bs n l r k b s h = rw (jump_to s.1 (target w) r) (matches w bs n l r k s.0 s.2 h)
 
   -- what a function begins with
   begins : (i : ℕ) (f : TypedFunction) (r : RFunc) → slice_get src.functions i ≡ Some f → (c : IsCodeOf f r)

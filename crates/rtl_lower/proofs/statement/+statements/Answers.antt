@@ -69,14 +69,12 @@ side_block-returns t c =
 pub if_statement-returns : goal.if_statement-returns
 if_statement-returns t c =
     let join = c.in_ok-join.ensures in
-    if_emits _ _ _ _ _ _ _ _ c.args.context _ _ _ _ (spot c.args.after) _ c.is_likely.ensures
+    if_emits _ _ _ c.args.context c.is_likely.ensures
     (sealed (spot c.args.after) join.grows join.count join.insts join.sound join.lands) c.in_ok-yes_block.ensures c.in_ok-no_block.ensures
     c.condition.ensures
 
 pub turn_of-returns : goal.turn_of-returns
-turn_of-returns t c =
-    turn_emits _ _ _ _ _ _ c.args.context _ c.args.again c.in_ok-bottom.bottom c.in_ok-code.code _ c.in_ok-bottom.ensures c.in_ok-code.ensures
-    c.turn_to.ensures
+turn_of-returns t c = turn_emits _ _ c.args.context _ c.args.again c.in_ok-bottom.ensures c.in_ok-code.ensures c.turn_to.ensures
 
 pub loop_statement-returns : goal.loop_statement-returns
 loop_statement-returns t c =
