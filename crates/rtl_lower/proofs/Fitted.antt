@@ -25,7 +25,8 @@ use Rattle.rtl.specs.declared.block.RFunc.{RFunc}
 use Rattle.rtl_emit.specs.Sizes.{globals_named, globals_named_in, Beyond}
 use Rattle.rtl_lower.specs.Sizes.{continues, any_continues, numbers_named, numbers_named_in, target_number, function_blocks, function_registers, IsPlain}
 use Rattle.rtl_lower.specs.Sizes.{HaveRoom}
-use Rattle.rtl_lower.proofs.Sizes.{or_none, take_one}
+use Rattle.std.proofs.lemmas.Bool.{or_from}
+use Rattle.rtl_lower.proofs.Sizes.{take_one}
 
 -- one of a list
 
@@ -102,14 +103,14 @@ have_room p fs rs is e sum each = room_of fs rs (omega (arith, is.blocks_fit, ap
 mutual
   no_continue : (p : TypedProgram) (n : ℕ) (gives : Bool) (s : TypedStatement) → FitsStatement p n gives false s → continues s ≡ false
   no_continue p n gives (block all) f = no_continues p n gives all f
-  no_continue p n gives (if_else c a b) f = or_none (continues a) (continues b) (no_continue p n gives a f.1.0) (no_continue p n gives b f.1.1)
+  no_continue p n gives (if_else c a b) f = or_from (continues a) (continues b) (no_continue p n gives a f.1.0) (no_continue p n gives b f.1.1)
   no_continue p n gives (loop c last body) f = no_continue p n gives last f.1.0
   no_continue p n gives continue_loop f = sym f
   no_continue p n gives _ f = refl
 
   no_continues : (p : TypedProgram) (n : ℕ) (gives : Bool) (all : TypedStatements) → FitsStatements p n gives false all → any_continues all ≡ false
   no_continues p n gives no_statements f = refl
-  no_continues p n gives (more_statements s rest) f = or_none (continues s) (any_continues rest) (no_continue p n gives s f.0) (no_continues p n gives rest f.1)
+  no_continues p n gives (more_statements s rest) f = or_from (continues s) (any_continues rest) (no_continue p n gives s f.0) (no_continues p n gives rest f.1)
 
 -- numbers of globals and functions
 

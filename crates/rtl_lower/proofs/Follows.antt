@@ -97,16 +97,9 @@ there_follows src bs n (Next last again ∷ k) leave next from t f =
 pub follows_from : (src : TypedProgram) (bs : List RBlock) (n : ℕ) (k : List Todo) (leave : ℕ) (next : Option ℕ) (from to : Spot) → Comes bs from to
     → Follows src bs n k leave next to → Follows src bs n k leave next from
 follows_from src bs n [] leave next from to c f = c.there f
-follows_from src bs n (Do s ∷ k) leave next from to c f = record
-    { spot = f.spot; comes = comes_then c f.comes; middle = f.middle; coded = f.coded; fits = f.fits; rest = f.rest }
-follows_from src bs n (Next last again ∷ k) leave next from to c f = record
-    { last_spot = f.last_spot; comes = comes_then c f.comes; turn = f.turn }
-
-pub follows_do : (src : TypedProgram) (bs : List RBlock) (n : ℕ) (s : TypedStatement) (k : List Todo) (leave : ℕ) (next : Option ℕ)
-    (from middle : Spot) → Coded (enclosing bs n) s leave next from middle → Fits src n s → Follows src bs n k leave next middle
-    → Follows src bs n (Do s ∷ k) leave next from
-follows_do src bs n s k leave next from middle c sc f = record
-    { spot = from; comes = comes_equal bs from from refl; middle = middle; coded = c; fits = sc; rest = f }
+follows_from src bs n (Do s ∷ k) leave next from to c f =
+    record { spot = f.spot; comes = comes_then c f.comes; middle = f.middle; coded = f.coded; fits = f.fits; rest = f.rest }
+follows_from src bs n (Next last again ∷ k) leave next from to c f = record { last_spot = f.last_spot; comes = comes_then c f.comes; turn = f.turn }
 
 mutual
   pub follows_before : (src : TypedProgram) (bs : List RBlock) (n : ℕ) (s : TypedStatement) (k : List Todo) (leave : ℕ) (next : Option ℕ)
@@ -114,7 +107,8 @@ mutual
       → Follows src bs n (before s k) leave next from
   follows_before src bs n empty k leave next from middle c sc f = subst (λ m. Follows src bs n k leave next m) (sym c) f
   follows_before src bs n (block all) k leave next from middle c sc f = follows_all src bs n all k leave next from middle c sc.0 sc.1 sc.2 f
-  follows_before src bs n s k leave next from middle c sc f = follows_do src bs n s k leave next from middle c sc f
+  follows_before src bs n s k leave next from middle c sc f =
+      record { spot = from; comes = comes_equal bs from from refl; middle = middle; coded = c; fits = sc; rest = f }
 
   pub follows_all : (src : TypedProgram) (bs : List RBlock) (n : ℕ) (all : TypedStatements) (k : List Todo) (leave : ℕ) (next : Option ℕ)
       (from middle : Spot) → CodedAll (enclosing bs n) all leave next from middle → (gives inside : Bool) → FitsStatements src n gives inside all

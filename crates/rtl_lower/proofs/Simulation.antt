@@ -172,9 +172,7 @@ values_length (x ∷ es) l g vs e =
 -- the arguments are the first locals
 arguments_located : (vs : List ℕ) (parameters locals : ℕ) → length vs ≡ parameters → parameters ≤ locals
     → Located locals (argument_registers vs) (argument_registers vs)
-arguments_located vs parameters locals many le x v e =
-    let low : x < length vs = slice_get_within vs x v e in
-    (omega arith, e)
+arguments_located vs parameters locals many le x v e = (omega (arith, slice_get_within vs x v e), e)
 
 if_both : {A : Type 0} (b c : Bool) (x y : A) → c ≡ true → (if b && c then x else y) ≡ (if b then x else y)
 if_both true c x y e = ap (λ c. if c then x else y) e
@@ -476,8 +474,7 @@ module _ (src : TypedProgram) (p : Program) (ok : IsCodeOfProgram src p) (well :
           let at_block = a.1 in
           let fits = sc.2.1.0 in
           let count : (func : TypedFunction) → slice_get src.functions callee ≡ Some func → length vs ≡ func.parameters = λ func there.
-          let some : Some fits.callee ≡ Some func = sym fits.there ∙ there in
-          let same : fits.callee ≡ func = cc in
+          let same : fits.callee ≡ func = cc fits.there in
           values_length es l w.globals vs is ∙ fits.count ∙ ap (λ (f : TypedFunction). f.parameters) same in
           let step = rw (y.values, at_block.there, at_block.is) at (c.leaves (target w) y.regs) in
           advance_after src p depth _ (at (target w) bs y.regs (exit_code c.exit)) _ y.goes

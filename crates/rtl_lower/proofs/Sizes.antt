@@ -2,6 +2,7 @@
 use Rattle.std.proofs.Common.{◌≡◌, ℕ, zero, suc, ◌+◌, ◌-◌, ◌<◌, ◌≤◌, Bool, true, false, List, [], ◌∷◌, ◌++◌, Some, None, refl, sym, ◌∙◌, ap, subst}
 use Rattle.std.proofs.Common.{add-one, arith, length, get_or, take, drop, take_all, drop_of_length-le}
 use Rattle.std.specs.Prelude.{◌||◌, slice_get}
+use Rattle.std.proofs.lemmas.Bool.{or_parts, or_from, or_left, or_right}
 use Rattle.std.proofs.lemmas.Option.{none-some}
 use Rattle.std.proofs.Math.Seq.{take-suc, drop-cons}
 use Rattle.c_typed.specs.declared.tree.TypedStatement.{TypedStatement}
@@ -29,32 +30,12 @@ weight_within [] k d lt = absurd (omega arith)
 weight_within (s ∷ all) zero d lt = omega arith
 weight_within (s ∷ all) (suc k) d lt = omega (arith, weight_within all k d (omega arith))
 
-pub or_true : (a b : Bool) → b ≡ true → (a || b) ≡ true
-or_true true b e = refl
-or_true false b e = e
-
-pub or_first : (a b : Bool) → a ≡ true → (a || b) ≡ true
-or_first true b e = refl
-or_first false b e = cc
-
-or_left : (a b : Bool) → (a || b) ≡ false → a ≡ false
-or_left true b e = e
-or_left false b e = refl
-
-or_right : (a b : Bool) → (a || b) ≡ false → b ≡ false
-or_right true b e = cc
-or_right false b e = e
-
-pub or_none : (a b : Bool) → a ≡ false → b ≡ false → (a || b) ≡ false
-or_none true b e f = e
-or_none false b e f = f
-
 -- one of them, and none of them
 pub any_at : (all : List TypedStatement) (k : ℕ) (d : TypedStatement) → k < length all → continues (statement_of (get_or all k d)) ≡ true
     → any_continues (statements_of all) ≡ true
 any_at [] k d lt e = absurd (omega arith)
-any_at (s ∷ all) zero d lt e = or_first (continues (statement_of s)) (any_continues (statements_of all)) e
-any_at (s ∷ all) (suc k) d lt e = or_true (continues (statement_of s)) (any_continues (statements_of all)) (any_at all k d (omega arith) e)
+any_at (s ∷ all) zero d lt e = or_left (continues (statement_of s)) (any_continues (statements_of all)) e
+any_at (s ∷ all) (suc k) d lt e = or_right (continues (statement_of s)) (any_continues (statements_of all)) (any_at all k d (omega arith) e)
 
 -- the same as the prover finds it
 pub any_of : (all : List TypedStatement) (k : ℕ) (s : TypedStatement) → k < length all → s ≡ get_or all k s → continues (statement_of s) ≡ true
@@ -63,11 +44,11 @@ any_of all k s lt is e = any_at all k s lt (ap (λ s. continues (statement_of s)
 
 none_append : (xs : List TypedStatement) (s : TypedStatement) → any_continues (statements_of xs) ≡ false → continues (statement_of s) ≡ false
     → any_continues (statements_of (xs ++ s ∷ [])) ≡ false
-none_append [] s e f = or_none (continues (statement_of s)) false f refl
+none_append [] s e f = or_from (continues (statement_of s)) false f refl
 none_append (x ∷ xs) s e f =
     let a = continues (statement_of x) in
     let b = any_continues (statements_of xs) in
-    or_none a (any_continues (statements_of (xs ++ s ∷ []))) (or_left a b e) (none_append xs s (or_right a b e) f)
+    or_from a (any_continues (statements_of (xs ++ s ∷ []))) (or_parts a b e).0 (none_append xs s (or_parts a b e).1 f)
 
 pub take_one : {A : Type 0} (all : List A) (i j : ℕ) (x d : A) → i < length all → j ≡ i + 1 → x ≡ get_or all i d → take j all ≡ take i all ++ x ∷ []
 take_one all i j x d lt ij is = rw (ij, add-one, is) (take-suc all i d lt)

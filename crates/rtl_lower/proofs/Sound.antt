@@ -3,6 +3,7 @@ use Rattle.std.proofs.Common.{◌≡◌, ℕ, suc, zero, ◌+◌, ◌*◌, ◌<�
 use Rattle.std.proofs.Common.{arith, length, get_or, Bool, true, false}
 use Rattle.std.specs.Prelude.{All, slice_get, sum_by, map, nat_lt, if◌then◌else◌}
 use Rattle.std.specs.List.{AllByRecursion}
+use Rattle.std.proofs.ByRecursion.{All-append as every_append}
 use Rattle.std.proofs.lemmas.List.Sums.{sum_by-cons}
 use Rattle.std.proofs.lemmas.Option.{slice_get_within}
 use Rattle.std.proofs.lemmas.List.Elements.{All-nil, All-cons, All-head, All-tail, All-weaker, recursion_from_All}
@@ -147,10 +148,6 @@ blocks_are s (b ∷ bs) le a =
 
 -- the names of sound code, and how many registers they number
 
-all_names : (n : ℕ) (xs ys : List ℕ) → AllByRecursion (λ x. x < n) xs → AllByRecursion (λ x. x < n) ys → AllByRecursion (λ x. x < n) (xs ++ ys)
-all_names n [] ys a b = b
-all_names n (x ∷ xs) ys a b = (a.0, all_names n xs ys a.1 b)
-
 inst_below : (s : Scope) (i : RInst) → IsSoundInst s i → AllByRecursion (λ x. x < s.registers) (inst_names i)
 inst_below s (Const d w) h = (h, tt)
 inst_below s (Move d a) h = (h.0, (h.1, tt))
@@ -160,7 +157,7 @@ inst_below s (Store g i a) h = (h.1.0, (h.1.1, tt))
 
 insts_below : (s : Scope) (is : List RInst) → AllByRecursion (IsSoundInst s) is → AllByRecursion (λ x. x < s.registers) (insts_names is)
 insts_below s [] a = tt
-insts_below s (i ∷ is) a = all_names s.registers (inst_names i) (insts_names is) (inst_below s i a.0) (insts_below s is a.1)
+insts_below s (i ∷ is) a = every_append (λ x. x < s.registers) (inst_names i) (insts_names is) (inst_below s i a.0) (insts_below s is a.1)
 
 maybe_below : (s : Scope) (o : Option ℕ) → IsSoundMaybe s o → AllByRecursion (λ x. x < s.registers) (optional o)
 maybe_below s None h = tt
@@ -169,16 +166,16 @@ maybe_below s (Some x) h = (h, tt)
 exit_below : (s : Scope) (x : RExit) → IsSoundExit s x → AllByRecursion (λ x. x < s.registers) (exit_names x)
 exit_below s (Goto b) h = tt
 exit_below s (Call f args d next) h =
-    all_names s.registers args.items (optional d) (recursion_from_All (λ x. x < s.registers) args.items h.1.0) (maybe_below s d h.1.1.0)
+    every_append (λ x. x < s.registers) args.items (optional d) (recursion_from_All (λ x. x < s.registers) args.items h.1.0) (maybe_below s d h.1.1.0)
 exit_below s (Return a) h = maybe_below s a h
 exit_below s _ h = (h.0, tt)
 
 blocks_below : (s : Scope) (bs : List RBlock) → AreSound s bs → AllByRecursion (λ x. x < s.registers) (blocks_names bs)
 blocks_below s [] a = tt
 blocks_below s (b ∷ bs) a =
-    all_names s.registers (insts_names b.insts.items) (exit_names b.exit ++ blocks_names bs)
+    every_append (λ x. x < s.registers) (insts_names b.insts.items) (exit_names b.exit ++ blocks_names bs)
     (insts_below s b.insts.items (recursion_from_All (IsSoundInst s) b.insts.items a.0.insts))
-    (all_names s.registers (exit_names b.exit) (blocks_names bs) (exit_below s b.exit a.0.exit) (blocks_below s bs a.1))
+    (every_append (λ x. x < s.registers) (exit_names b.exit) (blocks_names bs) (exit_below s b.exit a.0.exit) (blocks_below s bs a.1))
 
 bound_within : (n m : ℕ) (xs : List ℕ) → n ≤ m → AllByRecursion (λ x. x < m) xs → bound n xs ≤ m
 bound_within n m [] le a = le

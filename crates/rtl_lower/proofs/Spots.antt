@@ -10,10 +10,7 @@ use Rattle.rtl_lower.specs.Coded.{Sits, IsThere, Comes}
 
 -- the code of a block is one
 pub at_unique : {bs : List RBlock} {b : ℕ} {c c' : Code} → At bs b c → At bs b c' → c ≡ c'
-at_unique {bs} {b} x y =
-    let e : Some x.block ≡ Some y.block = sym x.there ∙ y.there in
-    let same : x.block ≡ y.block = cc in
-    sym x.is ∙ ap code_of same ∙ y.is
+at_unique {bs} {b} x y = cc
 
 pub lands_sits : {bs : List RBlock} (b : ℕ) (s : Spot) (c : Code) → Lands bs b s → At bs b c → Sits bs s c
 lands_sits {bs} b (Block b') c l a = inr (subst (λ b. At bs b c) l a)

@@ -1,4 +1,5 @@
 use Rattle.std.proofs.Common.{◌≡◌, ◌+◌, ◌-◌, ◌<◌, refl, sym, ◌∙◌, ap, arith, rules, length, Err}
+use Rattle.std.proofs.lemmas.Bool.{or_left, or_right}
 use Rattle.c_typed.specs.Shape.{typed_expression_of, typed_expressions_of, statement_of, statements_of}
 use Rattle.c_typed.specs.Trees.{block, call, if_else, loop}
 use Rattle.c_typed.proofs.Shapes.{block-is}
@@ -7,7 +8,7 @@ use Rattle.rtl_emit.specs.Sizes.{joint, condition_blocks}
 use Rattle.rtl_emit.proofs.Emitting.{part_refused, grows_same}
 use Rattle.rtl_lower.specs.Emits.{made_of}
 use Rattle.rtl_lower.specs.Sizes.{continues}
-use Rattle.rtl_lower.proofs.Sizes.{any_of, or_first, or_true, weight, weight_within, none_left, one_left}
+use Rattle.rtl_lower.proofs.Sizes.{any_of, weight, weight_within, none_left, one_left}
 use Rattle.rtl_lower.proofs.Emitting.{nothing_emits, break_emits, continue_emits, simple_emits, whole_emits, block_emits, none_emits}
 use Rattle.rtl_lower.proofs.Emitting.{more_emits, all_emitted, list_stopped, side_emits, if_is, if_emits, turn_emits, loop_is, loop_emits}
 use Rattle.rtl_lower.proofs.Emitting.{sealed, join_stops, if_second_stops}
@@ -181,10 +182,10 @@ pub side_block-statement-requires : goal.side_block-statement-requires
 side_block-statement-requires t c = (omega arith, c.requires.next)
 
 pub if_statement-side_block-requires : goal.if_statement-side_block-requires
-if_statement-side_block-requires t c = (omega arith, λ e. c.requires.next (or_first _ _ e))
+if_statement-side_block-requires t c = (omega arith, λ e. c.requires.next (or_left _ _ e))
 
 pub if_statement-side_block-requires-2 : goal.if_statement-side_block-requires-2
-if_statement-side_block-requires-2 t c = (omega arith, λ e. c.requires.next (or_true _ _ e))
+if_statement-side_block-requires-2 t c = (omega arith, λ e. c.requires.next (or_right _ _ e))
 
 pub turn_of-statement-requires : goal.turn_of-statement-requires
 turn_of-statement-requires t c = (omega arith, c.requires.next)
