@@ -178,23 +178,11 @@ loop_statement-returns-in_err-top t c =
     loop_top_stops _ _ _ c.args.context (sealed (spot c.args.after) join.grows join.count join.insts join.sound join.lands) c.in_ok-head.ensures.reserves
     c.may_continue.ensures c.in_ok-turn.ensures c.inside_loop-inner.ensures c.in_ok-body_code.ensures (search rules) c.in_err-top.ensures
 
-pub side_block-statement-requires : goal.side_block-statement-requires
-side_block-statement-requires t c = (omega arith, c.requires.next)
-
 pub if_statement-side_block-requires : goal.if_statement-side_block-requires
 if_statement-side_block-requires t c = (omega arith, λ e. c.requires.next (or_left _ _ e))
 
 pub if_statement-side_block-requires-2 : goal.if_statement-side_block-requires-2
 if_statement-side_block-requires-2 t c = (omega arith, λ e. c.requires.next (or_right _ _ e))
-
-pub turn_of-statement-requires : goal.turn_of-statement-requires
-turn_of-statement-requires t c = (omega arith, c.requires.next)
-
-pub loop_statement-turn_of-requires : goal.loop_statement-turn_of-requires
-loop_statement-turn_of-requires t c = (omega arith, c.requires.next)
-
-pub loop_statement-statement-requires : goal.loop_statement-statement-requires
-loop_statement-statement-requires t c = (omega arith, search rules)
 
 pub statement-if_statement-requires : goal.statement-if_statement-requires
 statement-if_statement-requires t c =
