@@ -107,12 +107,8 @@ pub local_emits : (old new : List RBlock) (to : Destination) (x local : ℕ) (e 
 local_emits old new to x local e free after r it il lt v =
     rw (it, ← il) (meant v
     (record { blocks = omega arith; registers = omega arith; room = λ le. omega (arith, le, lt); globals = omega arith })
-    (λ from keeps. (
-      λ p n gives inside f s l g h.
-          let to_it : local < s.registers = omega (arith, h.0.registers_fit) in
-          keeps.0 s l g (to_it, ((omega (arith, h.0.registers_fit), named p s n e h.0 f.1), h.1)),
-      keeps.1,
-    ))
+    (λ from keeps. (λ p n gives inside f s l g h.
+        keeps.0 s l g (omega (arith, h.0.registers_fit), ((omega (arith, h.0.registers_fit), named p s n e h.0 f.1), h.1)), keeps.1))
     (λ from does bs h leave next. record { code = open_code from; is = refl; value = does bs h }))
 
 pub variable_emits : (old new : List RBlock) (to : Destination) (x g : ℕ) (e : TypedExpression) (free p next z : ℕ) (last middle : OpenBlock)
@@ -200,13 +196,9 @@ nowhere_emits free it sealing = rw it (emitted _ sealing.grows sealing.count (om
 
 pub to_local_emits : {old new : List RBlock} {to : Option Destination} {x local b : ℕ} {after : Spot} (free : ℕ) → to ≡ Some (Local x) → local ≡ x
     → local < MAX_REGISTERS → Sealing old new b after → Emits (receiver to free after) old new (Ok (record { to = Some local; block = b }))
-to_local_emits {local = local} free it il lt sealing = rw (it, ← il) (emitted _ sealing.grows sealing.count (omega (arith, lt)) (
-  λ p n f s l g h.
-      let to_it : local < s.registers = omega (arith, h.0.registers_fit) in
-      let j = sealing.sound s l g h.1 in
-      (j.0, (to_it, j.1)),
-  omega (arith, sealing.insts),
-) (λ bs h. (refl, sealing.lands bs h)))
+to_local_emits {local = local} free it il lt sealing = rw (it, ← il) (emitted _ sealing.grows sealing.count (omega (arith, lt))
+    (λ p n f s l g h. let j = sealing.sound s l g h.1 in (j.0, (omega (arith, h.0.registers_fit), j.1)), omega (arith, sealing.insts))
+    (λ bs h. (refl, sealing.lands bs h)))
 
 pub to_variable_emits : {old new : List RBlock} {to : Option Destination} {x g t z b : ℕ} (free : ℕ) (last code : OpenBlock) (after : Spot)
     → to ≡ Some (Variable x) → g ≡ x → t ≡ free → t < MAX_REGISTERS → z ≡ t + 1 → z < MAX_REGISTERS
@@ -224,14 +216,9 @@ to_variable_emits {g = g} {t = t} {z = z} {b = b} free last code after it ig ift
           (j.0, (of_result, j.1)),
       omega (arith, ap insts_of both, line_insts after, sealing.insts),
     )
-    (λ bs h. record {
-      t = t;
-      z = z;
-      is = refl;
-      low = omega (arith, ift);
-      apart = omega (arith, iz);
-      there = subst (λ c. Lands bs b (Line c)) both (sealing.lands bs h);
-    }))
+    (λ bs h.
+    let there = subst (λ c. Lands bs b (Line c)) both (sealing.lands bs h) in
+    record { t = t; z = z; is = refl; low = omega (arith, ift); apart = omega (arith, iz); there = there }))
 
 pub call_emits : (old mid new : List RBlock) (to : Option Destination) (f f' : ℕ) (es : List TypedExpression) (free : ℕ) (x : Receiver)
     (places0 places ps1 ps2 : List Place) (args : Vec ℕ Global) (end : OpenBlock) (after : Spot) (r : Result OpenBlock LowerFault)
@@ -336,20 +323,14 @@ more_emits old mid new all s rest c after middle r is others one =
           keeps.1 p n gives inside f.0 s' l m.0 (fewer h.0 (omega arith), (h.1.0, (h.1.1.0, m.1))),
       omega (arith, keeps.2, others.sound.2),
     ))
-    (λ from does bs h.
-    let sp = split2 bs old mid new others.grows one.grows h in
-    (spot middle, does bs sp.1, others.does bs sp.0)))
+    (λ from does bs h. let sp = split2 bs old mid new others.grows one.grows h in (spot middle, does bs sp.1, others.does bs sp.0)))
 
 -- where one statement of a list fails, and the last ones are made
-pub list_stopped : (old new : List RBlock) (all : List Tree.TypedStatement) (k : ℕ) (c : Context) (after : Spot) (f : LowerFault)
-    (r : Result Continuation LowerFault) → r ≡ Err f → Emits (statements_code (statements_of (drop k all)) c after) old new (Err f)
+pub list_stopped : {old new : List RBlock} {f : LowerFault} {r : Result Continuation LowerFault} (all : List Tree.TypedStatement) (k : ℕ) (c : Context)
+    (after : Spot) → r ≡ Err f → Emits (statements_code (statements_of (drop k all)) c after) old new (Err f)
     → Emits (statements_code (statements_of all) c after) old new r
-list_stopped old new all k c after f r ir e =
-    part_refused 0 e ir (rest_registers k all c.free) (omega (arith, rest_blocks k all (joint after))) (rest_numbers k all) (grows_same old) (omega arith)
-
-pub all_emitted : (old new : List RBlock) (all : List Tree.TypedStatement) (k : ℕ) (c : Context) (after : Spot) (r : Result Continuation LowerFault)
-    → k ≡ 0 → Emits (statements_code (statements_of (drop k all)) c after) old new r → Emits (statements_code (statements_of all) c after) old new r
-all_emitted old new all k c after r ik e = rw ik at e
+list_stopped all k c after ir e =
+    part_refused 0 e ir (rest_registers k all c.free) (omega (arith, rest_blocks k all (joint after))) (rest_numbers k all) (grows_same _) (omega arith)
 
 -- `if`
 

@@ -206,12 +206,10 @@ module _ (src : TypedProgram) (p : Program) (ok : IsCodeOfProgram src p) (well :
   stored : (w : Around src) (a i v : ℕ) (g : Arrays) (done : Arrays → Blk.Run) → a < length src.globals
       → Src.elements_with src.globals w.globals a i v ≡ Some g
       → with_value (kept_in p.globals a v) w.output (λ k. with_value (arrays_with w.globals a i k) w.output done) ≡ done g
-  stored w a i v g done lt e = go (kept_in p.globals a v) (ap (λ o. chain o (λ k. arrays_with w.globals a i k)) (same_kept a v lt) ∙ e)
-    where
-      go : (o : Option ℕ) → chain o (λ k. arrays_with w.globals a i k) ≡ Some g
-          → with_value o w.output (λ k. with_value (arrays_with w.globals a i k) w.output done) ≡ done g
-      go None h = absurd (none-some g h)
-      go (Some k) h = with_some (arrays_with w.globals a i k) g w.output done h
+  stored w a i v g done lt e =
+      let fits = ap (λ o. chain o (λ k. arrays_with w.globals a i k)) (same_kept a v lt) ∙ e in
+      let c = chained (kept_in p.globals a v) (λ k. arrays_with w.globals a i k) g fits in
+      rw (c.is, c.then_is) refl
 
   -- the store of a word from one register at the index in another
   store_step : (w : Around src) (bs : List RBlock) (r : Places) (a i v y q : ℕ) (after : Code) (g : Arrays) → a < length src.globals
@@ -471,12 +469,11 @@ module _ (src : TypedProgram) (p : Program) (ok : IsCodeOfProgram src p) (well :
           in_line from c.code code _ c.is si (advance_value src p depth _ (values_of es l w.globals) w.output _ (λ vs is.
           let y = taken_all (target w) bs es c.places n c.code (exit_code c.exit) l r vs c.are_places c.values h is in
           let a = waits y.regs place c.to c.block c.receives sc.2.0 (located_kept n l r y.regs h.by y.kept) in
-          let at_block = a.1 in
           let fits = sc.2.1.0 in
           let count : (func : TypedFunction) → slice_get src.functions callee ≡ Some func → length vs ≡ func.parameters = λ func there.
           let same : fits.callee ≡ func = cc fits.there in
           values_length es l w.globals vs is ∙ fits.count ∙ ap (λ (f : TypedFunction). f.parameters) same in
-          let step = rw (y.values, at_block.there, at_block.is) at (c.leaves (target w) y.regs) in
+          let step = rw (y.values, a.1.there, a.1.is) at (c.leaves (target w) y.regs) in
           advance_after src p depth _ (at (target w) bs y.regs (exit_code c.exit)) _ y.goes
           (calls (record w {
             place = place;

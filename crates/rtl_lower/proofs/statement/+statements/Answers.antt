@@ -10,7 +10,7 @@ use Rattle.rtl_lower.specs.Emits.{made_of}
 use Rattle.rtl_lower.specs.Sizes.{continues}
 use Rattle.rtl_lower.proofs.Sizes.{any_of, weight, weight_within, none_left, one_left}
 use Rattle.rtl_lower.proofs.Emitting.{nothing_emits, break_emits, continue_emits, simple_emits, whole_emits, block_emits, none_emits}
-use Rattle.rtl_lower.proofs.Emitting.{more_emits, all_emitted, list_stopped, side_emits, if_is, if_emits, turn_emits, loop_is, loop_emits}
+use Rattle.rtl_lower.proofs.Emitting.{more_emits, list_stopped, side_emits, if_is, if_emits, turn_emits, loop_is, loop_emits}
 use Rattle.rtl_lower.proofs.Emitting.{sealed, join_stops, if_second_stops}
 use Rattle.rtl_lower.proofs.Emitting.{loop_head_stops, loop_turn_stops, loop_body_stops, loop_top_stops}
 use Rattle.rtl_lower.proofs.statement.+statements.Goals as goal
@@ -87,8 +87,8 @@ loop_statement-returns t c =
 
 pub statements-returns : goal.statements-returns
 statements-returns t c =
-    all_emitted _ _ c.args.all.now (length c.args.all.now - c.loop-done.done) c.args.context (spot c.args.after) _
-    (omega (arith, c.loop-done-test.false)) c.loop-done.invariant
+    let none : length c.args.all.now - c.loop-done.done ≡ 0 = omega (arith, c.loop-done-test.false) in
+    rw none at c.loop-done.invariant
 
 pub statements-loop-done-init : goal.statements-loop-done-init
 statements-loop-done-init t c = none_emits _ _ c.args.context c.args.after (none_left c.args.all.now _ (omega arith))
@@ -100,8 +100,7 @@ statements-loop-done-preserved t c =
 
 pub statements-returns-in_err-code : goal.statements-returns-in_err-code
 statements-returns-in_err-code t c =
-    let same : c.from_residual.result ≡ Err c.in_err-code.field-0.0 = search rules in
-    list_stopped _ _ c.args.all.now (length c.args.all.now - (c.loop-done.done + 1)) c.args.context (spot c.args.after) _ _ same
+    list_stopped c.args.all.now (length c.args.all.now - (c.loop-done.done + 1)) c.args.context (spot c.args.after) (search rules)
     (more_emits _ _ _ _ _ _ c.args.context (spot c.args.after) c.loop-done.code _
     (one_left c.args.all.now c.index-all-count.result c.loop-done.done c.loop-done-test.true c.index-all-count.is) c.loop-done.invariant c.in_err-code.ensures)
 
