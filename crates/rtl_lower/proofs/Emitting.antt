@@ -15,10 +15,9 @@ use Rattle.rtl.specs.declared.limits.TheConstants.{MAX_REGISTERS, MAX_BLOCKS}
 use Rattle.runs.specs.Runs.{with_value}
 use Rattle.rtl.specs.Meaning.{Code, activation, around_callee, code_of, words_in, state_after_call}
 use Rattle.rtl_emit.specs.Blocks.{Spot, Block, Line, Lands, Grows, Has, Reserves, Fills, open_code, exit_code, first, spot, line_of, insts_of, insts_at, insts_in}
-use Rattle.rtl_emit.specs.Emits.{Size, Description, Emits, condition_size, value, operand, operands, condition_branch}
+use Rattle.rtl_emit.specs.Emits.{Size, Description, Emits, value, operand, operands, condition_branch}
 use Rattle.rtl_emit.specs.Expressions.{IsPlace, Fetches, FetchAll, AddPlaces}
 use Rattle.rtl_emit.specs.Sizes.{joint, place_registers, places_registers, next_free, value_registers, value_blocks, condition_blocks}
-use Rattle.rtl_emit.specs.Sizes.{values_registers, condition_registers}
 use Rattle.rtl_emit.specs.Sound.{Scope, IsSound, IsSoundSpot, AreSound, KeepsSound}
 use Rattle.rtl_emit.specs.declared.block.OpenBlock.{OpenBlock}
 use Rattle.rtl_emit.specs.declared.block.Continuation.{Continuation}
@@ -34,7 +33,7 @@ use Rattle.rtl_emit.proofs.Sound.{sound_along, sound_first, sound_exit, sound_li
 use Rattle.rtl_lower.specs.Emits.{statement_size, statements_size, simple_code, statement_code, statements_code, made_of, side_code}
 use Rattle.rtl_lower.specs.Emits.{receiver, IsEnd, end_of_turn, last_size, last_code}
 use Rattle.rtl_lower.specs.Sizes.{stays, is_equality, continues, receiver_blocks, statement_joint, statements_joint}
-use Rattle.rtl_lower.specs.Sizes.{statement_blocks, statements_blocks, statement_registers, statements_registers}
+use Rattle.rtl_lower.specs.Sizes.{statement_blocks, statements_blocks}
 use Rattle.rtl_lower.specs.Coded.{enclosing, FetchesFirst}
 use Rattle.rtl_lower.specs.declared.context.Context.{Context}
 use Rattle.rtl_lower.specs.declared.simple.Receiver.{Receiver}
@@ -107,8 +106,7 @@ pub local_emits : (old new : List RBlock) (to : Destination) (x local : ℕ) (e 
 local_emits old new to x local e free after r it il lt v =
     rw (it, ← il) (meant v
     (record { blocks = omega arith; registers = omega arith; room = λ le. omega (arith, le, lt); globals = omega arith })
-    (λ from keeps. (λ p n gives inside f s l g h.
-        keeps.0 s l g (omega (arith, h.0.registers_fit), ((omega (arith, h.0.registers_fit), named p s n e h.0 f.1), h.1)), keeps.1))
+    (λ from keeps. (λ p n gives inside f s l g h. keeps.0 s l g (omega (arith, h.0.registers_fit), ((omega (arith, h.0.registers_fit), named p s n e h.0 f.1), h.1)), keeps.1))
     (λ from does bs h leave next. record { code = open_code from; is = refl; value = does bs h }))
 
 pub variable_emits : (old new : List RBlock) (to : Destination) (x g : ℕ) (e : TypedExpression) (free p next z : ℕ) (last middle : OpenBlock)
@@ -143,12 +141,11 @@ store_emits old mid new a a' i e free p next q last code middle after r ia pi ri
     second.grows second.count
     (λ from keeps. (
       λ p' n gives inside f s l g h.
-          let there = in_scope p' s _ _ h.0 refl f.0 in
           let at_index : p < s.registers = omega (arith, h.0.registers_fit, pi.counted) in
           let at_value : q < s.registers = omega (arith, h.0.registers_fit, pe.counted, ap (place_registers e) pi.next_is) in
           let in_value : value_registers e next ≤ s.registers = omega (arith, h.0.registers_fit, ap (value_registers e) pi.next_is) in
           let in_index : value_registers i free ≤ s.registers = omega (arith, h.0.registers_fit) in
-          let end = sound_first _ fe (there, (at_index, at_value)) (sound_line _ h.1) in
+          let end = sound_first _ fe (in_scope p' s _ _ h.0 refl f.0, (at_index, at_value)) (sound_line _ h.1) in
           let m = second.sound.0 s (within one.grows l) g (at_value, ((in_value, named p' s n e h.0 f.1.1), end)) in
           keeps.0 s l m.0 (at_index, ((in_index, named p' s n i h.0 f.1.0), m.1)),
       omega (arith, keeps.1, second.sound.1, ap insts_of fe, line_insts after),

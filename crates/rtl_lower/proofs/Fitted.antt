@@ -2,7 +2,6 @@
 use Rattle.std.proofs.Common.{◌≡◌, ℕ, zero, suc, ◌+◌, ◌<◌, ◌≤◌, Bool, true, false, List, [], ◌∷◌, ◌++◌, Option, Some, None, refl, sym, ◌∙◌, ap, subst}
 use Rattle.std.proofs.Common.{arith, length, get_or, take}
 use Rattle.std.specs.Prelude.{All, sum_by, is_some}
-use Rattle.std.proofs.Math.Seq.{take-suc}
 use Rattle.std.proofs.lemmas.List.Sums.{sum_by-cons, sum_by_push}
 use Rattle.std.proofs.lemmas.List.Elements.{All-append}
 use Rattle.std.proofs.lemmas.Option.{slice_get_within}
@@ -59,9 +58,7 @@ pub too_large : (all : List Function) (i : ℕ) (f : Function) → i < length al
     → Beyond (function_registers (function_of f)) (function_blocks (function_of f)) 0 → HaveRoom (functions_of all) → ⊥
 too_large all i f lt is b room =
     let r = each_at (λ f. function_registers f ≤ MAX_REGISTERS) all i f lt room.registers in
-    let er = ap (λ f. function_registers (function_of f)) is in
-    let en = ap (λ f. function_blocks (function_of f)) is in
-    omega (arith, b, r, blocks_at all i f lt, er, en, room.blocks)
+    omega (arith, b, r, blocks_at all i f lt, ap (λ f. function_registers (function_of f)) is, ap (λ f. function_blocks (function_of f)) is, room.blocks)
 
 -- functions that are emitted
 pub record Fitted (fs : List TypedFunction) (rs : List RFunc) : Type 0 where
@@ -165,9 +162,7 @@ a_word Byte n le = omega (arith, le)
 
 words_enough : (gs : List Global) → All (λ (g : Global). 1 ≤ g.length) gs → length gs ≤ words_in gs
 words_enough [] a = omega arith
-words_enough (g ∷ gs) a =
-    let r = words_enough gs (λ k d lt. a (suc k) d (omega arith)) in
-    omega (arith, a_word g.width g.length (a 0 g (omega arith)), r)
+words_enough (g ∷ gs) a = omega (arith, a_word g.width g.length (a 0 g (omega arith)), words_enough gs (λ k d lt. a (suc k) d (omega arith)))
 
 plain : (p : TypedProgram) (f : TypedFunction) → IsWellFormed p → FitsFunction p f → IsPlain f
 plain p f well fits =

@@ -5,7 +5,7 @@ use Rattle.std.specs.Prelude.{if◌then◌else◌}
 use Rattle.runs.specs.Stores.{Places, Arrays, places_with}
 use Rattle.runs.proofs.Words.{written-words}
 use Rattle.c_typed.specs.declared.tree.Destination.TheVariants.{Local}
-use Rattle.c_typed.specs.Trees.{TypedStatement, TypedStatements, TypedProgram, empty, block, unset, assign, store, call, output, if_else, loop}
+use Rattle.c_typed.specs.Trees.{TypedStatement, TypedStatements, TypedProgram, empty, block, unset, assign, output}
 use Rattle.c_typed.specs.Trees.{break_loop, continue_loop, return_with, no_statements, more_statements}
 use Rattle.c_typed.specs.WellFormed.{FitsStatement, FitsStatements}
 use Rattle.c_typed.specs.Meaning.{Todo, Do, Next, Mode, Going, Breaking, Continuing, Point, before, before_all, next_point}

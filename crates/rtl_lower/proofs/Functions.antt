@@ -3,7 +3,6 @@ use Rattle.std.proofs.Common.{◌≡◌, ◌≢◌, ℕ, zero, suc, ◌+◌, ◌
 use Rattle.std.proofs.Common.{get_or, take}
 use Rattle.std.specs.Prelude.{slice_get, map, replicate}
 use Rattle.std.proofs.lemmas.List.{length-replicate}
-use Rattle.std.proofs.Math.Seq.{take-suc}
 use Rattle.words.specs.Words.{wrap}
 use Rattle.words.specs.Widths.{kept}
 use Rattle.words.specs.declared.width.Width.{Width}

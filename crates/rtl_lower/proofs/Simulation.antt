@@ -15,8 +15,7 @@ use Rattle.runs.proofs.Steps.{steps-add}
 use Rattle.runs.proofs.Words.{at-index}
 use Rattle.c_typed.specs.declared.tree.Destination.{Destination}
 use Rattle.c_typed.specs.declared.tree.Destination.TheVariants.{Local, Global as Variable}
-use Rattle.c_typed.specs.declared.tree.Global.{Global}
-use Rattle.c_typed.specs.Trees.{TypedExpression, TypedStatement, TypedFunction, TypedProgram, block, assign, store, call, output}
+use Rattle.c_typed.specs.Trees.{TypedExpression, TypedStatement, TypedFunction, TypedProgram, assign, store, call, output}
 use Rattle.c_typed.specs.Trees.{if_else, loop}
 use Rattle.c_typed.specs.Trees.{return_with}
 use Rattle.c_typed.specs.WellFormed.{FitsFunction, FitsTarget, IsWellFormed}
@@ -30,7 +29,6 @@ use Rattle.rtl.specs.declared.instruction.RInst.TheVariants as I
 use Rattle.rtl.specs.declared.instruction.RExit.TheVariants as X
 use Rattle.rtl.specs.declared.block.RBlock.{RBlock}
 use Rattle.rtl.specs.declared.block.RFunc.{RFunc}
-use Rattle.rtl.specs.declared.block.RGlobal.{RGlobal}
 use Rattle.rtl.specs.Programs.{Program}
 use Rattle.rtl.specs.Meaning as Blk
 use Rattle.rtl.specs.Meaning.{Code, Surroundings, at, activation, around_callee, code_of, kept_in, state_at_block, words_in, rtl_step, rtl_steps}
@@ -260,10 +258,9 @@ module _ (src : TypedProgram) (p : Program) (ok : IsCodeOfProgram src p) (well :
       → rtl_step p depth t ≡ (if b then state_at_block (target w) r.blocks.items (argument_registers vs) 0 else Failed w.output)
       → Advance src p depth t (if b' then Src.at (source w) (Src.argument_places vs) (before_all func.body []) else Failed w.output)
   entered w i vs t func r there c many true true same step =
-      let fits = at-index (FitsFunction src) src.functions i func well.functions there in
       advance_one src p depth t _ _ step
       (enters_block w r.blocks.items func.locals (argument_registers vs) (argument_registers vs) (before_all func.body []) 0 (begins i func r there c)
-      (arguments_located vs func.parameters func.locals many fits.first))
+      (arguments_located vs func.parameters func.locals many (at-index (FitsFunction src) src.functions i func well.functions there).first))
   entered w i vs t func r there c many b false same step = advance_failed src p depth t w.output
   entered w i vs t func r there c many false true same step = absurd (true≢false same)
 

@@ -1,7 +1,7 @@
 -- Spots: where code is, and jumps from one to another.
-use Rattle.std.proofs.Common.{◌≡◌, ℕ, List, ◌⊎◌, inl, inr, Some, refl, sym, ◌∙◌, ap, subst}
+use Rattle.std.proofs.Common.{◌≡◌, ℕ, List, ◌⊎◌, inl, inr, refl, sym, subst}
 use Rattle.runs.specs.Stores.{Places}
-use Rattle.rtl.specs.Meaning.{Code, Surroundings, at, code_of}
+use Rattle.rtl.specs.Meaning.{Code, Surroundings, at}
 use Rattle.rtl.specs.declared.block.RBlock.{RBlock}
 use Rattle.rtl_emit.specs.Blocks.{goto, Spot, Block, Line, line_of, Lands, At}
 use Rattle.rtl_emit.specs.Runs.{Goes}

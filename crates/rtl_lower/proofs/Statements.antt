@@ -1,19 +1,11 @@
 -- The end of a turn of a loop, and a block that was filled behind others.
-use Rattle.std.proofs.Common.{Vec, Global, ◌≡◌, ◌≢◌, ℕ, ◌<◌, ◌≤◌, List, [], ◌++◌, Option, Some, refl, sym, ◌∙◌, ap, subst, arith, length}
-use Rattle.std.specs.Prelude.{map, slice_get}
-use Rattle.runs.specs.Runs.{with_value}
-use Rattle.c_typed.specs.declared.tree.Destination.{Destination}
-use Rattle.c_typed.specs.Trees.{TypedExpression, TypedStatement, TypedStatements, store, call}
-use Rattle.rtl.specs.declared.instruction.RInst.TheVariants as I
-use Rattle.rtl.specs.declared.instruction.RExit.TheVariants as X
+use Rattle.std.proofs.Common.{◌≡◌, ◌≢◌, ℕ, ◌<◌, ◌≤◌, List, Option, Some, ◌∙◌, arith, length}
+use Rattle.c_typed.specs.Trees.{TypedStatements}
 use Rattle.rtl.specs.declared.block.RBlock.{RBlock}
-use Rattle.rtl.specs.Meaning.{Code, activation, around_callee, code_of, words_in, state_after_call}
-use Rattle.rtl_emit.specs.Blocks.{exit_code, first, Spot, Block, Line, line_of, Lands, Grows, Has, At, Fills}
-use Rattle.rtl_emit.specs.Expressions.{IsPlace, AddPlaces, Fetches, FetchAll}
-use Rattle.rtl_emit.specs.declared.place.Place.{Place}
-use Rattle.rtl_emit.proofs.Blocks.{split2}
-use Rattle.rtl_emit.proofs.Emitted.{Over, Joins, finds_to}
-use Rattle.rtl_lower.specs.Coded.{enclosing, Receives, IsTurn, Coded, CodedAll}
+use Rattle.rtl.specs.Meaning.{Code}
+use Rattle.rtl_emit.specs.Blocks.{Spot, Block, Grows, Has, At, Fills}
+use Rattle.rtl_emit.proofs.Emitted.{Over, Joins}
+use Rattle.rtl_lower.specs.Coded.{enclosing, IsTurn, CodedAll}
 use Rattle.rtl_lower.proofs.Spots.{comes_join}
 
 -- what was emitted for statements

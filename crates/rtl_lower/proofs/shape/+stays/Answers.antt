@@ -12,5 +12,4 @@ returns-in-Some t c =
 
 pub returns-in-None : goal.returns-in-None
 returns-in-None t c =
-    let is = ap statement_of c.in-Block.is ∙ block-is c.in-Block.all in
-    sym (ap Sizes.stays is ∙ last_none _ _ c.as_slice.ensures.value c.in-None.ensures.value)
+    sym (ap Sizes.stays (ap statement_of c.in-Block.is ∙ block-is c.in-Block.all) ∙ last_none _ _ c.as_slice.ensures.value c.in-None.ensures.value)

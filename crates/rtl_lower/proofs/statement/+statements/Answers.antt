@@ -1,4 +1,4 @@
-use Rattle.std.proofs.Common.{◌≡◌, ◌+◌, ◌-◌, ◌<◌, refl, sym, ◌∙◌, ap, arith, rules, length, Err}
+use Rattle.std.proofs.Common.{◌≡◌, ◌+◌, ◌-◌, refl, sym, ◌∙◌, ap, arith, rules, length, Err}
 use Rattle.std.proofs.lemmas.Bool.{or_left, or_right}
 use Rattle.c_typed.specs.Shape.{typed_expression_of, typed_expressions_of, statement_of, statements_of}
 use Rattle.c_typed.specs.Trees.{block, call, if_else, loop}
