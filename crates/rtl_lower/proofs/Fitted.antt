@@ -4,6 +4,7 @@ use Rattle.std.proofs.Common.{arith, length, get_or, take}
 use Rattle.std.specs.Prelude.{All, sum_by, is_some}
 use Rattle.std.proofs.lemmas.List.Sums.{sum_by-cons, sum_by_push}
 use Rattle.std.proofs.lemmas.List.Elements.{All-append}
+use Rattle.std.proofs.lemmas.Bool.{or_from}
 use Rattle.std.proofs.lemmas.Option.{slice_get_within}
 use Rattle.words.specs.Widths.{words_of_elements}
 use Rattle.words.specs.declared.width.Width.{Width}
@@ -24,7 +25,6 @@ use Rattle.rtl.specs.declared.block.RFunc.{RFunc}
 use Rattle.rtl_emit.specs.Sizes.{globals_named, globals_named_in, Beyond}
 use Rattle.rtl_lower.specs.Sizes.{continues, any_continues, numbers_named, numbers_named_in, target_number, function_blocks, function_registers, IsPlain}
 use Rattle.rtl_lower.specs.Sizes.{HaveRoom}
-use Rattle.std.proofs.lemmas.Bool.{or_from}
 use Rattle.rtl_lower.proofs.Sizes.{take_one}
 
 -- one of a list
