@@ -1,7 +1,8 @@
 -- Tickets go on standing for their trees, also after a write.
 use Rattle.std.proofs.Common.{◌≡◌, ◌≢◌, ℕ, zero, suc, ◌+◌, ◌<◌, ◌≤◌, ◌==◌, Bool, true, false, cond, ◌&&◌, List, [], ◌∷◌, ◌++◌, length}
-use Rattle.std.proofs.Common.{slice_index_or, slice_set, Contains, refl, sym, ap, ap₂, ◌∙◌, subst, true≢false, eq-eqb, eqb-true, arith}
+use Rattle.std.proofs.Common.{slice_index_or, slice_set, Contains, refl, sym, ap, ap₂, ◌∙◌, subst, true≢false, eq-eqb, eqb-true, ⊎_elim, arith}
 use Rattle.std.specs.Prelude.{slice_index, OnOk, OnErr, Result, Ok, Err}
+use Rattle.std.proofs.lemmas.List.Elements.{Contains-append_left, Contains-append_right, Contains-push, Contains-push_cases}
 use Rattle.std.proofs.lemmas.List.{get_or-set_same, get_or-set_other}
 use Rattle.sym_terms.specs.NormalForms.{const_tree}
 use Rattle.mips_isa.proofs.Registers.{put_lost, read-put}
@@ -81,7 +82,7 @@ written_at P regs d v r lt lost same other = go (d == 0) refl (r == d) refl
     go false ez true eb =
         let is : r ≡ d = eqb-true r d eb in
         let some : 0 < d =
-        Rattle.std.proofs.Common.⊎_elim (λ x. x)
+        ⊎_elim (λ x. x)
         (λ le. let none : d ≡ 0 = omega (arith, le) in absurd (true≢false (sym (eq-eqb d 0 none) ∙ ez))) (Rattle.std.proofs.lemmas.Bool.cases_lt 0 d) in
         subst (P r) (sym (ap (slice_index (slice_set regs d v)) is ∙ get_or-set_same regs d v 0 lt)) (same eb some)
     go false ez false eb =
@@ -139,28 +140,6 @@ guards_on {p} {q} {gs} {xs} e h = record {
   up = λ x c. let r = h.up x c in (r.0, r.1, guard_on e r.0 x r.2);
 }
 
-contains_head : {A : Type 0} (x : A) (xs : List A) → Contains (x ∷ xs) x
-contains_head x xs = (0, omega arith, refl)
-
-contains_tail : {A : Type 0} (y x : A) (xs : List A) → Contains xs x → Contains (y ∷ xs) x
-contains_tail y x xs (k, lt, e) = (suc k, omega (arith, lt), e)
-
--- an element of a list with one more at its end
-contains_front : {A : Type 0} (xs : List A) (y x : A) → Contains xs x → Contains (xs ++ y ∷ []) x
-contains_front [] y x (k, lt, e) = absurd (omega (arith, lt))
-contains_front (z ∷ xs) y x (zero, lt, e) = (0, omega arith, e)
-contains_front (z ∷ xs) y x (suc k, lt, e) = contains_tail z x (xs ++ y ∷ []) (contains_front xs y x (k, omega (arith, lt), e))
-
-contains_last : {A : Type 0} (xs : List A) (y : A) → Contains (xs ++ y ∷ []) y
-contains_last [] y = contains_head y []
-contains_last (z ∷ xs) y = contains_tail z y (xs ++ y ∷ []) (contains_last xs y)
-
-contains_cases : {A : Type 0} {R : Type 0} (xs : List A) (y x : A) → (Contains xs x → R) → (y ≡ x → R) → Contains (xs ++ y ∷ []) x → R
-contains_cases [] y x old new (zero, lt, e) = new e
-contains_cases [] y x old new (suc k, lt, e) = absurd (omega (arith, lt))
-contains_cases (z ∷ xs) y x old new (zero, lt, e) = old (0, omega arith, e)
-contains_cases (z ∷ xs) y x old new (suc k, lt, e) = contains_cases xs y x (λ c. old (contains_tail z x xs c)) new (k, omega (arith, lt), e)
-
 contains_split : {A : Type 0} {R : Type 0} (y x : A) (xs : List A) → (y ≡ x → R) → (Contains xs x → R) → Contains (y ∷ xs) x → R
 contains_split y x xs new old (zero, lt, e) = new e
 contains_split y x xs new old (suc k, lt, e) = old (k, omega (arith, lt), e)
@@ -169,12 +148,12 @@ contains_split y x xs new old (suc k, lt, e) = old (k, omega (arith, lt), e)
 pub guards_more : {p : PassState} {gs hs : List Guard} {xs : List GuardTree} (g : Guard) (x : GuardTree) → GuardsStand p gs xs
     → IsGuard p g x → hs ≡ gs ++ g ∷ [] → GuardsStand p hs (x ∷ xs)
 guards_more {p} {gs} {hs} {xs} g x h is e = subst (λ l. GuardsStand p l (x ∷ xs)) (sym e) (record {
-  down = λ f c. contains_cases gs g f
-      (λ old. let r = h.down f old in (r.0, contains_tail x r.0 xs r.1, r.2))
-      (λ new. (x, contains_head x xs, subst (λ y. IsGuard p y x) new is)) c;
+  down = λ f c. ⊎_elim
+      (λ (old : Contains gs f). let r = h.down f old in (r.0, Contains-append_right (x ∷ []) xs r.0 r.1, r.2))
+      (λ (new : g ≡ f). (x, (0, omega arith, refl), subst (λ y. IsGuard p y x) new is)) (Contains-push_cases gs g f c);
   up = λ y c. contains_split x y xs
-      (λ new. (g, contains_last gs g, subst (IsGuard p g) new is))
-      (λ old. let r = h.up y old in (r.0, contains_front gs g r.0 r.1, r.2)) c;
+      (λ new. (g, Contains-push gs g, subst (IsGuard p g) new is))
+      (λ old. let r = h.up y old in (r.0, Contains-append_left gs (g ∷ []) r.0 r.1, r.2)) c;
 })
 
 -- a fact of a success leads to another
@@ -202,12 +181,6 @@ guards_none {p} {gs} e = subst (λ l. GuardsStand p l []) (sym e) (record {
   up = λ g (k, lt, x). absurd (omega (arith, lt));
 })
 
--- a list of registers' tickets after a write
-pub length_set : (xs : List ℕ) (k v : ℕ) → length (slice_set xs k v) ≡ length xs
-length_set [] k v = refl
-length_set (x ∷ xs) zero v = refl
-length_set (x ∷ xs) (suc k) v = ap suc (length_set xs k v)
-
 -- the registers' start terms, one more
 pub set_tree : (p : PassState) (xs : List ℕ) (k v q : ℕ) → k < length xs → 1 ≤ k → HasTree p v (leaf (Init (Register k))) → q < k + 1
     → (q < k → HasTree p (slice_index xs q) (register_tree start_trees q)) → HasTree p (slice_index (slice_set xs k v) q) (register_tree start_trees q)
@@ -226,7 +199,7 @@ set_tree p xs k v q lt some new low old = go (q == k) refl
     go false e =
         let apart : q ≢ k = λ same. true≢false (sym (eq-eqb q k same) ∙ e) in
         subst (λ n. HasTree p n (register_tree start_trees q)) (sym (get_or-set_other xs k q v 0 apart))
-        (old (Rattle.std.proofs.Common.⊎_elim (λ x. x) (λ le. absurd (apart (omega (arith, low, le)))) (Rattle.std.proofs.lemmas.Bool.cases_lt q k)))
+        (old (⊎_elim (λ x. x) (λ le. absurd (apart (omega (arith, low, le)))) (Rattle.std.proofs.lemmas.Bool.cases_lt q k)))
 
 pub stands_for_on : {p q : PassState} {s : TermPlaces} {e : TermExit} {gs : List Guard} {c : CodeTrees} → Later p q → StandsFor p s e gs c
     → StandsFor q s e gs c

@@ -1,9 +1,10 @@
 use Rattle.std.proofs.Common.{rules, ◌≡◌, ℕ, zero, ◌<◌, ◌+◌, length, ◌∙◌, subst, arith}
 use Rattle.std.specs.Prelude.{slice_index, replicate}
+use Rattle.std.proofs.Math.ListN.{length-set}
 use Rattle.sym_exec.specs.MipsTerms.{HasTree}
 use Rattle.sym_exec.proofs.MipsTerms.{still_tree, tree_seen}
 use Rattle.sym_exec.specs.Symbolic.{register_tree, start_trees}
-use Rattle.sym_exec.proofs.Tickets.{later_more, goes_on, goes_more, interns_by, set_tree, length_set}
+use Rattle.sym_exec.proofs.Tickets.{later_more, goes_on, goes_more, interns_by, set_tree}
 use Rattle.sym_exec.proofs.Asked.{err_always, lacks_high, lacks_low, lacks_start, lacks_start_of}
 use Rattle.sym_exec.proofs.run.start_registers.Goals as goal
 
@@ -27,7 +28,7 @@ loop-r-preserved c =
     record {
       goes = goes_more c.loop-r.invariant.goes (goes_on c.in_ok-regs.ensures.pass);
       grows = omega (arith, c.loop-r.invariant.grows, c.in_ok-regs.ensures.grows, c.loop-r-test.true);
-      count = length_set regs k c.in_ok-regs.field-0 ∙ c.loop-r.invariant.count;
+      count = length-set regs k c.in_ok-regs.field-0 ∙ c.loop-r.invariant.count;
       stands = λ q lt.
           set_tree c.start_reg.new.terms.pass.now regs k c.in_ok-regs.field-0 q inside (c.loop-r.auto.r) c.in_ok-regs.ensures.tree lt
           (λ below. still_tree more.extends (c.loop-r.invariant.stands q below));
