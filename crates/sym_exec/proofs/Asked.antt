@@ -16,7 +16,6 @@ use Rattle.sym_exec.specs.Stores.{Makes, LeadsTo, MakeMemory}
 use Rattle.sym_exec.specs.Symbolic.{TreeState, register_tree, start_trees, trees_after}
 use Rattle.sym_exec.specs.Asked.{LacksOne, asked_by, asked_by_all, first_registers, asked_first}
 use Rattle.sym_exec.proofs.Parts.{lacks_first}
-use Rattle.sym_exec.proofs.Tracking.{drop_here}
 use Rattle.sym_exec.proofs.Chains.{leads-split, memory-join, memory-one}
 
 pub on_err : {X E : Type 0} {A B : Type 0} (r : Result X E) → OnErr r A → (A → B) → OnErr r B
@@ -72,13 +71,6 @@ module _ {p : PassState} where
 pub lacks_start_of : (p : PassState) (r : ℕ) → 1 ≤ r → Lacks p (leaf (Init (Register r))) → Lacks p (register_tree start_trees r)
 lacks_start_of p zero some h = absurd (omega (arith, some))
 lacks_start_of p (suc r) some h = h
-
--- what the actions from a place on ask for: the one there, and the others
-pub asked_step : (l : List Plain) (k : ℕ) (x : Plain) (a : Action) (u : TreeState) → k < length l → x ≡ get_or l k x → a ≡ action_of x
-    → asked_by_all (map action_of (drop k l)) u ≡ asked_by a u ++ asked_by_all (map action_of (drop (k + 1) l)) (trees_after a u)
-asked_step l k x a u lt there acts =
-    ap (λ m. asked_by_all (map action_of m) u) (drop_here l k x lt there)
-    ∙ ap (λ b. asked_by b u ++ asked_by_all (map action_of (drop (k + 1) l)) (trees_after b u)) (sym acts)
 
 -- a memory that is made of one that isn't there
 pub lacks_made : (p q : PassState) (t : Tree) (xs : List Stored) (u : Tree) → LeadsTo p t xs u → Lacks q t → Lacks q u

@@ -12,20 +12,6 @@ use Rattle.mblock.specs.declared.exit.Exit.TheVariants.{Goto}
 use Rattle.mblock.specs.BlockMeaning.{Shape, Goes, exit_shape}
 use Rattle.sym_terms.specs.NormalForms.{is_addition}
 use Rattle.sym_exec.specs.Growth.{growth_by, stores_after, all_stores, growth_by_all, growth_by_shape, code_growth, GrowthHasBound}
-use Rattle.sym_exec.proofs.Tracking.{drop_here}
-
--- what the actions from a place on may link: the one there, and the others
-pub growth_step : (l : List Plain) (k : ℕ) (x : Plain) (a : Action) (n : ℕ) → k < length l → x ≡ get_or l k x → a ≡ action_of x
-    → growth_by_all (map action_of (drop k l)) n ≡ growth_by a n + growth_by_all (map action_of (drop (k + 1) l)) (stores_after a n)
-growth_step l k x a n lt there acts =
-    ap (λ m. growth_by_all (map action_of m) n) (drop_here l k x lt there)
-    ∙ ap (λ b. growth_by b n + growth_by_all (map action_of (drop (k + 1) l)) (stores_after b n)) (sym acts)
-
-pub stores_step : (l : List Plain) (k : ℕ) (x : Plain) (a : Action) (n : ℕ) → k < length l → x ≡ get_or l k x → a ≡ action_of x
-    → all_stores (map action_of (drop k l)) n ≡ all_stores (map action_of (drop (k + 1) l)) (stores_after a n)
-stores_step l k x a n lt there acts =
-    ap (λ m. all_stores (map action_of m) n) (drop_here l k x lt there)
-    ∙ ap (λ b. all_stores (map action_of (drop (k + 1) l)) (stores_after b n)) (sym acts)
 
 -- the bound
 two_or_one : (b : Bool) → (if b then 2 else 1) ≤ 2

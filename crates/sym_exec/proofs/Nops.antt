@@ -1,8 +1,9 @@
 -- A Nop changes nothing, so code leaves what it leaves without its Nops.
 use Rattle.std.proofs.Common.{◌≡◌, ◌∙◌, ℕ, zero, suc, ◌+◌, ◌<◌, ◌≤◌, ◌==◌, ◌&&◌, Bool, true, false, cond, not, List, [], ◌∷◌, ◌++◌, length, take, map, get_or, refl, sym, ap, true≢false, eqb-true, arith}
 use Rattle.std.proofs.Math.Seq.{take-suc}
-use Rattle.std.proofs.lemmas.List.{append-nil}
-use Rattle.std.proofs.lemmas.List.Elements.{filter-append}
+use Rattle.std.proofs.lemmas.List.{append-nil, length-append}
+use Rattle.std.proofs.lemmas.List.Sums.{length-filter, count_by-le-length}
+use Rattle.std.proofs.lemmas.List.Elements.{filter_more}
 use Rattle.mips_isa.specs.declared.inst.Plain.{Plain}
 use Rattle.mips_isa.specs.declared.inst.Plain.TheVariants.{Shift}
 use Rattle.mips_isa.specs.declared.inst.ShiftOp.TheVariants.{Sll}
@@ -55,34 +56,10 @@ pub same_stores : (xs ys : List Plain) → needed xs ≡ needed ys → (n : ℕ)
 same_stores xs ys is n = stores_needed xs n ∙ (ap (λ zs. all_stores (map action_of zs) n) is ∙ sym (stores_needed ys n))
 
 -- one instruction more
-pub needed_step : (xs : List Plain) (k : ℕ) (x : Plain) → k < length xs → x ≡ get_or xs k x
-    → needed (take (k + 1) xs) ≡ needed (take k xs) ++ needed (x ∷ [])
-needed_step xs k x low is =
-    let next : k + 1 ≡ suc k = omega arith in
-    let grown = take-suc xs k x low ∙ ap (λ y. take k xs ++ y ∷ []) (sym is) in
-    ap (λ n. needed (take n xs)) next ∙ (ap needed grown ∙ filter-append (λ y. not (is_nop y)) (take k xs) (x ∷ []))
-
-pub needed_nop : (xs : List Plain) (k : ℕ) (x : Plain) → k < length xs → x ≡ get_or xs k x → is_nop x ≡ true → needed (take (k + 1) xs) ≡ needed (take k xs)
-needed_nop xs k x low is nop =
-    needed_step xs k x low is ∙ (ap (λ b. needed (take k xs) ++ cond (not b) (x ∷ []) []) nop ∙ append-nil (needed (take k xs)))
-
-pub needed_more : (xs : List Plain) (k : ℕ) (x : Plain) → k < length xs → x ≡ get_or xs k x → is_nop x ≡ false
-    → needed (take (k + 1) xs) ≡ needed (take k xs) ++ x ∷ []
-needed_more xs k x low is needed_one = needed_step xs k x low is ∙ ap (λ b. needed (take k xs) ++ cond (not b) (x ∷ []) []) needed_one
-
-pub needed_within : (xs : List Plain) (k : ℕ) → length (needed (take k xs)) ≤ k
-needed_within xs zero = omega arith
-needed_within [] (suc k) = omega arith
-needed_within (x ∷ xs) (suc k) = go (is_nop x) (needed_within xs k)
-  where
-    go : (b : Bool) → length (needed (take k xs)) ≤ k → length (cond (not b) (x ∷ needed (take k xs)) (needed (take k xs))) ≤ suc k
-    go true rest = omega (arith, rest)
-    go false rest = omega (arith, rest)
+pub needed_more : (xs : List Plain) (k : ℕ) {x : Plain} (b : Bool) → k < length xs → x ≡ get_or xs k x → is_nop x ≡ b
+    → length (needed (take (k + 1) xs)) ≡ length (needed (take k xs)) + cond b 0 1
+needed_more xs k {x} true low is e = rw (filter_more (λ y. not (is_nop y)) xs k x low, ← is, e, append-nil) (omega arith)
+needed_more xs k {x} false low is e = rw (filter_more (λ y. not (is_nop y)) xs k x low, ← is, e, length-append) refl
 
 pub needed_few : (xs : List Plain) → length (needed xs) ≤ length xs
-needed_few [] = omega arith
-needed_few (x ∷ xs) = go (is_nop x) (needed_few xs)
-  where
-    go : (b : Bool) → length (needed xs) ≤ length xs → length (cond (not b) (x ∷ needed xs) (needed xs)) ≤ suc (length xs)
-    go true rest = omega (arith, rest)
-    go false rest = omega (arith, rest)
+needed_few xs = rw (length-filter (λ y. not (is_nop y)) xs) (count_by-le-length (λ y. not (is_nop y)) xs)

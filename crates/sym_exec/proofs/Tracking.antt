@@ -1,5 +1,5 @@
 -- A run has come as far as its trees: calls of the table leave it there, and what an action does takes it on.
-use Rattle.std.proofs.Common.{◌≡◌, ℕ, zero, suc, ◌<◌, ◌≤◌, ◌+◌, List, [], ◌∷◌, ◌++◌, length, map, drop, get_or, refl, sym, ap, ◌∙◌, subst, arith}
+use Rattle.std.proofs.Common.{◌≡◌, ℕ, zero, suc, ◌<◌, ◌≤◌, ◌+◌, List, [], ◌∷◌, ◌++◌, length, map, drop, get_or, refl, sym, ap, ap₂, ◌∙◌, subst, arith}
 use Rattle.std.specs.Prelude.{vec_len, vec_capacity}
 use Rattle.std.proofs.Math.Seq.{drop-cons}
 use Rattle.mips_isa.specs.declared.inst.Plain.{Plain}
@@ -91,21 +91,10 @@ tracks_start {p} {s} {l} {m} none hold stores guards = record {
   guards = guards_none (subst (λ v. v.items ≡ []) (sym guards) none.guards);
 }
 
--- a list from a place on: the element there, and the others
-pub drop_here : (l : List Plain) (k : ℕ) (x : Plain) → k < length l → x ≡ get_or l k x → drop k l ≡ x ∷ drop (k + 1) l
-drop_here l k x lt there =
+-- the actions from a place on: the one there, and the others
+pub actions_here : (l : List Plain) (k : ℕ) {x : Plain} {a : Action} → k < length l → x ≡ get_or l k x → a ≡ action_of x
+    → map action_of (drop k l) ≡ a ∷ map action_of (drop (k + 1) l)
+actions_here l k {x} {a} lt there acts =
     let next : suc k ≡ k + 1 = omega arith in
-    drop-cons l k x lt ∙ (ap (λ (y : Plain). y ∷ drop (suc k) l) (sym there) ∙ ap (λ j. x ∷ drop j l) next)
-
--- the actions from a place on are the one there and the others
-trees_rest : (l : List Plain) (k : ℕ) (x : Plain) (a : Action) (u : TreeState) → k < length l → x ≡ get_or l k x → a ≡ action_of x
-    → all_trees (map action_of (drop (suc k) l)) (trees_after a u) ≡ all_trees (map action_of (drop k l)) u
-trees_rest [] k x a u lt is acts = absurd (omega (arith, lt))
-trees_rest (y ∷ l) zero x a u lt is acts = ap (λ b. all_trees (map action_of l) (trees_after b u)) (acts ∙ ap action_of is)
-trees_rest (y ∷ l) (suc k) x a u lt is acts = trees_rest l k x a u (omega (arith, lt)) is acts
-
-pub trees_step : (l : List Plain) (k : ℕ) (x : Plain) (a : Action) (u : TreeState) → k < length l → x ≡ get_or l k x → a ≡ action_of x
-    → all_trees (map action_of (drop (k + 1) l)) (trees_after a u) ≡ all_trees (map action_of (drop k l)) u
-trees_step l k x a u lt is acts =
-    let next : suc k ≡ k + 1 = omega arith in
-    ap (λ j. all_trees (map action_of (drop j l)) (trees_after a u)) (sym next) ∙ trees_rest l k x a u lt is acts
+    ap (map action_of) (drop-cons l k x lt)
+    ∙ ap₂ (λ b j. b ∷ map action_of (drop j l)) (ap action_of (sym there) ∙ sym acts) next
