@@ -16,76 +16,55 @@ use Rattle.sym_exec.proofs.run.step.Goals as goal
 
 pub returns-in-Computes-clause-tracks : goal.returns-in-Computes-clause-tracks
 returns-in-Computes-clause-tracks c = λ t h.
-    let P : Action → Type 0 = λ a. OnOk c.computes.result (Tracks c.computes.new.terms.pass.now c.computes.new.self c.args.lists.now (trees_after a t)) in
-    subst P (sym c.in-Computes.is) (on_ok c.computes.result (c.computes.ensures.hold t h.hold) (λ e. tracks_on c.computes.ensures.pass.later h e refl refl))
+    rw c.in-Computes.is (on_ok c.computes.result (c.computes.ensures.hold t h.hold) (λ e. tracks_on c.computes.ensures.pass.later h e refl refl))
 
 pub returns-in-Sets-clause-tracks : goal.returns-in-Sets-clause-tracks
 returns-in-Sets-clause-tracks c = λ t h.
-    let P : Action → Type 0 = λ a. OnOk c.put_leaf.result (Tracks c.put_leaf.new.terms.pass.now c.put_leaf.new.self c.args.lists.now (trees_after a t)) in
-    subst P (sym c.in-Sets.is) (on_ok c.put_leaf.result (c.put_leaf.ensures.hold t h.hold) (λ e. tracks_on c.put_leaf.ensures.pass.later h e refl refl))
+    rw c.in-Sets.is (on_ok c.put_leaf.result (c.put_leaf.ensures.hold t h.hold) (λ e. tracks_on c.put_leaf.ensures.pass.later h e refl refl))
 
 pub returns-in_ok-address-in-Loads-clause-tracks : goal.returns-in_ok-address-in-Loads-clause-tracks
 returns-in_ok-address-in-Loads-clause-tracks c = λ t h.
     let d = c.in_ok-address-in-Loads.ensures in
-    let P : Action → Type 0 = λ a. Tracks c.loads.new.terms.pass.now c.loads.new.self c.push_guard.new.self (trees_after a t) in
     let guard = Address c.in-Loads.width c.in_ok-address-in-Loads.address in
     let tree = AtAddress c.in-Loads.width (address_tree t c.in-Loads.base c.in-Loads.offset) in
-    let memory = subst (λ v. MakeMemory c.loads.new.terms.pass.now v.items t.memory) (sym d.stores)
-    (memory-on c.args.lists.now.chain.stores.items t.memory d.pass.later h.memory) in
-    subst P (sym c.in-Loads.is)
-    (tracks_guard guard tree d.pass.later h (d.hold t h.hold h.memory)
-    (subst (λ k. MakeMemory c.loads.new.terms.pass.now k.stores.items t.memory) (sym c.push_guard.ensures.chain) memory) (refl, d.address t h.hold)
-    c.push_guard.ensures.pushed refl)
+    let memory = memory-on c.args.lists.now.chain.stores.items t.memory d.pass.later h.memory in
+    rw c.in-Loads.is (tracks_guard guard tree d.pass.later h (d.hold t h.hold h.memory)
+    (rw (c.push_guard.ensures.chain, d.stores) memory) (refl, d.address t h.hold) c.push_guard.ensures.pushed refl)
 
 pub returns-in_ok-address-in-Stores-clause-tracks : goal.returns-in_ok-address-in-Stores-clause-tracks
 returns-in_ok-address-in-Stores-clause-tracks c = λ t h.
     let d = c.in_ok-address-in-Stores.ensures in
-    let P : Action → Type 0 = λ a. Tracks c.stores.new.terms.pass.now c.args.registers.now c.push_guard-in-Stores.new.self (trees_after a t) in
     let guard = Address c.in-Stores.width c.in_ok-address-in-Stores.address in
     let tree = AtAddress c.in-Stores.width (address_tree t c.in-Stores.base c.in-Stores.offset) in
-    let memory = store_tree c.in-Stores.width t.memory (address_tree t c.in-Stores.base c.in-Stores.offset) (register_tree t c.in-Stores.r) in
-    subst P (sym c.in-Stores.is)
-    (tracks_guard guard tree d.pass.later h (hold_same (hold_on d.pass.later h.hold) refl refl refl)
-    (subst (λ k. MakeMemory c.stores.new.terms.pass.now k.stores.items memory) (sym c.push_guard-in-Stores.ensures.chain) (d.memory t h.hold h.memory))
+    rw c.in-Stores.is (tracks_guard guard tree d.pass.later h (hold_same (hold_on d.pass.later h.hold) refl refl refl)
+    (rw c.push_guard-in-Stores.ensures.chain (d.memory t h.hold h.memory))
     (refl, d.address t h.hold) c.push_guard-in-Stores.ensures.pushed refl)
 
 pub returns-in-Multiplies-clause-tracks : goal.returns-in-Multiplies-clause-tracks
 returns-in-Multiplies-clause-tracks c = λ t h.
-    let p = c.put_halves.new.terms.pass.now in
-    let same = ap₂ (λ high low. with_halves high low c.in-Multiplies.a c.in-Multiplies.b t) c.product_high.ensures c.product_low.ensures in
-    let held = subst (λ u. OnOk c.put_halves.result (Hold p c.put_halves.new.self u)) same (c.put_halves.ensures.hold t h.hold) in
-    let P : Action → Type 0 = λ a. OnOk c.put_halves.result (Tracks p c.put_halves.new.self c.args.lists.now (trees_after a t)) in
-    subst P (sym c.in-Multiplies.is) (on_ok c.put_halves.result held (λ e. tracks_on c.put_halves.ensures.pass.later h e refl refl))
+    let held = rw (c.product_high.ensures, c.product_low.ensures) at (c.put_halves.ensures.hold t h.hold) in
+    rw c.in-Multiplies.is (on_ok c.put_halves.result held (λ e. tracks_on c.put_halves.ensures.pass.later h e refl refl))
 
 pub returns-in_ok-put_halves-in-Divides-clause-tracks : goal.returns-in_ok-put_halves-in-Divides-clause-tracks
 returns-in_ok-put_halves-in-Divides-clause-tracks c = λ t h.
     let later = c.in_ok-put_halves-in-Divides.ensures.pass.later in
-    let p = c.put_halves-in-Divides.new.terms.pass.now in
-    let P : Action → Type 0 = λ a. Tracks p c.put_halves-in-Divides.new.self c.push_guard-in-Divides.new.self (trees_after a t) in
     let x = still_tree later.extends (get_tree {t = t} h.hold c.get-dividend.ensures.value c.get-dividend.ensures.range) in
     let y = still_tree later.extends (get_tree {t = t} h.hold c.get-divisor.ensures.value c.get-divisor.ensures.range) in
     let guard = Division c.in-Divides.sign c.get-dividend.result c.get-divisor.result in
     let tree = AtDivision c.in-Divides.sign (register_tree t c.in-Divides.a) (register_tree t c.in-Divides.b) in
     let memory = memory-on c.args.lists.now.chain.stores.items t.memory later h.memory in
-    let same = ap₂ (λ high low. with_halves high low c.in-Divides.a c.in-Divides.b t) c.remainder_operator.ensures c.quotient_operator.ensures in
-    let held = subst (Hold p c.put_halves-in-Divides.new.self) same
-    (c.in_ok-put_halves-in-Divides.ensures.hold t h.hold) in
-    subst P (sym c.in-Divides.is)
-    (tracks_guard guard tree later h (hold_same held refl refl refl)
-    (subst (λ k. MakeMemory p k.stores.items t.memory) (sym c.push_guard-in-Divides.ensures.chain) memory) (refl, x, y)
+    let held = rw (c.remainder_operator.ensures, c.quotient_operator.ensures) at (c.in_ok-put_halves-in-Divides.ensures.hold t h.hold) in
+    rw c.in-Divides.is (tracks_guard guard tree later h (hold_same held refl refl refl)
+    (rw c.push_guard-in-Divides.ensures.chain memory) (refl, x, y)
     c.push_guard-in-Divides.ensures.pushed refl)
 
 pub returns-in-MovesHigh-clause-tracks : goal.returns-in-MovesHigh-clause-tracks
 returns-in-MovesHigh-clause-tracks c = λ t h.
-    let P : Action → Type 0 = λ a. Tracks c.args.terms.now.pass.now c.set.new.self c.args.lists.now (trees_after a t) in
-    subst P (sym c.in-MovesHigh.is)
-    (tracks_on (later_self c.args.terms.now.pass.now) h (hold_put {t = t} h.hold h.hold.hi c.set.ensures.value c.set.ensures.range c.set.ensures.count) refl refl)
+    rw c.in-MovesHigh.is (tracks_on (later_self c.args.terms.now.pass.now) h (hold_put {t = t} h.hold h.hold.hi c.set.ensures.value c.set.ensures.range c.set.ensures.count) refl refl)
 
 pub returns-in-MovesLow-clause-tracks : goal.returns-in-MovesLow-clause-tracks
 returns-in-MovesLow-clause-tracks c = λ t h.
-    let P : Action → Type 0 = λ a. Tracks c.args.terms.now.pass.now c.set-in-MovesLow.new.self c.args.lists.now (trees_after a t) in
-    subst P (sym c.in-MovesLow.is)
-    (tracks_on (later_self c.args.terms.now.pass.now) h
+    rw c.in-MovesLow.is (tracks_on (later_self c.args.terms.now.pass.now) h
     (hold_put {t = t} h.hold h.hold.lo c.set-in-MovesLow.ensures.value c.set-in-MovesLow.ensures.range c.set-in-MovesLow.ensures.count) refl refl)
 
 pub returns-in-Computes-clause-chain : goal.returns-in-Computes-clause-chain
@@ -102,40 +81,32 @@ returns-in_ok-address-in-Stores-clause-known c = known_on c.in_ok-address-in-Sto
 
 pub returns-in_ok-put_halves-in-Divides-clause-chain : goal.returns-in_ok-put_halves-in-Divides-clause-chain
 returns-in_ok-put_halves-in-Divides-clause-chain c =
-    subst (IsChain c.put_halves-in-Divides.new.terms.pass.now) (sym c.push_guard-in-Divides.ensures.chain)
-    (chain-on c.in_ok-put_halves-in-Divides.ensures.pass.later c.requires.chain)
+    rw c.push_guard-in-Divides.ensures.chain (chain-on c.in_ok-put_halves-in-Divides.ensures.pass.later c.requires.chain)
 
 pub returns-in_ok-address-in-Loads-clause-room : goal.returns-in_ok-address-in-Loads-clause-room
 returns-in_ok-address-in-Loads-clause-room c =
-    let few = c.requires.room.few in
-    let same = ap vec_len c.in_ok-address-in-Loads.ensures.stores in
-    let enough = c.requires.room.guards in
-    let capacity = ap vec_capacity c.in_ok-address-in-Loads.ensures.stores in
-    room_guard c.args.lists.now c.push_guard.new.self c.loads.new.chain (omega (arith, enough, capacity)) c.in_ok-address-in-Loads.ensures.room (omega (arith, few, same))
+    let d = c.in_ok-address-in-Loads.ensures in
+    room_guard c.args.lists.now c.push_guard.new.self c.loads.new.chain (rw d.stores c.requires.room.guards) d.room (omega (arith, c.requires.room.few, ap vec_len d.stores))
     c.push_guard.ensures.count c.push_guard.ensures.capacity c.push_guard.ensures.chain
 
 pub returns-in_ok-address-in-Stores-clause-room : goal.returns-in_ok-address-in-Stores-clause-room
 returns-in_ok-address-in-Stores-clause-room c =
-    let few = c.requires.room.few in
-    let more = c.in_ok-address-in-Stores.ensures.count in
-    let enough = c.requires.room.guards in
-    let capacity = c.in_ok-address-in-Stores.ensures.capacity in
-    room_guard c.args.lists.now c.push_guard-in-Stores.new.self c.stores.new.chain (omega (arith, enough, capacity)) c.in_ok-address-in-Stores.ensures.room (omega (arith, few, more))
+    let d = c.in_ok-address-in-Stores.ensures in
+    room_guard c.args.lists.now c.push_guard-in-Stores.new.self c.stores.new.chain (rw d.capacity c.requires.room.guards) d.room (omega (arith, c.requires.room.few, d.count))
     c.push_guard-in-Stores.ensures.count c.push_guard-in-Stores.ensures.capacity c.push_guard-in-Stores.ensures.chain
 
 pub returns-in_ok-put_halves-in-Divides-clause-room : goal.returns-in_ok-put_halves-in-Divides-clause-room
 returns-in_ok-put_halves-in-Divides-clause-room c =
-    let few = c.requires.room.few in
-    room_guard c.args.lists.now c.push_guard-in-Divides.new.self c.args.lists.now.chain c.requires.room.guards c.requires.room.chain (omega (arith, few))
+    room_guard c.args.lists.now c.push_guard-in-Divides.new.self c.args.lists.now.chain c.requires.room.guards c.requires.room.chain (omega (arith, c.requires.room.few))
     c.push_guard-in-Divides.ensures.count c.push_guard-in-Divides.ensures.capacity c.push_guard-in-Divides.ensures.chain
 
 pub returns-in_ok-address-in-Loads-clause-chain : goal.returns-in_ok-address-in-Loads-clause-chain
 returns-in_ok-address-in-Loads-clause-chain c =
-    subst (IsChain c.loads.new.terms.pass.now) (sym c.push_guard.ensures.chain) c.in_ok-address-in-Loads.ensures.chain
+    rw c.push_guard.ensures.chain c.in_ok-address-in-Loads.ensures.chain
 
 pub returns-in_ok-address-in-Stores-clause-chain : goal.returns-in_ok-address-in-Stores-clause-chain
 returns-in_ok-address-in-Stores-clause-chain c =
-    subst (IsChain c.stores.new.terms.pass.now) (sym c.push_guard-in-Stores.ensures.chain) c.in_ok-address-in-Stores.ensures.chain
+    rw c.push_guard-in-Stores.ensures.chain c.in_ok-address-in-Stores.ensures.chain
 
 pub returns-in_ok-address-in-Loads-clause-pass : goal.returns-in_ok-address-in-Loads-clause-pass
 returns-in_ok-address-in-Loads-clause-pass c = interns_by (goes_on c.in_ok-address-in-Loads.ensures.pass) tt
@@ -174,35 +145,24 @@ returns-in-Multiplies-clause-room c = ok_always c.put_halves.result c.requires.r
 
 pub returns-in_err-address-in-Loads-clause-absent : goal.returns-in_err-address-in-Loads-clause-absent
 returns-in_err-address-in-Loads-clause-absent c = λ t h.
-    err_always _ (subst (λ a. LacksOne c.loads.new.terms.pass.now (asked_by a t)) (sym c.in-Loads.is)
-    (c.in_err-address-in-Loads.ensures.absent t h.hold h.memory))
+    rw c.in-Loads.is (err_always _ (c.in_err-address-in-Loads.ensures.absent t h.hold h.memory))
 
 pub returns-in_err-address-in-Stores-clause-absent : goal.returns-in_err-address-in-Stores-clause-absent
 returns-in_err-address-in-Stores-clause-absent c = λ t h.
-    err_always _ (subst (λ a. LacksOne c.stores.new.terms.pass.now (asked_by a t)) (sym c.in-Stores.is)
-    (lacks_here (c.in_err-address-in-Stores.ensures.absent t h.hold)))
+    rw c.in-Stores.is (err_always _ (lacks_here (c.in_err-address-in-Stores.ensures.absent t h.hold)))
 
 pub returns-in_err-put_halves-in-Divides-clause-absent : goal.returns-in_err-put_halves-in-Divides-clause-absent
 returns-in_err-put_halves-in-Divides-clause-absent c = λ t h.
-    let p = c.put_halves-in-Divides.new.terms.pass.now in
-    let same = ap₂ (λ high low. with_halves high low c.in-Divides.a c.in-Divides.b t) c.remainder_operator.ensures c.quotient_operator.ensures in
-    err_always _ (subst (λ a. LacksOne p (asked_by a t)) (sym c.in-Divides.is)
-    (subst (λ u. LacksOne p (u.hi ∷ u.lo ∷ [])) same (c.in_err-put_halves-in-Divides.ensures.absent t h.hold)))
+    rw c.in-Divides.is (err_always _ (rw (c.remainder_operator.ensures, c.quotient_operator.ensures) at (c.in_err-put_halves-in-Divides.ensures.absent t h.hold)))
 
 pub returns-in-Computes-clause-absent : goal.returns-in-Computes-clause-absent
 returns-in-Computes-clause-absent c = λ t h.
-    let P : Action → Type 0 = λ a. OnErr c.computes.result (LacksOne c.computes.new.terms.pass.now (asked_by a t)) in
-    subst P (sym c.in-Computes.is) (c.computes.ensures.absent t h.hold)
+    rw c.in-Computes.is (c.computes.ensures.absent t h.hold)
 
 pub returns-in-Sets-clause-absent : goal.returns-in-Sets-clause-absent
 returns-in-Sets-clause-absent c = λ t h.
-    let P : Action → Type 0 = λ a. OnErr c.put_leaf.result (LacksOne c.put_leaf.new.terms.pass.now (asked_by a t)) in
-    subst P (sym c.in-Sets.is) (on_err c.put_leaf.result c.put_leaf.ensures.absent (λ lacks. lacks_here lacks))
+    rw c.in-Sets.is (on_err c.put_leaf.result c.put_leaf.ensures.absent (λ lacks. lacks_here lacks))
 
 pub returns-in-Multiplies-clause-absent : goal.returns-in-Multiplies-clause-absent
 returns-in-Multiplies-clause-absent c = λ t h.
-    let p = c.put_halves.new.terms.pass.now in
-    let same = ap₂ (λ high low. with_halves high low c.in-Multiplies.a c.in-Multiplies.b t) c.product_high.ensures c.product_low.ensures in
-    let P : Action → Type 0 = λ a. OnErr c.put_halves.result (LacksOne p (asked_by a t)) in
-    subst P (sym c.in-Multiplies.is)
-    (subst (λ u. OnErr c.put_halves.result (LacksOne p (u.hi ∷ u.lo ∷ []))) same (c.put_halves.ensures.absent t h.hold))
+    rw c.in-Multiplies.is (rw (c.product_high.ensures, c.product_low.ensures) at (c.put_halves.ensures.absent t h.hold))
