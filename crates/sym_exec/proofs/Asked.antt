@@ -1,20 +1,17 @@
 -- One of the trees that are asked for isn't there.
-use Rattle.std.proofs.Common.{◌≡◌, ◌∙◌, ◌⊎◌, ℕ, zero, suc, ◌+◌, ◌<◌, ◌≤◌, List, [], ◌∷◌, ◌++◌, take, drop, length, map, get_or, Result, Ok, Err, OnErr, slice_index_or, refl, sym, ap, subst, ⊎_elim, inl, inr, arith}
+use Rattle.std.proofs.Common.{◌≡◌, ◌∙◌, ◌⊎◌, ℕ, zero, suc, ◌<◌, ◌≤◌, List, [], ◌∷◌, ◌++◌, take, drop, length, Result, Ok, Err, OnErr, slice_index_or, refl, sym, ap, subst, ⊎_elim, inl, inr, arith}
 use Rattle.std.proofs.Math.Seq.{take-suc}
 use Rattle.std.proofs.lemmas.List.{take-append-le, take-append-drop, length-take-le}
 use Rattle.std.proofs.lemmas.List.Elements.{Contains-append_left, Contains-append_right}
 use Rattle.sym_terms.specs.declared.label.Label.TheVariants.{Mem0, Init, Store}
 use Rattle.sym_terms.specs.declared.label.Origin.TheVariants.{Register}
-use Rattle.mips_isa.specs.declared.inst.Plain.{Plain}
-use Rattle.mips_isa.specs.declared.action.Action.{Action}
-use Rattle.mips_isa.specs.Actions.{action_of}
 use Rattle.sym_terms.specs.Trees.{Tree, leaf, none, more}
 use Rattle.term_table.specs.Passes.{PassState}
 use Rattle.sym_exec.specs.MipsTerms.{Lacks}
 use Rattle.sym_exec.specs.declared.stores.Stored.{Stored}
 use Rattle.sym_exec.specs.Stores.{Makes, LeadsTo, MakeMemory}
-use Rattle.sym_exec.specs.Symbolic.{TreeState, register_tree, start_trees, trees_after}
-use Rattle.sym_exec.specs.Asked.{LacksOne, asked_by, asked_by_all, first_registers, asked_first}
+use Rattle.sym_exec.specs.Symbolic.{register_tree, start_trees}
+use Rattle.sym_exec.specs.Asked.{LacksOne, first_registers, asked_first}
 use Rattle.sym_exec.proofs.Parts.{lacks_first}
 use Rattle.sym_exec.proofs.Chains.{leads-split, memory-join, memory-one}
 

@@ -1,5 +1,5 @@
 -- A run has come as far as its trees: calls of the table leave it there, and what an action does takes it on.
-use Rattle.std.proofs.Common.{◌≡◌, ℕ, zero, suc, ◌<◌, ◌≤◌, ◌+◌, List, [], ◌∷◌, ◌++◌, length, map, drop, get_or, refl, sym, ap, ap₂, ◌∙◌, subst, arith}
+use Rattle.std.proofs.Common.{◌≡◌, ℕ, suc, ◌<◌, ◌≤◌, ◌+◌, List, [], ◌∷◌, ◌++◌, length, map, drop, get_or, refl, sym, ap, ap₂, ◌∙◌, subst, arith}
 use Rattle.std.specs.Prelude.{vec_len, vec_capacity}
 use Rattle.std.proofs.Math.Seq.{drop-cons}
 use Rattle.mips_isa.specs.declared.inst.Plain.{Plain}
@@ -13,7 +13,7 @@ use Rattle.sym_exec.specs.declared.registers.TermRegisters.{TermRegisters}
 use Rattle.sym_exec.specs.declared.room.RunLists.{RunLists}
 use Rattle.sym_exec.specs.declared.state.Guard.{Guard}
 use Rattle.sym_exec.specs.declared.stores.StoreChain.{StoreChain}
-use Rattle.sym_exec.specs.Symbolic.{TreeState, GuardTree, start_trees, trees_after, all_trees}
+use Rattle.sym_exec.specs.Symbolic.{TreeState, GuardTree, start_trees}
 use Rattle.sym_exec.specs.Standing.{Later, Hold, IsGuard, GuardsStand}
 use Rattle.sym_exec.specs.Stores.{MakeMemory, AreMemories, HasRoom, HasStoreRoom, IsChain, IsEmpty, Tracks}
 use Rattle.sym_exec.proofs.Tickets.{hold_on, guards_on, guards_more, guards_none}

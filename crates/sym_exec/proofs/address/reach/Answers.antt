@@ -1,9 +1,4 @@
-use Rattle.std.proofs.Common.{subst, cond, ne_eqb, arith}
-use Rattle.words.specs.declared.operator.Operator.TheVariants.{Addu}
-use Rattle.sym_terms.specs.declared.label.Label.TheVariants.{Op}
-use Rattle.sym_terms.specs.Trees.{binary}
-use Rattle.sym_terms.specs.NormalForms.{const_tree}
-use Rattle.sym_exec.specs.MipsTerms.{HasTree}
+use Rattle.std.proofs.Common.{ne_eqb, arith}
 use Rattle.sym_exec.proofs.MipsTerms.{still_seen, still_tree}
 use Rattle.sym_exec.proofs.Tickets.{goes_on, goes_more, interns_by}
 use Rattle.sym_exec.proofs.Reading.{address-later, sum-reached}
@@ -23,8 +18,6 @@ returns-then-offset-eq0-clause-pass c = interns_by (goes_more (goes_on c.in_ok-a
 
 pub returns-clause-at : goal.returns-clause-at
 returns-clause-at c =
-    let x = c.requires.base.term in
-    let sum = c.in_ok-address.ensures.tree x c.requires.base.has in
-    let is = subst (λ b. HasTree c.plus_term.new.terms.pass.now c.in_ok-address.address (cond b x (binary (Op Addu) x (const_tree c.args.offset))))
-    (ne_eqb c.args.offset 0 c.if-offset-eq0.false) sum in
+    let sum = c.in_ok-address.ensures.tree c.requires.base.term c.requires.base.has in
+    let is = rw (ne_eqb c.args.offset 0 c.if-offset-eq0.false) at sum in
     sum-reached (still_tree c.in_ok-address.ensures.pass.later.extends c.requires.base.has) (omega arith) is

@@ -1,16 +1,11 @@
-use Rattle.std.proofs.Common.{refl, sym, ap, ap₂, subst, arith}
-use Rattle.std.specs.Prelude.{OnOk, vec_len, vec_capacity, OnErr, [], ◌∷◌}
-use Rattle.mips_isa.specs.declared.action.Action.{Action}
-use Rattle.sym_terms.specs.NormalForms.{store_tree}
+use Rattle.std.proofs.Common.{refl, ap, arith}
+use Rattle.std.specs.Prelude.{vec_len}
 use Rattle.sym_exec.proofs.MipsTerms.{still_tree}
 use Rattle.sym_exec.specs.declared.state.Guard.TheVariants.{Address, Division}
-use Rattle.sym_exec.specs.Symbolic.{AtAddress, AtDivision, register_tree, address_tree, trees_after}
-use Rattle.sym_exec.specs.Standing.{Hold, with_halves}
-use Rattle.sym_exec.specs.Stores.{MakeMemory, IsChain, Tracks}
+use Rattle.sym_exec.specs.Symbolic.{AtAddress, AtDivision, register_tree, address_tree}
 use Rattle.sym_exec.proofs.Tickets.{later_self, goes_none, goes_on, interns_by, get_tree, known_on, known_put, hold_on, hold_put, hold_same, on_ok, ok_always}
 use Rattle.sym_exec.proofs.Chains.{chain-on, memory-on}
 use Rattle.sym_exec.proofs.Tracking.{tracks_on, tracks_guard, room_guard}
-use Rattle.sym_exec.specs.Asked.{LacksOne, asked_by}
 use Rattle.sym_exec.proofs.Asked.{err_always, on_err, lacks_here}
 use Rattle.sym_exec.proofs.run.step.Goals as goal
 
@@ -161,7 +156,7 @@ returns-in-Computes-clause-absent c = λ t h.
 
 pub returns-in-Sets-clause-absent : goal.returns-in-Sets-clause-absent
 returns-in-Sets-clause-absent c = λ t h.
-    rw c.in-Sets.is (on_err c.put_leaf.result c.put_leaf.ensures.absent (λ lacks. lacks_here lacks))
+    rw c.in-Sets.is (on_err c.put_leaf.result c.put_leaf.ensures.absent lacks_here)
 
 pub returns-in-Multiplies-clause-absent : goal.returns-in-Multiplies-clause-absent
 returns-in-Multiplies-clause-absent c = λ t h.

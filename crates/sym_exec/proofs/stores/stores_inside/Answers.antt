@@ -1,10 +1,7 @@
-use Rattle.std.proofs.Common.{◌≡◌, ◌∙◌, ◌++◌, [], take, drop, length, refl, sym, ap, subst, rules}
+use Rattle.std.proofs.Common.{◌≡◌, ◌∙◌, ◌++◌, [], take, drop, length, refl, sym, ap, rules}
 use Rattle.std.proofs.Math.Seq.{take-append_seam, drop-append_seam}
 use Rattle.std.proofs.lemmas.List.{append-nil}
-use Rattle.sym_terms.specs.declared.label.Label.TheVariants.{Store}
-use Rattle.sym_terms.specs.Trees.{ternary}
 use Rattle.sym_terms.specs.NormalForms.{store_tree}
-use Rattle.sym_exec.specs.Stores.{LeadsTo, MakeMemory}
 use Rattle.sym_exec.proofs.Chains.{store-stays, store-goes, store-last, none-of, walk-on}
 use Rattle.sym_exec.proofs.stores.stores_inside.Goals as goal
 
@@ -15,22 +12,18 @@ pub returns-then-not-is_passed_inward-clause-tree : goal.returns-then-not-is_pas
 returns-then-not-is_passed_inward-clause-tree c = λ p m b v legal made at.
     let i = c.loop-last.invariant in
     let n = length c.loop-last.inner.now in
-    let inner : take n c.args.stores.now ≡ c.loop-last.inner.now = ap (take n) i.parts ∙ take-append_seam c.loop-last.inner.now i.outer in
-    let outer : drop n c.args.stores.now ≡ i.outer = ap (drop n) i.parts ∙ drop-append_seam c.loop-last.inner.now i.outer in
+    let inner : take n c.args.stores.now ≡ c.loop-last.inner.now = rw i.parts (take-append_seam c.loop-last.inner.now i.outer) in
+    let outer : drop n c.args.stores.now ≡ i.outer = rw i.parts (drop-append_seam c.loop-last.inner.now i.outer) in
     let now = i.trees p m b v legal made at in
-    let whole = subst (λ xs. MakeMemory p xs now.0) c.in-Some.ensures.cases.0 now.1 in
-    let stays = store-stays c.in-Some.rest.now c.in-Some.last.now c.args.width b v legal whole at (search rules) in (
-      now.0,
-      subst (λ xs. MakeMemory p xs now.0) (sym inner) now.1,
-      subst (λ xs. LeadsTo p (ternary (Store c.args.width) now.0 b v) xs (store_tree c.args.width m b v)) (sym outer)
-          (subst (λ t. LeadsTo p t i.outer (store_tree c.args.width m b v)) stays now.2),
-    )
+    let whole = rw c.in-Some.ensures.cases.0 at now.1 in
+    let stays = store-stays c.in-Some.rest.now c.in-Some.last.now c.args.width b v legal whole at (search rules) in
+    (now.0, rw inner now.1, rw (outer, ← stays) now.2)
 
 pub loop-last-preserved : goal.loop-last-preserved
 loop-last-preserved c =
     walk-on c.in-Some.rest.now c.in-Some.last.now c.loop-last.invariant c.in-Some.ensures.cases.0 (λ p m b v legal made at.
     let now = c.loop-last.invariant.trees p m b v legal made at in
-    let whole = subst (λ xs. MakeMemory p xs now.0) c.in-Some.ensures.cases.0 now.1 in
+    let whole = rw c.in-Some.ensures.cases.0 at now.1 in
     let next = store-goes now.0 c.in-Some.rest.now c.in-Some.last.now c.args.width b v legal whole at (search rules) in
     (next.0, next.1, (store_tree c.args.width now.0 b v, next.2, now.2)))
 
@@ -39,10 +32,6 @@ returns-clause-tree c = λ p m b v legal made at.
     let i = c.loop-last.invariant in
     let now = i.trees p m b v legal made at in
     let none = none-of c.loop-last.inner.now c.in_default.ensures.cases in
-    let whole = subst (λ xs. MakeMemory p xs now.0) none now.1 in
-    let all : c.args.stores.now ≡ i.outer = i.parts ∙ ap (λ xs. xs ++ i.outer) none in (
-      now.0,
-      whole,
-      subst (λ xs. LeadsTo p (ternary (Store c.args.width) now.0 b v) xs (store_tree c.args.width m b v)) (sym all)
-          (subst (λ t. LeadsTo p t i.outer (store_tree c.args.width m b v)) (store-last p now.0 c.args.width b v whole) now.2),
-    )
+    let whole = rw none at now.1 in
+    let all : c.args.stores.now ≡ i.outer = i.parts ∙ ap (λ xs. xs ++ i.outer) none in
+    (now.0, whole, rw (all, ← store-last p now.0 c.args.width b v whole) now.2)

@@ -1,7 +1,6 @@
-use Rattle.std.proofs.Common.{◌≡◌, ◌∙◌, [], take, length, refl, sym, ap, subst, rules}
+use Rattle.std.proofs.Common.{◌≡◌, ◌∙◌, [], take, length, refl, sym, rules}
 use Rattle.std.proofs.Math.Seq.{take-append_seam}
 use Rattle.std.proofs.lemmas.List.{append-nil}
-use Rattle.sym_exec.specs.Stores.{MakeMemory}
 use Rattle.sym_exec.proofs.Chains.{load-stays, load-passes, load-last, none-of, walk-on}
 use Rattle.sym_exec.proofs.stores.stores_seen.Goals as goal
 
@@ -12,19 +11,16 @@ pub returns-then-not-is_passed-clause-tree : goal.returns-then-not-is_passed-cla
 returns-then-not-is_passed-clause-tree c = λ p m b legal made at.
     let i = c.loop-last.invariant in
     let inner : take (length c.loop-last.inner.now) c.args.stores.now ≡ c.loop-last.inner.now =
-    ap (take (length c.loop-last.inner.now)) i.parts ∙ take-append_seam c.loop-last.inner.now i.outer in
+    rw i.parts (take-append_seam c.loop-last.inner.now i.outer) in
     let now = i.trees p m b legal made at in
-    let whole = subst (λ xs. MakeMemory p xs now.0) c.in-Some.ensures.cases.0 now.1 in (
-      now.0,
-      subst (λ xs. MakeMemory p xs now.0) (sym inner) now.1,
-      now.2 ∙ load-stays c.in-Some.rest.now c.in-Some.last.now c.args.width b legal whole at (search rules),
-    )
+    let whole = rw c.in-Some.ensures.cases.0 at now.1 in
+    (now.0, rw inner now.1, now.2 ∙ load-stays c.in-Some.rest.now c.in-Some.last.now c.args.width b legal whole at (search rules))
 
 pub loop-last-preserved : goal.loop-last-preserved
 loop-last-preserved c =
     walk-on c.in-Some.rest.now c.in-Some.last.now c.loop-last.invariant c.in-Some.ensures.cases.0 (λ p m b legal made at.
     let now = c.loop-last.invariant.trees p m b legal made at in
-    let whole = subst (λ xs. MakeMemory p xs now.0) c.in-Some.ensures.cases.0 now.1 in
+    let whole = rw c.in-Some.ensures.cases.0 at now.1 in
     let next = load-passes now.0 c.in-Some.rest.now c.in-Some.last.now c.args.width b legal whole at (search rules) in
     (next.0, next.1, now.2 ∙ next.2))
 
@@ -32,5 +28,5 @@ pub returns-clause-tree : goal.returns-clause-tree
 returns-clause-tree c = λ p m b legal made at.
     let now = c.loop-last.invariant.trees p m b legal made at in
     let none = none-of c.loop-last.inner.now c.in_default.ensures.cases in
-    let whole = subst (λ xs. MakeMemory p xs now.0) none now.1 in
+    let whole = rw none at now.1 in
     (now.0, whole, now.2 ∙ load-last p now.0 c.args.width b whole)

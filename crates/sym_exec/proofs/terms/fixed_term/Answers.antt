@@ -1,10 +1,5 @@
-use Rattle.std.proofs.Common.{◌∙◌, [], ◌∷◌, sym, subst, cond}
-use Rattle.std.specs.Prelude.{IfOk, OnErr, Some}
-use Rattle.sym_terms.specs.declared.label.Label.TheVariants.{Op}
-use Rattle.sym_terms.specs.Trees.{binary}
-use Rattle.sym_terms.specs.NormalForms.{const_tree, sum_tree, op_tree}
-use Rattle.sym_exec.specs.MipsTerms.{HasTree}
-use Rattle.sym_exec.specs.Asked.{LacksOne}
+use Rattle.std.proofs.Common.{◌∙◌, sym}
+use Rattle.sym_terms.specs.NormalForms.{const_tree, op_tree}
 use Rattle.sym_exec.proofs.MipsTerms.{still_seen, still_tree}
 use Rattle.sym_exec.proofs.Asked.{on_err, err_always, lacks_here, lacks_next}
 use Rattle.sym_exec.proofs.terms.fixed_term.Goals as goal
@@ -12,19 +7,15 @@ use Rattle.sym_exec.proofs.terms.fixed_term.Goals as goal
 pub returns-then-is_addition-clause-tree : goal.returns-then-is_addition-clause-tree
 unfolding op_tree
 returns-then-is_addition-clause-tree c = λ x h.
-    let k = const_tree c.args.word in
     let adds = sym c.is_addition.ensures ∙ c.if-is_addition.true in
-    subst (λ b. IfOk c.constant_sum_term.result (λ t. HasTree c.constant_sum_term.new.terms.pass.now t
-    (cond b (sum_tree x k (Some c.args.word)) (binary (Op c.args.op) x k)))) (sym adds) (c.constant_sum_term.ensures.tree x k h)
+    rw adds (c.constant_sum_term.ensures.tree x (const_tree c.args.word) h)
 
 pub returns-then-is_addition-clause-absent : goal.returns-then-is_addition-clause-absent
 unfolding op_tree
 returns-then-is_addition-clause-absent c = λ x h.
     let k = const_tree c.args.word in
     let adds = sym c.is_addition.ensures ∙ c.if-is_addition.true in
-    subst (λ b. OnErr c.constant_sum_term.result (LacksOne c.constant_sum_term.new.terms.pass.now
-    (k ∷ cond b (sum_tree x k (Some c.args.word)) (binary (Op c.args.op) x k) ∷ []))) (sym adds)
-    (on_err c.constant_sum_term.result (c.constant_sum_term.ensures.absent x k h) (λ l. lacks_next k (lacks_here l)))
+    rw adds (on_err c.constant_sum_term.result (c.constant_sum_term.ensures.absent x k h) (λ l. lacks_next k (lacks_here l)))
 
 pub returns-in_err-constant-clause-absent : goal.returns-in_err-constant-clause-absent
 returns-in_err-constant-clause-absent c = λ x h. err_always _ (lacks_here c.in_err-constant.ensures.absent)
@@ -35,18 +26,13 @@ binary-requires-clause-a c = still_seen c.in_ok-constant.ensures.pass.later.exte
 pub returns-clause-tree : goal.returns-clause-tree
 unfolding op_tree
 returns-clause-tree c = λ x h.
-    let k = const_tree c.args.word in
     let not = sym c.is_addition.ensures ∙ c.if-is_addition.false in
-    subst (λ b. IfOk c.binary.result (λ t. HasTree c.binary.new.self.pass.now t
-    (cond b (sum_tree x k (Some c.args.word)) (binary (Op c.args.op) x k)))) (sym not)
-    (c.binary.ensures.tree x k (still_tree c.in_ok-constant.ensures.pass.later.extends h) c.in_ok-constant.ensures.tree)
+    rw not (c.binary.ensures.tree x (const_tree c.args.word) (still_tree c.in_ok-constant.ensures.pass.later.extends h) c.in_ok-constant.ensures.tree)
 
 pub returns-clause-absent : goal.returns-clause-absent
 unfolding op_tree
 returns-clause-absent c = λ x h.
     let k = const_tree c.args.word in
     let not = sym c.is_addition.ensures ∙ c.if-is_addition.false in
-    subst (λ b. OnErr c.binary.result (LacksOne c.binary.new.self.pass.now
-    (k ∷ cond b (sum_tree x k (Some c.args.word)) (binary (Op c.args.op) x k) ∷ []))) (sym not)
-    (on_err c.binary.result (c.binary.ensures.absent x k (still_tree c.in_ok-constant.ensures.pass.later.extends h) c.in_ok-constant.ensures.tree)
+    rw not (on_err c.binary.result (c.binary.ensures.absent x k (still_tree c.in_ok-constant.ensures.pass.later.extends h) c.in_ok-constant.ensures.tree)
     (λ l. lacks_next k (lacks_here l)))

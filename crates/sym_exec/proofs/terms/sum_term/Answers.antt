@@ -1,8 +1,5 @@
-use Rattle.std.proofs.Common.{◌∙◌, sym, subst}
-use Rattle.std.specs.Prelude.{IfOk, OnErr}
-use Rattle.sym_exec.specs.MipsTerms.{HasTree, Lacks}
+use Rattle.std.proofs.Common.{◌∙◌, sym}
 use Rattle.sym_exec.proofs.MipsTerms.{still_seen, still_tree}
-use Rattle.sym_terms.specs.NormalForms.{sum_tree}
 use Rattle.sym_exec.proofs.Tickets.{goes_on, goes_more, interns_by}
 use Rattle.sym_exec.proofs.terms.sum_term.Goals as goal
 
@@ -18,14 +15,12 @@ binary-requires-clause-b c = still_seen c.constant_at.ensures.pass.later.extends
 pub returns-in-Some-clause-tree : goal.returns-in-Some-clause-tree
 returns-in-Some-clause-tree c = λ x y h k.
     let is = sym (c.constant_at.ensures.value y k) ∙ c.in-Some.is in
-    subst (λ o. IfOk c.constant_sum_term.result (λ t. HasTree c.constant_sum_term.new.terms.pass.now t (sum_tree x y o))) (sym is)
-    (c.constant_sum_term.ensures.tree x y (still_tree c.constant_at.ensures.pass.later.extends h))
+    rw is (c.constant_sum_term.ensures.tree x y (still_tree c.constant_at.ensures.pass.later.extends h))
 
 pub returns-in-None-clause-tree : goal.returns-in-None-clause-tree
 returns-in-None-clause-tree c = λ x y h k.
     let is = sym (c.constant_at.ensures.value y k) ∙ c.in-None.is in
-    subst (λ o. IfOk c.binary.result (λ t. HasTree c.binary.new.self.pass.now t (sum_tree x y o))) (sym is)
-    (c.binary.ensures.tree x y (still_tree c.constant_at.ensures.pass.later.extends h) (still_tree c.constant_at.ensures.pass.later.extends k))
+    rw is (c.binary.ensures.tree x y (still_tree c.constant_at.ensures.pass.later.extends h) (still_tree c.constant_at.ensures.pass.later.extends k))
 
 pub returns-in-Some-clause-pass : goal.returns-in-Some-clause-pass
 returns-in-Some-clause-pass c =
@@ -37,11 +32,9 @@ returns-in-None-clause-pass c = interns_by (goes_more c.constant_at.ensures.pass
 pub returns-in-Some-clause-absent : goal.returns-in-Some-clause-absent
 returns-in-Some-clause-absent c = λ x y h k.
     let is = sym (c.constant_at.ensures.value y k) ∙ c.in-Some.is in
-    subst (λ o. OnErr c.constant_sum_term.result (Lacks c.constant_sum_term.new.terms.pass.now (sum_tree x y o))) (sym is)
-    (c.constant_sum_term.ensures.absent x y (still_tree c.constant_at.ensures.pass.later.extends h))
+    rw is (c.constant_sum_term.ensures.absent x y (still_tree c.constant_at.ensures.pass.later.extends h))
 
 pub returns-in-None-clause-absent : goal.returns-in-None-clause-absent
 returns-in-None-clause-absent c = λ x y h k.
     let is = sym (c.constant_at.ensures.value y k) ∙ c.in-None.is in
-    subst (λ o. OnErr c.binary.result (Lacks c.binary.new.self.pass.now (sum_tree x y o))) (sym is)
-    (c.binary.ensures.absent x y (still_tree c.constant_at.ensures.pass.later.extends h) (still_tree c.constant_at.ensures.pass.later.extends k))
+    rw is (c.binary.ensures.absent x y (still_tree c.constant_at.ensures.pass.later.extends h) (still_tree c.constant_at.ensures.pass.later.extends k))

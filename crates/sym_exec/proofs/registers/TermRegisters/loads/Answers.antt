@@ -1,9 +1,6 @@
-use Rattle.std.proofs.Common.{refl, subst, rules}
-use Rattle.mips_isa.specs.States.{put}
-use Rattle.sym_terms.specs.NormalForms.{load_tree}
+use Rattle.std.proofs.Common.{refl, rules}
 use Rattle.sym_exec.proofs.MipsTerms.{still_tree}
 use Rattle.sym_exec.specs.Symbolic.{address_tree}
-use Rattle.sym_exec.specs.Standing.{Hold}
 use Rattle.sym_exec.proofs.Tickets.{later_more, goes_on, goes_more, interns_by, hold_on, known_on, known_put, hold_put, hold_same}
 use Rattle.sym_exec.proofs.Chains.{chain-on, memory-on}
 use Rattle.sym_exec.proofs.Asked.{err_always, lacks_here, lacks_next}
@@ -23,10 +20,8 @@ returns-clause-hold c = λ t h m.
     let all = later_more before c.in_ok-value.ensures.pass.later in
     let value = c.in_ok-value.ensures.tree t.memory (address_tree t c.args.access.base c.args.access.offset) (memory-on c.args.chain.now.stores.items t.memory before m)
     (c.in_ok-address.ensures.tree t h) in
-    hold_same
-    (subst (λ d. Hold c.load_term.new.terms.pass.now c.set.new.self
-    (record t { regs = put t.regs d (load_tree c.args.access.width t.memory (address_tree t c.args.access.base c.args.access.offset)) })) c.reg.ensures.value
-    (hold_put {t = t} (hold_on all h) value c.set.ensures.value c.set.ensures.range c.set.ensures.count)) refl refl refl
+    let put = hold_put {t = t} (hold_on all h) value c.set.ensures.value c.set.ensures.range c.set.ensures.count in
+    hold_same (rw c.reg.ensures.value at put) refl refl refl
 
 pub returns-clause-address : goal.returns-clause-address
 returns-clause-address c = λ t h. still_tree c.in_ok-value.ensures.pass.later.extends (c.in_ok-address.ensures.tree t h)

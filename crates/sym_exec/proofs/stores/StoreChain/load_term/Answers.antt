@@ -1,10 +1,6 @@
-use Rattle.std.proofs.Common.{sym, subst, take}
-use Rattle.std.specs.Prelude.{IfOk, OnErr}
 use Rattle.sym_terms.specs.declared.label.Label.TheVariants.{Load}
 use Rattle.sym_terms.specs.Trees.{none, more}
-use Rattle.sym_exec.specs.MipsTerms.{HasTree, Lacks}
 use Rattle.sym_exec.proofs.MipsTerms.{still_tree, still_seen}
-use Rattle.sym_exec.specs.Stores.{MakeMemory}
 use Rattle.sym_exec.proofs.Chains.{chain-on}
 use Rattle.sym_exec.proofs.Tickets.{goes_on, goes_more, interns_by}
 use Rattle.sym_exec.proofs.Asked.{err_always}
@@ -14,10 +10,9 @@ use Rattle.sym_exec.proofs.stores.StoreChain.load_term.Goals as goal
 pub returns-clause-tree : goal.returns-clause-tree
 returns-clause-tree c = λ m b h k.
     let n = c.stores_seen-count.ensures.tree c.args.terms.now.pass.now m b c.requires.legal
-    (subst (λ xs. MakeMemory c.args.terms.now.pass.now xs m) (sym c.as_slice.ensures.value) h) (c.requires.at b k) in
-    let made = subst (λ xs. MakeMemory c.args.terms.now.pass.now (take c.stores_seen-count.result xs) n.0) c.as_slice.ensures.value n.1 in
-    subst (λ t. IfOk c.binary.result (λ x. HasTree c.binary.new.self.pass.now x t)) (sym n.2)
-    (c.binary.ensures.tree n.0 b (c.in_ok-memory.ensures.tree n.0 made) (still_tree c.in_ok-memory.ensures.pass.later.extends k))
+    (rw c.as_slice.ensures.value h) (c.requires.at b k) in
+    let made = rw c.as_slice.ensures.value at n.1 in
+    rw n.2 (c.binary.ensures.tree n.0 b (c.in_ok-memory.ensures.tree n.0 made) (still_tree c.in_ok-memory.ensures.pass.later.extends k))
 
 pub binary-requires-clause-b : goal.binary-requires-clause-b
 binary-requires-clause-b c = still_seen c.in_ok-memory.ensures.pass.later.extends c.args.address c.requires.address
@@ -32,15 +27,13 @@ returns-clause-pass c =
 pub returns-in_err-memory-clause-absent : goal.returns-in_err-memory-clause-absent
 returns-in_err-memory-clause-absent c = λ m b h k.
     let n = c.stores_seen-count.ensures.tree c.args.terms.now.pass.now m b c.requires.legal
-    (subst (λ xs. MakeMemory c.args.terms.now.pass.now xs m) (sym c.as_slice.ensures.value) h) (c.requires.at b k) in
-    let made = subst (λ xs. MakeMemory c.args.terms.now.pass.now (take c.stores_seen-count.result xs) n.0) c.as_slice.ensures.value n.1 in
-    err_always _ (subst (Lacks c.memory_behind.new.terms.pass.now) (sym n.2)
-    (lacks_first c.memory_behind.new.terms.pass.now (Load c.args.width) n.0 (more b none) (c.in_err-memory.ensures.absent n.0 made)))
+    (rw c.as_slice.ensures.value h) (c.requires.at b k) in
+    let made = rw c.as_slice.ensures.value at n.1 in
+    rw n.2 (err_always _ (lacks_first c.memory_behind.new.terms.pass.now (Load c.args.width) n.0 (more b none) (c.in_err-memory.ensures.absent n.0 made)))
 
 pub returns-clause-absent : goal.returns-clause-absent
 returns-clause-absent c = λ m b h k.
     let n = c.stores_seen-count.ensures.tree c.args.terms.now.pass.now m b c.requires.legal
-    (subst (λ xs. MakeMemory c.args.terms.now.pass.now xs m) (sym c.as_slice.ensures.value) h) (c.requires.at b k) in
-    let made = subst (λ xs. MakeMemory c.args.terms.now.pass.now (take c.stores_seen-count.result xs) n.0) c.as_slice.ensures.value n.1 in
-    subst (λ t. OnErr c.binary.result (Lacks c.binary.new.self.pass.now t)) (sym n.2)
-    (c.binary.ensures.absent n.0 b (c.in_ok-memory.ensures.tree n.0 made) (still_tree c.in_ok-memory.ensures.pass.later.extends k))
+    (rw c.as_slice.ensures.value h) (c.requires.at b k) in
+    let made = rw c.as_slice.ensures.value at n.1 in
+    rw n.2 (c.binary.ensures.absent n.0 b (c.in_ok-memory.ensures.tree n.0 made) (still_tree c.in_ok-memory.ensures.pass.later.extends k))

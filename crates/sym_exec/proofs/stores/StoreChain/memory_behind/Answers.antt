@@ -1,7 +1,5 @@
-use Rattle.std.proofs.Common.{◌∙◌, ◌-◌, ◌<◌, take, length, refl, sym, subst, arith, rules}
+use Rattle.std.proofs.Common.{◌-◌, ◌<◌, take, length, refl, arith, rules}
 use Rattle.std.proofs.lemmas.List.{get_or_default}
-use Rattle.sym_exec.specs.MipsTerms.{HasTree, Lacks}
-use Rattle.sym_exec.specs.Stores.{MakeMemory}
 use Rattle.sym_exec.proofs.MipsTerms.{tree_seen}
 use Rattle.sym_exec.proofs.Tickets.{goes_on, goes_more, interns_by}
 use Rattle.sym_exec.proofs.Chains.{chain-on, chain-memory, chain-store, chain-push, memory-on, memory-one}
@@ -40,9 +38,8 @@ returns-clause-tree c = λ t made.
     let k = c.args.count in
     let inside : k < length c.loop-self.self.memories.items = search rules in
     let here = memory-on (take k c.args.self.now.stores.items) t i.goes.later made in
-    let there = subst (λ v. MakeMemory c.loop-self.terms.pass.now (take k v.items) t) (sym i.stores) here in
-    subst (λ n. HasTree c.loop-self.terms.pass.now n t) (get_or_default c.loop-self.self.memories.items k 0 _ inside ∙ sym c.index.ensures)
-    (i.chain.memories k inside t there)
+    let there = rw (← i.stores) at here in
+    rw (c.index.ensures, ← get_or_default c.loop-self.self.memories.items k 0 _ inside) (i.chain.memories k inside t there)
 
 pub returns-in_err-memory-clause-pass : goal.returns-in_err-memory-clause-pass
 returns-in_err-memory-clause-pass c = interns_by (goes_more c.loop-self.invariant.goes (goes_on c.in_err-memory.ensures.pass)) (search rules)
@@ -56,10 +53,9 @@ returns-in_err-memory-clause-absent c = λ t made.
     let before = chain-memory k i.chain (search rules) c.index-before.ensures in
     let store = chain-store k i.chain (search rules) c.index-stored.ensures in
     let same = memory-one p (take k xs) before.made store.2 in
-    let lacks = c.in_err-memory.ensures.absent store.0 store.3.address store.3.value (subst (HasTree p c.index-before.result.now) same before.has)
-    store.3.has_address store.3.has_value in
+    let lacks = c.in_err-memory.ensures.absent store.0 store.3.address store.3.value (rw (← same) before.has) store.3.has_address store.3.has_value in
     let here = memory-on (take c.args.count c.args.self.now.stores.items) t i.goes.later made in
-    let there = subst (λ v. MakeMemory p (take c.args.count v.items) t) (sym i.stores) here in
+    let there = rw (← i.stores) at here in
     let low : k < c.args.count = search rules in
     err_always _ (lacks_behind p c.ternary.new.self.pass.now k c.args.count xs t low (search rules) c.index-stored.ensures store.2 store.3
-    (subst (Lacks c.ternary.new.self.pass.now) (sym store.3.tree) lacks) there)
+    (rw store.3.tree lacks) there)
