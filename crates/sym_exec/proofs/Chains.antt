@@ -48,7 +48,7 @@ memory-on {p} {q} xs u e h = leads-on (leaf Mem0) xs u e h
 -- a store makes one memory of one memory, and so do stores
 makes-one : {p : PassState} {s : Stored} {t u v : Tree} → Makes p s t u → Makes p s t v → u ≡ v
 makes-one {p} {s} {t} {u} {v} h k =
-    h.tree ∙ (ap₂ (λ a x. ternary (Store s.width) t a x) (one_tree h.has_address k.has_address) (one_tree h.has_value k.has_value) ∙ sym k.tree)
+    cc (h.tree, k.tree, one_tree h.has_address k.has_address, one_tree h.has_value k.has_value)
 
 leads-one : (p : PassState) (t : Tree) (xs : List Stored) (u v : Tree) → LeadsTo p t xs u → LeadsTo p t xs v → u ≡ v
 leads-one p t [] u v h k = sym h ∙ k
@@ -59,12 +59,9 @@ pub memory-one : (p : PassState) (xs : List Stored) {u v : Tree} → MakeMemory 
 memory-one p xs {u} {v} h k = leads-one p (leaf Mem0) xs u v h k
 
 -- stores behind stores
-leads-join : (p : PassState) (t : Tree) (xs ys : List Stored) (u v : Tree) → LeadsTo p t xs u → LeadsTo p u ys v → LeadsTo p t (xs ++ ys) v
+pub leads-join : (p : PassState) (t : Tree) (xs ys : List Stored) (u v : Tree) → LeadsTo p t xs u → LeadsTo p u ys v → LeadsTo p t (xs ++ ys) v
 leads-join p t [] ys u v h k = subst (λ x. LeadsTo p x ys v) (sym h) k
 leads-join p t (s ∷ rest) ys u v h k = (h.0, h.1, leads-join p h.0 rest ys u v h.2 k)
-
-pub memory-join : (p : PassState) (u v : Tree) (xs ys : List Stored) → MakeMemory p xs u → LeadsTo p u ys v → MakeMemory p (xs ++ ys) v
-memory-join p u v xs ys h k = leads-join p (leaf Mem0) xs ys u v h k
 
 pub leads-split : (p : PassState) (t : Tree) (xs ys : List Stored) (v : Tree) → LeadsTo p t (xs ++ ys) v → (u : Tree) × LeadsTo p t xs u × LeadsTo p u ys v
 leads-split p t [] ys v h = (t, refl, h)
@@ -102,11 +99,8 @@ chain-on {p} {q} {c} e h = record {
 
 -- where no store is, the memory is that at the start
 pub memories-start : {p : PassState} {m : ℕ} → HasTree p m (leaf Mem0) → AreMemories p (m ∷ []) []
-memories-start {p} {m} h = λ k lt t made. go k lt t made
-  where
-    go : (k : ℕ) → k < 1 → (t : Tree) → MakeMemory p (take k []) t → HasTree p (slice_index (m ∷ []) k) t
-    go zero lt t made = subst (HasTree p m) made h
-    go (suc k) lt t made = absurd (omega (arith, lt))
+memories-start {p} {m} h zero lt t made = subst (HasTree p m) made h
+memories-start {p} {m} h (suc k) lt t made = absurd (omega (arith, lt))
 
 -- one ticket more: that of the memory behind one store more
 pub memories-push : {p : PassState} {n : ℕ} {s : Stored} (ms : List ℕ) (k : ℕ) (xs : List Stored) → AreMemories p ms xs → length ms ≡ suc k
@@ -184,16 +178,14 @@ chain-push {p} {q} {c} {d} k {n} {m} {s} e h len inside is at new stores memorie
     let store = chain-store k h inside is in
     let first : before.tree ≡ store.0 = memory-one p (take k xs) before.made store.2 in
     let made : HasTree q n store.1 =
-    subst (HasTree q n) (sym store.3.tree)
-    (new store.0 store.3.address store.3.value (subst (HasTree p m) first before.has) store.3.has_address store.3.has_value) in
+    rw store.3.tree (new store.0 store.3.address store.3.value (subst (HasTree p m) first before.has) store.3.has_address store.3.has_value) in
     let whole : (t u : Tree) → MakeMemory q (take k xs) t → Makes q s t u → HasTree q n u =
     λ t u there makes. let one : store.0 ≡ t = memory-one q (take k xs) (memory-on (take k xs) store.0 e store.2) there in
     subst (HasTree q n) (makes-one (subst (λ x. Makes q s x store.1) one (makes-on e store.3)) makes) made in
     record {
       memory = on.memory;
-      made = subst (λ v. MakeMemory q v.items on.memory) (sym stores) on.made;
-      memories = subst (λ ys. AreMemories q ys d.stores.items) (sym memories)
-          (subst (λ v. AreMemories q (ms ++ n ∷ []) v.items) (sym stores) (memories-push ms k xs on.memories len inside is whole));
+      made = rw stores on.made;
+      memories = rw (memories, stores) (memories-push ms k xs on.memories len inside is whole);
       some = omega (arith, longer, count, some);
       fit = omega (arith, longer, count, same, inside, len);
     }
@@ -204,7 +196,7 @@ pub memory-insert : {p : PassState} {b v : Tree} (s : Stored) (n u : Tree) (i : 
 memory-insert {p} {b} {v} s n u i xs made hb hv at leads =
     let makes : Makes p s n (ternary (Store s.width) n b v) =
     record { address = b; value = v; has_address = hb; has_value = hv; at = at; tree = refl } in
-    memory-join p n u (take i xs) (s ∷ drop i xs) made (ternary (Store s.width) n b v, makes, leads)
+    leads-join p (leaf Mem0) (take i xs) (s ∷ drop i xs) n u made (ternary (Store s.width) n b v, makes, leads)
 
 pub chain-insert : {p : PassState} {c d : StoreChain} (i : ℕ) (s : Stored) (u : Tree) → IsChain p c → i ≤ length c.stores.items
     → d.stores.items ≡ insert c.stores.items i s → d.memories.items ≡ take (i + 1) c.memories.items → MakeMemory p d.stores.items u → IsChain p d
@@ -216,8 +208,7 @@ chain-insert {p} {c} {d} i s u h inside stores memories made =
     record {
       memory = u;
       made = made;
-      memories = subst (λ ms. AreMemories p ms d.stores.items) (sym memories)
-          (subst (AreMemories p (take (i + 1) c.memories.items)) (sym stores) (memories-insert c.memories.items i c.stores.items s h.memories inside));
+      memories = rw (memories, stores) (memories-insert c.memories.items i c.stores.items s h.memories inside);
       some = omega (arith, count, some);
       fit = omega (arith, count, more, fit);
     }
@@ -246,65 +237,44 @@ passes_inward-is {p} {s} {at} {t} {u} w b legal m h =
     ap₂ (λ x y. x && y) (passes-is w b legal m h)
     (ap₂ (λ x y. int_lt (signed x) (signed y)) (sym h.offset) (sym m.at.offset))
 
--- one step of a load, and of a store, over the outermost store
-pub load-step : (w : Width) (v : Width) (m a x b : Tree) (c : Bool) → is_passed (Store v) (address_of a) w (address_of b) ≡ c
-    → load_tree w (ternary (Store v) m a x) b ≡ cond c (load_tree w m b) (binary (Load w) (ternary (Store v) m a x) b)
-unfolding load_tree
-load-step w v m a x b c e = ap (λ d. cond d (load_tree w m b) (binary (Load w) (ternary (Store v) m a x) b)) e
-
-pub store-step : (w : Width) (v : Width) (m a x b y : Tree) (c : Bool) → is_passed_inward (Store v) (address_of a) w (address_of b) ≡ c
-    → store_tree w (ternary (Store v) m a x) b y
-    ≡ cond c (ternary (Store v) (store_tree w m b y) a x) (ternary (Store w) (ternary (Store v) m a x) b y)
-unfolding store_tree
-store-step w v m a x b y c e =
-    ap (λ d. cond d (ternary (Store v) (store_tree w m b y) a x) (ternary (Store w) (ternary (Store v) m a x) b y)) e
-
-pub load-start : (w : Width) (b : Tree) → load_tree w (leaf Mem0) b ≡ binary (Load w) (leaf Mem0) b
-unfolding load_tree
-load-start w b = refl
-
-pub store-start : (w : Width) (b y : Tree) → store_tree w (leaf Mem0) b y ≡ ternary (Store w) (leaf Mem0) b y
-unfolding store_tree
-store-start w b y = refl
-
 -- a load doesn't pass the last store, or it does and sees the memory before it
 pub load-stays : {p : PassState} {n : Tree} {at : TermAddress} (xs : List Stored) (s : Stored) (w : Width) (b : Tree) → HasLegalHistory p
     → MakeMemory p (xs ++ s ∷ []) n → IsAddress p at (address_of b) → passes s w at ≡ false → load_tree w n b ≡ binary (Load w) n b
+unfolding load_tree
 load-stays {p} {n} {at} xs s w b legal made h e =
     let l = memory-pop xs s made in
-    let m = l.2 in
-    ap (λ t. load_tree w t b) m.tree
-    ∙ (load-step w s.width l.0 m.address m.value b false (passes-is w b legal m h ∙ e)
-    ∙ ap (λ t. binary (Load w) t b) (sym m.tree))
+    rw (l.2.tree, passes-is w b legal l.2 h, e) refl
 
 pub load-passes : {p : PassState} {at : TermAddress} (n : Tree) (xs : List Stored) (s : Stored) (w : Width) (b : Tree) → HasLegalHistory p
     → MakeMemory p (xs ++ s ∷ []) n → IsAddress p at (address_of b) → passes s w at ≡ true
     → (o : Tree) × MakeMemory p xs o × (load_tree w n b ≡ load_tree w o b)
+unfolding load_tree
 load-passes {p} {at} n xs s w b legal made h e =
     let l = memory-pop xs s made in
-    let m = l.2 in
-    (l.0, l.1, ap (λ t. load_tree w t b) m.tree ∙ load-step w s.width l.0 m.address m.value b true (passes-is w b legal m h ∙ e))
+    let passed : load_tree w (ternary (Store s.width) l.0 l.2.address l.2.value) b ≡ load_tree w l.0 b = rw (passes-is w b legal l.2 h, e) refl in
+    (l.0, l.1, ap (λ t. load_tree w t b) l.2.tree ∙ passed)
 
 pub load-last : (p : PassState) (n : Tree) (w : Width) (b : Tree) → MakeMemory p [] n → load_tree w n b ≡ binary (Load w) n b
-load-last p n w b made =
-    ap (λ t. load_tree w t b) (sym made) ∙ (load-start w b ∙ ap (λ t. binary (Load w) t b) made)
+unfolding load_tree
+load-last p n w b made = rw (← made) refl
 
 -- a store stays outside the last one, or goes inside it
 pub store-stays : {p : PassState} {n : Tree} {at : TermAddress} (xs : List Stored) (s : Stored) (w : Width) (b y : Tree) → HasLegalHistory p
     → MakeMemory p (xs ++ s ∷ []) n → IsAddress p at (address_of b) → passes_inward s w at ≡ false → store_tree w n b y ≡ ternary (Store w) n b y
+unfolding store_tree
 store-stays {p} {n} {at} xs s w b y legal made h e =
     let l = memory-pop xs s made in
-    let m = l.2 in
-    ap (λ t. store_tree w t b y) m.tree
-    ∙ (store-step w s.width l.0 m.address m.value b y false (passes_inward-is w b legal m h ∙ e)
-    ∙ ap (λ t. ternary (Store w) t b y) (sym m.tree))
+    rw (l.2.tree, passes_inward-is w b legal l.2 h, e) refl
 
 pub store-goes : {p : PassState} {at : TermAddress} (n : Tree) (xs : List Stored) (s : Stored) (w : Width) (b y : Tree) → HasLegalHistory p
     → MakeMemory p (xs ++ s ∷ []) n → IsAddress p at (address_of b) → passes_inward s w at ≡ true
     → (o : Tree) × MakeMemory p xs o × Makes p s (store_tree w o b y) (store_tree w n b y)
+unfolding store_tree
 store-goes {p} {at} n xs s w b y legal made h e =
     let l = memory-pop xs s made in
-    let m = l.2 in (
+    let m = l.2 in
+    let goes : store_tree w (ternary (Store s.width) l.0 m.address m.value) b y ≡ ternary (Store s.width) (store_tree w l.0 b y) m.address m.value =
+    rw (passes_inward-is w b legal m h, e) refl in (
       l.0,
       l.1,
       record {
@@ -313,14 +283,13 @@ store-goes {p} {at} n xs s w b y legal made h e =
         has_address = m.has_address;
         has_value = m.has_value;
         at = m.at;
-        tree = ap (λ t. store_tree w t b y) m.tree
-            ∙ store-step w s.width l.0 m.address m.value b y true (passes_inward-is w b legal m h ∙ e);
+        tree = ap (λ t. store_tree w t b y) m.tree ∙ goes;
       },
     )
 
 pub store-last : (p : PassState) (n : Tree) (w : Width) (b y : Tree) → MakeMemory p [] n → store_tree w n b y ≡ ternary (Store w) n b y
-store-last p n w b y made =
-    ap (λ t. store_tree w t b y) (sym made) ∙ (store-start w b y ∙ ap (λ t. ternary (Store w) t b y) made)
+unfolding store_tree
+store-last p n w b y made = rw (← made) refl
 
 -- a walk from the last store inward: what it has passed, and what holds of that and of those before it
 pub record Walk (Holds : (inner outer : List Stored) → Type 0) (stores inner : List Stored) : Type 0 where
@@ -336,7 +305,3 @@ walk-on {Holds} {stores} {inner} rest last w is trees = record {
   parts = w.parts ∙ (ap (λ xs. xs ++ w.outer) is ∙ append_assoc rest (last ∷ []) w.outer);
   trees = trees;
 }
-
-pub none-of : (xs : List Stored) → length xs ≡ 0 → xs ≡ []
-none-of [] e = refl
-none-of (x ∷ xs) e = absurd (omega (arith, e))

@@ -1,8 +1,8 @@
 use Rattle.std.proofs.Common.{◌≡◌, ◌∙◌, ◌++◌, [], take, drop, length, refl, sym, ap, rules}
 use Rattle.std.proofs.Math.Seq.{take-append_seam, drop-append_seam}
-use Rattle.std.proofs.lemmas.List.{append-nil}
+use Rattle.std.proofs.lemmas.List.{append-nil, nil_from_length}
 use Rattle.sym_terms.specs.NormalForms.{store_tree}
-use Rattle.sym_exec.proofs.Chains.{store-stays, store-goes, store-last, none-of, walk-on}
+use Rattle.sym_exec.proofs.Chains.{store-stays, store-goes, store-last, walk-on}
 use Rattle.sym_exec.proofs.stores.stores_inside.Goals as goal
 
 pub loop-last-init : goal.loop-last-init
@@ -31,7 +31,7 @@ pub returns-clause-tree : goal.returns-clause-tree
 returns-clause-tree c = λ p m b v legal made at.
     let i = c.loop-last.invariant in
     let now = i.trees p m b v legal made at in
-    let none = none-of c.loop-last.inner.now c.in_default.ensures.cases in
+    let none = nil_from_length c.loop-last.inner.now c.in_default.ensures.cases in
     let whole = rw none at now.1 in
     let all : c.args.stores.now ≡ i.outer = i.parts ∙ ap (λ xs. xs ++ i.outer) none in
     (now.0, whole, rw (all, ← store-last p now.0 c.args.width b v whole) now.2)

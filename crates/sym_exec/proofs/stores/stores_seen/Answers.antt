@@ -1,7 +1,7 @@
 use Rattle.std.proofs.Common.{◌≡◌, ◌∙◌, [], take, length, refl, sym, rules}
 use Rattle.std.proofs.Math.Seq.{take-append_seam}
-use Rattle.std.proofs.lemmas.List.{append-nil}
-use Rattle.sym_exec.proofs.Chains.{load-stays, load-passes, load-last, none-of, walk-on}
+use Rattle.std.proofs.lemmas.List.{append-nil, nil_from_length}
+use Rattle.sym_exec.proofs.Chains.{load-stays, load-passes, load-last, walk-on}
 use Rattle.sym_exec.proofs.stores.stores_seen.Goals as goal
 
 pub loop-last-init : goal.loop-last-init
@@ -27,6 +27,6 @@ loop-last-preserved c =
 pub returns-clause-tree : goal.returns-clause-tree
 returns-clause-tree c = λ p m b legal made at.
     let now = c.loop-last.invariant.trees p m b legal made at in
-    let none = none-of c.loop-last.inner.now c.in_default.ensures.cases in
+    let none = nil_from_length c.loop-last.inner.now c.in_default.ensures.cases in
     let whole = rw none at now.1 in
     (now.0, whole, now.2 ∙ load-last p now.0 c.args.width b whole)
