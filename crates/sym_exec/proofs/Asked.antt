@@ -1,6 +1,7 @@
 -- One of the trees that are asked for isn't there.
 use Rattle.std.proofs.Common.{◌≡◌, ◌∙◌, ◌⊎◌, ℕ, zero, suc, ◌<◌, ◌≤◌, List, [], ◌∷◌, ◌++◌, take, drop, length, Result, Ok, Err, OnErr, slice_index_or, refl, sym, ap, subst, ⊎_elim, inl, inr, arith}
 use Rattle.std.proofs.Math.Seq.{take-suc}
+use Rattle.std.proofs.lemmas.Bool.{cases_lt}
 use Rattle.std.proofs.lemmas.List.{take-append-le, take-append-drop, length-take-le}
 use Rattle.std.proofs.lemmas.List.Elements.{Contains-append_left, Contains-append_right}
 use Rattle.sym_terms.specs.declared.label.Label.TheVariants.{Mem0, Init, Store}
@@ -13,7 +14,7 @@ use Rattle.sym_exec.specs.Stores.{Makes, LeadsTo, MakeMemory}
 use Rattle.sym_exec.specs.Symbolic.{register_tree, start_trees}
 use Rattle.sym_exec.specs.Asked.{LacksOne, first_registers, asked_first}
 use Rattle.sym_exec.proofs.Parts.{lacks_first}
-use Rattle.sym_exec.proofs.Chains.{leads-split, memory-join, memory-one}
+use Rattle.sym_exec.proofs.Chains.{leads-split, leads-join, memory-one}
 
 pub on_err : {X E : Type 0} {A B : Type 0} (r : Result X E) → OnErr r A → (A → B) → OnErr r B
 on_err (Ok x) h f = tt
@@ -40,34 +41,12 @@ module _ {p : PassState} where
   lacks_register zero r low h = absurd (omega (arith, low))
   lacks_register (suc n) r low h = ⊎_elim
       (λ (below : r < n). lacks_next (register_tree start_trees n) (lacks_register n r below h))
-      (λ (last : n ≡ r). lacks_here (subst (λ k. Lacks p (register_tree start_trees k)) (sym last) h)) (last_or_less n r low)
-    where
-      last_or_less : (n r : ℕ) → r < suc n → (r < n) ⊎ (n ≡ r)
-      last_or_less zero zero low = inr refl
-      last_or_less zero (suc r) low = absurd (omega (arith, low))
-      last_or_less (suc n) zero low = inl (omega arith)
-      last_or_less (suc n) (suc r) low = ⊎_elim (λ (x : r < n). inl (omega (arith, x))) (λ (x : n ≡ r). inr (ap suc x)) (last_or_less n r (omega (arith, low)))
-
-  pub lacks_memory : Lacks p start_trees.memory → LacksOne p asked_first
-  unfolding asked_first
-  lacks_memory h = lacks_here h
-
-  pub lacks_high : Lacks p start_trees.hi → LacksOne p asked_first
-  unfolding asked_first
-  lacks_high h = lacks_next start_trees.memory (lacks_here h)
-
-  pub lacks_low : Lacks p start_trees.lo → LacksOne p asked_first
-  unfolding asked_first
-  lacks_low h = lacks_next start_trees.memory (lacks_next start_trees.hi (lacks_here h))
+      (λ (above : n ≤ r). let last : r ≡ n = omega (arith, low, above) in lacks_here (subst (λ k. Lacks p (register_tree start_trees k)) last h)) (cases_lt r n)
 
   pub lacks_start : (r : ℕ) → r < 32 → Lacks p (register_tree start_trees r) → LacksOne p asked_first
   unfolding asked_first
   lacks_start r low h =
       lacks_next start_trees.memory (lacks_next start_trees.hi (lacks_next start_trees.lo (lacks_register 32 r low h)))
-
-pub lacks_start_of : (p : PassState) (r : ℕ) → 1 ≤ r → Lacks p (leaf (Init (Register r))) → Lacks p (register_tree start_trees r)
-lacks_start_of p zero some h = absurd (omega (arith, some))
-lacks_start_of p (suc r) some h = h
 
 -- a memory that is made of one that isn't there
 pub lacks_made : (p q : PassState) (t : Tree) (xs : List Stored) (u : Tree) → LeadsTo p t xs u → Lacks q t → Lacks q u
@@ -89,5 +68,5 @@ lacks_behind p q {s} {t} {u} k n xs m low inside is made makes lacks behind =
     let parts = leads-split p (leaf Mem0) (take (suc k) ys) (drop (suc k) ys) m
     (subst (λ zs. MakeMemory p zs m) (sym (take-append-drop (suc k) ys)) behind) in
     let there : MakeMemory p (take k xs ++ s ∷ []) parts.0 = subst (λ zs. MakeMemory p zs parts.0) (first ∙ grown) parts.1 in
-    let same : u ≡ parts.0 = memory-one p (take k xs ++ s ∷ []) (memory-join p t u (take k xs) (s ∷ []) made (u, makes, refl)) there in
+    let same : u ≡ parts.0 = memory-one p (take k xs ++ s ∷ []) (leads-join p (leaf Mem0) (take k xs) (s ∷ []) t u made (u, makes, refl)) there in
     lacks_made p q parts.0 (drop (suc k) ys) m parts.2 (subst (Lacks q) same lacks)

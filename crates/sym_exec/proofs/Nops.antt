@@ -26,16 +26,13 @@ nop_is (Shift Sll rd rt amount) is =
 nop_is _ is = absurd (true≢false (sym is))
 
 -- so it leaves trees and stores as they are
-pub nop_keeps : (x : Plain) → is_nop x ≡ true → (t : TreeState) → trees_after (action_of x) t ≡ t
-nop_keeps x is t = ap (λ y. trees_after (action_of y) t) (nop_is x is)
-
 trees_needed : (xs : List Plain) (t : TreeState) → all_trees (map action_of xs) t ≡ all_trees (map action_of (needed xs)) t
 trees_needed [] t = refl
 trees_needed (x ∷ xs) t = go (is_nop x) refl (trees_needed xs)
   where
     go : (b : Bool) → is_nop x ≡ b → ((u : TreeState) → all_trees (map action_of xs) u ≡ all_trees (map action_of (needed xs)) u)
         → all_trees (map action_of xs) (trees_after (action_of x) t) ≡ all_trees (map action_of (cond (not b) (x ∷ needed xs) (needed xs))) t
-    go true is rest = ap (all_trees (map action_of xs)) (nop_keeps x is t) ∙ rest t
+    go true is rest = ap (λ y. all_trees (map action_of (y ∷ xs)) t) (nop_is x is) ∙ rest t
     go false is rest = rest (trees_after (action_of x) t)
 
 stores_needed : (xs : List Plain) (n : ℕ) → all_stores (map action_of xs) n ≡ all_stores (map action_of (needed xs)) n

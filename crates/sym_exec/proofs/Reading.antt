@@ -37,14 +37,11 @@ constant-none {p} {l} (k ∷ ks) {x} n some = go n.trees n.tree n.have
 
 -- what is no sum of two terms is a base itself
 pub address-other : {p : PassState} {l : Label} (ks : List ℕ) {x : Tree} → IsNode p l ks x → is_sum l ≡ false → address_of x ≡ at_base x
-address-other {p} {l} ks {x} n e = go n.trees n.tree
+address-other {p} {l} ks {x} n e = rw n.tree (at n.trees)
   where
     at : (ts : Trees) → address_of (node l ts) ≡ at_base (node l ts)
     at (more a (more b none)) = ap (λ t. sum_address t (binary l a b) a (constant_of b)) e
     at _ = refl
-
-    go : (ts : Trees) → x ≡ node l ts → address_of x ≡ at_base x
-    go ts is = subst (λ y. address_of y ≡ at_base y) (sym is) (at ts)
 
 pub address-few : {p : PassState} {l : Label} (ks : List ℕ) {x : Tree} → IsNode p l ks x → length ks ≢ 2 → address_of x ≡ at_base x
 address-few {p} {l} ks {x} n many = go ks many n.trees n.tree n.have
@@ -86,7 +83,7 @@ address-none {p} {left} {right} {x} s e =
 pub address-base : {p q : PassState} {t : ℕ} {x : Tree} → Later p q → HasTree p t x → address_of x ≡ at_base x
     → IsAddress q (record { base = t; offset = 0 }) (address_of x)
 address-base {p} {q} {t} {x} e h is =
-    subst (IsAddress q (record { base = t; offset = 0 })) (sym is) (record { base = still_tree e.extends h; offset = refl })
+    rw is (record { base = still_tree e.extends h; offset = refl })
 
 -- a list of two
 pub two-of : (xs : List ℕ) (a b : ℕ) → 2 ≤ length xs → length xs < 3 → a ≡ slice_index_or xs 0 a → b ≡ slice_index_or xs 1 b → xs ≡ a ∷ b ∷ []

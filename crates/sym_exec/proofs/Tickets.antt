@@ -3,6 +3,7 @@ use Rattle.std.proofs.Common.{◌≡◌, ◌≢◌, ℕ, zero, suc, ◌+◌, ◌
 use Rattle.std.proofs.Common.{slice_index_or, slice_set, Contains, refl, sym, ap, ap₂, ◌∙◌, subst, true≢false, eq-eqb, eqb-true, ⊎_elim, arith}
 use Rattle.std.specs.Prelude.{slice_index, OnOk, OnErr, Result, Ok, Err}
 use Rattle.std.proofs.lemmas.List.Elements.{Contains-append_left, Contains-append_right, Contains-push, Contains-push_cases}
+use Rattle.std.proofs.lemmas.Bool.{eqb-false}
 use Rattle.std.proofs.lemmas.List.{get_or-set_same, get_or-set_other}
 use Rattle.sym_terms.specs.NormalForms.{const_tree}
 use Rattle.mips_isa.proofs.Registers.{put_lost, read-put}
@@ -44,14 +45,6 @@ goes_more {i} {j} {k} e f = record { same_reference = f.same_reference ∙ e.sam
 pub interns_by : {A E : Type 0} {i j : Interner} {x : Result A E} → GoesOn i j → OnErr x (linked j.pass.now ≡ j.pass.now.nodes) → Interns i x j
 interns_by {A} {E} {i} {j} {x} h full = record { same_reference = h.same_reference; later = h.later; full = full }
 
-stands_on : {p q : PassState} {s : TermPlaces} {t : TreeState} → Later p q → Stands p s t → Stands q s t
-stands_on {p} {q} {s} {t} e h = record {
-  regs = λ r lt. still_tree e.extends (h.regs r lt);
-  hi = still_tree e.extends h.hi;
-  lo = still_tree e.extends h.lo;
-  memory = still_tree e.extends h.memory;
-}
-
 pub hold_on : {p q : PassState} {s : TermRegisters} {t : TreeState} → Later p q → Hold p s t → Hold q s t
 hold_on {p} {q} {s} {t} e h = record {
   regs = λ r lt. still_tree e.extends (h.regs r lt);
@@ -81,12 +74,9 @@ written_at P regs d v r lt lost same other = go (d == 0) refl (r == d) refl
     go true ez b eb = lost (eqb-true d 0 ez)
     go false ez true eb =
         let is : r ≡ d = eqb-true r d eb in
-        let some : 0 < d =
-        ⊎_elim (λ x. x)
-        (λ le. let none : d ≡ 0 = omega (arith, le) in absurd (true≢false (sym (eq-eqb d 0 none) ∙ ez))) (Rattle.std.proofs.lemmas.Bool.cases_lt 0 d) in
+        let some : 0 < d = omega (arith, eqb-false d 0 ez) in
         subst (P r) (sym (ap (slice_index (slice_set regs d v)) is ∙ get_or-set_same regs d v 0 lt)) (same eb some)
-    go false ez false eb =
-        subst (P r) (sym (get_or-set_other regs d r v 0 (λ e. true≢false (sym (eq-eqb r d e) ∙ eb)))) (other eb)
+    go false ez false eb = subst (P r) (sym (get_or-set_other regs d r v 0 (eqb-false r d eb))) (other eb)
 
 pub known_put : {p : PassState} {s s' : TermRegisters} (d v : ℕ) → Known p s → HasSeen p v → s' ≡ with_reg s d v → d < 32 → length s.regs ≡ 32 → Known p s'
 known_put {p} {s} {s'} d v h seen e lt n = subst (Known p) (sym e) (record {
@@ -127,6 +117,11 @@ hold_same {p} {s} {t} {u} h a b c = record {
 pub stands_with : {p : PassState} {s : TermRegisters} {t : TreeState} (m : ℕ) → Hold p s t → HasTree p m t.memory
     → Stands p (record { regs = s.regs; hi = s.hi; lo = s.lo; memory = m }) t
 stands_with {p} {s} {t} m h tree = record { regs = h.regs; hi = h.hi; lo = h.lo; memory = tree }
+
+stands_on : {p q : PassState} {s : TermPlaces} {t : TreeState} → Later p q → Stands p s t → Stands q s t
+stands_on {p} {q} {s} {t} e h =
+    let hold : Hold p (record { regs = s.regs; hi = s.hi; lo = s.lo }) t = record { regs = h.regs; hi = h.hi; lo = h.lo } in
+    stands_with s.memory (hold_on e hold) (still_tree e.extends h.memory)
 
 guard_on : {p q : PassState} → Later p q → (g : Guard) (x : GuardTree) → IsGuard p g x → IsGuard q g x
 guard_on {p} {q} e (Address w t) (AtAddress v x) h = (h.0, still_tree e.extends h.1)
@@ -182,24 +177,21 @@ guards_none {p} {gs} e = subst (λ l. GuardsStand p l []) (sym e) (record {
 })
 
 -- the registers' start terms, one more
+pub start_of : (r : ℕ) → 1 ≤ r → register_tree start_trees r ≡ leaf (Init (Register r))
+start_of zero h = absurd (omega (arith, h))
+start_of (suc r) h = refl
+
 pub set_tree : (p : PassState) (xs : List ℕ) (k v q : ℕ) → k < length xs → 1 ≤ k → HasTree p v (leaf (Init (Register k))) → q < k + 1
     → (q < k → HasTree p (slice_index xs q) (register_tree start_trees q)) → HasTree p (slice_index (slice_set xs k v) q) (register_tree start_trees q)
 set_tree p xs k v q lt some new low old = go (q == k) refl
   where
-    start_of : (r : ℕ) → 1 ≤ r → register_tree start_trees r ≡ leaf (Init (Register r))
-    start_of zero h = absurd (omega (arith, h))
-    start_of (suc r) h = refl
-
     go : (b : Bool) → (q == k) ≡ b → HasTree p (slice_index (slice_set xs k v) q) (register_tree start_trees q)
     go true e =
         let same : q ≡ k = eqb-true q k e in
-        subst (λ r. HasTree p (slice_index (slice_set xs k v) r) (register_tree start_trees r)) (sym same)
-        (subst (HasTree p (slice_index (slice_set xs k v) k)) (sym (start_of k some))
-        (subst (λ n. HasTree p n (leaf (Init (Register k)))) (sym (get_or-set_same xs k v 0 lt)) new))
+        rw (same, start_of k some, get_or-set_same xs k v 0 lt) new
     go false e =
-        let apart : q ≢ k = λ same. true≢false (sym (eq-eqb q k same) ∙ e) in
-        subst (λ n. HasTree p n (register_tree start_trees q)) (sym (get_or-set_other xs k q v 0 apart))
-        (old (⊎_elim (λ x. x) (λ le. absurd (apart (omega (arith, low, le)))) (Rattle.std.proofs.lemmas.Bool.cases_lt q k)))
+        let apart : q ≢ k = eqb-false q k e in
+        rw (get_or-set_other xs k q v 0 apart) (old (omega (arith, low, apart)))
 
 pub stands_for_on : {p q : PassState} {s : TermPlaces} {e : TermExit} {gs : List Guard} {c : CodeTrees} → Later p q → StandsFor p s e gs c
     → StandsFor q s e gs c

@@ -42,11 +42,10 @@ pub chain_copied : {p q : PassState} {c d : StoreChain} → Later p q → IsChai
 chain_copied {p} {q} {c} {d} e h stores memories =
     let was = chain-on e h in record {
       memory = was.memory;
-      made = subst (λ xs. MakeMemory q xs was.memory) (sym stores) was.made;
-      memories = subst (λ ms. AreMemories q ms d.stores.items) (sym memories) (subst (AreMemories q c.memories.items) (sym stores) was.memories);
-      some = subst (λ ms. 0 < length ms) (sym memories) was.some;
-      fit = subst (λ ms. length ms ≤ length d.stores.items + 1) (sym memories)
-          (subst (λ xs. length c.memories.items ≤ length xs + 1) (sym stores) was.fit);
+      made = rw stores was.made;
+      memories = rw (memories, stores) was.memories;
+      some = rw memories was.some;
+      fit = rw (memories, stores) was.fit;
     }
 
 -- and there is a guard more
@@ -72,23 +71,22 @@ room_guard l m d enough inner few one capacity chain =
 pub chain_start : {p : PassState} {l : RunLists} {d : StoreChain} {k : ℕ} → IsEmpty l → HasTree p k (leaf Mem0) → d.stores ≡ l.chain.stores
     → d.memories.items ≡ l.chain.memories.items ++ k ∷ [] → IsChain p d
 chain_start {p} {l} {d} {k} none has stores memories =
-    let one : d.memories.items ≡ k ∷ [] = subst (λ ms. d.memories.items ≡ ms ++ k ∷ []) none.memories memories in
-    let nothing : d.stores.items ≡ [] = subst (λ v. v.items ≡ []) (sym stores) none.stores in
+    let one : d.memories.items ≡ k ∷ [] = rw none.memories at memories in
+    let nothing : d.stores.items ≡ [] = rw stores none.stores in
     record {
       memory = leaf Mem0;
-      made = subst (λ xs. MakeMemory p xs (leaf Mem0)) (sym nothing) refl;
-      memories = subst (λ ms. AreMemories p ms d.stores.items) (sym one)
-          (subst (AreMemories p (k ∷ [])) (sym nothing) (memories-start has));
-      some = subst (λ ms. 0 < length ms) (sym one) (omega arith);
-      fit = subst (λ ms. length ms ≤ length d.stores.items + 1) (sym one) (omega arith);
+      made = rw nothing refl;
+      memories = rw (one, nothing) (memories-start has);
+      some = rw one (omega arith);
+      fit = rw one (omega arith);
     }
 
 pub tracks_start : {p : PassState} {s : TermRegisters} {l m : RunLists} → IsEmpty l → Hold p s start_trees → m.chain.stores ≡ l.chain.stores
     → m.guards ≡ l.guards → Tracks p s m start_trees
 tracks_start {p} {s} {l} {m} none hold stores guards = record {
   hold = hold;
-  memory = subst (λ v. MakeMemory p v.items (leaf Mem0)) (sym stores) (subst (λ xs. MakeMemory p xs (leaf Mem0)) (sym none.stores) refl);
-  guards = guards_none (subst (λ v. v.items ≡ []) (sym guards) none.guards);
+  memory = rw (stores, none.stores) refl;
+  guards = guards_none (rw guards none.guards);
 }
 
 -- the actions from a place on: the one there, and the others

@@ -1,6 +1,7 @@
 use Rattle.std.proofs.Common.{rules}
 use Rattle.sym_exec.proofs.Tickets.{goes_on, goes_more, interns_by, hold_on, known_on}
-use Rattle.sym_exec.proofs.Asked.{err_always, lacks_memory}
+use Rattle.sym_exec.specs.Asked.{asked_first}
+use Rattle.sym_exec.proofs.Asked.{err_always, lacks_here}
 use Rattle.sym_exec.proofs.run.start.Goals as goal
 
 pub returns-clause-start : goal.returns-clause-start
@@ -17,4 +18,5 @@ pub returns-in_err-memory-clause-pass : goal.returns-in_err-memory-clause-pass
 returns-in_err-memory-clause-pass c = interns_by (goes_more (goes_on c.in_ok-regs.ensures.pass) (goes_on c.in_err-memory.ensures.pass)) (search rules)
 
 pub returns-in_err-memory-clause-absent : goal.returns-in_err-memory-clause-absent
-returns-in_err-memory-clause-absent c = err_always _ (lacks_memory c.in_err-memory.ensures.absent)
+unfolding asked_first
+returns-in_err-memory-clause-absent c = err_always _ (lacks_here c.in_err-memory.ensures.absent)

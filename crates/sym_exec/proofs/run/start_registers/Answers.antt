@@ -4,8 +4,9 @@ use Rattle.std.proofs.Math.ListN.{length-set}
 use Rattle.sym_exec.specs.MipsTerms.{HasTree}
 use Rattle.sym_exec.proofs.MipsTerms.{still_tree, tree_seen}
 use Rattle.sym_exec.specs.Symbolic.{register_tree, start_trees}
-use Rattle.sym_exec.proofs.Tickets.{later_more, goes_on, goes_more, interns_by, set_tree}
-use Rattle.sym_exec.proofs.Asked.{err_always, lacks_high, lacks_low, lacks_start, lacks_start_of}
+use Rattle.sym_exec.proofs.Tickets.{later_more, goes_on, goes_more, interns_by, set_tree, start_of}
+use Rattle.sym_exec.specs.Asked.{asked_first}
+use Rattle.sym_exec.proofs.Asked.{err_always, lacks_here, lacks_next, lacks_start}
 use Rattle.sym_exec.proofs.run.start_registers.Goals as goal
 
 pub loop-r-init : goal.loop-r-init
@@ -68,10 +69,12 @@ returns-in_err-zero-clause-absent c = err_always _ (lacks_start 0 (omega arith) 
 
 pub returns-in_err-regs-clause-absent : goal.returns-in_err-regs-clause-absent
 returns-in_err-regs-clause-absent c =
-    err_always _ (lacks_start c.loop-r.r c.loop-r-test.true (lacks_start_of c.start_reg.new.terms.pass.now c.loop-r.r c.loop-r.auto.r c.in_err-regs.ensures.absent))
+    err_always _ (lacks_start c.loop-r.r c.loop-r-test.true (rw (start_of c.loop-r.r c.loop-r.auto.r) c.in_err-regs.ensures.absent))
 
 pub returns-in_err-hi-clause-absent : goal.returns-in_err-hi-clause-absent
-returns-in_err-hi-clause-absent c = err_always _ (lacks_high c.in_err-hi.ensures.absent)
+unfolding asked_first
+returns-in_err-hi-clause-absent c = err_always _ (lacks_next start_trees.memory (lacks_here c.in_err-hi.ensures.absent))
 
 pub returns-in_err-lo-clause-absent : goal.returns-in_err-lo-clause-absent
-returns-in_err-lo-clause-absent c = err_always _ (lacks_low c.in_err-lo.ensures.absent)
+unfolding asked_first
+returns-in_err-lo-clause-absent c = err_always _ (lacks_next start_trees.memory (lacks_next start_trees.hi (lacks_here c.in_err-lo.ensures.absent)))
