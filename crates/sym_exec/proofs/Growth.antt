@@ -45,9 +45,6 @@ shape_low : (shape : Shape) → growth_by_shape shape ≤ 1
 shape_low (Goes t) = omega arith
 shape_low _ = omega arith
 
-sum_is : (a b : ℕ) → (a + b) + (a * (a + b + 3) + b * (a + b + 3)) ≡ (a + b) * (a + b + 4)
-sum_is a b = grind arith
-
 pub growth_bound : GrowthHasBound
 growth_bound acts exit slots =
     let n = length acts + length slots in
@@ -57,8 +54,8 @@ growth_bound acts exit slots =
     let first = all_low acts 0 n (omega arith) in
     let last = all_low slots before n (omega (arith, few)) in
     let exits = shape_low (exit_shape exit) in
-    let whole = sum_is (length acts) (length slots) in
-    omega (arith, few, end, first, last, exits, whole)
+    let whole : (a b : ℕ) → (a + b) + (a * (a + b + 3) + b * (a + b + 3)) ≡ (a + b) * (a + b + 4) = λ a b. grind arith in
+    omega (arith, few, end, first, last, exits, whole (length acts) (length slots))
 
 -- 35 at the start, and 3 for a constant, the sum's constant and the sum
 pub one_sum : code_growth (Computes 5 Addu 4 (Fixed 1) ∷ []) (Goto 1) [] ≡ 38

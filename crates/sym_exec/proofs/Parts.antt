@@ -69,12 +69,7 @@ closed_adds ps by (Intern l ks) (Ticket t) h = go (is_there (tree_at ps t)) (tre
     go false (Some y) is =
         let g = over_trees ps l ks y is in
         closed_one ps y t by h (subst (HasParts ps) (sym g.2) (all_at ps ks g.0 g.1))
-closed_adds ps by (Intern l ks) Full h = closed_none ps h
-closed_adds ps by (Intern l ks) (Found t) h = closed_none ps h
-closed_adds ps by (Intern l ks) Missing h = closed_none ps h
-closed_adds ps by (Intern l ks) (Node m js) h = closed_none ps h
-closed_adds ps by (Find l ks) a h = closed_none ps h
-closed_adds ps by (Read t) a h = closed_none ps h
+closed_adds ps by _ _ h = closed_none ps h
 
 closed_from : (ps : List Pair) (h : List Entry) → Closed ps → Closed (pairs_from ps h)
 closed_from ps [] closed = closed

@@ -14,18 +14,14 @@ use Rattle.sym_exec.proofs.MipsTerms.{still_tree, one_tree}
 use Rattle.sym_exec.specs.declared.address.TermAddress.{TermAddress}
 use Rattle.sym_exec.specs.Standing.{Later, IsAddress, AreSummands}
 
--- a tree without children
-node-leaf : {p : PassState} {l : Label} {x : Tree} → IsNode p l [] x → x ≡ leaf l
-node-leaf {p} {l} {x} n = go n.trees n.tree n.have
-  where
-    go : (ts : Trees) → x ≡ node l ts → HaveTrees p [] ts → x ≡ leaf l
-    go none e h = e
-    go (more y ys) e h = absurd h
-
 -- a leaf's constant, and none where there are children
 pub constant-leaf : {p : PassState} {l : Label} (ks : List ℕ) {x : Tree} → IsNode p l ks x → length ks ≤ 0 → constant_of x ≡ label_constant l
-constant-leaf {p} {l} [] {x} n few = ap constant_of (node-leaf n)
 constant-leaf {p} {l} (k ∷ ks) {x} n few = absurd (omega (arith, few))
+constant-leaf {p} {l} [] {x} n few = go n.trees n.tree n.have
+  where
+    go : (ts : Trees) → x ≡ node l ts → HaveTrees p [] ts → constant_of x ≡ label_constant l
+    go none e h = ap constant_of e
+    go (more y ys) e h = absurd h
 
 pub constant-none : {p : PassState} {l : Label} (ks : List ℕ) {x : Tree} → IsNode p l ks x → 0 < length ks → constant_of x ≡ None
 constant-none {p} {l} [] {x} n some = absurd (omega (arith, some))

@@ -125,9 +125,8 @@ stands_on {p} {q} {s} {t} e h =
 
 guard_on : {p q : PassState} → Later p q → (g : Guard) (x : GuardTree) → IsGuard p g x → IsGuard q g x
 guard_on {p} {q} e (Address w t) (AtAddress v x) h = (h.0, still_tree e.extends h.1)
-guard_on {p} {q} e (Address w t) (AtDivision sign x y) h = h
-guard_on {p} {q} e (Division sign a b) (AtAddress v x) h = h
 guard_on {p} {q} e (Division sign a b) (AtDivision other x y) h = (h.0, still_tree e.extends h.1, still_tree e.extends h.2)
+guard_on {p} {q} e _ _ h = h
 
 pub guards_on : {p q : PassState} {gs : List Guard} {xs : List GuardTree} → Later p q → GuardsStand p gs xs → GuardsStand q gs xs
 guards_on {p} {q} {gs} {xs} e h = record {
@@ -161,10 +160,8 @@ ok_always (Ok x) h = h
 ok_always (Err e) h = tt
 
 all_on : {p q : PassState} → Later p q → (ts : List ℕ) (xs : List Tree) → AllHave p ts xs → AllHave q ts xs
-all_on {p} {q} e [] [] h = h
-all_on {p} {q} e [] (x ∷ xs) h = h
-all_on {p} {q} e (t ∷ ts) [] h = h
 all_on {p} {q} e (t ∷ ts) (x ∷ xs) h = (still_tree e.extends h.0, all_on e ts xs h.1)
+all_on {p} {q} e _ _ h = h
 
 pub leaves_on : {p q : PassState} (e : TermExit) (shape : Shape) (xs : List Tree) → Later p q → LeavesBy p e shape xs → LeavesBy q e shape xs
 leaves_on {p} {q} e shape xs later h = (h.0, all_on later (tickets_of e) xs h.1)

@@ -49,21 +49,20 @@ module _ (s : State) (link : ℕ) (words : IsWords s) (low : link < 2 ^ 32) wher
   two-value op t a b = op_tree-value op (register_tree t a) (register_tree t b) s link words low
       ∙ ap₂ (op_value op) (register_tree-value t a) (register_tree-value t b)
 
-  regs_step : (t : TreeState) (d : ℕ) (v : Tree) (w : ℕ) → tree_word v s link ≡ w → (λ r. tree_word (put t.regs d v r) s link) ≡ put (values s link t).regs d w
-  regs_step t d v w e = put-value (λ x. tree_word x s link) t.regs d v w e
+  regs_step : (t : TreeState) (d : ℕ) (v : Tree) (w : ℕ) → tree_word v s link ≡ w
+      → values s link (record t { regs = put t.regs d v }) ≡ record (values s link t) { regs = put (values s link t).regs d w }
+  regs_step t d v w e = ap (λ f. record (values s link t) { regs = f }) (put-value (λ x. tree_word x s link) t.regs d v w e)
 
   -- one action
   pub step-value : (a : Action) (t : TreeState) → values s link (trees_after a t) ≡ state_after a (values s link t)
   step-value (Computes d op a b) t =
-      ap (λ f. record (values s link t) { regs = f })
-      (regs_step t d _ _
-      (op_tree-value op (register_tree t a) (operand_tree t b) s link words low ∙ ap₂ (op_value op) (register_tree-value t a) (operand-value t b)))
-  step-value (Sets d w) t = ap (λ f. record (values s link t) { regs = f }) (regs_step t d _ _ refl)
+      regs_step t d _ _
+      (op_tree-value op (register_tree t a) (operand_tree t b) s link words low ∙ ap₂ (op_value op) (register_tree-value t a) (operand-value t b))
+  step-value (Sets d w) t = regs_step t d _ _ refl
   step-value (Loads w d base offset) t =
-      ap (λ f. record (values s link t) { regs = f })
-      (regs_step t d _ _
+      regs_step t d _ _
       (load_tree-value w t.memory (address_tree t base offset) s link words low
-      ∙ ap (load_at w s.mapped (tree_memory t.memory s link)) (address-value t base offset)))
+      ∙ ap (load_at w s.mapped (tree_memory t.memory s link)) (address-value t base offset))
   step-value (Stores w r base offset) t =
       ap (λ m. record (values s link t) { memory = m })
       (store_tree-value w t.memory (address_tree t base offset) (register_tree t r) s link words low
@@ -72,8 +71,8 @@ module _ (s : State) (link : ℕ) (words : IsWords s) (low : link < 2 ^ 32) wher
       ap₂ (λ h l. record (values s link t) { hi = h; lo = l }) (two-value (product_high sign) t a b) (two-value (product_low sign) t a b)
   step-value (Divides sign a b) t = ap₂ (λ h l. record (values s link t) { hi = h; lo = l }) (two-value (remainder_operator sign) t a b)
       (two-value (quotient_operator sign) t a b)
-  step-value (MovesHigh d) t = ap (λ f. record (values s link t) { regs = f }) (regs_step t d _ _ refl)
-  step-value (MovesLow d) t = ap (λ f. record (values s link t) { regs = f }) (regs_step t d _ _ refl)
+  step-value (MovesHigh d) t = regs_step t d _ _ refl
+  step-value (MovesLow d) t = regs_step t d _ _ refl
 
   pub all-value : (acts : List Action) (t : TreeState) → values s link (all_trees acts t) ≡ total acts (values s link t)
   all-value [] t = refl

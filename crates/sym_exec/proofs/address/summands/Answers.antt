@@ -13,9 +13,7 @@ returns-then-not-is_sum_label-clause-none c = λ x h.
 pub returns-in-len2-clause-some : goal.returns-in-len2-clause-some
 returns-in-len2-clause-some c = λ x h.
     let two = two-of c.as_slice.result.now c.left-item.result c.right-item.result c.in-len2.len_at_least c.in-len2.len_below c.left-item.is c.right-item.is in
-    summands-of
-    (subst (λ (ks : List ℕ). IsNode c.read-node.new.self.pass.now c.read-node.result.label ks x) (sym c.as_slice.ensures ∙ two) (c.read-node.ensures.tree x h))
-    (sym c.is_sum_label.ensures ∙ c.if-not-is_sum_label.false)
+    summands-of (rw (sym c.as_slice.ensures ∙ two) at (c.read-node.ensures.tree x h)) (sym c.is_sum_label.ensures ∙ c.if-not-is_sum_label.false)
 
 pub returns-clause-none : goal.returns-clause-none
 returns-clause-none c = λ x h.

@@ -35,25 +35,23 @@ returns-in_err-steps-clause-pass c = interns_by (goes_on c.in_err-steps.ensures.
 
 pub returns-in_err-put_own-clause-pass : goal.returns-in_err-put_own-clause-pass
 returns-in_err-put_own-clause-pass c =
-    let ran = goes_on c.in_ok-steps.ensures.pass in
-    interns_by (goes_more ran (goes_on c.in_err-put_own.ensures.pass)) (search rules)
+    interns_by (goes_more (goes_on c.in_ok-steps.ensures.pass) (goes_on c.in_err-put_own.ensures.pass)) (search rules)
 
 pub returns-in_err-run_slot-clause-pass : goal.returns-in_err-run_slot-clause-pass
 returns-in_err-run_slot-clause-pass c =
-    let ran = goes_on c.in_ok-steps.ensures.pass in
-    let left = goes_more ran (goes_on c.in_ok-put_own.ensures.pass) in
+    let left = goes_more (goes_on c.in_ok-steps.ensures.pass) (goes_on c.in_ok-put_own.ensures.pass) in
     interns_by (goes_more left (goes_on c.in_err-run_slot.ensures.pass)) (search rules)
 
 pub returns-in_err-memory-clause-pass : goal.returns-in_err-memory-clause-pass
 returns-in_err-memory-clause-pass c =
-    let ran = goes_on c.in_ok-steps.ensures.pass in
-    let left = goes_more ran (goes_more (goes_on c.in_ok-put_own.ensures.pass) (goes_on c.in_ok-run_slot.ensures.pass)) in
+    let ran = goes_more (goes_on c.in_ok-put_own.ensures.pass) (goes_on c.in_ok-run_slot.ensures.pass) in
+    let left = goes_more (goes_on c.in_ok-steps.ensures.pass) ran in
     interns_by (goes_more left (goes_on c.in_err-memory.ensures.pass)) (search rules)
 
 pub returns-clause-pass : goal.returns-clause-pass
 returns-clause-pass c =
-    let ran = goes_on c.in_ok-steps.ensures.pass in
-    let left = goes_more ran (goes_more (goes_on c.in_ok-put_own.ensures.pass) (goes_on c.in_ok-run_slot.ensures.pass)) in
+    let ran = goes_more (goes_on c.in_ok-put_own.ensures.pass) (goes_on c.in_ok-run_slot.ensures.pass) in
+    let left = goes_more (goes_on c.in_ok-steps.ensures.pass) ran in
     interns_by (goes_more left (goes_on c.in_ok-memory.ensures.pass)) tt
 
 pub returns-in_err-steps-clause-absent : goal.returns-in_err-steps-clause-absent

@@ -107,10 +107,10 @@ pub copy_from-requires-clause-guards : goal.copy_from-requires-clause-guards
 copy_from-requires-clause-guards c =
     let none = ap vec_len c.begin-registers.ensures.guards in
     let empty = ap length c.requires.block_room.empty.guards in
-    let alike = ap length (ap needed c.split_at.ensures.front ∙ (c.shared_counts-shared.ensures.same ∙ sym (ap needed c.split_at-2.ensures.front))) in
-    let few = needed_few c.split_at-2.result.0.now in
+    let alike = ap needed c.split_at.ensures.front ∙ (c.shared_counts-shared.ensures.same ∙ sym (ap needed c.split_at-2.ensures.front)) in
+    let few = rw (← alike) at (needed_few c.split_at-2.result.0.now) in
     let whole = ap length c.insts-theirs.ensures.value in
-    omega (arith, c.in_ok-steps.ensures.guards, none, empty, alike, few, c.split_at-2.ensures.front_len, c.split_at-2.ensures.back_len, whole, c.requires.order_room.few)
+    omega (arith, c.in_ok-steps.ensures.guards, none, empty, few, c.split_at-2.ensures.front_len, c.split_at-2.ensures.back_len, whole, c.requires.order_room.few)
 
 pub finish-requires-clause-few : goal.finish-requires-clause-few
 finish-requires-clause-few c =
@@ -135,8 +135,8 @@ pub finish-requires-2-clause-few : goal.finish-requires-2-clause-few
 finish-requires-2-clause-few c =
     let none = ap vec_len c.begin-registers.ensures.guards in
     let empty = ap length c.requires.block_room.empty.guards in
-    let alike = ap length (ap needed c.split_at.ensures.front ∙ (c.shared_counts-shared.ensures.same ∙ sym (ap needed c.split_at-2.ensures.front))) in
-    let few = needed_few c.split_at-2.result.0.now in
+    let alike = ap needed c.split_at.ensures.front ∙ (c.shared_counts-shared.ensures.same ∙ sym (ap needed c.split_at-2.ensures.front)) in
+    let few = rw (← alike) at (needed_few c.split_at-2.result.0.now) in
     let whole = ap length c.insts-theirs.ensures.value in
     omega (
       arith,
@@ -145,7 +145,6 @@ finish-requires-2-clause-few c =
       c.in_ok-steps.ensures.guards,
       none,
       empty,
-      alike,
       few,
       c.split_at-2.ensures.front_len,
       c.split_at-2.ensures.back_len,

@@ -15,9 +15,7 @@ loop-r-init c = record {
   grows = omega (arith, c.in_ok-zero.ensures.grows);
   count = Rattle.std.proofs.Common.refl;
   stands = λ q lt.
-      let e : 0 ≡ q = omega arith in
-      subst (λ (n : ℕ). HasTree c.leaf.new.self.pass.now (slice_index (replicate 32 c.in_ok-zero.zero) n) (register_tree start_trees n)) e
-      c.in_ok-zero.ensures.tree;
+      let e : q ≡ 0 = omega arith in rw e c.in_ok-zero.ensures.tree;
 }
 
 pub loop-r-preserved : goal.loop-r-preserved
