@@ -27,19 +27,14 @@ stores_low _ k = omega arith
 
 all_stores_low : (acts : List Action) (k : ℕ) → all_stores acts k ≤ k + length acts
 all_stores_low [] k = omega arith
-all_stores_low (a ∷ rest) k =
-    let here = stores_low a k in
-    let below = all_stores_low rest (stores_after a k) in
-    omega (arith, here, below)
+all_stores_low (a ∷ rest) k = omega (arith, stores_low a k, all_stores_low rest (stores_after a k))
 
 all_low : (acts : List Action) (k m : ℕ) → k + length acts ≤ m → growth_by_all acts k ≤ length acts * (m + 3)
 all_low [] k m few = omega arith
 all_low (a ∷ rest) k m few =
-    let here = growth_low a k in
-    let next = stores_low a k in
-    let below = all_low rest (stores_after a k) m (omega (arith, next, few)) in
+    let below = all_low rest (stores_after a k) m (omega (arith, stores_low a k, few)) in
     let split : suc (length rest) * (m + 3) ≡ (m + 3) + length rest * (m + 3) = grind arith in
-    omega (arith, here, few, below, split)
+    omega (arith, growth_low a k, few, below, split)
 
 shape_low : (shape : Shape) → growth_by_shape shape ≤ 1
 shape_low (Goes t) = omega arith

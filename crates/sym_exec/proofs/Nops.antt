@@ -6,6 +6,7 @@ use Rattle.std.proofs.lemmas.List.Elements.{filter_more}
 use Rattle.mips_isa.specs.declared.inst.Plain.{Plain}
 use Rattle.mips_isa.specs.declared.inst.Plain.TheVariants.{Shift}
 use Rattle.mips_isa.specs.declared.inst.ShiftOp.TheVariants.{Sll}
+use Rattle.mips_isa.specs.declared.action.Action.{Action}
 use Rattle.mips_isa.specs.Actions.{nop, action_of}
 use Rattle.mips_isa.specs.Texts.{is_nop}
 use Rattle.sym_exec.specs.Symbolic.{TreeState, trees_after, all_trees}
@@ -25,31 +26,27 @@ nop_is (Shift Sll rd rt amount) is =
     ∙ ap (Shift Sll 0 0) (eqb-true amount 0 rest.1))
 nop_is _ is = absurd (true≢false (sym is))
 
--- so it leaves trees and stores as they are
-trees_needed : (xs : List Plain) (t : TreeState) → all_trees (map action_of xs) t ≡ all_trees (map action_of (needed xs)) t
-trees_needed [] t = refl
-trees_needed (x ∷ xs) t = go (is_nop x) refl (trees_needed xs)
-  where
-    go : (b : Bool) → is_nop x ≡ b → ((u : TreeState) → all_trees (map action_of xs) u ≡ all_trees (map action_of (needed xs)) u)
-        → all_trees (map action_of xs) (trees_after (action_of x) t) ≡ all_trees (map action_of (cond (not b) (x ∷ needed xs) (needed xs))) t
-    go true is rest = ap (λ y. all_trees (map action_of (y ∷ xs)) t) (nop_is x is) ∙ rest t
-    go false is rest = rest (trees_after (action_of x) t)
+-- what runs actions and passes over a Nop's leaves what it leaves without the Nops
+module _ {S : Type 0} (run : List Action → S → S) (next : Action → S → S) (more : (a : Action) (rest : List Action) (s : S) → run (a ∷ rest) s ≡ run rest (next a s))
+    (keeps : (s : S) → next (action_of nop) s ≡ s) where
+  run_needed : (xs : List Plain) (s : S) → run (map action_of xs) s ≡ run (map action_of (needed xs)) s
+  run_needed [] s = refl
+  run_needed (x ∷ xs) s = go (is_nop x) refl (run_needed xs)
+    where
+      go : (b : Bool) → is_nop x ≡ b → ((u : S) → run (map action_of xs) u ≡ run (map action_of (needed xs)) u)
+          → run (action_of x ∷ map action_of xs) s ≡ run (map action_of (cond (not b) (x ∷ needed xs) (needed xs))) s
+      go true is rest = rw (nop_is x is, more (action_of nop) (map action_of xs) s, keeps s) (rest s)
+      go false is rest = more (action_of x) (map action_of xs) s ∙ (rest (next (action_of x) s) ∙ sym (more (action_of x) (map action_of (needed xs)) s))
 
-stores_needed : (xs : List Plain) (n : ℕ) → all_stores (map action_of xs) n ≡ all_stores (map action_of (needed xs)) n
-stores_needed [] n = refl
-stores_needed (x ∷ xs) n = go (is_nop x) refl (stores_needed xs)
-  where
-    go : (b : Bool) → is_nop x ≡ b → ((k : ℕ) → all_stores (map action_of xs) k ≡ all_stores (map action_of (needed xs)) k)
-        → all_stores (map action_of (x ∷ xs)) n ≡ all_stores (map action_of (cond (not b) (x ∷ needed xs) (needed xs))) n
-    go true is rest = ap (λ y. all_stores (map action_of (y ∷ xs)) n) (nop_is x is) ∙ rest n
-    go false is rest = rest (stores_after (action_of x) n)
+  -- so code with one beginning but for Nops has come equally far
+  same_runs : (xs ys : List Plain) → needed xs ≡ needed ys → (s : S) → run (map action_of xs) s ≡ run (map action_of ys) s
+  same_runs xs ys is s = run_needed xs s ∙ (ap (λ zs. run (map action_of zs) s) is ∙ sym (run_needed ys s))
 
--- code with one beginning but for Nops has come equally far
 pub same_trees : (xs ys : List Plain) → needed xs ≡ needed ys → (t : TreeState) → all_trees (map action_of xs) t ≡ all_trees (map action_of ys) t
-same_trees xs ys is t = trees_needed xs t ∙ (ap (λ zs. all_trees (map action_of zs) t) is ∙ sym (trees_needed ys t))
+same_trees = same_runs all_trees trees_after (λ a rest t. refl) (λ t. refl)
 
 pub same_stores : (xs ys : List Plain) → needed xs ≡ needed ys → (n : ℕ) → all_stores (map action_of xs) n ≡ all_stores (map action_of ys) n
-same_stores xs ys is n = stores_needed xs n ∙ (ap (λ zs. all_stores (map action_of zs) n) is ∙ sym (stores_needed ys n))
+same_stores = same_runs all_stores stores_after (λ a rest n. refl) (λ n. refl)
 
 -- one instruction more
 pub needed_more : (xs : List Plain) (k : ℕ) {x : Plain} (b : Bool) → k < length xs → x ≡ get_or xs k x → is_nop x ≡ b

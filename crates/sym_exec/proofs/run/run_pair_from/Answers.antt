@@ -118,18 +118,9 @@ finish-requires-clause-few c =
     let room = ap vec_capacity c.begin-registers.ensures.guards in
     let few = needed_few c.split_at.result.0.now in
     let whole = ap length c.insts-ours.ensures.value in
-    omega (
-      arith,
-      c.in_ok-steps.ensures.guards,
-      c.in_ok-steps.ensures.capacity,
-      none,
-      room,
-      few,
-      c.split_at.ensures.front_len,
-      c.split_at.ensures.back_len,
-      whole,
-      c.requires.block_room.few,
-    )
+    let cut = c.split_at.ensures in
+    let ran = c.in_ok-steps.ensures in
+    omega (arith, ran.guards, ran.capacity, none, room, few, cut.front_len, cut.back_len, whole, c.requires.block_room.few)
 
 pub finish-requires-2-clause-few : goal.finish-requires-2-clause-few
 finish-requires-2-clause-few c =
@@ -138,16 +129,6 @@ finish-requires-2-clause-few c =
     let alike = ap needed c.split_at.ensures.front ∙ (c.shared_counts-shared.ensures.same ∙ sym (ap needed c.split_at-2.ensures.front)) in
     let few = rw (← alike) at (needed_few c.split_at-2.result.0.now) in
     let whole = ap length c.insts-theirs.ensures.value in
-    omega (
-      arith,
-      c.copy_from.ensures.count,
-      c.copy_from.ensures.capacity,
-      c.in_ok-steps.ensures.guards,
-      none,
-      empty,
-      few,
-      c.split_at-2.ensures.front_len,
-      c.split_at-2.ensures.back_len,
-      whole,
-      c.requires.order_room.few,
-    )
+    let cut = c.split_at-2.ensures in
+    let copy = c.copy_from.ensures in
+    omega (arith, copy.count, copy.capacity, c.in_ok-steps.ensures.guards, none, empty, few, cut.front_len, cut.back_len, whole, c.requires.order_room.few)

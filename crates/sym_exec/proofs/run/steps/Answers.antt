@@ -28,16 +28,9 @@ loop-inst-preserved-then-is_nop c =
 
 pub step-requires-clause-few : goal.step-requires-clause-few
 step-requires-clause-few c =
-    let begun = take c.loop-inst.inst-index c.args.insts.now in
-    omega (
-      arith,
-      c.loop-inst.invariant.guards,
-      c.loop-inst.invariant.capacity,
-      needed_few begun,
-      length-take c.loop-inst.inst-index c.args.insts.now,
-      c.loop-inst-test.true,
-      c.requires.few,
-    )
+    let k = c.loop-inst.inst-index in
+    let was = c.loop-inst.invariant in
+    omega (arith, was.guards, was.capacity, needed_few (take k c.args.insts.now), length-take k c.args.insts.now, c.loop-inst-test.true, c.requires.few)
 
 pub loop-inst-preserved : goal.loop-inst-preserved
 loop-inst-preserved c =
