@@ -1,11 +1,10 @@
 -- One of the trees that are asked for isn't there.
-use Rattle.std.proofs.Common.{◌≡◌, ◌∙◌, ◌⊎◌, ℕ, zero, suc, ◌<◌, ◌≤◌, List, [], ◌∷◌, ◌++◌, take, drop, length, Result, Ok, Err, OnErr, slice_index_or, refl, sym, ap, subst, ⊎_elim, inl, inr, arith}
+use Rattle.std.proofs.Common.{◌≡◌, ◌∙◌, ℕ, zero, suc, ◌<◌, ◌≤◌, List, [], ◌∷◌, ◌++◌, take, drop, length, Result, Ok, Err, OnErr, slice_index_or, refl, sym, ap, subst, ⊎_elim, arith}
 use Rattle.std.proofs.Math.Seq.{take-suc}
 use Rattle.std.proofs.lemmas.Bool.{cases_lt}
 use Rattle.std.proofs.lemmas.List.{take-append-le, take-append-drop, length-take-le}
 use Rattle.std.proofs.lemmas.List.Elements.{Contains-append_left, Contains-append_right}
-use Rattle.sym_terms.specs.declared.label.Label.TheVariants.{Mem0, Init, Store}
-use Rattle.sym_terms.specs.declared.label.Origin.TheVariants.{Register}
+use Rattle.sym_terms.specs.declared.label.Label.TheVariants.{Mem0, Store}
 use Rattle.sym_terms.specs.Trees.{Tree, leaf, none, more}
 use Rattle.term_table.specs.Passes.{PassState}
 use Rattle.sym_exec.specs.MipsTerms.{Lacks}

@@ -1,5 +1,5 @@
 -- Chains of stores: they go on, and a store comes among them.
-use Rattle.std.proofs.Common.{◌≡◌, ℕ, zero, suc, ◌+◌, ◌<◌, ◌≤◌, ◌&&◌, ◌==◌, ◌++◌, Bool, true, false, cond, List, [], ◌∷◌, refl, sym}
+use Rattle.std.proofs.Common.{◌≡◌, ℕ, zero, suc, ◌+◌, ◌<◌, ◌≤◌, ◌&&◌, ◌==◌, ◌++◌, Bool, true, false, List, [], ◌∷◌, refl, sym}
 use Rattle.std.proofs.Common.{ap, ap₂, ◌∙◌, subst, true≢false, eq-eqb, eqb-true, length, take, drop, min, slice_index_or, ⊎_elim, arith}
 use Rattle.std.specs.Prelude.{int_lt, slice_index}
 use Rattle.std.specs.List.{insert}

@@ -3,9 +3,9 @@ use Rattle.std.proofs.Common.{◌≡◌, ◌∙◌, ℕ, ◌==◌, Bool, true, f
 use Rattle.std.proofs.lemmas.Option.{none-some, same_Some}
 use Rattle.term_labels.specs.WordTrees.{Tree, Trees, node, none, more}
 use Rattle.term_core.specs.declared.Call.{Call}
-use Rattle.term_core.specs.declared.Call.TheVariants.{Intern, Find, Read}
+use Rattle.term_core.specs.declared.Call.TheVariants.{Intern}
 use Rattle.term_core.specs.declared.Answer.{Answer}
-use Rattle.term_core.specs.declared.Answer.TheVariants.{Ticket, Full, Found, Missing, Node}
+use Rattle.term_core.specs.declared.Answer.TheVariants.{Ticket}
 use Rattle.term_core.specs.declared.Entry.{Entry}
 use Rattle.term_core.specs.Terms.{Pair, Has, tree_at, trees_at, tree_over, is_there, pair_if, adds, pairs_from}
 use Rattle.term_core.proofs.Replay.{tree_more, tree_new, trees_cons, over_trees}

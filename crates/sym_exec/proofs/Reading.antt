@@ -5,7 +5,7 @@ use Rattle.words.specs.declared.operator.Operator.TheVariants.{Addu}
 use Rattle.words.specs.Words.{wrap}
 use Rattle.sym_terms.specs.declared.label.Label.{Label}
 use Rattle.sym_terms.specs.declared.label.Label.TheVariants.{Op}
-use Rattle.sym_terms.specs.Trees.{Tree, Trees, node, none, more, leaf, binary}
+use Rattle.sym_terms.specs.Trees.{Tree, Trees, node, none, more, binary}
 use Rattle.sym_terms.specs.NormalForms.{label_constant, constant_of, is_sum, at_base, sum_address, address_of, tree_plus, const_tree, op_tree}
 use Rattle.sym_terms.proofs.Sameness.{operator-is}
 use Rattle.term_table.specs.Passes.{PassState}

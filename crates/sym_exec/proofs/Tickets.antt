@@ -1,6 +1,6 @@
 -- Tickets go on standing for their trees, also after a write.
 use Rattle.std.proofs.Common.{◌≡◌, ◌≢◌, ℕ, zero, suc, ◌+◌, ◌<◌, ◌≤◌, ◌==◌, Bool, true, false, cond, ◌&&◌, List, [], ◌∷◌, ◌++◌, length}
-use Rattle.std.proofs.Common.{slice_index_or, slice_set, Contains, refl, sym, ap, ap₂, ◌∙◌, subst, true≢false, eq-eqb, eqb-true, ⊎_elim, arith}
+use Rattle.std.proofs.Common.{slice_index_or, slice_set, Contains, refl, sym, ap, ap₂, ◌∙◌, subst, eq-eqb, eqb-true, ⊎_elim, arith}
 use Rattle.std.specs.Prelude.{slice_index, OnOk, OnErr, Result, Ok, Err}
 use Rattle.std.proofs.lemmas.List.Elements.{Contains-append_left, Contains-append_right, Contains-push, Contains-push_cases}
 use Rattle.std.proofs.lemmas.Bool.{eqb-false}

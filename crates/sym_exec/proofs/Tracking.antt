@@ -15,7 +15,7 @@ use Rattle.sym_exec.specs.declared.state.Guard.{Guard}
 use Rattle.sym_exec.specs.declared.stores.StoreChain.{StoreChain}
 use Rattle.sym_exec.specs.Symbolic.{TreeState, GuardTree, start_trees}
 use Rattle.sym_exec.specs.Standing.{Later, Hold, IsGuard, GuardsStand}
-use Rattle.sym_exec.specs.Stores.{MakeMemory, AreMemories, HasRoom, HasStoreRoom, IsChain, IsEmpty, Tracks}
+use Rattle.sym_exec.specs.Stores.{MakeMemory, HasRoom, HasStoreRoom, IsChain, IsEmpty, Tracks}
 use Rattle.sym_exec.proofs.Tickets.{hold_on, guards_on, guards_more, guards_none}
 use Rattle.sym_exec.proofs.Chains.{chain-on, memory-on, memories-start}
 

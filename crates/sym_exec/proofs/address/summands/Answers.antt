@@ -1,6 +1,5 @@
-use Rattle.std.proofs.Common.{◌≡◌, ◌∙◌, sym, subst, false, rules, List, ℕ}
+use Rattle.std.proofs.Common.{◌≡◌, ◌∙◌, sym, false, rules}
 use Rattle.sym_terms.specs.NormalForms.{is_sum}
-use Rattle.sym_exec.specs.MipsTerms.{IsNode}
 use Rattle.sym_exec.proofs.Reading.{address-other, address-few, summands-of, two-of}
 use Rattle.sym_exec.proofs.address.summands.Goals.{in_default-via-then-as_slice-lt2, in_default-via-else-as_slice-lt2+else-this-lt3}
 use Rattle.sym_exec.proofs.address.summands.Goals as goal

@@ -1,9 +1,7 @@
 use Rattle.std.proofs.Common.{rules, ◌≡◌, ℕ, zero, ◌<◌, ◌+◌, length, ◌∙◌, subst, arith}
-use Rattle.std.specs.Prelude.{slice_index, replicate}
 use Rattle.std.proofs.Math.ListN.{length-set}
-use Rattle.sym_exec.specs.MipsTerms.{HasTree}
 use Rattle.sym_exec.proofs.MipsTerms.{still_tree, tree_seen}
-use Rattle.sym_exec.specs.Symbolic.{register_tree, start_trees}
+use Rattle.sym_exec.specs.Symbolic.{start_trees}
 use Rattle.sym_exec.proofs.Tickets.{later_more, goes_on, goes_more, interns_by, set_tree, start_of}
 use Rattle.sym_exec.specs.Asked.{asked_first}
 use Rattle.sym_exec.proofs.Asked.{err_always, lacks_here, lacks_next, lacks_start}

@@ -50,11 +50,11 @@ loop-inst-preserved c =
           omega (arith, was.guards, c.in_ok-step.ensures.guards, one);
       capacity = c.in_ok-step.ensures.capacity ∙ was.capacity;
       tracks = λ t h. let far = rw here at (was.tracks t h) in (
-            trees_after c.action.result far.0,
-            c.in_ok-step.ensures.tracks far.0 far.1,
-            far.2,
-            λ p lacks. far.3 p (lacks_right (asked_by c.action.result far.0) lacks),
-          );
+        trees_after c.action.result far.0,
+        c.in_ok-step.ensures.tracks far.0 far.1,
+        far.2,
+        λ p lacks. far.3 p (lacks_right (asked_by c.action.result far.0) lacks),
+      );
     }
 
 pub returns-in_err-step-clause-pass : goal.returns-in_err-step-clause-pass
