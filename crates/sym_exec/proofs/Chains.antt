@@ -13,7 +13,7 @@ use Rattle.words.specs.Words.{signed}
 use Rattle.sym_terms.specs.declared.label.Label.TheVariants.{Mem0, Load, Store}
 use Rattle.sym_terms.specs.Trees.{Tree, leaf, binary, ternary}
 use Rattle.sym_terms.specs.Sameness.{are_same}
-use Rattle.sym_terms.specs.NormalForms.{Address, address_of, are_disjoint, is_passed, is_passed_inward, load_tree, store_tree}
+use Rattle.sym_terms.specs.NormalForms.{address_of, are_disjoint, is_passed, is_passed_inward, load_tree, store_tree}
 use Rattle.sym_terms.proofs.Sameness.{same-is, same-self}
 use Rattle.term_table.specs.Passes.{PassState}
 use Rattle.term_table.specs.Trees.{HasLegalHistory}
@@ -25,16 +25,13 @@ use Rattle.sym_exec.specs.declared.stores.StoreChain.{StoreChain}
 use Rattle.sym_exec.specs.Standing.{Later, IsAddress}
 use Rattle.sym_exec.specs.Stores.{address_of_store, passes, passes_inward, Makes, LeadsTo, MakeMemory, AreMemories, IsChain}
 
-pub address-on : {p q : PassState} {a : TermAddress} {x : Address} → Later p q → IsAddress p a x → IsAddress q a x
-address-on {p} {q} {a} {x} e h = record { base = still_tree e.extends h.base; offset = h.offset }
-
 pub makes-on : {p q : PassState} {s : Stored} {t u : Tree} → Later p q → Makes p s t u → Makes q s t u
 makes-on {p} {q} {s} {t} {u} e h = record {
   address = h.address;
   value = h.value;
   has_address = still_tree e.extends h.has_address;
   has_value = still_tree e.extends h.has_value;
-  at = address-on e h.at;
+  at = record { base = still_tree e.extends h.at.base; offset = h.at.offset };
   tree = h.tree;
 }
 

@@ -1,6 +1,7 @@
 -- A Nop changes nothing, so code leaves what it leaves without its Nops.
 use Rattle.std.proofs.Common.{◌≡◌, ◌∙◌, ℕ, ◌+◌, ◌<◌, ◌≤◌, ◌==◌, ◌&&◌, Bool, true, false, cond, not, List, [], ◌∷◌, length, take, map, get_or, refl, sym, ap, true≢false, eqb-true, arith}
 use Rattle.std.proofs.lemmas.List.{append-nil, length-append}
+use Rattle.std.proofs.lemmas.Bool.{and_parts}
 use Rattle.std.proofs.lemmas.List.Sums.{length-filter, count_by-le-length}
 use Rattle.std.proofs.lemmas.List.Elements.{filter_more}
 use Rattle.mips_isa.specs.declared.inst.Plain.{Plain}
@@ -13,15 +14,10 @@ use Rattle.sym_exec.specs.Symbolic.{TreeState, trees_after, all_trees}
 use Rattle.sym_exec.specs.Growth.{stores_after, all_stores}
 use Rattle.sym_exec.specs.Runs.{needed}
 
-both : (a b : Bool) → (a && b) ≡ true → (a ≡ true) × (b ≡ true)
-both true true is = (refl, refl)
-both true false is = absurd (true≢false (sym is))
-both false b is = absurd (true≢false (sym is))
-
 pub nop_is : (x : Plain) → is_nop x ≡ true → x ≡ nop
 nop_is (Shift Sll rd rt amount) is =
-    let first = both (rd == 0) ((rt == 0) && (amount == 0)) is in
-    let rest = both (rt == 0) (amount == 0) first.1 in
+    let first = and_parts (rd == 0) ((rt == 0) && (amount == 0)) is in
+    let rest = and_parts (rt == 0) (amount == 0) first.1 in
     ap (λ d. Shift Sll d rt amount) (eqb-true rd 0 first.0) ∙ (ap (λ s. Shift Sll 0 s amount) (eqb-true rt 0 rest.0)
     ∙ ap (Shift Sll 0 0) (eqb-true amount 0 rest.1))
 nop_is _ is = absurd (true≢false (sym is))

@@ -1,7 +1,4 @@
-use Rattle.std.proofs.Common.{sym, subst, rules}
-use Rattle.std.specs.Prelude.{IfOk, OnErr}
-use Rattle.sym_terms.specs.NormalForms.{address_of, tree_plus}
-use Rattle.sym_exec.specs.MipsTerms.{HasTree, Lacks}
+use Rattle.sym_terms.specs.NormalForms.{address_of}
 use Rattle.sym_exec.specs.Symbolic.{register_tree}
 use Rattle.sym_exec.proofs.Tickets.{get_seen, get_tree, goes_on, goes_more, interns_by}
 use Rattle.sym_exec.proofs.Reading.{address-is}
@@ -14,9 +11,7 @@ pub returns-clause-tree : goal.returns-clause-tree
 returns-clause-tree c = λ t h.
     let x = register_tree t c.args.base in
     let at = c.address_at-from.ensures.tree x (get_tree {t = t} h c.get.ensures.value c.get.ensures.range) in
-    subst (λ y. IfOk c.reach.result (λ r. HasTree c.reach.new.terms.pass.now r.address y)) (sym (address-is x c.args.offset))
-    (subst (λ n. IfOk c.reach.result (λ r. HasTree c.reach.new.terms.pass.now r.address (tree_plus (address_of x).base n))) (search rules)
-    (c.reach.ensures.tree (address_of x).base at.base))
+    rw (address-is x c.args.offset) (rw at.offset at (c.reach.ensures.tree (address_of x).base at.base))
 
 pub returns-clause-pass : goal.returns-clause-pass
 returns-clause-pass c =
@@ -26,6 +21,4 @@ pub returns-clause-absent : goal.returns-clause-absent
 returns-clause-absent c = λ t h.
     let x = register_tree t c.args.base in
     let at = c.address_at-from.ensures.tree x (get_tree {t = t} h c.get.ensures.value c.get.ensures.range) in
-    subst (λ y. OnErr c.reach.result (Lacks c.reach.new.terms.pass.now y)) (sym (address-is x c.args.offset))
-    (subst (λ n. OnErr c.reach.result (Lacks c.reach.new.terms.pass.now (tree_plus (address_of x).base n))) (search rules)
-    (c.reach.ensures.absent (address_of x).base at.base))
+    rw (address-is x c.args.offset) (rw at.offset at (c.reach.ensures.absent (address_of x).base at.base))
