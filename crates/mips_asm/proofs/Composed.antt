@@ -1,8 +1,9 @@
 -- The laid out orders run as the unit does.
 use Rattle.std.proofs.Common.{◌≡◌, ◌≢◌, ℕ, zero, suc, ◌+◌, ◌-◌, ◌*◌, ◌^◌, ◌<◌, ◌≤◌, ⊎_elim, inl, inr, Bool, true, false, cond, List, []}
 use Rattle.std.proofs.Common.{◌∷◌, ◌++◌, map, length, slice_get, All, Option, Some, None, ◌==◌, refl, sym, ap, ◌∙◌, subst, true≢false}
-use Rattle.std.proofs.Common.{le_trans, eqb-true, length-append, arith}
+use Rattle.std.proofs.Common.{eqb-true, arith}
 use Rattle.std.specs.Prelude.{is_some}
+use Rattle.std.proofs.lemmas.List.{length-map}
 use Rattle.std.proofs.lemmas.Bool.{cases_lt}
 use Rattle.std.proofs.lemmas.Option.{same_Some, none-some, slice_get_within}
 use Rattle.runs.specs.declared.ran.End.{End}
@@ -28,16 +29,16 @@ use Rattle.mips_code.specs.Machines as def
 use Rattle.mips_code.specs.Machines.{Machine, words_code, machine_run}
 use Rattle.mips_asm.specs.Fetching.{insts_code}
 use Rattle.mips_isa.specs.Actions.{nop}
-use Rattle.mips_asm.specs.Layout.{size, place, exit_size, exit_insts, slot_insts, jump_to, order_length, address_of_place, order_insts}
-use Rattle.mips_asm.specs.Layout.{insts_of, layout, links_of}
+use Rattle.mips_asm.specs.Layout.{place, exit_size, exit_insts, slot_insts, jump_to, order_length, address_of_place, order_insts}
+use Rattle.mips_asm.specs.Layout.{layout, links_of}
 use Rattle.mips_asm.proofs.Fetches.{runs_same}
-use Rattle.mips_asm.proofs.Within.{place_next, place_mono}
+use Rattle.mips_asm.proofs.Within.{place_next, place_mono, place_most, place_none, place_room}
 use Rattle.mblock.specs.UnitRuns.{wrong, outcome_at_block, outcome_at_return, call_return_of, return_block_of, outcome_of_departure}
 use Rattle.mblock.specs.UnitRuns.{exit_item, items, unit_run, is_call, TellsApart}
 use Rattle.mblock.specs.Orders.{Means, AreOrders}
 use Rattle.mips_code.specs.Agreement.{Agrees}
 use Rattle.mips_asm.specs.LayoutRuns.{EachLayoutRuns, EachLayoutTellsCallsApart}
-use Rattle.mips_asm.proofs.LayoutPlaces.{HasAt, has_back, layout_has, words_length, slot_length, map_length}
+use Rattle.mips_asm.proofs.LayoutPlaces.{HasAt, has_back, layout_has, insts_length, slot_length}
 use Rattle.mips_asm.proofs.Steps.{machine_at, at, Leads, leads_on, fewer, hop}
 use Rattle.mips_asm.proofs.OrderSteps.{Arrives, Placed, order_arrives}
 use Rattle.mblock.proofs.StateWords.{run_words, leave_words}
@@ -130,38 +131,10 @@ module _ (blocks : List BlockParts) (links : ℕ → ℕ) (t : ℕ) (out : List 
 
 -- ---- places
 
-some_within : {A : Type 0} (l : List A) (q : ℕ) → q < length l → (x : A) × (slice_get l q ≡ Some x)
-some_within [] q lt = absurd (omega arith)
-some_within (x ∷ l) zero lt = (x, refl)
-some_within (x ∷ l) (suc q) lt = some_within l q (omega arith)
-
-place_room : (start : ℕ → ℕ) (os : List OrderParts) (here : ℕ) → ((k : ℕ) (o : OrderParts) → slice_get os k ≡ Some o → FitsSlot o)
-    → (k : ℕ) (o : OrderParts) → slice_get os k ≡ Some o → place os k + size o ≤ length (insts_of start here os)
-place_room start [] here fits k o e = absurd (none-some o e)
-place_room start (x ∷ rest) here fits zero o e =
-    let same : size x ≡ size o = ap size (same_Some x o e) in
-    omega (arith, same, words_length start here x (fits 0 x refl), length-append (order_insts start here x) (insts_of start (here + size x) rest))
-place_room start (x ∷ rest) here fits (suc k) o e =
-    omega (
-      arith,
-      place_room start rest (here + size x) (λ j. fits (suc j)) k o e,
-      words_length start here x (fits 0 x refl),
-      length-append
-          (order_insts start here x) (insts_of start (here + size x) rest),
-    )
-
-place_any : (start : ℕ → ℕ) (os : List OrderParts) (here : ℕ) → ((k : ℕ) (o : OrderParts) → slice_get os k ≡ Some o → FitsSlot o) → (k : ℕ)
-    → place os k ≤ length (insts_of start here os)
-place_any start [] here fits k = omega arith
-place_any start (x ∷ rest) here fits zero = omega arith
-place_any start (x ∷ rest) here fits (suc k) =
-    omega (
-      arith,
-      place_any start rest (here + size x) (λ j. fits (suc j)) k,
-      words_length start here x (fits 0 x refl),
-      length-append
-          (order_insts start here x) (insts_of start (here + size x) rest),
-    )
+pub there_is : {A : Type 0} (l : List A) (q : ℕ) → q < length l → (x : A) × (slice_get l q ≡ Some x)
+there_is [] q lt = absurd (omega arith)
+there_is (x ∷ l) zero lt = (x, refl)
+there_is (x ∷ l) (suc q) lt = there_is l q (omega arith)
 
 -- the call with a link
 record Returned (links : ℕ → ℕ) (word u k : ℕ) (bs : List BlockParts) : Type 0 where
@@ -216,16 +189,9 @@ call_words code start p u f exit slot e fits h =
     subst (λ n. HasAt code n (jump_to (start u) ∷ I.Plain nop ∷ [])) two
     (has_back code (p + 1) (slot_insts slot) (jump_to (start u) ∷ I.Plain nop ∷ []) at_call.1)
 
-first_place : (os : List OrderParts) → 0 ≡ place os 0
-first_place [] = refl
-first_place (o ∷ os) = refl
-
 -- ---- whole runs
 
 module _ (blocks : List BlockParts) (orders : List OrderParts) (sch : IsScheduled blocks orders) where
-  code : List Inst
-  code = layout orders
-
   abbrev start : ℕ → ℕ
   start = place orders
 
@@ -233,10 +199,10 @@ module _ (blocks : List BlockParts) (orders : List OrderParts) (sch : IsSchedule
   links = links_of orders
 
   placed : Placed (layout orders) start
-  placed = record { room = sch.room; starts = λ u. le_trans (place_any start orders 0 sch.fits u) sch.room }
+  placed = record { room = sch.room; starts = λ u. omega (arith, place_most orders u, insts_length start orders 0 sch.fits, sch.room) }
 
   order_for : (t : ℕ) (b : BlockParts) → slice_get blocks t ≡ Some b → (o : OrderParts) × (slice_get orders t ≡ Some o)
-  order_for t b e = let lt = slice_get_within blocks t b e in some_within orders t (omega (arith, lt, sch.long))
+  order_for t b e = let lt = slice_get_within blocks t b e in there_is orders t (omega (arith, lt, sch.long))
 
   pub has_order : (t : ℕ) (o : OrderParts) → slice_get orders t ≡ Some o → HasAt (layout orders) (start t) (order_insts start (start t) o)
   has_order t o e = layout_has orders sch.fits t o e
@@ -245,7 +211,7 @@ module _ (blocks : List BlockParts) (orders : List OrderParts) (sch : IsSchedule
   link_is t o e = ap (λ x. address_of_place (start t + order_length x + 2)) e
 
   link_below : (t : ℕ) (o : OrderParts) → slice_get orders t ≡ Some o → links t < 2 ^ 32
-  link_below t o e = omega (arith, link_is t o e, place_room start orders 0 sch.fits t o e, sch.room)
+  link_below t o e = omega (arith, link_is t o e, place_room orders t o e, insts_length start orders 0 sch.fits, sch.room)
 
   -- a return arrives where its call goes on
   return_hops : (word u : ℕ) (s : State) (out : List ℕ) → return_block_of links word 0 blocks ≡ Some u
@@ -255,7 +221,7 @@ module _ (blocks : List BlockParts) (orders : List OrderParts) (sch : IsSchedule
       let o = order_for r.nth r.block r.there in
       let p = start r.nth + length o.0.insts in
       let same : o.0.exit ≡ Call r.callee u = shape_call o.0.exit r.callee u (sym (sch.exits r.nth r.block o.0 r.there o.1) ∙ ap exit_shape r.calls) in
-      let len : start r.nth + length (map I.Plain o.0.insts) ≡ p = ap (λ n. start r.nth + n) (map_length o.0.insts) in
+      let len : start r.nth + length (map I.Plain o.0.insts) ≡ p = ap (λ n. start r.nth + n) (length-map o.0.insts I.Plain) in
       let h = subst (λ n. HasAt (layout orders) n (exit_insts start p o.0.exit o.0.slot)) len
       (has_back (layout orders) (start r.nth) (map I.Plain o.0.insts) (exit_insts start p o.0.exit o.0.slot) (has_order r.nth o.0 o.1)) in
       let jumps = call_words (layout orders) start p u r.callee o.0.exit o.0.slot same (sch.fits r.nth o.0 o.1) h in
@@ -366,7 +332,7 @@ from_start blocks orders sch P e measure s words i w = go (slice_get blocks 0) r
     go None ex h = absurd (true≢false h)
     go (Some b) ex h =
         let f = follows blocks orders sch P e measure i i (omega arith) 0 b s [] ex words h in
-        (f.0, f.1, agrees_by (sym (ap (λ p. machine_run (insts_code (layout orders)) f.0 (machine_at p s [])) (first_place orders))) f.2)
+        (f.0, f.1, agrees_by (sym (ap (λ p. machine_run (insts_code (layout orders)) f.0 (machine_at p s [])) (sym (place_none orders)))) f.2)
 
 pub scheduled : (blocks : List BlockParts) (orders : List OrderParts) → AreOrders blocks orders → length (layout orders) ≤ CODE_WORDS → IsScheduled blocks orders
 scheduled blocks orders h room = record { long = h.long; short = h.short; fits = h.fits; exits = h.exits; means = h.means; room = room }
@@ -388,9 +354,6 @@ each_layout_runs blocks orders h room fit s words i right =
 
 -- ---- links
 
-link_of_call : (os : List OrderParts) (k : ℕ) (o : OrderParts) → slice_get os k ≡ Some o → links_of os k ≡ address_of_place (place os k + length o.insts + 2)
-link_of_call os k o e = ap (λ x. address_of_place (place os k + order_length x + 2)) e
-
 shape_size : (x : Exit) (y : Exit) → exit_shape x ≡ exit_shape y → is_call x ≡ true → exit_size y ≡ 4
 shape_size (Call f n) y e c = go y e
   where
@@ -409,13 +372,13 @@ module _ (blocks : List BlockParts) (orders : List OrderParts) (h : AreOrders bl
       let size_x : exit_size x.0.exit ≡ 4 = shape_size a.exit x.0.exit (h.exits i a x.0 ea x.1) ca in
       let next = place_next orders i x.0 x.1 in
       let far = place_mono orders (suc i) j (omega arith) in
-      let lx = link_of_call orders i x.0 x.1 in
-      let ly = link_of_call orders j y.0 y.1 in
+      let lx = link_is blocks orders sch i x.0 x.1 in
+      let ly = link_is blocks orders sch j y.0 y.1 in
       omega arith
 
   tells : TellsApart (links_of orders) blocks
   tells = record {
-    words = λ k. let p = place_any (place orders) orders 0 h.fits k in go k (slice_get orders k) refl;
+    words = λ k. go k (slice_get orders k) refl;
     apart = λ i j a b ea eb ca cb e. elim (cases_lt i j) [
       | inl lt ↦ absurd (let l = before i j a b ea eb ca lt in omega arith)
       | inr ge ↦ elim (cases_lt j i) [
@@ -428,9 +391,8 @@ module _ (blocks : List BlockParts) (orders : List OrderParts) (h : AreOrders bl
       go : (k : ℕ) (x : Option OrderParts) → slice_get orders k ≡ x → links_of orders k < 2 ^ 32
       go k (Some o) e = link_below blocks orders (scheduled blocks orders h room) k o e
       go k None e =
-          let p = place_any (place orders) orders 0 h.fits k in
           let l : links_of orders k ≡ address_of_place (place orders k + 0 + 2) = ap (λ x. address_of_place (place orders k + order_length x + 2)) e in
-          omega arith
+          omega (arith, place_most orders k, insts_length (place orders) orders 0 h.fits)
 
 pub each_layout_tells_calls_apart : EachLayoutTellsCallsApart
 each_layout_tells_calls_apart blocks orders h room = tells blocks orders h room

@@ -41,9 +41,6 @@ pub no_counts : (owner : ℕ → ℕ) → Counts owner [] 0
 no_counts owner = record { each = λ f. omega arith; last = λ j e. absurd (omega arith); small = omega arith }
 
 module _ (n : ℕ) (owner : ℕ → ℕ) (h : AreFunctions n owner) (done : List OrderParts) (o : OrderParts) (lt : length done < n) where
-  k : ℕ
-  k = length done
-
   -- the words so far of the function of block k
   so_far : (words start : ℕ) → Counts owner done words → (b : Bool) → (owner (length done) == length done) ≡ b → start ≡ cond b 0 words
       → words_owned owner (owner (length done)) 0 done ≡ start

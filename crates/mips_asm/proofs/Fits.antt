@@ -17,13 +17,11 @@ use Rattle.mblock.specs.declared.exit.Exit.TheVariants.{Goto, BranchPair, Branch
 use Rattle.mblock.specs.Parts.{OrderParts}
 use Rattle.mips_asm.specs.Layout.{exit_size, size, place, address_of_place, slot_insts, hop, branch_offset, exit_insts, order_insts, insts_of, layout}
 use Rattle.mips_asm.specs.Functions.{AreFunctions, words_owned, StaysInside, IsLaidOut, EachLayoutFits}
-use Rattle.mips_asm.proofs.Within.{one_function, place_next, place_grows, place_mono}
+use Rattle.mips_asm.specs.Emitted.{Fit}
+use Rattle.mips_asm.proofs.Within.{one_function, place_next, place_most, place_mono}
 use Rattle.mips_asm.specs.declared.limits.TheConstants.{CODE_WORDS, FUNCTION_WORDS}
 
-abbrev Fit : List Inst → Type 0
-Fit is = AllByRecursion IsInst is
-
-all_both : (a b : List Inst) → Fit a → Fit b → Fit (a ++ b)
+pub all_both : (a b : List Inst) → Fit a → Fit b → Fit (a ++ b)
 all_both [] b ha hb = hb
 all_both (i ∷ a) b ha hb = (ha.0, all_both a b ha.1 hb)
 
@@ -92,7 +90,7 @@ offset_near owner os functions few k t o e there same =
 
 module _ (owner : ℕ → ℕ) (os : List OrderParts) (h : IsLaidOut owner os) where
   start_small : (t : ℕ) → t < length os → place os t ≤ CODE_WORDS
-  start_small t lt = let g = place_grows os t (omega arith) in let r = h.code_fits in omega arith
+  start_small t lt = omega (arith, place_most os t, h.code_fits)
 
   order_fits : (k : ℕ) (o : OrderParts) → slice_get os k ≡ Some o → Fit (order_insts (place os) (place os k) o)
   order_fits k o e =

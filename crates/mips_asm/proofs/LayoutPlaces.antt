@@ -2,6 +2,7 @@
 use Rattle.std.proofs.Common.{◌≡◌, ℕ, zero, suc, ◌+◌, ◌-◌, ◌*◌, ◌/◌, ◌%◌, ◌^◌, ◌<◌, true, cond, ◌&&◌, nat_le, ◌==◌, List, [], ◌∷◌, ◌++◌}
 use Rattle.std.proofs.Common.{map, length, slice_get, Option, Some, None, refl, sym, ap, ap₂, ◌∙◌, subst, true≢false, le-leb, eq-eqb}
 use Rattle.std.proofs.Common.{append_assoc, length-append, arith}
+use Rattle.std.proofs.lemmas.List.{length-map}
 use Rattle.std.specs.Prelude.{is_some}
 use Rattle.mips_isa.specs.declared.inst.Plain.{Plain}
 use Rattle.mips_isa.specs.declared.inst.Inst.{Inst}
@@ -62,14 +63,17 @@ exit_length start here (Out n) slot e = refl
 exit_length start here Halt slot e = refl
 exit_length start here _ None e = absurd (true≢false (sym e))
 
-pub map_length : (l : List Plain) → length (map I.Plain l) ≡ length l
-map_length [] = refl
-map_length (x ∷ l) = ap suc (map_length l)
-
 pub words_length : (start : ℕ → ℕ) (here : ℕ) (o : OrderParts) → FitsSlot o → length (order_insts start here o) ≡ size o
 words_length start here o e =
     length-append (map I.Plain o.insts) (exit_insts start (here + length o.insts) o.exit o.slot)
-    ∙ ap₂ (λ x y. x + y) (map_length o.insts) (exit_length start (here + length o.insts) o.exit o.slot e)
+    ∙ ap₂ (λ x y. x + y) (length-map o.insts I.Plain) (exit_length start (here + length o.insts) o.exit o.slot e)
+
+pub insts_length : (start : ℕ → ℕ) (os : List OrderParts) (here : ℕ) → ((k : ℕ) (o : OrderParts) → slice_get os k ≡ Some o → FitsSlot o)
+    → length (insts_of start here os) ≡ place os (length os)
+insts_length start [] here fits = refl
+insts_length start (x ∷ rest) here fits =
+    length-append (order_insts start here x) (insts_of start (here + size x) rest)
+    ∙ ap₂ (λ m n. m + n) (words_length start here x (fits 0 x refl)) (insts_length start rest (here + size x) (λ k. fits (suc k)))
 
 order_has : (code : List Inst) (start : ℕ → ℕ) (os : List OrderParts) (here : ℕ)
     → ((k : ℕ) (o : OrderParts) → slice_get os k ≡ Some o → FitsSlot o) → HasAt code here (insts_of start here os)

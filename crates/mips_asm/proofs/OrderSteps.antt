@@ -2,6 +2,7 @@
 use Rattle.std.proofs.Common.{◌≡◌, ℕ, suc, pred, ◌+◌, ◌/◌, ◌<◌, ◌≤◌, Bool, true, false, cond, not, ◌||◌, ◌==◌, pos, ◌-ℤ◌, List, [], ◌∷◌}
 use Rattle.std.proofs.Common.{◌++◌, map, length, Option, Some, None, refl, sym, ap, ap₂, ◌∙◌, subst, true≢false, arith}
 use Rattle.std.proofs.lemmas.Bool.{or_parts}
+use Rattle.std.proofs.lemmas.List.{length-map}
 use Rattle.std.proofs.lemmas.Option.{same_Some, none-some}
 use Rattle.std.proofs.lemmas.Int.{ints}
 use Rattle.words.specs.declared.operator.Operator.TheVariants.{Addu}
@@ -39,7 +40,7 @@ use Rattle.mips_asm.specs.Fetching.{insts_code}
 use Rattle.mips_isa.specs.Actions.{nop}
 use Rattle.mips_asm.specs.Layout.{address_of_place, jump_to, branch_offset, exit_insts, order_insts}
 use Rattle.mips_asm.proofs.Unbroken.{system_goes}
-use Rattle.mips_asm.proofs.LayoutPlaces.{HasAt, map_length, has_front, has_back, jump_lands}
+use Rattle.mips_asm.proofs.LayoutPlaces.{HasAt, has_front, has_back, jump_lands}
 use Rattle.mips_asm.proofs.Steps.{machine_at, at, Leads, leads_on, goes, at_place, fewer, plain_step, words_lead, within, control_step, slot_step, hop}
 use Rattle.mips_asm.specs.declared.limits.TheConstants.{CODE_WORDS}
 
@@ -99,10 +100,6 @@ jump_parts exit i f link r e =
   where
     goes : Departure
     goes = departure_of (exit_shape exit) (operand_words exit f)
-
-    slot : Bool → Bool → Option Flow → Option Flow
-    slot x y None = None
-    slot x y (Some g) = cond x None (cond y None (Some (flow_after (action_of i) g)))
 
     go : (x y z : Bool) → on_pending f.pending (exit_touches exit) ≡ x → (is_load (action_of i) || is_move (action_of i)) ≡ y
         → is_stuck (action_of i) (jump_mid exit link f) ≡ z
@@ -299,7 +296,7 @@ module _ (code : List Inst) (start : ℕ → ℕ) where
   order_arrives o p s link r out placed el h e = go (words_from (map action_of o.insts) (Some (quiet s))) refl e
     where
       len : p + length (map I.Plain o.insts) ≡ p + length o.insts
-      len = ap (λ n. p + n) (map_length o.insts)
+      len = ap (λ n. p + n) (length-map o.insts I.Plain)
 
       after_insts : HasAt code (p + length o.insts) (exit_insts start (p + length o.insts) o.exit o.slot)
       after_insts = subst (λ n. HasAt code n (exit_insts start (p + length o.insts) o.exit o.slot)) len (has_back code p (map I.Plain o.insts) _ h)

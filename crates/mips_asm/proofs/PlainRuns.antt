@@ -1,6 +1,7 @@
 -- Plain orders keep every instruction in place, so a word is one item at most.
 use Rattle.std.proofs.Common.{◌≡◌, ℕ, zero, suc, ◌+◌, ◌*◌, ◌<◌, ◌≤◌, Bool, true, false, cond, List, [], ◌∷◌, ◌++◌, map, flat_map, length}
 use Rattle.std.proofs.Common.{slice_get, Some, refl, sym, ap, ◌∙◌, subst, true≢false, take, drop, take-append-drop, length-take-le, arith}
+use Rattle.std.proofs.lemmas.List.{map-append}
 use Rattle.std.proofs.lemmas.Option.{same_Some, none-some}
 use Rattle.mips_isa.specs.declared.inst.Plain.{Plain}
 use Rattle.mips_isa.specs.declared.inst.Inst.TheVariants as I
@@ -21,10 +22,6 @@ use Rattle.mips_asm.specs.LayoutRuns.{EachPlainLayoutRuns}
 use Rattle.mips_asm.proofs.LayoutPlaces.{HasAt, has_front}
 use Rattle.mips_asm.proofs.Steps.{machine_at, words_lead}
 use Rattle.mips_asm.proofs.Composed.{is_wrong, not_wrong, said, IsScheduled, scheduled, has_order, from_start, over_words}
-
-map_words : (a b : List Plain) → map I.Plain (a ++ b) ≡ map I.Plain a ++ map I.Plain b
-map_words [] b = refl
-map_words (x ∷ a) b = ap (λ l. I.Plain x ∷ l) (map_words a b)
 
 items_safe : (blocks : List BlockParts) (links : ℕ → ℕ) (t : ℕ) (out : List ℕ) (rest : List Plain) (n : ℕ) (s : State) → n ≤ length rest
     → is_wrong (items blocks links n t rest s out) ≡ false → AllSafe (map action_of (take n rest)) s
@@ -67,7 +64,7 @@ plain_part blocks sch t b s out n eb le w =
     let run = padded_run some s (items_safe blocks (links_of orders) t out b.insts n s le w) in
     let split : map I.Plain (flat_map padded_inst b.insts) ≡ map I.Plain (flat_map padded_inst some) ++ map I.Plain
     (flat_map padded_inst rest) = ap (λ l. map I.Plain (flat_map padded_inst l)) (sym (take-append-drop n b.insts))
-    ∙ ap (map I.Plain) (padded_append some rest) ∙ map_words (flat_map padded_inst some) (flat_map padded_inst rest) in
+    ∙ ap (map I.Plain) (padded_append some rest) ∙ map-append I.Plain (flat_map padded_inst some) (flat_map padded_inst rest) in
     let all = has_front (layout orders) (place orders t) (map I.Plain (flat_map padded_inst b.insts))
     (exit_insts (place orders) (place orders t + length (flat_map padded_inst b.insts)) b.exit (plain_order_of b).slot)
     (has_order blocks orders sch t (plain_order_of b) (plain_at blocks t b eb)) in

@@ -1,5 +1,6 @@
 -- Where the emitter's places are those of the layout.
-use Rattle.std.proofs.lemmas.List.{map-append}
+use Rattle.std.proofs.lemmas.List.{map-append, drop_more}
+use Rattle.std.proofs.lemmas.Option.{slice_get_read}
 use Rattle.mips_code.specs.Words.{inst_word}
 use Rattle.std.proofs.Common.{◌≡◌, ℕ, zero, suc, ◌+◌, ◌/◌, ◌<◌, List, [], ◌∷◌, ◌++◌, map, length, All, Option, Some, slice_get, refl, ap}
 use Rattle.std.proofs.Common.{ap₂, arith, get_or, ◌≤◌, subst, drop, append_assoc, sym, ◌∙◌}
@@ -17,12 +18,12 @@ use Rattle.mblock.specs.Parts.{OrderParts}
 use Rattle.mblock.specs.Units.{GoesBelow}
 use Rattle.mips_asm.specs.Layout.{size, place, slot_insts, hop, jump_to, branch_offset, set_number, address_of_place, exit_insts}
 use Rattle.mips_asm.specs.Layout.{insts_of, layout, order_insts}
-use Rattle.mips_asm.proofs.Within.{place_next, place_mono}
+use Rattle.mips_asm.proofs.Within.{place_next}
 use Rattle.std.specs.Prelude.{FitsSigned}
 use Rattle.std.specs.Int.{w16}
 use Rattle.std.specs.List.{AllByRecursion}
 use Rattle.mips_asm.specs.Functions.{AreFunctions}
-use Rattle.mips_asm.proofs.Fits.{offset_near}
+use Rattle.mips_asm.proofs.Fits.{all_both, offset_near}
 use Rattle.mips_asm.specs.Limits.{FunctionsFit}
 use Rattle.mips_asm.specs.Emitted.{Fit, AllThere, IsNear, AllNear, IsOwn, AreUnits, places_from, start_of}
 use Rattle.mips_asm.specs.declared.limits.TheConstants.{CODE_WORDS}
@@ -62,24 +63,8 @@ all_fit is h = All-from_recursion IsInst is h
 
 -- ---- steps of a loop over orders
 
-pub got : (os : List OrderParts) (k : ℕ) (o : OrderParts) → k < length os → o ≡ get_or os k o → slice_get os k ≡ Some o
-got [] k o lt e = absurd (omega arith)
-got (x ∷ os) zero o lt e = ap (λ y. Some y) (sym e)
-got (x ∷ os) (suc k) o lt e = got os k o (omega arith) e
-
 pub place_step : (os : List OrderParts) (k : ℕ) (o : OrderParts) → k < length os → o ≡ get_or os k o → place os (k + 1) ≡ place os k + size o
-place_step os k o lt e = let one : k + 1 ≡ suc k = omega arith in ap (place os) one ∙ place_next os k o (got os k o lt e)
-
-pub place_room : (os : List OrderParts) (k : ℕ) (o : OrderParts) → k < length os → o ≡ get_or os k o → place os (length os) ≤ CODE_WORDS
-    → place os k + size o ≤ CODE_WORDS
-place_room os k o lt e room =
-    let step = place_step os k o lt e in
-    let most = place_mono os (k + 1) (length os) (omega arith) in
-    omega arith
-
-pub first_place : (os : List OrderParts) → 0 ≡ place os 0
-first_place [] = refl
-first_place (o ∷ os) = refl
+place_step os k o lt e = let one : k + 1 ≡ suc k = omega arith in ap (place os) one ∙ place_next os k o (slice_get_read os _ k o refl lt e)
 
 places_small : (os : List OrderParts) (here : ℕ) → here + place os (length os) ≤ CODE_WORDS → AllByRecursion (λ p. p ≤ CODE_WORDS) (places_from here os)
 places_small [] here le = tt
@@ -101,17 +86,9 @@ near_exit owner os f fit k o e _ there own = tt
 pub all_near : (owner : ℕ → ℕ) (os : List OrderParts) → AreUnits owner os → FunctionsFit owner os → AllNear (start_of (places_from 0 os)) os
 all_near owner os u fit k o e = near_exit owner os u.functions fit k o e o.exit (u.there k o e) (u.own k o e)
 
-all_both : (a b : List Inst) → Fit a → Fit b → Fit (a ++ b)
-all_both [] b ha hb = hb
-all_both (i ∷ a) b ha hb = (ha.0, all_both a b ha.1 hb)
-
 more_insts : (start : ℕ → ℕ) (os : List OrderParts) (here k : ℕ) (o : OrderParts) → k < length os → o ≡ get_or os k o
     → insts_of start here (drop k os) ≡ order_insts start here o ++ insts_of start (here + size o) (drop (k + 1) os)
-more_insts start [] here k o lt e = absurd (omega arith)
-more_insts start (x ∷ os) here zero o lt e = ap (λ y. order_insts start here y ++ insts_of start (here + size y) os) (sym e)
-more_insts start (x ∷ os) here (suc k) o lt e =
-    let one : suc (k + 1) ≡ suc k + 1 = omega arith in
-    more_insts start os here k o (omega arith) e ∙ ap (λ j. order_insts start here o ++ insts_of start (here + size o) (drop j (x ∷ os))) one
+more_insts start os here k o lt e = ap (insts_of start here) (drop_more os k o lt ∙ ap (λ y. y ∷ drop (k + 1) os) (sym e))
 
 pub words_on : (start : ℕ → ℕ) (os : List OrderParts) (here k : ℕ) (o : OrderParts) (code more total : List ℕ) → k < length os
     → o ≡ get_or os k o → more ≡ code ++ map inst_word (order_insts start here o) → code ++ map inst_word (insts_of start here (drop k os)) ≡ total

@@ -1,10 +1,10 @@
 -- A unit's orders are what the emitter asks for, and its words and bytes are an image's.
-use Rattle.std.proofs.Common.{◌≡◌, ℕ, zero, suc, ◌+◌, ◌^◌, ◌<◌, ◌≤◌, true, List, [], ◌∷◌, map, length, All, length-append, inl, inr, Some}
-use Rattle.std.proofs.Common.{slice_get, refl, sym, ap, ◌∙◌, subst, arith}
+use Rattle.std.proofs.Common.{◌≡◌, ℕ, suc, ◌^◌, ◌<◌, ◌≤◌, List, map, length, All, inl, inr, Some}
+use Rattle.std.proofs.Common.{slice_get, sym, ap, ◌∙◌, subst, arith}
 use Rattle.std.specs.Prelude.{slice_index}
 use Rattle.std.proofs.lemmas.Bool.{cases_eq, lt-ltb}
-use Rattle.std.proofs.lemmas.Option.{same_Some, none-some, slice_get_within}
-use Rattle.mips_isa.specs.declared.inst.Inst.{Inst}
+use Rattle.std.proofs.lemmas.Option.{get_or_from_slice_get, slice_get_within}
+use Rattle.std.proofs.lemmas.List.{length-map}
 use Rattle.mips_isa.specs.Ranges.{IsInst}
 use Rattle.mips_code.specs.Words.{inst_word}
 use Rattle.mips_code.proofs.Bounds.{words_below}
@@ -12,17 +12,16 @@ use Rattle.mblock.specs.declared.exit.Exit.{Exit}
 use Rattle.mblock.specs.declared.exit.Exit.TheVariants.{Goto, BranchPair, BranchZero}
 use Rattle.mblock.specs.Parts.{BlockParts, OrderParts}
 use Rattle.mblock.specs.BlockMeaning.{Shape, Goes, ChoosesPair, ChoosesZero, Calls, Prints, exit_shape}
-use Rattle.mblock.specs.Clean.{FitsSlot}
 use Rattle.mblock.specs.PlainOrders.{plain_order_of}
 use Rattle.mblock.specs.Orders.{AreOrders}
 use Rattle.mblock.specs.Units.{UnitParts, IsUnit, GoesBelow, BranchesWithin, AreOwners}
-use Rattle.image.specs.Images.{Version, IsImage, FitsVersion, is_entry}
-use Rattle.mips_asm.specs.Layout.{exit_size, size, place, order_insts, insts_of, layout}
+use Rattle.image.specs.Images.{Version, IsImage, FitsVersion}
+use Rattle.mips_asm.specs.Layout.{exit_size, place, layout}
 use Rattle.mips_asm.specs.Functions.{AreFunctions}
 use Rattle.mips_asm.specs.LayoutRuns.{RunsAs}
 use Rattle.mips_asm.proofs.Within.{place_mono, place_next}
-use Rattle.mips_asm.proofs.LayoutPlaces.{words_length}
-use Rattle.mips_asm.proofs.Composed.{each_layout_runs, each_layout_tells_calls_apart}
+use Rattle.mips_asm.proofs.LayoutPlaces.{insts_length}
+use Rattle.mips_asm.proofs.Composed.{there_is, each_layout_runs, each_layout_tells_calls_apart}
 use Rattle.mips_asm.proofs.PlainRuns.{each_plain_layout_runs}
 use Rattle.mips_asm.specs.Emitted.{IsOwn, AreUnits}
 use Rattle.mips_asm.specs.Assembled.{EachAssembledImageRuns}
@@ -49,9 +48,7 @@ OwnShape owner k (ChoosesZero x t e) = owner t ≡ owner k
 OwnShape owner k _ = Unit {0}
 
 read_at : (xs : List ℕ) (i x : ℕ) → slice_get xs i ≡ Some x → slice_index xs i ≡ x
-read_at [] i x e = absurd (none-some x e)
-read_at (y ∷ xs) zero x e = same_Some y x e
-read_at (y ∷ xs) (suc i) x e = read_at xs i x e
+read_at xs i x e = get_or_from_slice_get xs i x 0 e
 
 branches_within : (owner : List ℕ) (k o : ℕ) (exit : Exit) → slice_get owner k ≡ Some o → BranchesWithin owner o exit
     → OwnShape (slice_index owner) k (exit_shape exit)
@@ -64,11 +61,6 @@ is_own owner k (Goto t) h = h
 is_own owner k _ h = h
 
 -- ---- units
-
-there_is : {A : Type 0} (l : List A) (q : ℕ) → q < length l → (x : A) × (slice_get l q ≡ Some x)
-there_is [] q lt = absurd (omega arith)
-there_is (x ∷ l) zero lt = (x, refl)
-there_is (x ∷ l) (suc q) lt = there_is l q (omega arith)
 
 functions_are : (blocks : List BlockParts) (owner : List ℕ) → AreOwners blocks owner → 0 < length blocks → AreFunctions (length blocks) (slice_index owner)
 functions_are blocks owner h some = record {
@@ -102,14 +94,6 @@ unit_orders u orders is h = record {
 
 -- ---- images
 
-insts_length : (start : ℕ → ℕ) (os : List OrderParts) (here : ℕ) → ((k : ℕ) (o : OrderParts) → slice_get os k ≡ Some o → FitsSlot o)
-    → length (insts_of start here os) ≡ place os (length os)
-insts_length start [] here fits = refl
-insts_length start (x ∷ rest) here fits =
-    length-append (order_insts start here x) (insts_of start (here + size x) rest)
-    ∙ ap (λ n. n + length (insts_of start (here + size x) rest)) (words_length start here x (fits 0 x refl))
-    ∙ ap (λ n. size x + n) (insts_length start rest (here + size x) (λ k. fits (suc k)))
-
 two_words : (exit : Exit) → 2 ≤ exit_size exit
 two_words (Goto t) = omega arith
 two_words _ = omega arith
@@ -121,13 +105,6 @@ some_words os lt =
     let later = place_mono os 1 (length os) (omega arith) in
     omega (arith, two_words p.0.exit, first, later)
 
-as_many : (l : List Inst) → length (map inst_word l) ≡ length l
-as_many [] = refl
-as_many (i ∷ l) = ap suc (as_many l)
-
-is_first : (n : ℕ) → 1 ≤ n → is_entry n code_base ≡ true
-is_first n lt = lt-ltb 0 n (omega arith)
-
 pub image_made : (u : UnitParts) (orders : List OrderParts) (v : Version) (code bytes : List ℕ) → IsUnit u → AreOrders u.blocks orders
     → place orders (length orders) ≤ CODE_WORDS
     → FitsVersion v u.globals → code ≡ map inst_word (layout orders) → bytes ≡ u.globals → All IsInst (layout orders)
@@ -136,21 +113,21 @@ image_made u orders v code bytes is h room fits code_is bytes_is fit = record {
   some = omega (arith, long, some);
   code_fits = omega (arith, long);
   bytes_fit = (let most = is.data_fits in let same = ap (λ (l : List ℕ). length l) bytes_is in omega arith);
-  entry = is_first (length code) (omega (arith, long, some));
+  entry = lt-ltb 0 (length code) (omega (arith, long, some));
   version = subst (FitsVersion v) (sym bytes_is) fits;
   code = subst (All (λ w. w < 2 ^ 32)) (sym code_is) (words_below (layout orders) fit);
   bytes = subst (All (λ b. b < 2 ^ 8)) (sym bytes_is) is.data_bytes;
 }
   where
     long : length code ≡ place orders (length orders)
-    long = ap (λ (l : List ℕ). length l) code_is ∙ as_many (layout orders) ∙ insts_length (place orders) orders 0 h.fits
+    long = ap (λ (l : List ℕ). length l) code_is ∙ length-map (layout orders) inst_word ∙ insts_length (place orders) orders 0 h.fits
 
     some : 1 ≤ place orders (length orders)
     some = some_words orders (let lt = is.some in omega (arith, h.long))
 
 pub each_assembled_image_runs : EachAssembledImageRuns
 each_assembled_image_runs u orders i h made image fit =
-    let many = as_many (layout orders) in
+    let many = length-map (layout orders) inst_word in
     let code = ap (λ (w : List ℕ). length w) made.code in
     let most = image.code_fits in
     let room : length (layout orders) ≤ CODE_WORDS = omega arith in

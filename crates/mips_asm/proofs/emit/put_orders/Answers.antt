@@ -1,31 +1,30 @@
-use Rattle.std.proofs.Common.{◌≡◌, ◌+◌, ◌++◌, ◌≤◌, ℕ, length, map, drop, sym, subst, ◌∙◌, arith}
+use Rattle.std.proofs.Common.{◌≡◌, ◌+◌, ◌++◌, ℕ, length, map, drop, refl, sym, subst, arith}
 use Rattle.mips_code.specs.Words.{inst_word}
 use Rattle.mips_asm.specs.Layout.{place, insts_of}
 use Rattle.mips_asm.specs.Emitted.{Fit, IsNear, start_of}
-use Rattle.mips_asm.proofs.Starts.{got, place_step, place_room, first_place, words_on, fit_on}
+use Rattle.mips_asm.proofs.Starts.{place_step, words_on, fit_on}
+use Rattle.mips_asm.proofs.Within.{place_none, place_room}
+use Rattle.std.proofs.lemmas.Option.{slice_get_read}
 use Rattle.mips_asm.proofs.emit.put_orders.Goals as goal
 
 pub loop-order-init : goal.loop-order-init
-loop-order-init c = (Rattle.std.proofs.Common.refl, λ h. h, first_place c.args.orders.now)
+loop-order-init c = (refl, λ h. h, sym (place_none c.args.orders.now))
 
 pub put_order-requires-clause-here : goal.put_order-requires-clause-here
 put_order-requires-clause-here c =
-    let room = place_room c.args.orders.now c.loop-order.order-index c.order-item.result c.loop-order-test.true c.order-item.is c.requires.room in
-    let at = c.loop-order.invariant.2 in
-    omega arith
+    let there = slice_get_read c.args.orders.now _ c.loop-order.order-index _ refl c.loop-order-test.true c.order-item.is in
+    omega (arith, place_room c.args.orders.now c.loop-order.order-index c.order-item.result there, c.requires.room, c.loop-order.invariant.2)
 
 pub put_order-requires-clause-near : goal.put_order-requires-clause-near
 put_order-requires-clause-near c =
     let o = c.order-item.result in
-    let near = c.requires.near c.loop-order.order-index o (got c.args.orders.now c.loop-order.order-index o c.loop-order-test.true c.order-item.is) in
+    let near = c.requires.near c.loop-order.order-index o (slice_get_read _ _ _ _ refl c.loop-order-test.true c.order-item.is) in
     subst (λ h. IsNear (start_of c.args.places.now) (h + length o.insts) o.exit) (sym c.loop-order.invariant.2) near
 
 pub overflow_add-here : goal.overflow_add-here
 overflow_add-here c =
-    let room = place_room c.args.orders.now c.loop-order.order-index c.order-item.result c.loop-order-test.true c.order-item.is c.requires.room in
-    let at = c.loop-order.invariant.2 in
-    let v = c.size-here.ensures.value in
-    omega arith
+    let there = slice_get_read c.args.orders.now _ c.loop-order.order-index _ refl c.loop-order-test.true c.order-item.is in
+    omega (arith, place_room c.args.orders.now c.loop-order.order-index c.order-item.result there, c.requires.room, c.loop-order.invariant.2, c.size-here.ensures.value)
 
 pub loop-order-preserved : goal.loop-order-preserved
 loop-order-preserved c =
