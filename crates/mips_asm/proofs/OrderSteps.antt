@@ -1,10 +1,11 @@
 -- The words of an order lead where the order goes.
-use Rattle.std.proofs.Common.{◌≡◌, ℕ, suc, pred, ◌+◌, ◌/◌, ◌<◌, ◌≤◌, Bool, true, false, cond, not, ◌||◌, ◌==◌, pos, ◌-ℤ◌, List, [], ◌∷◌}
+use Rattle.std.proofs.Common.{◌≡◌, ℕ, suc, pred, ◌+◌, ◌/◌, ◌<◌, ◌≤◌, Bool, true, false, cond, not, ◌||◌, ◌==◌, pos, ◌-ℤ◌, inl, inr, List, [], ◌∷◌}
 use Rattle.std.proofs.Common.{◌++◌, map, length, Option, Some, None, refl, sym, ap, ap₂, ◌∙◌, subst, true≢false, arith}
-use Rattle.std.proofs.lemmas.Bool.{or_parts}
+use Rattle.std.proofs.lemmas.Bool.{cases_Bool, or_parts}
 use Rattle.std.proofs.lemmas.List.{length-map}
 use Rattle.std.proofs.lemmas.Option.{same_Some, none-some}
 use Rattle.std.proofs.lemmas.Int.{ints}
+use Rattle.std.proofs.lemmas.Bool.Decides.{nat_tests}
 use Rattle.words.specs.declared.operator.Operator.TheVariants.{Addu}
 use Rattle.words.specs.Words.{wrap}
 use Rattle.words.specs.Operators.{op_value}
@@ -41,7 +42,7 @@ use Rattle.mips_isa.specs.Actions.{nop}
 use Rattle.mips_asm.specs.Layout.{address_of_place, jump_to, branch_offset, exit_insts, order_insts}
 use Rattle.mips_asm.proofs.Unbroken.{system_goes}
 use Rattle.mips_asm.proofs.LayoutPlaces.{HasAt, has_front, has_back, jump_lands}
-use Rattle.mips_asm.proofs.Steps.{machine_at, at, Leads, leads_on, goes, at_place, fewer, plain_step, words_lead, within, control_step, slot_step, hop}
+use Rattle.mips_asm.proofs.Steps.{machine_at, at, Leads, leads_on, goes, at_place, fewer, plain_step, not_stuck, words_lead, within, control_step, slot_step, hop}
 use Rattle.mips_asm.specs.declared.limits.TheConstants.{CODE_WORDS}
 
 branch_lands : (p q : ℕ) → p < CODE_WORDS → q ≤ CODE_WORDS → branch_target (address_of_place p + 4) (branch_offset p q) ≡ address_of_place q
@@ -49,21 +50,10 @@ branch_lands p q lp lq = omega (arith, ints)
 
 -- ---- what a word keeps
 
-wait_kept : (a : Action) (h : ℕ) → h ≤ 2 → cond (is_move a) 2 (pred h) ≤ 2
-wait_kept a h le = go (is_move a)
-  where
-    go : (b : Bool) → cond b 2 (pred h) ≤ 2
-    go true = omega arith
-    go false = let below : pred h ≤ 2 = omega arith in below
-
 pub words_hold : (insts : List Plain) (f f' : Flow) → f.hold ≤ 2 → words_from (map action_of insts) (Some f) ≡ Some f' → f'.hold ≤ 2
 words_hold [] f f' le e = subst (λ g. g.hold ≤ 2) (same_Some f f' e) le
-words_hold (i ∷ rest) f f' le e = go (λ g h r. words_hold rest g f' h r) (is_stuck (action_of i) f) e
-  where
-    go : ((g : Flow) → g.hold ≤ 2 → words_from (map action_of rest) (Some g) ≡ Some f' → f'.hold ≤ 2) → (b : Bool)
-        → words_from (map action_of rest) (cond b None (Some (flow_after (action_of i) f))) ≡ Some f' → f'.hold ≤ 2
-    go next true r = absurd (none-some f' r)
-    go next false r = next (flow_after (action_of i) f) (wait_kept (action_of i) f.hold le) r
+words_hold (i ∷ rest) f f' le e =
+    words_hold rest (flow_after (action_of i) f) f' (grind (arith, nat_tests)) (not_stuck rest (is_stuck (action_of i) f) (flow_after (action_of i) f) f' e).1
 
 pending_none : (a : Action) (s : State) → is_load a ≡ false → pending_of a s ≡ Nothing
 pending_none (Loads w d base offset) s e = absurd (true≢false e)
@@ -95,27 +85,14 @@ record Jumps (exit : Exit) (i : Plain) (f : Flow) (link : ℕ) (r : Effect) : Ty
 
 jump_parts : (exit : Exit) (i : Plain) (f : Flow) (link : ℕ) (r : Effect) → jump exit (Some i) f link ≡ Some r → Jumps exit i f link r
 jump_parts exit i f link r e =
-    go (on_pending f.pending (exit_touches exit)) (is_load (action_of i) || is_move (action_of i))
-    (is_stuck (action_of i) (jump_mid exit link f)) refl refl refl e
+    go (on_pending f.pending (exit_touches exit)) (is_load (action_of i) || is_move (action_of i)) (is_stuck (action_of i) (jump_mid exit link f)) refl refl refl
   where
-    goes : Departure
-    goes = departure_of (exit_shape exit) (operand_words exit f)
-
     go : (x y z : Bool) → on_pending f.pending (exit_touches exit) ≡ x → (is_load (action_of i) || is_move (action_of i)) ≡ y
-        → is_stuck (action_of i) (jump_mid exit link f) ≡ z
-        → effect_at_end goes (slot_word (action_of i) (cond x None (Some (jump_mid exit link f)))) ≡ Some r → Jumps exit i f link r
-    go true y z ex ey ez h = absurd (none-some r h)
-    go false y z ex ey ez h = go' y z ey ez (ap (λ b. effect_at_end goes (cond b None (word (action_of i) (jump_mid exit link f)))) (sym ey) ∙ h)
-      where
-        go' : (y z : Bool) → (is_load (action_of i) || is_move (action_of i)) ≡ y → is_stuck (action_of i) (jump_mid exit link f) ≡ z
-            → effect_at_end goes (cond y None (word (action_of i) (jump_mid exit link f))) ≡ Some r → Jumps exit i f link r
-        go' true z ey ez h = absurd (none-some r h)
-        go' false z ey ez h = go'' z ez (ap (λ b. effect_at_end goes (cond b None (Some (flow_after (action_of i) (jump_mid exit link f))))) (sym ez) ∙ h)
-          where
-            go'' : (z : Bool) → is_stuck (action_of i) (jump_mid exit link f) ≡ z
-                → effect_at_end goes (cond z None (Some (flow_after (action_of i) (jump_mid exit link f)))) ≡ Some r → Jumps exit i f link r
-            go'' true ez h = absurd (none-some r h)
-            go'' false ez h = record { free = ex; kind = ey; ok = ez; leaves = same_Some _ r h }
+        → is_stuck (action_of i) (jump_mid exit link f) ≡ z → Jumps exit i f link r
+    go true y z ex ey ez = absurd (none-some r (rw ex at e))
+    go false true z ex ey ez = absurd (none-some r (rw (ex, ey) at e))
+    go false false true ex ey ez = absurd (none-some r (rw (ex, ey, ez) at e))
+    go false false false ex ey ez = record { free = ex; kind = ey; ok = ez; leaves = same_Some _ r (rw (ex, ey, ez) at e) }
 
 -- ---- a call to the system
 
@@ -128,12 +105,10 @@ record Calls (exit : Exit) (number : ℕ) (f : Flow) (r : Effect) : Type 0 where
   } ≡ r
 
 call_parts : (exit : Exit) (number : ℕ) (f : Flow) (r : Effect) → system_call exit number None f ≡ Some r → Calls exit number f r
-call_parts exit number f r e = go (is_stuck (number_action number) f) refl e
-  where
-    go : (x : Bool) → is_stuck (number_action number) f ≡ x
-        → system_word exit (cond x None (Some (flow_after (number_action number) f))) ≡ Some r → Calls exit number f r
-    go true ex h = absurd (none-some r h)
-    go false ex h = record { ok = ex; leaves = same_Some _ r h }
+call_parts exit number f r e = elim (cases_Bool (is_stuck (number_action number) f)) [
+  | inl ex ↦ absurd (none-some r (rw ex at e))
+  | inr ex ↦ record { ok = ex; leaves = same_Some _ r (rw ex at e) }
+]
 
 -- the number that the first word has put into register 2
 number_there : (number : ℕ) (n : ℕ) (f : Flow) → op_value Addu 0 (wrap number) ≡ n → is_stuck (number_action number) f ≡ false
@@ -188,14 +163,12 @@ module _ (code : List Inst) (start : ℕ → ℕ) where
   exit_arrives : (exit : Exit) (slot : Option Plain) (p : ℕ) (f : Flow) (link : ℕ) (r : Effect) (out : List ℕ) → Placed → f.hold ≤ 2
       → link ≡ address_of_place (p + 2) → HasAt code p (exit_insts start p exit slot) → order_end_effect exit slot f link ≡ Some r
       → Arrives code start (at p f out) out r.goes r.state
-  exit_arrives (Goto t) None p f link r out placed le el h e = absurd (none-some r e)
   exit_arrives (Goto t) (Some i) p f link r out placed le el h e =
       let j = jump_parts (Goto t) i f link r e in
       let lands = jump_lands p (start t) (within code p _ placed.room h.0) in
       let l = jump_leads (Goto t) (controls.JumpTo Jump (address_of_place (start t) / 4)) _ p i f link r out le h refl refl refl j.free j in
       subst (λ g. Arrives code start (at p f out) out g r.state) (ap (λ o. o.goes) j.leaves)
       (subst (λ x. Leads code 2 (at p f out) (record { flow = quiet r.state; pc = x; target = None; output = out })) lands l)
-  exit_arrives (BranchPair test a b t n) None p f link r out placed le el h e = absurd (none-some r e)
   exit_arrives (BranchPair test a b t n) (Some i) p f link r out placed le el h e =
       let j = jump_parts (BranchPair test a b t n) i f link r e in
       let l = jump_leads (BranchPair test a b t n) (controls.BranchPair test a b (branch_offset p (start t))) _ p i f link r out le
@@ -207,7 +180,6 @@ module _ (code : List Inst) (start : ℕ → ℕ) where
     where
       two : p + 1 + 1 ≡ p + 2
       two = omega arith
-  exit_arrives (BranchZero test a t n) None p f link r out placed le el h e = absurd (none-some r e)
   exit_arrives (BranchZero test a t n) (Some i) p f link r out placed le el h e =
       let j = jump_parts (BranchZero test a t n) i f link r e in
       let l = jump_leads (BranchZero test a t n) (controls.BranchZero test a (branch_offset p (start t))) _ p i f link r out le
@@ -219,7 +191,6 @@ module _ (code : List Inst) (start : ℕ → ℕ) where
     where
       two : p + 1 + 1 ≡ p + 2
       two = omega arith
-  exit_arrives (Call g n) None p f link r out placed le el h e = absurd (none-some r e)
   exit_arrives (Call g n) (Some i) p f link r out placed le el h e =
       let j = jump_parts (Call g n) i f link r e in
       let lands = jump_lands p (start g) (within code p _ placed.room h.0) in
@@ -233,12 +204,10 @@ module _ (code : List Inst) (start : ℕ → ℕ) where
     where
       eight : address_of_place p + 8 ≡ address_of_place (p + 2)
       eight = omega arith
-  exit_arrives Return None p f link r out placed le el h e = absurd (none-some r e)
   exit_arrives Return (Some i) p f link r out placed le el h e =
       let j = jump_parts Return i f link r e in
       let l = jump_leads Return (controls.JumpRegister 31) _ p i f link r out le h refl refl refl j.free j in
       subst (λ x. Arrives code start (at p f out) out x r.state) (ap (λ o. o.goes) j.leaves) l
-  exit_arrives (Out n) (Some i) p f link r out placed le el h e = absurd (none-some r e)
   exit_arrives (Out n) None p f link r out placed le el h e =
       let c = call_parts (Out n) 1 f r e in
       subst (λ o. Arrives code start (at p f out) out o.goes o.state) c.leaves
@@ -270,7 +239,6 @@ module _ (code : List Inst) (start : ℕ → ℕ) where
             output =
                 out ++ mid.state.regs 4 ∷ [];
           })) still there)
-  exit_arrives Halt (Some i) p f link r out placed le el h e = absurd (none-some r e)
   exit_arrives Halt None p f link r out placed le el h e =
       let c = call_parts Halt 10 f r e in
       subst (λ o. Arrives code start (at p f out) out o.goes o.state) c.leaves
@@ -287,6 +255,7 @@ module _ (code : List Inst) (start : ℕ → ℕ) where
           (at_place code (p + 1) (I.Control controls.SystemCall) (at (p + 1) mid out) h.1.0 refl
           ∙ system_goes (at (p + 1) mid out) refl (ap (λ x. not ((x == 1) || (x == 10))) number)
           ∙ ap (λ x. system_step x (at (p + 1) mid out)) number)
+  exit_arrives _ _ p f link r out placed le el h e = absurd (none-some r e)
 
   -- the words of a whole order
   pub order_arrives : (o : OrderParts) (p : ℕ) (s : State) (link : ℕ) (r : Effect) (out : List ℕ) → Placed

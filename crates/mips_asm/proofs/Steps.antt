@@ -33,22 +33,21 @@ at p f out = record { flow = f; pc = address_of_place p; target = None; output =
 pub record Leads (code : List Inst) (d : ℕ) (m m' : Machine) : Type 0 where
   pub by : (k : ℕ) → (j : ℕ) × (d + k ≤ j) × (machine_run (insts_code code) j m ≡ machine_run (insts_code code) k m')
 
+pub not_stuck : (is : List Plain) (b : Bool) (g f' : Flow) → words_from (map action_of is) (cond b None (Some g)) ≡ Some f'
+    → (b ≡ false) × (words_from (map action_of is) (Some g) ≡ Some f')
+not_stuck is true g f' e = absurd (none-some f' e)
+not_stuck is false g f' e = (refl, e)
+
 module _ (code : List Inst) where
   pub leads_on : (d e : ℕ) (m m1 m2 : Machine) → Leads code d m m1 → Leads code e m1 m2 → Leads code (d + e) m m2
   leads_on d e m m1 m2 l r = record { by = λ k. let b = r.by k in let a = l.by b.0 in (a.0, omega (arith, a.1, b.1), a.2 ∙ b.2) }
-
-  pub one_word : (m m' : Machine) → ((k : ℕ) → machine_run (insts_code code) (suc k) m ≡ machine_run (insts_code code) k m') → Leads code 1 m m'
-  one_word m m' h = record { by = λ k. (suc k, omega arith, h k) }
-
-  pub no_word : (m m' : Machine) → m ≡ m' → Leads code 0 m m'
-  no_word m m' e = record { by = λ k. (k, omega arith, ap (machine_run (insts_code code) k) e) }
 
   pub fewer : (d e : ℕ) (m m' : Machine) → e ≤ d → Leads code d m m' → Leads code e m m'
   fewer d e m m' le l = record { by = λ k. let a = l.by k in (a.0, omega (arith, a.1), a.2) }
 
   -- a step that goes on
   pub goes : (m m' : Machine) → step_of (insts_code code m.pc) m ≡ Goes m' → Leads code 1 m m'
-  goes m m' e = one_word m m' (λ k. ap (λ s. outcome_behind s (machine_run (insts_code code) k) m.output) e)
+  goes m m' e = record { by = λ k. (suc k, omega arith, ap (λ s. outcome_behind s (machine_run (insts_code code) k) m.output) e) }
 
   -- the step of an instruction at a place
   pub at_place : (p : ℕ) (i : Inst) (m : Machine) → slice_get code p ≡ Some i → m.pc ≡ address_of_place p
@@ -69,19 +68,13 @@ module _ (code : List Inst) where
       → HasAt code p (map I.Plain insts) → Leads code (length insts) (at p f out) (at (p + length insts) f' out)
   words_lead [] p f f' out e h =
       let here : p ≡ p + 0 = omega arith in
-      no_word _ _ (ap₂ (λ n g. at n g out) here (same_Some f f' e))
-  words_lead (i ∷ rest) p f f' out e h = go (λ g r. words_lead rest (p + 1) g f' out r h.1) (is_stuck (action_of i) f) refl e
-    where
-      go : ((g : Flow) → words_from (map action_of rest) (Some g) ≡ Some f'
-          → Leads code (length rest) (at (p + 1) g out) (at (p + 1 + length rest) f' out)) → (b : Bool) → is_stuck (action_of i) f ≡ b
-          → words_from (map action_of rest) (cond b None (Some (flow_after (action_of i) f))) ≡ Some f'
-          → Leads code (length (i ∷ rest)) (at p f out) (at (p + length (i ∷ rest)) f' out)
-      go next true eb r = absurd (none-some f' r)
-      go next false eb r =
-          let there : p + 1 + length rest ≡ p + length (i ∷ rest) = omega arith in
-          fewer (1 + length rest) (length (i ∷ rest)) _ _ (omega arith)
-          (subst (λ n. Leads code (1 + length rest) (at p f out) (at n f' out)) there
-          (leads_on 1 (length rest) _ _ _ (plain_step p i f out h.0 eb) (next (flow_after (action_of i) f) r)))
+      record { by = λ k. (k, omega arith, ap₂ (λ n g. machine_run (insts_code code) k (at n g out)) here (same_Some f f' e)) }
+  words_lead (i ∷ rest) p f f' out e h =
+      let free = not_stuck rest (is_stuck (action_of i) f) (flow_after (action_of i) f) f' e in
+      let there : p + 1 + length rest ≡ p + length (i ∷ rest) = omega arith in
+      fewer (1 + length rest) _ _ _ (omega arith)
+      (subst (λ n. Leads code (1 + length rest) (at p f out) (at n f' out)) there
+      (leads_on 1 (length rest) _ _ _ (plain_step p i f out h.0 free.0) (words_lead rest (p + 1) (flow_after (action_of i) f) f' out free.1 h.1)))
 
   -- ---- jumps
 
