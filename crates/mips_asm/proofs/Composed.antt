@@ -4,7 +4,7 @@ use Rattle.std.proofs.Common.{◌∷◌, ◌++◌, map, length, slice_get, All, 
 use Rattle.std.proofs.Common.{eqb-true, arith}
 use Rattle.std.specs.Prelude.{is_some}
 use Rattle.std.proofs.lemmas.List.{length-map}
-use Rattle.std.proofs.lemmas.Bool.{cases_lt}
+use Rattle.std.proofs.lemmas.Bool.{cases_lt, cond-true}
 use Rattle.std.proofs.lemmas.Option.{same_Some, none-some, slice_get_within}
 use Rattle.runs.specs.declared.ran.End.{End}
 use Rattle.runs.specs.declared.ran.End.TheVariants.{Done, Wrong, More}
@@ -88,20 +88,21 @@ pub record IsScheduled (blocks : List BlockParts) (orders : List OrderParts) : T
 
 -- ---- the items of one block
 
+-- what doesn't go wrong is safe
+pub is_right : (b : Bool) (x : Outcome) (out : List ℕ) → is_wrong (cond b x (wrong out)) ≡ false → (b ≡ true) × (is_wrong x ≡ false)
+is_right true x out h = (refl, h)
+is_right false x out h = absurd (true≢false h)
+
 module _ (blocks : List BlockParts) (links : ℕ → ℕ) (t : ℕ) (out : List ℕ) where
   -- before its exit a block prints nothing
   items_within : (rest : List Plain) (n : ℕ) (s : State) → n ≤ length rest → is_wrong (items blocks links n t rest s out) ≡ false
       → items blocks links n t rest s out ≡ (more out)
   items_within rest zero s le e = refl
   items_within [] (suc n) s le e = absurd (omega arith)
-  items_within (i ∷ rest) (suc n) s le e = go (λ h. items_within rest n (state_after (action_of i) s) (omega arith) h) (is_safe (action_of i) s) e
-    where
-      go : (is_wrong (items blocks links n t rest (state_after (action_of i) s) out) ≡ false
-          → items blocks links n t rest (state_after (action_of i) s) out ≡ (more out)) → (b : Bool)
-          → is_wrong (cond b (items blocks links n t rest (state_after (action_of i) s) out) (wrong out)) ≡ false
-          → cond b (items blocks links n t rest (state_after (action_of i) s) out) (wrong out) ≡ (more out)
-      go next true h = next h
-      go next false h = absurd (true≢false h)
+  items_within (i ∷ rest) (suc n) s le e =
+      let next = state_after (action_of i) s in
+      let right = is_right (is_safe (action_of i) s) (items blocks links n t rest next out) out e in
+      rw right.0 (items_within rest n next (omega arith) right.1)
 
   record Passes (rest : List Plain) (n left_over : ℕ) (s : State) : Type 0 where
     end : State
@@ -115,19 +116,10 @@ module _ (blocks : List BlockParts) (links : ℕ → ℕ) (t : ℕ) (out : List 
       subst (λ m. Passes [] m left_over s) one (record { end = s; ran = refl; goes = refl })
   items_past (i ∷ rest) zero left_over s e w = absurd (omega arith)
   items_past (i ∷ rest) (suc n) left_over s e w =
-      go (λ h. items_past rest n left_over (state_after (action_of i) s) (omega arith) h) (is_safe (action_of i) s) refl w
-    where
-      go : (is_wrong (items blocks links n t rest (state_after (action_of i) s) out) ≡ false
-          → Passes rest n left_over (state_after (action_of i) s)) → (b : Bool) → is_safe (action_of i) s ≡ b
-          → is_wrong (cond b (items blocks links n t rest (state_after (action_of i) s) out) (wrong out)) ≡ false → Passes (i ∷ rest) (suc n) left_over s
-      go next true eb h =
-          let p = next h in
-          record {
-            end = p.end;
-            ran = ap (λ b. cond b (run (map action_of rest) (state_after (action_of i) s)) None) eb ∙ p.ran;
-            goes = ap (λ b. cond b (items blocks links n t rest (state_after (action_of i) s) out) (wrong out)) eb ∙ p.goes;
-          }
-      go next false eb h = absurd (true≢false h)
+      let next = state_after (action_of i) s in
+      let right = is_right (is_safe (action_of i) s) (items blocks links n t rest next out) out w in
+      let p = items_past rest n left_over next (omega arith) right.1 in
+      record { end = p.end; ran = cond-true _ _ _ right.0 ∙ p.ran; goes = cond-true _ _ _ right.0 ∙ p.goes }
 
 -- ---- places
 

@@ -24,12 +24,10 @@ module _ (owner : ℕ → ℕ) (f : ℕ) where
   owned_none [] k h = refl
   owned_none (o ∷ a) k h =
       let here : (owner k == f) ≡ false = ne_eqb (owner k) f (λ e. h 0 (omega arith) (ap owner (omega arith) ∙ e)) in
-      let head : cond (owner k == f) (size o) 0 ≡ 0 = ap (λ b. cond b (size o) 0) here in
-      let below = owned_none a (suc k) (λ j lt e. h (suc j) (omega arith) (ap owner (omega arith) ∙ e)) in
-      omega arith
+      rw here (omega (arith, owned_none a (suc k) (λ j lt e. h (suc j) (omega arith) (ap owner (omega arith) ∙ e))))
 
   owned_one : (o : OrderParts) (k : ℕ) (b : Bool) → (owner k == f) ≡ b → words_owned owner f k (o ∷ []) ≡ cond b (size o) 0
-  owned_one o k b e = ap (λ x. cond x (size o) 0 + 0) e ∙ omega arith
+  owned_one o k b e = rw e (omega arith)
 
 -- what the loop keeps, after so many blocks and with a count
 pub record Counts (owner : ℕ → ℕ) (done : List OrderParts) (words : ℕ) : Type 0 where

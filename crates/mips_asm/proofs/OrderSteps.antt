@@ -64,13 +64,12 @@ slot_quiet : (a : Action) (s : State) (h : ℕ) → (is_load a || is_move a) ≡
     → flow_after a (record { state = s; pending = Nothing; hold = pred h }) ≡ quiet
     (settled_state (flow_after a (record { state = s; pending = Nothing; hold = pred h })))
 slot_quiet a s h kind le =
-    let none = pending_none a s (or_parts (is_load a) (is_move a) kind).0 in
-    let zero_hold : cond (is_move a) 2 (pred (pred h)) ≡ 0 = ap (λ b. cond b 2 (pred (pred h))) (or_parts (is_load a) (is_move a) kind).1 ∙ none_left in
+    let parts = or_parts (is_load a) (is_move a) kind in
+    let none = pending_none a s parts.0 in
+    let gone : pred (pred h) ≡ 0 = omega arith in
+    let zero_hold : cond (is_move a) 2 (pred (pred h)) ≡ 0 = rw parts.1 gone in
     ap₂ (λ p n. record { state = shown_state a s; pending = p; hold = n }) none zero_hold
     ∙ ap quiet (sym (ap (λ p. state_with_pending p (shown_state a s)) none))
-  where
-    none_left : pred (pred h) ≡ 0
-    none_left = omega arith
 
 -- ---- a jump
 

@@ -21,21 +21,16 @@ use Rattle.mblock.proofs.PlainOrders.{padded_keep, loads_load, padded_append, pa
 use Rattle.mips_asm.specs.LayoutRuns.{EachPlainLayoutRuns}
 use Rattle.mips_asm.proofs.LayoutPlaces.{HasAt, has_front}
 use Rattle.mips_asm.proofs.Steps.{machine_at, words_lead}
-use Rattle.mips_asm.proofs.Composed.{is_wrong, not_wrong, said, IsScheduled, scheduled, has_order, from_start, over_words}
+use Rattle.mips_asm.proofs.Composed.{is_wrong, is_right, not_wrong, said, IsScheduled, scheduled, has_order, from_start, over_words}
 
 items_safe : (blocks : List BlockParts) (links : ℕ → ℕ) (t : ℕ) (out : List ℕ) (rest : List Plain) (n : ℕ) (s : State) → n ≤ length rest
     → is_wrong (items blocks links n t rest s out) ≡ false → AllSafe (map action_of (take n rest)) s
 items_safe blocks links t out rest zero s le w = tt
 items_safe blocks links t out [] (suc n) s le w = absurd (omega arith)
 items_safe blocks links t out (i ∷ rest) (suc n) s le w =
-    go (λ h. items_safe blocks links t out rest n (state_after (action_of i) s) (omega arith) h) (is_safe (action_of i) s) refl w
-  where
-    go : (is_wrong (items blocks links n t rest (state_after (action_of i) s) out) ≡ false
-        → AllSafe (map action_of (take n rest)) (state_after (action_of i) s)) → (b : Bool) → is_safe (action_of i) s ≡ b
-        → is_wrong (cond b (items blocks links n t rest (state_after (action_of i) s) out) (wrong out)) ≡ false
-        → AllSafe (map action_of (take (suc n) (i ∷ rest))) s
-    go next true eb h = (eb, next h)
-    go next false eb h = absurd (true≢false h)
+    let next = state_after (action_of i) s in
+    let right = is_right (is_safe (action_of i) s) (items blocks links n t rest next out) out w in
+    (right.0, items_safe blocks links t out rest n next (omega arith) right.1)
 
 -- the padded words of some instructions run, whatever exit comes behind them
 padded_run : (l : List Plain) (s : State) → AllSafe (map action_of l) s → (f : Flow)
