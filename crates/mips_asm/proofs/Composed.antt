@@ -1,5 +1,5 @@
 -- The laid out orders run as the unit does.
-use Rattle.std.proofs.Common.{◌≡◌, ◌≢◌, ℕ, zero, suc, ◌+◌, ◌-◌, ◌*◌, ◌^◌, ◌<◌, ◌≤◌, ⊎_elim, inl, inr, Bool, true, false, cond, List, []}
+use Rattle.std.proofs.Common.{◌≡◌, ◌≢◌, ℕ, zero, suc, ◌+◌, ◌-◌, ◌*◌, ◌^◌, ◌<◌, ◌≤◌, inl, inr, Bool, true, false, cond, List, []}
 use Rattle.std.proofs.Common.{◌∷◌, ◌++◌, map, length, slice_get, All, Option, Some, None, ◌==◌, refl, sym, ap, ◌∙◌, subst, true≢false}
 use Rattle.std.proofs.Common.{eqb-true, arith}
 use Rattle.std.specs.Prelude.{is_some}
@@ -7,7 +7,7 @@ use Rattle.std.proofs.lemmas.List.{length-map}
 use Rattle.std.proofs.lemmas.Bool.{cases_lt, cond-true}
 use Rattle.std.proofs.lemmas.Option.{same_Some, none-some, slice_get_within}
 use Rattle.runs.specs.declared.ran.End.{End}
-use Rattle.runs.specs.declared.ran.End.TheVariants.{Done, Wrong, More}
+use Rattle.runs.specs.declared.ran.End.TheVariants.{Wrong, More}
 use Rattle.runs.specs.Runs.{Outcome}
 use Rattle.mips_isa.specs.declared.inst.Plain.{Plain}
 use Rattle.mips_isa.specs.declared.inst.Inst.{Inst}
@@ -18,10 +18,9 @@ use Rattle.mips_isa.specs.Actions.{action_of, is_safe, state_after}
 use Rattle.mips_isa.specs.Flows.{quiet}
 use Rattle.mips_code.specs.Words.{inst_word}
 use Rattle.mblock.specs.declared.exit.Exit.{Exit}
-use Rattle.mblock.specs.declared.exit.Exit.TheVariants.{Goto, BranchPair, BranchZero, Call, Return, Out, Halt}
+use Rattle.mblock.specs.declared.exit.Exit.TheVariants.{Call}
 use Rattle.mblock.specs.Parts.{BlockParts, OrderParts}
 use Rattle.mblock.specs.Slots.{is_slotted}
-use Rattle.mblock.specs.Clean.{FitsSlot}
 use Rattle.mblock.specs.BlockMeaning.{Calls, exit_shape, Departure, GoesTo, CallsTo, GoesBack, PrintsTo, HaltsWith, exit_effect}
 use Rattle.mblock.specs.BlockMeaning.{exit_effect_after, run, block_effect}
 use Rattle.mips_code.specs.declared.steps.Ending.TheVariants as endings
@@ -35,7 +34,7 @@ use Rattle.mips_asm.proofs.Fetches.{runs_same}
 use Rattle.mips_asm.proofs.Within.{place_next, place_mono, place_most, place_none, place_room}
 use Rattle.mblock.specs.UnitRuns.{wrong, outcome_at_block, outcome_at_return, call_return_of, return_block_of, outcome_of_departure}
 use Rattle.mblock.specs.UnitRuns.{exit_item, items, unit_run, is_call, TellsApart}
-use Rattle.mblock.specs.Orders.{Means, AreOrders}
+use Rattle.mblock.specs.Orders.{AreOrders}
 use Rattle.mips_code.specs.Agreement.{Agrees}
 use Rattle.mips_asm.specs.LayoutRuns.{EachLayoutRuns, EachLayoutTellsCallsApart}
 use Rattle.mips_asm.proofs.LayoutPlaces.{HasAt, has_back, layout_has, insts_length, slot_length}
@@ -53,13 +52,9 @@ is_wrong_end _ = false
 abbrev pub is_wrong : Outcome → Bool
 is_wrong o = is_wrong_end o.end
 
-pub not_wrong : (o : Outcome) → o.end ≢ Wrong → is_wrong o ≡ false
-not_wrong o h = go o.end refl
-  where
-    go : (e : End) → o.end ≡ e → is_wrong_end e ≡ false
-    go (Done w) p = refl
-    go More p = refl
-    go Wrong p = absurd (h p)
+pub not_wrong : (e : End) → e ≢ Wrong → is_wrong_end e ≡ false
+not_wrong Wrong h = absurd (h refl)
+not_wrong _ h = refl
 
 abbrev pub more : List ℕ → Outcome
 more out = record { end = More; output = out }
@@ -76,15 +71,6 @@ agrees_of {o} {p} {x} e h = subst (λ z. Agrees z x) e h
 
 goes_on_alike : {o : Outcome} {x : def.MachineOutcome} {out : List ℕ} → o ≡ more out → x ≡ said out → Agrees o x
 goes_on_alike {o} {x} {out} eo ex = agrees_of (sym eo) (agrees_by (sym ex) (record { end = refl; output = refl }))
-
--- orders of a unit's blocks, with room for their words
-pub record IsScheduled (blocks : List BlockParts) (orders : List OrderParts) : Type 0 where
-  pub long : length orders ≡ length blocks
-  pub short : (k : ℕ) (b : BlockParts) → slice_get blocks k ≡ Some b → length b.insts ≤ 512
-  pub fits : (k : ℕ) (o : OrderParts) → slice_get orders k ≡ Some o → FitsSlot o
-  pub exits : (k : ℕ) (b : BlockParts) (o : OrderParts) → slice_get blocks k ≡ Some b → slice_get orders k ≡ Some o → exit_shape b.exit ≡ exit_shape o.exit
-  pub means : (k : ℕ) (b : BlockParts) (o : OrderParts) → slice_get blocks k ≡ Some b → slice_get orders k ≡ Some o → Means b o
-  pub room : length (layout orders) ≤ CODE_WORDS
 
 -- ---- the items of one block
 
@@ -159,13 +145,7 @@ returned links word u k (b ∷ rest) e = go (returned links word u (suc k) rest)
               ∙ ap (Call f) (same_Some n u h);
           link = subst (λ m. links m ≡ word) here (eqb-true (links k) word ey);
         }
-    go next (Call f n) ex false ey h = later (next h)
-    go next (Goto x) ex y ey h = later (next h)
-    go next (BranchPair test a b' x z) ex y ey h = later (next h)
-    go next (BranchZero test a x z) ex y ey h = later (next h)
-    go next Return ex y ey h = later (next h)
-    go next (Out x) ex y ey h = later (next h)
-    go next Halt ex y ey h = later (next h)
+    go next _ _ ex ey h = later (next h)
 
 shape_call : (x : Exit) (f u : ℕ) → exit_shape x ≡ Calls f u → x ≡ Call f u
 shape_call (Call g n) f u e = cc
@@ -181,46 +161,12 @@ call_words code start p u f exit slot e fits h =
     subst (λ n. HasAt code n (jump_to (start u) ∷ I.Plain nop ∷ [])) two
     (has_back code (p + 1) (slot_insts slot) (jump_to (start u) ∷ I.Plain nop ∷ []) at_call.1)
 
--- ---- whole runs
-
-module _ (blocks : List BlockParts) (orders : List OrderParts) (sch : IsScheduled blocks orders) where
-  abbrev start : ℕ → ℕ
-  start = place orders
-
-  abbrev links : ℕ → ℕ
-  links = links_of orders
-
-  placed : Placed (layout orders) start
-  placed = record { room = sch.room; starts = λ u. omega (arith, place_most orders u, insts_length start orders 0 sch.fits, sch.room) }
-
-  order_for : (t : ℕ) (b : BlockParts) → slice_get blocks t ≡ Some b → (o : OrderParts) × (slice_get orders t ≡ Some o)
-  order_for t b e = let lt = slice_get_within blocks t b e in there_is orders t (omega (arith, lt, sch.long))
-
-  pub has_order : (t : ℕ) (o : OrderParts) → slice_get orders t ≡ Some o → HasAt (layout orders) (start t) (order_insts start (start t) o)
-  has_order t o e = layout_has orders sch.fits t o e
-
-  link_is : (t : ℕ) (o : OrderParts) → slice_get orders t ≡ Some o → links t ≡ address_of_place (start t + length o.insts + 2)
-  link_is t o e = ap (λ x. address_of_place (start t + order_length x + 2)) e
-
-  link_below : (t : ℕ) (o : OrderParts) → slice_get orders t ≡ Some o → links t < 2 ^ 32
-  link_below t o e = omega (arith, link_is t o e, place_room orders t o e, insts_length start orders 0 sch.fits, sch.room)
-
-  -- a return arrives where its call goes on
-  return_hops : (word u : ℕ) (s : State) (out : List ℕ) → return_block_of links word 0 blocks ≡ Some u
-      → Leads (layout orders) 2 (record { flow = quiet s; pc = word; target = None; output = out }) (machine_at (start u) s out)
-  return_hops word u s out e =
-      let r = returned links word u 0 blocks e in
-      let o = order_for r.nth r.block r.there in
-      let p = start r.nth + length o.0.insts in
-      let same : o.0.exit ≡ Call r.callee u = shape_call o.0.exit r.callee u (sym (sch.exits r.nth r.block o.0 r.there o.1) ∙ ap exit_shape r.calls) in
-      let len : start r.nth + length (map I.Plain o.0.insts) ≡ p = ap (λ n. start r.nth + n) (length-map o.0.insts I.Plain) in
-      let h = subst (λ n. HasAt (layout orders) n (exit_insts start p o.0.exit o.0.slot)) len
-      (has_back (layout orders) (start r.nth) (map I.Plain o.0.insts) (exit_insts start p o.0.exit o.0.slot) (has_order r.nth o.0 o.1)) in
-      let jumps = call_words (layout orders) start p u r.callee o.0.exit o.0.slot same (sch.fits r.nth o.0 o.1) h in
-      let nth : 0 + r.nth ≡ r.nth = omega arith in
-      let address : address_of_place (p + 2) ≡ word = sym (link_is r.nth o.0 o.1) ∙ ap links (sym nth) ∙ r.link in
-      subst (λ x. Leads (layout orders) 2 (record { flow = quiet s; pc = x; target = None; output = out }) (machine_at (start u) s out))
-      address (hop (layout orders) (p + 2) (start u) s out sch.room jumps)
+shape_size : (x : Exit) (y : Exit) → exit_shape x ≡ exit_shape y → is_call x ≡ true → exit_size y ≡ 4
+shape_size (Call f n) y e c = go y e
+  where
+    go : (y : Exit) → Calls f n ≡ exit_shape y → exit_size y ≡ 4
+    go y e = ap exit_size (shape_call y f n (sym e))
+shape_size _ y e c = absurd (true≢false (sym c))
 
 -- how many items a number of words may stand for: the two theorems differ in this alone
 pub record IsMeasure (blocks : List BlockParts) (orders : List OrderParts) (P : ℕ → ℕ → Type 0) (e : ℕ) : Type 0 where
@@ -232,143 +178,60 @@ pub record IsMeasure (blocks : List BlockParts) (orders : List OrderParts) (P : 
       → is_wrong (items blocks (links_of orders) n t b.insts s out) ≡ false → (k : ℕ) × P n k
       × (machine_run (insts_code (layout orders)) k (machine_at (place orders t) s out) ≡ said out)
 
-module _ (blocks : List BlockParts) (orders : List OrderParts) (sch : IsScheduled blocks orders) (P : ℕ → ℕ → Type 0) (e : ℕ)
-    (measure : IsMeasure blocks orders P e) where
-  abbrev start' : ℕ → ℕ
-  start' = place orders
+module _ (blocks : List BlockParts) (orders : List OrderParts) (h : AreOrders blocks orders)
+    (room : length (layout orders) ≤ CODE_WORDS) where
+  abbrev start : ℕ → ℕ
+  start = place orders
 
-  abbrev links' : ℕ → ℕ
-  links' = links_of orders
+  abbrev links : ℕ → ℕ
+  links = links_of orders
 
-  abbrev Follows : ℕ → Machine → Outcome → Type 0
-  Follows n m ran = (k : ℕ) × P n k × Agrees ran (machine_run (insts_code (layout orders)) k m)
+  placed : Placed (layout orders) start
+  placed = record { room = room; starts = λ u. omega (arith, place_most orders u, insts_length start orders 0 h.fits, room) }
 
-  abbrev Entered : ℕ → Type 0
-  Entered n = (t : ℕ) (b : BlockParts) (s : State) (out : List ℕ) → slice_get blocks t ≡ Some b → IsWords s
-      → is_wrong (items blocks links' n t b.insts s out) ≡ false → Follows n (machine_at (start' t) s out) (items blocks links' n t b.insts s out)
+  order_for : (t : ℕ) (b : BlockParts) → slice_get blocks t ≡ Some b → (o : OrderParts) × (slice_get orders t ≡ Some o)
+  order_for t b e = let lt = slice_get_within blocks t b e in there_is orders t (omega (arith, lt, h.long))
 
-  -- behind an exit
-  entered_at : (n : ℕ) → Entered n → (u : ℕ) (m : Machine) (s : State) (out : List ℕ) → IsWords s
-      → Leads (layout orders) 2 m (machine_at (start' u) s out)
-      → is_wrong (outcome_at_block u (slice_get blocks u) (items blocks links' n) s out) ≡ false
-      → Follows (n + e) m (outcome_at_block u (slice_get blocks u) (items blocks links' n) s out)
-  entered_at n next u m s out words l w = go (slice_get blocks u) refl w
-    where
-      go : (x : Option BlockParts) → slice_get blocks u ≡ x → is_wrong (outcome_at_block u x (items blocks links' n) s out) ≡ false
-          → Follows (n + e) m (outcome_at_block u x (items blocks links' n) s out)
-      go None ex h = absurd (true≢false h)
-      go (Some b) ex h =
-          let f = next u b s out ex words h in
-          let a = l.by f.0 in
-          (a.0, measure.leaves n f.0 a.0 f.1 a.1, agrees_by (sym a.2) f.2)
+  pub has_order : (t : ℕ) (o : OrderParts) → slice_get orders t ≡ Some o → HasAt (layout orders) (start t) (order_insts start (start t) o)
+  has_order t o e = layout_has orders h.fits t o e
 
-  left_at : (n : ℕ) → Entered n → (g : Departure) (m : Machine) (s : State) (out : List ℕ) → IsWords s
-      → Arrives (layout orders) start' m out g s → is_wrong (outcome_of_departure blocks links' g (items blocks links' n) s out) ≡ false
-      → Follows (n + e) m (outcome_of_departure blocks links' g (items blocks links' n) s out)
-  left_at n next (GoesTo u) m s out words l w = entered_at n next u m s out words l w
-  left_at n next (CallsTo f u) m s out words l w = entered_at n next f m s out words l w
-  left_at n next (PrintsTo word u) m s out words l w = entered_at n next u m s (out ++ word ∷ []) words l w
-  left_at n next (HaltsWith word) m s out words l w = let a = l n in (a.0, measure.halts n a.0 a.1, agrees_by (sym a.2) (record { end = refl; output = refl }))
-  left_at n next (GoesBack word) m s out words l w = go (return_block_of links' word 0 blocks) refl w
-    where
-      go : (x : Option ℕ) → return_block_of links' word 0 blocks ≡ x
-          → is_wrong (outcome_at_return blocks x (items blocks links' n) s out) ≡ false
-          → Follows (n + e) m (outcome_at_return blocks x (items blocks links' n) s out)
-      go None ex h = absurd (true≢false h)
-      go (Some u) ex h =
-          entered_at n next u m s out words
-          (fewer (layout orders) 4 2 _ _ (omega arith) (leads_on (layout orders) 2 2 _ _ _ l (return_hops blocks orders sch word u s out ex))) h
+  link_is : (t : ℕ) (o : OrderParts) → slice_get orders t ≡ Some o → links t ≡ address_of_place (start t + length o.insts + 2)
+  link_is t o e = ap (λ x. address_of_place (start t + order_length x + 2)) e
 
-  -- a whole block, and what follows
-  block_follows : (n left_over t : ℕ) (b : BlockParts) (s : State) (out : List ℕ) → n ≡ length b.insts + 1 + left_over → Entered left_over
-      → slice_get blocks t ≡ Some b → IsWords s → is_wrong (items blocks links' n t b.insts s out) ≡ false
-      → Follows n (machine_at (start' t) s out) (items blocks links' n t b.insts s out)
-  block_follows n left_over t b s out en next eb words w =
-      let p = items_past blocks links' t out b.insts n left_over s en w in
-      let o = order_for blocks orders sch t b eb in
-      let r = exit_effect b.exit p.end (links' t) in
-      let effect : block_effect b s (links' t) ≡ Some r = ap (λ x. exit_effect_after b.exit x (links' t)) p.ran in
-      let same = sch.means t b o.0 eb o.1 s (links' t) r words (link_below blocks orders sch t o.0 o.1) effect in
-      let arrives =
-      order_arrives (layout orders) start' o.0 (start' t) s (links' t) r out (placed blocks orders sch)
-      (link_is blocks orders sch t o.0 o.1) (has_order blocks orders sch t o.0 o.1) same in
-      let goes = p.goes ∙ ap (λ x. exit_item blocks links' t x (items blocks links' left_over) p.end out) eb in
-      let fine = subst (λ x. is_wrong x ≡ false) goes w in
-      let f = left_at left_over next r.goes (at (start' t + length o.0.insts) arrives.0 out) r.state out
-      (leave_words b.exit p.end (links' t) (run_words (map action_of b.insts) s p.end words p.ran)
-      (link_below blocks orders sch t o.0 o.1)) arrives.2 fine in
-      let a = arrives.1.by f.0 in
-      (a.0, measure.block t b o.0 eb o.1 n left_over f.0 a.0 en f.1 a.1, agrees_of (sym goes) (agrees_by (sym a.2) f.2))
+  link_below : (t : ℕ) (o : OrderParts) → slice_get orders t ≡ Some o → links t < 2 ^ 32
+  link_below t o e = omega (arith, link_is t o e, place_room orders t o e, insts_length start orders 0 h.fits, room)
 
-  follows : (fuel n : ℕ) → n ≤ fuel → Entered n
-  follows zero n le t b s out eb words w =
-      let under : n ≤ length b.insts = omega arith in
-      let k = measure.part t b s out n eb under w in
-      (k.0, k.1, goes_on_alike (items_within blocks links' t out b.insts n s under w) k.2)
-  follows (suc fuel) n le t b s out eb words w =
-      ⊎_elim
-      (λ over. block_follows n (n - (length b.insts + 1)) t b s out (omega (arith, over))
-      (follows fuel (n - (length b.insts + 1)) (omega (arith, over))) eb words w)
-      (λ under. let k = measure.part t b s out n eb under w in (k.0, k.1, goes_on_alike (items_within blocks links' t out b.insts n s under w) k.2))
-      (cases_lt (length b.insts) n)
+  -- a return arrives where its call goes on
+  return_hops : (word u : ℕ) (s : State) (out : List ℕ) → return_block_of links word 0 blocks ≡ Some u
+      → Leads (layout orders) 2 (record { flow = quiet s; pc = word; target = None; output = out }) (machine_at (start u) s out)
+  return_hops word u s out e =
+      let r = returned links word u 0 blocks e in
+      let o = order_for r.nth r.block r.there in
+      let p = start r.nth + length o.0.insts in
+      let same : o.0.exit ≡ Call r.callee u = shape_call o.0.exit r.callee u (sym (h.exits r.nth r.block o.0 r.there o.1) ∙ ap exit_shape r.calls) in
+      let len : start r.nth + length (map I.Plain o.0.insts) ≡ p = ap (λ n. start r.nth + n) (length-map o.0.insts I.Plain) in
+      let has = subst (λ n. HasAt (layout orders) n (exit_insts start p o.0.exit o.0.slot)) len
+      (has_back (layout orders) (start r.nth) (map I.Plain o.0.insts) (exit_insts start p o.0.exit o.0.slot) (has_order r.nth o.0 o.1)) in
+      let jumps = call_words (layout orders) start p u r.callee o.0.exit o.0.slot same (h.fits r.nth o.0 o.1) has in
+      let nth : 0 + r.nth ≡ r.nth = omega arith in
+      let address : address_of_place (p + 2) ≡ word = sym (link_is r.nth o.0 o.1) ∙ ap links (sym nth) ∙ r.link in
+      subst (λ x. Leads (layout orders) 2 (record { flow = quiet s; pc = x; target = None; output = out }) (machine_at (start u) s out))
+      address (hop (layout orders) (p + 2) (start u) s out room jumps)
 
--- a run from block 0
-pub from_start : (blocks : List BlockParts) (orders : List OrderParts) → IsScheduled blocks orders → (P : ℕ → ℕ → Type 0) (e : ℕ)
-    → IsMeasure blocks orders P e → (s : State) → IsWords s → (i : ℕ) → is_wrong (unit_run blocks (links_of orders) s i) ≡ false
-    → (m : ℕ) × P i m × Agrees (unit_run blocks (links_of orders) s i) (machine_run (insts_code (layout orders)) m (machine_at 0 s []))
-from_start blocks orders sch P e measure s words i w = go (slice_get blocks 0) refl w
-  where
-    go : (x : Option BlockParts) → slice_get blocks 0 ≡ x → is_wrong (outcome_at_block 0 x (items blocks (links_of orders) i) s []) ≡ false
-        → (m : ℕ) × P i m
-        × Agrees (outcome_at_block 0 x (items blocks (links_of orders) i) s []) (machine_run (insts_code (layout orders)) m (machine_at 0 s []))
-    go None ex h = absurd (true≢false h)
-    go (Some b) ex h =
-        let f = follows blocks orders sch P e measure i i (omega arith) 0 b s [] ex words h in
-        (f.0, f.1, agrees_by (sym (ap (λ p. machine_run (insts_code (layout orders)) f.0 (machine_at p s [])) (sym (place_none orders)))) f.2)
-
-pub scheduled : (blocks : List BlockParts) (orders : List OrderParts) → AreOrders blocks orders → length (layout orders) ≤ CODE_WORDS → IsScheduled blocks orders
-scheduled blocks orders h room = record { long = h.long; short = h.short; fits = h.fits; exits = h.exits; means = h.means; room = room }
-
--- over words
-pub over_words : (orders : List OrderParts) → All IsInst (layout orders) → (o : Outcome) (m : ℕ) (x : Machine)
-    → Agrees o (machine_run (insts_code (layout orders)) m x) → Agrees o (machine_run (words_code (map inst_word (layout orders))) m x)
-over_words orders fit o m x h = agrees_by (sym (runs_same (layout orders) fit m x)) h
-
-pub each_layout_runs : EachLayoutRuns
-each_layout_runs blocks orders h room fit s words i right =
-    let r = from_start blocks orders (scheduled blocks orders h room) (λ n k. n < 513 * (k + 1)) 513 (record {
-      leaves = λ n k j h le. omega arith;
-      halts = λ n j le. omega arith;
-      block = λ t b o eb eo n left_over k j en lt le. omega (arith, h.short t b eb);
-      part = λ t b s out n eb le w. (0, omega (arith, h.short t b eb), refl);
-    }) s words i (not_wrong (unit_run blocks (links_of orders) s i) right) in
-    (r.0, r.1, over_words orders fit (unit_run blocks (links_of orders) s i) r.0 (machine_at 0 s []) r.2)
-
--- ---- links
-
-shape_size : (x : Exit) (y : Exit) → exit_shape x ≡ exit_shape y → is_call x ≡ true → exit_size y ≡ 4
-shape_size (Call f n) y e c = go y e
-  where
-    go : (y : Exit) → Calls f n ≡ exit_shape y → exit_size y ≡ 4
-    go y e = ap exit_size (shape_call y f n (sym e))
-shape_size _ y e c = absurd (true≢false (sym c))
-
-module _ (blocks : List BlockParts) (orders : List OrderParts) (h : AreOrders blocks orders) (room : length (layout orders) ≤ CODE_WORDS) where
   -- a call before another has the lesser link
   before : (i j : ℕ) (a b : BlockParts) → slice_get blocks i ≡ Some a → slice_get blocks j ≡ Some b → is_call a.exit ≡ true → i < j
-      → links_of orders i < links_of orders j
+      → links i < links j
   before i j a b ea eb ca lt =
-      let sch = scheduled blocks orders h room in
-      let x = order_for blocks orders sch i a ea in
-      let y = order_for blocks orders sch j b eb in
+      let x = order_for i a ea in
+      let y = order_for j b eb in
       let size_x : exit_size x.0.exit ≡ 4 = shape_size a.exit x.0.exit (h.exits i a x.0 ea x.1) ca in
       let next = place_next orders i x.0 x.1 in
       let far = place_mono orders (suc i) j (omega arith) in
-      let lx = link_is blocks orders sch i x.0 x.1 in
-      let ly = link_is blocks orders sch j y.0 y.1 in
+      let lx = link_is i x.0 x.1 in
+      let ly = link_is j y.0 y.1 in
       omega arith
 
-  tells : TellsApart (links_of orders) blocks
+  tells : TellsApart (links) blocks
   tells = record {
     words = λ k. go k (slice_get orders k) refl;
     apart = λ i j a b ea eb ca cb e. elim (cases_lt i j) [
@@ -380,11 +243,105 @@ module _ (blocks : List BlockParts) (orders : List OrderParts) (h : AreOrders bl
     ];
   }
     where
-      go : (k : ℕ) (x : Option OrderParts) → slice_get orders k ≡ x → links_of orders k < 2 ^ 32
-      go k (Some o) e = link_below blocks orders (scheduled blocks orders h room) k o e
+      go : (k : ℕ) (x : Option OrderParts) → slice_get orders k ≡ x → links k < 2 ^ 32
+      go k (Some o) e = link_below k o e
       go k None e =
-          let l : links_of orders k ≡ address_of_place (place orders k + 0 + 2) = ap (λ x. address_of_place (place orders k + order_length x + 2)) e in
+          let l : links k ≡ address_of_place (place orders k + 0 + 2) = ap (λ x. address_of_place (place orders k + order_length x + 2)) e in
           omega (arith, place_most orders k, insts_length (place orders) orders 0 h.fits)
 
+  module _ (P : ℕ → ℕ → Type 0) (e : ℕ) (measure : IsMeasure blocks orders P e) where
+    abbrev Follows : ℕ → Machine → Outcome → Type 0
+    Follows n m ran = (k : ℕ) × P n k × Agrees ran (machine_run (insts_code (layout orders)) k m)
+
+    abbrev Entered : ℕ → Type 0
+    Entered n = (t : ℕ) (b : BlockParts) (s : State) (out : List ℕ) → slice_get blocks t ≡ Some b → IsWords s
+        → is_wrong (items blocks links n t b.insts s out) ≡ false → Follows n (machine_at (start t) s out) (items blocks links n t b.insts s out)
+
+    -- behind an exit
+    entered_at : (n : ℕ) → Entered n → (u : ℕ) (m : Machine) (s : State) (out : List ℕ) → IsWords s
+        → Leads (layout orders) 2 m (machine_at (start u) s out)
+        → is_wrong (outcome_at_block u (slice_get blocks u) (items blocks links n) s out) ≡ false
+        → Follows (n + e) m (outcome_at_block u (slice_get blocks u) (items blocks links n) s out)
+    entered_at n next u m s out words l w = go (slice_get blocks u) refl w
+      where
+        go : (x : Option BlockParts) → slice_get blocks u ≡ x → is_wrong (outcome_at_block u x (items blocks links n) s out) ≡ false
+            → Follows (n + e) m (outcome_at_block u x (items blocks links n) s out)
+        go None ex fine = absurd (true≢false fine)
+        go (Some b) ex fine =
+            let f = next u b s out ex words fine in
+            let a = l.by f.0 in
+            (a.0, measure.leaves n f.0 a.0 f.1 a.1, agrees_by (sym a.2) f.2)
+
+    left_at : (n : ℕ) → Entered n → (g : Departure) (m : Machine) (s : State) (out : List ℕ) → IsWords s
+        → Arrives (layout orders) start m out g s → is_wrong (outcome_of_departure blocks links g (items blocks links n) s out) ≡ false
+        → Follows (n + e) m (outcome_of_departure blocks links g (items blocks links n) s out)
+    left_at n next (GoesTo u) m s out words l w = entered_at n next u m s out words l w
+    left_at n next (CallsTo f u) m s out words l w = entered_at n next f m s out words l w
+    left_at n next (PrintsTo word u) m s out words l w = entered_at n next u m s (out ++ word ∷ []) words l w
+    left_at n next (HaltsWith word) m s out words l w = let a = l n in (a.0, measure.halts n a.0 a.1, agrees_by (sym a.2) (record { end = refl; output = refl }))
+    left_at n next (GoesBack word) m s out words l w = go (return_block_of links word 0 blocks) refl w
+      where
+        go : (x : Option ℕ) → return_block_of links word 0 blocks ≡ x
+            → is_wrong (outcome_at_return blocks x (items blocks links n) s out) ≡ false
+            → Follows (n + e) m (outcome_at_return blocks x (items blocks links n) s out)
+        go None ex fine = absurd (true≢false fine)
+        go (Some u) ex fine =
+            entered_at n next u m s out words
+            (fewer (layout orders) 4 2 _ _ (omega arith) (leads_on (layout orders) 2 2 _ _ _ l (return_hops word u s out ex))) fine
+
+    -- a whole block, and what follows
+    block_follows : (n left_over t : ℕ) (b : BlockParts) (s : State) (out : List ℕ) → n ≡ length b.insts + 1 + left_over → Entered left_over
+        → slice_get blocks t ≡ Some b → IsWords s → is_wrong (items blocks links n t b.insts s out) ≡ false
+        → Follows n (machine_at (start t) s out) (items blocks links n t b.insts s out)
+    block_follows n left_over t b s out en next eb words w =
+        let p = items_past blocks links t out b.insts n left_over s en w in
+        let o = order_for t b eb in
+        let r = exit_effect b.exit p.end (links t) in
+        let effect : block_effect b s (links t) ≡ Some r = ap (λ x. exit_effect_after b.exit x (links t)) p.ran in
+        let same = h.means t b o.0 eb o.1 s (links t) r words (link_below t o.0 o.1) effect in
+        let arrives =
+        order_arrives (layout orders) start o.0 (start t) s (links t) r out placed
+        (link_is t o.0 o.1) (has_order t o.0 o.1) same in
+        let goes = p.goes ∙ ap (λ x. exit_item blocks links t x (items blocks links left_over) p.end out) eb in
+        let fine = subst (λ x. is_wrong x ≡ false) goes w in
+        let f = left_at left_over next r.goes (at (start t + length o.0.insts) arrives.0 out) r.state out
+        (leave_words b.exit p.end (links t) (run_words (map action_of b.insts) s p.end words p.ran)
+        (link_below t o.0 o.1)) arrives.2 fine in
+        let a = arrives.1.by f.0 in
+        (a.0, measure.block t b o.0 eb o.1 n left_over f.0 a.0 en f.1 a.1, agrees_of (sym goes) (agrees_by (sym a.2) f.2))
+
+    follows : (fuel n : ℕ) → n < fuel → Entered n
+    follows zero n le t b s out eb words w = absurd (omega arith)
+    follows (suc fuel) n le t b s out eb words w = elim (cases_lt (length b.insts) n) [
+      | inl over ↦
+          block_follows n (n - (length b.insts + 1)) t b s out (omega (arith, over))
+          (follows fuel (n - (length b.insts + 1)) (omega (arith, over))) eb words w
+      | inr under ↦
+          let k = measure.part t b s out n eb under w in (k.0, k.1, goes_on_alike (items_within blocks links t out b.insts n s under w) k.2)
+    ]
+
+    -- a run from block 0, over words
+    pub from_start : All IsInst (layout orders) → (s : State) → IsWords s → (i : ℕ) → (unit_run blocks links s i).end ≢ Wrong
+        → (m : ℕ) × P i m × Agrees (unit_run blocks links s i) (machine_run (words_code (map inst_word (layout orders))) m (machine_at 0 s []))
+    from_start fit s words i right = go (slice_get blocks 0) refl (not_wrong (unit_run blocks links s i).end right)
+      where
+        go : (x : Option BlockParts) → slice_get blocks 0 ≡ x → is_wrong (outcome_at_block 0 x (items blocks links i) s []) ≡ false
+            → (m : ℕ) × P i m × Agrees (outcome_at_block 0 x (items blocks links i) s [])
+            (machine_run (words_code (map inst_word (layout orders))) m (machine_at 0 s []))
+        go None ex fine = absurd (true≢false fine)
+        go (Some b) ex fine =
+            let f = follows (suc i) i (omega arith) 0 b s [] ex words fine in
+            let first = ap (λ p. machine_run (insts_code (layout orders)) f.0 (machine_at p s [])) (sym (place_none orders)) in
+            (f.0, f.1, agrees_by (sym (runs_same (layout orders) fit f.0 (machine_at 0 s []) ∙ first)) f.2)
+
+pub each_layout_runs : EachLayoutRuns
+each_layout_runs blocks orders h room fit =
+    from_start blocks orders h room (λ n k. n < 513 * (k + 1)) 513 (record {
+      leaves = λ n k j h le. omega arith;
+      halts = λ n j le. omega arith;
+      block = λ t b o eb eo n left_over k j en lt le. omega (arith, h.short t b eb);
+      part = λ t b s out n eb le w. (0, omega (arith, h.short t b eb), refl);
+    }) fit
+
 pub each_layout_tells_calls_apart : EachLayoutTellsCallsApart
-each_layout_tells_calls_apart blocks orders h room = tells blocks orders h room
+each_layout_tells_calls_apart = tells

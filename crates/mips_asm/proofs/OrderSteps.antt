@@ -23,7 +23,7 @@ use Rattle.mips_isa.specs.States.{State, read, put}
 use Rattle.mips_isa.specs.Actions.{action_of, is_load, is_move}
 use Rattle.mips_isa.specs.Flows.{Nothing, Flow, state_with_pending, pending_of, shown_state, on_pending, flow_after, quiet}
 use Rattle.mips_isa.specs.Rules.{is_stuck}
-use Rattle.mips_isa.specs.Steps.{word, words_from}
+use Rattle.mips_isa.specs.Steps.{words_from}
 use Rattle.mips_isa.specs.declared.rule.Rule.TheVariants.{M1}
 use Rattle.mips_isa.proofs.Rules.{stuck_is}
 use Rattle.mips_isa.proofs.Late.{settled_state, settled_after}
@@ -31,7 +31,7 @@ use Rattle.mblock.specs.declared.exit.Exit.{Exit}
 use Rattle.mblock.specs.declared.exit.Exit.TheVariants.{Goto, BranchPair, BranchZero, Call, Return, Out, Halt}
 use Rattle.mblock.specs.Parts.{OrderParts}
 use Rattle.mblock.specs.BlockMeaning.{exit_shape, Departure, GoesTo, CallsTo, GoesBack, PrintsTo, HaltsWith, departure_of, Effect}
-use Rattle.mblock.specs.OrderMeaning.{exit_touches, number_action, slot_word, effect_at_end, operand_words, system_word, system_call, jump}
+use Rattle.mblock.specs.OrderMeaning.{exit_touches, number_action, operand_words, system_call, jump}
 use Rattle.mblock.specs.OrderMeaning.{order_end_effect, order_effect_from, order_effect}
 use Rattle.mblock.proofs.Runs.{exited, one_value, ten_value}
 use Rattle.mips_code.specs.declared.steps.Ending.TheVariants as endings

@@ -1,6 +1,6 @@
 -- Plain orders keep every instruction in place, so a word is one item at most.
-use Rattle.std.proofs.Common.{◌≡◌, ℕ, zero, suc, ◌+◌, ◌*◌, ◌<◌, ◌≤◌, Bool, true, false, cond, List, [], ◌∷◌, ◌++◌, map, flat_map, length}
-use Rattle.std.proofs.Common.{slice_get, Some, refl, sym, ap, ◌∙◌, subst, true≢false, take, drop, take-append-drop, length-take-le, arith}
+use Rattle.std.proofs.Common.{◌≡◌, ℕ, zero, suc, ◌+◌, ◌*◌, ◌<◌, ◌≤◌, false, List, [], ◌∷◌, ◌++◌, map, flat_map, length}
+use Rattle.std.proofs.Common.{slice_get, Some, refl, sym, ap, ◌∙◌, subst, take, drop, take-append-drop, length-take-le, arith}
 use Rattle.std.proofs.lemmas.List.{map-append}
 use Rattle.std.proofs.lemmas.Option.{same_Some, none-some}
 use Rattle.mips_isa.specs.declared.inst.Plain.{Plain}
@@ -15,13 +15,15 @@ use Rattle.mblock.proofs.Runs.{AllSafe, Ready, words_run}
 use Rattle.mips_code.specs.Machines.{machine_run}
 use Rattle.mips_asm.specs.Fetching.{insts_code}
 use Rattle.mips_asm.specs.Layout.{place, exit_insts, layout, links_of}
-use Rattle.mblock.specs.UnitRuns.{wrong, items, unit_run}
+use Rattle.mblock.specs.UnitRuns.{items}
 use Rattle.mblock.specs.PlainOrders.{padded_inst, plain_order_of}
 use Rattle.mblock.proofs.PlainOrders.{padded_keep, loads_load, padded_append, padded_length, safe_padded, plain_at}
+use Rattle.mblock.specs.Orders.{AreOrders}
+use Rattle.mips_asm.specs.declared.limits.TheConstants.{CODE_WORDS}
 use Rattle.mips_asm.specs.LayoutRuns.{EachPlainLayoutRuns}
 use Rattle.mips_asm.proofs.LayoutPlaces.{HasAt, has_front}
 use Rattle.mips_asm.proofs.Steps.{machine_at, words_lead}
-use Rattle.mips_asm.proofs.Composed.{is_wrong, is_right, not_wrong, said, IsScheduled, scheduled, has_order, from_start, over_words}
+use Rattle.mips_asm.proofs.Composed.{is_wrong, is_right, said, has_order, from_start}
 
 items_safe : (blocks : List BlockParts) (links : ℕ → ℕ) (t : ℕ) (out : List ℕ) (rest : List Plain) (n : ℕ) (s : State) → n ≤ length rest
     → is_wrong (items blocks links n t rest s out) ≡ false → AllSafe (map action_of (take n rest)) s
@@ -48,11 +50,11 @@ padded_run l s safe =
     let r = words_run (flat_map padded_inst l) Return [] (quiet s) ready (safe_padded l s safe) in
     (r.flow, r.runs)
 
-plain_part : (blocks : List BlockParts) → IsScheduled blocks (map plain_order_of blocks)
+plain_part : (blocks : List BlockParts) → AreOrders blocks (map plain_order_of blocks) → length (layout (map plain_order_of blocks)) ≤ CODE_WORDS
     → (t : ℕ) (b : BlockParts) (s : State) (out : List ℕ) (n : ℕ) → slice_get blocks t ≡ Some b → n ≤ length b.insts
     → is_wrong (items blocks (links_of (map plain_order_of blocks)) n t b.insts s out) ≡ false → (k : ℕ) × (n < 1 * (k + 1))
     × (machine_run (insts_code (layout (map plain_order_of blocks))) k (machine_at (place (map plain_order_of blocks) t) s out) ≡ said out)
-plain_part blocks sch t b s out n eb le w =
+plain_part blocks h room t b s out n eb le w =
     let orders = map plain_order_of blocks in
     let some = take n b.insts in
     let rest = drop n b.insts in
@@ -62,21 +64,18 @@ plain_part blocks sch t b s out n eb le w =
     ∙ ap (map I.Plain) (padded_append some rest) ∙ map-append I.Plain (flat_map padded_inst some) (flat_map padded_inst rest) in
     let all = has_front (layout orders) (place orders t) (map I.Plain (flat_map padded_inst b.insts))
     (exit_insts (place orders) (place orders t + length (flat_map padded_inst b.insts)) b.exit (plain_order_of b).slot)
-    (has_order blocks orders sch t (plain_order_of b) (plain_at blocks t b eb)) in
+    (has_order blocks orders h room t (plain_order_of b) (plain_at blocks t b eb)) in
     let front = has_front (layout orders) (place orders t) (map I.Plain (flat_map padded_inst some))
     (map I.Plain (flat_map padded_inst rest)) (subst (HasAt (layout orders) (place orders t)) split all) in
     let a = (words_lead (layout orders) (flat_map padded_inst some) (place orders t) (quiet s) run.0 out run.1 front).by 0 in
     (a.0, omega (arith, a.1, padded_length some, length-take-le n b.insts le), a.2)
 
 pub each_plain_layout_runs : EachPlainLayoutRuns
-each_plain_layout_runs blocks h room fit s words i right =
-    let orders = map plain_order_of blocks in
-    let sch = scheduled blocks orders h room in
-    let r = from_start blocks orders sch (λ n k. n < 1 * (k + 1)) 1 (record {
+each_plain_layout_runs blocks h room fit =
+    from_start blocks (map plain_order_of blocks) h room (λ n k. n < 1 * (k + 1)) 1 (record {
       leaves = λ n k j lt le. omega arith;
       halts = λ n j le. omega arith;
       block = λ t b o eb eo n left_over k j en lt le. let same =
           ap (λ x. length x.insts) (same_Some (plain_order_of b) o (sym (plain_at blocks t b eb) ∙ eo)) in omega (arith, same, padded_length b.insts);
-      part = plain_part blocks sch;
-    }) s words i (not_wrong (unit_run blocks (links_of orders) s i) right) in
-    (r.0, r.1, over_words orders fit (unit_run blocks (links_of orders) s i) r.0 (machine_at 0 s []) r.2)
+      part = plain_part blocks h room;
+    }) fit
