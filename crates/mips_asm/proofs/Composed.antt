@@ -38,7 +38,7 @@ use Rattle.mblock.specs.Orders.{AreOrders}
 use Rattle.mips_code.specs.Agreement.{Agrees}
 use Rattle.mips_asm.specs.LayoutRuns.{EachLayoutRuns, EachLayoutTellsCallsApart}
 use Rattle.mips_asm.proofs.LayoutPlaces.{HasAt, has_back, layout_has, insts_length, slot_length}
-use Rattle.mips_asm.proofs.Steps.{machine_at, at, Leads, leads_on, fewer, hop}
+use Rattle.mips_asm.proofs.Steps.{machine_at, at, toward, Leads, leads_on, fewer, hop}
 use Rattle.mips_asm.proofs.OrderSteps.{Arrives, Placed, order_arrives}
 use Rattle.mblock.proofs.StateWords.{run_words, leave_words}
 use Rattle.mips_asm.specs.declared.limits.TheConstants.{CODE_WORDS}
@@ -203,7 +203,7 @@ module _ (blocks : List BlockParts) (orders : List OrderParts) (h : AreOrders bl
 
   -- a return arrives where its call goes on
   return_hops : (word u : ℕ) (s : State) (out : List ℕ) → return_block_of links word 0 blocks ≡ Some u
-      → Leads (layout orders) 2 (record { flow = quiet s; pc = word; target = None; output = out }) (machine_at (start u) s out)
+      → Leads (layout orders) 2 (toward s word out) (machine_at (start u) s out)
   return_hops word u s out e =
       let r = returned links word u 0 blocks e in
       let o = order_for r.nth r.block r.there in
@@ -215,7 +215,7 @@ module _ (blocks : List BlockParts) (orders : List OrderParts) (h : AreOrders bl
       let jumps = call_words (layout orders) start p u r.callee o.0.exit o.0.slot same (h.fits r.nth o.0 o.1) has in
       let nth : 0 + r.nth ≡ r.nth = omega arith in
       let address : address_of_place (p + 2) ≡ word = sym (link_is r.nth o.0 o.1) ∙ ap links (sym nth) ∙ r.link in
-      subst (λ x. Leads (layout orders) 2 (record { flow = quiet s; pc = x; target = None; output = out }) (machine_at (start u) s out))
+      subst (λ x. Leads (layout orders) 2 (toward s x out) (machine_at (start u) s out))
       address (hop (layout orders) (p + 2) (start u) s out room jumps)
 
   -- a call before another has the lesser link

@@ -1,6 +1,6 @@
 -- The words of an order lead where the order goes.
 use Rattle.std.proofs.Common.{◌≡◌, ℕ, suc, pred, ◌+◌, ◌/◌, ◌<◌, ◌≤◌, Bool, true, false, cond, not, ◌||◌, ◌==◌, pos, ◌-ℤ◌, inl, inr, List, [], ◌∷◌}
-use Rattle.std.proofs.Common.{◌++◌, map, length, Option, Some, None, refl, sym, ap, ap₂, ◌∙◌, subst, true≢false, arith}
+use Rattle.std.proofs.Common.{◌++◌, map, length, Option, Some, None, slice_get, refl, sym, ap, ap₂, ◌∙◌, subst, true≢false, arith}
 use Rattle.std.proofs.lemmas.Bool.{cases_Bool, or_parts}
 use Rattle.std.proofs.lemmas.List.{length-map}
 use Rattle.std.proofs.lemmas.Option.{same_Some, none-some}
@@ -31,18 +31,18 @@ use Rattle.mblock.specs.declared.exit.Exit.{Exit}
 use Rattle.mblock.specs.declared.exit.Exit.TheVariants.{Goto, BranchPair, BranchZero, Call, Return, Out, Halt}
 use Rattle.mblock.specs.Parts.{OrderParts}
 use Rattle.mblock.specs.BlockMeaning.{exit_shape, Departure, GoesTo, CallsTo, GoesBack, PrintsTo, HaltsWith, departure_of, Effect}
-use Rattle.mblock.specs.OrderMeaning.{exit_touches, number_action, operand_words, system_call, jump}
+use Rattle.mblock.specs.OrderMeaning.{system_word, exit_touches, number_action, operand_words, system_call, jump}
 use Rattle.mblock.specs.OrderMeaning.{order_end_effect, order_effect_from, order_effect}
 use Rattle.mblock.proofs.Runs.{exited, one_value, ten_value}
 use Rattle.mips_code.specs.declared.steps.Ending.TheVariants as endings
 use Rattle.mips_isa.specs.Controls.{pair_passes, zero_passes, control_touches, goes_elsewhere, calls_another, jump_target, branch_target}
-use Rattle.mips_code.specs.Machines.{Machine, Goes, outcome_behind, machine_run, instruction_step, jump_step, system_step}
+use Rattle.mips_code.specs.Machines.{Machine, Goes, outcome_behind, machine_run, step_of, instruction_step, jump_step, system_step}
 use Rattle.mips_asm.specs.Fetching.{insts_code}
 use Rattle.mips_isa.specs.Actions.{nop}
 use Rattle.mips_asm.specs.Layout.{address_of_place, jump_to, branch_offset, exit_insts, order_insts}
 use Rattle.mips_asm.proofs.Unbroken.{system_goes}
 use Rattle.mips_asm.proofs.LayoutPlaces.{HasAt, has_front, has_back, jump_lands}
-use Rattle.mips_asm.proofs.Steps.{machine_at, at, Leads, leads_on, goes, at_place, fewer, plain_step, not_stuck, words_lead, within, control_step, slot_step, hop}
+use Rattle.mips_asm.proofs.Steps.{machine_at, at, toward, Leads, leads_on, goes, at_place, fewer, plain_step, not_stuck, words_lead, within, control_step, slot_step, hop}
 use Rattle.mips_asm.specs.declared.limits.TheConstants.{CODE_WORDS}
 
 branch_lands : (p q : ℕ) → p < CODE_WORDS → q ≤ CODE_WORDS → branch_target (address_of_place p + 4) (branch_offset p q) ≡ address_of_place q
@@ -95,165 +95,106 @@ jump_parts exit i f link r e =
 
 -- ---- a call to the system
 
-record Calls (exit : Exit) (number : ℕ) (f : Flow) (r : Effect) : Type 0 where
-  ok : is_stuck (number_action number) f ≡ false
-  leaves : record {
-    state = (flow_after (number_action number) f).state;
-    goes =
-        departure_of (exit_shape exit) (operand_words exit (flow_after (number_action number) f));
-  } ≡ r
-
-call_parts : (exit : Exit) (number : ℕ) (f : Flow) (r : Effect) → system_call exit number None f ≡ Some r → Calls exit number f r
+call_parts : (exit : Exit) (number : ℕ) (f : Flow) (r : Effect) → system_call exit number None f ≡ Some r
+    → (is_stuck (number_action number) f ≡ false) × (system_word exit (Some (flow_after (number_action number) f)) ≡ Some r)
 call_parts exit number f r e = elim (cases_Bool (is_stuck (number_action number) f)) [
   | inl ex ↦ absurd (none-some r (rw ex at e))
-  | inr ex ↦ record { ok = ex; leaves = same_Some _ r (rw ex at e) }
+  | inr ex ↦ (ex, rw ex at e)
 ]
-
--- the number that the first word has put into register 2
-number_there : (number : ℕ) (n : ℕ) (f : Flow) → op_value Addu 0 (wrap number) ≡ n → is_stuck (number_action number) f ≡ false
-    → (flow_after (number_action number) f).state.regs 2 ≡ n
-number_there number n f e ok = ap (λ s. s.regs 2) (settled_after (number_action number) f (stuck_is.none (number_action number) f ok M1)) ∙ e
 
 -- where the machine is once an order has left
 abbrev pub Arrives : List Inst → (ℕ → ℕ) → Machine → List ℕ → Departure → State → Type 0
 Arrives code start m out (GoesTo u) s = Leads code 2 m (machine_at (start u) s out)
 Arrives code start m out (CallsTo f n) s = Leads code 2 m (machine_at (start f) s out)
-Arrives code start m out (GoesBack w) s = Leads code 2 m (record { flow = quiet s; pc = w; target = None; output = out })
+Arrives code start m out (GoesBack w) s = Leads code 2 m (toward s w out)
 Arrives code start m out (PrintsTo w u) s = Leads code 2 m (machine_at (start u) s (out ++ w ∷ []))
 Arrives code start m out (HaltsWith w) s = (k : ℕ) → (j : ℕ) × (2 + k ≤ j) × (machine_run (insts_code code) j m ≡ record { end = endings.Halt w; output = out })
 
 module _ (code : List Inst) (start : ℕ → ℕ) where
   -- a jump, its slot, and the address
-  jump_leads : (exit : Exit) (ctrl : Control) (t p : ℕ) (i : Plain) (f : Flow) (link : ℕ) (r : Effect) (out : List ℕ) → f.hold ≤ 2
+  jump_arrives : (exit : Exit) (ctrl : Control) (t p : ℕ) (i : Plain) (f : Flow) (link : ℕ) (r : Effect) (out : List ℕ) → f.hold ≤ 2
       → HasAt code p (I.Control ctrl ∷ I.Plain i ∷ []) → goes_elsewhere ctrl ≡ true → calls_another ctrl f.state ≡ false
       → instruction_step (I.Control ctrl) (at p f out) ≡ jump_step (exited exit link f.state) t (at p f out)
-      → on_pending f.pending (control_touches ctrl) ≡ false → Jumps exit i f link r
-      → Leads code 2 (at p f out) (record { flow = quiet r.state; pc = t; target = None; output = out })
-  jump_leads exit ctrl t p i f link r out le h jumps fine does free j =
-      let first = control_step code p ctrl t (exited exit link f.state) f out h.0 jumps fine does free in
+      → control_touches ctrl ≡ exit_touches exit → jump exit (Some i) f link ≡ Some r
+      → (Leads code 2 (at p f out) (toward r.state t out) → Arrives code start (at p f out) out (departure_of (exit_shape exit) (operand_words exit f)) r.state)
+      → Arrives code start (at p f out) out r.goes r.state
+  jump_arrives exit ctrl t p i f link r out le h jumps fine does touches e on =
+      let j = jump_parts exit i f link r e in
+      let first = control_step code p ctrl t (exited exit link f.state) f out h.0 jumps fine does (ap (on_pending f.pending) touches ∙ j.free) in
       let second = slot_step code (p + 1) t i (jump_mid exit link f) out h.1.0 j.ok in
       let still : flow_after (action_of i) (jump_mid exit link f) ≡ quiet r.state =
       slot_quiet (action_of i) (state_with_pending f.pending (exited exit link f.state)) f.hold j.kind le ∙ ap (λ o. quiet o.state) j.leaves in
-      subst (λ g. Leads code 2 (at p f out) (record { flow = g; pc = t; target = None; output = out })) still (leads_on code 1 1 _ _ _ first second)
+      subst (λ g. Arrives code start (at p f out) out g r.state) (ap (λ o. o.goes) j.leaves)
+      (on (subst (λ g. Leads code 2 (at p f out) (record (toward r.state t out) { flow = g })) still (leads_on code 1 1 _ _ _ first second)))
+
+  -- a call to the system by the number that the first word has put into register 2
+  number_calls : (number n p : ℕ) (f : Flow) (out : List ℕ) → op_value Addu 0 (wrap number) ≡ n → not ((n == 1) || (n == 10)) ≡ false
+      → is_stuck (number_action number) f ≡ false → slice_get code p ≡ Some (I.Control controls.SystemCall)
+      → step_of (insts_code code (address_of_place p)) (at p (flow_after (number_action number) f) out)
+      ≡ system_step n (at p (flow_after (number_action number) f) out)
+  number_calls number n p f out value fine ok h =
+      let m = at p (flow_after (number_action number) f) out in
+      let there = ap (λ s. s.regs 2) (settled_after (number_action number) f (stuck_is.none (number_action number) f ok M1)) ∙ value in
+      at_place code p (I.Control controls.SystemCall) m h refl
+      ∙ system_goes m refl (ap (λ x. not ((x == 1) || (x == 10))) there ∙ fine) ∙ ap (λ x. system_step x m) there
 
   pub record Placed : Type 0 where
     pub room : length code ≤ CODE_WORDS
     pub starts : (u : ℕ) → start u ≤ CODE_WORDS
 
   -- a branch leads where its test says
-  branch_arrives : (t e p q : ℕ) (m : Machine) (s : State) (out : List ℕ) → Placed → p < CODE_WORDS → p + 2 ≡ q
-      → HasAt code q (jump_to (start e) ∷ I.Plain nop ∷ []) → (b : Bool)
-      → Leads code 2 m
-      (record {
-        flow = quiet s;
-        pc =
-            cond b (branch_target (address_of_place p + 4) (pos (start t) -ℤ pos (p + 1))) (address_of_place p + 8);
-        target = None;
-        output =
-            out;
-      }) → Leads code 2 m (machine_at (start (cond b t e)) s out)
-  branch_arrives t e p q m s out placed lp pq h true l =
-      subst (λ x. Leads code 2 m (record { flow = quiet s; pc = x; target = None; output = out })) (branch_lands p (start t) lp (placed.starts t)) l
-  branch_arrives t e p q m s out placed lp pq h false l =
-      let there : address_of_place p + 8 ≡ address_of_place q = omega arith in
-      let here = subst (λ x. Leads code 2 m (record { flow = quiet s; pc = x; target = None; output = out })) there l in
-      fewer code 4 2 _ _ (omega arith) (leads_on code 2 2 _ _ _ here (hop code q (start e) s out placed.room h))
+  branch_arrives : (t e p : ℕ) (m : Machine) (s : State) (out : List ℕ) → Placed → p < CODE_WORDS
+      → HasAt code (p + 1 + 1) (jump_to (start e) ∷ I.Plain nop ∷ []) → (b : Bool)
+      → Leads code 2 m (toward s (cond b (branch_target (address_of_place p + 4) (pos (start t) -ℤ pos (p + 1))) (address_of_place p + 8)) out)
+      → Leads code 2 m (machine_at (start (cond b t e)) s out)
+  branch_arrives t e p m s out placed lp h true l =
+      subst (λ x. Leads code 2 m (toward s x out)) (branch_lands p (start t) lp (placed.starts t)) l
+  branch_arrives t e p m s out placed lp h false l =
+      let there : address_of_place p + 8 ≡ address_of_place (p + 1 + 1) = omega arith in
+      let here = subst (λ x. Leads code 2 m (toward s x out)) there l in
+      fewer code 4 2 _ _ (omega arith) (leads_on code 2 2 _ _ _ here (hop code (p + 1 + 1) (start e) s out placed.room h))
 
   exit_arrives : (exit : Exit) (slot : Option Plain) (p : ℕ) (f : Flow) (link : ℕ) (r : Effect) (out : List ℕ) → Placed → f.hold ≤ 2
       → link ≡ address_of_place (p + 2) → HasAt code p (exit_insts start p exit slot) → order_end_effect exit slot f link ≡ Some r
       → Arrives code start (at p f out) out r.goes r.state
   exit_arrives (Goto t) (Some i) p f link r out placed le el h e =
-      let j = jump_parts (Goto t) i f link r e in
-      let lands = jump_lands p (start t) (within code p _ placed.room h.0) in
-      let l = jump_leads (Goto t) (controls.JumpTo Jump (address_of_place (start t) / 4)) _ p i f link r out le h refl refl refl j.free j in
-      subst (λ g. Arrives code start (at p f out) out g r.state) (ap (λ o. o.goes) j.leaves)
-      (subst (λ x. Leads code 2 (at p f out) (record { flow = quiet r.state; pc = x; target = None; output = out })) lands l)
+      jump_arrives (Goto t) _ _ p i f link r out le h refl refl refl refl e
+      (λ l. subst (λ x. Leads code 2 (at p f out) (toward r.state x out)) (jump_lands p (start t) (within code p _ placed.room h.0)) l)
   exit_arrives (BranchPair test a b t n) (Some i) p f link r out placed le el h e =
-      let j = jump_parts (BranchPair test a b t n) i f link r e in
-      let l = jump_leads (BranchPair test a b t n) (controls.BranchPair test a b (branch_offset p (start t))) _ p i f link r out le
-      (h.0, (h.1.0, tt)) refl refl refl j.free j in
-      let back = subst (λ q. HasAt code q (jump_to (start n) ∷ I.Plain nop ∷ [])) two (h.1.1) in
-      subst (λ g. Arrives code start (at p f out) out g r.state) (ap (λ o. o.goes) j.leaves)
-      (branch_arrives t n p (p + 2) (at p f out) r.state out placed (within code p _ placed.room h.0) refl back
-      (pair_passes test (read 0 f.state.regs a) (read 0 f.state.regs b)) l)
-    where
-      two : p + 1 + 1 ≡ p + 2
-      two = omega arith
+      jump_arrives (BranchPair test a b t n) _ _ p i f link r out le (h.0, (h.1.0, tt)) refl refl refl refl e
+      (branch_arrives t n p (at p f out) r.state out placed (within code p _ placed.room h.0) h.1.1
+      (pair_passes test (read 0 f.state.regs a) (read 0 f.state.regs b)))
   exit_arrives (BranchZero test a t n) (Some i) p f link r out placed le el h e =
-      let j = jump_parts (BranchZero test a t n) i f link r e in
-      let l = jump_leads (BranchZero test a t n) (controls.BranchZero test a (branch_offset p (start t))) _ p i f link r out le
-      (h.0, (h.1.0, tt)) refl refl refl j.free j in
-      let back = subst (λ q. HasAt code q (jump_to (start n) ∷ I.Plain nop ∷ [])) two (h.1.1) in
-      subst (λ g. Arrives code start (at p f out) out g r.state) (ap (λ o. o.goes) j.leaves)
-      (branch_arrives t n p (p + 2) (at p f out) r.state out placed (within code p _ placed.room h.0) refl back
-      (zero_passes test (read 0 f.state.regs a)) l)
-    where
-      two : p + 1 + 1 ≡ p + 2
-      two = omega arith
+      jump_arrives (BranchZero test a t n) _ _ p i f link r out le (h.0, (h.1.0, tt)) refl refl refl refl e
+      (branch_arrives t n p (at p f out) r.state out placed (within code p _ placed.room h.0) h.1.1 (zero_passes test (read 0 f.state.regs a)))
   exit_arrives (Call g n) (Some i) p f link r out placed le el h e =
-      let j = jump_parts (Call g n) i f link r e in
-      let lands = jump_lands p (start g) (within code p _ placed.room h.0) in
-      let back : address_of_place p + 8 ≡ link = eight ∙ sym el in
-      let l = jump_leads (Call g n) (controls.JumpTo JumpAndLink (address_of_place (start g) / 4)) _ p i f link r out le
+      let back : address_of_place p + 8 ≡ link = omega (arith, el) in
+      jump_arrives (Call g n) (controls.JumpTo JumpAndLink (address_of_place (start g) / 4)) _ p i f link r out le
       (h.0, (h.1.0, tt)) refl refl
       (ap (λ x. jump_step (record f.state { regs = put f.state.regs 31 x })
-      (jump_target (address_of_place p + 4) (address_of_place (start g) / 4)) (at p f out)) back) j.free j in
-      subst (λ x. Arrives code start (at p f out) out x r.state) (ap (λ o. o.goes) j.leaves)
-      (subst (λ x. Leads code 2 (at p f out) (record { flow = quiet r.state; pc = x; target = None; output = out })) lands l)
-    where
-      eight : address_of_place p + 8 ≡ address_of_place (p + 2)
-      eight = omega arith
-  exit_arrives Return (Some i) p f link r out placed le el h e =
-      let j = jump_parts Return i f link r e in
-      let l = jump_leads Return (controls.JumpRegister 31) _ p i f link r out le h refl refl refl j.free j in
-      subst (λ x. Arrives code start (at p f out) out x r.state) (ap (λ o. o.goes) j.leaves) l
+      (jump_target (address_of_place p + 4) (address_of_place (start g) / 4)) (at p f out)) back) refl e
+      (λ l. subst (λ x. Leads code 2 (at p f out) (toward r.state x out)) (jump_lands p (start g) (within code p _ placed.room h.0)) l)
+  exit_arrives Return (Some i) p f link r out placed le el h e = jump_arrives Return _ _ p i f link r out le h refl refl refl refl e (λ l. l)
   exit_arrives (Out n) None p f link r out placed le el h e =
       let c = call_parts (Out n) 1 f r e in
-      subst (λ o. Arrives code start (at p f out) out o.goes o.state) c.leaves
+      let mid = flow_after (number_action 1) f in
+      let printed = out ++ mid.state.regs 4 ∷ [] in
+      let still : pred (pred f.hold) ≡ 0 = omega arith in
+      let there : address_of_place (p + 1) + 4 ≡ address_of_place (p + 1 + 1) = omega arith in
+      let print : Leads code 1 (at (p + 1) mid out) (machine_at (p + 1 + 1) mid.state printed) =
+      goes code (at (p + 1) mid out) _
+      (number_calls 1 1 (p + 1) f out one_value refl c.0 h.1.0
+      ∙ ap₂ (λ x y. Goes (record (toward mid.state y printed) { flow = record { state = mid.state; pending = Nothing; hold = x } })) still there) in
+      subst (λ o. Arrives code start (at p f out) out o.goes o.state) (same_Some _ r c.1)
       (fewer code 4 2 _ _ (omega arith)
-      (leads_on code 2 2 _ _ _ (leads_on code 1 1 _ _ _ (plain_step code p (Imm Addiu 2 0 (pos 1)) f out h.0 c.ok) (print c))
-      (hop code (p + 1 + 1) (start n) mid.state (out ++ mid.state.regs 4 ∷ []) placed.room (h.1.1.0, (h.1.1.1.0, tt)))))
-    where
-      mid : Flow
-      mid = flow_after (number_action 1) f
-
-      still : pred (pred f.hold) ≡ 0
-      still = omega arith
-
-      there : address_of_place (p + 1) + 4 ≡ address_of_place (p + 1 + 1)
-      there = omega arith
-
-      print : Calls (Out n) 1 f r → Leads code 1 (at (p + 1) mid out) (machine_at (p + 1 + 1) mid.state (out ++ mid.state.regs 4 ∷ []))
-      print c =
-          let number = number_there 1 1 f one_value c.ok in
-          goes code (at (p + 1) mid out) _
-          (at_place code (p + 1) (I.Control controls.SystemCall) (at (p + 1) mid out) h.1.0 refl
-          ∙ system_goes (at (p + 1) mid out) refl (ap (λ x. not ((x == 1) || (x == 10))) number)
-          ∙ ap (λ x. system_step x (at (p + 1) mid out)) number
-          ∙ ap₂ (λ x y. Goes
-          (record {
-            flow = record { state = mid.state; pending = Nothing; hold = x };
-            pc = y;
-            target = None;
-            output =
-                out ++ mid.state.regs 4 ∷ [];
-          })) still there)
+      (leads_on code 2 2 _ _ _ (leads_on code 1 1 _ _ _ (plain_step code p (Imm Addiu 2 0 (pos 1)) f out h.0 c.0) print)
+      (hop code (p + 1 + 1) (start n) mid.state printed placed.room (h.1.1.0, (h.1.1.1.0, tt)))))
   exit_arrives Halt None p f link r out placed le el h e =
       let c = call_parts Halt 10 f r e in
-      subst (λ o. Arrives code start (at p f out) out o.goes o.state) c.leaves
-      (λ k. let a = (plain_step code p (Imm Addiu 2 0 (pos 10)) f out h.0 c.ok).by (suc k) in (a.0, omega (arith, a.1), a.2 ∙ stop c k))
-    where
-      mid : Flow
-      mid = flow_after (number_action 10) f
-
-      stop : Calls Halt 10 f r → (k : ℕ)
-          → machine_run (insts_code code) (suc k) (at (p + 1) mid out) ≡ record { end = endings.Halt (mid.state.regs 4); output = out }
-      stop c k =
-          let number = number_there 10 10 f ten_value c.ok in
-          ap (λ s. outcome_behind s (machine_run (insts_code code) k) out)
-          (at_place code (p + 1) (I.Control controls.SystemCall) (at (p + 1) mid out) h.1.0 refl
-          ∙ system_goes (at (p + 1) mid out) refl (ap (λ x. not ((x == 1) || (x == 10))) number)
-          ∙ ap (λ x. system_step x (at (p + 1) mid out)) number)
+      subst (λ o. Arrives code start (at p f out) out o.goes o.state) (same_Some _ r c.1)
+      (λ k. let a = (plain_step code p (Imm Addiu 2 0 (pos 10)) f out h.0 c.0).by (suc k) in
+      let stop = number_calls 10 10 (p + 1) f out ten_value refl c.0 h.1.0 in
+      (a.0, omega (arith, a.1), a.2 ∙ ap (λ s. outcome_behind s (machine_run (insts_code code) k) out) stop))
   exit_arrives _ _ p f link r out placed le el h e = absurd (none-some r e)
 
   -- the words of a whole order

@@ -29,6 +29,10 @@ machine_at p s out = record { flow = quiet s; pc = address_of_place p; target = 
 abbrev pub at : ℕ → Flow → List ℕ → Machine
 at p f out = record { flow = f; pc = address_of_place p; target = None; output = out }
 
+-- behind a word that leads to an address
+abbrev pub toward : State → ℕ → List ℕ → Machine
+toward s pc out = record { flow = quiet s; pc = pc; target = None; output = out }
+
 -- the machine goes from one state to another in d words at least
 pub record Leads (code : List Inst) (d : ℕ) (m m' : Machine) : Type 0 where
   pub by : (k : ℕ) → (j : ℕ) × (d + k ≤ j) × (machine_run (insts_code code) j m ≡ machine_run (insts_code code) k m')
@@ -108,7 +112,7 @@ module _ (code : List Inst) where
       → Leads code 2 (machine_at p s out) (machine_at q s out)
   hop p q s out room h =
       let lands = jump_lands p q (within p _ room h.0) in
-      subst (λ t. Leads code 2 (machine_at p s out) (record { flow = quiet s; pc = t; target = None; output = out })) lands
+      subst (λ t. Leads code 2 (machine_at p s out) (toward s t out)) lands
       (leads_on 1 1 _ _ _
       (control_step p (controls.JumpTo Jump (address_of_place q / 4)) (jump_target (address_of_place p + 4) (address_of_place q / 4)) s
       (quiet s) out h.0 refl refl refl refl)
