@@ -15,7 +15,6 @@ use Rattle.mips_isa.specs.declared.inst.Inst.TheVariants as I
 use Rattle.mips_isa.specs.Ranges.{IsInst}
 use Rattle.mips_isa.specs.States.{State, IsWords}
 use Rattle.mips_isa.specs.Actions.{action_of, is_safe, state_after}
-use Rattle.mips_isa.specs.Flows.{quiet}
 use Rattle.mips_code.specs.Words.{inst_word}
 use Rattle.mblock.specs.declared.exit.Exit.{Exit}
 use Rattle.mblock.specs.declared.exit.Exit.TheVariants.{Call}
@@ -28,7 +27,7 @@ use Rattle.mips_code.specs.Machines as def
 use Rattle.mips_code.specs.Machines.{Machine, words_code, machine_run}
 use Rattle.mips_asm.specs.Fetching.{insts_code}
 use Rattle.mips_isa.specs.Actions.{nop}
-use Rattle.mips_asm.specs.Layout.{place, exit_size, exit_insts, slot_insts, jump_to, order_length, address_of_place, order_insts}
+use Rattle.mips_asm.specs.Layout.{place, exit_size, exit_insts, slot_insts, jump_to, order_length, address_of_place}
 use Rattle.mips_asm.specs.Layout.{layout, links_of}
 use Rattle.mips_asm.proofs.Fetches.{runs_same}
 use Rattle.mips_asm.proofs.Within.{place_next, place_mono, place_most, place_none, place_room}
@@ -136,15 +135,9 @@ returned links word u k (b ∷ rest) e = go (returned links word u (suc k) rest)
         → (links k == word) ≡ y → call_return_of x y (return_block_of links word (suc k) rest) ≡ Some u → Returned links word u k (b ∷ rest)
     go next (Call f n) ex true ey h =
         let here : k ≡ k + 0 = omega arith in
-        record {
-          nth = 0;
-          block = b;
-          callee = f;
-          there = refl;
-          calls = ex
-              ∙ ap (Call f) (same_Some n u h);
-          link = subst (λ m. links m ≡ word) here (eqb-true (links k) word ey);
-        }
+        let is_call = ex ∙ ap (Call f) (same_Some n u h) in
+        let links_here = subst (λ m. links m ≡ word) here (eqb-true (links k) word ey) in
+        record { nth = 0; block = b; callee = f; there = refl; calls = is_call; link = links_here }
     go next _ _ ex ey h = later (next h)
 
 shape_call : (x : Exit) (f u : ℕ) → exit_shape x ≡ Calls f u → x ≡ Call f u
@@ -162,10 +155,7 @@ call_words code start p u f exit slot e fits h =
     (has_back code (p + 1) (slot_insts slot) (jump_to (start u) ∷ I.Plain nop ∷ []) at_call.1)
 
 shape_size : (x : Exit) (y : Exit) → exit_shape x ≡ exit_shape y → is_call x ≡ true → exit_size y ≡ 4
-shape_size (Call f n) y e c = go y e
-  where
-    go : (y : Exit) → Calls f n ≡ exit_shape y → exit_size y ≡ 4
-    go y e = ap exit_size (shape_call y f n (sym e))
+shape_size (Call f n) y e c = ap exit_size (shape_call y f n (sym e))
 shape_size _ y e c = absurd (true≢false (sym c))
 
 -- how many items a number of words may stand for: the two theorems differ in this alone
@@ -192,9 +182,6 @@ module _ (blocks : List BlockParts) (orders : List OrderParts) (h : AreOrders bl
   order_for : (t : ℕ) (b : BlockParts) → slice_get blocks t ≡ Some b → (o : OrderParts) × (slice_get orders t ≡ Some o)
   order_for t b e = let lt = slice_get_within blocks t b e in there_is orders t (omega (arith, lt, h.long))
 
-  pub has_order : (t : ℕ) (o : OrderParts) → slice_get orders t ≡ Some o → HasAt (layout orders) (start t) (order_insts start (start t) o)
-  has_order t o e = layout_has orders h.fits t o e
-
   link_is : (t : ℕ) (o : OrderParts) → slice_get orders t ≡ Some o → links t ≡ address_of_place (start t + length o.insts + 2)
   link_is t o e = ap (λ x. address_of_place (start t + order_length x + 2)) e
 
@@ -211,7 +198,7 @@ module _ (blocks : List BlockParts) (orders : List OrderParts) (h : AreOrders bl
       let same : o.0.exit ≡ Call r.callee u = shape_call o.0.exit r.callee u (sym (h.exits r.nth r.block o.0 r.there o.1) ∙ ap exit_shape r.calls) in
       let len : start r.nth + length (map I.Plain o.0.insts) ≡ p = ap (λ n. start r.nth + n) (length-map o.0.insts I.Plain) in
       let has = subst (λ n. HasAt (layout orders) n (exit_insts start p o.0.exit o.0.slot)) len
-      (has_back (layout orders) (start r.nth) (map I.Plain o.0.insts) (exit_insts start p o.0.exit o.0.slot) (has_order r.nth o.0 o.1)) in
+      (has_back (layout orders) (start r.nth) (map I.Plain o.0.insts) (exit_insts start p o.0.exit o.0.slot) (layout_has orders h.fits r.nth o.0 o.1)) in
       let jumps = call_words (layout orders) start p u r.callee o.0.exit o.0.slot same (h.fits r.nth o.0 o.1) has in
       let nth : 0 + r.nth ≡ r.nth = omega arith in
       let address : address_of_place (p + 2) ≡ word = sym (link_is r.nth o.0 o.1) ∙ ap links (sym nth) ∙ r.link in
@@ -301,7 +288,7 @@ module _ (blocks : List BlockParts) (orders : List OrderParts) (h : AreOrders bl
         let same = h.means t b o.0 eb o.1 s (links t) r words (link_below t o.0 o.1) effect in
         let arrives =
         order_arrives (layout orders) start o.0 (start t) s (links t) r out placed
-        (link_is t o.0 o.1) (has_order t o.0 o.1) same in
+        (link_is t o.0 o.1) (layout_has orders h.fits t o.0 o.1) same in
         let goes = p.goes ∙ ap (λ x. exit_item blocks links t x (items blocks links left_over) p.end out) eb in
         let fine = subst (λ x. is_wrong x ≡ false) goes w in
         let f = left_at left_over next r.goes (at (start t + length o.0.insts) arrives.0 out) r.state out

@@ -16,7 +16,7 @@ use Rattle.mblock.specs.declared.exit.Exit.{Exit}
 use Rattle.mblock.specs.declared.exit.Exit.TheVariants.{Goto, BranchPair, BranchZero, Call, Return, Out, Halt}
 use Rattle.mblock.specs.Parts.{OrderParts}
 use Rattle.mips_asm.specs.Layout.{exit_size, size, place, address_of_place, slot_insts, hop, branch_offset, exit_insts, order_insts, insts_of, layout}
-use Rattle.mips_asm.specs.Functions.{AreFunctions, words_owned, StaysInside, IsLaidOut, EachLayoutFits}
+use Rattle.mips_asm.specs.Functions.{AreFunctions, words_owned, StaysInside, EachLayoutFits}
 use Rattle.mips_asm.specs.Emitted.{Fit}
 use Rattle.mips_asm.proofs.Within.{one_function, place_next, place_most, place_mono}
 use Rattle.mips_asm.specs.declared.limits.TheConstants.{CODE_WORDS, FUNCTION_WORDS}
@@ -88,21 +88,15 @@ offset_near owner os functions few k t o e there same =
           near (place os k + length o.insts) (place os t) (omega arith) (omega arith)
     ]
 
-module _ (owner : ℕ → ℕ) (os : List OrderParts) (h : IsLaidOut owner os) where
-  start_small : (t : ℕ) → t < length os → place os t ≤ CODE_WORDS
-  start_small t lt = omega (arith, place_most os t, h.code_fits)
-
-  order_fits : (k : ℕ) (o : OrderParts) → slice_get os k ≡ Some o → Fit (order_insts (place os) (place os k) o)
-  order_fits k o e =
-      all_both (map insts.Plain o.insts) (exit_insts (place os) (place os k + length o.insts) o.exit o.slot)
-      (plains_fit o.insts (recursion_from_All IsPlain o.insts (h.insts k o e)))
-      (exit_fits owner (place os) (place os k + length o.insts) (length os) k o.exit o.slot (h.slots k o e) (h.inside k o e) start_small
-      (λ t four there same. offset_near owner os h.functions h.functions_fit k t o e there same))
-
-  all_orders_fit : Fit (layout os)
-  all_orders_fit =
-      all_fit (place os) os 0
-      (λ j o e. let here : place os j ≡ 0 + place os j = omega arith in subst (λ n. Fit (order_insts (place os) n o)) here (order_fits j o e))
-
 pub layout_fits : EachLayoutFits
-layout_fits owner os h = All-from_recursion IsInst (layout os) (all_orders_fit owner os h)
+layout_fits owner os h = All-from_recursion IsInst (layout os) (all_fit (place os) os 0 order_fits)
+  where
+    order_fits : (k : ℕ) (o : OrderParts) → slice_get os k ≡ Some o → Fit (order_insts (place os) (0 + place os k) o)
+    order_fits k o e =
+        let here : place os k ≡ 0 + place os k = omega arith in
+        subst (λ n. Fit (order_insts (place os) n o)) here
+        (all_both (map insts.Plain o.insts) (exit_insts (place os) (place os k + length o.insts) o.exit o.slot)
+        (plains_fit o.insts (recursion_from_All IsPlain o.insts (h.insts k o e)))
+        (exit_fits owner (place os) (place os k + length o.insts) (length os) k o.exit o.slot (h.slots k o e) (h.inside k o e)
+        (λ t lt. omega (arith, place_most os t, h.code_fits))
+        (λ t four there same. offset_near owner os h.functions h.functions_fit k t o e there same)))

@@ -12,7 +12,7 @@ use Rattle.words.specs.Operators.{op_value}
 use Rattle.mips_isa.specs.declared.inst.Plain.{Plain}
 use Rattle.mips_isa.specs.declared.inst.Plain.TheVariants.{Imm}
 use Rattle.mips_isa.specs.declared.inst.ImmOp.TheVariants.{Addiu}
-use Rattle.mips_isa.specs.declared.inst.JumpOp.TheVariants.{Jump, JumpAndLink}
+use Rattle.mips_isa.specs.declared.inst.JumpOp.TheVariants.{JumpAndLink}
 use Rattle.mips_isa.specs.declared.inst.Control.{Control}
 use Rattle.mips_isa.specs.declared.inst.Control.TheVariants as controls
 use Rattle.mips_isa.specs.declared.inst.Inst.{Inst}

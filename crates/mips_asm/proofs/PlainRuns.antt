@@ -19,11 +19,10 @@ use Rattle.mblock.specs.UnitRuns.{items}
 use Rattle.mblock.specs.PlainOrders.{padded_inst, plain_order_of}
 use Rattle.mblock.proofs.PlainOrders.{padded_keep, loads_load, padded_append, padded_length, safe_padded, plain_at}
 use Rattle.mblock.specs.Orders.{AreOrders}
-use Rattle.mips_asm.specs.declared.limits.TheConstants.{CODE_WORDS}
 use Rattle.mips_asm.specs.LayoutRuns.{EachPlainLayoutRuns}
-use Rattle.mips_asm.proofs.LayoutPlaces.{HasAt, has_front}
+use Rattle.mips_asm.proofs.LayoutPlaces.{HasAt, has_front, layout_has}
 use Rattle.mips_asm.proofs.Steps.{machine_at, words_lead}
-use Rattle.mips_asm.proofs.Composed.{is_wrong, is_right, said, has_order, from_start}
+use Rattle.mips_asm.proofs.Composed.{is_wrong, is_right, said, from_start}
 
 items_safe : (blocks : List BlockParts) (links : ℕ → ℕ) (t : ℕ) (out : List ℕ) (rest : List Plain) (n : ℕ) (s : State) → n ≤ length rest
     → is_wrong (items blocks links n t rest s out) ≡ false → AllSafe (map action_of (take n rest)) s
@@ -50,11 +49,11 @@ padded_run l s safe =
     let r = words_run (flat_map padded_inst l) Return [] (quiet s) ready (safe_padded l s safe) in
     (r.flow, r.runs)
 
-plain_part : (blocks : List BlockParts) → AreOrders blocks (map plain_order_of blocks) → length (layout (map plain_order_of blocks)) ≤ CODE_WORDS
+plain_part : (blocks : List BlockParts) → AreOrders blocks (map plain_order_of blocks)
     → (t : ℕ) (b : BlockParts) (s : State) (out : List ℕ) (n : ℕ) → slice_get blocks t ≡ Some b → n ≤ length b.insts
     → is_wrong (items blocks (links_of (map plain_order_of blocks)) n t b.insts s out) ≡ false → (k : ℕ) × (n < 1 * (k + 1))
     × (machine_run (insts_code (layout (map plain_order_of blocks))) k (machine_at (place (map plain_order_of blocks) t) s out) ≡ said out)
-plain_part blocks h room t b s out n eb le w =
+plain_part blocks h t b s out n eb le w =
     let orders = map plain_order_of blocks in
     let some = take n b.insts in
     let rest = drop n b.insts in
@@ -64,7 +63,7 @@ plain_part blocks h room t b s out n eb le w =
     ∙ ap (map I.Plain) (padded_append some rest) ∙ map-append I.Plain (flat_map padded_inst some) (flat_map padded_inst rest) in
     let all = has_front (layout orders) (place orders t) (map I.Plain (flat_map padded_inst b.insts))
     (exit_insts (place orders) (place orders t + length (flat_map padded_inst b.insts)) b.exit (plain_order_of b).slot)
-    (has_order blocks orders h room t (plain_order_of b) (plain_at blocks t b eb)) in
+    (layout_has orders h.fits t (plain_order_of b) (plain_at blocks t b eb)) in
     let front = has_front (layout orders) (place orders t) (map I.Plain (flat_map padded_inst some))
     (map I.Plain (flat_map padded_inst rest)) (subst (HasAt (layout orders) (place orders t)) split all) in
     let a = (words_lead (layout orders) (flat_map padded_inst some) (place orders t) (quiet s) run.0 out run.1 front).by 0 in
@@ -77,5 +76,5 @@ each_plain_layout_runs blocks h room fit =
       halts = λ n j le. omega arith;
       block = λ t b o eb eo n left_over k j en lt le. let same =
           ap (λ x. length x.insts) (same_Some (plain_order_of b) o (sym (plain_at blocks t b eb) ∙ eo)) in omega (arith, same, padded_length b.insts);
-      part = plain_part blocks h room;
+      part = plain_part blocks h;
     }) fit

@@ -9,9 +9,7 @@ use Rattle.std.proofs.lemmas.List.Elements.{All-from_recursion}
 use Rattle.mips_isa.specs.declared.inst.Plain.{Plain}
 use Rattle.mips_isa.specs.declared.inst.JumpOp.TheVariants.{JumpAndLink}
 use Rattle.mips_isa.specs.declared.inst.Control.TheVariants as controls
-use Rattle.mips_isa.specs.declared.inst.Inst.{Inst}
 use Rattle.mips_isa.specs.declared.inst.Inst.TheVariants as I
-use Rattle.mips_isa.specs.Ranges.{IsInst}
 use Rattle.mblock.specs.declared.exit.Exit.{Exit}
 use Rattle.mblock.specs.declared.exit.Exit.TheVariants.{Goto, BranchPair, BranchZero, Call, Out}
 use Rattle.mblock.specs.Parts.{OrderParts}
@@ -58,9 +56,6 @@ module _ (n : ℕ) (s s' : ℕ → ℕ) (h : (t : ℕ) → t < n → s t ≡ s' 
 pub same_layout : (os : List OrderParts) → AllThere os → insts_of (start_of (places_from 0 os)) 0 os ≡ layout os
 same_layout os there = same_insts (length os) (start_of (places_from 0 os)) (place os) (same_starts os) os 0 there
 
-pub all_fit : (is : List Inst) → Fit is → All IsInst is
-all_fit is h = All-from_recursion IsInst is h
-
 -- ---- steps of a loop over orders
 
 pub place_step : (os : List OrderParts) (k : ℕ) (o : OrderParts) → k < length os → o ≡ get_or os k o → place os (k + 1) ≡ place os k + size o
@@ -95,9 +90,7 @@ pub words_on : (start : ℕ → ℕ) (os : List OrderParts) (here k : ℕ) (o : 
     → more ++ map inst_word (insts_of start (here + size o) (drop (k + 1) os)) ≡ total
 words_on start os here k o code more total lt e em so_far =
     let rest = insts_of start (here + size o) (drop (k + 1) os) in
-    ap (λ (x : List ℕ). x ++ map inst_word rest) em ∙ append_assoc code (map inst_word (order_insts start here o)) (map inst_word rest)
-    ∙ ap (λ (x : List ℕ). code ++ x) (sym (map-append inst_word (order_insts start here o) rest))
-    ∙ ap (λ (x : List Inst). code ++ map inst_word x) (sym (more_insts start os here k o lt e)) ∙ so_far
+    rw (em, append_assoc, sym (map-append inst_word (order_insts start here o) rest), sym (more_insts start os here k o lt e)) so_far
 
 pub fit_on : (start : ℕ → ℕ) (os : List OrderParts) (here k : ℕ) (o : OrderParts) → k < length os → o ≡ get_or os k o
     → Fit (order_insts start here o) → (Fit (insts_of start here (drop k os)) → Fit (insts_of start 0 os))

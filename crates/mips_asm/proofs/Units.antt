@@ -12,7 +12,6 @@ use Rattle.mblock.specs.declared.exit.Exit.{Exit}
 use Rattle.mblock.specs.declared.exit.Exit.TheVariants.{Goto, BranchPair, BranchZero}
 use Rattle.mblock.specs.Parts.{BlockParts, OrderParts}
 use Rattle.mblock.specs.BlockMeaning.{Shape, Goes, ChoosesPair, ChoosesZero, Calls, Prints, exit_shape}
-use Rattle.mblock.specs.PlainOrders.{plain_order_of}
 use Rattle.mblock.specs.Orders.{AreOrders}
 use Rattle.mblock.specs.Units.{UnitParts, IsUnit, GoesBelow, BranchesWithin, AreOwners}
 use Rattle.image.specs.Images.{Version, IsImage, FitsVersion}
@@ -127,22 +126,12 @@ image_made u orders v code bytes is h room fits code_is bytes_is fit = record {
 
 pub each_assembled_image_runs : EachAssembledImageRuns
 each_assembled_image_runs u orders i h made image fit =
-    let many = length-map (layout orders) inst_word in
     let code = ap (λ (w : List ℕ). length w) made.code in
-    let most = image.code_fits in
-    let room : length (layout orders) ≤ CODE_WORDS = omega arith in
-    let over : List ℕ → Type 0 = λ w. RunsAs 513 u.blocks orders w in
+    let room : length (layout orders) ≤ CODE_WORDS = omega (arith, length-map (layout orders) inst_word, code, image.code_fits) in
+    let Plain : List OrderParts → Type 0 =
+    λ os. AreOrders u.blocks os → length (layout os) ≤ CODE_WORDS → All IsInst (layout os) → RunsAs 1 u.blocks os (map inst_word (layout os)) in
     record {
       apart = each_layout_tells_calls_apart u.blocks orders h room;
-      runs = subst over (sym made.code) (each_layout_runs u.blocks orders h room fit);
-      plain = λ plain. plain_runs plain room;
+      runs = subst (λ (w : List ℕ). RunsAs 513 u.blocks orders w) (sym made.code) (each_layout_runs u.blocks orders h room fit);
+      plain = λ e. subst (λ (w : List ℕ). RunsAs 1 u.blocks orders w) (sym made.code) (subst Plain (sym e) (each_plain_layout_runs u.blocks) h room fit);
     }
-  where
-    Plain : List OrderParts → Type 0
-    Plain os = AreOrders u.blocks os → length (layout os) ≤ CODE_WORDS → All IsInst (layout os) → RunsAs 1 u.blocks os (map inst_word (layout os))
-
-    plain_runs : orders ≡ map plain_order_of u.blocks → length (layout orders) ≤ CODE_WORDS → RunsAs 1 u.blocks orders i.code
-    plain_runs plain room =
-        let all = subst Plain (sym plain) (each_plain_layout_runs u.blocks) in
-        let over : List ℕ → Type 0 = λ w. RunsAs 1 u.blocks orders w in
-        subst over (sym made.code) (all h room fit)

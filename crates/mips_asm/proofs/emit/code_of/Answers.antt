@@ -1,9 +1,11 @@
 use Rattle.std.proofs.Common.{sym, ◌++◌, ℕ, List, map, ap, subst, ◌∙◌, All, ◌≤◌, arith}
 use Rattle.std.specs.Prelude.{slice_index}
+use Rattle.std.proofs.lemmas.List.Elements.{All-from_recursion}
+use Rattle.mips_isa.specs.Ranges.{IsInst}
 use Rattle.mips_code.specs.Words.{inst_word}
 use Rattle.mips_asm.specs.Layout.{insts_of, layout}
 use Rattle.mips_asm.specs.Emitted.{Fit, AllNear, start_of}
-use Rattle.mips_asm.proofs.Starts.{same_layout, all_fit, all_small, all_near}
+use Rattle.mips_asm.proofs.Starts.{same_layout, all_small, all_near}
 use Rattle.mips_asm.proofs.emit.code_of.Goals as goal
 use Rattle.mips_asm.specs.declared.limits.TheConstants.{CODE_WORDS}
 
@@ -21,7 +23,7 @@ returns-clause-fit c =
     let orders = c.args.orders.now in
     let at = c.deref.ensures.value ∙ c.in_ok-places.ensures in
     let moved = subst (λ (p : List ℕ). Fit (insts_of (start_of p) 0 orders)) at c.in_ok-put_orders.ensures.fit in
-    all_fit (layout orders) (subst Fit (same_layout orders c.requires.unit.there) moved)
+    All-from_recursion IsInst (layout orders) (subst Fit (same_layout orders c.requires.unit.there) moved)
 
 pub put_orders-requires-clause-places : goal.put_orders-requires-clause-places
 put_orders-requires-clause-places c =

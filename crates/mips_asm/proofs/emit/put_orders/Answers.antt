@@ -1,7 +1,7 @@
-use Rattle.std.proofs.Common.{◌≡◌, ◌+◌, ◌++◌, ℕ, length, map, drop, refl, sym, subst, arith}
+use Rattle.std.proofs.Common.{◌+◌, ◌++◌, length, map, refl, sym, subst, arith}
 use Rattle.mips_code.specs.Words.{inst_word}
-use Rattle.mips_asm.specs.Layout.{place, insts_of}
-use Rattle.mips_asm.specs.Emitted.{Fit, IsNear, start_of}
+use Rattle.mips_asm.specs.Layout.{insts_of}
+use Rattle.mips_asm.specs.Emitted.{IsNear, start_of}
 use Rattle.mips_asm.proofs.Starts.{place_step, words_on, fit_on}
 use Rattle.mips_asm.proofs.Within.{place_none, place_room}
 use Rattle.std.proofs.lemmas.Option.{slice_get_read}
@@ -40,8 +40,4 @@ loop-order-preserved c =
     (c.args.code.now.items ++ map inst_word (insts_of start 0 os)) c.loop-order-test.true c.order-item.is
     c.in_ok-put_order.ensures.word c.loop-order.invariant.0 in
     let fit = fit_on start os here k o c.loop-order-test.true c.order-item.is c.in_ok-put_order.ensures.fit c.loop-order.invariant.1 in
-    let P : ℕ → Type 0 =
-    λ n. (c.put_order.new.code.items ++ map inst_word
-    (insts_of start (here + n) (drop (k + 1) os)) ≡ c.args.code.now.items ++ map inst_word (insts_of start 0 os))
-    × (Fit (insts_of start (here + n) (drop (k + 1) os)) → Fit (insts_of start 0 os)) × (here + n ≡ place os (k + 1)) in
-    subst P (sym v) (words, fit, omega arith)
+    rw v (words, fit, omega (arith, step, at))

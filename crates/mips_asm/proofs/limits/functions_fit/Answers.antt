@@ -17,12 +17,7 @@ returns-then-words-gt-FUNCTION_WORDS-clause-fit c =
 
 pub returns-then-words-gt-FUNCTION_WORDS-clause-many : goal.returns-then-words-gt-FUNCTION_WORDS-clause-many
 returns-then-words-gt-FUNCTION_WORDS-clause-many c = λ e.
-    let before = c.words_before.ensures.small in
-    let small = c.size.ensures.small in
-    let words = c.loop-k.invariant.1 in
-    let within = c.loop-k-test.true in
-    let gt = c.if-words-gt-FUNCTION_WORDS.true in
-    omega (arith, before, small, words, within, gt)
+    omega (arith, c.words_before.ensures.small, c.size.ensures.small, c.loop-k.invariant.1, c.loop-k-test.true, c.if-words-gt-FUNCTION_WORDS.true)
 
 pub loop-k-init : goal.loop-k-init
 loop-k-init c = (no_counts (slice_index c.args.owner.now), omega arith)
@@ -35,8 +30,5 @@ loop-k-preserved c =
     let le = c.if-words-gt-FUNCTION_WORDS.false in (
       rw value (step_counts _ (slice_index c.args.owner.now) c.requires.functions c.args.orders.now c.index-orders-k.result c.loop-k.k refl
           c.loop-k-test.true c.index-orders-k.is c.loop-k.words c.words_before.result c.loop-k.invariant.0 start (omega arith)),
-      (let before = c.words_before.ensures.small in
-          let small = c.size.ensures.small in
-          let words = c.loop-k.invariant.1 in
-          omega (arith, before, small, words)),
+      omega (arith, c.words_before.ensures.small, c.size.ensures.small, c.loop-k.invariant.1),
     )
