@@ -68,9 +68,6 @@ agrees_by {o} e h = subst (λ z. Agrees o z) e h
 agrees_of : {o p : Outcome} {x : def.MachineOutcome} → o ≡ p → Agrees o x → Agrees p x
 agrees_of {o} {p} {x} e h = subst (λ z. Agrees z x) e h
 
-goes_on_alike : {o : Outcome} {x : def.MachineOutcome} {out : List ℕ} → o ≡ more out → x ≡ said out → Agrees o x
-goes_on_alike {o} {x} {out} eo ex = agrees_of (sym eo) (agrees_by (sym ex) (record { end = refl; output = refl }))
-
 -- ---- the items of one block
 
 -- what doesn't go wrong is safe
@@ -196,9 +193,8 @@ module _ (blocks : List BlockParts) (orders : List OrderParts) (h : AreOrders bl
       let o = order_for r.nth r.block r.there in
       let p = start r.nth + length o.0.insts in
       let same : o.0.exit ≡ Call r.callee u = shape_call o.0.exit r.callee u (sym (h.exits r.nth r.block o.0 r.there o.1) ∙ ap exit_shape r.calls) in
-      let len : start r.nth + length (map I.Plain o.0.insts) ≡ p = ap (λ n. start r.nth + n) (length-map o.0.insts I.Plain) in
-      let has = subst (λ n. HasAt (layout orders) n (exit_insts start p o.0.exit o.0.slot)) len
-      (has_back (layout orders) (start r.nth) (map I.Plain o.0.insts) (exit_insts start p o.0.exit o.0.slot) (layout_has orders h.fits r.nth o.0 o.1)) in
+      let has : HasAt (layout orders) p (exit_insts start p o.0.exit o.0.slot) =
+      rw (length-map o.0.insts I.Plain) at (has_back (layout orders) (start r.nth) (map I.Plain o.0.insts) _ (layout_has orders h.fits r.nth o.0 o.1)) in
       let jumps = call_words (layout orders) start p u r.callee o.0.exit o.0.slot same (h.fits r.nth o.0 o.1) has in
       let nth : 0 + r.nth ≡ r.nth = omega arith in
       let address : address_of_place (p + 2) ≡ word = sym (link_is r.nth o.0 o.1) ∙ ap links (sym nth) ∙ r.link in
@@ -304,7 +300,7 @@ module _ (blocks : List BlockParts) (orders : List OrderParts) (h : AreOrders bl
           block_follows n (n - (length b.insts + 1)) t b s out (omega (arith, over))
           (follows fuel (n - (length b.insts + 1)) (omega (arith, over))) eb words w
       | inr under ↦
-          let k = measure.part t b s out n eb under w in (k.0, k.1, goes_on_alike (items_within blocks links t out b.insts n s under w) k.2)
+          let k = measure.part t b s out n eb under w in (k.0, k.1, rw (items_within blocks links t out b.insts n s under w, k.2) (record { end = refl; output = refl }))
     ]
 
     -- a run from block 0, over words

@@ -80,16 +80,14 @@ order_has : (code : List Inst) (start : ℕ → ℕ) (os : List OrderParts) (her
     → (k : ℕ) (o : OrderParts) → slice_get os k ≡ Some o → HasAt code (here + place os k) (order_insts start (here + place os k) o)
 order_has code start [] here fits h k o e = absurd (Rattle.std.proofs.lemmas.Option.none-some o e)
 order_has code start (x ∷ rest) here fits h zero o e =
-    let same : here ≡ here + 0 = omega arith in
-    let at = has_front code here (order_insts start here x) (insts_of start (here + size x) rest) h in
-    subst (λ y. HasAt code (here + 0) (order_insts start (here + 0) y)) (Rattle.std.proofs.lemmas.Option.same_Some x o e)
-    (subst (λ n. HasAt code n (order_insts start n x)) same at)
+    let same : here + 0 ≡ here = omega arith in
+    rw (same, sym (Rattle.std.proofs.lemmas.Option.same_Some x o e))
+    (has_front code here (order_insts start here x) (insts_of start (here + size x) rest) h)
 order_has code start (x ∷ rest) here fits h (suc k) o e =
     let back = has_back code here (order_insts start here x) (insts_of start (here + size x) rest) h in
     let moved = subst (λ n. HasAt code (here + n) (insts_of start (here + size x) rest)) (words_length start here x (fits 0 x refl)) back in
-    let below = order_has code start rest (here + size x) (λ j. fits (suc j)) moved k o e in
-    let same : here + size x + place rest k ≡ here + (size x + place rest k) = omega arith in
-    subst (λ n. HasAt code n (order_insts start n o)) same below
+    let same : here + (size x + place rest k) ≡ here + size x + place rest k = omega arith in
+    rw same (order_has code start rest (here + size x) (λ j. fits (suc j)) moved k o e)
 
 -- each order stands at its place
 pub layout_has : (os : List OrderParts) → ((k : ℕ) (o : OrderParts) → slice_get os k ≡ Some o → FitsSlot o) → (k : ℕ) (o : OrderParts)

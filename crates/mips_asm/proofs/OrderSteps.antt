@@ -204,11 +204,8 @@ module _ (code : List Inst) (start : ℕ → ℕ) where
       × Arrives code start (at (p + length o.insts) f out) out r.goes r.state
   order_arrives o p s link r out placed el h e = go (words_from (map action_of o.insts) (Some (quiet s))) refl e
     where
-      len : p + length (map I.Plain o.insts) ≡ p + length o.insts
-      len = ap (λ n. p + n) (length-map o.insts I.Plain)
-
       after_insts : HasAt code (p + length o.insts) (exit_insts start (p + length o.insts) o.exit o.slot)
-      after_insts = subst (λ n. HasAt code n (exit_insts start (p + length o.insts) o.exit o.slot)) len (has_back code p (map I.Plain o.insts) _ h)
+      after_insts = rw (length-map o.insts I.Plain) at (has_back code p (map I.Plain o.insts) _ h)
 
       go : (x : Option Flow) → words_from (map action_of o.insts) (Some (quiet s)) ≡ x → order_effect_from o.exit o.slot x link ≡ Some r
           → (f : Flow) × Leads code (length o.insts) (machine_at p s out) (at (p + length o.insts) f out)

@@ -61,8 +61,7 @@ plain_part blocks h t b s out n eb le w =
     let split : map I.Plain (flat_map padded_inst b.insts) ≡ map I.Plain (flat_map padded_inst some) ++ map I.Plain
     (flat_map padded_inst rest) = ap (λ l. map I.Plain (flat_map padded_inst l)) (sym (take-append-drop n b.insts))
     ∙ ap (map I.Plain) (padded_append some rest) ∙ map-append I.Plain (flat_map padded_inst some) (flat_map padded_inst rest) in
-    let all = has_front (layout orders) (place orders t) (map I.Plain (flat_map padded_inst b.insts))
-    (exit_insts (place orders) (place orders t + length (flat_map padded_inst b.insts)) b.exit (plain_order_of b).slot)
+    let all = has_front (layout orders) (place orders t) (map I.Plain (flat_map padded_inst b.insts)) _
     (layout_has orders h.fits t (plain_order_of b) (plain_at blocks t b eb)) in
     let front = has_front (layout orders) (place orders t) (map I.Plain (flat_map padded_inst some))
     (map I.Plain (flat_map padded_inst rest)) (subst (HasAt (layout orders) (place orders t)) split all) in

@@ -70,12 +70,8 @@ all_small os le = All-from_recursion (λ p. p ≤ CODE_WORDS) (places_from 0 os)
 
 near_exit : (owner : ℕ → ℕ) (os : List OrderParts) → AreFunctions (length os) owner → FunctionsFit owner os → (k : ℕ) (o : OrderParts)
     → slice_get os k ≡ Some o → (x : Exit) → GoesBelow (length os) x → IsOwn owner k x → IsNear (start_of (places_from 0 os)) (place os k + length o.insts) x
-near_exit owner os f fit k o e (BranchPair test a b t z) there own =
-    subst (λ p. FitsSigned w16 (branch_offset (place os k + length o.insts) p)) (sym (same_starts os t there.0))
-    (offset_near owner os f fit k t o e there.0 own)
-near_exit owner os f fit k o e (BranchZero test a t z) there own =
-    subst (λ p. FitsSigned w16 (branch_offset (place os k + length o.insts) p)) (sym (same_starts os t there.0))
-    (offset_near owner os f fit k t o e there.0 own)
+near_exit owner os f fit k o e (BranchPair test a b t z) there own = rw (same_starts os t there.0) (offset_near owner os f fit k t o e there.0 own)
+near_exit owner os f fit k o e (BranchZero test a t z) there own = rw (same_starts os t there.0) (offset_near owner os f fit k t o e there.0 own)
 near_exit owner os f fit k o e _ there own = tt
 
 pub all_near : (owner : ℕ → ℕ) (os : List OrderParts) → AreUnits owner os → FunctionsFit owner os → AllNear (start_of (places_from 0 os)) os

@@ -11,30 +11,22 @@ use Rattle.mips_asm.specs.declared.limits.TheConstants.{CODE_WORDS}
 
 pub returns-clause-word : goal.returns-clause-word
 returns-clause-word c =
-    let orders = c.args.orders.now in
     let at = c.deref.ensures.value ∙ c.in_ok-places.ensures in
-    c.in_ok-put_orders.ensures.word
-    ∙ ap (λ (xs : List ℕ). xs ++ map inst_word (insts_of (start_of c.deref.result.now) 0 orders)) c.in_ok-code.ensures.items
-    ∙ ap (λ (p : List ℕ). map inst_word (insts_of (start_of p) 0 orders)) at
-    ∙ ap (map inst_word) (same_layout orders c.requires.unit.there)
+    rw (c.in_ok-code.ensures.items, at, same_layout c.args.orders.now c.requires.unit.there) at c.in_ok-put_orders.ensures.word
 
 pub returns-clause-fit : goal.returns-clause-fit
 returns-clause-fit c =
-    let orders = c.args.orders.now in
     let at = c.deref.ensures.value ∙ c.in_ok-places.ensures in
-    let moved = subst (λ (p : List ℕ). Fit (insts_of (start_of p) 0 orders)) at c.in_ok-put_orders.ensures.fit in
-    All-from_recursion IsInst (layout orders) (subst Fit (same_layout orders c.requires.unit.there) moved)
+    All-from_recursion IsInst (layout c.args.orders.now)
+    (rw (at, same_layout c.args.orders.now c.requires.unit.there) at c.in_ok-put_orders.ensures.fit)
 
 pub put_orders-requires-clause-places : goal.put_orders-requires-clause-places
 put_orders-requires-clause-places c =
     let at = c.deref.ensures.value ∙ c.in_ok-places.ensures in
-    let total = c.total-words.ensures.value in
-    let le = c.if-words-gt-CODE_WORDS.false in
-    subst (λ (p : List ℕ). All (λ q. q ≤ CODE_WORDS) p) (sym at) (all_small c.args.orders.now (omega arith))
+    rw at (all_small c.args.orders.now (omega (arith, c.total-words.ensures.value, c.if-words-gt-CODE_WORDS.false)))
 
 pub put_orders-requires-clause-near : goal.put_orders-requires-clause-near
 put_orders-requires-clause-near c =
-    let orders = c.args.orders.now in
-    let own = slice_index c.args.owner.now in
     let at = c.deref.ensures.value ∙ c.in_ok-places.ensures in
-    subst (λ (p : List ℕ). AllNear (start_of p) orders) (sym at) (all_near own orders c.requires.unit (c.functions_fit.ensures.fit.0 c.if-not-functions_fit.false))
+    let fit = c.functions_fit.ensures.fit.0 c.if-not-functions_fit.false in
+    rw at (all_near (slice_index c.args.owner.now) c.args.orders.now c.requires.unit fit)

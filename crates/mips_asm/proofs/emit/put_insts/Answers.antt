@@ -7,11 +7,7 @@ use Rattle.mips_asm.specs.Emitted.{Fit}
 use Rattle.mips_asm.proofs.emit.put_insts.Goals as goal
 
 pub returns-clause-word : goal.returns-clause-word
-returns-clause-word c =
-    let code = c.loop-inst.code.items in
-    sym (ap (λ (l : List Plain). code ++ map inst_word (map I.Plain l)) (drop_all c.loop-inst.inst-index c.args.plain.now c.loop-inst-test.false)
-    ∙ append-nil code) ∙ c.loop-inst.invariant.0
+returns-clause-word c = rw (drop_all c.loop-inst.inst-index c.args.plain.now c.loop-inst-test.false, append-nil) at c.loop-inst.invariant.0
 
 pub returns-clause-fit : goal.returns-clause-fit
-returns-clause-fit c =
-    c.loop-inst.invariant.1 (subst (λ (l : List Plain). Fit (map I.Plain l)) (sym (drop_all c.loop-inst.inst-index c.args.plain.now c.loop-inst-test.false)) tt)
+returns-clause-fit c = c.loop-inst.invariant.1 (rw (drop_all c.loop-inst.inst-index c.args.plain.now c.loop-inst-test.false) tt)
