@@ -59,62 +59,37 @@ all_push (k ∷ ls) (j ∷ is) l i a h = (a.0, all_push ls is l i a.1 h)
 
 more_in_block : (is : List Plain) (ls : List (List ℕ)) (l : List ℕ) (i : Plain) → BlockBegun is ls → SpellsPlain l i → length is < 512
     → BlockBegun (is ++ i ∷ []) (ls ++ l ∷ [])
-more_in_block is ls l i s h n = record {
-  lines = s.lines ++ l ∷ [];
-  whole = ap (λ xs. xs ++ l ∷ []) s.whole;
-  spelled = all_push s.lines is l i s.spelled h;
-  size = omega (arith, length-append is (i ∷ []));
-}
+more_in_block is ls l i s h n =
+    let size : length (is ++ i ∷ []) ≤ 512 = omega (arith, length-append is (i ∷ [])) in
+    record { lines = s.lines ++ l ∷ []; whole = rw s.whole refl; spelled = all_push s.lines is l i s.spelled h; size = size }
 
 block_left : (is : List Plain) (ls : List (List ℕ)) (l : List ℕ) (e : Exit) → BlockBegun is ls → SpellsExit l e
     → BlockRead (record { insts = is; exit = e }) (ls ++ l ∷ [])
-block_left is ls l e s h = record {
-  lines = s.lines;
-  exit = l;
-  whole = ap (λ xs. xs ++ l ∷ []) s.whole;
-  spelled = s.spelled;
-  leaves = h;
-  size = s.size;
-}
+block_left is ls l e s h =
+    record { lines = s.lines; exit = l; whole = rw s.whole refl; spelled = s.spelled; leaves = h; size = s.size }
 
 order_begun : (b : BlockParts) (ls : List (List ℕ)) (l : List ℕ) → BlockRead b ls → l ≡ codes "order" → OrderBegun b [] (ls ++ l ∷ [])
-order_begun b ls l s e = record {
-  before = ls;
-  lines = [];
-  block = s;
-  whole = ap (λ x. ls ++ x ∷ []) e;
-  spelled = tt;
-  size = omega arith;
-}
+order_begun b ls l s e = record { before = ls; lines = []; block = s; whole = rw e refl; spelled = tt; size = omega arith }
 
 more_in_order : (b : BlockParts) (is : List Plain) (ls : List (List ℕ)) (l : List ℕ) (i : Plain) → OrderBegun b is ls → SpellsPlain l i
     → length is < 2048 → OrderBegun b (is ++ i ∷ []) (ls ++ l ∷ [])
-more_in_order b is ls l i s h n = record {
-  before = s.before;
-  lines = s.lines ++ l ∷ [];
-  block = s.block;
-  whole = ap (λ xs. xs ++ l ∷ []) s.whole ∙ append_assoc s.before (codes "order" ∷ s.lines) (l ∷ []);
-  spelled = all_push s.lines is l i s.spelled h;
-  size = omega (arith, length-append is (i ∷ []));
-}
+more_in_order b is ls l i s h n =
+    let size : length (is ++ i ∷ []) ≤ 2048 = omega (arith, length-append is (i ∷ [])) in
+    let whole : ls ++ l ∷ [] ≡ s.before ++ codes "order" ∷ (s.lines ++ l ∷ []) = rw s.whole (simp append_assoc) in
+    record { before = s.before; lines = s.lines ++ l ∷ []; block = s.block; whole = whole; spelled = all_push s.lines is l i s.spelled h; size = size }
 
 -- the whole text, of a block, an order's lines, and what follows them
 spelled_whole : (b : BlockParts) (is : List Plain) (e : Exit) (slot : Option Plain) (ls last : List (List ℕ)) (exit : List ℕ)
     → OrderBegun b is ls → SpellsExit exit e → EndsWith last slot → is_some slot ≡ is_slotted e → SpellsPair (ls ++ exit ∷ last) b (order_of is e slot)
 spelled_whole b is e slot ls last exit s h w v =
     let block = s.block in
-    let first : ls ≡ codes "block" ∷ ((block.lines ++ block.exit ∷ []) ++ codes "order" ∷ s.lines) =
-    s.whole ∙ ap (λ xs. xs ++ codes "order" ∷ s.lines) block.whole in
-    let second : ls ++ exit ∷ last ≡ codes "block" ∷ ((block.lines ++ block.exit ∷ []) ++ codes "order" ∷ s.lines ++ exit ∷ last) =
-    ap (λ xs. xs ++ exit ∷ last) first in
     record {
       block_lines = block.lines;
       block_exit = block.exit;
       order_lines = s.lines;
       order_exit = exit;
       last_lines = last;
-      whole = second ∙ ap (λ xs. codes "block" ∷ xs) (append_assoc (block.lines ++ block.exit ∷ []) (codes "order" ∷ s.lines) (exit ∷ last)
-          ∙ append_assoc block.lines (block.exit ∷ []) (codes "order" ∷ (s.lines ++ exit ∷ last)));
+      whole = rw (s.whole, block.whole) (simp append_assoc);
       block = block.spelled;
       leaves_block = block.leaves;
       order = s.spelled;
