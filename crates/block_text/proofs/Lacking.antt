@@ -28,9 +28,6 @@ lacks_digits c out (x ∷ xs) e =
 pub decimal_lacks : (c n : ℕ) → ¬ (IsInRange 48 57 c) → n < 2 ^ 32 → lacks c (decimal n) ≡ true
 decimal_lacks c n out lt = lacks_digits c out (decimal n) (digits_decimal own n (omega arith))
 
-pub comma_decimal : (n : ℕ) → n < 2 ^ 32 → lacks 44 (decimal n) ≡ true
-comma_decimal n lt = decimal_lacks 44 n (λ h. omega arith) lt
-
 pub comma_register : (r : ℕ) → r < 32 → lacks 44 (register_text r) ≡ true
 comma_register r lt = decimal_lacks 44 r (λ h. omega arith) (omega arith)
 
@@ -39,7 +36,7 @@ bracket_signed (pos n) fits = decimal_lacks 40 n (λ h. omega arith) (search ari
 bracket_signed (negsuc n) fits = decimal_lacks 40 (suc n) (λ h. omega arith) (search arith)
 
 pub comma_block : (n : ℕ) → n < 2 ^ 20 → lacks 44 (decimal n) ≡ true
-comma_block n lt = comma_decimal n (omega arith)
+comma_block n lt = decimal_lacks 44 n (λ h. omega arith) (omega arith)
 
 pub close_register : (r : ℕ) → r < 32 → lacks 41 (register_text r) ≡ true
 close_register r lt = decimal_lacks 41 r (λ h. omega arith) (omega arith)

@@ -1,21 +1,18 @@
 -- Where a text is cut.
 use Rattle.std.proofs.Common.{◌≡◌, ℕ, ◌+◌, ◌-◌, ◌<◌, List, [], ◌∷◌, ◌++◌, Bool, true, false, Some, None, length, suc, take, drop, get_or, position}
-use Rattle.std.proofs.Common.{◌==◌, sym, refl, arith}
+use Rattle.std.proofs.Common.{◌==◌, sym, refl, eqb-true, arith}
 use Rattle.std.specs.List.{position_or_len}
 use Rattle.std.proofs.lemmas.List.{take_rest, take-append-drop, drop_more, take_at, drop_at, append_assoc, length-append, take_all}
 use Rattle.std.proofs.lemmas.List.Quantifiers.{position-Some}
 use Rattle.std.proofs.lemmas.Grind.{common_steps}
 use Rattle.block_text.specs.Lines.{lacks, lines_of}
 
-pub eq_true : (x y : ℕ) → (x == y) ≡ true → x ≡ y
-eq_true x y e = grind arith
-
 pub cut_here : (c : ℕ) (xs : List ℕ) (i : ℕ) → position (λ b. b == c) xs ≡ Some i
     → xs ≡ take i xs ++ c ∷ take (length xs - (i + 1)) (drop (i + 1) xs)
 cut_here c xs i e =
     let at = position-Some (λ b. b == c) xs i 0 e in
     let lt : i < length xs = at.0 in
-    let is : get_or xs i 0 ≡ c = eq_true _ _ at.1 in
+    let is : get_or xs i 0 ≡ c = eqb-true _ _ at.1 in
     let rest : drop i xs ≡ get_or xs i 0 ∷ drop (i + 1) xs = drop_more xs i 0 lt in
     let after : take (length xs - (i + 1)) (drop (i + 1) xs) ≡ drop (i + 1) xs = take_rest xs (i + 1) in
     let whole : take i xs ++ drop i xs ≡ xs = take-append-drop i xs in

@@ -56,9 +56,7 @@ fails_here text rest after l n p r e none =
         inside,
         λ h.
             let k : Begins (r.seen ++ l ∷ []) = subst (λ (xs : List (List ℕ)). Begins xs) upto h in
-            let spelled : SpellsPair (r.seen ++ l ∷ k.0) k.1 k.2 =
-            subst (λ (xs : List (List ℕ)). SpellsPair xs k.1 k.2) (append_assoc r.seen (l ∷ []) k.0) k.3 in
-            no_start r.seen k.0 l p k.1 k.2 r.only none spelled,
+            no_start r.seen k.0 l p k.1 k.2 r.only none (rw (append_assoc r.seen (l ∷ []) k.0) at k.3),
       ),
     )
 

@@ -129,9 +129,6 @@ shorter ls l (more, b, o, s) = (l ∷ more, b, o, subst (λ (xs : List (List ℕ
 done : (b : BlockParts) (o : OrderParts) (ls : List (List ℕ)) → SpellsPair ls b o → Begins ls
 done b o ls s = ([], b, o, subst (λ (xs : List (List ℕ)). SpellsPair xs b o) (sym (append-nil ls)) s)
 
-nop : Plain
-nop = Shift Sll 0 0 0
-
 nop_line : SpellsPlain (codes "nop") (Shift Sll 0 0 0)
 nop_line = ((omega arith, omega arith, omega arith), inl (refl, refl))
 
