@@ -14,7 +14,7 @@ use Rattle.mblock.specs.Parts.{BlockParts}
 use Rattle.mblock.proofs.Runs.{AllSafe, Ready, words_run}
 use Rattle.mips_code.specs.Machines.{machine_run}
 use Rattle.mips_asm.specs.Fetching.{insts_code}
-use Rattle.mips_asm.specs.Layout.{place, exit_insts, layout, links_of}
+use Rattle.mips_asm.specs.Layout.{place, layout, links_of}
 use Rattle.mblock.specs.UnitRuns.{items}
 use Rattle.mblock.specs.PlainOrders.{padded_inst, plain_order_of}
 use Rattle.mblock.proofs.PlainOrders.{padded_keep, loads_load, padded_append, padded_length, safe_padded, plain_at}

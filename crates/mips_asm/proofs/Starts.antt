@@ -2,23 +2,19 @@
 use Rattle.std.proofs.lemmas.List.{map-append, drop_more}
 use Rattle.std.proofs.lemmas.Option.{slice_get_read}
 use Rattle.mips_code.specs.Words.{inst_word}
-use Rattle.std.proofs.Common.{◌≡◌, ℕ, zero, suc, ◌+◌, ◌/◌, ◌<◌, List, [], ◌∷◌, ◌++◌, map, length, All, Option, Some, slice_get, refl, ap}
+use Rattle.std.proofs.Common.{◌≡◌, ℕ, zero, suc, ◌+◌, ◌<◌, List, [], ◌∷◌, ◌++◌, map, length, All, Option, Some, slice_get, refl, ap}
 use Rattle.std.proofs.Common.{ap₂, arith, get_or, ◌≤◌, subst, drop, append_assoc, sym, ◌∙◌}
 use Rattle.std.specs.Prelude.{slice_index}
 use Rattle.std.proofs.lemmas.List.Elements.{All-from_recursion}
 use Rattle.mips_isa.specs.declared.inst.Plain.{Plain}
-use Rattle.mips_isa.specs.declared.inst.JumpOp.TheVariants.{JumpAndLink}
-use Rattle.mips_isa.specs.declared.inst.Control.TheVariants as controls
 use Rattle.mips_isa.specs.declared.inst.Inst.TheVariants as I
 use Rattle.mblock.specs.declared.exit.Exit.{Exit}
 use Rattle.mblock.specs.declared.exit.Exit.TheVariants.{Goto, BranchPair, BranchZero, Call, Out}
 use Rattle.mblock.specs.Parts.{OrderParts}
 use Rattle.mblock.specs.Units.{GoesBelow}
-use Rattle.mips_asm.specs.Layout.{size, place, slot_insts, hop, jump_to, branch_offset, set_number, address_of_place, exit_insts}
+use Rattle.mips_asm.specs.Layout.{size, place, exit_insts}
 use Rattle.mips_asm.specs.Layout.{insts_of, layout, order_insts}
 use Rattle.mips_asm.proofs.Within.{place_next}
-use Rattle.std.specs.Prelude.{FitsSigned}
-use Rattle.std.specs.Int.{w16}
 use Rattle.std.specs.List.{AllByRecursion}
 use Rattle.mips_asm.specs.Functions.{AreFunctions}
 use Rattle.mips_asm.proofs.Fits.{all_both, offset_near}
@@ -36,14 +32,11 @@ same_starts os k lt = let e = place_in os 0 k lt in omega arith
 
 module _ (n : ℕ) (s s' : ℕ → ℕ) (h : (t : ℕ) → t < n → s t ≡ s' t) where
   same_exit : (here : ℕ) (exit : Exit) (slot : Option Plain) → GoesBelow n exit → exit_insts s here exit slot ≡ exit_insts s' here exit slot
-  same_exit here (Goto t) slot there = ap (λ p. jump_to p ∷ slot_insts slot) (h t there)
-  same_exit here (BranchPair test a b t e) slot there =
-      ap₂ (λ p q. I.Control (controls.BranchPair test a b (branch_offset here p)) ∷ (slot_insts slot ++ hop q)) (h t there.0) (h e there.1)
-  same_exit here (BranchZero test a t e) slot there =
-      ap₂ (λ p q. I.Control (controls.BranchZero test a (branch_offset here p)) ∷ (slot_insts slot ++ hop q)) (h t there.0) (h e there.1)
-  same_exit here (Call f m) slot there =
-      ap₂ (λ p q. I.Control (controls.JumpTo JumpAndLink (address_of_place p / 4)) ∷ (slot_insts slot ++ hop q)) (h f there.0) (h m there.1)
-  same_exit here (Out m) slot there = ap (λ q. set_number (Rattle.std.specs.Prelude.pos 1) ∷ I.Control controls.SystemCall ∷ hop q) (h m there)
+  same_exit here (Goto t) slot there = rw (h t there) refl
+  same_exit here (BranchPair test a b t e) slot there = rw (h t there.0, h e there.1) refl
+  same_exit here (BranchZero test a t e) slot there = rw (h t there.0, h e there.1) refl
+  same_exit here (Call f m) slot there = rw (h f there.0, h m there.1) refl
+  same_exit here (Out m) slot there = rw (h m there) refl
   same_exit here _ slot there = refl
 
   same_insts : (os : List OrderParts) (here : ℕ) → ((k : ℕ) (o : OrderParts) → slice_get os k ≡ Some o → GoesBelow n o.exit)

@@ -1,13 +1,10 @@
-use Rattle.std.proofs.Common.{sym, ◌++◌, ℕ, List, map, ap, subst, ◌∙◌, All, ◌≤◌, arith}
+use Rattle.std.proofs.Common.{◌∙◌, arith}
 use Rattle.std.specs.Prelude.{slice_index}
 use Rattle.std.proofs.lemmas.List.Elements.{All-from_recursion}
 use Rattle.mips_isa.specs.Ranges.{IsInst}
-use Rattle.mips_code.specs.Words.{inst_word}
-use Rattle.mips_asm.specs.Layout.{insts_of, layout}
-use Rattle.mips_asm.specs.Emitted.{Fit, AllNear, start_of}
+use Rattle.mips_asm.specs.Layout.{layout}
 use Rattle.mips_asm.proofs.Starts.{same_layout, all_small, all_near}
 use Rattle.mips_asm.proofs.emit.code_of.Goals as goal
-use Rattle.mips_asm.specs.declared.limits.TheConstants.{CODE_WORDS}
 
 pub returns-clause-word : goal.returns-clause-word
 returns-clause-word c =

@@ -1,9 +1,4 @@
-use Rattle.std.proofs.Common.{List, ◌++◌, map, sym, ap, ◌∙◌, subst}
 use Rattle.std.proofs.lemmas.List.{append-nil, drop_all}
-use Rattle.mips_isa.specs.declared.inst.Plain.{Plain}
-use Rattle.mips_isa.specs.declared.inst.Inst.TheVariants as I
-use Rattle.mips_code.specs.Words.{inst_word}
-use Rattle.mips_asm.specs.Emitted.{Fit}
 use Rattle.mips_asm.proofs.emit.put_insts.Goals as goal
 
 pub returns-clause-word : goal.returns-clause-word

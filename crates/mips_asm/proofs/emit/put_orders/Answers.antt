@@ -1,7 +1,7 @@
-use Rattle.std.proofs.Common.{◌+◌, ◌++◌, length, map, refl, sym, subst, arith}
+use Rattle.std.proofs.Common.{◌++◌, map, refl, sym, arith}
 use Rattle.mips_code.specs.Words.{inst_word}
 use Rattle.mips_asm.specs.Layout.{insts_of}
-use Rattle.mips_asm.specs.Emitted.{IsNear, start_of}
+use Rattle.mips_asm.specs.Emitted.{start_of}
 use Rattle.mips_asm.proofs.Starts.{place_step, words_on, fit_on}
 use Rattle.mips_asm.proofs.Within.{place_none, place_room}
 use Rattle.std.proofs.lemmas.Option.{slice_get_read}
@@ -17,9 +17,8 @@ put_order-requires-clause-here c =
 
 pub put_order-requires-clause-near : goal.put_order-requires-clause-near
 put_order-requires-clause-near c =
-    let o = c.order-item.result in
-    let near = c.requires.near c.loop-order.order-index o (slice_get_read _ _ _ _ refl c.loop-order-test.true c.order-item.is) in
-    subst (λ h. IsNear (start_of c.args.places.now) (h + length o.insts) o.exit) (sym c.loop-order.invariant.2) near
+    rw c.loop-order.invariant.2
+    (c.requires.near c.loop-order.order-index c.order-item.result (slice_get_read _ _ _ _ refl c.loop-order-test.true c.order-item.is))
 
 pub overflow_add-here : goal.overflow_add-here
 overflow_add-here c =
