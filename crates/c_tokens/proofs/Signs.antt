@@ -1,6 +1,6 @@
 -- The longest operator, by what its first byte alone spells, then its first two and three.
 use Rattle.std.proofs.lemmas.Bool.Decides.{nat_tests}
-use Rattle.std.proofs.Common.{arith, ◌≡◌, ◌∷◌, ℕ, List, [], true, Option, Some, None, is_some}
+use Rattle.std.proofs.Common.{arith, sym, ap, subst, ◌∙◌, ◌≡◌, ◌∷◌, ℕ, List, [], true, false, Option, Some, None, is_some}
 use Rattle.c_tokens.specs.declared.token.Mark.{Mark}
 use Rattle.c_tokens.specs.Lexing.{entry_in, signs}
 use Rattle.c_tokens.specs.Fronts.{mark_of, spelled_or, sign_of}
@@ -36,3 +36,24 @@ sign-one a b (c ∷ cs) m h k = let t = triple-pair a b c m h k in grind (arith,
 
 pub sign-three : (a b c : ℕ) (cs : List ℕ) → is_some (entry_in signs (a ∷ b ∷ c ∷ [])) ≡ true → sign_of (a ∷ b ∷ c ∷ cs) ≡ None
 sign-three a b c cs h = let t = no-triple a b c in grind (arith, h, t)
+
+-- two bytes that are spelled are the longest, if three are none
+two-spelled : (other : Option (Mark × ℕ)) (y z : Option (Option Mark)) (p : Option Mark) → y ≡ Some p → is_some z ≡ false
+    → spelled_or (spelled_or other 2 y) 3 z ≡ spelled_or None 2 (Some p)
+two-spelled other y z p h k = grind (arith, h, k)
+
+two-alone : (other : Option (Mark × ℕ)) (y : Option (Option Mark)) (p : Option Mark) → y ≡ Some p
+    → spelled_or (spelled_or other 2 y) 2 y ≡ spelled_or None 2 (Some p)
+two-alone other y p h = grind (arith, h)
+
+pub sign-two : {text rest more : List ℕ} (a b : ℕ) (p q : Option Mark) → text ≡ a ∷ rest → rest ≡ b ∷ more → more ≡ [] → entry_in signs (a ∷ b ∷ []) ≡ Some p → p ≡ q
+    → spelled_or None 2 (Some q) ≡ sign_of text
+sign-two a b p q is then ends h e =
+    sym (subst (λ l. sign_of l ≡ spelled_or None 2 (Some q)) (sym (is ∙ ap (λ l. a ∷ l) (then ∙ ap (λ l. b ∷ l) ends)))
+    (two-alone (spelled_or None 1 (entry_in signs (a ∷ []))) (entry_in signs (a ∷ b ∷ [])) q (h ∙ ap Some e)))
+
+pub sign-pair : {text rest more after : List ℕ} (a b c : ℕ) (p q : Option Mark) → text ≡ a ∷ rest → rest ≡ b ∷ more → more ≡ c ∷ after
+    → entry_in signs (a ∷ b ∷ []) ≡ Some p → is_some (entry_in signs (a ∷ b ∷ c ∷ [])) ≡ false → p ≡ q → spelled_or None 2 (Some q) ≡ sign_of text
+sign-pair a b c p q is then more h k e =
+    sym (subst (λ l. sign_of l ≡ spelled_or None 2 (Some q)) (sym (is ∙ ap (λ l. a ∷ l) (then ∙ ap (λ l. b ∷ l) more)))
+    (two-spelled (spelled_or None 1 (entry_in signs (a ∷ []))) (entry_in signs (a ∷ b ∷ [])) (entry_in signs (a ∷ b ∷ c ∷ [])) q (h ∙ ap Some e) k))
