@@ -1,4 +1,4 @@
-use Rattle.std.proofs.Common.{◌∙◌, [], map, refl, sym, ap, length, vec_len, vec_capacity, arith}
+use Rattle.std.proofs.Common.{◌∙◌, [], map, refl, sym, ap, length, vec_len, vec_capacity, arith, rules}
 use Rattle.mips_isa.specs.Actions.{action_of}
 use Rattle.mblock.specs.Clean.{slot_actions}
 use Rattle.sym_exec.specs.Asked.{block_asked, order_asked}
@@ -8,7 +8,7 @@ use Rattle.sym_exec.proofs.Asked.{err_always, lacks_left, lacks_right}
 use Rattle.sym_exec.specs.Runs.{needed}
 use Rattle.sym_exec.proofs.Nops.{same_trees, same_stores, needed_few}
 use Rattle.sym_exec.proofs.Shared.{stands_in_parts, lacks_early, lacks_late, growth_in_parts}
-use Rattle.sym_exec.proofs.Tickets.{known_on, stands_for_on}
+use Rattle.sym_exec.proofs.Tickets.{goes_on, goes_more, interns_by, known_on, stands_for_on}
 use Rattle.sym_exec.proofs.Tracking.{tracks_copied, chain_copied}
 use Rattle.sym_exec.proofs.run.run_pair_from.Goals as goal
 
@@ -132,3 +132,17 @@ finish-requires-2-clause-few c =
     let cut = c.split_at-2.ensures in
     let copy = c.copy_from.ensures in
     omega (arith, copy.count, copy.capacity, c.in_ok-steps.ensures.guards, none, empty, few, cut.front_len, cut.back_len, whole, c.requires.order_room.few)
+
+pub returns-in_err-steps-clause-pass : goal.returns-in_err-steps-clause-pass
+returns-in_err-steps-clause-pass c = interns_by (goes_on c.in_err-steps.ensures.pass) (search rules)
+
+pub returns-in_err-first-clause-pass : goal.returns-in_err-first-clause-pass
+returns-in_err-first-clause-pass c = interns_by (goes_more (goes_on c.in_ok-steps.ensures.pass) (goes_on c.in_err-first.ensures.pass)) (search rules)
+
+pub returns-in_err-second-clause-pass : goal.returns-in_err-second-clause-pass
+returns-in_err-second-clause-pass c =
+    interns_by (goes_more (goes_more (goes_on c.in_ok-steps.ensures.pass) (goes_on c.in_ok-first.ensures.pass)) (goes_on c.in_err-second.ensures.pass)) (search rules)
+
+pub returns-clause-pass : goal.returns-clause-pass
+returns-clause-pass c =
+    interns_by (goes_more (goes_more (goes_on c.in_ok-steps.ensures.pass) (goes_on c.in_ok-first.ensures.pass)) (goes_on c.in_ok-second.ensures.pass)) tt
