@@ -13,7 +13,7 @@ use Rattle.mips_homes.specs.Choice.{IsChoice}
 use Rattle.mips_homes.specs.Locals.{is_local, none_reads_first, some_go_to, block_reads_first}
 use Rattle.mips_homes.specs.Preferences.{reach_from, exit_reach, blocks_reach, register_of, preference}
 use Rattle.mips_homes.specs.Convention.{temporaries}
-use Rattle.mips_homes.specs.Copies.{unused}
+use Rattle.mips_homes.specs.Copies.{is_leaf, unused, copied, copied_onto}
 use Rattle.mips_homes.specs.Places.{first_free, free_register, home_or, also, places_from, is_register, lives_in, still_saved, is_slot, some_slot, IsPlaced, ArePlaced}
 use Rattle.mips_homes.proofs.Choosing.{at_index}
 use Rattle.rtl.proofs.Names.{bound_least}
@@ -162,6 +162,13 @@ pub unused_range : (hs : List Home) (free : List ℕ) (j r : ℕ) → free ≡ u
 unused_range hs free j r is e =
     let range = (unused_temporary hs j r (sym (ap (λ l. slice_get l j) is) ∙ e)).0 in
     (let low = range.0 in omega (arith, low), let high = range.1 in omega (arith, high))
+
+-- a function without calls has copies, and another has none
+pub copied-leaf : (bs : List RBlock) (hs : List Home) → is_leaf bs ≡ true → copied_onto (unused hs temporaries) hs ≡ copied bs hs
+copied-leaf bs hs leaf = sym (ap (λ (b : Bool). if b then copied_onto (unused hs temporaries) hs else hs) leaf)
+
+pub copied-else : (bs : List RBlock) (hs : List Home) → is_leaf bs ≡ false → hs ≡ copied bs hs
+copied-else bs hs calls = sym (ap (λ (b : Bool). if b then copied_onto (unused hs temporaries) hs else hs) calls)
 
 -- the register that is passed
 pub temporary_range : (local : ℕ → Bool) (preference : ℕ → Option ℕ) → ArePreferences preference → (x : ℕ) (taken : List ℕ) (h : Home) (p : GetsTemporary local preference x taken h)
