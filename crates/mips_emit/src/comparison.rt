@@ -265,7 +265,10 @@ fn form_for(asked: Asked, op: Op, left: Option<u32>, right: Option<u32>) -> Opti
 fn is_caller_saved(place: Option<Home>) -> bool
     ensures { result ≡ is_caller_saved place }
 {
-    place.is_some_and(|home| matches!(home, Home::Reg(r) if !is_callee_saved(r.index())))
+    match place {
+        Some(home) => matches!(home, Home::Reg(r) if !is_callee_saved(r.index())),
+        None => false,
+    }
 }
 
 /// Makes an operator a comparison, if it is one.

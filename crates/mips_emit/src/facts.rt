@@ -4,7 +4,7 @@ ghost use Rattle.std.specs.Prelude.{◌≡◌, OnOk, OnErr, IfOk, Some};
 ghost use Rattle.mips_emit.specs.Frames.{IsReachable};
 ghost use Rattle.runs.specs.Stores.{places_with};
 ghost use Rattle.mips_emit.specs.Locations.{known_of, known_in, facts_of, no_facts, word_in, deferred_at, deferred_const, deferred_none};
-ghost use Rattle.mips_emit.specs.Locations.{newest, with_fact, learned, in_slot, fresh_of};
+ghost use Rattle.mips_emit.specs.Locations.{newest, with_fact, written, learned, in_slot, fresh_of};
 ghost use Rattle.mips_emit.specs.Locations.{index_register, index_of, kept_with, kept_without, kept_past};
 ghost use Rattle.mips_emit.specs.Offsets.{sum_offset, or_offset};
 ghost use Rattle.mips_emit.specs.Comparisons.{last_with};
@@ -162,8 +162,10 @@ fn put_fact(facts: &mut Vec<Fact>, register: Register, word: Option<u32>) -> Res
 fn forget_kept(kept: &mut Option<Kept>, r: NonzeroReg)
     ensures { kept.new ≡ kept_without r kept.old }
 {
-    if kept.is_some_and(|k| touches(&k.index, r)) {
-        *kept = None;
+    if let Some(k) = *kept {
+        if touches(&k.index, r) {
+            *kept = None;
+        }
     }
 }
 
@@ -245,6 +247,24 @@ fn put_offset(offset: &mut Option<Offset>, new: Option<Offset>)
     }
 }
 
+/// Learns that a register is written, and with which word; an Err means out of memory, and leaves what was known.
+#[inline(always)]
+fn learn_write(
+    facts: &mut Knowledge,
+    place: &Option<Home>,
+    d: Register,
+    word: Option<u32>,
+) -> Result<(), AllocError>
+    ensures kept { OnErr result (facts_of facts.new ≡ facts_of facts.old) }
+    ensures is { OnOk result (facts_of facts.new ≡ written place.now d word (facts_of facts.old)) }
+{
+    put_fact(&mut facts.known, d, word)?;
+    clear_deferred(&mut facts.deferred, place);
+    pass_kept(&mut facts.kept, place);
+    pass_offset(&mut facts.offset, place);
+    Ok(())
+}
+
 /// Learns what is known after an instruction; an Err means out of memory, and leaves what was known.
 #[inline(always)]
 pub(crate) fn learn(facts: &mut Knowledge, frame: &Frame, inst: &RInst) -> Result<(), AllocError>
@@ -263,28 +283,20 @@ pub(crate) fn learn(facts: &mut Knowledge, frame: &Frame, inst: &RInst) -> Resul
         RInst::Move(d, a) => {
             let place = locate(frame, *d);
             let word = known_word(facts, *a);
-            put_fact(&mut facts.known, *d, word)?;
-            clear_deferred(&mut facts.deferred, &place);
-            pass_kept(&mut facts.kept, &place);
-            pass_offset(&mut facts.offset, &place);
+            learn_write(facts, &place, *d, word)?;
         }
         RInst::Bin(op, d, a, b) => {
             let place = locate(frame, *d);
             let sum = sum_at(facts, frame, *op, &place, *a, *b);
-            put_fact(&mut facts.known, *d, None)?;
-            clear_deferred(&mut facts.deferred, &place);
-            pass_kept(&mut facts.kept, &place);
-            pass_offset(&mut facts.offset, &place);
+            learn_write(facts, &place, *d, None)?;
             put_offset(&mut facts.offset, sum);
         }
         RInst::Load(d, a, i) => {
             let place = locate(frame, *d);
             let kept = kept_at(facts, frame, *a, *i);
-            put_fact(&mut facts.known, *d, None)?;
-            clear_deferred(&mut facts.deferred, &place);
+            learn_write(facts, &place, *d, None)?;
             facts.kept = kept;
             pass_kept(&mut facts.kept, &place);
-            pass_offset(&mut facts.offset, &place);
         }
         RInst::Store(a, i, _) => facts.kept = kept_at(facts, frame, *a, *i),
     }

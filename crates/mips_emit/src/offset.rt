@@ -92,8 +92,10 @@ pub(crate) fn touches(offset: &Offset, r: NonzeroReg) -> bool
 fn forget_offset(offset: &mut Option<Offset>, r: NonzeroReg)
     ensures { offset.new ≡ offset_without r offset.old }
 {
-    if offset.is_some_and(|o| touches(&o, r)) {
-        *offset = None;
+    if let Some(o) = *offset {
+        if touches(&o, r) {
+            *offset = None;
+        }
     }
 }
 
