@@ -1,5 +1,5 @@
 //! Whole calls on the nodes, over a pass's seat.
-ghost use Rattle.std.specs.Prelude.{◌≡◌, ◌<◌, ◌≤◌};
+ghost use Rattle.std.specs.Prelude.{◌≡◌, ◌<◌, ◌≤◌, ◌%◌};
 ghost use Rattle.term_core.specs.declared.Call.TheVariants.{Find, Intern};
 ghost use Rattle.term_core.specs.World.{kid_word};
 ghost use Rattle.term_table.specs.Rule.{mix, scattered, chain_of};
@@ -39,7 +39,21 @@ fn scatter_hash(heads: u64, hash: u64) -> u64
     (hash / 256).wrapping_mul(SCATTER) / 4294967296 * heads / 4294967296 + hash % 256
 }
 
-/// Returns the chain of a term. Where it lies below the heads, as most do, nothing is divided.
+/// Returns what is left of a number by the heads. Where it lies below them, as most do, nothing is divided.
+#[inline(always)]
+fn below(heads: u64, number: u64) -> u64
+    requires { 0 < heads }
+    ensures value { result ≡ number % heads }
+    ensures range { result < heads }
+{
+    if number < heads {
+        number
+    } else {
+        number % heads
+    }
+}
+
+/// Returns the chain of a term.
 fn chain_at(heads: u64, word: u64, kids: &[Ticket]) -> u64
     requires { (0 < heads) × (heads ≤ LARGE_MAX_HEADS) }
     ensures value { result ≡ chain_of heads word kids.now }
@@ -49,8 +63,7 @@ fn chain_at(heads: u64, word: u64, kids: &[Ticket]) -> u64
     for kid in kids {
         hash = mix_in(hash, kid.number());
     }
-    let chain = scatter_hash(heads, hash);
-    if chain < heads { chain } else { chain % heads }
+    below(heads, scatter_hash(heads, hash))
 }
 
 impl Nodes {
