@@ -42,7 +42,8 @@ fn loaded_register(inst: &Plain) -> Option<Reg> {
 /// Returns the first instruction that touches what the one before it loads: the places of the two.
 fn load_use(insts: &[Plain]) -> Option<(usize, usize)> {
     let k = insts.windows(2).position(|pair| match pair {
-        [inst, next] => loaded_register(inst).is_some_and(|loaded| next.action().touches(loaded)),
+        [inst, next] =>
+            matches!(loaded_register(inst), Some(loaded) if next.action().touches(loaded)),
         _ => false,
     })?;
     Some((k, k + 1))

@@ -13,7 +13,7 @@ fn insts_read(insts: &[Plain], register: NonzeroReg) -> bool {
     let first = insts
         .iter()
         .find(|inst| inst.action().touches(register.reg()));
-    first.is_some_and(|inst| inst.reads(register.reg()))
+    matches!(first, Some(inst) if inst.reads(register.reg()))
 }
 
 /// Reports whether the exit reads the register.
@@ -61,7 +61,7 @@ fn put_start(
 /// Reports whether one of them moves HI or LO, before a product or a division writes both.
 fn moves_before_product(insts: &[Plain]) -> bool {
     let first = insts.iter().find(|inst| inst.action().is_product() || inst.action().is_move());
-    first.is_some_and(|inst| !inst.action().is_product())
+    matches!(first, Some(inst) if !inst.action().is_product())
 }
 
 /// Writes HI and LO, if they are read, and the words of memory that are loaded.
