@@ -1,6 +1,6 @@
 -- What every step keeps: the words hold the chains of the nodes that the history has, and each pass stands where its walk is right.
 use Rattle.std.proofs.Common.{◌≡◌, ℕ, suc, ◌+◌, ◌*◌, ◌<◌, ◌≤◌, ◌≢◌, ◌⊎◌, Bool, true, false, List, [], ◌∷◌, ◌++◌}
-use Rattle.std.proofs.Common.{length, slice_index, Some, None, sym, ap, subst, ◌∙◌, inl, inr, ⊎_elim, append_assoc}
+use Rattle.std.proofs.Common.{length, slice_index, Some, None, refl, sym, ap, subst, ◌∙◌, inl, inr, ⊎_elim, append_assoc}
 use Rattle.std.proofs.Common.{append-nil, arith}
 use mathlib.Core.Option.{some}
 use lib.ListN.{get_elem?}
@@ -8,14 +8,14 @@ use Rattle.term_core.specs.declared.Call.{Call}
 use Rattle.term_core.specs.declared.Call.TheVariants.{Intern, Find, Read}
 use Rattle.term_core.specs.declared.Entry.{Entry}
 use Rattle.term_core.specs.declared.Stage.{Stage}
-use Rattle.term_core.specs.declared.Stage.TheVariants.{Idle, AtLink, AtContent, Writing, Linking, Reading}
+use Rattle.term_core.specs.declared.Stage.TheVariants.{Idle, Looking, AtLink, AtContent, Writing, Linking, Reading}
 use Rattle.term_core.specs.declared.Walker.{Walker}
 use Rattle.term_core.specs.declared.TheConstants.{CONTENT_WORDS}
 use Rattle.term_labels.specs.WordTrees.{Tree, Trees, node}
 use Rattle.term_core.specs.Terms.{Pair, tree_at, trees_at, added_by, pairs_of, IsLegal, calls_by, StartsWith}
-use Rattle.term_core.specs.World.{Shape, World, Choice, link_of, kid_in, content_of, content, at_most_three, call_start, step_start_at}
-use Rattle.term_core.specs.World.{word_count}
-use Rattle.term_core.proofs.Replay.{IsThere}
+use Rattle.term_core.specs.World.{Shape, World, Choice, link_of, kid_in, content_of, content, at_most_three, step_start, step_start_at}
+use Rattle.term_core.specs.World.{word_count, begins, looks, is_idle, becomes_at, first_stage, may_begin}
+use Rattle.term_core.proofs.Replay.{IsThere, cond_has}
 use Rattle.term_core.proofs.Chains.{Mem, Linked, end_of}
 
 -- the content word i of a node
@@ -177,11 +177,21 @@ pub at_stage : (s : Shape) (words : List ℕ) (h : List Entry) (chains : ℕ →
     → Stands s words h chains by (record v { stage = g; probes = q })
 at_stage s words h chains by v g q few k st = stands_at s words words h chains by v g q few st.free k st
 
--- what holds of a pass that goes on, and of one that begins what was chosen, holds where a step starts
-pub step_start_has : (P : Walker → Type 0) (s : Shape) (choice : Choice) (v : Walker) (g : Stage) → P v → P (call_start s choice v)
-    → P (step_start_at s choice v g)
-step_start_has P s choice v Idle on begun = begun
-step_start_has P s choice v _ on begun = on
+-- What holds of a pass that goes on, and of one that begins what was chosen, holds where a step starts. No first step of what was chosen
+-- changes a word.
+pub begun_has : (P : Walker → Type 0) (s : Shape) (choice : Choice) (v : Walker) → P v
+    → ((g : Stage) (q : ℕ) → is_idle g ≡ false → ((u : Walker) (n : ℕ) → becomes_at u g n ≡ n) → P (record v { stage = g; probes = q }))
+    → P (step_start s choice v)
+begun_has P s choice v on begun = by_stage choice v.stage
+  where
+    call : (c : Call) → P (record v { stage = first_stage s c; probes = 0 })
+    call (Read t) = begun _ 0 refl (λ u n. refl)
+    call _ = begun _ 0 refl (λ u n. refl)
+
+    by_stage : (choice : Choice) (g : Stage) → P (step_start_at s choice v g)
+    by_stage (begins c) Idle = cond_has P (may_begin v.seen c) _ _ (call c) on
+    by_stage (looks n) Idle = begun (Looking n) v.probes refl (λ u n. refl)
+    by_stage _ _ = on
 
 abbrev pub rooms : List Walker → ℕ
 rooms [] = 0

@@ -9,20 +9,20 @@ use Rattle.term_core.specs.declared.Call.{Call}
 use Rattle.term_core.specs.declared.Call.TheVariants.{Intern, Find, Read}
 use Rattle.term_core.specs.declared.Entry.{Entry}
 use Rattle.term_core.specs.declared.Stage.{Stage}
-use Rattle.term_core.specs.declared.Stage.TheVariants.{Looking, AtLink, AtContent, Writing, Linking, Reading}
+use Rattle.term_core.specs.declared.Stage.TheVariants.{Idle, Looking, AtLink, AtContent, Writing, Linking, Reading}
 use Rattle.term_core.specs.declared.Walker.{Walker}
 use Rattle.term_labels.specs.WordTrees.{Trees}
 use Rattle.term_core.specs.Terms.{Pair, tree_at, trees_at, added_by, pairs_of}
 use Rattle.term_core.specs.Terms.{IsLegal, calls_by, occurs}
 use Rattle.term_core.specs.World.{Shape, IsShape, World, Item, Choice, begins, looks, world_of, world_after, start, step, does, acts}
-use Rattle.term_core.specs.World.{steps, step_start_at, call_start, may_begin, all_occur, at_most_three, first_stage, is_idle}
+use Rattle.term_core.specs.World.{steps, step_start, step_start_at, may_begin, all_occur, at_most_three, first_stage, is_idle}
 use Rattle.term_core.specs.World.{place_at}
 use Rattle.term_core.specs.World.{fresh, fresh_from, link_of}
 use Rattle.term_core.specs.World.{word_count}
 use Rattle.term_core.specs.Law.{Sees, Lawful}
 use Rattle.term_core.proofs.Replay.{IsThere, there_from, tree_later, pairs_append, same_from, legal_front}
 use Rattle.term_core.proofs.Chains.{Mem, mem_here, end_of, end_cases}
-use Rattle.term_core.proofs.Kept.{OnLink, Spot, Stands, at_stage, step_start_has, Inv}
+use Rattle.term_core.proofs.Kept.{OnLink, Spot, Stands, at_stage, begun_has, Inv}
 use Rattle.term_core.proofs.Kept.{Searches, chain_of, label_of, kids_of, rooms}
 use Rattle.term_core.proofs.EachStep.{each}
 
@@ -94,45 +94,33 @@ module _ (s : Shape) (ok : IsShape s) (w : World) (inv : Inv s w) (p : ℕ) (v :
         probes = refl;
       })
 
-  looking : (n : ℕ) → Stands s w.words w.history inv.chains p (record v { stage = Looking n })
-  looking n = with_spot (Looking n) v.probes st.probes tt
-
   call_or : (c : Call) (x : Bool) → may_begin v.seen c ≡ x
       → Stands s w.words w.history inv.chains p (cond x (record v { stage = first_stage s c; probes = 0 }) v)
   call_or c true e = begun_call c e
   call_or c false e = st
 
-  chosen_stands : (choice : Choice) → Stands s w.words w.history inv.chains p (call_start s choice v)
-  chosen_stands (begins c) = call_or c (may_begin v.seen c) refl
-  chosen_stands (looks n) = looking n
-
   -- so does one that begins what was chosen, or goes on
   pub begun_stands : (choice : Choice) (g : Stage) → Stands s w.words w.history inv.chains p (step_start_at s choice v g)
-  begun_stands choice g = step_start_has (Stands s w.words w.history inv.chains p) s choice v g st (chosen_stands choice)
+  begun_stands (begins c) Idle = call_or c (may_begin v.seen c) refl
+  begun_stands (looks n) Idle = with_spot (Looking n) v.probes st.probes tt
+  begun_stands _ _ = st
 
-  go_on : (b : Walker) → b.room ≡ v.room → Stands s w.words w.history inv.chains p b → Inv s (acts s w p b)
-  go_on b r sb = busy_or (is_idle b.stage) refl
+  begun_goes : (choice : Choice) → Inv s (acts s w p (step_start s choice v))
+  begun_goes choice = busy_or (is_idle b.stage) refl
     where
+      b : Walker
+      b = step_start s choice v
+
       busy_or : (x : Bool) → is_idle b.stage ≡ x → Inv s (cond x w (steps s w p b))
       busy_or true e = inv
-      busy_or false e = each s ok w inv p v at b r sb b.stage sb.spot e
-
-  begins_or : (c : Call) (x : Bool) → may_begin v.seen c ≡ x
-      → Inv s (acts s w p (cond x (record v { stage = first_stage s c; probes = 0 }) v))
-  begins_or c true e = go_on (With (first_stage s c) 0) refl (begun_call c e)
-  begins_or c false e = go_on v refl st
-
-  chosen_goes : (choice : Choice) → Inv s (acts s w p (call_start s choice v))
-  chosen_goes (begins c) = begins_or c (may_begin v.seen c) refl
-  chosen_goes (looks n) = go_on (record v { stage = Looking n }) refl (looking n)
-
-  begun_goes : (choice : Choice) (g : Stage) → Inv s (acts s w p (step_start_at s choice v g))
-  begun_goes choice g = step_start_has (λ (u : Walker). Inv s (acts s w p u)) s choice v g (go_on v refl st) (chosen_goes choice)
+      busy_or false e =
+          let sb = begun_stands choice v.stage in
+          each s ok w inv p v at b (begun_has (λ u. u.room ≡ v.room) s choice v refl (λ _ _ _ _. refl)) sb b.stage sb.spot e
 
 does_keeps : (s : Shape) → IsShape s → (w : World) → Inv s w → (item : Item) (o : mathlib.Core.Option.Option Walker)
     → get_elem? w.passes item.by ≡ o → Inv s (does s w item o)
 does_keeps s ok w inv item none e = inv
-does_keeps s ok w inv item (some v) e = begun_goes s ok w inv item.by v e item.choice v.stage
+does_keeps s ok w inv item (some v) e = begun_goes s ok w inv item.by v e item.choice
 
 world_after_keeps : (s : Shape) → IsShape s → (w : World) → Inv s w → (items : List Item) → Inv s (world_after s w items)
 world_after_keeps s ok w inv [] = inv
