@@ -9,7 +9,7 @@ use Rattle.term_core.specs.declared.Entry.{Entry}
 use Rattle.term_labels.specs.WordTrees.{Tree}
 use Rattle.term_core.specs.Terms.{Pair, tree_at, tree_over, Has, added_by, is_there, pair_if, adds, pairs_after, pairs_from, pairs_of}
 use Rattle.term_core.specs.Terms.{MayAnswer, legal_from, IsLegal}
-use Rattle.term_core.proofs.Replay.{tree_more, tree_new, pairs_append, added_append, eqb_eq}
+use Rattle.term_core.proofs.Replay.{added_row, tree_more, tree_new, pairs_append, added_append, eqb_eq}
 
 legal_back : (n : ℕ) (ps : List Pair) (h g : List Entry) → legal_from n ps (h ++ g) → legal_from n (pairs_from ps h) g
 legal_back n ps [] g l = l
@@ -21,12 +21,6 @@ legal_last n h e l = (legal_back n [] h (e ∷ []) l).0
 
 pub pairs_last : (h : List Entry) (e : Entry) → pairs_of (h ++ e ∷ []) ≡ pairs_after (pairs_of h) e
 pairs_last h e = pairs_append [] h (e ∷ [])
-
--- a ticket whose tree was not there names the new pair
-pub added_row : (ps : List Pair) (by : ℕ) (l : ℕ) (ks : List ℕ) (t : ℕ) (x : Tree) → tree_over ps l ks ≡ Some x → tree_at ps t ≡ None
-    → adds ps by (Intern l ks) (Ticket t) ≡ record { tree = x; ticket = t; by = by } ∷ []
-added_row ps by l ks t x over none = ap (λ (o : Option Tree). cond (is_there o) [] (pair_if (tree_over ps l ks) t by)) none
-    ∙ ap (λ (o : Option Tree). pair_if o t by) over
 
 -- a ticket that an intern answers has the tree of the call
 pub ticket_tree : (n : ℕ) (ps : List Pair) (by : ℕ) (l : ℕ) (ks : List ℕ) (t : ℕ) (x : Tree)

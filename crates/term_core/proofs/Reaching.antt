@@ -2,7 +2,7 @@
 use Rattle.std.proofs.Common.{◌≡◌, ℕ, zero, suc, ◌+◌, ◌-◌, ◌*◌, ◌<◌, ◌≤◌, ◌&&◌, ◌⊎◌, Bool, true, false, cond, List, [], ◌∷◌}
 use Rattle.std.proofs.Common.{◌++◌, length, slice_index, replicate, Some, None, refl, sym, ap, subst, ◌∙◌}
 use Rattle.std.proofs.Common.{⊎_elim, append-nil, arith}
-use Rattle.std.proofs.lemmas.List.{length-replicate, append_cancel_left}
+use Rattle.std.proofs.lemmas.List.{length-replicate}
 use mathlib.Core.Option.{some, none, some-injective, some-ne-none}
 use lib.ListN.{get_elem?}
 use Rattle.term_core.specs.declared.Call.{Call}
@@ -22,7 +22,7 @@ use Rattle.term_core.specs.World.{word_count}
 use Rattle.term_core.specs.Law.{Sees, Lawful}
 use Rattle.term_core.proofs.Replay.{IsThere, there_from, tree_later, pairs_append, same_from, legal_front}
 use Rattle.term_core.proofs.Chains.{Mem, mem_here, end_of, end_cases}
-use Rattle.term_core.proofs.Kept.{OnLink, Spot, Stands, at_stage, begun_has, Inv}
+use Rattle.term_core.proofs.Kept.{OnLink, Spot, Stands, at_stage, begun_has, Inv, own_low, rest_silent}
 use Rattle.term_core.proofs.Kept.{Searches, chain_of, label_of, kids_of, rooms}
 use Rattle.term_core.proofs.EachStep.{each}
 
@@ -58,10 +58,10 @@ module _ (s : Shape) (ok : IsShape s) (w : World) (inv : Inv s w) (p : ℕ) (v :
 
   with_spot : (g : Stage) (q : ℕ) → q ≤ length (pairs_of w.history) + 1 → Spot s w.words (pairs_of w.history) inv.chains (With g q) g
       → Stands s w.words w.history inv.chains p (With g q)
-  with_spot g q few k = at_stage s w.words w.history inv.chains p v g q few k st
+  with_spot g q few k = at_stage st g q few k
 
   at_start : (c : Call) → Searches c → at_most_three (kids_of c) && all_occur v.seen (kids_of c) ≡ true
-      → OnLink s w.words (pairs_of w.history) inv.chains (With (AtLink c false (chain_of s c)) 0) c false (chain_of s c)
+      → OnLink s w.words (pairs_of w.history) inv.chains (With (AtLink c false (chain_of s c)) 0) c false (chain_of s c) 0
   at_start c sc e =
       let q = both_true (at_most_three (kids_of c)) (all_occur v.seen (kids_of c)) e in
       let xs = all_known (pairs_of w.history) v.seen known (kids_of c) q.1 in
@@ -115,7 +115,7 @@ module _ (s : Shape) (ok : IsShape s) (w : World) (inv : Inv s w) (p : ℕ) (v :
       busy_or true e = inv
       busy_or false e =
           let sb = begun_stands choice v.stage in
-          each s ok w inv p v at b (begun_has (λ u. u.room ≡ v.room) s choice v refl (λ _ _ _ _. refl)) sb b.stage sb.spot e
+          each ok inv p v at b (begun_has (λ u. u.room ≡ v.room) s choice v refl (λ _ _ _ _. refl)) sb b.stage sb.spot e
 
 does_keeps : (s : Shape) → IsShape s → (w : World) → Inv s w → (item : Item) (o : mathlib.Core.Option.Option Walker)
     → get_elem? w.passes item.by ≡ o → Inv s (does s w item o)
@@ -181,12 +181,6 @@ module _ (s : Shape) (ok : IsShape s) (w : World) (inv : Inv s w) (p : ℕ) (v :
   total_low : length (pairs_of w.history) ≤ s.workers * s.nodes
   total_low = let t = inv.total in omega arith
 
-  own_below : 0 < v.room → v.own < s.workers * s.nodes
-  own_below g =
-      let r = st.range in let l = st.low in
-      let m : suc p * s.nodes ≤ s.workers * s.nodes = Rattle.std.proofs.Common.mul-le-mul_right s.nodes l in
-      omega (arith, Rattle.std.proofs.Common.suc-mul p s.nodes)
-
   node_below : (c t : ℕ) → Mem t (inv.chains c) → t < s.workers * s.nodes
   node_below c t m = let h = (inv.shared.back c t m).1 in (inv.shared.there t h.0 h.1).0.low
 
@@ -205,24 +199,18 @@ module _ (s : Shape) (ok : IsShape s) (w : World) (inv : Inv s w) (p : ℕ) (v :
   within (AtContent c wr n i) k = let l =
       node_below (chain_of s c) n (subst (λ (x : List ℕ). Mem n x) (sym k.walk.split) (mem_here n k.pre k.post)) in let b = k.below in
       omega arith
-  within (Writing c a i) k = let l = own_below k.room in let b = k.below in omega arith
+  within (Writing c a i) k = let l = own_low st k.room in let b = k.below in omega arith
   within (Linking c a) k = subst (λ (x : ℕ). x < word_count s) (sym k.place_is)
       (end_below c k.pre k.post k.walk.split)
   within (Reading t xs) k = let h = k.there in let l = (inv.shared.there t h.0 h.1).0.low in let b = k.below in omega arith
   within _ k = let h = ok.0 in omega arith
-
-  rest_silent : calls_by p st.begins.0 ≡ []
-  rest_silent = append_cancel_left v.mine (calls_by p st.begins.0) []
-      ((λ i. sym st.own_calls i ++ calls_by p st.begins.0)
-      ∙ (sym (Rattle.term_core.proofs.Replay.calls_append p v.seen st.begins.0)
-      ∙ (ap (calls_by p) (sym st.begins.1) ∙ (st.all_calls ∙ sym (append-nil v.mine)))))
 
   -- what the pass has not seen adds none of its own pairs
   count_same : added_by v.by (pairs_of w.history) ≡ added_by v.by (pairs_of v.seen)
   count_same = ap (λ (h : List Entry). added_by v.by (pairs_of h)) st.begins.1
       ∙ (ap (added_by v.by) (pairs_append [] v.seen st.begins.0)
       ∙ Rattle.term_core.proofs.Replay.added_silent v.by (pairs_of v.seen) st.begins.0
-      (ap (λ (n : ℕ). calls_by n st.begins.0) st.number ∙ rest_silent))
+      (ap (λ (n : ℕ). calls_by n st.begins.0) st.number ∙ rest_silent st))
 
   low_at : IsLegal s.nodes v.seen → (t : ℕ) → occurs v.seen t ≡ true → t < s.workers * s.nodes
   low_at legal t o =
@@ -248,7 +236,7 @@ module _ (s : Shape) (ok : IsShape s) (w : World) (inv : Inv s w) (p : ℕ) (v :
         low = λ t o. low_at legal t o;
         probes = st.probes;
         pairs = total_low;
-        own_low = own_below;
+        own_low = own_low st;
         within = within v.stage st.spot;
       }
 

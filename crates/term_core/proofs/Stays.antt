@@ -17,7 +17,7 @@ use Rattle.term_core.specs.World.{world_of}
 use Rattle.term_core.specs.Items.{Links, Writes, IsLink, LinksStay, ContentStays}
 use Rattle.term_core.proofs.Replay.{pairs_append, tree_later}
 use Rattle.term_core.proofs.Chains.{Mem, end_of, end_cases}
-use Rattle.term_core.proofs.Kept.{Spot, OnLinking, chain_of, label_of, kids_of}
+use Rattle.term_core.proofs.Kept.{Spot, OnLink, chain_of, label_of, kids_of}
 use Rattle.term_core.proofs.Reaching.{keeps_all}
 use Rattle.term_core.proofs.EachItem.{words_stay}
 
@@ -57,7 +57,7 @@ module _ (s : Shape) (items : List Item) (i : Item) (ok : IsShape s) where
   link_at : (v : Walker) (call : Call) (a : ℕ) → get_elem? w.passes i.by ≡ some v → v.stage ≡ Linking call a → IsLink s a
   link_at v call a here stage =
       let inv = keeps_all s items ok in
-      let at : OnLinking s w.words (pairs_of w.history) inv.chains v call a =
+      let at : OnLink s w.words (pairs_of w.history) inv.chains v call true a 1 =
       subst (λ (g : Stage). Spot s w.words (pairs_of w.history) inv.chains v g) stage (inv.passes i.by v here).spot in
       is_link s (chain_of s call) a at.pre (ok.1 (label_of call) (kids_of call)) at.place_is
 
