@@ -20,7 +20,7 @@ use Rattle.term_core.specs.World.{world_of}
 use Rattle.term_core.specs.Items.{link_loads, Does, EachItemDoes, OthersStand, SeenAgree, Links, Writes, WordsStay}
 use Rattle.term_core.proofs.Replay.{cond_has}
 use Rattle.term_core.proofs.Chains.{at_same, at_other, set_itself}
-use Rattle.term_core.proofs.Kept.{Spot, Inv, Stands, begun_has}
+use Rattle.term_core.proofs.Kept.{Spot, Inv, Stands, begun_has, own_free}
 use Rattle.term_core.proofs.Reaching.{keeps_all, lawful, begun_stands}
 use Rattle.term_core.proofs.Does.{Asks, tells}
 
@@ -123,7 +123,7 @@ module _ (s : Shape) (w : World) (by : ℕ) (v : Walker) (a : ℕ) where
   of_stage : (chains : ℕ → List ℕ) → Stands s w.words w.history chains by v → (g : Stage) → place_at s v g < length w.words
       → Spot s w.words (pairs_of w.history) chains v g → Fine (After g) g
   of_stage chains st (Writing c l j) below k = dite (ℕ_discrete a (link_of s v.own + 1 + j))
-      (λ e. inr (inr (record { index = j; below = k.below; place = e; unused = (st.free v.own (omega arith) (omega (arith, k.room))).1 })))
+      (λ e. inr (inr (record { index = j; below = k.below; place = e; unused = (own_free st k.room).1 })))
       (λ d. inl (at_other w.words (link_of s v.own + 1 + j) a _ d))
   of_stage chains st (Linking c l) below k = dite (ℕ_discrete l a)
       (λ e. rw e (linking c (slice_index w.words a) refl (rw e at below)))

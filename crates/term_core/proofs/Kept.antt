@@ -18,7 +18,7 @@ use Rattle.term_labels.specs.WordTrees.{Tree, Trees, node}
 use Rattle.term_core.specs.Terms.{Pair, tree_at, trees_at, added_by, pairs_of, IsLegal, calls_by, StartsWith}
 use Rattle.term_core.specs.World.{Shape, World, Choice, link_of, kid_in, content_of, content, at_most_three, step_start, step_start_at}
 use Rattle.term_core.specs.World.{word_count, begins, looks, is_idle, becomes_at, first_stage, may_begin}
-use Rattle.term_core.proofs.Replay.{IsThere, cond_has, trees_cons, calls_append}
+use Rattle.term_core.proofs.Replay.{IsThere, cond_has, trees_stay, calls_append}
 use Rattle.term_core.proofs.Chains.{Mem, mem_left, mem_here, Linked, end_of}
 
 -- the content word i of a node
@@ -242,13 +242,6 @@ pub record Change (s : Shape) (p : ℕ) (words words' : List ℕ) (h h' : List E
   pub links : (t : ℕ) → tree_at (pairs_of h) t ≡ None → Outside s p t → slice_index words' (link_of s t) ≡ slice_index words (link_of s t)
   pub contents : (t : ℕ) → IsThere (pairs_of h) t ⊎ Outside s p t → (i : ℕ) → i < CONTENT_WORDS → word s words' t i ≡ word s words t i
   pub grows : (c : ℕ) → (more : List ℕ) × (chains' c ≡ chains c ++ more)
-
--- trees of tickets that stay where single trees stay
-pub trees_stay : (ps qs : List Pair) → ((t : ℕ) (x : Tree) → tree_at ps t ≡ Some x → tree_at qs t ≡ Some x) → (ts : List ℕ) (xs : Trees)
-    → trees_at ps ts ≡ Some xs → trees_at qs ts ≡ Some xs
-trees_stay ps qs m [] xs e = e
-trees_stay ps qs m (t ∷ ts) xs e = let h = trees_cons ps t ts xs e in
-    rw (m t h.0 h.2, trees_stay ps qs m ts h.1 h.3) (ap Some (sym h.4))
 
 module _ {s : Shape} {p : ℕ} {words words' : List ℕ} {h h' : List Entry} {chains chains' : ℕ → List ℕ}
     (d : Change s p words words' h h' chains chains') (sh : Shared s words (pairs_of h) chains) where

@@ -1,9 +1,10 @@
 -- What every list of items keeps.
 use Rattle.std.proofs.Common.{◌≡◌, ℕ, zero, suc, ◌+◌, ◌-◌, ◌*◌, ◌<◌, ◌≤◌, ◌&&◌, ◌⊎◌, Bool, true, false, cond, List, [], ◌∷◌}
 use Rattle.std.proofs.Common.{◌++◌, length, slice_index, replicate, Some, None, refl, sym, ap, subst, ◌∙◌}
-use Rattle.std.proofs.Common.{⊎_elim, append-nil, arith}
+use Rattle.std.proofs.Common.{inl, inr, append-nil, arith}
 use Rattle.std.proofs.lemmas.List.{length-replicate}
 use mathlib.Core.Option.{some, none, some-injective, some-ne-none}
+use Rattle.std.proofs.lemmas.Bool.{and_parts}
 use lib.ListN.{get_elem?}
 use Rattle.term_core.specs.declared.Call.{Call}
 use Rattle.term_core.specs.declared.Call.TheVariants.{Intern, Find, Read}
@@ -20,38 +21,38 @@ use Rattle.term_core.specs.World.{place_at}
 use Rattle.term_core.specs.World.{fresh, fresh_from, link_of}
 use Rattle.term_core.specs.World.{word_count}
 use Rattle.term_core.specs.Law.{Sees, Lawful}
+use Rattle.term_core.specs.Items.{IsReachedLink}
 use Rattle.term_core.proofs.Replay.{IsThere, there_from, tree_later, pairs_append, same_from, legal_front}
-use Rattle.term_core.proofs.Chains.{Mem, mem_here, end_of, end_cases}
+use Rattle.term_core.proofs.Chains.{mem_left, mem_here, end_cases}
 use Rattle.term_core.proofs.Kept.{OnLink, Spot, Stands, at_stage, begun_has, Inv, own_low, rest_silent}
 use Rattle.term_core.proofs.Kept.{Searches, chain_of, label_of, kids_of, rooms}
 use Rattle.term_core.proofs.EachStep.{each}
-
-both_true : (a b : Bool) → a && b ≡ true → (a ≡ true) × (b ≡ true)
-both_true true b e = (refl, e)
-both_true false b e = absurd (let f : false ≡ true = e in cc)
 
 all_known : (rows : List Pair) (h : List Entry) → ((t : ℕ) → occurs h t ≡ true → IsThere rows t) → (ts : List ℕ) → all_occur h ts ≡ true
     → (xs : Trees) × (trees_at rows ts ≡ Some xs)
 all_known rows h f [] e = (Rattle.term_labels.specs.WordTrees.none, refl)
 all_known rows h f (t ∷ ts) e =
-    let q = both_true (occurs h t) (all_occur h ts) e in
+    let q = and_parts (occurs h t) (all_occur h ts) e in
     let x = f t q.0 in
     let xs = all_known rows h f ts q.1 in
-    (Rattle.term_labels.specs.WordTrees.more x.0 xs.0, (λ i. Rattle.term_core.specs.Terms.more_if (x.1 i) (xs.1 i)))
+    (Rattle.term_labels.specs.WordTrees.more x.0 xs.0, rw (x.1, xs.1) refl)
+
+-- what a pass has seen is legal, and its tickets are there
+module _ {s : Shape} {words : List ℕ} {h : List Entry} {chains : ℕ → List ℕ} {p : ℕ} {v : Walker} (st : Stands s words h chains p v)
+    (legal : IsLegal s.nodes h) where
+  seen_legal : IsLegal s.nodes v.seen
+  seen_legal = legal_front s.nodes [] v.seen st.begins.0 (rw st.begins.1 at legal)
+
+  known : (t : ℕ) → occurs v.seen t ≡ true → IsThere (pairs_of h) t
+  known t e = let r = there_from s.nodes [] v.seen t seen_legal e in (
+    r.0,
+    ap (λ ps. tree_at ps t)
+        (ap pairs_of st.begins.1 ∙ pairs_append [] v.seen st.begins.0) ∙ tree_later (pairs_of v.seen) st.begins.0 t r.0 r.1,
+  )
 
 module _ (s : Shape) (ok : IsShape s) (w : World) (inv : Inv s w) (p : ℕ) (v : Walker) (at : get_elem? w.passes p ≡ some v) where
   st : Stands s w.words w.history inv.chains p v
   st = inv.passes p v at
-
-  known : (t : ℕ) → occurs v.seen t ≡ true → IsThere (pairs_of w.history) t
-  known t e =
-      let legal : IsLegal s.nodes v.seen = legal_front s.nodes [] v.seen st.begins.0
-      (subst (λ (h : List Entry). IsLegal s.nodes h) st.begins.1 inv.legal) in
-      let r = there_from s.nodes [] v.seen t legal e in (
-        r.0,
-        subst (λ (l : List Pair). tree_at l t ≡ Some r.0) (sym (ap pairs_of st.begins.1 ∙ pairs_append [] v.seen st.begins.0))
-            (tree_later (pairs_of v.seen) st.begins.0 t r.0 r.1),
-      )
 
   abbrev With : Stage → ℕ → Walker
   With g q = record v { stage = g; probes = q }
@@ -63,8 +64,8 @@ module _ (s : Shape) (ok : IsShape s) (w : World) (inv : Inv s w) (p : ℕ) (v :
   at_start : (c : Call) → Searches c → at_most_three (kids_of c) && all_occur v.seen (kids_of c) ≡ true
       → OnLink s w.words (pairs_of w.history) inv.chains (With (AtLink c false (chain_of s c)) 0) c false (chain_of s c) 0
   at_start c sc e =
-      let q = both_true (at_most_three (kids_of c)) (all_occur v.seen (kids_of c)) e in
-      let xs = all_known (pairs_of w.history) v.seen known (kids_of c) q.1 in
+      let q = and_parts (at_most_three (kids_of c)) (all_occur v.seen (kids_of c)) e in
+      let xs = all_known (pairs_of w.history) v.seen (known st inv.legal) (kids_of c) q.1 in
       record {
         pre = [];
         post = inv.chains (chain_of s c);
@@ -75,8 +76,7 @@ module _ (s : Shape) (ok : IsShape s) (w : World) (inv : Inv s w) (p : ℕ) (v :
           three = q.0;
           split = refl;
           differ = λ t m same. m;
-          wrote =
-              λ x. absurd (let f : false ≡ true = x in cc);
+          wrote = λ x. absurd (let f : false ≡ true = x in cc);
         };
         place_is = refl;
         probes = omega arith;
@@ -88,7 +88,7 @@ module _ (s : Shape) (ok : IsShape s) (w : World) (inv : Inv s w) (p : ℕ) (v :
   begun_call (Find l ks) e = with_spot (AtLink (Find l ks) false (s.chain l ks)) 0 (omega arith) (at_start (Find l ks) tt e)
   begun_call (Read t) e =
       with_spot (Reading t []) 0 (omega arith) (record {
-        there = known t e;
+        there = known st inv.legal t e;
         below = omega arith;
         alike = λ j lt. absurd (omega arith);
         probes = refl;
@@ -178,32 +178,27 @@ keeps_all s items ok = world_after_keeps s ok (start s) (starts s ok) items
 
 module _ (s : Shape) (ok : IsShape s) (w : World) (inv : Inv s w) (p : ℕ) (v : Walker)
     (st : Stands s w.words w.history inv.chains p v) where
-  total_low : length (pairs_of w.history) ≤ s.workers * s.nodes
-  total_low = let t = inv.total in omega arith
+  -- the link after the nodes that a walk has passed
+  pub reached : {c : Call} {wr : Bool} {a n : ℕ} → OnLink s w.words (pairs_of w.history) inv.chains v c wr a n → IsReachedLink s w a
+  reached {c} k = rw k.place_is (elim (end_cases s (chain_of s c) k.pre) [
+    | inl q ↦ inl (omega (arith, ok.1 (label_of c) (kids_of c)))
+    | inr g ↦ let t = (inv.shared.back (chain_of s c) g.0 (rw k.walk.split (mem_left g.0 k.pre k.post g.1))).1 in
+        inr (g.0, t.0, t.1, g.2)
+  ])
 
-  node_below : (c t : ℕ) → Mem t (inv.chains c) → t < s.workers * s.nodes
-  node_below c t m = let h = (inv.shared.back c t m).1 in (inv.shared.there t h.0 h.1).0.low
-
-  end_below : (c : Call) (pre post : List ℕ) → inv.chains (chain_of s c) ≡ pre ++ post
-      → end_of s (chain_of s c) pre < word_count s
-  end_below c pre post e = ⊎_elim
-      (λ (q : end_of s (chain_of s c) pre ≡ chain_of s c). let l = ok.1 (label_of c) (kids_of c) in omega arith)
-      (λ (g : (n : ℕ) × Mem n pre × (end_of s (chain_of s c) pre ≡ link_of s n)). let q = g.2 in let l =
-      node_below (chain_of s c) g.0
-      (subst (λ (x : List ℕ). Mem g.0 x) (sym e) (Rattle.term_core.proofs.Chains.mem_left g.0 pre post g.1)) in omega arith)
-      (end_cases s (chain_of s c) pre)
+  link_below : (a : ℕ) → IsReachedLink s w a → a < word_count s
+  link_below a (inl l) = omega arith
+  link_below a (inr g) = omega (arith, g.3, (inv.shared.there g.0 g.1 g.2).0.low)
 
   within : (g : Stage) → Spot s w.words (pairs_of w.history) inv.chains v g → place_at s v g < word_count s
-  within (AtLink c wr a) k = subst (λ (x : ℕ). x < word_count s) (sym k.place_is)
-      (end_below c k.pre k.post k.walk.split)
-  within (AtContent c wr n i) k = let l =
-      node_below (chain_of s c) n (subst (λ (x : List ℕ). Mem n x) (sym k.walk.split) (mem_here n k.pre k.post)) in let b = k.below in
-      omega arith
-  within (Writing c a i) k = let l = own_low st k.room in let b = k.below in omega arith
-  within (Linking c a) k = subst (λ (x : ℕ). x < word_count s) (sym k.place_is)
-      (end_below c k.pre k.post k.walk.split)
-  within (Reading t xs) k = let h = k.there in let l = (inv.shared.there t h.0 h.1).0.low in let b = k.below in omega arith
-  within _ k = let h = ok.0 in omega arith
+  within (AtLink c wr a) k = link_below a (reached k)
+  within (AtContent c wr n i) k =
+      let t = (inv.shared.back (chain_of s c) n (rw k.walk.split (mem_here n k.pre k.post))).1 in
+      omega (arith, k.below, (inv.shared.there n t.0 t.1).0.low)
+  within (Writing c a i) k = omega (arith, own_low st k.room, k.below)
+  within (Linking c a) k = link_below a (reached k)
+  within (Reading t xs) k = omega (arith, (inv.shared.there t k.there.0 k.there.1).0.low, k.below)
+  within _ k = omega (arith, ok.0)
 
   -- what the pass has not seen adds none of its own pairs
   count_same : added_by v.by (pairs_of w.history) ≡ added_by v.by (pairs_of v.seen)
@@ -212,33 +207,21 @@ module _ (s : Shape) (ok : IsShape s) (w : World) (inv : Inv s w) (p : ℕ) (v :
       ∙ Rattle.term_core.proofs.Replay.added_silent v.by (pairs_of v.seen) st.begins.0
       (ap (λ (n : ℕ). calls_by n st.begins.0) st.number ∙ rest_silent st))
 
-  low_at : IsLegal s.nodes v.seen → (t : ℕ) → occurs v.seen t ≡ true → t < s.workers * s.nodes
-  low_at legal t o =
-      let r = there_from s.nodes [] v.seen t legal o in
-      let later : tree_at (pairs_of w.history) t ≡ Some r.0 =
-      subst (λ (l : List Pair). tree_at l t ≡ Some r.0) (sym (ap pairs_of st.begins.1 ∙ pairs_append [] v.seen st.begins.0))
-      (tree_later (pairs_of v.seen) st.begins.0 t r.0 r.1) in
-      (inv.shared.there t r.0 later).0.low
-
   pub sees_all : Sees s w.history v
-  sees_all =
-      let legal : IsLegal s.nodes v.seen = legal_front s.nodes [] v.seen st.begins.0
-      (subst (λ (h : List Entry). IsLegal s.nodes h) st.begins.1 inv.legal) in
-      record {
-        begins = st.begins;
-        legal = legal;
-        own = ap (λ (n : ℕ). calls_by n v.seen) st.number ∙ st.own_calls;
-        all = ap (λ (n : ℕ). calls_by n w.history) st.number ∙ st.all_calls;
-        same = λ t u p q. ((λ e. ap (tree_at (pairs_of v.seen)) e), (λ e. same_from s.nodes v.seen legal t u p q e));
-        count = ap (λ (n : ℕ). added_by n (pairs_of w.history) + v.room) st.number ∙ st.count;
-        seen_count = ap (λ (n : ℕ). n + v.room) (sym count_same)
-            ∙ (ap (λ (n : ℕ). added_by n (pairs_of w.history) + v.room) st.number ∙ st.count);
-        low = λ t o. low_at legal t o;
-        probes = st.probes;
-        pairs = total_low;
-        own_low = own_low st;
-        within = within v.stage st.spot;
-      }
+  sees_all = record {
+    begins = st.begins;
+    legal = seen_legal st inv.legal;
+    own = rw st.number st.own_calls;
+    all = rw st.number st.all_calls;
+    same = λ t u p q. ((λ e. ap (tree_at (pairs_of v.seen)) e), (λ e. same_from s.nodes v.seen (seen_legal st inv.legal) t u p q e));
+    count = rw st.number st.count;
+    seen_count = rw (← count_same, st.number) st.count;
+    low = λ t o. let h = known st inv.legal t o in (inv.shared.there t h.0 h.1).0.low;
+    probes = st.probes;
+    pairs = omega (arith, inv.total);
+    own_low = own_low st;
+    within = within v.stage st.spot;
+  }
 
 pub lawful : (s : Shape) (items : List Item) → IsShape s → Lawful s (world_of s items)
 lawful s items ok = let inv = keeps_all s items ok in record {
