@@ -71,7 +71,7 @@ module _ (s : Shape) (items : List Item) (i : Item) (ok : IsShape s) where
         none-some x (sym j.unused ∙ ap (tree_at (pairs_of w.history)) same ∙ e)
   ])
 
-snoc : (s : Shape) (items : List Item) (i : Item) → world_of s (items ++ i ∷ []) ≡ step s (world_of s items) i
+pub snoc : (s : Shape) (items : List Item) (i : Item) → world_of s (items ++ i ∷ []) ≡ step s (world_of s items) i
 snoc s items i = world_after-append s (start s) items (i ∷ [])
 
 pub links_stay : LinksStay
