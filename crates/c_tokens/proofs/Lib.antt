@@ -1,7 +1,6 @@
 pub mod Scanning
 pub mod Fitting
 pub mod Going
-pub mod Fronts
 pub mod Limits
 pub mod Decimals
 pub mod Finding

@@ -1,19 +1,17 @@
 -- A text has its tokens once.
-use Rattle.std.proofs.Common.{◌≡◌, ◌+◌, ℕ, List, [], ◌∷◌, drop, Bool, true, false, refl, sym, ap, subst, ◌∙◌}
+use Rattle.std.proofs.Common.{◌≡◌, ◌+◌, ℕ, List, [], ◌∷◌, drop, true, false, refl, sym}
 use Rattle.c_tokens.specs.declared.token.Token.{Token}
 use Rattle.c_tokens.specs.declared.lexer.Step.{Step}
 use Rattle.c_tokens.specs.declared.lexer.Step.TheVariants.{Done, Skip, Take, Stop}
-use Rattle.c_tokens.specs.Texts.{IsStep, step_of, is_oversize, Lexes, lexes_end, lexes_skip, lexes_take, LexStops, stops_here, stops_size, stops_skip}
+use Rattle.c_tokens.specs.Texts.{IsStep, is_oversize, Lexes, lexes_end, lexes_skip, lexes_take, LexStops, stops_here, stops_size, stops_skip}
 use Rattle.c_tokens.specs.Texts.{stops_take}
 use Rattle.c_tokens.specs.declared.fault.Refusal.{Refusal}
 use Rattle.c_tokens.specs.declared.fault.Refusal.TheVariants.{BadSize}
+use Rattle.c_tokens.proofs.Finding.{true-false}
 use Rattle.c_tokens.proofs.Pieces.{next-once}
 
 step-once : {at : ℕ} {bs : List ℕ} {s t : Step} → IsStep at bs s → IsStep at bs t → s ≡ t
-step-once {at} {bs} p q = p.step ∙ ap (step_of at) (next-once bs p.lexeme q.lexeme p.next q.next) ∙ sym q.step
-
-true-false : {x : Bool} → x ≡ true → x ≡ false → ⊥
-true-false e f = cc
+step-once {bs = bs} p q = rw (p.step, next-once bs p.lexeme q.lexeme p.next q.next) (sym q.step)
 
 -- the tokens and places where a step takes one
 pub record Taken (t : Token) (n at : ℕ) (bs : List ℕ) (before tokens : List Token) (places : List ℕ) : Type 0 where
@@ -33,20 +31,19 @@ LexesBy (Stop r k) at bs before tokens places = ⊥
 
 pub lexes-by : {at : ℕ} {bs places : List ℕ} {before tokens : List Token} {s : Step} → Lexes at bs before tokens places → IsStep at bs s
     → LexesBy s at bs before tokens places
-lexes-by {at} {bs} {before = before} (lexes_end e) f = subst (λ (x : Step). LexesBy x at bs before [] []) (step-once e f) (refl, refl)
-lexes-by {at} {bs} {places} {before} {tokens} (lexes_skip e d) f = subst (λ (x : Step). LexesBy x at bs before tokens places) (step-once e f) d
-lexes-by {at} {bs} {before = before} (lexes_take {places = ks} {tokens = ts} {t = t} e h d) f =
-    subst (λ (x : Step). LexesBy x at bs before (t ∷ ts) (at ∷ ks)) (step-once e f)
-    (record { more = ts; there = ks; tokens_are = refl; places_are = refl; size = h; rest = d })
+lexes-by (lexes_end e) f = rw (← step-once e f) (refl, refl)
+lexes-by (lexes_skip e d) f = rw (← step-once e f) d
+lexes-by (lexes_take {places = ks} {tokens = ts} e h d) f =
+    rw (← step-once e f) (record { more = ts; there = ks; tokens_are = refl; places_are = refl; size = h; rest = d })
 
 pub lexes-once : {at : ℕ} {bs : List ℕ} {before tokens : List Token} {places : List ℕ} → Lexes at bs before tokens places →
     (others : List Token) (there : List ℕ) → Lexes at bs before others there → (tokens ≡ others) × (places ≡ there)
 lexes-once (lexes_end e) others there d = let r = lexes-by d e in (sym r.0, sym r.1)
 lexes-once (lexes_skip e c) others there d = lexes-once c others there (lexes-by d e)
-lexes-once {at = at} (lexes_take {t = t} e h c) others there d =
+lexes-once (lexes_take e h c) others there d =
     let r = lexes-by d e in
     let w = lexes-once c r.more r.there r.rest in
-    (ap (λ (x : List Token). t ∷ x) w.0 ∙ sym r.tokens_are, ap (λ (x : List ℕ). at ∷ x) w.1 ∙ sym r.places_are)
+    (rw w.0 (sym r.tokens_are), rw w.1 (sym r.places_are))
 
 -- a text that is refused has no tokens
 pub never-lexes : {at : ℕ} {bs : List ℕ} {before : List Token} {r : Refusal} {k : ℕ} → LexStops at bs before r k → (tokens : List Token) (places : List ℕ)
@@ -65,12 +62,10 @@ StopsBy (Take t n) at bs before r k = (is_oversize (t ∷ before) ≡ true → (
 StopsBy (Stop q j) at bs before r k = (r ≡ q) × (k ≡ at + j)
 
 stops-by : {at k : ℕ} {bs : List ℕ} {before : List Token} {r : Refusal} {s : Step} → LexStops at bs before r k → IsStep at bs s → StopsBy s at bs before r k
-stops-by {at} {bs = bs} {before = before} (stops_here {k = k} {r = r} e) f = subst (λ (x : Step). StopsBy x at bs before r (at + k)) (step-once e f) (refl, refl)
-stops-by {at} {bs = bs} {before = before} (stops_size e h) f =
-    subst (λ (x : Step). StopsBy x at bs before BadSize at) (step-once e f) (λ g. (refl, refl), λ g. absurd (true-false h g))
-stops-by {at} {k} {bs} {before} {r} (stops_skip e d) f = subst (λ (x : Step). StopsBy x at bs before r k) (step-once e f) d
-stops-by {at} {k} {bs} {before} {r} (stops_take e h d) f =
-    subst (λ (x : Step). StopsBy x at bs before r k) (step-once e f) (λ g. absurd (true-false g h), λ g. d)
+stops-by (stops_here e) f = rw (← step-once e f) (refl, refl)
+stops-by (stops_size e h) f = rw (← step-once e f) (λ g. (refl, refl), λ g. absurd (true-false h g))
+stops-by (stops_skip e d) f = rw (← step-once e f) d
+stops-by (stops_take e h d) f = rw (← step-once e f) (λ g. absurd (true-false g h), λ g. d)
 
 -- a text is refused for one reason at one place
 pub stops-once : {at : ℕ} {bs : List ℕ} {before : List Token} {r : Refusal} {k : ℕ} → LexStops at bs before r k → (q : Refusal) (j : ℕ)

@@ -1,5 +1,5 @@
 use Rattle.std.proofs.Common.{◌<◌, ◌≤◌, arith, refl, sym, slice_index_or}
-use Rattle.c_tokens.proofs.Decimals.{no-zero, plain-pair, suffixed-pair}
+use Rattle.c_tokens.proofs.Decimals.{no-zero, plain-constant, suffixed-constant}
 use Rattle.c_tokens.proofs.constants.decimal.Goals.{then-n-text+then-is_suffix, else-n-text}
 use Rattle.c_tokens.proofs.constants.decimal.Goals as goal
 
@@ -10,8 +10,8 @@ returns-clause-same c =
     let low : c.first_digits-value.result.0 ≤ 2147483647 = omega (arith, c.first_digits-value.ensures.low) in
     let end = c.if-not-run_ends.ensures refl in
     elim c.if-n-text.branch [
-      | then-n-text+then-is_suffix w ↦ suffixed-pair c.args.text.now c.first_digits-value.result.1 c.first_digits-value.result.0 some first low
-          c.first_digits-value.ensures.spells c.if-n-text.integer_type w.integer_type-is w.if-n-text.true (sym w.if-is_suffix.ensures) end
-      | else-n-text w ↦ plain-pair c.args.text.now c.first_digits-value.result.1 c.first_digits-value.result.0 some first low
-          c.first_digits-value.ensures.spells c.if-n-text.integer_type w.integer_type-is end
+      | then-n-text+then-is_suffix w ↦ rw w.integer_type-is (suffixed-constant c.args.text.now c.first_digits-value.result.1 c.first_digits-value.result.0
+          some first low c.first_digits-value.ensures.spells w.if-n-text.true (sym w.if-is_suffix.ensures) (rw w.integer_type-is at end))
+      | else-n-text w ↦ rw w.integer_type-is (plain-constant c.args.text.now c.first_digits-value.result.1 c.first_digits-value.result.0
+          some first low c.first_digits-value.ensures.spells (rw w.integer_type-is at end))
     ]
