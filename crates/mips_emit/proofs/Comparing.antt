@@ -3,11 +3,12 @@ use Rattle.std.proofs.Common.{◌≡◌, ℕ, ◌^◌, ◌<◌, ◌≤◌, ◌==
 use Rattle.std.proofs.Common.{subst, arith, nat_eq, eq-eqb, eqb-true, true≢false}
 use Rattle.std.specs.Prelude.{◌&&◌, not, if◌then◌else◌, slice_get}
 use Rattle.std.proofs.lemmas.Int.{ints}
+use Rattle.std.proofs.lemmas.Bool.Decides.{nat_tests}
 use Rattle.std.proofs.lemmas.Option.{same_Some, none-some}
 use Rattle.std.proofs.lemmas.Bool.{and_parts, not-true}
 use Rattle.words.specs.declared.sign.Sign.TheVariants.{Signed, Unsigned}
 use Rattle.words.specs.C.{is_below}
-use Rattle.runs.specs.Stores.{Places, places_with, chain, Arrays}
+use Rattle.runs.specs.Stores.{Places, places_with, Arrays}
 use Rattle.mips_isa.specs.declared.inst.PairTest.{PairTest}
 use Rattle.mips_isa.specs.declared.inst.PairTest.TheVariants.{Equal, NotEqual}
 use Rattle.mips_isa.specs.declared.inst.ZeroTest.{ZeroTest}
@@ -22,7 +23,7 @@ use Rattle.rtl.specs.declared.instruction.RInst.TheVariants.{Bin}
 use Rattle.rtl.specs.declared.block.RGlobal.{RGlobal}
 use Rattle.rtl.specs.Operators.{truth_word, op_result}
 use Rattle.rtl.proofs.Results.{result-word}
-use Rattle.mips_homes.specs.HomedRun.{cells, is_callee_saved, in_home, Run, Failed, with_value, write_at, read_home, with_inst}
+use Rattle.mips_homes.specs.HomedRun.{cells, is_callee_saved, Run, Failed, with_value, write_at, read_home, with_inst}
 use Rattle.mips_homes.specs.declared.homed.Home.{Home}
 use Rattle.mips_homes.specs.declared.homed.Home.TheVariants.{Reg}
 use Rattle.mips_emit.specs.declared.location.Source.{Source}
@@ -33,17 +34,15 @@ use Rattle.mips_emit.specs.declared.comparison.Asked.TheVariants.{Nothing, Branc
 use Rattle.mips_emit.specs.declared.comparison.Comparison.{Comparison}
 use Rattle.mips_emit.specs.Frames.{AreFrameHomes}
 use Rattle.mips_emit.specs.Locations.{Locations, Facts, known_in, operand}
-use Rattle.mips_emit.specs.declared.operation.Operand.{Operand}
 use Rattle.mips_emit.specs.Code.{known_operand, operand_with, nop, fetch, operand_register, op_code}
 use Rattle.mips_emit.specs.Comparisons.{is_known_zero, is_immediate, opposite_if, form_of, truth_of, known_truth, form_with, opposite_op, code_by_form, comparison_code, is_asked, is_caller_saved}
 use Rattle.mips_emit.specs.Comparisons.{form_for, operator_comparison, comparison_of, last_with, is_result, returned}
-use Rattle.mips_emit.proofs.Runs.{RunsTo, runs_then}
-use Rattle.mips_emit.proofs.View.{IsTarget, first_inner, read_register}
+use Rattle.mips_emit.proofs.Runs.{RunsTo, if_some, runs_then}
+use Rattle.mips_emit.proofs.View.{IsTarget, t2, first_inner, read_register}
 use Rattle.mips_emit.proofs.Stands.{Stored, Stands}
 use Rattle.mips_emit.proofs.Operands.{passes, IsLast, none_fresh, IsKnown, Denotes, IsAway, operand_register_kept, longer_behind, runs_nop, hide}
-use Rattle.mips_emit.proofs.Operands.{AreDeferred, one_deferred, shown_deferred}
-use Rattle.mips_emit.proofs.Homes.{fewer_stand}
-use Rattle.mips_emit.proofs.Homes.{operand_below, operand_means, fetches, ends_stands}
+use Rattle.mips_emit.proofs.Operands.{AreDeferred, one_deferred}
+use Rattle.mips_emit.proofs.Homes.{fewer_stand, operand_below, operand_means, fetches, ends_stands}
 use Rattle.mips_emit.proofs.Insts.{Computed, value_or_failed, computes}
 
 -- ---- truth words
@@ -81,26 +80,17 @@ known_zero (Some c) v said is = sym (said c refl) ∙ eqb-true c 0 is
 -- what is one with an exit is what the exit asks for, in the form that it has there
 asked_for : (at : Locations) (facts : Facts) (asked : Asked) (i : RInst) (m : Comparison) → comparison_of at facts asked i ≡ Some m
     → (is_asked asked m.result ≡ true) × (form_for asked m.op m.left.known m.right.known ≡ Some m.form)
-asked_for at facts asked (Bin op d a b) m e = go (is_asked asked d && is_caller_saved (at d)) refl e
+asked_for at facts asked (Bin op d a b) m e =
+    let there = if_some (is_asked asked d && is_caller_saved (at d)) (operator_comparison d op (operand_with at facts a) (operand_with at facts b) form) m e in
+    by (and_parts (is_asked asked d) (is_caller_saved (at d)) there.0).0 form refl there.1
   where
-    l : Operand
-    l = operand_with at facts a
+    form : Option Form
+    form = form_for asked op (known_in facts a) (known_in facts b)
 
-    r : Operand
-    r = operand_with at facts b
-
-    by : is_asked asked d ≡ true → (o : Option Form) → form_for asked op l.known r.known ≡ o → operator_comparison d op l r o ≡ Some m
+    by : is_asked asked d ≡ true → (o : Option Form) → form ≡ o → operator_comparison d op (operand_with at facts a) (operand_with at facts b) o ≡ Some m
         → (is_asked asked m.result ≡ true) × (form_for asked m.op m.left.known m.right.known ≡ Some m.form)
     by t None is e = absurd (none-some m e)
-    by t (Some form) is e =
-        let x : Comparison = record { result = d; op = op; form = form; left = l; right = r } in
-        subst (λ (m : Comparison). (is_asked asked m.result ≡ true) × (form_for asked m.op m.left.known m.right.known ≡ Some m.form)) (same_Some x m e) (t, is)
-
-    go : (t : Bool) → (is_asked asked d && is_caller_saved (at d)) ≡ t
-        → (if t then operator_comparison d op l r (form_for asked op l.known r.known) else None) ≡ Some m
-        → (is_asked asked m.result ≡ true) × (form_for asked m.op m.left.known m.right.known ≡ Some m.form)
-    go false t e = absurd (none-some m e)
-    go true t e = by (and_parts (is_asked asked d) (is_caller_saved (at d)) t).0 (form_for asked op l.known r.known) refl e
+    by t (Some form) is e = rw (same_Some m _ (sym e)) (t, is)
 asked_for at facts asked _ m e = absurd (none-some m e)
 
 -- nothing is one with a branch that doesn't stand behind it
@@ -121,15 +111,16 @@ returned_result at facts c i m e =
 t3 : IsTarget 3
 t3 = record { low = omega arith; high = omega arith }
 
-t2 : IsTarget 2
-t2 = record { low = omega arith; high = omega arith }
+abbrev comparison_at : List Home → Facts → Op → (d a b : ℕ) → Form → Comparison
+comparison_at homes facts op d a b form =
+    record { result = d; op = op; form = form; left = operand_with (slice_get homes) facts a; right = operand_with (slice_get homes) facts b }
 
 -- what is known then: nothing but that a register doesn't hold its word
 abbrev pub waiting : Facts → (q u : ℕ) → Facts
 waiting facts q u = record { known = []; deferred = places_with facts.deferred q (Some u); kept = None; offset = None }
 
-module _ (most total : ℕ) (gs : List RGlobal) (starts : ℕ → ℕ) where
-  module _ (registers : Places) (g : Arrays) (top : Stored) (fs : List Stored) (s : State) (h : Stands most total gs starts registers g (top ∷ fs) s) where
+module _ {most total : ℕ} {gs : List RGlobal} {starts : ℕ → ℕ} where
+  module _ {registers : Places} {g : Arrays} {top : Stored} {fs : List Stored} {s : State} (h : Stands most total gs starts registers g (top ∷ fs) s) where
     -- code behind which a branch tells a word
     pub record Decided (is : List Plain) (form : Form) (x y : Source) (u : ℕ) : Type 0 where
       pub to : State
@@ -149,15 +140,14 @@ module _ (most total : ℕ) (gs : List RGlobal) (starts : ℕ → ℕ) where
 
       on_pair : (test : PairTest) → pair_passes test v w ≡ not (nat_eq u 0) → Decided (fetch 1 x ++ (fetch 3 y ++ nop ∷ [])) (OnPair test) x y u
       on_pair test e =
-          let a = fetches most total gs starts registers g top fs s h 1 v x (omega arith) (omega arith) (x_means s h) in
+          let a = fetches h 1 v x (omega arith) (omega arith) (x_means s h) in
           let s1 : State = record s { regs = a.regs } in
-          let b = fetches most total gs starts registers g top fs s1 a.stands 3 w y (omega arith) (omega arith) (y_means s1 a.stands) in
-          let s2 : State = record s1 { regs = b.regs } in
-          let left : read 0 b.regs (operand_register 1 x) ≡ v = operand_register_kept x 1 3 a.regs b.regs x_away (λ e. absurd (omega (arith, e))) (omega arith) b.others ∙ a.here in
+          let b = fetches a.stands 3 w y (omega arith) (omega arith) (y_means s1 a.stands) in
+          let left = operand_register_kept x 1 3 a.regs b.regs x_away (λ e. absurd (omega (arith, e))) (omega arith) b.others ∙ a.here in
           record {
-            to = s2;
-            runs = runs_then a.runs (runs_then b.runs (runs_nop s2));
-            some = longer_behind (fetch 1 x) (fetch 3 y ++ nop ∷ []) (longer_behind (fetch 3 y) (nop ∷ []) (omega arith));
+            to = record s1 { regs = b.regs };
+            runs = runs_then a.runs (runs_then b.runs (runs_nop (record s1 { regs = b.regs })));
+            some = longer_behind (fetch 1 x) _ (longer_behind (fetch 3 y) _ (omega arith));
             stands = b.stands;
             tells = ap₂ (pair_passes test) left b.here ∙ e;
             result = λ e. absurd (true≢false (sym e));
@@ -167,12 +157,12 @@ module _ (most total : ℕ) (gs : List RGlobal) (starts : ℕ → ℕ) where
       on_one : (z : Source) (c : ℕ) → Means z c → (form : Form) → is_result form ≡ false
           → ((m : State) → read 0 m.regs (operand_register 3 z) ≡ c → passes form x y m ≡ not (nat_eq u 0)) → Decided (fetch 3 z ++ nop ∷ []) form x y u
       on_one z c z_means form plain tells =
-          let a = fetches most total gs starts registers g top fs s h 3 c z (omega arith) (omega arith) (z_means s h) in
+          let a = fetches h 3 c z (omega arith) (omega arith) (z_means s h) in
           let s1 : State = record s { regs = a.regs } in
           record {
             to = s1;
             runs = runs_then a.runs (runs_nop s1);
-            some = longer_behind (fetch 3 z) (nop ∷ []) (omega arith);
+            some = longer_behind (fetch 3 z) _ (omega arith);
             stands = a.stands;
             tells = tells s1 a.here;
             result = λ e. absurd (true≢false (sym e ∙ plain));
@@ -185,7 +175,7 @@ module _ (most total : ℕ) (gs : List RGlobal) (starts : ℕ → ℕ) where
       on_right test e = on_one y w y_means (OnRight test) refl (λ m here. ap (zero_passes test) here ∙ e)
 
       -- the result of an operator, in register t
-      from_result : (is : List Plain) (form : Form) (t c : ℕ) → t < 4 → Computed most total gs starts registers g top fs s h is t c
+      from_result : (is : List Plain) (form : Form) (t c : ℕ) → t < 4 → Computed h is t c
           → ((m : State) → m.regs t ≡ c → passes form x y m ≡ not (nat_eq u 0)) → ((m : State) → m.regs t ≡ c → is_result form ≡ true → m.regs 2 ≡ u)
           → Decided is form x y u
       from_result is form t c low z tells result =
@@ -194,7 +184,7 @@ module _ (most total : ℕ) (gs : List RGlobal) (starts : ℕ → ℕ) where
             to = m;
             runs = (z.ends).runs;
             some = z.some;
-            stands = ends_stands most total gs starts registers g top fs z.to z.stands is s t c low z.ends;
+            stands = ends_stands z.stands low z.ends;
             tells = tells m (z.ends).here;
             result = result m (z.ends).here;
           }
@@ -202,19 +192,19 @@ module _ (most total : ℕ) (gs : List RGlobal) (starts : ℕ → ℕ) where
       by_result : (op : Op) → op_result op v w ≡ Some u → Given op ByResult
       by_result op e =
           from_result (op_code op 1 3 (known_operand k x) (known_operand l y)) ByResult 3 u (omega arith)
-          (computes most total gs starts registers g top fs s h op 1 3 v w u k l x y first_inner t3 x_away y_away x_means y_means kv lw vb wb e)
+          (computes h op 1 3 v w u k l x y first_inner t3 x_away y_away x_means y_means kv lw vb wb e)
           (λ m here. ap (λ c. not (c == 0)) (read_register m.regs 3 (omega arith) ∙ here)) (λ m here e. absurd (true≢false (sym e)))
 
       by_opposite : (op : Op) (t : ℕ) → op_result (opposite_op op) w v ≡ Some t → nat_eq t 0 ≡ not (nat_eq u 0) → Given op ByOpposite
       by_opposite op t e turned =
           from_result (op_code (opposite_op op) 1 3 (known_operand l y) (known_operand k x)) ByOpposite 3 t (omega arith)
-          (computes most total gs starts registers g top fs s h (opposite_op op) 1 3 w v t l k y x first_inner t3 y_away x_away y_means x_means lw kv wb vb e)
+          (computes h (opposite_op op) 1 3 w v t l k y x first_inner t3 y_away x_away y_means x_means lw kv wb vb e)
           (λ m here. ap (λ c. c == 0) (read_register m.regs 3 (omega arith) ∙ here) ∙ turned) (λ m here e. absurd (true≢false (sym e)))
 
       in_result : (op : Op) → op_result op v w ≡ Some u → Given op InResult
       in_result op e =
           from_result (op_code op 1 2 (known_operand k x) (known_operand l y)) InResult 2 u (omega arith)
-          (computes most total gs starts registers g top fs s h op 1 2 v w u k l x y first_inner t2 x_away y_away x_means y_means kv lw vb wb e)
+          (computes h op 1 2 v w u k l x y first_inner t2 x_away y_away x_means y_means kv lw vb wb e)
           (λ m here. ap (λ c. not (c == 0)) (read_register m.regs 2 (omega arith) ∙ here)) (λ m here _. here)
 
       -- the result is a truth word
@@ -286,16 +276,8 @@ module _ (most total : ℕ) (gs : List RGlobal) (starts : ℕ → ℕ) where
       decides_for (Branched c) op form is e = with_truth op form k l refl refl (form_of op k l) refl is e
       decides_for (Returned c) op form is e = subst (Given op) (same_Some InResult form is) (in_result op e)
 
+module _ (most total : ℕ) (gs : List RGlobal) (starts : ℕ → ℕ) where
   module _ (g : Arrays) (fs : List Stored) (P : Run → Type 0) (out : List ℕ) (failed : P (Failed out)) where
-    abbrev comparison_at : List Home → Facts → Op → (d a b : ℕ) → Form → Comparison
-    comparison_at homes facts op d a b form = record {
-      result = d;
-      op = op;
-      form = form;
-      left = operand_with (slice_get homes) facts a;
-      right = operand_with (slice_get homes) facts b;
-    }
-
     -- what a comparison leaves that is one with the branch behind it
     abbrev pub Leaves : (facts : Facts) (registers : Places) (top : Stored) (s : State) (go : Places → Places → Arrays → Run) → Comparison → Type 0
     Leaves facts registers top s go m = (q u : ℕ) (s' : State) → 1 ≤ length (comparison_code m) → RunsTo (comparison_code m) s s'
@@ -314,40 +296,29 @@ module _ (most total : ℕ) (gs : List RGlobal) (starts : ℕ → ℕ) where
         value_or_failed P (read_home top.homes registers top.slots a) out _ failed (λ v ev.
         value_or_failed P (read_home top.homes registers top.slots b) out _ failed (λ w ew.
         value_or_failed P (op_result op v w) out _ failed (λ u eu.
-        let known = known_in facts in
-        let vb = operand_below most total gs starts facts.deferred registers g top fs s h lz a v ok ev in
-        let wb = operand_below most total gs starts facts.deferred registers g top fs s h lz b w ok ew in
-        let z = decides_for (hide facts.deferred registers) g top fs s h v w u (known_in facts a) (known_in facts b) (operand (slice_get top.homes) facts a)
-        (operand (slice_get top.homes) facts b) (operand_means most total gs starts facts.deferred registers g top fs s h lz known a v ok k ev).1
-        (operand_means most total gs starts facts.deferred registers g top fs s h lz known b w ok k ew).1
-        (λ s h. (operand_means most total gs starts facts.deferred registers g top fs s h lz known a v ok k ev).0)
-        (λ s h. (operand_means most total gs starts facts.deferred registers g top fs s h lz known b w ok k ew).0)
+        let vb = operand_below h lz a v ok ev in
+        let wb = operand_below h lz b w ok ew in
+        let z = decides_for h v w u (known_in facts a) (known_in facts b) (operand (slice_get top.homes) facts a) (operand (slice_get top.homes) facts b)
+        (operand_means h lz a v ok k ev).1 (operand_means h lz b w ok k ew).1 (λ s h. (operand_means h lz a v ok k ev).0) (λ s h. (operand_means h lz b w ok k ew).0)
         (λ c is. same_Some c v (sym (k.by a c is) ∙ ev)) (λ c is. same_Some c w (sym (k.by b c is) ∙ ew)) vb wb asked op form is eu in
         write u (result-word op v w u vb wb eu) z (slice_get top.homes d) refl caller_saved)))
       where
-        m : Comparison
-        m = comparison_at top.homes facts op d a b form
-
         write : (u : ℕ) → u < 2 ^ 32
-            → Decided (hide facts.deferred registers) g top fs s h (code_by_form form op (operand_with (slice_get top.homes) facts a)
+            → Decided h (code_by_form form op (operand_with (slice_get top.homes) facts a)
             (operand_with (slice_get top.homes) facts b)) form (operand (slice_get top.homes) facts a) (operand (slice_get top.homes) facts b) u
             → (o : Option Home) → slice_get top.homes d ≡ o → is_caller_saved o ≡ true
             → P (with_value o out (λ h. write_at h registers top.slots u (λ r s. go r s g)))
         write u below z (Some (Reg q)) at passes_by =
-            let there : read_home top.homes (places_with registers q (Some u)) top.slots d ≡ Some u =
-            ap (λ o. chain o (in_home (places_with registers q (Some u)) top.slots)) at ∙ ap (λ b. if b then Some u else registers q) (eq-eqb q q refl) in
-            f q u z.to z.some z.runs
-            (fewer_stand most total gs starts (hide facts.deferred registers) (hide (places_with facts.deferred q (Some u)) (places_with registers q (Some u))) g (top ∷ fs)
-            z.to (λ r c e. shown_deferred facts.deferred registers q u r c e) z.stands)
-            (one_deferred facts.deferred registers q u (not-true (is_callee_saved q) passes_by) below lz)
+            let there : read_home top.homes (places_with registers q (Some u)) top.slots d ≡ Some u = rw (at, eq-eqb q q refl) refl in
+            let m = comparison_at top.homes facts op d a b form in
+            f q u z.to z.some z.runs (fewer_stand z.stands (λ r c e. grind (arith, nat_tests)))
+            (one_deferred q u (not-true (is_callee_saved q) passes_by) below lz)
             (record {
               fresh = none_fresh top.homes (places_with registers q (Some u)) top.slots z.to;
-              comparison = λ n c same holds.
-                  subst (λ (n : Comparison). read_home top.homes (places_with registers q (Some u)) top.slots n.result ≡ Some c → passes n.form n.left.source n.right.source z.to ≡ not (nat_eq c 0))
-                  (same_Some m n same) (λ here. z.tells ∙ ap (λ u. not (nat_eq u 0)) (same_Some u c (sym there ∙ here))) holds;
-              result = λ n c same is_it holds.
-                  subst (λ (n : Comparison). is_result n.form ≡ true → read_home top.homes (places_with registers q (Some u)) top.slots n.result ≡ Some c → (z.to).regs 2 ≡ c)
-                  (same_Some m n same) (λ it here. z.result it ∙ same_Some u c (sym there ∙ here)) is_it holds;
+              comparison = λ n c same holds. (let is : n ≡ m = same_Some n m (sym same) in
+                  rw is (z.tells ∙ ap (λ u. not (nat_eq u 0)) (same_Some u c (sym there ∙ (rw is at holds)))));
+              result = λ n c same is_it holds. (let is : n ≡ m = same_Some n m (sym same) in
+                  z.result (rw is at is_it) ∙ same_Some u c (sym there ∙ (rw is at holds)));
             })
         write u below z _ at passes_by = absurd (true≢false (sym passes_by))
 
@@ -357,20 +328,14 @@ module _ (most total : ℕ) (gs : List RGlobal) (starts : ℕ → ℕ) where
         → Stands most total gs starts (hide facts.deferred registers) g (top ∷ fs) s → Leaves facts registers top s go m
         → P (with_inst gs i (cells top.homes registers top.slots) g out go)
     compares (Bin op d a b) facts asked m registers top s go e ok k lz h f =
-        go1 (is_asked asked d && is_caller_saved (slice_get top.homes d)) refl e
+        let there = if_some (is_asked asked d && is_caller_saved (slice_get top.homes d)) (operator_comparison d op (operand_with (slice_get top.homes) facts a)
+        (operand_with (slice_get top.homes) facts b) (form_for asked op (known_in facts a) (known_in facts b))) m e in
+        by (form_for asked op (known_in facts a) (known_in facts b)) refl there.1 (and_parts (is_asked asked d) (is_caller_saved (slice_get top.homes d)) there.0).1
       where
-        Goal : Type 0
-        Goal = P (with_inst gs (Bin op d a b) (cells top.homes registers top.slots) g out go)
-
-        go2 : is_caller_saved (slice_get top.homes d) ≡ true → (o : Option Form) → form_for asked op (known_in facts a) (known_in facts b) ≡ o
-            → operator_comparison d op (operand_with (slice_get top.homes) facts a) (operand_with (slice_get top.homes) facts b) o ≡ Some m → Goal
-        go2 caller_saved None is e = absurd (none-some m e)
-        go2 caller_saved (Some form) is e =
+        by : (o : Option Form) → form_for asked op (known_in facts a) (known_in facts b) ≡ o
+            → operator_comparison d op (operand_with (slice_get top.homes) facts a) (operand_with (slice_get top.homes) facts b) o ≡ Some m
+            → is_caller_saved (slice_get top.homes d) ≡ true → P (with_inst gs (Bin op d a b) (cells top.homes registers top.slots) g out go)
+        by None is e caller_saved = absurd (none-some m e)
+        by (Some form) is e caller_saved =
             compares_bin asked op d a b facts form registers top s go is caller_saved ok k lz h (subst (Leaves facts registers top s go) (sym (same_Some _ m e)) f)
-
-        go1 : (t : Bool) → (is_asked asked d && is_caller_saved (slice_get top.homes d)) ≡ t
-            → (if t then operator_comparison d op (operand_with (slice_get top.homes) facts a) (operand_with (slice_get top.homes) facts b)
-            (form_for asked op (known_in facts a) (known_in facts b)) else None) ≡ Some m → Goal
-        go1 false t e = absurd (none-some m e)
-        go1 true t e = go2 (and_parts (is_asked asked d) (is_caller_saved (slice_get top.homes d)) t).1 (form_for asked op (known_in facts a) (known_in facts b)) refl e
     compares _ facts asked m registers top s go e ok k lz h f = absurd (none-some m e)

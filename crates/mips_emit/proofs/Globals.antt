@@ -1,13 +1,14 @@
 -- Elements of globals, and their places in data.
 use Rattle.std.proofs.Common.{◌≡◌, ◌≢◌, ℕ, zero, suc, ◌+◌, ◌*◌, ◌%◌, ◌^◌, ◌<◌, ◌≤◌, ◌⊎◌, inl, inr, Bool, true, false, cond, ◌&&◌, ◌==◌, List, []}
-use Rattle.std.proofs.Common.{◌∷◌, Option, Some, None, refl, sym, ap, ap₂, ◌∙◌, arith, nat_eq, eqb-true, ne_eqb}
+use Rattle.std.proofs.Common.{◌∷◌, Option, Some, None, refl, sym, ap, ap₂, ◌∙◌, arith, ne_eqb}
 use Rattle.std.specs.Prelude.{slice_get, slice_set}
-use Rattle.std.proofs.lemmas.Bool.{eqb-false, and_right}
+use Rattle.std.proofs.lemmas.Bool.{cases_eq, and_right}
 use Rattle.std.proofs.lemmas.Option.{same_Some, none-some}
 use Rattle.words.specs.declared.width.Width.{Width}
 use Rattle.words.specs.declared.width.Width.TheVariants.{Word, Byte}
 use Rattle.words.specs.Widths.{kept}
 use Rattle.runs.specs.Stores.{Places, Arrays, chain, element_at, arrays_with}
+use Rattle.runs.proofs.Words.{chain-some}
 use Rattle.mips_isa.specs.States.{State, AreApart, is_open, load_word, store_byte}
 use Rattle.mips_isa.specs.Starting.{data_base, stack_base}
 use Rattle.mblock.specs.declared.limits.TheConstants.{UNIT_BYTES}
@@ -51,14 +52,10 @@ stack_kept Byte s p v total b inside few le = word_past_byte s.mapped s.memory (
 -- elements one behind the other share no byte
 parts_apart : (w u : Width) (p q total : ℕ) → p + width_bytes w ≤ total → q + width_bytes u ≤ total → total ≤ UNIT_BYTES
     → (p + width_bytes w ≤ q) ⊎ (q + width_bytes u ≤ p) → AreApart w (address_of_place p) u (address_of_place q)
-parts_apart Word Word p q total hp hq few (inl le) = λ e. absurd (omega (arith, le, e))
-parts_apart Word Word p q total hp hq few (inr le) = λ e. absurd (omega (arith, le, e))
-parts_apart Byte Byte p q total hp hq few (inl le) = λ e. absurd (omega (arith, le, e))
-parts_apart Byte Byte p q total hp hq few (inr le) = λ e. absurd (omega (arith, le, e))
-parts_apart Word Byte p q total hp hq few (inl le) = omega (arith, le, hq, few)
-parts_apart Word Byte p q total hp hq few (inr le) = omega (arith, le, hp, few)
-parts_apart Byte Word p q total hp hq few (inl le) = omega (arith, le, hq, few)
-parts_apart Byte Word p q total hp hq few (inr le) = omega (arith, le, hp, few)
+parts_apart Word Word p q total hp hq few le = λ e. absurd (omega (arith, le, e))
+parts_apart Byte Byte p q total hp hq few le = λ e. absurd (omega (arith, le, e))
+parts_apart Word Byte p q total hp hq few le = omega (arith, le, hp, hq, few)
+parts_apart Byte Word p q total hp hq few le = omega (arith, le, hp, hq, few)
 
 set_there : {A : Type 0} (l : List A) (b : ℕ) (x y : A) → slice_get l b ≡ Some y → slice_get (slice_set l b x) b ≡ Some x
 set_there [] b x y e = absurd (none-some y e)
@@ -77,71 +74,46 @@ pub record StoredAt (g : Arrays) (a i v : ℕ) (g' : Arrays) : Type 0 where
   pub now : (b j w : ℕ) → element_at g' b j ≡ Some w → ((b ≡ a) × (j ≡ i) × (w ≡ v)) ⊎ ((b ≡ a → j ≡ i → ⊥) × (element_at g b j ≡ Some w))
 
 pub stored_at : (g : Arrays) (a i v : ℕ) (g' : Arrays) → arrays_with g a i v ≡ Some g' → StoredAt g a i v g'
-stored_at g a i v g' e = array (slice_get g a) refl e
+stored_at g a i v g' e =
+    let array = chain-some (slice_get g a) (λ (words : List ℕ). chain (slice_get words i) (λ _. Some (slice_set g a (slice_set words i v)))) g' e in
+    let place = chain-some (slice_get array.0 i) (λ _. Some (slice_set g a (slice_set array.0 i v))) g' array.2 in
+    record {
+      old = place.0;
+      was = ap (λ o. chain o (λ words. slice_get words i)) array.1 ∙ place.1;
+      now = λ b j w is. change array.0 place.0 array.1 place.1 b j w (ap (λ g. element_at g b j) (same_Some _ g' place.2) ∙ is) (cases_eq b a) (cases_eq j i);
+    }
   where
-    array : (o : Option (List ℕ)) → slice_get g a ≡ o → chain o (λ words. chain (slice_get words i) (λ _. Some (slice_set g a (slice_set words i v))))
-        ≡ Some g' → StoredAt g a i v g'
-    array None there e = absurd (none-some g' e)
-    array (Some words) there e = place (slice_get words i) refl e
-      where
-        place : (o : Option ℕ) → slice_get words i ≡ o → chain o (λ _. Some (slice_set g a (slice_set words i v))) ≡ Some g' → StoredAt g a i v g'
-        place None at e = absurd (none-some g' e)
-        place (Some old) at e = record {
-          old = old;
-          was = ap (λ o. chain o (λ words. slice_get words i)) there ∙ at;
-          now = λ b j w is. same b j w (ap (λ g. element_at g b j) (same_Some _ _ e) ∙ is) (nat_eq b a) refl;
-        }
-          where
-            other_array : (b j w : ℕ) → b ≢ a → element_at (slice_set g a (slice_set words i v)) b j ≡ Some w → element_at g b j ≡ Some w
-            other_array b j w ne is = ap (λ o. chain o (λ words. slice_get words j)) (sym (set_others g a (slice_set words i v) b ne)) ∙ is
+    change : (words : List ℕ) (old : ℕ) → slice_get g a ≡ Some words → slice_get words i ≡ Some old → (b j w : ℕ)
+        → element_at (slice_set g a (slice_set words i v)) b j ≡ Some w → (b ≡ a) ⊎ (b ≡ a → ⊥) → (j ≡ i) ⊎ (j ≡ i → ⊥)
+        → ((b ≡ a) × (j ≡ i) × (w ≡ v)) ⊎ ((b ≡ a → j ≡ i → ⊥) × (element_at g b j ≡ Some w))
+    change words old there at b j w is (inl b_a) (inl j_i) =
+        inl (b_a, j_i, same_Some w v (sym (rw (b_a, set_there g a (slice_set words i v) words there, j_i) at is) ∙ set_there words i v old at))
+    change words old there at b j w is (inl b_a) (inr ne) =
+        inr ((λ _ j_i. ne j_i), rw (b_a, there) (sym (set_others words i v j ne) ∙ (rw (b_a, set_there g a (slice_set words i v) words there) at is)))
+    change words old there at b j w is (inr ne) _ = inr ((λ b_a _. ne b_a), rw (set_others g a (slice_set words i v) b ne) at is)
 
-            same_array : (b j w : ℕ) → b ≡ a → element_at (slice_set g a (slice_set words i v)) b j ≡ Some w → slice_get (slice_set words i v) j ≡ Some w
-            same_array b j w b_a is = ap (λ o. chain o (λ words. slice_get words j))
-                (sym (ap (slice_get (slice_set g a (slice_set words i v))) b_a ∙ set_there g a (slice_set words i v) words there)) ∙ is
-
-            here : (b j w : ℕ) → b ≡ a → slice_get (slice_set words i v) j ≡ Some w → (t : Bool) → nat_eq j i ≡ t
-                → ((b ≡ a) × (j ≡ i) × (w ≡ v)) ⊎ ((b ≡ a → j ≡ i → ⊥) × (element_at g b j ≡ Some w))
-            here b j w b_a is true t =
-                let j_i = eqb-true j i t in
-                inl (b_a, j_i, same_Some w v (sym is ∙ ap (slice_get (slice_set words i v)) j_i ∙ set_there words i v old at))
-            here b j w b_a is false t =
-                let ne = eqb-false j i t in
-                inr (
-                  (λ _ j_i. ne j_i),
-                  ap (λ b. element_at g b j) b_a ∙ ap (λ o. chain o (λ words. slice_get words j)) there
-                      ∙ sym (set_others words i v j ne) ∙ is,
-                )
-
-            same : (b j w : ℕ) → element_at (slice_set g a (slice_set words i v)) b j ≡ Some w → (t : Bool) → nat_eq b a ≡ t
-                → ((b ≡ a) × (j ≡ i) × (w ≡ v)) ⊎ ((b ≡ a → j ≡ i → ⊥) × (element_at g b j ≡ Some w))
-            same b j w is true t = here b j w (eqb-true b a t) (same_array b j w (eqb-true b a t) is) (nat_eq j i) refl
-            same b j w is false t = inr ((λ b_a _. eqb-false b a t b_a), other_array b j w (eqb-false b a t) is)
-
-module _ (most total : ℕ) (gs : List RGlobal) (starts : ℕ → ℕ) where
+module _ {most total : ℕ} {gs : List RGlobal} {starts : ℕ → ℕ} {registers : Places} {g : Arrays} {fs : List Stored} {s : State} where
   -- an element that there is can be reached
-  pub data_open : (registers : Places) (g : Arrays) (fs : List Stored) (s : State) (a i v : ℕ) → element_at g a i ≡ Some v
-      → Stands most total gs starts registers g fs s
+  pub data_open : (a i v : ℕ) → element_at g a i ≡ Some v → Stands most total gs starts registers g fs s
       → is_open (width_of gs a) s.mapped (address_of_place (place_in gs starts a i)) ≡ true
-  data_open registers g fs s a i v there h =
-      ap (λ m. is_open (width_of gs a) m (address_of_place (place_in gs starts a i))) h.mapped
-      ∙ open_data (width_of gs a) total (place_in gs starts a i) (element_aligned (width_of gs a) (starts a) i (h.even a))
-      (below (width_of gs a) (place_in gs starts a i) (h.inside a i v there))
+  data_open a i v there h = rw h.mapped (open_data (width_of gs a) total (place_in gs starts a i) (element_aligned (width_of gs a) (starts a) i (h.even a))
+      (below (width_of gs a) (place_in gs starts a i) (h.inside a i v there)))
     where
       below : (w : Width) (p : ℕ) → p + width_bytes w ≤ total → p < total
       below Word p le = omega (arith, le)
       below Byte p le = omega (arith, le)
 
   -- an element is written in memory
-  pub data_written : (registers : Places) (g : Arrays) (fs : List Stored) (s : State) (a i v : ℕ) (g' : Arrays) → v < 2 ^ 32
+  pub data_written : (a i v : ℕ) (g' : Arrays) → v < 2 ^ 32
       → arrays_with g a i (kept (width_of gs a) v) ≡ Some g' → Stands most total gs starts registers g fs s
       → Stands most total gs starts registers g' fs (set_at (width_of gs a) s (address_of_place (place_in gs starts a i)) v)
-  data_written registers g fs s a i v g' lt e h =
+  data_written a i v g' lt e h =
       let at = stored_at g a i (kept (width_of gs a) v) g' e in
       let w = width_of gs a in
       let p = address_of_place (place_in gs starts a i) in
       let here = h.inside a i at.old at.was in
       let few = h.few in
-      let open_at = data_open registers g fs s a i at.old at.was h in
+      let open_at = data_open a i at.old at.was h in
       record {
         words = set_at_words w s p v h.words;
         mapped = h.mapped;

@@ -1,8 +1,8 @@
 -- The code of operators leaves their results.
 use Rattle.std.proofs.Common.{◌≡◌, ◌≢◌, ℕ, pos, ◌+◌, ◌-◌, ◌*◌, ◌/◌, ◌%◌, ◌^◌, ◌<◌, ◌≤◌, ◌==◌, Bool, true, false, List, [], ◌∷◌, length}
-use Rattle.std.proofs.Common.{Option, Some, None, refl, sym, ap, ap₂, ◌∙◌, subst, arith, nat_eq, nat_lt, ltb-true, eqb-true, true≢false}
+use Rattle.std.proofs.Common.{Option, Some, None, refl, sym, ap, ap₂, ◌∙◌, subst, arith, nat_eq, nat_lt, ltb-true, eqb-true, true≢false, ◌++◌, take, drop}
 use Rattle.std.specs.Prelude.{bit_and, if◌then◌else◌, not, int_lt, bit_xor}
-use Rattle.std.proofs.lemmas.Bool.{eqb-false}
+use Rattle.std.proofs.lemmas.Bool.{eqb-false, cond_both}
 use Rattle.std.proofs.lemmas.Bool.Decides.{nat_tests}
 use Rattle.std.proofs.lemmas.Nat.{and_comm, or_comm, xor_comm, and_mask}
 use Rattle.std.proofs.lemmas.Int.{ints}
@@ -32,11 +32,10 @@ use Rattle.rtl.specs.declared.operator.Op.{Op}
 use Rattle.rtl.specs.declared.operator.Op.TheVariants.{Add, Sub, Mul, DivS, DivU, RemS, RemU, And, Or, Xor, Shl, ShrU, ShrS, Eq, Ne, LtS, LtU, LeS, LeU}
 use Rattle.rtl.specs.Operators.{truth_word, op_result}
 use Rattle.rtl.proofs.Computing.{complement-is}
-use Rattle.std.proofs.Common.{◌++◌, take, drop}
 use Rattle.std.proofs.lemmas.List.{take-append-drop}
 use Rattle.mips_emit.specs.Code.{one_or_two, as_list}
 use Rattle.mips_emit.specs.Code.{is_small, half, operation, opposite, next_word, exponent, is_power, immediate, is_symmetric, turned_less_of}
-use Rattle.mips_emit.proofs.Runs.{RunsTo, runs_then}
+use Rattle.mips_emit.proofs.Runs.{RunsTo, if_some, runs_then}
 use Rattle.mips_emit.proofs.View.{set, IsTarget, put_here, put_other, read_register, alu_runs, imm_runs}
 
 -- instructions that write register d, and perhaps HI and LO
@@ -50,28 +49,14 @@ pub record Gives (is : List Plain) (s : State) (d v : ℕ) : Type 0 where
   pub some : 1 ≤ length is
 
 -- one instruction
-one : (i : Plain) (s : State) (d x v : ℕ) → IsTarget d → RunsTo (i ∷ []) s (set s d x) → x ≡ v → Gives (i ∷ []) s d v
-one i s d x v ok run e = record {
+one : {i : Plain} {s : State} {d : ℕ} (x : ℕ) {v : ℕ} → IsTarget d → RunsTo (i ∷ []) s (set s d x) → x ≡ v → Gives (i ∷ []) s d v
+one {s} {d} x ok run e = record {
   regs = put s.regs d x;
   hi = s.hi;
   lo = s.lo;
   runs = run;
   here = put_here s.regs d x ok ∙ e;
   others = λ r ne. put_other s.regs d x r ne;
-  some = omega arith;
-}
-
--- two, of which the second reads what the first wrote
-two : (i j : Plain) (s : State) (d x y v : ℕ) → IsTarget d → RunsTo (i ∷ []) s (set s d x)
-    → (read 0 (set s d x).regs d ≡ x → RunsTo (j ∷ []) (set s d x) (set (set s d x) d y)) → y ≡ v
-    → Gives (i ∷ j ∷ []) s d v
-two i j s d x y v ok first second e = record {
-  regs = put (set s d x).regs d y;
-  hi = s.hi;
-  lo = s.lo;
-  runs = runs_then first (second (read_register (set s d x).regs d ok.low ∙ put_here s.regs d x ok));
-  here = put_here (set s d x).regs d y ok ∙ e;
-  others = λ r ne. put_other (set s d x).regs d y r ne ∙ put_other s.regs d x r ne;
   some = omega arith;
 }
 
@@ -82,27 +67,30 @@ direct : (op : Operator) (v w u : ℕ) → value_of op v w ≡ Some u → op_val
 unfolding op_value
 direct op v w u e = ap or_zero e
 
-imm_gives : (op : ImmOp) (s : State) (d a v w u : ℕ) → IsTarget d → read 0 s.regs a ≡ v → w < 2 ^ 32 → op_value (imm_operator op) v w ≡ u
-    → Gives (Imm op d a (half w) ∷ []) s d u
-imm_gives op s d a v w u ok left lt e =
-    one (Imm op d a (half w)) s d (op_value (imm_operator op) (read 0 s.regs a) w) u ok (imm_runs s op d a w lt)
-    (ap (λ x. op_value (imm_operator op) x w) left ∙ e)
+low_bits : (n : ℕ) → wrap (n % 32) % 32 ≡ n % 32
+low_bits n = omega arith
 
-logic_gives : (op : LogicOp) (s : State) (d a v w u : ℕ) → IsTarget d → read 0 s.regs a ≡ v → w < 65536 → value_of (logic_operator op) v w ≡ Some u
-    → Gives (Logic op d a w ∷ []) s d u
-logic_gives op s d a v w u ok left lt e =
-    let same : wrap w ≡ w = omega (arith, lt) in
-    one (Logic op d a w) s d (op_value (logic_operator op) (read 0 s.regs a) (wrap w)) u ok (record { ends = refl })
-    (ap₂ (op_value (logic_operator op)) left same ∙ direct (logic_operator op) v w u e)
+pub shifted : (op : ShiftOp) (v c : ℕ) → op_value (shift_operator op) v (wrap (c % 32)) ≡ op_value (shift_operator op) v c
+unfolding op_value
+shifted Sll v c = ap (λ k. wrap (v * 2 ^ k)) (low_bits c)
+shifted Srl v c = ap (λ k. v / 2 ^ k) (low_bits c)
+shifted Sra v c = ap (λ k. if nat_lt v (2 ^ 31) then v / 2 ^ k else 2 ^ 32 - 1 - (2 ^ 32 - 1 - v) / 2 ^ k) (low_bits c)
+
+-- with a register and a word
+module _ {s : State} {d q v u : ℕ} (ok : IsTarget d) (left : read 0 s.regs q ≡ v) where
+  imm_gives : (op : ImmOp) (w : ℕ) → w < 2 ^ 32 → op_value (imm_operator op) v w ≡ u → Gives (Imm op d q (half w) ∷ []) s d u
+  imm_gives op w lt e = one (op_value (imm_operator op) (read 0 s.regs q) w) ok (imm_runs s op d q w lt) (rw left e)
+
+  logic_gives : (op : LogicOp) (w : ℕ) → w < 65536 → value_of (logic_operator op) v w ≡ Some u → Gives (Logic op d q w ∷ []) s d u
+  logic_gives op w lt e =
+      let same : wrap w ≡ w = omega arith in
+      one (op_value (logic_operator op) (read 0 s.regs q) (wrap w)) ok (record { ends = refl }) (rw (left, same) (direct (logic_operator op) v w u e))
+
+  by_gives : (op : ShiftOp) (c : ℕ) → value_of (shift_operator op) v c ≡ Some u → Gives (Shift op d q (c % 32) ∷ []) s d u
+  by_gives op c e = one (op_value (shift_operator op) (read 0 s.regs q) (wrap (c % 32))) ok (record { ends = refl })
+      (rw left (shifted op v c ∙ direct (shift_operator op) v c u e))
 
 -- ---- divisions
-
-divided : (sign : Sign) (v w x u : ℕ) → (if has_quotient sign v w then Some x else None) ≡ Some u → has_quotient sign v w ≡ true
-divided sign v w x u e = go (has_quotient sign v w) e
-  where
-    go : (b : Bool) → (if b then Some x else None) ≡ Some u → b ≡ true
-    go true e = refl
-    go false e = absurd (none-some u e)
 
 -- the state after a division
 abbrev quotient_in : Sign → State → (a b : ℕ) → ℕ
@@ -144,8 +132,17 @@ after_alu : (op : AluOp) (a b : ℕ) (second : Plain) (f : ℕ → ℕ) (s : Sta
     → Gives (Alu op d a b ∷ second ∷ []) s d u
 after_alu op a b second f s d u ok runs e =
     let x = op_value (alu_operator op) (read 0 s.regs a) (read 0 s.regs b) in
-    two (Alu op d a b) second s d x (f x) u ok (alu_runs s op d a b)
-    (λ r. subst (λ y. RunsTo (second ∷ []) (set s d x) (set (set s d x) d (f y))) r (runs (set s d x))) e
+    let m = set s d x in
+    let held : read 0 m.regs d ≡ x = read_register m.regs d ok.low ∙ put_here s.regs d x ok in
+    record {
+      regs = put m.regs d (f x);
+      hi = s.hi;
+      lo = s.lo;
+      runs = runs_then (alu_runs s op d a b) (subst (λ y. RunsTo (second ∷ []) m (set m d (f y))) held (runs m));
+      here = put_here m.regs d (f x) ok ∙ e;
+      others = λ r ne. put_other m.regs d (f x) r ne ∙ put_other s.regs d x r ne;
+      some = omega arith;
+    }
 
 -- ---- each operator
 
@@ -153,12 +150,12 @@ after_alu op a b second f s d u ok runs e =
 module _ (s : State) (d a b v w u : ℕ) (ok : IsTarget d) (left : read 0 s.regs a ≡ v) (right : read 0 s.regs b ≡ w) where
   pub alu_gives : (op : AluOp) → value_of (alu_operator op) v w ≡ Some u → Gives (Alu op d a b ∷ []) s d u
   alu_gives op e =
-      one (Alu op d a b) s d (op_value (alu_operator op) (read 0 s.regs a) (read 0 s.regs b)) u ok (alu_runs s op d a b)
+      one (op_value (alu_operator op) (read 0 s.regs a) (read 0 s.regs b)) ok (alu_runs s op d a b)
       (rw (left, right) (direct (alu_operator op) v w u e))
 
   shift_gives : (op : ShiftOp) → value_of (shift_operator op) v w ≡ Some u → Gives (ShiftBy op d a b ∷ []) s d u
   shift_gives op e =
-      one (ShiftBy op d a b) s d (op_value (shift_operator op) (read 0 s.regs a) (read 0 s.regs b)) u ok (record { ends = refl })
+      one (op_value (shift_operator op) (read 0 s.regs a) (read 0 s.regs b)) ok (record { ends = refl })
       (rw (left, right) (direct (shift_operator op) v w u e))
 
   product_gives : op_result Mul v w ≡ Some u → Gives (operation Mul d a b) s d u
@@ -182,7 +179,7 @@ module _ (s : State) (d a b v w u : ℕ) (ok : IsTarget d) (left : read 0 s.regs
   part_gives place sign operator x moved fits e =
       let y = op_value operator (read 0 s.regs a) (read 0 s.regs b) in
       let divides : RunsTo (Divide sign a b ∷ []) s (divided_state sign s a b) =
-      record { ends = rw (left, right, divided sign v w x u fits) } in
+      record { ends = rw (left, right, (if_some (has_quotient sign v w) (Some x) u fits).0) } in
       record {
         regs = put s.regs d y;
         hi = remainder_in sign s a b;
@@ -226,9 +223,6 @@ module _ (s : State) (d a b v w u : ℕ) (ok : IsTarget d) (left : read 0 s.regs
 turned : (v w : ℕ) → (v == w) ≡ (w == v)
 turned v w = grind (arith, nat_tests)
 
-turned_product : (v w : ℕ) → v * w ≡ w * v
-turned_product v w = omega arith
-
 pub symmetric : (op : Op) (v w : ℕ) → is_symmetric op ≡ true → op_result op v w ≡ op_result op w v
 symmetric Add v w e = let turned : wrap (v + w) ≡ wrap (w + v) = omega arith in ap Some turned
 symmetric And v w e = ap Some (and_comm v w)
@@ -236,33 +230,14 @@ symmetric Or v w e = ap Some (or_comm v w)
 symmetric Xor v w e = ap Some (xor_comm v w)
 symmetric Eq v w e = ap (λ b. Some (truth_word b)) (turned v w)
 symmetric Ne v w e = ap (λ b. Some (truth_word (not b))) (turned v w)
-symmetric Mul v w e = ap (λ n. Some (wrap n)) (turned_product v w)
+symmetric Mul v w e = let turned : v * w ≡ w * v = omega arith in ap (λ n. Some (wrap n)) turned
 symmetric _ v w e = absurd (true≢false (sym e))
 
 -- ---- with a word in the instruction
 
-if_some : (b : Bool) (x i : Plain) → (if b then Some x else None) ≡ Some i → (b ≡ true) × (x ≡ i)
-if_some true x i e = (refl, same_Some x i e)
-if_some false x i e = absurd (none-some i e)
-
 sum_turned : (v c : ℕ) → c < 2 ^ 32 → op_value operators.Addu v (opposite c) ≡ op_value operators.Subu v c
 unfolding op_value
 sum_turned v c lt = omega (arith, lt)
-
-low_bits : (n : ℕ) → wrap (n % 32) % 32 ≡ n % 32
-low_bits n = omega arith
-
-pub shifted : (op : ShiftOp) (v c : ℕ) → op_value (shift_operator op) v (wrap (c % 32)) ≡ op_value (shift_operator op) v c
-unfolding op_value
-shifted Sll v c = ap (λ k. wrap (v * 2 ^ k)) (low_bits c)
-shifted Srl v c = ap (λ k. v / 2 ^ k) (low_bits c)
-shifted Sra v c = ap (λ k. if nat_lt v (2 ^ 31) then v / 2 ^ k else 2 ^ 32 - 1 - (2 ^ 32 - 1 - v) / 2 ^ k) (low_bits c)
-
-by_gives : (op : ShiftOp) (s : State) (d a v c u : ℕ) → IsTarget d → read 0 s.regs a ≡ v → value_of (shift_operator op) v c ≡ Some u
-    → Gives (Shift op d a (c % 32) ∷ []) s d u
-by_gives op s d a v c u ok left e =
-    one (Shift op d a (c % 32)) s d (op_value (shift_operator op) (read 0 s.regs a) (wrap (c % 32))) u ok (record { ends = refl })
-    (ap (λ x. op_value (shift_operator op) x (wrap (c % 32))) left ∙ shifted op v c ∙ direct (shift_operator op) v c u e)
 
 -- tests against 0
 is_zero : (v : ℕ) → op_value operators.Sltu v 1 ≡ truth_word (v == 0)
@@ -272,13 +247,6 @@ is_zero v = grind (arith, nat_tests)
 is_some : (v : ℕ) → op_value operators.Sltu 0 v ≡ truth_word (not (v == 0))
 unfolding op_value
 is_some v = grind (arith, nat_tests)
-
-complemented : (s : State) (d q c v u : ℕ) → IsTarget d → read 0 s.regs q ≡ v → v < 2 ^ 32 → c ≡ 4294967295 → op_result Xor v c ≡ Some u
-    → Gives (Alu alu.Nor d q 0 ∷ []) s d u
-complemented s d q c v u ok left lv all e =
-    let value : 2 ^ 32 - 1 - v ≡ u = same_Some (2 ^ 32 - 1 - v) u (sym (complement-is v lv) ∙ ap (op_result Xor v) (sym all) ∙ e) in
-    one (Alu alu.Nor d q 0) s d (op_value operators.Nor (read 0 s.regs q) 0) u ok (alu_runs s alu.Nor d q 0)
-    (ap (λ x. op_value operators.Nor x 0) left ∙ sym (complement_agrees v lv) ∙ value)
 
 -- at most c is less than one more
 not_above_signed : (v c : ℕ) → v < 2 ^ 32 → c < 2 ^ 32 → is_small (next_word c) ≡ true
@@ -290,98 +258,62 @@ not_above : (v c : ℕ) → c < 2 ^ 32 → c ≢ 4294967295 → op_value operato
 unfolding op_value
 not_above v c lc ne = grind (arith, nat_tests)
 
-prefix_of : (b : Bool) (x u : ℕ) → (if b then Some x else None) ≡ Some u → Some x ≡ Some u
-prefix_of true x u e = e
-prefix_of false x u e = absurd (none-some u e)
+power : (c : ℕ) → is_power c ≡ true → 2 ^ (exponent c % 32) ≡ c
+power c e = eqb-true (2 ^ (exponent c % 32)) c e
 
-module _ (s : State) (d q c v u : ℕ) (i : Plain) (ok : IsTarget d) (left : read 0 s.regs q ≡ v) (lv : v < 2 ^ 32) (lc : c < 2 ^ 32) where
+module _ {s : State} {d : ℕ} (q c : ℕ) {v u : ℕ} {i : Plain} (ok : IsTarget d) (left : read 0 s.regs q ≡ v) (lv : v < 2 ^ 32) (lc : c < 2 ^ 32) where
   given : (x : Plain) → x ≡ i → Gives (x ∷ []) s d u → Gives (i ∷ []) s d u
   given x e g = subst (λ i. Gives (i ∷ []) s d u) e g
 
+  -- an instruction that there is where a test holds
+  when : (b : Bool) (x : Plain) → (if b then Some x else None) ≡ Some i → (b ≡ true → Gives (x ∷ []) s d u) → Gives (i ∷ []) s d u
+  when true x is g = given x (same_Some x i is) (g refl)
+  when false x is g = absurd (none-some i is)
+
   small_gives : (op : ImmOp) → (if is_small c then Some (Imm op d q (half c)) else None) ≡ Some i → value_of (imm_operator op) v c ≡ Some u
       → Gives (i ∷ []) s d u
-  small_gives op is e =
-      let f = if_some (is_small c) (Imm op d q (half c)) i is in
-      given (Imm op d q (half c)) f.1 (imm_gives op s d q v c u ok left lc (direct (imm_operator op) v c u e))
+  small_gives op is e = when (is_small c) _ is (λ _. imm_gives ok left op c lc (direct (imm_operator op) v c u e))
 
   half_gives : (op : LogicOp) → (if nat_lt c 65536 then Some (Logic op d q c) else None) ≡ Some i → value_of (logic_operator op) v c ≡ Some u
       → Gives (i ∷ []) s d u
-  half_gives op is e =
-      let f = if_some (nat_lt c 65536) (Logic op d q c) i is in
-      given (Logic op d q c) f.1 (logic_gives op s d q v c u ok left (ltb-true c 65536 f.0) e)
-
-  xor_gives : (if nat_lt c 65536 then Some (Logic Xori d q c) else if nat_eq c 4294967295 then Some (Alu alu.Nor d q 0) else None) ≡ Some i
-      → op_result Xor v c ≡ Some u → Gives (i ∷ []) s d u
-  xor_gives is e = go (nat_lt c 65536) refl is
-    where
-      go : (b : Bool) → nat_lt c 65536 ≡ b → (if b then Some (Logic Xori d q c) else if nat_eq c 4294967295 then Some (Alu alu.Nor d q 0) else None) ≡ Some i
-          → Gives (i ∷ []) s d u
-      go true eb is = given (Logic Xori d q c) (same_Some (Logic Xori d q c) i is) (logic_gives Xori s d q v c u ok left (ltb-true c 65536 eb) e)
-      go false eb is =
-          let f = if_some (nat_eq c 4294967295) (Alu alu.Nor d q 0) i is in
-          given (Alu alu.Nor d q 0) f.1 (complemented s d q c v u ok left lv (eqb-true c 4294967295 f.0) e)
+  half_gives op is e = when (nat_lt c 65536) _ is (λ lt. logic_gives ok left op c (ltb-true c 65536 lt) e)
 
   pub immediate_gives : (op : Op) → immediate op d q c ≡ Some i → op_result op v c ≡ Some u → Gives (i ∷ []) s d u
   immediate_gives Add is e = small_gives Addiu is e
-  immediate_gives Sub is e =
-      let f = if_some (is_small (opposite c)) (Imm Addiu d q (half (opposite c))) i is in
-      given (Imm Addiu d q (half (opposite c))) f.1
-      (imm_gives Addiu s d q v (opposite c) u ok left (omega (arith, lc)) (sum_turned v c lc ∙ direct operators.Subu v c u e))
+  immediate_gives Sub is e = when (is_small (opposite c)) _ is
+      (λ _. imm_gives ok left Addiu (opposite c) (omega (arith, lc)) (sum_turned v c lc ∙ direct operators.Subu v c u e))
   immediate_gives And is e = half_gives Andi is e
   immediate_gives Or is e = half_gives Ori is e
-  immediate_gives Xor is e = xor_gives is e
-  immediate_gives Shl is e = given (Shift Sll d q (c % 32)) (same_Some (Shift Sll d q (c % 32)) i is) (by_gives Sll s d q v c u ok left e)
-  immediate_gives ShrU is e = given (Shift Srl d q (c % 32)) (same_Some (Shift Srl d q (c % 32)) i is) (by_gives Srl s d q v c u ok left e)
-  immediate_gives ShrS is e = given (Shift Sra d q (c % 32)) (same_Some (Shift Sra d q (c % 32)) i is) (by_gives Sra s d q v c u ok left e)
-  immediate_gives Eq is e =
-      let f = if_some (nat_eq c 0) (Imm Sltiu d q (pos 1)) i is in
-      let zero_is : c ≡ 0 = eqb-true c 0 f.0 in
-      given (Imm Sltiu d q (pos 1)) f.1
-      (imm_gives Sltiu s d q v 1 u ok left (omega arith) (is_zero v ∙ ap (λ c. truth_word (v == c)) (sym zero_is) ∙ same_Some (truth_word (v == c)) u e))
-  immediate_gives Ne is e =
-      let f = if_some (nat_eq c 0) (Alu alu.Sltu d 0 q) i is in
-      let zero_is : c ≡ 0 = eqb-true c 0 f.0 in
-      given (Alu alu.Sltu d 0 q) f.1
-      (one (Alu alu.Sltu d 0 q) s d (op_value operators.Sltu 0 (read 0 s.regs q)) u ok (alu_runs s alu.Sltu d 0 q)
-      (ap (op_value operators.Sltu 0) left ∙ is_some v ∙ ap (λ c. truth_word (not (v == c))) (sym zero_is) ∙ same_Some (truth_word (not (v == c))) u e))
+  immediate_gives Xor is e = cond_both (nat_lt c 65536) (Some (Logic Xori d q c)) (if nat_eq c 4294967295 then Some (Alu alu.Nor d q 0) else None)
+      (λ o. o ≡ Some i → Gives (i ∷ []) s d u)
+      (λ lt is. given (Logic Xori d q c) (same_Some _ i is) (logic_gives ok left Xori c (ltb-true c 65536 lt) e))
+      (λ _ is. when (nat_eq c 4294967295) _ is (λ all.
+      let value : 2 ^ 32 - 1 - v ≡ u = same_Some _ u (sym (complement-is v lv) ∙ (rw (eqb-true c 4294967295 all) at e)) in
+      one (op_value operators.Nor (read 0 s.regs q) 0) ok (alu_runs s alu.Nor d q 0) (rw left (sym (complement_agrees v lv) ∙ value)))) is
+  immediate_gives Shl is e = given (Shift Sll d q (c % 32)) (same_Some _ i is) (by_gives ok left Sll c e)
+  immediate_gives ShrU is e = given (Shift Srl d q (c % 32)) (same_Some _ i is) (by_gives ok left Srl c e)
+  immediate_gives ShrS is e = given (Shift Sra d q (c % 32)) (same_Some _ i is) (by_gives ok left Sra c e)
+  immediate_gives Eq is e = when (nat_eq c 0) _ is (λ zero. imm_gives ok left Sltiu 1 (omega arith)
+      (is_zero v ∙ same_Some (truth_word (v == 0)) u (rw (eqb-true c 0 zero) at e)))
+  immediate_gives Ne is e = when (nat_eq c 0) _ is (λ zero. one (op_value operators.Sltu 0 (read 0 s.regs q)) ok (alu_runs s alu.Sltu d 0 q)
+      (rw left (is_some v ∙ same_Some (truth_word (not (v == 0))) u (rw (eqb-true c 0 zero) at e))))
   immediate_gives LtS is e = small_gives Slti is e
   immediate_gives LtU is e = small_gives Sltiu is e
-  immediate_gives LeS is e =
-      let f = if_some (is_small (next_word c)) (Imm Slti d q (half (next_word c))) i is in
-      given (Imm Slti d q (half (next_word c))) f.1
-      (imm_gives Slti s d q v (next_word c) u ok left (omega arith) (not_above_signed v c lv lc f.0
-      ∙ same_Some (truth_word (not (int_lt (signed c) (signed v)))) u e))
-  immediate_gives LeU is e = le_gives (nat_eq c 4294967295) refl is
-    where
-      le_gives : (b : Bool) → nat_eq c 4294967295 ≡ b → (if b then None else if is_small (next_word c) then Some
-          (Imm Sltiu d q (half (next_word c))) else None) ≡ Some i
-          → Gives (i ∷ []) s d u
-      le_gives true eb is = absurd (none-some i is)
-      le_gives false eb is =
-          let f = if_some (is_small (next_word c)) (Imm Sltiu d q (half (next_word c))) i is in
-          given (Imm Sltiu d q (half (next_word c))) f.1
-          (imm_gives Sltiu s d q v (next_word c) u ok left (omega arith)
-          (not_above v c lc (eqb-false c 4294967295 eb) ∙ same_Some (truth_word (not (nat_lt c v))) u e))
-  immediate_gives Mul is e =
-      let f = if_some (is_power c) (Shift Sll d q (exponent c % 32)) i is in
-      let power : 2 ^ (exponent c % 32) ≡ c = eqb-true (2 ^ (exponent c % 32)) c f.0 in
-      given (Shift Sll d q (exponent c % 32)) f.1 (by_gives Sll s d q v (exponent c) u ok left (ap (λ n. Some (wrap (v * n))) power ∙ e))
-  immediate_gives DivU is e =
-      let f = if_some (is_power c) (Shift Srl d q (exponent c % 32)) i is in
-      let power : 2 ^ (exponent c % 32) ≡ c = eqb-true (2 ^ (exponent c % 32)) c f.0 in
-      given (Shift Srl d q (exponent c % 32)) f.1
-      (by_gives Srl s d q v (exponent c) u ok left (ap (λ n. Some (v / n)) power ∙ prefix_of (has_quotient Unsigned v c) (v / c) u e))
-  immediate_gives RemU is e = rem_gives (is_power c) refl is
-    where
-      rem_gives : (b : Bool) → is_power c ≡ b → (if b then (if nat_lt (c - 1) 65536 then Some (Logic Andi d q (c - 1)) else None) else None) ≡ Some i
-          → Gives (i ∷ []) s d u
-      rem_gives false eb is = absurd (none-some i is)
-      rem_gives true eb is =
-          let f = if_some (nat_lt (c - 1) 65536) (Logic Andi d q (c - 1)) i is in
-          let power : 2 ^ (exponent c % 32) ≡ c = eqb-true (2 ^ (exponent c % 32)) c eb in
-          let low : bit_and v (c - 1) ≡ v % c = ap (λ n. bit_and v (n - 1)) (sym power) ∙ and_mask v (exponent c % 32) ∙ ap (λ n. v % n) power in
-          given (Logic Andi d q (c - 1)) f.1
-          (logic_gives Andi s d q v (c - 1) u ok left (ltb-true (c - 1) 65536 f.0) (ap Some low ∙ prefix_of (has_quotient Unsigned v c) (v % c) u e))
+  immediate_gives LeS is e = when (is_small (next_word c)) _ is (λ small. imm_gives ok left Slti (next_word c) (omega arith)
+      (not_above_signed v c lv lc small ∙ same_Some (truth_word (not (int_lt (signed c) (signed v)))) u e))
+  immediate_gives LeU is e = cond_both (nat_eq c 4294967295) None (if is_small (next_word c) then Some (Imm Sltiu d q (half (next_word c))) else None)
+      (λ o. o ≡ Some i → Gives (i ∷ []) s d u) (λ _ is. absurd (none-some i is))
+      (λ less is. when (is_small (next_word c)) _ is (λ _. imm_gives ok left Sltiu (next_word c) (omega arith)
+      (not_above v c lc (eqb-false c 4294967295 less) ∙ same_Some (truth_word (not (nat_lt c v))) u e))) is
+  immediate_gives Mul is e = when (is_power c) _ is (λ b. by_gives ok left Sll (exponent c) (ap (λ n. Some (wrap (v * n))) (power c b) ∙ e))
+  immediate_gives DivU is e = when (is_power c) _ is (λ b. by_gives ok left Srl (exponent c)
+      (ap (λ n. Some (v / n)) (power c b) ∙ (if_some (has_quotient Unsigned v c) (Some (v / c)) u e).1))
+  immediate_gives RemU is e = cond_both (is_power c) (if nat_lt (c - 1) 65536 then Some (Logic Andi d q (c - 1)) else None) None
+      (λ o. o ≡ Some i → Gives (i ∷ []) s d u)
+      (λ b is. when (nat_lt (c - 1) 65536) _ is (λ lt.
+      let low : bit_and v (c - 1) ≡ v % c = ap (λ n. bit_and v (n - 1)) (sym (power c b)) ∙ and_mask v (exponent c % 32) ∙ ap (λ n. v % n) (power c b) in
+      logic_gives ok left Andi (c - 1) (ltb-true (c - 1) 65536 lt) (ap Some low ∙ (if_some (has_quotient Unsigned v c) (Some (v % c)) u e).1)))
+      (λ _ is. absurd (none-some i is)) is
   immediate_gives _ is e = absurd (none-some i is)
 
 -- a test that is turned behind
@@ -410,12 +342,12 @@ pub less_gives : (op : Op) (s : State) (d q v w u : ℕ) (i : Plain) (known : Op
     → ((c : ℕ) → known ≡ Some c → c ≡ v) → turned_less_of op d q known ≡ Some i → op_result op v w ≡ Some u → Gives (i ∷ Logic Xori d d 1 ∷ []) s d u
 less_gives LeS s d q v w u i (Some c) ok left lv lw said is e =
     let same : c ≡ v = said c refl in
-    then_turned i s d u (int_lt (signed w) (signed c)) ok (ap (λ c. Some (truth_word (not (int_lt (signed w) (signed c))))) same ∙ e)
-    (immediate_gives s d q c w (truth_word (int_lt (signed w) (signed c))) i ok left lw (omega (arith, same, lv)) LtS is refl)
+    then_turned i s d u (int_lt (signed w) (signed c)) ok (rw same e)
+    (immediate_gives q c ok left lw (omega (arith, same, lv)) LtS is refl)
 less_gives LeU s d q v w u i (Some c) ok left lv lw said is e =
     let same : c ≡ v = said c refl in
-    then_turned i s d u (nat_lt w c) ok (ap (λ c. Some (truth_word (not (nat_lt w c)))) same ∙ e)
-    (immediate_gives s d q c w (truth_word (nat_lt w c)) i ok left lw (omega (arith, same, lv)) LtU is refl)
+    then_turned i s d u (nat_lt w c) ok (rw same e)
+    (immediate_gives q c ok left lw (omega (arith, same, lv)) LtU is refl)
 less_gives _ s d q v w u i _ ok left lv lw said is e = absurd (none-some i is)
 
 -- an instruction and a second one, as the first and the rest of what they are

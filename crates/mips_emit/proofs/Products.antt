@@ -1,6 +1,5 @@
 -- Products by one more or one less than a power of 2.
-use Rattle.std.proofs.Common.{◌≡◌, ℕ, suc, ◌+◌, ◌-◌, ◌*◌, ◌%◌, ◌^◌, ◌<◌, Bool, true, false, Option, Some, None, refl, sym, ap, ◌∙◌, subst, arith}
-use Rattle.std.proofs.Common.{eqb-true}
+use Rattle.std.proofs.Common.{◌≡◌, ℕ, suc, ◌+◌, ◌-◌, ◌*◌, ◌%◌, ◌^◌, ◌<◌, Bool, true, false, Option, Some, None, refl, sym, ap, ◌∙◌, arith, eqb-true}
 use Rattle.std.specs.Prelude.{if◌then◌else◌}
 use Rattle.std.proofs.Math.Nat.{mul-suc}
 use Rattle.std.proofs.lemmas.Nat.{pow_pos}
@@ -9,6 +8,7 @@ use Rattle.words.specs.declared.operator.Operator.TheVariants as operators
 use Rattle.words.specs.Words.{wrap}
 use Rattle.words.specs.Operators.{value_of, op_value}
 use Rattle.mips_isa.specs.declared.inst.ShiftOp.TheVariants.{Sll}
+use Rattle.mips_isa.specs.declared.inst.AluOp.{AluOp}
 use Rattle.mips_isa.specs.declared.inst.AluOp.TheVariants.{Addu, Subu}
 use Rattle.mips_isa.specs.Actions.{alu_operator}
 use Rattle.rtl.specs.declared.operator.Op.{Op}
@@ -28,10 +28,17 @@ shift_value : (v n : ℕ) → op_value operators.Sll v (wrap (n % 32)) ≡ wrap 
 unfolding op_value
 shift_value v n = shifted Sll v n
 
-one_more : (v p c u : ℕ) → p ≡ c - 1 → 0 < p → wrap (v * c) ≡ u → wrap (wrap (v * p) + v) ≡ u
-one_more v p c u e low is =
-    let next : c ≡ suc p = omega (arith, e, low) in
-    let times : v * c ≡ v * p + v = ap (λ n. v * n) next ∙ mul-suc v p in
+-- a word shifted, and then an operator on that and the word
+made : (op : AluOp) (d v u : ℕ) → is_power d ≡ true → (0 < d → value_of (alu_operator op) (wrap (v * d)) v ≡ Some u)
+    → IsMultiple (record { op = op; amount = exponent d % 32 }) v u
+made op d v u b sums =
+    let power : 2 ^ (exponent d % 32) ≡ d = eqb-true (2 ^ (exponent d % 32)) d b in
+    record { shown = wrap (v * 2 ^ (exponent d % 32)); shifts = shift_value v (exponent d); sums = rw power (sums (rw power at (pow_pos (exponent d % 32)))) }
+
+one_more : (v c u : ℕ) → 0 < c - 1 → wrap (v * c) ≡ u → wrap (wrap (v * (c - 1)) + v) ≡ u
+one_more v c u low is =
+    let next : c ≡ suc (c - 1) = omega (arith, low) in
+    let times : v * c ≡ v * (c - 1) + v = ap (λ n. v * n) next ∙ mul-suc v (c - 1) in
     omega (arith, times, is)
 
 one_less : (v p c u : ℕ) → v < 2 ^ 32 → c < 2 ^ 32 → p ≡ next_word c → 0 < p → wrap (v * c) ≡ u → wrap (wrap (v * p) + (2 ^ 32 - v)) ≡ u
@@ -53,20 +60,9 @@ multiple_is m c v u lv lc is e = by (is_power c) (is_power (c - 1)) (is_power (n
     by : (a b d : Bool) → is_power (c - 1) ≡ b → is_power (next_word c) ≡ d
         → (if a then None else if b then Some more else if d then Some less else None) ≡ Some m → IsMultiple m v u
     by true b d eb ed is = absurd (none-some m is)
-    by false true d eb ed is =
-        let power : 2 ^ (exponent (c - 1) % 32) ≡ c - 1 = eqb-true (2 ^ (exponent (c - 1) % 32)) (c - 1) eb in
-        subst (λ m. IsMultiple m v u) (same_Some more m is) (record {
-          shown = wrap (v * 2 ^ (exponent (c - 1) % 32));
-          shifts = shift_value v (exponent (c - 1));
-          sums = ap Some (one_more v (2 ^ (exponent (c - 1) % 32)) c u power (pow_pos (exponent (c - 1) % 32)) e);
-        })
-    by false false true eb ed is =
-        let power : 2 ^ (exponent (next_word c) % 32) ≡ next_word c = eqb-true (2 ^ (exponent (next_word c) % 32)) (next_word c) ed in
-        subst (λ m. IsMultiple m v u) (same_Some less m is) (record {
-          shown = wrap (v * 2 ^ (exponent (next_word c) % 32));
-          shifts = shift_value v (exponent (next_word c));
-          sums = ap Some (one_less v (2 ^ (exponent (next_word c) % 32)) c u lv lc power (pow_pos (exponent (next_word c) % 32)) e);
-        })
+    by false true d eb ed is = rw (← same_Some more m is) (made Addu (c - 1) v u eb (λ low. ap Some (one_more v c u low e)))
+    by false false true eb ed is = rw (← same_Some less m is)
+        (made Subu (next_word c) v u ed (λ low. ap Some (one_less v (next_word c) c u lv lc refl low e)))
     by false false false eb ed is = absurd (none-some m is)
 
 -- it is done for products alone

@@ -1,5 +1,5 @@
 -- Lists of instructions, and items of a unit's run.
-use Rattle.std.proofs.Common.{◌≡◌, ℕ, suc, ◌+◌, Bool, true, false, List, [], ◌∷◌, ◌++◌, map, length, Some, None, refl, ap, ◌∙◌, arith}
+use Rattle.std.proofs.Common.{◌≡◌, ℕ, suc, ◌+◌, Bool, true, false, List, [], ◌∷◌, ◌++◌, map, length, Option, Some, None, refl, ap, ◌∙◌, arith}
 use Rattle.std.specs.Prelude.{if◌then◌else◌, slice_get}
 use Rattle.std.proofs.lemmas.Option.{same_Some, none-some}
 use Rattle.runs.specs.declared.ran.End.TheVariants.{Done}
@@ -9,11 +9,16 @@ use Rattle.mips_isa.specs.States.{State}
 use Rattle.mips_isa.specs.Actions.{action_of, is_safe, state_after}
 use Rattle.mblock.specs.Parts.{BlockParts}
 use Rattle.mblock.specs.BlockMeaning.{run, exit_effect}
-use Rattle.mblock.specs.UnitRuns.{wrong, items, exit_item, outcome_of_departure}
+use Rattle.mblock.specs.UnitRuns.{items, exit_item, outcome_of_departure}
 
 -- what instructions do, one after another
 pub record RunsTo (is : List Plain) (s t : State) : Type 0 where
   pub ends : run (map action_of is) s ≡ Some t
+
+-- what is there only where a test holds
+pub if_some : {A : Type 0} (b : Bool) (o : Option A) (x : A) → (if b then o else None) ≡ Some x → (b ≡ true) × (o ≡ Some x)
+if_some true o x e = (refl, e)
+if_some false o x e = absurd (none-some x e)
 
 pub runs_none : (s : State) → RunsTo [] s s
 runs_none s = record { ends = refl }
@@ -21,13 +26,9 @@ runs_none s = record { ends = refl }
 runs_append : (is js : List Plain) (s t u : State) → run (map action_of is) s ≡ Some t → run (map action_of js) t ≡ Some u
     → run (map action_of (is ++ js)) s ≡ Some u
 runs_append [] js s t u e f = ap (run (map action_of js)) (same_Some s t e) ∙ f
-runs_append (i ∷ is) js s t u e f = go (is_safe (action_of i) s) e (λ e. runs_append is js (state_after (action_of i) s) t u e f)
-  where
-    go : (b : Bool) → (if b then run (map action_of is) (state_after (action_of i) s) else None) ≡ Some t
-        → (run (map action_of is) (state_after (action_of i) s) ≡ Some t → run (map action_of (is ++ js)) (state_after (action_of i) s) ≡ Some u)
-        → (if b then run (map action_of (is ++ js)) (state_after (action_of i) s) else None) ≡ Some u
-    go true e f = f e
-    go false e f = absurd (none-some t e)
+runs_append (i ∷ is) js s t u e f =
+    let safe = if_some (is_safe (action_of i) s) (run (map action_of is) (state_after (action_of i) s)) t e in
+    rw safe.0 (runs_append is js (state_after (action_of i) s) t u safe.1 f)
 
 pub runs_then : {is js : List Plain} {s t u : State} → RunsTo is s t → RunsTo js t u → RunsTo (is ++ js) s u
 runs_then {is} {js} {s} {t} {u} e f = record { ends = runs_append is js s t u e.ends f.ends }
@@ -43,41 +44,37 @@ module _ (blocks : List BlockParts) (links : ℕ → ℕ) where
   from n (Stopped w out) = record { end = Done w; output = out }
 
   -- so many items lead from one point to the other
-  abbrev pub Leads : ℕ → Point → Point → Type 0
-  Leads d p q = (n : ℕ) → from (d + n) p ≡ from n q
+  pub record Leads (d : ℕ) (p q : Point) : Type 0 where
+    pub by : (n : ℕ) → from (d + n) p ≡ from n q
 
-  pub leads_nowhere : (p : Point) → Leads 0 p p
-  leads_nowhere p n = let e : 0 + n ≡ n = omega arith in ap (λ n. from n p) e
-
-  pub leads_then : (d e : ℕ) (p q r : Point) → Leads d p q → Leads e q r → Leads (d + e) p r
-  leads_then d e p q r a b n =
-      let sums : d + e + n ≡ d + (e + n) = omega arith in
-      ap (λ n. from n p) sums ∙ a (e + n) ∙ b n
-
-  leads_list : (k : ℕ) (is rest : List Plain) (s t : State) (out : List ℕ) → run (map action_of is) s ≡ Some t
-      → Leads (length is) (At k (is ++ rest) s out) (At k rest t out)
+  leads_list : (k : ℕ) (is rest : List Plain) (s t : State) (out : List ℕ) → run (map action_of is) s ≡ Some t → (n : ℕ)
+      → items blocks links (length is + n) k (is ++ rest) s out ≡ items blocks links n k rest t out
   leads_list k [] rest s t out e n =
       let same : 0 + n ≡ n = omega arith in
       ap (λ n. items blocks links n k rest s out) same ∙ ap (λ s. items blocks links n k rest s out) (same_Some s t e)
   leads_list k (i ∷ is) rest s t out e n =
       let one : length (i ∷ is) + n ≡ suc (length is + n) = omega arith in
-      ap (λ n. items blocks links n k (i ∷ is ++ rest) s out) one
-      ∙ go (is_safe (action_of i) s) e (λ e. leads_list k is rest (state_after (action_of i) s) t out e n)
-    where
-      go : (b : Bool) → (if b then run (map action_of is) (state_after (action_of i) s) else None) ≡ Some t
-          → (run (map action_of is) (state_after (action_of i) s) ≡ Some t
-          → items blocks links (length is + n) k (is ++ rest) (state_after (action_of i) s) out ≡ items blocks links n k rest t out)
-          → (if b then items blocks links (length is + n) k (is ++ rest) (state_after (action_of i) s) out else wrong out) ≡ items blocks links n k rest t out
-      go true e f = f e
-      go false e f = absurd (none-some t e)
+      let safe = if_some (is_safe (action_of i) s) (run (map action_of is) (state_after (action_of i) s)) t e in
+      ap (λ n. items blocks links n k (i ∷ is ++ rest) s out) one ∙ rw safe.0 (leads_list k is rest (state_after (action_of i) s) t out safe.1 n)
 
-  pub leads_run : (k : ℕ) (is rest : List Plain) (s t : State) (out : List ℕ) → RunsTo is s t → Leads (length is) (At k (is ++ rest) s out) (At k rest t out)
-  leads_run k is rest s t out e = leads_list k is rest s t out e.ends
+module _ {blocks : List BlockParts} {links : ℕ → ℕ} where
+  pub leads_nowhere : (p : Point) → Leads blocks links 0 p p
+  leads_nowhere p = record { by = λ n. (let e : 0 + n ≡ n = omega arith in ap (λ n. from blocks links n p) e) }
+
+  pub leads_then : {d e : ℕ} {p q r : Point} → Leads blocks links d p q → Leads blocks links e q r → Leads blocks links (d + e) p r
+  leads_then {d} {e} {p} a b = record {
+    by = λ n. (let sums : d + e + n ≡ d + (e + n) = omega arith in ap (λ n. from blocks links n p) sums ∙ a.by (e + n) ∙ b.by n);
+  }
+
+  pub leads_run : (k : ℕ) {is : List Plain} (rest : List Plain) {s t : State} (out : List ℕ) → RunsTo is s t
+      → Leads blocks links (length is) (At k (is ++ rest) s out) (At k rest t out)
+  leads_run k {is} rest {s} {t} out e = record { by = leads_list blocks links k is rest s t out e.ends }
 
   -- an exit
-  pub leads_exit : (k : ℕ) (b : BlockParts) (s : State) (out : List ℕ) (q : Point) → slice_get blocks k ≡ Some b
+  pub leads_exit : {k : ℕ} {b : BlockParts} {s : State} {out : List ℕ} {q : Point} → slice_get blocks k ≡ Some b
       → ((n : ℕ) → outcome_of_departure blocks links (exit_effect b.exit s (links k)).goes (items blocks links n) (exit_effect b.exit s (links k)).state out
-      ≡ from n q) → Leads 1 (At k [] s out) q
-  leads_exit k b s out q there e n =
-      let one : 1 + n ≡ suc n = omega arith in
-      ap (λ n. items blocks links n k [] s out) one ∙ ap (λ o. exit_item blocks links k o (items blocks links n) s out) there ∙ e n
+      ≡ from blocks links n q) → Leads blocks links 1 (At k [] s out) q
+  leads_exit {k} {s} {out} there e = record {
+    by = λ n. (let one : 1 + n ≡ suc n = omega arith in
+        ap (λ n. items blocks links n k [] s out) one ∙ ap (λ o. exit_item blocks links k o (items blocks links n) s out) there ∙ e n);
+  }

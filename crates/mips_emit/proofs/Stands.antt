@@ -1,7 +1,6 @@
 -- How a state of the machine holds homes, frames and globals.
 use Rattle.std.proofs.Common.{◌≡◌, ℕ, ◌+◌, ◌*◌, ◌/◌, ◌%◌, ◌<◌, ◌≤◌, ◌⊎◌, Bool, true, false, ◌&&◌, List, [], ◌∷◌, length, Some, refl, ◌∙◌}
-use Rattle.std.proofs.Common.{arith, eq-eqb, lt-ltb, le-leb, Option, None, sym}
-use Rattle.std.proofs.lemmas.Option.{none-some}
+use Rattle.std.proofs.Common.{arith, eq-eqb, lt-ltb, le-leb, None}
 use Rattle.std.specs.Prelude.{nat_lt, nat_le, slice_get}
 use Rattle.std.proofs.lemmas.Bool.{or_right}
 use Rattle.words.specs.declared.width.Width.{Width}
@@ -86,19 +85,15 @@ Linked [] registers regs = Unit {0}
 Linked (f ∷ fs) registers regs = f.leaf ≡ true → LeafHolds f registers regs
 
 -- so it is where other registers change, and no more of them are known
-none_fewer : (o o' : Option ℕ) → ((v : ℕ) → o' ≡ Some v → o ≡ Some v) → o ≡ None → o' ≡ None
-none_fewer o None some none = refl
-none_fewer o (Some v) some none = absurd (none-some v (sym none ∙ some v refl))
-
-pub linked_kept : (fs : List Stored) (registers registers' : Places) (regs regs' : ℕ → ℕ) → regs' 31 ≡ regs 31
+pub linked_kept : (fs : List Stored) {registers registers' : Places} {regs regs' : ℕ → ℕ} → regs' 31 ≡ regs 31
     → ((r : ℕ) → 8 ≤ r → r < 28 → regs' r ≡ regs r) → ((q v : ℕ) → registers' q ≡ Some v → registers q ≡ Some v)
     → Linked fs registers regs → Linked fs registers' regs'
-linked_kept [] registers registers' regs regs' link same some h = tt
-linked_kept (f ∷ fs) registers registers' regs regs' link same some h = λ leaf. (let l = h leaf in record {
+linked_kept [] link same some h = tt
+linked_kept (f ∷ fs) link same some h = λ leaf. (let l = h leaf in record {
   link = link ∙ l.link;
   range = l.range;
   copied = λ x r k v is at. (let range = l.range x r k is in same r range.0 range.1) ∙ l.copied x r k v is at;
-  idle = λ x r k is. none_fewer (registers r) (registers' r) (λ v e. some r v e) (l.idle x r k is);
+  idle = λ x r k is. grind (arith, some r, l.idle x r k is);
 })
 
 -- the elements lie in the data, of so many bytes, and apart

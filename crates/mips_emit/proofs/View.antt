@@ -189,66 +189,37 @@ pub record Sets (is : List Plain) (s : State) (t v : ℕ) : Type 0 where
   pub others : (r : ℕ) → r ≢ t → regs r ≡ s.regs r
 
 -- one register is written
-pub set_sets : (is : List Plain) (s : State) (t v w : ℕ) → IsTarget t → v ≡ w → RunsTo is s (set s t v) → Sets is s t w
-set_sets is s t v w ok e run = record { regs = put s.regs t v; runs = run; here = put_here s.regs t v ok ∙ e; others = λ r ne. put_other s.regs t v r ne }
+pub set_sets : {is : List Plain} {s : State} {t v w : ℕ} → IsTarget t → v ≡ w → RunsTo is s (set s t v) → Sets is s t w
+set_sets {s} {t} {v} ok e run = record { regs = put s.regs t v; runs = run; here = put_here s.regs t v ok ∙ e; others = λ r ne. put_other s.regs t v r ne }
 
 pub constant_set : (s : State) (t w : ℕ) → IsTarget t → Sets (constant t w) s t (wrap w)
-constant_set s t w ok = record {
-  regs = put (put s.regs t high) t low;
-  runs = record { ends = refl };
-  here = put_here (put s.regs t high) t low ok ∙ value;
-  others = λ r ne. put_other (put s.regs t high) t low r ne ∙ put_other s.regs t high r ne;
-}
-  where
-    high : ℕ
-    high = wrap (w / 65536 % 65536 * 2 ^ 16)
-
-    low : ℕ
-    low = op_value operators.Or (read 0 (put s.regs t high) t) (wrap (w % 65536))
-
-    first : read 0 (put s.regs t (wrap (w / 65536 % 65536 * 2 ^ 16))) t ≡ w / 65536 % 65536 * 2 ^ 16
-    first =
-        let same : wrap (w / 65536 % 65536 * 2 ^ 16) ≡ w / 65536 % 65536 * 2 ^ 16 = omega arith in
-        read_register (put s.regs t (wrap (w / 65536 % 65536 * 2 ^ 16))) t ok.low ∙ put_here s.regs t (wrap (w / 65536 % 65536 * 2 ^ 16)) ok ∙ same
-
-    second : wrap (w % 65536) ≡ w % 65536
-    second = omega arith
-
-    value : op_value operators.Or (read 0 (put s.regs t (wrap (w / 65536 % 65536 * 2 ^ 16))) t) (wrap (w % 65536)) ≡ wrap w
-    value = ap₂ (λ x y. op_value operators.Or x y) first second ∙ or_value (w / 65536 % 65536 * 2 ^ 16) (w % 65536)
-        ∙ or_shifted (w / 65536 % 65536) 16 (w % 65536) (omega arith) ∙ omega arith
+constant_set s t w ok =
+    let high = wrap (w / 65536 % 65536 * 2 ^ 16) in
+    let f = put s.regs t high in
+    let low = op_value operators.Or (read 0 f t) (wrap (w % 65536)) in
+    let first : high ≡ w / 65536 % 65536 * 2 ^ 16 = omega arith in
+    let second : wrap (w % 65536) ≡ w % 65536 = omega arith in
+    record {
+      regs = put f t low;
+      runs = record { ends = refl };
+      here = put_here f t low ok ∙ ap₂ (λ x y. op_value operators.Or x y) (read_register f t ok.low ∙ put_here s.regs t high ok ∙ first) second
+          ∙ or_value (w / 65536 % 65536 * 2 ^ 16) (w % 65536) ∙ or_shifted (w / 65536 % 65536) 16 (w % 65536) (omega arith) ∙ omega arith;
+      others = λ r ne. put_other f t low r ne ∙ put_other s.regs t high r ne;
+    }
 
 pub li_sets : (s : State) (t w : ℕ) → IsTarget t → w < 2 ^ 32 → Sets (li t w) s t w
-li_sets s t w ok lt = go (is_small w) (nat_lt w 65536) (nat_eq (w % 65536) 0) refl refl
-  where
-    short : Sets (Imm Addiu t 0 (half w) ∷ []) s t w
-    short = set_sets (Imm Addiu t 0 (half w) ∷ []) s t (op_value operators.Addu 0 w) w ok (sum_value 0 w ∙ omega (arith, lt)) (imm_runs s Addiu t 0 w lt)
-
-    low : nat_lt w 65536 ≡ true → Sets (Logic Ori t 0 w ∷ []) s t w
-    low e =
-        let few : w < 2 ^ 16 = ltb-true w 65536 e in
-        let same : wrap w ≡ w = omega (arith, lt) in
-        set_sets (Logic Ori t 0 w ∷ []) s t (op_value operators.Or 0 (wrap w)) w ok
-        (ap (op_value operators.Or 0) same ∙ or_value (0 * 2 ^ 16) w ∙ or_shifted 0 16 w few ∙ omega (arith, lt)) (record { ends = refl })
-
-    high : nat_eq (w % 65536) 0 ≡ true → Sets (LoadUpper t (w / 65536 % 65536) ∷ []) s t w
-    high e =
-        let zero_low : w % 65536 ≡ 0 = eqb-true (w % 65536) 0 e in
-        set_sets (LoadUpper t (w / 65536 % 65536) ∷ []) s t (wrap (w / 65536 % 65536 * 2 ^ 16)) w ok (omega (arith, lt, zero_low)) (record { ends = refl })
-
-    both : Sets (constant t w) s t w
-    both =
-        let c = constant_set s t w ok in
-        let same : wrap w ≡ w = omega (arith, lt) in
-        record { regs = c.regs; runs = c.runs; here = c.here ∙ same; others = c.others }
-
-    go : (a b c : Bool) → nat_lt w 65536 ≡ b → nat_eq (w % 65536) 0 ≡ c
-        → Sets (if a then Imm Addiu t 0 (half w) ∷ [] else if b then Logic Ori t 0 w ∷ [] else if c then LoadUpper t
-        (w / 65536 % 65536) ∷ [] else constant t w) s t w
-    go true b c eb ec = short
-    go false true c eb ec = low eb
-    go false false true eb ec = high ec
-    go false false false eb ec = both
+li_sets s t w ok lt =
+    let same : wrap w ≡ w = omega (arith, lt) in
+    cond_both (is_small w) (Imm Addiu t 0 (half w) ∷ []) _ (λ is. Sets is s t w)
+    (λ _. set_sets {v = op_value operators.Addu 0 w} ok (sum_value 0 w ∙ omega (arith, lt)) (imm_runs s Addiu t 0 w lt))
+    (λ _. cond_both (nat_lt w 65536) (Logic Ori t 0 w ∷ []) _ (λ is. Sets is s t w)
+    (λ e. let few : w < 2 ^ 16 = ltb-true w 65536 e in
+    set_sets {v = op_value operators.Or 0 (wrap w)} ok
+    (ap (op_value operators.Or 0) same ∙ or_value (0 * 2 ^ 16) w ∙ or_shifted 0 16 w few ∙ omega (arith, lt)) (record { ends = refl }))
+    (λ _. cond_both (nat_eq (w % 65536) 0) (LoadUpper t (w / 65536 % 65536) ∷ []) _ (λ is. Sets is s t w)
+    (λ e. let zero_low : w % 65536 ≡ 0 = eqb-true (w % 65536) 0 e in
+    set_sets {v = wrap (w / 65536 % 65536 * 2 ^ 16)} ok (omega (arith, lt, zero_low)) (record { ends = refl }))
+    (λ _. let c = constant_set s t w ok in record { regs = c.regs; runs = c.runs; here = c.here ∙ same; others = c.others })))
 
 -- ---- elements of globals
 
@@ -267,7 +238,7 @@ record Scaled (is : List Plain) (s : State) (t q k : ℕ) : Type 0 where
   others : (r : ℕ) → r ≢ t → regs r ≡ s.regs r
   apart : q ≢ 2
 
-t2 : IsTarget 2
+pub t2 : IsTarget 2
 t2 = record { low = omega arith; high = omega arith }
 
 scales : (w : Width) (s : State) (t q i : ℕ) → IsTarget t → t ≢ 2 → read 0 s.regs q ≡ i → q ≢ 2
