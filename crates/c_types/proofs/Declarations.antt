@@ -1,6 +1,6 @@
 -- Declarations at file scope with one more at the end.
 use Rattle.std.proofs.Common.{◌≡◌, ◌⊎◌, ◌+◌, ◌<◌, ◌≤◌, arith, ℕ, List, [], ◌∷◌, ◌++◌, length, get_or, take, Result, Ok, Err, IfOk, IfErr}
-use Rattle.std.proofs.Common.{inl, inr, refl, sym, subst, ap, ◌∙◌}
+use Rattle.std.proofs.Common.{inl, inr, refl, sym, ap, ◌∙◌, append-nil}
 use Rattle.std.proofs.lemmas.List.{take_more}
 use Rattle.c_tree.specs.declared.tree.Declaration.{Declaration}
 use Rattle.c_tree.specs.declared.tree.Declaration.TheVariants.{Function as Define}
@@ -31,11 +31,7 @@ use Rattle.c_types.specs.Programs.{no_declarations}
 -- a function under the names that its own name is among
 pub function-typed : (text : List ℕ) (f : File) (names : Bindings) (d : FunctionDefinition) (t : TypedFunction)
     → (after text f (declaration_of (Define d))).names ≡ names → IsFunction text names d t → TypesDeclaration text f (declaration_of (Define d)) (a_function t)
-function-typed text f names d t e h =
-    let Q : Bindings → Type 0 = λ n. IsFunction text n d t in
-    let l = subst Q (sym e) h in
-    let P : TypedFunction → Type 0 = λ y. TypesDeclaration text f (declaration_of (Define d)) (a_function y) in
-    subst P (sym l.is) (function_typed l.types)
+function-typed text f names d t e h = let l = rw (← e) at h in rw l.is (function_typed l.types)
 
 -- the name of a declaration and what follows it together
 pub declaration-stop : {A B : Type 0} (text : List ℕ) (f : File) (d : Tree.Declaration) (x : Identifier) (m : Named) (old new : Scopes)
@@ -44,9 +40,8 @@ pub declaration-stop : {A B : Type 0} (text : List ℕ) (f : File) (d : Tree.Dec
     → IfOk b (λ y. HasNone (FaultyBody text new.inner d))
     → IfErr b (StopsAtFirst (FaultyBody text new.inner d)) → StopsBoth a b s → StopsAtFirst (FaultyDeclaration text f d) s
 declaration-stop text f d x m old new a b s o e i j n h k l t =
-    let there : new.inner ≡ (after text f d).names = ap (λ (y : Scopes). y.inner) e ∙ rw (i, j, o) refl in
-    let Q : Bindings → Type 0 = λ y. StopsAtFirst (Both (FaultyName text f d) (FaultyBody text y d)) s in
-    subst Q there (both-stop (FaultyName text f d) (FaultyBody text new.inner d) a b s n h k l t)
+    let there : new.inner ≡ (after text f d).names = rw (e, i, j, o) in
+    rw there at (both-stop (FaultyName text f d) (FaultyBody text new.inner d) a b s n h k l t)
 
 functions-append : (xs : List OneFunction.Function) (f : OneFunction.Function) → functions_of (xs ++ f ∷ []) ≡ functions_of xs ++ function_of f ∷ []
 functions-append [] f = refl
@@ -62,14 +57,10 @@ globals-in [] t = refl
 globals-in (a_global g ∷ xs) t = ap (λ ys. g ∷ ys) (globals-in xs t)
 globals-in (a_function f ∷ xs) t = globals-in xs t
 
-append-none : {A : Type 0} (xs : List A) → xs ++ [] ≡ xs
-append-none [] = refl
-append-none (x ∷ xs) = ap (λ ys. x ∷ ys) (append-none xs)
-
 with-global : (old new : Parts) (g : OneGlobal.Global) (all : List TypedDeclaration) → new.functions ≡ old.functions
     → new.globals.items ≡ old.globals.items ++ g ∷ [] → AreParts old all → AreParts new (all ++ a_global g ∷ [])
 with-global old new g all e i h = record {
-  functions = ap (λ v. functions_of v.items) e ∙ h.functions ∙ sym (append-none (functions_in all)) ∙ sym (functions-in all (a_global g));
+  functions = ap (λ v. functions_of v.items) e ∙ h.functions ∙ sym (append-nil (functions_in all)) ∙ sym (functions-in all (a_global g));
   globals = i ∙ ap (λ ys. ys ++ g ∷ []) h.globals ∙ sym (globals-in all (a_global g));
 }
 
@@ -78,7 +69,7 @@ with-function : (old new : Parts) (f : OneFunction.Function) (all : List TypedDe
 with-function old new f all e i h = record {
   functions = ap functions_of i ∙ functions-append old.functions.items f ∙ ap (λ ys. ys ++ function_of f ∷ []) h.functions
       ∙ sym (functions-in all (a_function (function_of f)));
-  globals = ap (λ v. v.items) e ∙ h.globals ∙ sym (append-none (globals_in all)) ∙ sym (globals-in all (a_function (function_of f)));
+  globals = ap (λ v. v.items) e ∙ h.globals ∙ sym (append-nil (globals_in all)) ∙ sym (globals-in all (a_function (function_of f)));
 }
 
 -- the parts with the declaration that comes next
@@ -151,7 +142,7 @@ joined text xs d all (Err t) one h l e f = record { ok = tt; none = tt; err = st
     both = Both (FaultyDeclarations text no_declarations xs) (FaultyDeclaration text (after_all text no_declarations xs) d)
 
     stopped : (t ≡ NoMemory) ⊎ StopsBoth all one t → StopsAtFirst (FaultyDeclarations text no_declarations (xs ++ d ∷ [])) t
-    stopped (inl g) = subst (StopsAtFirst (FaultyDeclarations text no_declarations (xs ++ d ∷ []))) (sym g) tt
+    stopped (inl g) = rw g tt
     stopped (inr g) =
         same-stop both (FaultyDeclarations text no_declarations (xs ++ d ∷ [])) t
         (record { to = faulty-to text no_declarations xs d; from = faulty-from text no_declarations xs d })
@@ -168,8 +159,7 @@ pub one-so-far : (text : List ℕ) (all : List Declaration) (i : ℕ) (x : Decla
     (declared_of t)) (FaultyDeclaration text (after_all text no_declarations (declarations_of (take i all))) (declaration_of x)) one
     → IfOk r (IsWith typed one) → IfErr r (λ s. (s ≡ NoMemory) ⊎ StopsBoth typed one s) → SoFar text (take (i + 1) all) r
 one-so-far text all i x typed r one l is h a f g =
-    let Q : List Tree.Declaration → Type 0 = λ ys. Answers (AreTyped text ys) (FaultyDeclarations text no_declarations ys) r in
-    subst Q (sym (next-of all i x l is)) (joined text (declarations_of (take i all)) (declaration_of x) typed r one h a f g)
+    rw (next-of all i x l is) (joined text (declarations_of (take i all)) (declaration_of x) typed r one h a f g)
 
 pub after-more : (text : List ℕ) (all : List Declaration) (i : ℕ) (x : Declaration) → i < length all → x ≡ get_or all i x
     → after text (after_all text no_declarations (declarations_of (take i all))) (declaration_of x) ≡ after_all text no_declarations
@@ -179,12 +169,7 @@ after-more text all i x l is =
 
 pub none-so-far : (text : List ℕ) (p : Parts) → p.functions.items ≡ [] → p.globals.items ≡ [] → SoFar text [] (Ok p)
 none-so-far text p e f =
-    record {
-      ok = record { declarations = []; typed = all_declared; parts = record { functions = ap functions_of e; globals = f } };
-      none =
-          λ k at h. h;
-      err = tt;
-    }
+    record { ok = record { declarations = []; typed = all_declared; parts = record { functions = ap functions_of e; globals = f } }; none = λ k at h. h; err = tt }
 
 pub globals-grow : (n : Counts) (d : Tree.Declaration) → (counts_after n d).globals ≤ n.globals + 1
 globals-grow n (Tree.variable k x i) = omega arith

@@ -1,6 +1,6 @@
 -- Typed programs without faults are well formed.
 use Rattle.std.proofs.Common.{◌≡◌, ◌≢◌, ◌<◌, ◌≤◌, ◌+◌, ℕ, suc, List, [], ◌∷◌, ◌++◌, Option, Some, None, Bool, true, false, length, inl, inr}
-use Rattle.std.proofs.Common.{refl, sym, subst, ap, ◌∙◌, arith, if◌then◌else◌}
+use Rattle.std.proofs.Common.{refl, sym, ap, ◌∙◌, arith, append_assoc, if◌then◌else◌}
 use Rattle.std.specs.Prelude.{is_some, slice_get, bytes_eq, All}
 use Rattle.std.proofs.lemmas.List.{length-append}
 use Rattle.std.proofs.lemmas.List.Elements.{All-nil, All-cons, All-same}
@@ -29,7 +29,8 @@ use Rattle.c_types.specs.Shape.{TypedParts, program_of}
 use Rattle.words.specs.Widths.{words_of_elements}
 use Rattle.c_typed.specs.WellFormed.{FitsStatements, FitsFunction, words_in, IsWellFormed}
 use Rattle.c_types.specs.Typed.{IsTyped}
-use Rattle.c_types.proofs.FitsStatements.{IsThere, AreThere, declared-there, fits-items, all-locals-fit, behind-locals}
+use Rattle.c_statements.proofs.BlockItems.{behind-locals}
+use Rattle.c_types.proofs.FitsStatements.{IsThere, AreThere, declared-there, fits-items, all-locals-fit}
 
 -- the parameters
 
@@ -42,15 +43,14 @@ parameters-there p n text sc (q ∷ rest) h room =
 
 behind-parameters : (text : List ℕ) (sc : Scopes) (ps : List Parameter) → (behind_parameters text sc ps).locals ≡ sc.locals + length ps
 behind-parameters text sc [] = omega arith
-behind-parameters text sc (q ∷ rest) = let h = behind-parameters text (with_local text sc q.integer_type q.name) rest in omega (arith, h)
+behind-parameters text sc (q ∷ rest) = omega (arith, behind-parameters text (with_local text sc q.integer_type q.name) rest)
 
 parameters-fit : (text : List ℕ) (sc : Scopes) (ps : List Parameter) → sc.locals ≤ 4 → HasNone (FaultyParameters text sc ps) → sc.locals + length ps ≤ 4
 parameters-fit text sc [] few none = omega (arith, few)
 parameters-fit text sc (q ∷ rest) few none =
     let other : sc.locals ≢ 4 = λ e. none Count q.name.at (inl (fifth_parameter (e, (refl, refl)))) in
     let more : suc sc.locals ≤ 4 = omega (arith, few, other) in
-    let h = parameters-fit text (with_local text sc q.integer_type q.name) rest more (λ k at w. none k at (inr w)) in
-    omega (arith, h)
+    omega (arith, parameters-fit text (with_local text sc q.integer_type q.name) rest more (λ k at w. none k at (inr w)))
 
 -- the end of a body
 
@@ -79,10 +79,7 @@ at-file p n None i h e = absurd (none-some _ e)
 int-result : (r : Option IntegerType) (x : Identifier) (ps : List Parameter) (body : Tree.Items)
     → (IsNotMain (Tree.function r x ps body) → ⊥) → r ≡ Some SignedInt
 int-result (Some SignedInt) x ps body h = refl
-int-result (Some UnsignedInt) x ps body h = absurd (h (inl other))
-  where
-    other : Some UnsignedInt ≢ Some SignedInt
-    other e = cc
+int-result (Some UnsignedInt) x ps body h = absurd (h (inl (λ e. cc)))
 int-result None x ps body h = absurd (h (inl (none-some _)))
 
 -- a function, under the names at file scope and its own
@@ -125,14 +122,6 @@ at-seam : {X : Type 0} (xs : List X) (y : X) (ys : List X) → slice_get (xs ++ 
 at-seam [] y ys = refl
 at-seam (x ∷ xs) y ys = at-seam xs y ys
 
-one-further : {X : Type 0} (xs : List X) (y : X) (ys : List X) → xs ++ y ∷ ys ≡ (xs ++ y ∷ []) ++ ys
-one-further [] y ys = refl
-one-further (x ∷ xs) y ys = ap (λ (l : List _). x ∷ l) (one-further xs y ys)
-
-one-longer : {X : Type 0} (xs : List X) (y : X) → length (xs ++ y ∷ []) ≡ suc (length xs)
-one-longer [] y = refl
-one-longer (x ∷ xs) y = ap suc (one-longer xs y)
-
 -- what stands before a declaration: as many functions and globals as were counted, and names of what is there
 record IsAt (p : TypedProgram) (f : File) (rest : List TypedDeclaration) : Type 0 where
   functions : List TypedFunction
@@ -147,70 +136,66 @@ named : (p : TypedProgram) (names : Bindings) (x : List ℕ) (m : Named) → Are
 named p names x m h there w i e = by (bytes_eq x w) e
   where
     by : (b : Bool) → (if b then Some m else names w) ≡ Some i → IsThere p 0 i
-    by true e = subst (IsThere p 0) (same_Some _ _ e) there
+    by true e = rw (← same_Some _ _ e) there
     by false e = h w i e
 
-global-here : {p : TypedProgram} {f : File} {g : Typed.Global} {rest : List TypedDeclaration} → IsAt p f (a_global g ∷ rest)
-    → f.counts.globals < length p.globals
-global-here {p = p} {f = f} {g = g} {rest = rest} h =
-    let e : length p.globals ≡ length h.globals + length (g ∷ globals_in rest) = ap (λ (l : List Typed.Global). length l) h.are_globals
-    ∙ length-append h.globals (g ∷ globals_in rest) in
-    let c = h.globals_counted in
-    omega (arith, e, c)
+-- a declaration, with what stands before it
+module _ {p : TypedProgram} where
+  global-here : {f : File} {g : Typed.Global} {rest : List TypedDeclaration} → IsAt p f (a_global g ∷ rest) → f.counts.globals < length p.globals
+  global-here {g = g} {rest = rest} h = rw h.are_globals (omega (arith, length-append h.globals (g ∷ globals_in rest), h.globals_counted))
 
-function-here : {p : TypedProgram} {f : File} {g : TypedFunction} {rest : List TypedDeclaration} → IsAt p f (a_function g ∷ rest)
-    → slice_get p.functions f.counts.functions ≡ Some g
-function-here {p = p} {f = f} {g = g} {rest = rest} h =
-    ap (λ (l : List TypedFunction). slice_get l f.counts.functions) h.are_functions
-    ∙ ap (λ (i : ℕ). slice_get (h.functions ++ g ∷ functions_in rest) i) (sym h.functions_counted) ∙ at-seam h.functions g (functions_in rest)
+  function-here : {f : File} {g : TypedFunction} {rest : List TypedDeclaration} → IsAt p f (a_function g ∷ rest)
+      → slice_get p.functions f.counts.functions ≡ Some g
+  function-here {g = g} {rest = rest} h = rw (h.are_functions, ← h.functions_counted) (at-seam h.functions g (functions_in rest))
 
-next-global : {p : TypedProgram} {f behind : File} {g : Typed.Global} {rest : List TypedDeclaration} → IsAt p f (a_global g ∷ rest)
-    → behind.counts.functions ≡ f.counts.functions → behind.counts.globals ≡ suc f.counts.globals → AreThere p 0 behind.names → IsAt p behind rest
-next-global {rest = rest} h functions globals names = record {
-  functions = h.functions;
-  are_functions = h.are_functions;
-  functions_counted = h.functions_counted ∙ sym functions;
-  globals = h.globals ++ _ ∷ [];
-  are_globals = h.are_globals ∙ one-further h.globals _ (globals_in rest);
-  globals_counted = one-longer h.globals _ ∙ ap suc h.globals_counted ∙ sym globals;
-  names = names;
-}
+  next-global : {f behind : File} {g : Typed.Global} {rest : List TypedDeclaration} → IsAt p f (a_global g ∷ rest)
+      → behind.counts.functions ≡ f.counts.functions → behind.counts.globals ≡ suc f.counts.globals → AreThere p 0 behind.names → IsAt p behind rest
+  next-global {g = g} {rest = rest} h functions globals names = record {
+    functions = h.functions;
+    are_functions = h.are_functions;
+    functions_counted = h.functions_counted ∙ sym functions;
+    globals = h.globals ++ g ∷ [];
+    are_globals = h.are_globals ∙ sym (append_assoc h.globals (g ∷ []) (globals_in rest));
+    globals_counted = omega (arith, length-append h.globals (g ∷ []), h.globals_counted, globals);
+    names = names;
+  }
 
-next : {p : TypedProgram} {text : List ℕ} {f : File} {d : Tree.Declaration} {t : TypedDeclaration} {rest : List TypedDeclaration}
-    → IsAt p f (t ∷ rest) → TypesDeclaration text f d t → IsAt p (after text f d) rest
-next {p = p} {text = text} {f = f} h (variable_typed {k = k} {x = x}) =
-    next-global h refl refl (named p f.names (spelling_in text x) (Global f.counts.globals k) h.names (global-here h))
-next {p = p} {text = text} {f = f} h (array_typed {k = k} {x = x}) =
-    next-global h refl refl (named p f.names (spelling_in text x) (Array f.counts.globals k) h.names (global-here h))
-next {p = p} {text = text} {f = f} {rest = rest} h (function_typed {r = r} {x = x} {ps = ps} typed) = record {
-  functions = h.functions ++ _ ∷ [];
-  are_functions = h.are_functions ∙ one-further h.functions _ (functions_in rest);
-  functions_counted = one-longer h.functions _ ∙ ap suc h.functions_counted;
-  globals = h.globals;
-  are_globals = h.are_globals;
-  globals_counted = h.globals_counted;
-  names = named p f.names (spelling_in text x) (Function f.counts.functions (length ps) (is_some r)) h.names (_, (function-here h, (refl, refl)));
-}
+module _ {p : TypedProgram} {text : List ℕ} where
+  next : {f : File} {d : Tree.Declaration} {t : TypedDeclaration} {rest : List TypedDeclaration} → IsAt p f (t ∷ rest) → TypesDeclaration text f d t
+      → IsAt p (after text f d) rest
+  next {f = f} h (variable_typed {k = k} {x = x}) =
+      next-global h refl refl (named p f.names (spelling_in text x) (Global f.counts.globals k) h.names (global-here h))
+  next {f = f} h (array_typed {k = k} {x = x}) =
+      next-global h refl refl (named p f.names (spelling_in text x) (Array f.counts.globals k) h.names (global-here h))
+  next {f = f} {t = a_function t} {rest = rest} h (function_typed {r = r} {x = x} {ps = ps} typed) = record {
+    functions = h.functions ++ t ∷ [];
+    are_functions = h.are_functions ∙ sym (append_assoc h.functions (t ∷ []) (functions_in rest));
+    functions_counted = omega (arith, length-append h.functions (t ∷ []), h.functions_counted);
+    globals = h.globals;
+    are_globals = h.are_globals;
+    globals_counted = h.globals_counted;
+    names = named p f.names (spelling_in text x) (Function f.counts.functions (length ps) (is_some r)) h.names (_, (function-here h, (refl, refl)));
+  }
 
-first-fits : (p : TypedProgram) {text : List ℕ} {f : File} {d : Tree.Declaration} {t : TypedDeclaration} (rest : List TypedDeclaration)
-    → AreThere p 0 (after text f d).names → TypesDeclaration text f d t → HasNone (FaultyDeclaration text f d)
-    → All (FitsFunction p) (functions_in rest) → All (FitsFunction p) (functions_in (t ∷ rest))
-first-fits p rest there variable_typed none h = h
-first-fits p rest there array_typed none h = h
-first-fits p {text = text} {f = f} rest there (function_typed {r = r} {x = x} {ps = ps} {body = body} {typed = t} typed) none h =
-    All-cons (FitsFunction p) _ (functions_in rest) (fits-function p text f r x ps body t there typed none) h
+  first-fits : {f : File} {d : Tree.Declaration} {t : TypedDeclaration} (rest : List TypedDeclaration) → AreThere p 0 (after text f d).names
+      → TypesDeclaration text f d t → HasNone (FaultyDeclaration text f d) → All (FitsFunction p) (functions_in rest)
+      → All (FitsFunction p) (functions_in (t ∷ rest))
+  first-fits rest there variable_typed none h = h
+  first-fits rest there array_typed none h = h
+  first-fits {f = f} rest there (function_typed {r = r} {x = x} {ps = ps} {body = body} {typed = t} typed) none h =
+      All-cons (FitsFunction p) _ (functions_in rest) (fits-function p text f r x ps body t there typed none) h
 
-functions-fit : {p : TypedProgram} {text : List ℕ} {f : File} {ds : List Tree.Declaration} {ts : List TypedDeclaration} → IsAt p f ts
-    → TypesDeclarations text f ds ts → HasNone (FaultyDeclarations text f ds) → All (FitsFunction p) (functions_in ts)
-functions-fit {p = p} h all_declared none = All-nil (FitsFunction p)
-functions-fit {p = p} h (more_declared {typed = ts} one more) none =
-    let after-it = next h one in
-    first-fits p ts after-it.names one (λ k at w. none k at (inl w)) (functions-fit after-it more (λ k at w. none k at (inr w)))
+  functions-fit : {f : File} {ds : List Tree.Declaration} {ts : List TypedDeclaration} → IsAt p f ts → TypesDeclarations text f ds ts
+      → HasNone (FaultyDeclarations text f ds) → All (FitsFunction p) (functions_in ts)
+  functions-fit h all_declared none = All-nil (FitsFunction p)
+  functions-fit h (more_declared {typed = ts} one more) none =
+      let after-it = next h one in
+      first-fits ts after-it.names one (λ k at w. none k at (inl w)) (functions-fit after-it more (λ k at w. none k at (inr w)))
 
-names-there : {p : TypedProgram} {text : List ℕ} {f : File} {ds : List Tree.Declaration} {ts : List TypedDeclaration} → IsAt p f ts
-    → TypesDeclarations text f ds ts → AreThere p 0 (after_all text f ds).names
-names-there h all_declared = h.names
-names-there h (more_declared one more) = names-there (next h one) more
+  names-there : {f : File} {ds : List Tree.Declaration} {ts : List TypedDeclaration} → IsAt p f ts → TypesDeclarations text f ds ts
+      → AreThere p 0 (after_all text f ds).names
+  names-there h all_declared = h.names
+  names-there h (more_declared one more) = names-there (next h one) more
 
 -- `main`, once it is declared, gives an `int`
 abbrev GivesInt : TypedProgram → Bindings → Type 0
@@ -226,67 +211,58 @@ named-main : (p : TypedProgram) (names : Bindings) (x : List ℕ) (i : Named) �
 named-main p names x i h there n m r e = by (bytes_eq x main_name) refl e
   where
     by : (b : Bool) → bytes_eq x main_name ≡ b → (if b then Some i else names main_name) ≡ Some (Function n m r) → IsFunction p (Function n m r)
-    by true q e = subst (IsFunction p) (same_Some _ _ e) (there q)
+    by true q e = rw (same_Some _ _ e) at (there q)
     by false q e = h n m r e
 
-next-main : {p : TypedProgram} {text : List ℕ} {f : File} {d : Tree.Declaration} {t : TypedDeclaration} {rest : List TypedDeclaration}
-    → IsAt p f (t ∷ rest) → TypesDeclaration text f d t → HasNone (FaultyDeclaration text f d) → GivesInt p f.names
-    → GivesInt p (after text f d).names
-next-main {p = p} {text = text} {f = f} at (variable_typed {k = k} {x = x}) none h =
-    named-main p f.names (spelling_in text x) (Global f.counts.globals k) h (λ e. tt)
-next-main {p = p} {text = text} {f = f} at (array_typed {k = k} {x = x}) none h =
-    named-main p f.names (spelling_in text x) (Array f.counts.globals k) h (λ e. tt)
-next-main {p = p} {text = text} {f = f} at (function_typed {r = r} {x = x} {ps = ps} {body = body} typed) none h =
-    named-main p f.names (spelling_in text x) (Function f.counts.functions (length ps) (is_some r)) h
-    (λ e. (_, (function-here at, int-result r x ps body (λ w. none KindFault x.at (inl (other_main e w))))))
+module _ {p : TypedProgram} {text : List ℕ} where
+  next-main : {f : File} {d : Tree.Declaration} {t : TypedDeclaration} {rest : List TypedDeclaration} → IsAt p f (t ∷ rest)
+      → TypesDeclaration text f d t → HasNone (FaultyDeclaration text f d) → GivesInt p f.names → GivesInt p (after text f d).names
+  next-main {f = f} at (variable_typed {k = k} {x = x}) none h =
+      named-main p f.names (spelling_in text x) (Global f.counts.globals k) h (λ e. tt)
+  next-main {f = f} at (array_typed {k = k} {x = x}) none h =
+      named-main p f.names (spelling_in text x) (Array f.counts.globals k) h (λ e. tt)
+  next-main {f = f} at (function_typed {r = r} {x = x} {ps = ps} {body = body} typed) none h =
+      named-main p f.names (spelling_in text x) (Function f.counts.functions (length ps) (is_some r)) h
+      (λ e. (_, (function-here at, int-result r x ps body (λ w. none KindFault x.at (inl (other_main e w))))))
 
-gives-int : {p : TypedProgram} {text : List ℕ} {f : File} {ds : List Tree.Declaration} {ts : List TypedDeclaration} → IsAt p f ts
-    → TypesDeclarations text f ds ts → HasNone (FaultyDeclarations text f ds) → GivesInt p f.names
-    → GivesInt p (after_all text f ds).names
-gives-int at all_declared none h = h
-gives-int at (more_declared one more) none h = gives-int (next at one) more (λ k n w. none k n (inr w)) (next-main at one (λ k n w. none k n (inl w)) h)
-
-same-function : (o : Option TypedFunction) (f g : TypedFunction) → o ≡ Some f → o ≡ Some g → f ≡ g
-same-function o f g e h = cc
+  gives-int : {f : File} {ds : List Tree.Declaration} {ts : List TypedDeclaration} → IsAt p f ts → TypesDeclarations text f ds ts
+      → HasNone (FaultyDeclarations text f ds) → GivesInt p f.names → GivesInt p (after_all text f ds).names
+  gives-int at all_declared none h = h
+  gives-int at (more_declared one more) none h = gives-int (next at one) more (λ k n w. none k n (inr w)) (next-main at one (λ k n w. none k n (inl w)) h)
 
 -- the sizes
-
 abbrev HasElement : Typed.Global → Type 0
 HasElement g = 1 ≤ g.length
 
-positive : (n : ℕ) → n ≢ 0 → 1 ≤ n
-positive n h = omega (arith, h)
+module _ {text : List ℕ} where
+  globals-fit : {f : File} {ds : List Tree.Declaration} {ts : List TypedDeclaration} → TypesDeclarations text f ds ts
+      → HasNone (FaultyDeclarations text f ds) → All HasElement (globals_in ts)
+  globals-fit all_declared none = All-nil HasElement
+  globals-fit (more_declared variable_typed more) none = All-cons HasElement _ _ (omega arith) (globals-fit more (λ k at w. none k at (inr w)))
+  globals-fit (more_declared (array_typed {x = x} {n = n}) more) none =
+      let some : n.value ≢ 0 = λ e. none KindFault x.at (inl (inl (array_of_nothing e))) in
+      All-cons HasElement _ _ (omega (arith, some)) (globals-fit more (λ k at w. none k at (inr w)))
+  globals-fit (more_declared (function_typed typed) more) none = globals-fit more (λ k at w. none k at (inr w))
 
-globals-fit : {text : List ℕ} {f : File} {ds : List Tree.Declaration} {ts : List TypedDeclaration} → TypesDeclarations text f ds ts
-    → HasNone (FaultyDeclarations text f ds) → All HasElement (globals_in ts)
-globals-fit all_declared none = All-nil HasElement
-globals-fit (more_declared variable_typed more) none = All-cons HasElement _ _ (omega arith) (globals-fit more (λ k at w. none k at (inr w)))
-globals-fit (more_declared (array_typed {x = x} {n = n}) more) none =
-    All-cons HasElement _ _ (positive n.value (λ e. none KindFault x.at (inl (inl (array_of_nothing e))))) (globals-fit more (λ k at w. none k at (inr w)))
-globals-fit (more_declared (function_typed typed) more) none = globals-fit more (λ k at w. none k at (inr w))
+  counted : {f : File} {ds : List Tree.Declaration} {ts : List TypedDeclaration} → TypesDeclarations text f ds ts
+      → HasNone (FaultyDeclarations text f ds) → f.counts.functions ≤ 256 → f.counts.functions + length (functions_in ts) ≤ 256
+  counted all_declared none few = omega (arith, few)
+  counted (more_declared variable_typed more) none few = counted more (λ k at w. none k at (inr w)) few
+  counted (more_declared array_typed more) none few = counted more (λ k at w. none k at (inr w)) few
+  counted {f = f} (more_declared (function_typed {x = x} typed) more) none few =
+      let other : f.counts.functions ≢ 256 = λ e. none Limit x.at (inl (inl (too_many_functions e))) in
+      omega (arith, counted more (λ k at w. none k at (inr w)) (omega (arith, few, other)))
 
-counted : {text : List ℕ} {f : File} {ds : List Tree.Declaration} {ts : List TypedDeclaration} → TypesDeclarations text f ds ts
-    → HasNone (FaultyDeclarations text f ds) → f.counts.functions ≤ 256 → f.counts.functions + length (functions_in ts) ≤ 256
-counted all_declared none few = omega (arith, few)
-counted (more_declared variable_typed more) none few = counted more (λ k at w. none k at (inr w)) few
-counted (more_declared array_typed more) none few = counted more (λ k at w. none k at (inr w)) few
-counted {f = f} (more_declared (function_typed {x = x} typed) more) none few =
-    let other : f.counts.functions ≢ 256 = λ e. none Limit x.at (inl (inl (too_many_functions e))) in
-    let h = counted more (λ k at w. none k at (inr w)) (omega (arith, few, other)) in
-    omega (arith, h)
-
-words-fit : {text : List ℕ} {f : File} {ds : List Tree.Declaration} {ts : List TypedDeclaration} → TypesDeclarations text f ds ts
-    → HasNone (FaultyDeclarations text f ds) → f.counts.words ≤ 262144 → f.counts.words + words_in (globals_in ts) ≤ 262144
-words-fit all_declared none few = omega (arith, few)
-words-fit {f = f} (more_declared (variable_typed {x = x}) more) none few =
-    let fits : 262144 < f.counts.words + 1 → ⊥ = λ l. none Limit x.at (inl (inl (too_many_words few l))) in
-    let h = words-fit more (λ k at w. none k at (inr w)) (omega (arith, fits)) in
-    omega (arith, h)
-words-fit {f = f} (more_declared (array_typed {w = w} {x = x} {n = n}) more) none few =
-    let fits : 262144 < f.counts.words + words_of_elements w n.value → ⊥ = λ l. none Limit x.at (inl (inl (too_many_words few l))) in
-    let h = words-fit more (λ k at w. none k at (inr w)) (omega (arith, fits)) in
-    omega (arith, h)
-words-fit (more_declared (function_typed typed) more) none few = words-fit more (λ k at w. none k at (inr w)) few
+  words-fit : {f : File} {ds : List Tree.Declaration} {ts : List TypedDeclaration} → TypesDeclarations text f ds ts
+      → HasNone (FaultyDeclarations text f ds) → f.counts.words ≤ 262144 → f.counts.words + words_in (globals_in ts) ≤ 262144
+  words-fit all_declared none few = omega (arith, few)
+  words-fit {f = f} (more_declared (variable_typed {x = x}) more) none few =
+      let fits : 262144 < f.counts.words + 1 → ⊥ = λ l. none Limit x.at (inl (inl (too_many_words few l))) in
+      omega (arith, words-fit more (λ k at w. none k at (inr w)) (omega (arith, fits)))
+  words-fit {f = f} (more_declared (array_typed {w = w} {x = x} {n = n}) more) none few =
+      let fits : 262144 < f.counts.words + words_of_elements w n.value → ⊥ = λ l. none Limit x.at (inl (inl (too_many_words few l))) in
+      omega (arith, words-fit more (λ k at w. none k at (inr w)) (omega (arith, fits)))
+  words-fit (more_declared (function_typed typed) more) none few = words-fit more (λ k at w. none k at (inr w)) few
 
 -- the program
 
@@ -309,19 +285,17 @@ each-typed-program-is-well-formed p h =
     let main : IsThere p 0 (Function p.main 0 true) = names-there start h.types.typed main_name (Function p.main 0 true) h.types.entry in
     let none_yet : GivesInt p no_declarations.names = named-main p nothing out_name Out (λ n m r e. absurd (none-some _ e)) (λ e. tt) in
     let int = gives-int start h.types.typed none none_yet p.main 0 true h.types.entry in
-    let count = counted h.types.typed none (omega arith) in
-    let words = words-fit h.types.typed none (omega arith) in
     let f = h.types.functions in
     let g = h.types.globals in
     record {
       functions = All-same (FitsFunction p) p.functions (functions_in ts) f (functions-fit start h.types.typed none);
-      functions_fit = rw f (omega (arith, count));
+      functions_fit = rw f (omega (arith, counted h.types.typed none (omega arith)));
       globals = rw g (globals-fit h.types.typed none);
-      words_fit = rw g (omega (arith, words));
+      words_fit = rw g (omega (arith, words-fit h.types.typed none (omega arith)));
       main = main.0;
       entry = main.1.0;
       alone = sym main.1.1.0;
-      gives = ap (λ (g : TypedFunction). g.result) (same-function (slice_get p.functions p.main) main.0 int.0 main.1.0 int.1.0) ∙ int.1.1;
+      gives = ap (λ (g : TypedFunction). g.result) (same_Some main.0 int.0 (sym main.1.0 ∙ int.1.0)) ∙ int.1.1;
     }
 
 functions-length : (fs : List Rust.Function) → length (functions_of fs) ≡ length fs
@@ -331,6 +305,4 @@ functions-length (f ∷ fs) = ap suc (functions-length fs)
 pub main-there : (p : TypedParts) → IsTyped (program_of p) → p.main < length p.functions
 main-there p h =
     let w = each-typed-program-is-well-formed (program_of p) h in
-    let here : p.main < length (functions_of p.functions) = slice_get_within (functions_of p.functions) p.main w.main w.entry in
-    let e = functions-length p.functions in
-    omega (arith, here, e)
+    omega (arith, slice_get_within (functions_of p.functions) p.main w.main w.entry, functions-length p.functions)

@@ -1,6 +1,6 @@
 -- Typed statements without faults are well formed.
-use Rattle.std.proofs.Common.{◌≡◌, ◌≢◌, ◌<◌, ◌≤◌, ◌+◌, ℕ, suc, List, Option, Some, None, Bool, true, false, length, nat_eq, inl, inr, refl}
-use Rattle.std.proofs.Common.{sym, subst, ap, ◌∙◌, arith, if◌then◌else◌}
+use Rattle.std.proofs.Common.{◌≡◌, ◌≢◌, ◌<◌, ◌≤◌, ◌+◌, ℕ, suc, List, Option, Some, None, Bool, true, false, length, inl, inr, refl}
+use Rattle.std.proofs.Common.{subst, ap, ◌∙◌, arith, if◌then◌else◌}
 use Rattle.std.specs.Prelude.{is_some, slice_get, bytes_eq}
 use Rattle.std.proofs.lemmas.Option.{same_Some}
 use Rattle.c_tokens.specs.declared.token.Identifier.{Identifier}
@@ -14,10 +14,10 @@ use Rattle.c_statements.specs.declared.names.Named.TheVariants.{Local, Global, A
 use Rattle.c_typed.specs.declared.tree.Destination.{Destination}
 use Rattle.c_statements.specs.Faults.{HasNone}
 use Rattle.c_statements.specs.Names.{Environment, Bindings, Scopes, hides, binding_in, named_in, environment_in, spelling_in, within}
-use Rattle.c_statements.specs.Names.{with_local, behind, behind_items, declared_in, declared_in_all}
+use Rattle.c_statements.specs.Names.{with_local, behind, declared_in, declared_in_all}
 use Rattle.c_statements.specs.Uses.{IsWrong, as_call, void_used, other_count}
 use Rattle.c_statements.specs.Statements.{FaultyCall, FaultyValue, FaultyFirst, FaultySimple, FaultyPart, FaultyReturn, FaultyJump}
-use Rattle.c_statements.specs.Statements.{FaultyDeclarator, FaultyStatement, FaultyItems, local_too_many}
+use Rattle.c_statements.specs.Statements.{FaultyStatement, FaultyItems, local_too_many}
 use Rattle.c_typed.specs.Trees.{TypedExpression, TypedStatement, TypedStatements, TypedFunction, TypedProgram}
 use Rattle.c_statements.specs.Types.{Types, constant_typed, local_typed, global_typed, element_typed, unary_typed, binary_typed}
 use Rattle.c_statements.specs.Types.{conditional_typed, TypesAll, all_typed, more_typed, TypesMaybe, missing_typed, present_typed}
@@ -51,20 +51,13 @@ maybe-same : {scope : Environment} {e : Option Expression} {t : Option TypedExpr
 maybe-same missing_typed = refl
 maybe-same (present_typed e) = refl
 
-equal-by : (a b : ℕ) (c : Bool) → nat_eq a b ≡ c → (a ≢ b → ⊥) → a ≡ b
-equal-by a b true e h = grind (arith, e)
-equal-by a b false e h = absurd (h (λ i. grind (arith, e, i)))
-
-equal : (a b : ℕ) → (a ≢ b → ⊥) → a ≡ b
-equal a b h = equal-by a b (nat_eq a b) refl h
-
 -- without a fault the number of arguments is right, and a result that is wanted is given
 right-count : (s : Option Named) (f n m : ℕ) (r w : Bool) → s ≡ Some (Function f n r) → ((k : TypeFaultKind) → IsWrong s (as_call m w) k → ⊥) → m ≡ n
-right-count s f n m r w e h = equal m n (λ i. h Count (subst (λ (x : Option Named). IsWrong x (as_call m w) Count) (sym e) (other_count i)))
+right-count s f n m r w e h = let not : m ≢ n → ⊥ = λ i. h Count (rw e (other_count i)) in grind (arith, not)
 
 is-given : (s : Option Named) (f n m : ℕ) (r w : Bool) → s ≡ Some (Function f n r) → ((k : TypeFaultKind) → IsWrong s (as_call m w) k → ⊥) → w ≡ true → r ≡ true
 is-given s f n m true w e h i = refl
-is-given s f n m false true e h i = absurd (h KindFault (subst (λ (x : Option Named). IsWrong x (as_call m true) KindFault) (sym e) void_used))
+is-given s f n m false true e h i = absurd (h KindFault (rw e void_used))
 is-given s f n m false false e h i = cc
 
 in-loop : (l : Bool) (place : ℕ) → HasNone (FaultyJump l place) → l ≡ true
@@ -105,19 +98,9 @@ module _ (p : TypedProgram) (n : ℕ) where
   fits-call {scope = scope} {to = to} g l h target (function_called {x = x} {f = f} {n = m} {r = r} {all = es} e all) none =
       let there = h _ _ e in
       let right : (k : TypeFaultKind) → IsWrong (scope x) (as_call (length es) (is_some to)) k → ⊥ = λ k w. none k x.at (inl (w, refl)) in
-      let count = right-count (scope x) f m (length es) r (is_some to) e right in (
-        target,
-        (
-          record {
-            callee = there.0;
-            there = there.1.0;
-            count = typed-length all ∙ count ∙ there.1.1.0;
-            gives = λ i. there.1.1.1
-                ∙ is-given (scope x) f m (length es) r (is_some to) e right i;
-          },
-          fits-all h all,
-        ),
-      )
+      let count = typed-length all ∙ right-count (scope x) f m (length es) r (is_some to) e right ∙ there.1.1.0 in
+      let gives = λ (i : is_some to ≡ true). there.1.1.1 ∙ is-given (scope x) f m (length es) r (is_some to) e right i in
+      (target, (record { callee = there.0; there = there.1.0; count = count; gives = gives }, fits-all h all))
   fits-call g l h target (out_called e s) none = fits h s
 
   fits-value : {scope : Environment} {to : Destination} {v : Tree.Value} {t : TypedStatement} (g l : Bool) → AreSeen p n scope
@@ -166,33 +149,15 @@ module _ (p : TypedProgram) (n : ℕ) where
         → HasNone (FaultyStatement text g l sc s) → FitsStatement p n g l t
     fits-statement g l h room empty_typed none = tt
     fits-statement g l h room (block_typed all) none = fits-items g l h room all none
-    fits-statement {text = text} {sc = sc} g l h room (if_then_typed c s) none =
-        (fits (seen text sc h) c, (fits-statement g l h room s (λ k at w. none k at (inr w)), tt))
-    fits-statement {text = text} {sc = sc} g l h room (if_then_else_typed {s = s} {e = e} c a b) none = (
-      fits (seen text sc h) c,
-      (
-        fits-statement g l h (omega (arith, room)) a (λ k at w. none k at (inr (inl w))),
-        fits-statement g l h (omega (arith, room)) b
-            (λ k at w. none k at (inr (inr w))),
-      ),
-    )
-    fits-statement {text = text} {sc = sc} g l h room (while_loop_typed c s) none =
-        (fits (seen text sc h) c, (tt, fits-statement g true h room s (λ k at w. none k at (inr w))))
+    fits-statement {text = text} {sc = sc} g l h room (if_then_typed c s) none = (fits (seen text sc h) c, (fits-statement g l h room s (λ k at w. none k at (inr w)), tt))
+    fits-statement {text = text} {sc = sc} g l h room (if_then_else_typed c a b) none =
+        let first = fits-statement g l h (omega (arith, room)) a (λ k at w. none k at (inr (inl w))) in
+        (fits (seen text sc h) c, (first, fits-statement g l h (omega (arith, room)) b (λ k at w. none k at (inr (inr w)))))
+    fits-statement {text = text} {sc = sc} g l h room (while_loop_typed c s) none = (fits (seen text sc h) c, (tt, fits-statement g true h room s (λ k at w. none k at (inr w))))
     fits-statement {text = text} {sc = sc} g l h room (for_loop_typed f c last s) none =
-        let sees = seen text sc h in (
-          fits-part g l sees f (λ k at w. none k at (inl w)),
-          (
-            (
-              fits-test sees c,
-              (
-                fits-part g false sees last (λ k at w. none k at (inr (inr (inl w)))),
-                fits-statement g true h room s
-                    (λ k at w. none k at (inr (inr (inr w)))),
-              ),
-            ),
-            tt,
-          ),
-        )
+        let first = fits-part g l (seen text sc h) f (λ k at w. none k at (inl w)) in
+        let again = fits-part g false (seen text sc h) last (λ k at w. none k at (inr (inr (inl w)))) in
+        (first, ((fits-test (seen text sc h) c, (again, fits-statement g true h room s (λ k at w. none k at (inr (inr (inr w)))))), tt))
     fits-statement g l h room (break_typed {at = at}) none = in-loop l at none
     fits-statement g l h room (continue_typed {at = at}) none = in-loop l at none
     fits-statement {text = text} {sc = sc} g l h room (return_typed {at = at} {e = e} v) none =
@@ -200,22 +165,14 @@ module _ (p : TypedProgram) (n : ℕ) where
     fits-statement {text = text} {sc = sc} g l h room (simply_typed s) none = fits-simple g l (seen text sc h) s none
 
     pub fits-items : {text : List ℕ} {sc : Scopes} {is : Tree.Items} {ts : TypedStatements} (g l : Bool) → AreThere p n (named_in sc)
-        → sc.locals + declared_in_all is ≤ n → TypesItems text sc is ts
-        → HasNone (FaultyItems text g l sc is) → FitsStatements p n g l ts
+        → sc.locals + declared_in_all is ≤ n → TypesItems text sc is ts → HasNone (FaultyItems text g l sc is) → FitsStatements p n g l ts
     fits-items g l h room no_items_typed none = tt
     fits-items g l h room (statement_typed s rest) none =
         (fits-statement g l h (omega (arith, room)) s (λ k at w. none k at (inl w)), fits-items g l h (omega (arith, room)) rest (λ k at w. none k at (inr w)))
-    fits-items {text = text} {sc = sc} g l h room (declare_typed {k = integer_type} {x = x} {rest = others} v rest) none =
+    fits-items {text = text} {sc = sc} g l h room (declare_typed {k = integer_type} {x = x} v rest) none =
         let here : sc.locals < n = omega (arith, room) in
         let there = declared-there text sc integer_type x h here in
-        let next : suc sc.locals + declared_in_all others ≤ n = omega (arith, room) in (
-          fits-first g l (seen text (with_local text sc integer_type x) there) here v
-              (λ k at w. none k at (inl (inr w))),
-          fits-items g l there next rest (λ k at w. none k at (inr w)),
-        )
-
-no-more : (text : List ℕ) (sc : Scopes) (x : Identifier) → sc.locals ≤ 128 → HasNone (FaultyDeclarator text sc x) → suc sc.locals ≤ 128
-no-more text sc x few none = let other : sc.locals ≢ 128 = λ e. none Limit x.at (local_too_many e) in omega (arith, few, other)
+        (fits-first g l (seen text (with_local text sc integer_type x) there) here v (λ k at w. none k at (inl (inr w))), fits-items g l there (omega (arith, room)) rest (λ k at w. none k at (inr w)))
 
 mutual
   locals-fit : (text : List ℕ) (g l : Bool) (sc : Scopes) (s : Tree.Statement) → sc.locals ≤ 128 → HasNone (FaultyStatement text g l sc s)
@@ -224,8 +181,7 @@ mutual
   locals-fit text g l sc (Tree.if_then c s) few none = locals-fit text g l sc s few (λ k at w. none k at (inr w))
   locals-fit text g l sc (Tree.if_then_else c s t) few none =
       let first = locals-fit text g l sc s few (λ k at w. none k at (inr (inl w))) in
-      let second = locals-fit text g l (behind sc s) t first (λ k at w. none k at (inr (inr w))) in
-      omega (arith, second)
+      omega (arith, locals-fit text g l (behind sc s) t first (λ k at w. none k at (inr (inr w))))
   locals-fit text g l sc (Tree.while_loop c s) few none = locals-fit text g true sc s few (λ k at w. none k at (inr w))
   locals-fit text g l sc (Tree.for_loop f c last s) few none = locals-fit text g true sc s few (λ k at w. none k at (inr (inr (inr w))))
   locals-fit text g l sc _ few none = omega (arith, few)
@@ -235,15 +191,7 @@ mutual
   all-locals-fit text g l sc Tree.no_items few none = omega (arith, few)
   all-locals-fit text g l sc (Tree.more_items (Tree.statement s) rest) few none =
       let first = locals-fit text g l sc s few (λ k at w. none k at (inl w)) in
-      let second = all-locals-fit text g l (behind sc s) rest first (λ k at w. none k at (inr w)) in
-      omega (arith, second)
+      omega (arith, all-locals-fit text g l (behind sc s) rest first (λ k at w. none k at (inr w)))
   all-locals-fit text g l sc (Tree.more_items (Tree.declare integer_type x v) rest) few none =
-      let first = no-more text sc x few (λ k at w. none k at (inl (inl w))) in
-      let second = all-locals-fit text g l (with_local text sc integer_type x) rest first (λ k at w. none k at (inr w)) in
-      omega (arith, second)
-
-pub behind-locals : (text : List ℕ) (sc : Scopes) (is : Tree.Items) → (behind_items text sc is).locals ≡ sc.locals + declared_in_all is
-behind-locals text sc Tree.no_items = omega arith
-behind-locals text sc (Tree.more_items (Tree.statement s) rest) = let h = behind-locals text (behind sc s) rest in omega (arith, h)
-behind-locals text sc (Tree.more_items (Tree.declare integer_type x v) rest) = let h =
-    behind-locals text (with_local text sc integer_type x) rest in omega (arith, h)
+      let other : sc.locals ≢ 128 = λ e. none Limit x.at (inl (inl (local_too_many e))) in
+      omega (arith, all-locals-fit text g l (with_local text sc integer_type x) rest (omega (arith, few, other)) (λ k at w. none k at (inr w)))

@@ -1,5 +1,5 @@
 -- The scopes and the faults of a function.
-use Rattle.std.proofs.Common.{◌≡◌, ℕ, List, [], ◌∷◌, refl, sym, ap, ◌∙◌, subst, Result, IfOk, IfErr, Option, Bool, false}
+use Rattle.std.proofs.Common.{◌≡◌, ℕ, List, [], ◌∷◌, refl, sym, ap, ◌∙◌, Result, IfOk, IfErr, Option, Bool, false}
 use Rattle.std.specs.Prelude.{is_some}
 use Rattle.c_tree.specs.declared.tree.Parameter.{Parameter}
 use Rattle.c_tree.specs.Tree.{Items, function}
@@ -9,7 +9,7 @@ use Rattle.c_statements.specs.declared.fault.TypeStop.{TypeStop}
 use Rattle.c_statements.specs.Faults.{HasNone, StopsAtFirst, StopsBoth}
 use Rattle.c_statements.specs.Names.{Bindings, Scopes, outside, without_first, without_locals, within, with_local, behind_items}
 use Rattle.c_statements.specs.Statements.{FaultyItems}
-use Rattle.c_statements.proofs.Firsts.{Both, both-stop}
+use Rattle.c_statements.proofs.Firsts.{both-stop}
 use Rattle.c_statements.proofs.BlockItems.{behind-around}
 use Rattle.c_types.specs.Files.{file_scopes}
 use Rattle.c_types.specs.Programs.{FaultyParameters, FaultyBody, behind_parameters, scopes_at}
@@ -24,11 +24,7 @@ pub back : (text : List ℕ) (old s1 s2 s3 s4 s5 : Scopes) (ps : List Parameter)
 back text old s1 s2 s3 s4 s5 ps body o a b d e f = f ∙ ap without_locals e ∙ ap (λ (m : List Bindings). without_locals (without_first m s3)) there ∙ sym o
   where
     there : s3.around ≡ old.inner ∷ []
-    there = ap (λ (s : Scopes). s.around) d ∙ behind-around text s2 body ∙ ap (λ (s : Scopes). s.around) b ∙ around-parameters text s1 ps
-        ∙ ap (λ (s : Scopes). s.around) a ∙ ap (λ (s : Scopes). old.inner ∷ s.around) o
-
-pub at-parameters : (old s1 : Scopes) → old ≡ file_scopes old.inner → s1 ≡ within old → s1 ≡ scopes_at old.inner
-at-parameters old s1 o a = a ∙ ap within o
+    there = rw (d, behind-around text s2 body, b, around-parameters text s1 ps, a) (ap (λ (s : Scopes). old.inner ∷ s.around) o)
 
 pub body-stop : {A B : Type 0} (text : List ℕ) (old s1 s2 : Scopes) (r : Option IntegerType) (x : Identifier) (ps : List Parameter)
     (body : Items) (a : Result A TypeStop) (b : Result B TypeStop) (s : TypeStop) (g : Bool) → g ≡ is_some r → old ≡ file_scopes old.inner
@@ -37,8 +33,5 @@ pub body-stop : {A B : Type 0} (text : List ℕ) (old s1 s2 : Scopes) (r : Optio
     → IfOk b (λ y. HasNone (FaultyItems text g false s2 body)) → IfErr b (StopsAtFirst (FaultyItems text g false s2 body)) → StopsBoth a b s
     → StopsAtFirst (FaultyBody text old.inner (function r x ps body)) s
 body-stop text old s1 s2 r x ps body a b s g q o e f n h m l t =
-    let Q : Scopes → Type 0 = λ y. StopsAtFirst (Both (FaultyParameters text y ps) (FaultyItems text (is_some r) false (behind_parameters text y ps) body)) s in
-    subst Q (at-parameters old s1 o e)
-    (let R : Scopes → Type 0 = λ y. StopsAtFirst (Both (FaultyParameters text s1 ps) (FaultyItems text (is_some r) false y body)) s in
-    subst R f (let P : Bool → Type 0 = λ y. StopsAtFirst (Both (FaultyParameters text s1 ps) (FaultyItems text y false s2 body)) s in
-    subst P q (both-stop (FaultyParameters text s1 ps) (FaultyItems text g false s2 body) a b s n h m l t)))
+    let start : s1 ≡ scopes_at old.inner = e ∙ ap within o in
+    rw (q, f, start) at (both-stop (FaultyParameters text s1 ps) (FaultyItems text g false s2 body) a b s n h m l t)

@@ -1,5 +1,5 @@
 -- The meaning of `main` in a program without faults.
-use Rattle.std.proofs.Common.{◌≡◌, ◌≢◌, ◌⊎◌, ℕ, List, [], ◌∷◌, length, Bool, true, false, Option, Some, None, inl, inr, refl, sym, subst}
+use Rattle.std.proofs.Common.{◌≡◌, ◌⊎◌, ℕ, List, [], ◌∷◌, length, Bool, true, false, Option, Some, None, inl, inr, refl, sym, subst}
 use Rattle.std.proofs.Common.{ap, ◌∙◌, arith, Result, Ok, IfOk, IfErr}
 use Rattle.std.specs.Prelude.{bytes_eq, if◌then◌else◌}
 use Rattle.std.proofs.lemmas.Option.{none-some}
@@ -9,10 +9,10 @@ use Rattle.c_statements.specs.declared.fault.TypeFaultKind.TheVariants.{NoMain}
 use Rattle.c_statements.specs.declared.names.Named.{Named}
 use Rattle.c_statements.specs.declared.names.Named.TheVariants.{Function}
 use Rattle.c_statements.specs.declared.fault.TypeStop.{TypeStop}
-use Rattle.c_statements.specs.Faults.{Faults, HasNone, IsFirstFault, IsNoLater, StopsAtFirst, StopsBoth}
+use Rattle.c_statements.specs.Faults.{HasNone, IsFirstFault, IsNoLater, StopsAtFirst, StopsBoth}
 use Rattle.c_typed.specs.Shape.{functions_of}
 use Rattle.c_statements.specs.Names.{Bindings, spelling_in}
-use Rattle.c_statements.proofs.Firsts.{Both, both-stop, ok-at}
+use Rattle.c_statements.proofs.Firsts.{both-stop, ok-at}
 use Rattle.c_types.specs.declared.program.Parts.{Parts}
 use Rattle.c_types.specs.Files.{AreTyped}
 use Rattle.c_types.specs.Programs.{File, FaultyDeclarations, FaultyName, FaultyProgram, IsNotMain, LacksMain, TypesProgram, after}
@@ -24,15 +24,9 @@ IsMainOr names = (names main_name ≡ None) ⊎ ((n : ℕ) × (names main_name �
 
 is-main : (f : File) (d : Tree.Declaration) → (IsNotMain d → ⊥) → (n : ℕ) × (named_by f.counts d ≡ Function n 0 true)
 is-main f (Tree.function None x ps body) h = absurd (h (inl (λ e. none-some _ e)))
-is-main f (Tree.function (Some UnsignedInt) x ps body) h = absurd (h (inl other))
-  where
-    other : Some UnsignedInt ≢ Some SignedInt
-    other e = cc
+is-main f (Tree.function (Some UnsignedInt) x ps body) h = absurd (h (inl (λ e. cc)))
 is-main f (Tree.function (Some SignedInt) x [] body) h = (f.counts.functions, refl)
-is-main f (Tree.function (Some SignedInt) x (p ∷ ps) body) h = absurd (h (inr some))
-  where
-    some : (p ∷ ps) ≢ []
-    some e = cc
+is-main f (Tree.function (Some SignedInt) x (p ∷ ps) body) h = absurd (h (inr (λ e. cc)))
 is-main f _ h = absurd (h tt)
 
 step-by : (text : List ℕ) (f : File) (d : Tree.Declaration) (b : Bool) → bytes_eq (spelling_in text (name_of d)) main_name ≡ b
@@ -53,17 +47,13 @@ pub main-is : (text : List ℕ) (ds : List Tree.Declaration) (names : Bindings) 
     → HasNone (FaultyDeclarations text no_declarations ds) → HasNone (LacksMain text names)
     → (n : ℕ) × (names main_name ≡ Some (Function n 0 true))
 main-is text ds names e h l =
-    let m : IsMainOr names = subst IsMainOr (sym e) (all text no_declarations ds (inl refl) h) in
-    elim m [ inl x ↦ absurd (l _ _ (no_main x)) | inr y ↦ y ]
+    elim (subst IsMainOr (sym e) (all text no_declarations ds (inl refl) h)) [ inl x ↦ absurd (l _ _ (no_main x)) | inr y ↦ y ]
 
 pub no-main-first : (text : List ℕ) (names : Bindings) (at : ℕ) → at ≡ length text → names main_name ≡ None → IsFirstFault (LacksMain text names) NoMain at
 no-main-first text names at e h = rw e (record { has = no_main h; first = λ j n w. least w })
   where
     least : {j : _} {n : ℕ} → LacksMain text names j n → IsNoLater NoMain (length text) j n
     least (no_main x) = inr (refl, omega arith)
-
-none-at : {A : Type 0} (p : Faults) (r : Result A TypeStop) (x : A) → r ≡ Ok x → IfOk r (λ y. HasNone p) → HasNone p
-none-at p r x e h = ok-at (λ y. HasNone p) r x e h
 
 -- the declarations and `main` together
 pub program-stop : {A B : Type 0} (text : List ℕ) (ds : List Tree.Declaration) (names : Bindings) (a : Result A TypeStop)
@@ -73,23 +63,19 @@ pub program-stop : {A B : Type 0} (text : List ℕ) (ds : List Tree.Declaration)
     → IfErr b (StopsAtFirst (LacksMain text names))
     → StopsBoth a b s → StopsAtFirst (FaultyProgram text ds) s
 program-stop text ds names a b s e n h m l t =
-    let Q : Bindings → Type 0 = λ y. StopsAtFirst (Both (FaultyDeclarations text no_declarations ds) (LacksMain text y)) s in
-    subst Q e (both-stop (FaultyDeclarations text no_declarations ds) (LacksMain text names) a b s n h m l t)
+    rw e at (both-stop (FaultyDeclarations text no_declarations ds) (LacksMain text names) a b s n h m l t)
 
 pub main-found : {A B : Type 0} (text : List ℕ) (ds : List Tree.Declaration) (names : Bindings) (a : Result A TypeStop)
     (b : Result B TypeStop) (x : A) (y : B) (found : Option Named) → names ≡ (after_all text no_declarations ds).names
     → IfOk a (λ z. HasNone (FaultyDeclarations text no_declarations ds)) → IfOk b (λ z. HasNone (LacksMain text names)) → a ≡ Ok x
     → b ≡ Ok y → found ≡ names main_name → (n : ℕ) × (found ≡ Some (Function n 0 true))
-main-found text ds names a b x y found e n m i j f = let w =
-    main-is text ds names e (none-at (FaultyDeclarations text no_declarations ds) a x i n) (none-at (LacksMain text names) b y j m) in (w.0, f ∙ w.1)
+main-found text ds names a b x y found e n m i j f =
+    let w = main-is text ds names e (ok-at (λ z. HasNone (FaultyDeclarations text no_declarations ds)) a x i n) (ok-at (λ z. HasNone (LacksMain text names)) b y j m) in
+    (w.0, f ∙ w.1)
 
 pub typed-program : (text : List ℕ) (ds : List Tree.Declaration) (names : Bindings) (p : Parts) (m : ℕ) (found : Option Named)
     → AreTyped text ds p → names ≡ (after_all text no_declarations ds).names → found ≡ names main_name
     → found ≡ Some (Function m 0 true) → TypesProgram text ds (record { functions = functions_of p.functions.items; globals = p.globals.items; main = m })
-typed-program text ds names p m found a e f q = record {
-  declarations = a.declarations;
-  typed = a.typed;
-  functions = a.parts.functions;
-  globals = a.parts.globals;
-  entry = ap (λ (y : Bindings). y main_name) (sym e) ∙ sym f ∙ q;
-}
+typed-program text ds names p m found a e f q =
+    let entry = ap (λ (y : Bindings). y main_name) (sym e) ∙ sym f ∙ q in
+    record { declarations = a.declarations; typed = a.typed; functions = a.parts.functions; globals = a.parts.globals; entry = entry }

@@ -1,5 +1,5 @@
 -- A program has at most one typed program.
-use Rattle.std.proofs.Common.{◌≡◌, ℕ, List, Option, Some, refl, sym, ap, subst, ◌∙◌}
+use Rattle.std.proofs.Common.{◌≡◌, ℕ, List, Option, Some, refl, sym, ap, ◌∙◌}
 use Rattle.c_tree.specs.Tree as Tree
 use Rattle.c_statements.specs.declared.names.Named.{Named}
 use Rattle.c_statements.specs.declared.names.Named.TheVariants.{Function}
@@ -40,5 +40,4 @@ once-program text all p q h l =
 pub once-spelled : (text : List ℕ) (p q : TypedProgram) → SpellsTyped text p → SpellsTyped text q → p ≡ q
 once-spelled text p q s t =
     let same : s.declarations ≡ t.declarations = once text s.declarations t.declarations s.spells t.spells in
-    let P : List Tree.Declaration → Type 0 = λ x. TypesProgram text x p in
-    once-program text t.declarations p q (subst P same s.types) t.types
+    once-program text t.declarations p q (rw same at s.types) t.types

@@ -1,5 +1,5 @@
 -- The faults of the names of parameters.
-use Rattle.std.proofs.Common.{◌≡◌, ℕ, List, inl, inr, refl, sym, ap, arith, [], ◌∷◌, ◌++◌, Result, Ok, Err, IfOk, IfErr}
+use Rattle.std.proofs.Common.{◌≡◌, ℕ, List, inl, inr, refl, sym, ap, arith, [], ◌∷◌, ◌++◌, Result, Ok, IfOk, IfErr}
 use Rattle.c_tokens.specs.declared.token.Identifier.{Identifier}
 use Rattle.c_statements.specs.declared.fault.TypeFaultKind.{TypeFaultKind}
 use Rattle.c_statements.specs.declared.fault.TypeFaultKind.TheVariants.{Count}
@@ -11,6 +11,7 @@ use Rattle.c_typed.specs.declared.limits.TheConstants.{MAX_PARAMETERS}
 use Rattle.c_statements.specs.Names.{Scopes, with_local}
 use Rattle.c_statements.specs.Statements.{FaultyDeclarator}
 use Rattle.c_statements.proofs.Firsts.{Both, Tells, tells-same, tells-both}
+use Rattle.c_statements.proofs.Joins.{if-ok}
 use Rattle.c_types.specs.Programs.{IsFifth, FaultyParameter, FaultyParameters, behind_parameters, faulty_declarator, fifth_parameter}
 
 pub fifth-stops : (sc : Scopes) (x : Identifier) (s : TypeStop) → sc.locals ≡ MAX_PARAMETERS → s ≡ Fault (record { kind = Count; at = x.at })
@@ -21,16 +22,8 @@ fifth-stops sc x s l q =
 -- what is told of two parts of which neither has a value
 tells-either : (p q : Faults) (a b c : Result Unit TypeStop) → Tells p a → Tells q b → IfOk c (λ x. (a ≡ Ok tt) × (b ≡ Ok tt)) → IfErr c (StopsBoth a b)
     → Tells (Both p q) c
-tells-either p q a b c h l o t = tells-both p q a b c h l (shaped c o) t
-  where
-    shaped : (r : Result Unit TypeStop) → IfOk r (λ x. (a ≡ Ok tt) × (b ≡ Ok tt)) → IfOk r (λ r. (x : Unit) × (y : Unit) × (a ≡ Ok x) × (b ≡ Ok y))
-    shaped (Ok x) h = (tt, tt, h.0, h.1)
-    shaped (Err s) h = tt
-
-fault-to : (text : List ℕ) (sc : Scopes) (x : Identifier) (k : TypeFaultKind) (at : ℕ) → Both (IsFifth sc x) (FaultyDeclarator text sc x) k at
-    → FaultyParameter text sc x k at
-fault-to text sc x k at (inl h) = fifth_parameter h
-fault-to text sc x k at (inr h) = faulty_declarator h
+tells-either p q a b c h l o t =
+    tells-both p q a b c h l (if-ok (λ x. (a ≡ Ok tt) × (b ≡ Ok tt)) (λ r. (x : Unit) × (y : Unit) × (a ≡ Ok x) × (b ≡ Ok y)) c (λ x w. (tt, tt, w.0, w.1)) o) t
 
 fault-from : (text : List ℕ) (sc : Scopes) (x : Identifier) (k : TypeFaultKind) (at : ℕ) → FaultyParameter text sc x k at
     → Both (IsFifth sc x) (FaultyDeclarator text sc x) k at
@@ -42,7 +35,7 @@ pub one-name : (text : List ℕ) (sc : Scopes) (x : Identifier) (a b c : Result 
     → Tells (FaultyDeclarator text sc x) b → IfOk c (λ x. (a ≡ Ok tt) × (b ≡ Ok tt)) → IfErr c (StopsBoth a b) → Tells (FaultyParameter text sc x) c
 one-name text sc x a b c h l o t =
     tells-same (Both (IsFifth sc x) (FaultyDeclarator text sc x)) (FaultyParameter text sc x) c
-    (record { to = fault-to text sc x; from = fault-from text sc x }) (tells-either (IsFifth sc x) (FaultyDeclarator text sc x) a b c h l o t)
+    (record { to = λ k at h. elim h [ inl w ↦ fifth_parameter w | inr w ↦ faulty_declarator w ]; from = fault-from text sc x }) (tells-either (IsFifth sc x) (FaultyDeclarator text sc x) a b c h l o t)
 
 faults-to : (text : List ℕ) (sc : Scopes) (done : List Parameter) (p : Parameter) (k : TypeFaultKind) (at : ℕ)
     → Both (FaultyParameters text sc done) (FaultyParameter text (behind_parameters text sc done) p.name) k at

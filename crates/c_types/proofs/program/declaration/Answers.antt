@@ -1,7 +1,6 @@
-use Rattle.std.proofs.Common.{rules, refl, subst, Result}
+use Rattle.std.proofs.Common.{rules, refl}
 use Rattle.c_tree.specs.Shape.{declaration_of}
-use Rattle.c_statements.specs.declared.fault.TypeStop.{TypeStop}
-use Rattle.c_statements.specs.Faults.{StopsAtFirst, StopsBoth}
+use Rattle.c_statements.specs.Faults.{StopsAtFirst}
 use Rattle.c_statements.specs.Shape.{scopes_of}
 use Rattle.c_types.specs.Files.{file_of}
 use Rattle.c_types.specs.Programs.{FaultyDeclaration}
@@ -13,10 +12,7 @@ returns-in_err-typed-2-clause-typed c =
     record {
       ok = search rules;
       none = search rules;
-      err = let t : StopsBoth c.name_fault-fault.result c.body.result c.in_err-typed-2.field-0.0 =
-          let Q : Result _ TypeStop → Type 0 = λ r. StopsBoth c.name_fault-fault.result r c.in_err-typed-2.field-0.0 in
-          subst Q c.in_ok-typed.ensures.ok.0 c.in_err-typed-2.ensures.err
-          in
+      err = let t = rw c.in_ok-typed.ensures.ok.0 at c.in_err-typed-2.ensures.err in
           let h : StopsAtFirst
           (FaultyDeclaration c.args.program.now.text.items (file_of c.args.scopes.now c.args.tally.now)
           (declaration_of c.args.d.now)) c.in_err-typed-2.field-0.0 =

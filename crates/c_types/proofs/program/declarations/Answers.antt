@@ -1,14 +1,10 @@
-use Rattle.std.proofs.Common.{◌≡◌, sym, ap, ◌∙◌, subst, take, arith, Result}
+use Rattle.std.proofs.Common.{◌≡◌, sym, ap, ◌∙◌, arith}
 use Rattle.std.proofs.lemmas.List.{take_all}
-use Rattle.c_tree.specs.Shape.{declaration_of, declarations_of}
-use Rattle.c_tree.specs.Tree as Tree
-use Rattle.c_statements.specs.Faults.{Answers}
-use Rattle.c_statements.specs.declared.fault.TypeStop.{TypeStop}
+use Rattle.c_tree.specs.Shape.{declaration_of}
 use Rattle.c_statements.specs.Shape.{scopes_of}
 use Rattle.c_statements.specs.Names.{Scopes}
-use Rattle.c_types.specs.declared.program.Declared.{Declared}
-use Rattle.c_types.specs.Files.{counts_of, declared_of, file_of, file_scopes}
-use Rattle.c_types.specs.Programs.{Counts, File, FaultyDeclaration, TypesDeclaration, after, after_all, no_declarations}
+use Rattle.c_types.specs.Files.{counts_of, file_of, file_scopes}
+use Rattle.c_types.specs.Programs.{Counts, File, after, no_declarations}
 use Rattle.c_types.proofs.Declarations.{SoFar, after-more, functions-grow, globals-grow, none-so-far, one-so-far}
 use Rattle.c_types.proofs.program.declarations.Goals as goal
 
@@ -25,38 +21,22 @@ loop-one-init c = record {
 pub loop-one-preserved : goal.loop-one-preserved
 loop-one-preserved c =
     let text = c.args.program.now.text.items in
-    let d : Tree.Declaration = declaration_of c.one-item.result in
     let before : File = file_of c.loop-one.scopes c.loop-one.tally in
-    let At : File → Result Declared TypeStop
-    → Type 0 = λ f r. Answers
-    (λ t. TypesDeclaration c.args.program.now.text.items f (declaration_of c.one-item.result) (declared_of t))
-    (FaultyDeclaration c.args.program.now.text.items f (declaration_of c.one-item.result)) r in
-    let answered : At before c.declaration.result = c.declaration.ensures.typed in
-    let kept : At before c.in_ok-next.next = subst (At before) (sym c.in_ok-next.ensures.ok.0) answered in
-    let moved : At
-    (after_all c.args.program.now.text.items no_declarations (declarations_of (take c.loop-one.one-index c.args.all.now)))
-    c.in_ok-next.next = subst (λ f. At f c.in_ok-next.next) c.loop-one.invariant.file kept in
-    let there : scopes_of c.declaration.new.scopes ≡ file_scopes
-    (after c.args.program.now.text.items (file_of c.loop-one.scopes c.loop-one.tally) (declaration_of c.one-item.result)).names =
-    c.declaration.ensures.scopes c.in_ok-next.ensures.ok.1 in
+    let moved = rw (← c.in_ok-next.ensures.ok.0, c.loop-one.invariant.file) at c.declaration.ensures.typed in
+    let now : File = after text before (declaration_of c.one-item.result) in
+    let there : scopes_of c.declaration.new.scopes ≡ file_scopes now.names = c.declaration.ensures.scopes c.in_ok-next.ensures.ok.1 in
+    let as_file : Scopes → Counts → File = λ s n. record { names = s.inner; counts = n } in
     let g = globals-grow (counts_of c.loop-one.tally) (declaration_of c.one-item.result) in
     let h = functions-grow (counts_of c.loop-one.tally) (declaration_of c.one-item.result) in
     let i = c.loop-one.invariant.globals in
     let j = c.loop-one.invariant.functions in
     record {
-      so_far = one-so-far c.args.program.now.text.items c.args.all.now c.loop-one.one-index c.one-item.result c.loop-one.parts
+      so_far = one-so-far text c.args.all.now c.loop-one.one-index c.one-item.result c.loop-one.parts
           c.with_declared-parts.result c.in_ok-next.next c.loop-one-test.true c.one-item.is c.loop-one.invariant.so_far moved
           c.with_declared-parts.ensures.ok c.with_declared-parts.ensures.err;
-      file = ap (λ (s : Scopes). let f : File = record { names = s.inner; counts = counts_of c.after-tally.result } in f) there
-          ∙ ap (λ (n : Counts). let f : File =
-          record {
-            names =
-                (after c.args.program.now.text.items (file_of c.loop-one.scopes c.loop-one.tally)
-                (declaration_of c.one-item.result)).names;
-            counts = n;
-          } in f) c.after-tally.ensures.value
-          ∙ ap (λ (f : File). after c.args.program.now.text.items f (declaration_of c.one-item.result)) c.loop-one.invariant.file
-          ∙ after-more c.args.program.now.text.items c.args.all.now c.loop-one.one-index c.one-item.result c.loop-one-test.true c.one-item.is;
+      file = ap (λ (s : Scopes). as_file s (counts_of c.after-tally.result)) there ∙ ap (as_file (file_scopes now.names)) c.after-tally.ensures.value
+          ∙ ap (λ (f : File). after text f (declaration_of c.one-item.result)) c.loop-one.invariant.file
+          ∙ after-more text c.args.all.now c.loop-one.one-index c.one-item.result c.loop-one-test.true c.one-item.is;
       scopes = there ∙ ap (λ (s : Scopes). file_scopes s.inner) (sym there);
       globals = omega (arith, g, i, ap (λ (n : Counts). n.globals) c.after-tally.ensures.value);
       functions = omega (arith, h, j, ap (λ (n : Counts). n.functions) c.after-tally.ensures.value);

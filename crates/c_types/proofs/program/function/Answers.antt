@@ -1,8 +1,7 @@
-use Rattle.std.proofs.Common.{rules, sym, subst, Result}
+use Rattle.std.proofs.Common.{rules, sym}
 use Rattle.c_tree.specs.Shape.{items_of}
 use Rattle.c_tree.specs.Tree.{function}
-use Rattle.c_statements.specs.declared.fault.TypeStop.{TypeStop}
-use Rattle.c_statements.specs.Faults.{StopsAtFirst, StopsBoth}
+use Rattle.c_statements.specs.Faults.{StopsAtFirst}
 use Rattle.c_statements.specs.Shape.{scopes_of}
 use Rattle.c_types.specs.Programs.{FaultyBody}
 use Rattle.c_types.proofs.Functions.{back, body-stop}
@@ -13,10 +12,7 @@ returns-in_err-body-clause-typed c =
     record {
       ok = search rules;
       none = search rules;
-      err = let t : StopsBoth c.in_ok-fault.fault c.items.result c.in_err-body.field-0.0 =
-          let Q : Result _ TypeStop → Type 0 = λ r. StopsBoth c.in_ok-fault.fault r c.in_err-body.field-0.0 in
-          subst Q c.in_ok-typed.ensures.ok.0 c.in_err-body.ensures.err
-          in
+      err = let t = rw c.in_ok-typed.ensures.ok.0 at c.in_err-body.ensures.err in
           let h : StopsAtFirst
           (FaultyBody c.args.program.now.text.items (scopes_of c.args.scopes.now).inner
           (function c.args.f.now.result c.args.f.now.name c.args.f.now.parameters.items (items_of c.args.f.now.body.items))) c.in_err-body.field-0.0 =

@@ -1,11 +1,9 @@
-use Rattle.std.proofs.Common.{◌≡◌, rules, sym, ap, ◌∙◌, subst, Result}
+use Rattle.std.proofs.Common.{◌≡◌, rules, sym, ap, ◌∙◌}
 use Rattle.c_tree.specs.Shape.{declarations_of}
-use Rattle.c_statements.specs.declared.fault.TypeStop.{TypeStop}
-use Rattle.c_statements.specs.Faults.{StopsAtFirst, StopsBoth}
+use Rattle.c_statements.specs.Faults.{StopsAtFirst}
 use Rattle.c_statements.specs.Shape.{scopes_of}
 use Rattle.c_statements.specs.Names.{Scopes}
 use Rattle.c_statements.proofs.Firsts.{ok-at}
-use Rattle.c_types.specs.declared.program.Parts.{Parts}
 use Rattle.c_types.specs.Files.{AreTyped}
 use Rattle.c_types.specs.Programs.{FaultyProgram, after_all, no_declarations}
 use Rattle.c_types.proofs.Main.{main-found, program-stop, typed-program}
@@ -16,9 +14,7 @@ returns-in_err-parts-2 c =
     record {
       ok = search rules;
       none = search rules;
-      err = let Q : Result Parts TypeStop → Type 0 = λ r. StopsBoth r c.has_main.result c.in_err-parts-2.field-0.0 in
-          let t : StopsBoth c.declarations.result c.has_main.result c.in_err-parts-2.field-0.0 =
-          subst Q c.in_ok-parts.ensures.ok.0 c.in_err-parts-2.ensures.err in
+      err = let t = rw c.in_ok-parts.ensures.ok.0 at c.in_err-parts-2.ensures.err in
           let h : StopsAtFirst
           (FaultyProgram c.args.program.now.text.items (declarations_of c.args.program.now.declarations.items)) c.in_err-parts-2.field-0.0 =
           rw (sym c.as_slice-all.ensures.value)
