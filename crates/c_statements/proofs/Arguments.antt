@@ -76,8 +76,7 @@ pub one-so-far : (scope : Environment) (all : List Expression) (i : ℕ) (e : Ex
     → SoFar scope (take (i + 1) all) r
 one-so-far scope all i e typed r one l is h a f g =
     let next : take (i + 1) all ≡ take i all ++ e ∷ [] = take_more all i e l ∙ ap (λ (x : Expression). take i all ++ x ∷ []) (sym is) in
-    let Q : List Expression → Type 0 = λ es. SoFar scope es r in
-    subst Q (sym next)
+    rw next
     (one-more (λ ts. TypesAll scope (expressions_of (take i all)) (typed_expressions_of ts))
     (λ ts. TypesAll scope (expressions_of (take i all ++ e ∷ [])) (typed_expressions_of ts)) (λ t. Types scope (expression_of e) (typed_expression_of t))
     (FaultyAll scope (expressions_of (take i all))) (Faulty scope (expression_of e))

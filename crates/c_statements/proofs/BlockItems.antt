@@ -125,9 +125,8 @@ pub one-so-far : (text : List ℕ) (g b : Bool) (sc : Scopes) (all : List Item) 
     × (v.items ≡ xs.items ++ y ∷ [])) → IfErr r (λ s. (s ≡ NoMemory) ⊎ StopsBoth typed one s)
     → ItemsSoFar text g b sc (take (i + 1) all) r
 one-so-far text g b sc all i x typed r one l is h a f e =
-    let Q : List Item → Type 0 = λ ys. ItemsSoFar text g b sc ys r in
     let before : Items = items_of (take i all) in
-    subst Q (sym (next-of all i x l is))
+    rw (next-of all i x l is)
     (one-more (λ ts. TypesItems text sc before (statements_of ts)) (λ ts. TypesItems text sc (items_of (take i all ++ x ∷ [])) (statements_of ts))
     (λ t. TypesItems text (behind_items text sc before) (more_items (item_of x) no_items) (more_statements (statement_of t) no_statements))
     (FaultyItems text g b sc before) (FaultyItems text g b (behind_items text sc before) (more_items (item_of x) no_items))

@@ -51,26 +51,23 @@ right m t n r c w j function_signs s e (other_count h) = h e
 right m t n r c w j out_signs s e out_used = s
 right m t n r c w j out_signs s e (other_count_out h) = h e
 
-moved : (x : Option Named) (m : Named) (u : Use) (j : TypeFaultKind) → x ≡ Some m → IsWrong x u j → IsWrong (Some m) u j
-moved x m u j e w = let Q : Option Named → Type 0 = λ y. IsWrong y u j in subst Q e w
-
 pub no-function-first : (scope : Environment) (x : Identifier) (m : Named) (c : ℕ) (w : Bool) → scope x ≡ Some m → IsNoFunction m
     → IsFirstFault (Misused scope x (as_call c w)) KindFault x.at
-no-function-first scope x m c w e h = first-misuse scope x (as_call c w) KindFault (rw e (no-function m c w h)) (λ j v. call-least m c w j (moved _ m _ j e v))
+no-function-first scope x m c w e h = first-misuse scope x (as_call c w) KindFault (rw e (no-function m c w h)) (λ j v. call-least m c w j (rw e at v))
 
 pub void-first : (scope : Environment) (x : Identifier) (m : Named) (t : Target) (n : ℕ) (r : Bool) (c : ℕ) (w : Bool) → scope x ≡ Some m
     → Signs m t n r → w ≡ true → r ≡ false → IsFirstFault (Misused scope x (as_call c w)) KindFault x.at
 void-first scope x m t n r c w e h i f =
-    first-misuse scope x (as_call c w) KindFault (rw (e, i) (void-wrong m t n r c h f)) (λ j v. call-least m c w j (moved _ m _ j e v))
+    first-misuse scope x (as_call c w) KindFault (rw (e, i) (void-wrong m t n r c h f)) (λ j v. call-least m c w j (rw e at v))
 
 pub count-first : (scope : Environment) (x : Identifier) (m : Named) (t : Target) (n : ℕ) (r : Bool) (c : ℕ) (w : Bool) → scope x ≡ Some m
     → Signs m t n r → Serves w r → c ≢ n → IsFirstFault (Misused scope x (as_call c w)) Count x.at
 count-first scope x m t n r c w e h s i =
-    first-misuse scope x (as_call c w) Count (rw e (count-wrong m t n r c w h i)) (λ j v. count-least m t n r c w j h s (moved _ m _ j e v))
+    first-misuse scope x (as_call c w) Count (rw e (count-wrong m t n r c w h i)) (λ j v. count-least m t n r c w j h s (rw e at v))
 
 pub call-right : (scope : Environment) (x : Identifier) (m : Named) (t : Target) (n : ℕ) (r : Bool) (c : ℕ) (w : Bool) → scope x ≡ Some m
     → Signs m t n r → Serves w r → c ≡ n → HasNone (Misused scope x (as_call c w))
-call-right scope x m t n r c w e h s i k at v = right m t n r c w k h s i (moved _ m _ k e v.0)
+call-right scope x m t n r c w e h s i k at v = right m t n r c w k h s i (rw e at v.0)
 
 pub target-is : (y : Option Named) (m : Named) (t : Target) (n : ℕ) (r : Bool) → y ≡ Some m → Signs m t n r → IsTarget y t
 target-is y m t n r e function_signs = rw e function_target
@@ -78,15 +75,9 @@ target-is y m t n r e out_signs = rw e out_target
 
 pub serves-result : (w r : Bool) → r ≡ true → Serves w r
 serves-result true true e = tt
-serves-result true false e = absurd-bool e
-  where
-    absurd-bool : false ≡ true → ⊥
-    absurd-bool e = cc
+serves-result true false e = cc
 serves-result false r e = tt
 
 pub serves-unwanted : (w r : Bool) → w ≡ false → Serves w r
-serves-unwanted true r e = absurd (differ e)
-  where
-    differ : true ≡ false → ⊥
-    differ e = cc
+serves-unwanted true r e = cc
 serves-unwanted false r e = tt

@@ -37,10 +37,7 @@ Counted scope x es n w = Both (Misused scope x (as_call n w)) (FaultyAll scope (
 
 counted : (scope : Environment) (x : Identifier) (es : List Expression) (n : ℕ) (w v : Bool) (P : (TypeFaultKind → ℕ → Type 0) → Type 0)
     → n ≡ length es → w ≡ v → P (Counted scope x es n w) → P (FaultyCall scope v (Tree.call x (expressions_of es)))
-counted scope x es n w v P e f h =
-    let N : ℕ → Type 0 = λ m. P (Counted scope x es m v) in
-    let W : Bool → Type 0 = λ b. P (Counted scope x es n b) in
-    subst N (e ∙ sym (length-expressions es)) (subst W f h)
+counted scope x es n w v P e f h = rw (e ∙ sym (length-expressions es), f) at h
 
 pub call-stop : (scope : Environment) (x : Identifier) (es : List Expression) (n : ℕ) (w v : Bool) (a : Result Target TypeStop)
     (b : Result (Vec TypedExpression Global) TypeStop) (s : TypeStop) → n ≡ length es → w ≡ v
@@ -63,20 +60,11 @@ call-none scope x es n w v a b t ts e f both h l =
     (both-none Name All (ok-at (λ y. HasNone Name) a t both.0 h) (ok-at (λ y. HasNone All) b ts both.1 l))
 
 named-function : (m : Option Named) (t : Target) (f : ℕ) → IsTarget m t → t ≡ ToFunction f → (n : ℕ) × (r : Bool) × (m ≡ Some (Function f n r))
-named-function m t f (function_target {f = g} {n = n} {r = r}) e = (n, r, named)
-  where
-    named : Some (Function g n r) ≡ Some (Function f n r)
-    named = let i : g ≡ f = cc in ap (λ (j : ℕ). Some (Function j n r)) i
-named-function m t f out_target e = absurd (other e)
-  where
-    other : ToOut ≡ ToFunction f → ⊥
-    other e = cc
+named-function m t f (function_target {f = g} {n = n} {r = r}) e = let i : g ≡ f = cc in (n, r, rw i)
+named-function m t f out_target e = cc
 
 named-out : (m : Option Named) (t : Target) → IsTarget m t → t ≡ ToOut → m ≡ Some Out
-named-out m t (function_target {f = g}) e = absurd (other e)
-  where
-    other : ToFunction g ≡ ToOut → ⊥
-    other e = cc
+named-out m t function_target e = cc
 named-out m t out_target e = refl
 
 pub function-ok : (scope : Environment) (to : Option Destination) (x : Identifier) (t : Target) (f : ℕ) (es : List Tree.Expression)
@@ -87,7 +75,7 @@ function-ok scope to x t f es ts h e l = let n = named-function (scope x) t f h 
 -- a call of `out` without a fault has one argument, and its result isn't used
 wrong-out : (scope : Environment) (x : Identifier) (n : ℕ) (w : Bool) (k : TypeFaultKind) → scope x ≡ Some Out
     → HasNone (Misused scope x (as_call n w)) → IsWrong (Some Out) (as_call n w) k → ⊥
-wrong-out scope x n w k e h i = h k x.at (let Q : Option Named → Type 0 = λ m. IsWrong m (as_call n w) k in subst Q (sym e) i, refl)
+wrong-out scope x n w k e h i = h k x.at (rw e i, refl)
 
 out-count : (scope : Environment) (x : Identifier) (n : ℕ) (w : Bool) → scope x ≡ Some Out → HasNone (Misused scope x (as_call n w)) → n ≡ 1
 out-count scope x zero w e h = absurd (wrong-out scope x zero w Count e h (other_count_out (λ g. cc)))
@@ -113,18 +101,15 @@ pub out-ok : (scope : Environment) (to : Option Destination) (x : Identifier) (t
     → TypesCall scope to (Tree.call x (expressions_of es)) (output (typed_expression_of a))
 out-ok scope to x t n w es all xs a h e c d l m g =
     let o = named-out (scope x) t h e in
-    let W : Bool → Type 0 = λ b. HasNone (Misused scope x (as_call n b)) in
-    let A : List TypedExpression → Type 0 = λ ys. TypesAll scope (expressions_of es) (typed_expressions_of ys) in
-    let one = one-argument scope (expressions_of es) xs a (length-expressions es ∙ sym c ∙ out-count scope x n w o l) (subst A g m) in
-    rw (out-unused scope x n to o (subst W d l), one.1) (out_called o one.2)
+    let one = one-argument scope (expressions_of es) xs a (length-expressions es ∙ sym c ∙ out-count scope x n w o l) (rw g at m) in
+    rw (out-unused scope x n to o (rw d at l), one.1) (out_called o one.2)
 
 pub out-some : (scope : Environment) (x : Identifier) (t : Target) (n : ℕ) (w : Bool) (es : List Expression) (all : List TypedExpression)
     → IsTarget (scope x) t → t ≡ ToOut → n ≡ length es → HasNone (Misused scope x (as_call n w))
     → TypesAll scope (expressions_of es) (typed_expressions_of all) → all ≡ [] → ⊥
 out-some scope x t n w es all h e c l m g =
     let o = named-out (scope x) t h e in
-    let A : List TypedExpression → Type 0 = λ ys. TypesAll scope (expressions_of es) (typed_expressions_of ys) in
-    nothing (expressions_of es) (length-expressions es ∙ sym c ∙ out-count scope x n w o l) (subst A g m)
+    nothing (expressions_of es) (length-expressions es ∙ sym c ∙ out-count scope x n w o l) (rw g at m)
   where
     nothing : (es : List Tree.Expression) → length es ≡ 1 → TypesAll scope es [] → ⊥
     nothing [] l h = omega (arith, l)

@@ -1,5 +1,5 @@
 -- The first fault of a declarator.
-use Rattle.std.proofs.Common.{◌≡◌, ◌≢◌, ℕ, List, Option, None, true, false, is_some, inr, refl, ap, arith}
+use Rattle.std.proofs.Common.{◌≡◌, ◌≢◌, ℕ, List, Option, Some, None, true, false, is_some, inr, refl, ap, arith}
 use Rattle.c_tokens.specs.declared.token.Identifier.{Identifier}
 use Rattle.c_statements.specs.declared.fault.TypeFaultKind.{TypeFaultKind}
 use Rattle.c_statements.specs.declared.fault.TypeFaultKind.TheVariants.{Redeclared, Limit}
@@ -13,10 +13,7 @@ is-there m h e = let f : is_some m ≡ false = ap is_some e in cc
 
 is-absent : (m : Option Named) → is_some m ≡ false → m ≢ None → ⊥
 is-absent None h n = n refl
-is-absent m h n = absurd (differ h)
-  where
-    differ : true ≡ false → ⊥
-    differ e = cc
+is-absent (Some a) h n = cc
 
 pub redeclared-first : (text : List ℕ) (sc : Scopes) (x : Identifier) → is_some (sc.inner (spelling_in text x)) ≡ true
     → IsFirstFault (FaultyDeclarator text sc x) Redeclared x.at

@@ -1,5 +1,6 @@
 -- The first fault of two parts together.
 use Rattle.std.proofs.Common.{◌≡◌, ◌<◌, ◌≤◌, ◌⊎◌, ℕ, Bool, true, false, Result, Ok, Err, IfOk, IfErr, inl, inr, refl, sym, subst, arith}
+use Rattle.std.proofs.lemmas.Bool.{ltb-true, eqb-true}
 use Rattle.std.proofs.Common.{nat_lt, nat_eq, ◌&&◌, ◌||◌, if◌then◌else◌}
 use Rattle.c_statements.specs.declared.fault.TypeFaultKind.{TypeFaultKind}
 use Rattle.c_statements.specs.declared.fault.TypeFault.{TypeFault}
@@ -11,17 +12,11 @@ abbrev pub Both : Faults → Faults → Faults
 Both p q k at = p k at ⊎ q k at
 
 pub left-alone : (p q : Faults) (s : TypeStop) → StopsAtFirst p s → HasNone q → StopsAtFirst (Both p q) s
-left-alone p q (Fault f) h n = record {
-  has = inl h.has;
-  first = λ j m b. elim b [ inl x ↦ h.first j m x | inr y ↦ absurd (n j m y) ];
-}
+left-alone p q (Fault f) h n = record { has = inl h.has; first = λ j m b. elim b [ inl x ↦ h.first j m x | inr y ↦ absurd (n j m y) ] }
 left-alone p q NoMemory h n = tt
 
 right-alone : (p q : Faults) (s : TypeStop) → HasNone p → StopsAtFirst q s → StopsAtFirst (Both p q) s
-right-alone p q (Fault f) n h = record {
-  has = inr h.has;
-  first = λ j m b. elim b [ inl x ↦ absurd (n j m x) | inr y ↦ h.first j m y ];
-}
+right-alone p q (Fault f) n h = record { has = inr h.has; first = λ j m b. elim b [ inl x ↦ absurd (n j m x) | inr y ↦ h.first j m y ] }
 right-alone p q NoMemory n h = tt
 
 no-later : (k j i : TypeFaultKind) (a b c : ℕ) → IsNoLater k a j b → IsNoLater j b i c → IsNoLater k a i c
@@ -30,22 +25,16 @@ no-later k j i a b c (inl h) (inr l) = let e = l.0 in inl (omega (arith, h, e))
 no-later k j i a b c (inr h) (inl l) = let e = h.0 in inl (omega (arith, e, l))
 no-later k j i a b c (inr h) (inr l) = let e = h.0 in let f = l.0 in let g = h.1 in let m = l.1 in inr (omega (arith, e, f), omega (arith, g, m))
 
-less : (x y : ℕ) → nat_lt x y ≡ true → x < y
-less x y h = grind (arith, h)
-
 not-less : (x y : ℕ) → nat_lt x y ≡ false → y ≤ x
 not-less x y h = grind (arith, h)
-
-equal : (x y : ℕ) → nat_eq x y ≡ true → x ≡ y
-equal x y h = grind (arith, h)
 
 not-equal : (x y : ℕ) → nat_eq x y ≡ false → x ≡ y → ⊥
 not-equal x y h e = grind (arith, h, e)
 
 later-by : (a b : TypeFault) (x y z : Bool) → nat_lt b.at a.at ≡ x → nat_eq a.at b.at ≡ y → nat_lt (number_of b.kind) (number_of a.kind) ≡ z
     → (x || (y && z)) ≡ true → IsNoLater b.kind b.at a.kind a.at
-later-by a b true y z e f g h = inl (less _ _ e)
-later-by a b false true true e f g h = let l = less _ _ g in inr (sym (equal _ _ f), omega (arith, l))
+later-by a b true y z e f g h = inl (ltb-true _ _ e)
+later-by a b false true true e f g h = inr (sym (eqb-true _ _ f), omega (arith, ltb-true (number_of b.kind) (number_of a.kind) g))
 later-by a b false true false e f g h = cc
 later-by a b false false z e f g h = cc
 
@@ -53,22 +42,15 @@ earlier-by : (a b : TypeFault) (x y z : Bool) → nat_lt b.at a.at ≡ x → nat
     → nat_lt (number_of b.kind) (number_of a.kind) ≡ z → (x || (y && z)) ≡ false → IsNoLater a.kind a.at b.kind b.at
 earlier-by a b true y z e f g h = cc
 earlier-by a b false true true e f g h = cc
-earlier-by a b false true false e f g h = inr (equal _ _ f, not-less _ _ g)
-earlier-by a b false false z e f g h = let l = not-less _ _ e in let m = not-equal _ _ f in inl (strict _ _ l m)
-  where
-    strict : (x y : ℕ) → x ≤ y → (x ≡ y → ⊥) → x < y
-    strict x y l m = grind (arith, l, m)
+earlier-by a b false true false e f g h = inr (eqb-true _ _ f, not-less _ _ g)
+earlier-by a b false false z e f g h = inl (omega (arith, not-less b.at a.at e, not-equal a.at b.at f))
 
 chosen : (p q : Faults) (a b : TypeFault) (x : Bool) → is_later a b ≡ x → IsFirstFault p a.kind a.at → IsFirstFault q b.kind b.at
     → StopsAtFirst (Both p q) (if x then Fault b else Fault a)
-chosen p q a b true e h l = record {
-  has = inr l.has;
-  first = λ j m y. elim y [ inl z ↦ no-later _ _ _ _ _ _ (later-by a b _ _ _ refl refl refl e) (h.first j m z) | inr z ↦ l.first j m z ];
-}
-chosen p q a b false e h l = record {
-  has = inl h.has;
-  first = λ j m y. elim y [ inl z ↦ h.first j m z | inr z ↦ no-later _ _ _ _ _ _ (earlier-by a b _ _ _ refl refl refl e) (l.first j m z) ];
-}
+chosen p q a b true e h l =
+    record { has = inr l.has; first = λ j m y. elim y [ inl z ↦ no-later _ _ _ _ _ _ (later-by a b _ _ _ refl refl refl e) (h.first j m z) | inr z ↦ l.first j m z ] }
+chosen p q a b false e h l =
+    record { has = inl h.has; first = λ j m y. elim y [ inl z ↦ h.first j m z | inr z ↦ no-later _ _ _ _ _ _ (earlier-by a b _ _ _ refl refl refl e) (l.first j m z) ] }
 
 first-both : (p q : Faults) (a b : TypeStop) → StopsAtFirst p a → StopsAtFirst q b → StopsAtFirst (Both p q) (first_of a b)
 first-both p q (Fault a) (Fault b) h l = chosen p q a b (is_later a b) refl h l
@@ -89,7 +71,7 @@ pub both-none : (p q : Faults) → HasNone p → HasNone q → HasNone (Both p q
 both-none p q h l k at b = elim b [ inl x ↦ h k at x | inr y ↦ l k at y ]
 
 pub ok-at : {A : Type 0} (P : A → Type 0) (r : Result A TypeStop) (x : A) → r ≡ Ok x → IfOk r P → P x
-ok-at P r x e h = let Q : Result _ TypeStop → Type 0 = λ s. IfOk s P in subst Q e h
+ok-at P r x e h = rw e at h
 
 -- two sets with the same members
 pub record Same (p q : Faults) : Type 0 where

@@ -73,9 +73,6 @@ pub tells-alone : {A : Type 0} (p : Faults) (r : Result A TypeStop) → Tells p 
 tells-alone p (Ok x) h = (both-none p (λ k at. ⊥) h.0 (λ k at n. n), tt)
 tells-alone p (Err s) h = (tt, left-alone p (λ k at. ⊥) s h.1 (λ k at n. n))
 
-both-answer : {A B : Type 0} (a : Result A TypeStop) (b : Result B TypeStop) (x : A) (y : B) → a ≡ Ok x → b ≡ Ok y → both_of a b ≡ Ok (x, y)
-both-answer a b x y e f = rw (e, f) refl
-
 stops-two : {A B : Type 0} (p q : Faults) (a : Result A TypeStop) (b : Result B TypeStop) (s : TypeStop) → Tells p a → Tells q b
     → StopsTwo a b s → StopsAtFirst (Both p q) s
 stops-two p q a b s h l (inl e) = subst (StopsAtFirst (Both p q)) (sym e) tt
@@ -92,7 +89,7 @@ pub tells-three : {A B C D : Type 0} (p q : Faults) (a : Result A TypeStop) (b :
     (E : A → B → C → D → Type 0) (r : Result D TypeStop)
     → Tells p a → Tells q (both_of b c) → IfOk r (MadeOfThree a b c E) → IfErr r (StopsTwo a (both_of b c)) → Tells (Both p q) r
 tells-three p q a b c E (Ok d) h l o e =
-    (both-none p q (ok-at (λ x. HasNone p) a o.0 o.3 h.0) (ok-at (λ x. HasNone q) (both_of b c) (o.1, o.2) (both-answer b c o.1 o.2 o.4 o.5) l.0), tt)
+    (both-none p q (ok-at (λ x. HasNone p) a o.0 o.3 h.0) (ok-at (λ x. HasNone q) (both_of b c) (o.1, o.2) (rw (o.4, o.5) refl) l.0), tt)
 tells-three p q a b c E (Err s) h l o e = (tt, stops-two p q a (both_of b c) s h l e)
 
 -- the second of two parts

@@ -6,7 +6,7 @@ use Rattle.c_statements.specs.Names.{Environment}
 use Rattle.c_typed.specs.Trees.{TypedExpression, unary, type_of, prefix_type}
 use Rattle.c_statements.specs.Types.{Types, constant_typed, local_typed, global_typed, element_typed, unary_typed, binary_typed, conditional_typed}
 
-same-named : {m : Option Named} {a b : Named} → m ≡ Some a → m ≡ Some b → a ≡ b
+pub same-named : {m : Option Named} {a b : Named} → m ≡ Some a → m ≡ Some b → a ≡ b
 same-named e f = cc
 
 pub once : {scope : Environment} {e : Tree.Expression} {t u : TypedExpression} → Types scope e t → Types scope e u → t ≡ u

@@ -13,10 +13,7 @@ use Rattle.c_statements.specs.Types.{TypesSimple, assign_typed, store_typed, cal
 use Rattle.c_statements.specs.Types.{some_test, TypesFirst, no_first, some_first, TypesStatement, empty_typed, block_typed, if_then_typed}
 use Rattle.c_statements.specs.Types.{if_then_else_typed, while_loop_typed, for_loop_typed, break_typed, continue_typed, return_typed}
 use Rattle.c_statements.specs.Types.{simply_typed, TypesItems, no_items_typed, statement_typed, declare_typed}
-use Rattle.c_statements.proofs.Once.{once}
-
-same-named : {m : Option Named} {a b : Named} → m ≡ Some a → m ≡ Some b → a ≡ b
-same-named e f = cc
+use Rattle.c_statements.proofs.Once.{once, same-named}
 
 once-all : {scope : Environment} {es : List Expression} {ts us : List TypedExpression} → TypesAll scope es ts → TypesAll scope es us → ts ≡ us
 once-all all_typed all_typed = refl
@@ -43,10 +40,7 @@ once-value (plain_typed a) (plain_typed b) = let g = once a b in cc
 once-value (called_typed a) (called_typed b) = once-call a b
 
 once-simple : {scope : Environment} {p : Tree.Simple} {t u : TypedStatement} → TypesSimple scope p t → TypesSimple scope p u → t ≡ u
-once-simple {scope = scope} (assign_typed {v = v} {s = s} a b) (assign_typed {s = r} c d) = once-value (moved (once-place a c) b) d
-  where
-    moved : {p q : Destination} → p ≡ q → TypesValue scope p v s → TypesValue scope q v s
-    moved e h = rw (← e) h
+once-simple (assign_typed a b) (assign_typed c d) = once-value (rw (once-place a c) at b) d
 once-simple (store_typed e a b) (store_typed f c d) = let n = same-named e f in let g = once a c in let h = once b d in cc
 once-simple (call_typed a) (call_typed b) = once-call a b
 

@@ -21,10 +21,7 @@ told-first IsRight faults s k at e h = record { ok = tt; none = tt; err = subst 
 -- a use whose faults have no lesser number
 pub first-misuse : (scope : Environment) (x : Identifier) (u : Use) (k : TypeFaultKind) → IsWrong (scope x) u k
     → ((j : TypeFaultKind) → IsWrong (scope x) u j → number_of k ≤ number_of j) → IsFirstFault (Misused scope x u) k x.at
-first-misuse scope x u k w l = record {
-  has = (w, refl);
-  first = λ j n m. inr (sym m.1, l j m.0);
-}
+first-misuse scope x u k w l = record { has = (w, refl); first = λ j n m. inr (sym m.1, l j m.0) }
 
 least : (m : Option Named) (u : Use) (j : TypeFaultKind) → IsWrong m u j → 10 ≤ number_of j
 least m u Undeclared w = omega arith
@@ -63,14 +60,8 @@ value-wrong Out h l = out_alone
 
 pub index-first : (scope : Environment) (x : Identifier) (m : Named) → scope x ≡ Some m → ((n : ℕ) (k : IntegerType) → m ≡ Array n k → ⊥)
     → IsFirstFault (Misused scope x with_index) KindFault x.at
-index-first scope x m e h = first-misuse scope x with_index KindFault (rw e (index-wrong m h)) (λ j w. index-least m j (moved j w))
-  where
-    moved : (j : TypeFaultKind) → IsWrong (scope x) with_index j → IsWrong (Some m) with_index j
-    moved j w = let Q : Option Named → Type 0 = λ y. IsWrong y with_index j in subst Q e w
+index-first scope x m e h = first-misuse scope x with_index KindFault (rw e (index-wrong m h)) (λ j w. index-least m j (rw e at w))
 
 pub value-first : (scope : Environment) (x : Identifier) (m : Named) → scope x ≡ Some m → ((n : ℕ) (k : IntegerType) → m ≡ Local n k → ⊥)
     → ((n : ℕ) (k : IntegerType) → m ≡ Global n k → ⊥) → IsFirstFault (Misused scope x as_value) KindFault x.at
-value-first scope x m e h l = first-misuse scope x as_value KindFault (rw e (value-wrong m h l)) (λ j w. value-least m j (moved j w))
-  where
-    moved : (j : TypeFaultKind) → IsWrong (scope x) as_value j → IsWrong (Some m) as_value j
-    moved j w = let Q : Option Named → Type 0 = λ y. IsWrong y as_value j in subst Q e w
+value-first scope x m e h l = first-misuse scope x as_value KindFault (rw e (value-wrong m h l)) (λ j w. value-least m j (rw e at w))

@@ -31,5 +31,4 @@ weight-within (y ∷ all) (suc i) x l e = let k : i < length all = omega (arith,
 -- the one statement that stands in an `if` or in a loop weighs less than the whole
 pub inside-weighs-less : (whole inner held : Rust) → weight (statement_of whole) ≡ weight (statement_of inner) + 2 → held ≡ inner
     → weight (statement_of held) + 1 < weight (statement_of whole)
-inside-weighs-less whole inner held is same =
-    let a : weight (statement_of held) ≡ weight (statement_of inner) = ap (λ s. weight (statement_of s)) same in omega (arith, is, a)
+inside-weighs-less whole inner held is same = omega (arith, is, ap (λ s. weight (statement_of s)) same)

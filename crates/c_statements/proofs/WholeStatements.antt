@@ -33,28 +33,21 @@ pub if-then-ok : (text : List ℕ) (sc : Scopes) (c : Expression) (s : Tree.Stat
     (b r : Result TypedStatement TypeStop) → Typed text sc c a → TypedAs text sc s b
     → IfOk r (MadeOfThree a b (Ok Empty) IsIf) → TypedAs text sc (Tree.if_then c s) r
 if-then-ok text sc c s a b (Ok x) h l o =
-    let e : statement_of x ≡ if_else (typed_expression_of o.0) (statement_of o.1) (statement_of Empty) = o.6
-    ∙ ap (λ (y : TypedStatement). if_else (typed_expression_of o.0) (statement_of o.1) (statement_of y))
-    (sym (same-answer (Ok Empty) Empty o.2 refl o.5)) in
-    rw e (if_then_typed (ok-at _ a o.0 o.3 h) (ok-at _ b o.1 o.4 l))
+    rw (o.6, ← same-answer (Ok Empty) Empty o.2 refl o.5) (if_then_typed (ok-at _ a o.0 o.3 h) (ok-at _ b o.1 o.4 l))
 if-then-ok text sc c s a b (Err t) h l o = tt
 
 pub if-then-else-ok : (text : List ℕ) (sc now : Scopes) (c : Expression) (s t : Tree.Statement) (a : Result TypedExpression TypeStop)
     (b d r : Result TypedStatement TypeStop) → Typed text sc c a → TypedAs text sc s b
     → ((b ≡ Err NoMemory → ⊥) → now ≡ behind sc s) → TypedAs text now t d → IfOk r (MadeOfThree a b d IsIf) → TypedAs text sc (Tree.if_then_else c s t) r
 if-then-else-ok text sc now c s t a b d (Ok x) h l f m o =
-    let Q : Scopes → Type 0 = λ y. TypedAs text y t d in
-    rw o.6 (if_then_else_typed (ok-at _ a o.0 o.3 h) (ok-at _ b o.1 o.4 l) (ok-at _ d o.2 o.5 (subst Q (f (lasts b o.1 o.4)) m)))
+    rw o.6 (if_then_else_typed (ok-at _ a o.0 o.3 h) (ok-at _ b o.1 o.4 l) (ok-at _ d o.2 o.5 (rw (f (lasts b o.1 o.4)) at m)))
 if-then-else-ok text sc now c s t a b d (Err u) h l f m o = tt
 
 pub while-ok : (text : List ℕ) (sc : Scopes) (c : Expression) (s : Tree.Statement) (a : Result TypedExpression TypeStop)
     (b r : Result TypedStatement TypeStop) → Typed text sc c a → TypedAs text sc s b
     → IfOk r (MadeOfThree a (Ok Empty) b IsLoop) → TypedAs text sc (Tree.while_loop c s) r
 while-ok text sc c s a b (Ok x) h l o =
-    let e : statement_of x ≡ loop (typed_expression_of o.0) (statement_of Empty) (statement_of o.2) = o.6
-    ∙ ap (λ (y : TypedStatement). loop (typed_expression_of o.0) (statement_of y) (statement_of o.2))
-    (sym (same-answer (Ok Empty) Empty o.1 refl o.4)) in
-    rw e (while_loop_typed (ok-at _ a o.0 o.3 h) (ok-at _ b o.2 o.5 l))
+    rw (o.6, ← same-answer (Ok Empty) Empty o.1 refl o.4) (while_loop_typed (ok-at _ a o.0 o.3 h) (ok-at _ b o.2 o.5 l))
 while-ok text sc c s a b (Err t) h l o = tt
 
 pub for-ok : (text : List ℕ) (sc : Scopes) (f l : Option Simple) (c : Option Expression) (s : Tree.Statement)
@@ -76,11 +69,9 @@ pub tells-behind : (text : List ℕ) (g i : Bool) (sc now : Scopes) (s t : Tree.
 tells-behind text g i sc now s t (Err NoMemory) (Ok y) h f l = (tt, tt)
 tells-behind text g i sc now s t (Err NoMemory) (Err u) h f l = (tt, tt)
 tells-behind text g i sc now s t (Ok x) d h f l =
-    let Q : Scopes → Type 0 = λ y. Tells (FaultyStatement text g i y t) d in
-    tells-both-of (FaultyStatement text g i sc s) (FaultyStatement text g i (behind sc s) t) (Ok x) d h (subst Q (f (λ e. cc)) l)
+    tells-both-of (FaultyStatement text g i sc s) (FaultyStatement text g i (behind sc s) t) (Ok x) d h (rw (f (λ e. cc)) at l)
 tells-behind text g i sc now s t (Err (Fault x)) d h f l =
-    let Q : Scopes → Type 0 = λ y. Tells (FaultyStatement text g i y t) d in
-    tells-both-of (FaultyStatement text g i sc s) (FaultyStatement text g i (behind sc s) t) (Err (Fault x)) d h (subst Q (f (λ e. cc)) l)
+    tells-both-of (FaultyStatement text g i sc s) (FaultyStatement text g i (behind sc s) t) (Err (Fault x)) d h (rw (f (λ e. cc)) at l)
 
 module _ (text : List ℕ) (g : Bool) (sc : Scopes) (c : Expression) (s : Tree.Statement) (a : Result TypedExpression TypeStop)
     (b r : Result TypedStatement TypeStop) where

@@ -10,18 +10,10 @@ pub returns-in_err-named : goal.returns-in_err-named
 returns-in_err-named c = undeclared-told _ (environment_of c.args.program.now c.args.scopes.now) c.args.name _ _ _ (search rules) c.in_err-named.ensures.err
 
 pub returns-in-Local : goal.returns-in-Local
-returns-in-Local c = record {
-  ok = local_place (c.in_ok-named.ensures.ok ∙ ap (λ (m : Named). Some m) c.in-Local.is);
-  none = search rules;
-  err = tt;
-}
+returns-in-Local c = record { ok = local_place (c.in_ok-named.ensures.ok ∙ ap (λ (m : Named). Some m) c.in-Local.is); none = search rules; err = tt }
 
 pub returns-in-Global : goal.returns-in-Global
-returns-in-Global c = record {
-  ok = global_place (c.in_ok-named.ensures.ok ∙ ap (λ (m : Named). Some m) c.in-Global.is);
-  none = search rules;
-  err = tt;
-}
+returns-in-Global c = record { ok = global_place (c.in_ok-named.ensures.ok ∙ ap (λ (m : Named). Some m) c.in-Global.is); none = search rules; err = tt }
 
 pub returns-in_default : goal.returns-in_default
 returns-in_default c =

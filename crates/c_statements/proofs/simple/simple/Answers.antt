@@ -29,8 +29,7 @@ assign-ok : (scope : Environment) (x : Identifier) (v : Tree.Value) (to : Result
     → IfOk r (λ s. TypesSimple scope (Tree.assign x v) (statement_of s))
 assign-ok scope x v to at given (Ok s) e h l o =
     let here : at ≡ o.0 = e ∙ ap (λ (r : Result Destination TypeStop). result_unwrap_or r (Local 0)) o.1 in
-    let Q : Destination → Type 0 = λ p. TypesValue scope p v (statement_of s) in
-    assign_typed (ok-at _ to o.0 o.1 h) (subst Q here (ok-at _ given s o.2 l))
+    assign_typed (ok-at _ to o.0 o.1 h) (rw here at (ok-at (λ t. TypesValue scope at v (statement_of t)) given s o.2 l))
 assign-ok scope x v to at given (Err s) e h l o = tt
 
 abbrev IsStore : (ℕ × IntegerType) → TypedExpression → TypedExpression → TypedStatement → Type 0

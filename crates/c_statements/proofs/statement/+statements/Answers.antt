@@ -36,17 +36,11 @@ block-returns-in_err-typed t c = record {
 
 pub block-returns : goal.block-returns
 block-returns t c = record {
-  typed = let Q : Scopes
-      → Type 0 = λ s. TypesItems c.args.context.now.program.now.text.items s (items_of c.args.all.now) (statements_of c.in_ok-typed.field-0.items) in
-      let P : TypedStatement
-      → Type 0 = λ u. TypesStatement c.args.context.now.program.now.text.items (scopes_of c.args.scopes.now) (block (items_of c.args.all.now)) u in
-      record {
-        ok =
-            subst P (sym (block-is c.in_ok-typed.field-0)) (block_typed (subst Q c.in_ok-enter.ensures.scopes c.in_ok-typed.ensures.typed.ok));
-        none =
-            search rules;
-        err = tt;
-      };
+  typed = record {
+    ok = rw (block-is c.in_ok-typed.field-0) (block_typed (rw c.in_ok-enter.ensures.scopes at c.in_ok-typed.ensures.typed.ok));
+    none = search rules;
+    err = tt;
+  };
   scopes = λ n. behind-block c.args.context.now.program.now.text.items (scopes_of c.args.scopes.now) (scopes_of c.enter.new.self)
       (scopes_of c.items-typed.new.scopes) (scopes_of c.leave.new.self) (items_of c.args.all.now) c.in_ok-enter.ensures.scopes
       (c.items-typed.ensures.scopes (λ e. let f = sym c.in_ok-typed.was ∙ e in cc)) c.leave.ensures;
@@ -155,22 +149,11 @@ item-statement-requires t c =
 
 pub items-loop-one-init : goal.items-loop-one-init
 items-loop-one-init t c =
-    record {
-      so_far = none-so-far c.args.context.now.program.now.text.items c.args.context.now.gives c.args.context.now.in_loop
-          (scopes_of c.args.scopes.now) _ c.in_ok-with_capacity.ensures.items;
-      scopes = refl;
-    }
+    record { so_far = none-so-far _ c.args.context.now.gives c.args.context.now.in_loop (scopes_of c.args.scopes.now) _ c.in_ok-with_capacity.ensures.items; scopes = refl }
 
 pub items-loop-one-preserved : goal.items-loop-one-preserved
 items-loop-one-preserved t c =
-    let here : NextItem c.args.context.now.program.now.text.items c.args.context.now.gives c.args.context.now.in_loop
-    (scopes_of c.loop-one.scopes) c.one-item.result c.item.result = c.item.ensures.typed in
-    let Q : Scopes
-    → Type 0 = λ s. NextItem c.args.context.now.program.now.text.items c.args.context.now.gives c.args.context.now.in_loop s
-    c.one-item.result c.in_ok-next.next in
-    let next = subst Q c.loop-one.invariant.scopes
-    (moved (NextItem c.args.context.now.program.now.text.items c.args.context.now.gives c.args.context.now.in_loop
-    (scopes_of c.loop-one.scopes) c.one-item.result) c.in_ok-next.next c.item.result c.in_ok-next.ensures.ok.0 here) in
+    let next = rw (← c.in_ok-next.ensures.ok.0, c.loop-one.invariant.scopes) at c.item.ensures.typed in
     record {
       so_far = one-so-far c.args.context.now.program.now.text.items c.args.context.now.gives c.args.context.now.in_loop
           (scopes_of c.args.scopes.now) c.args.all.now c.loop-one.one-index c.one-item.result c.loop-one.typed c.with_one-typed.result
@@ -193,20 +176,13 @@ statement-block-requires t c =
     (omega (arith, w), tt)
 
 pub statement-returns-in-Block : goal.statement-returns-in-Block
-statement-returns-in-Block t c = record {
-  typed = let e : statement_of c.args.s.now ≡ block (items_of c.deref.result.now) = ap statement_of c.in-Block.is ∙ read-block-is c.in-Block.all
-      ∙ ap (λ (xs : List Item). block (items_of xs)) (sym c.deref.ensures.value) in
-      rw e c.block.ensures.typed;
-  scopes = let e : statement_of c.args.s.now ≡ block (items_of c.deref.result.now) = ap statement_of c.in-Block.is ∙ read-block-is c.in-Block.all
-      ∙ ap (λ (xs : List Item). block (items_of xs)) (sym c.deref.ensures.value) in
-      rw e c.block.ensures.scopes;
-}
+statement-returns-in-Block t c =
+    let e : statement_of c.args.s.now ≡ block (items_of c.deref.result.now) = ap statement_of c.in-Block.is ∙ read-block-is c.in-Block.all
+    ∙ ap (λ (xs : List Item). block (items_of xs)) (sym c.deref.ensures.value) in
+    record { typed = rw e c.block.ensures.typed; scopes = rw e c.block.ensures.scopes }
 
 pub statement-returns-in-Empty : goal.statement-returns-in-Empty
-statement-returns-in-Empty t c = record {
-  typed = rw c.in-Empty.is record { ok = empty_typed; none = search rules; err = tt };
-  scopes = search rules;
-}
+statement-returns-in-Empty t c = record { typed = rw c.in-Empty.is record { ok = empty_typed; none = search rules; err = tt }; scopes = search rules }
 
 pub statement-returns-in-Break : goal.statement-returns-in-Break
 statement-returns-in-Break t c = record {
@@ -228,16 +204,10 @@ statement-returns-in-Continue t c = record {
 }
 
 pub statement-returns-in-Return : goal.statement-returns-in-Return
-statement-returns-in-Return t c = record {
-  typed = rw c.in-Return.is c.return_from.ensures;
-  scopes = search rules;
-}
+statement-returns-in-Return t c = record { typed = rw c.in-Return.is c.return_from.ensures; scopes = search rules }
 
 pub statement-returns-in-Simply : goal.statement-returns-in-Simply
-statement-returns-in-Simply t c = record {
-  typed = rw c.in-Simply.is (answers-as (λ u h. simply_typed h) c.simple.ensures);
-  scopes = search rules;
-}
+statement-returns-in-Simply t c = record { typed = rw c.in-Simply.is (answers-as (λ u h. simply_typed h) c.simple.ensures); scopes = search rules }
 
 pub statement-if_then-requires : goal.statement-if_then-requires
 statement-if_then-requires t c =
