@@ -1,5 +1,5 @@
 -- Calls: which of their faults is the least.
-use Rattle.std.proofs.Common.{◌≡◌, ◌≢◌, ◌≤◌, ℕ, Option, Some, Bool, true, false, subst, arith}
+use Rattle.std.proofs.Common.{◌≡◌, ◌≢◌, ◌≤◌, ℕ, Option, Some, Bool, true, false, arith}
 use Rattle.c_tokens.specs.declared.token.Identifier.{Identifier}
 use Rattle.c_statements.specs.declared.names.Named.{Named}
 use Rattle.c_statements.specs.declared.names.Named.TheVariants.{Local, Global, Array}
@@ -9,7 +9,7 @@ use Rattle.c_statements.specs.declared.fault.TypeFaultKind.TheVariants.{Kind as 
 use Rattle.c_statements.specs.Calls.{IsTarget, function_target, out_target, Signs, function_signs, out_signs, IsNoFunction}
 use Rattle.c_statements.specs.Faults.{number_of, IsFirstFault, HasNone}
 use Rattle.c_statements.specs.Names.{Environment}
-use Rattle.c_statements.specs.Uses.{Use, as_call, IsWrong, Misused, local_called, global_called, array_called, void_used, out_used}
+use Rattle.c_statements.specs.Uses.{as_call, IsWrong, Misused, local_called, global_called, array_called, void_used, out_used}
 use Rattle.c_statements.specs.Uses.{other_count, other_count_out}
 use Rattle.c_statements.proofs.Uses.{first-misuse}
 

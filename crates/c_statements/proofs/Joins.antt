@@ -1,5 +1,5 @@
 -- Statements put together from their parts.
-use Rattle.std.proofs.Common.{◌≡◌, ◌⊎◌, ◌+◌, ℕ, List, [], ◌∷◌, ◌++◌, Result, Ok, Err, IfOk, IfErr, inl, inr, refl, sym, subst, ap, ◌∙◌}
+use Rattle.std.proofs.Common.{◌≡◌, ◌+◌, ℕ, List, [], ◌∷◌, ◌++◌, Result, Ok, Err, IfOk, IfErr, inl, inr, refl, sym, subst, ap, ◌∙◌}
 use Rattle.std.specs.declared.vec.Vec.{Vec}
 use Rattle.std.specs.declared.alloc.Global.{Global}
 use Rattle.c_tree.specs.Tree as Tree
@@ -24,10 +24,6 @@ behind-block text sc a b d all e f g =
   where
     around : (s : Scopes) → s.around ≡ sc.inner ∷ sc.around → s.locals ≡ sc.locals + declared_in_all all → outside s ≡ behind sc (Tree.block all)
     around s e f = rw (e, f) refl
-
--- what is known of an answer that lasts is known of it in its place
-pub moved : {T : Type 0} (P : Result T TypeStop → Type 0) (r a : Result T TypeStop) → r ≡ a → P a → P r
-moved P r a e h = subst P (sym e) h
 
 pub if-ok : {A : Type 0} (P Q : A → Type 0) (r : Result A TypeStop) → ((x : A) → P x → Q x) → IfOk r P → IfOk r Q
 if-ok P Q (Ok x) f h = f x h

@@ -1,9 +1,8 @@
 -- Calls, values, statements and items have at most one typed tree.
-use Rattle.std.proofs.Common.{◌≡◌, ℕ, List, Option, Some, refl, ap}
+use Rattle.std.proofs.Common.{◌≡◌, ℕ, List, Option, refl, ap}
 use Rattle.c_tokens.specs.declared.token.Identifier.{Identifier}
 use Rattle.c_tree.specs.Tree as Tree
 use Rattle.c_tree.specs.Tree.{Expression}
-use Rattle.c_statements.specs.declared.names.Named.{Named}
 use Rattle.c_typed.specs.declared.tree.Destination.{Destination}
 use Rattle.c_statements.specs.Names.{Environment, Scopes}
 use Rattle.c_typed.specs.Trees.{TypedExpression, TypedStatement, TypedStatements, block, return_with}

@@ -27,13 +27,11 @@ least : (m : Option Named) (u : Use) (j : TypeFaultKind) → IsWrong m u j → 1
 least m u Undeclared w = omega arith
 least m u _ w = omega arith
 
-pub undeclared-first : (scope : Environment) (x : Identifier) (u : Use) → scope x ≡ None → IsFirstFault (Misused scope x u) Undeclared x.at
-undeclared-first scope x u e = first-misuse scope x u Undeclared (rw e not_declared) (λ j w. least (scope x) u j w)
-
 -- what is told where nothing declares the name
 pub undeclared-told : {A : Type 0} (IsRight : A → Type 0) (scope : Environment) (x : Identifier) (u : Use) (r : Result A TypeStop) (s : TypeStop)
     → r ≡ Err s → (scope x ≡ None) × (s ≡ Fault (record { kind = Undeclared; at = x.at })) → Answers IsRight (Misused scope x u) r
-undeclared-told IsRight scope x u r s e (h, k) = rw e (told-first IsRight (Misused scope x u) s Undeclared x.at k (undeclared-first scope x u h))
+undeclared-told IsRight scope x u r s e (h, k) =
+    rw e (told-first IsRight (Misused scope x u) s Undeclared x.at k (first-misuse scope x u Undeclared (rw h not_declared) (λ j w. least (scope x) u j w)))
 
 index-least : (m : Named) (j : TypeFaultKind) → IsWrong (Some m) with_index j → 12 ≤ number_of j
 index-least m j local_indexed = omega arith

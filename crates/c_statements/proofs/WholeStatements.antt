@@ -1,11 +1,10 @@
 -- What typing the parts of a compound statement answered, and what typing the whole then answers.
-use Rattle.std.proofs.Common.{◌≡◌, ℕ, List, Option, Bool, true, Result, Ok, Err, IfOk, IfErr, refl, sym, subst, ap, ◌∙◌}
+use Rattle.std.proofs.Common.{◌≡◌, ℕ, List, Option, Bool, true, Result, Ok, Err, IfOk, IfErr, refl, sym, ◌∙◌}
 use Rattle.c_tree.specs.Tree as Tree
 use Rattle.c_tree.specs.Tree.{Expression, Simple}
 use Rattle.c_typed.specs.declared.tree.TypedExpression.{TypedExpression}
 use Rattle.c_typed.specs.declared.tree.TypedStatement.{TypedStatement, Empty}
 use Rattle.c_typed.specs.Shape.{typed_expression_of, statement_of}
-use Rattle.c_typed.specs.Trees.{if_else, loop}
 use Rattle.c_statements.specs.declared.fault.TypeStop.{TypeStop}
 use Rattle.c_statements.specs.declared.fault.TypeStop.TheVariants.{Fault, NoMemory}
 use Rattle.c_statements.specs.Faults.{Answers, StopsTwo, both_of}

@@ -1,4 +1,4 @@
-use Rattle.std.proofs.Common.{◌≡◌, ◌+◌, List, true, Result, Err, rules, refl, sym, subst, ap, arith, ◌∙◌}
+use Rattle.std.proofs.Common.{◌≡◌, ◌+◌, List, true, Result, Err, rules, refl, sym, ap, arith, ◌∙◌}
 use Rattle.c_tree.specs.declared.tree.Item.{Item}
 use Rattle.c_tree.specs.Shape.{expression_of, maybe_expression_of, maybe_value_tree, maybe_simple_of, statement_of, item_of, items_of}
 use Rattle.c_tree.specs.Tree.{block, break_at, continue_at, statement, declare, more_items, no_items}
@@ -8,16 +8,16 @@ use Rattle.c_statements.specs.declared.fault.TypeStop.{TypeStop}
 use Rattle.c_statements.specs.declared.fault.TypeStop.TheVariants.{NoMemory}
 use Rattle.c_statements.specs.Shape.{scopes_of}
 use Rattle.c_statements.specs.Names.{Scopes, environment_in, with_local, behind, behind_item}
-use Rattle.c_typed.specs.Shape.{statement_of as typed_of, statements_of}
+use Rattle.c_typed.specs.Shape.{statement_of as typed_of}
 use Rattle.c_statements.specs.Statements.{FaultyMaybe, FaultyPart, FaultyLocal, FaultyStatement}
-use Rattle.c_typed.specs.Trees.{TypedStatement, more_statements, no_statements}
+use Rattle.c_typed.specs.Trees.{more_statements, no_statements}
 use Rattle.c_statements.specs.Types.{TypesFirst, TypesStatement, TypesItems, empty_typed, block_typed, break_typed, continue_typed}
 use Rattle.c_statements.specs.Types.{simply_typed, no_items_typed, statement_typed, declare_typed}
 use Rattle.c_statements.specs.Uses.{Faulty}
 use Rattle.c_statements.proofs.Firsts.{Both}
-use Rattle.c_statements.proofs.BlockItems.{NextItem, none-so-far, one-so-far, behind-so-far}
+use Rattle.c_statements.proofs.BlockItems.{none-so-far, one-so-far, behind-so-far}
 use Rattle.c_typed.proofs.Shapes.{block-is}
-use Rattle.c_statements.proofs.Joins.{answers, answers-as, tells, moved, behind-block, if-ok, tells-both-of}
+use Rattle.c_statements.proofs.Joins.{answers, answers-as, tells, behind-block, if-ok, tells-both-of}
 use Rattle.c_statements.proofs.Joins.{tells-alone, tells-two, tells-three}
 use Rattle.c_statements.specs.Made.{IsIf, IsLoop, IsSequence}
 use Rattle.c_statements.proofs.WholeStatements.{if-then-answers, if-then-else-ok, while-answers, for-ok, tells-behind}

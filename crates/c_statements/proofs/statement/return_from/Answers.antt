@@ -24,8 +24,4 @@ returns-in_err-value c = record {
 }
 
 pub returns : goal.returns
-returns c = record {
-  ok = return_typed (ok-at _ _ _ c.in_ok-value.ensures.ok.2 c.returned_value-value.ensures.ok);
-  none = search rules;
-  err = tt;
-}
+returns c = record { ok = return_typed (ok-at _ _ _ c.in_ok-value.ensures.ok.2 c.returned_value-value.ensures.ok); none = search rules; err = tt }
