@@ -139,8 +139,8 @@ module _ {L V E : Type 0} (a : Algebra L V E) (separate : ValuesSeparateTerms a)
         let left = tree_parts a.coding l xs p in
         let right = tree_parts a.coding m ys q in
         let parts = separate l m (values_of a xs) (values_of a ys) left.0 right.0 (λ e. count_is xs e ∙ left.1) (λ e. count_is ys e ∙ right.1) same in
-        let count = left.1 ∙ (ap a.coding.arity parts.0 ∙ sym right.1) in
-        ap₂ (λ k ks. node k ks) parts.0 (one_values xs ys left.2 right.2 count parts.1)
+        ap₂ (λ k ks. node k ks) parts.0
+        (one_values xs ys left.2 right.2 (left.1 ∙ ap a.coding.arity parts.0 ∙ sym right.1) parts.1)
 
     one_values : (xs ys : Trees L) → are_trees a.coding xs ≡ true → are_trees a.coding ys ≡ true → tree_count xs ≡ tree_count ys
         → ((e : E) → values_of a xs e ≡ values_of a ys e) → xs ≡ ys

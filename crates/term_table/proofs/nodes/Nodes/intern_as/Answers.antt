@@ -1,17 +1,10 @@
-use Rattle.std.proofs.Common.{rules, ◌≡◌, ◌<◌, ◌+◌, Bool, true, false, not, ap, refl, ◌∙◌, arith}
+use Rattle.std.proofs.Common.{rules, ◌≡◌, ◌<◌, ◌+◌, true, false, ap, refl, ◌∙◌, arith}
+use Rattle.std.proofs.lemmas.Bool.{not-true, not-false}
 use Rattle.term_table.specs.declared.view.Walk.{Walk}
 use Rattle.term_table.proofs.Steps.{paired, begins_at, at_link, goes_on}
 use Rattle.term_table.proofs.nodes.Nodes.intern_as.Goals as goal
 use Rattle.term_table.proofs.nodes.Nodes.intern_as.Goals.{then-found-eq0+else-room-eq0+else-found-eq0-2, then-not-walk, else-not-walk}
 use Rattle.term_table.proofs.nodes.Nodes.intern_as.Goals.{else-found-eq0}
-
-unwritten : (b : Bool) → not b ≡ true → b ≡ false
-unwritten false e = refl
-unwritten true e = search (rules, e)
-
-written : (b : Bool) → not b ≡ false → b ≡ true
-written true e = refl
-written false e = search (rules, e)
 
 pub loop-walk-init : goal.loop-walk-init
 loop-walk-init g c = (
@@ -26,7 +19,7 @@ write_node-walk-requires-clause-before g c =
     let b = g.C.Act.begun in
     let came = c.follow-found.ensures in
     let some : 0 < b.start.room = search rules in
-    goes_on b (record c.loop-walk.walk { probes = c.loop-walk.walk.probes + 1 }) false c.follow-found.new.seat.me (unwritten _ c.if-not-walk.true)
+    goes_on b (record c.loop-walk.walk { probes = c.loop-walk.walk.probes + 1 }) false c.follow-found.new.seat.me (not-true _ c.if-not-walk.true)
     (came.found.free c.if-found-eq0.true c.requires.call some) came.table.1
 
 pub join-found-requires-clause-before : goal.join-found-requires-clause-before
@@ -39,7 +32,7 @@ join-found-requires-clause-before g c =
       | else-not-walk w ↦
           rw (w.seat-is, w.walk-is)
           (goes_on b (record c.loop-walk.walk { probes = c.loop-walk.walk.probes + 1 }) true c.follow-found.new.seat.me
-          (written _ w.if-not-walk.false) (came.found.free c.if-found-eq0.true c.requires.call some) came.table.1)
+          (not-false _ w.if-not-walk.false) (came.found.free c.if-found-eq0.true c.requires.call some) came.table.1)
     ]
 
 pub same_content-requires-clause-before : goal.same_content-requires-clause-before
@@ -49,7 +42,7 @@ same_content-requires-clause-before g c =
           let is : w.if-not-walk.walk.written ≡ true =
           elim w.if-not-walk.branch [
             | then-not-walk x ↦ ap (λ (k : Walk). k.written) (x.walk-is ∙ x.write_node-walk.ensures.walk)
-            | else-not-walk x ↦ ap (λ (k : Walk). k.written) x.walk-is ∙ written _ x.if-not-walk.false
+            | else-not-walk x ↦ ap (λ (k : Walk). k.written) x.walk-is ∙ not-false _ x.if-not-walk.false
           ] in
           let some : 0 < w.join-found.result = search rules in
           let lost = w.join-found.ensures.lost some in

@@ -1,18 +1,15 @@
-use Rattle.std.proofs.Common.{subst, sym, ◌∙◌}
-use Rattle.term_table.specs.Passes.{Learned, Met}
+use Rattle.std.proofs.Common.{sym, ◌∙◌}
+use Rattle.term_table.specs.Passes.{Learned}
 use Rattle.term_table.proofs.Meeting.{met}
 use Rattle.term_table.proofs.Callers.{extends_learned, still_of, legal_learned, first_learns, second_learns}
 use Rattle.term_table.proofs.table.TermTable.meet.Goals as goal
 
 pub returns-clause-met : goal.returns-clause-met
 returns-clause-met c =
-    let first = c.requires.first in
-    let second = c.requires.second in
-    let learned : Learned c.args.first.now c.note-note-2.result.seen c.learn-2.new.pass =
-    subst (λ p. Learned p c.note-note-2.result.seen c.learn-2.new.pass) c.note-note.ensures.same c.learn-2.ensures.learned in
-    subst (Met c.args.first.now c.args.second.now c.learn-2.new.pass) (sym c.note-note-2.ensures.same)
-    (met {p = c.args.first.now} {q = c.args.second.now}
-    (first.2 ∙ sym second.2) c.note-note.ensures.seen c.learn.ensures.learned c.note-note-2.ensures.seen learned)
+    let first = c.note-note.ensures.same in
+    let learned : Learned c.args.first.now c.note-note-2.result.seen c.learn-2.new.pass = rw first at c.learn-2.ensures.learned in
+    rw c.note-note-2.ensures.same (met {p = c.args.first.now} {q = c.args.second.now} (c.requires.first.2 ∙ sym c.requires.second.2)
+    c.note-note.ensures.seen c.learn.ensures.learned c.note-note-2.ensures.seen learned)
 
 pub returns-clause-extends : goal.returns-clause-extends
 returns-clause-extends c = let m = returns-clause-met c in (extends_learned m.first, extends_learned m.second)
