@@ -120,12 +120,8 @@ pub equal_mean : {L V E : Type 0} {a : Algebra L V E} {p : PassState} {t : ℕ} 
     → Means a p t g → (e : E) → f e ≡ g e
 equal_mean {L} {V} {E} {a} {p} {t} {f} {g} is h k e = sym (h.value e) ∙ (ap (λ x. value_of a x e) (one_term is h.has k.has) ∙ k.value e)
 
-module _ {V : Type 0} (v w : V) (vs ws : List V) (e : v ∷ vs ≡ w ∷ ws) where
-  same_head : v ≡ w
-  same_head = cc
-
-  same_tail : vs ≡ ws
-  same_tail = cc
+same_parts : {V : Type 0} (v w : V) (vs ws : List V) → v ∷ vs ≡ w ∷ ws → (v ≡ w) × (vs ≡ ws)
+same_parts v w vs ws e = (cc, cc)
 
 -- where values separate terms, terms with one value are one, and so are their tickets
 module _ {L V E : Type 0} (a : Algebra L V E) (separate : ValuesSeparateTerms a) where
@@ -150,8 +146,8 @@ module _ {L V E : Type 0} (a : Algebra L V E) (separate : ValuesSeparateTerms a)
     one_values (more x xs) (more y ys) p q count same =
         let left = and_parts (is_tree a.coding x) (are_trees a.coding xs) p in
         let right = and_parts (is_tree a.coding y) (are_trees a.coding ys) q in
-        let head : (e : E) → value_of a x e ≡ value_of a y e = λ e. same_head _ _ _ _ (same e) in
-        let tail : (e : E) → values_of a xs e ≡ values_of a ys e = λ e. same_tail _ _ _ _ (same e) in
+        let head : (e : E) → value_of a x e ≡ value_of a y e = λ e. (same_parts _ _ _ _ (same e)).0 in
+        let tail : (e : E) → values_of a xs e ≡ values_of a ys e = λ e. (same_parts _ _ _ _ (same e)).1 in
         ap₂ (λ k ks. more k ks) (one_value x y left.0 right.0 head) (one_values xs ys left.1 right.1 (omega (arith, count)) tail)
 
 pub one_ticket : {L V E : Type 0} {a : Algebra L V E} {p : PassState} {t u : ℕ} {f g : E → V} → IsCoding a.coding → ValuesSeparateTerms a

@@ -4,16 +4,16 @@ use Rattle.term_table.proofs.Callers.{extends_answered, full_linked}
 use Rattle.term_table.proofs.table.TermTable.intern_word.Goals as goal
 
 pub new-ticket-requires : goal.new-ticket-requires
-new-ticket-requires c = let low = hit_low _ _ _ _ c.intern_with-end.ensures.ended (_, _, refl) _ c.in-Hit.is in
-    let small = c.self.inside.nodes.small in omega arith
+new-ticket-requires c =
+    omega (arith, hit_low _ _ _ _ c.intern_with-end.ensures.ended (_, _, refl) _ c.in-Hit.is, c.self.inside.nodes.small)
 
 pub overflow_add-pass : goal.overflow_add-pass
-overflow_add-pass c = let low = linked_low _ _ _ _ c.intern_with-end.ensures.ended c.in-Linked.is in let own =
-    c.pass.invariant.own in let small = c.self.inside.nodes.small in omega arith
+overflow_add-pass c =
+    omega (arith, linked_low _ _ _ _ c.intern_with-end.ensures.ended c.in-Linked.is, c.pass.invariant.own, c.self.inside.nodes.small)
 
 pub new-ticket-requires-in-Linked : goal.new-ticket-requires-in-Linked
-new-ticket-requires-in-Linked c = let low = linked_low _ _ _ _ c.intern_with-end.ensures.ended c.in-Linked.is in let own =
-    c.pass.invariant.own in let small = c.self.inside.nodes.small in omega arith
+new-ticket-requires-in-Linked c =
+    omega (arith, linked_low _ _ _ _ c.intern_with-end.ensures.ended c.in-Linked.is, c.pass.invariant.own, c.self.inside.nodes.small)
 
 pub returns-clause-answered : goal.returns-clause-answered
 returns-clause-answered c = search rules

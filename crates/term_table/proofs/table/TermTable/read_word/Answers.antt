@@ -5,9 +5,7 @@ use Rattle.term_table.proofs.table.TermTable.read_word.Goals as goal
 
 pub children_of-requires : goal.children_of-requires
 children_of-requires c = λ i pos lt.
-    let low = read_low _ c.read_as-words.result _ _ _ _ c.read_as-words.ensures.ended i pos lt in
-    let small = c.self.inside.nodes.small in
-    omega arith
+    omega (arith, read_low _ c.read_as-words.result _ _ _ _ c.read_as-words.ensures.ended i pos lt, c.self.inside.nodes.small)
 
 pub returns-clause-answered : goal.returns-clause-answered
 returns-clause-answered c = search rules
