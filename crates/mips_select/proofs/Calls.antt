@@ -1,12 +1,13 @@
 -- What a prologue and an epilogue do.
 use Rattle.std.proofs.Common.{◌≡◌, ◌≢◌, ℕ, pos, negsuc, zero, suc, ◌+◌, ◌-◌, ◌*◌, ◌%◌, ◌<◌, ◌≤◌, ◌⊎◌, inl, inr, Bool, true, false, List, [], ◌∷◌}
 use Rattle.std.proofs.Common.{◌++◌, map, length, length-append, Option, Some, None, refl, sym, ap, ◌∙◌, subst, arith, nat_eq, true≢false, eqb-true}
-use Rattle.std.proofs.Common.{ne_eqb, ◌||◌}
+use Rattle.std.proofs.Common.{ne_eqb, ⊎_elim, ℤ}
 use Rattle.std.specs.Prelude.{if◌then◌else◌, slice_get}
-use Rattle.std.proofs.lemmas.Bool.{eqb-false, false_from_ne_true}
+use Rattle.std.proofs.lemmas.Bool.{eqb-false, false_from_ne_true, cond_both}
 use Rattle.std.proofs.lemmas.Option.{same_Some, none-some}
 use Rattle.words.specs.declared.operator.Operator.TheVariants.{Addu}
 use Rattle.words.specs.declared.width.Width.TheVariants.{Word}
+use Rattle.words.specs.Words.{wrap}
 use Rattle.words.specs.Operators.{op_value}
 use Rattle.runs.specs.Stores.{Places, unset_places, Arrays}
 use Rattle.mips_isa.specs.declared.inst.ImmOp.TheVariants.{Addiu}
@@ -30,7 +31,8 @@ use Rattle.mips_emit.proofs.Stands.{Stored, StackHolds, stack_same, stack_top, L
 use Rattle.mips_emit.proofs.Operands.{stack_apart}
 use Rattle.mips_select.specs.declared.prologue.Direction.TheVariants.{Save, Restore}
 use Rattle.mips_select.specs.Code.{frame_bytes, frame_words, frame_link, stack_step, epilogue}
-use Rattle.mips_select.proofs.Frames.{InStack, AreKept, saves_run, restores_run}
+use Rattle.mips_select.proofs.Frames.{InStack, AreKept, saves_run, Restored, restores_run}
+use Rattle.mips_select.proofs.Lists.{get_before}
 use Rattle.mips_select.proofs.Emitted.{kept, kept_words}
 
 abbrev pub stored_frame : Bool → Frame → Places → Places → ℕ → Stored
@@ -55,28 +57,15 @@ last_or : (xs : List ℕ) (x j r : ℕ) → slice_get (xs ++ x ∷ []) j ≡ Som
 last_or [] x zero r e = inr (refl, sym (same_Some x r e))
 last_or [] x (suc j) r e = absurd (none-some r e)
 last_or (y ∷ xs) x zero r e = inl e
-last_or (y ∷ xs) x (suc j) r e = go (last_or xs x j r e)
-  where
-    go : (slice_get xs j ≡ Some r) ⊎ ((j ≡ length xs) × (r ≡ x)) → (slice_get (y ∷ xs) (suc j) ≡ Some r) ⊎ ((suc j ≡ length (y ∷ xs)) × (r ≡ x))
-    go (inl e) = inl e
-    go (inr e) = inr (ap suc e.0, e.1)
+last_or (y ∷ xs) x (suc j) r e = ⊎_elim inl (λ last. inr (ap suc last.0, last.1)) (last_or xs x j r e)
 
 get_last : (xs : List ℕ) (x : ℕ) → slice_get (xs ++ x ∷ []) (length xs) ≡ Some x
 get_last [] x = refl
 get_last (y ∷ xs) x = get_last xs x
 
-get_front : (xs : List ℕ) (x j r : ℕ) → slice_get xs j ≡ Some r → slice_get (xs ++ x ∷ []) j ≡ Some r
-get_front [] x j r e = absurd (none-some r e)
-get_front (y ∷ xs) x zero r e = e
-get_front (y ∷ xs) x (suc j) r e = get_front xs x j r e
-
-front_in : (xs : List ℕ) (x q : ℕ) (b : Bool) → is_in xs q ≡ b → q ≢ x → is_in (xs ++ x ∷ []) q ≡ b
-front_in [] x q b e ne = ap (λ c. c || false) (ne_eqb q x ne) ∙ e
-front_in (y ∷ xs) x q b e ne = go (nat_eq q y) e (λ e. front_in xs x q b e ne)
-  where
-    go : (c : Bool) → (c || is_in xs q) ≡ b → (is_in xs q ≡ b → is_in (xs ++ x ∷ []) q ≡ b) → (c || is_in (xs ++ x ∷ []) q) ≡ b
-    go true e rest = e
-    go false e rest = rest e
+front_in : (xs : List ℕ) (x q : ℕ) → q ≢ x → is_in (xs ++ x ∷ []) q ≡ is_in xs q
+front_in [] x q ne = rw (ne_eqb q x ne) refl
+front_in (y ∷ xs) x q ne = rw (front_in xs x q ne) refl
 
 module _ (most : ℕ) (f : Frame) (ok : IsFrame most f) where
   kept_case : (leaf : Bool) (j r : ℕ) → slice_get (kept leaf f) j ≡ Some r → (slice_get f.saved.items j ≡ Some r) ⊎ ((j ≡ length f.saved.items) × (r ≡ 31))
@@ -92,16 +81,16 @@ module _ (most : ℕ) (f : Frame) (ok : IsFrame most f) where
 
   -- registers that no function saves
   saved_other : (q : ℕ) → (q < 16) ⊎ (24 ≤ q) → is_in f.saved.items q ≡ false
-  saved_other q (inl lt) = no_register f.saved.items q (λ j r there. let range = ok.saved j r there in λ e. absurd (omega (arith, e, range.0, lt)))
-  saved_other q (inr le) = no_register f.saved.items q (λ j r there. let range = ok.saved j r there in λ e. absurd (omega (arith, e, range.1, le)))
+  saved_other q out =
+      no_register f.saved.items q (λ j r there e. (let range = ok.saved j r there in absurd (omega (arith, range.0, range.1, e, out))))
 
   kept_in : (leaf : Bool) (q : ℕ) (b : Bool) → is_in f.saved.items q ≡ b → q ≢ 31 → is_in (kept leaf f) q ≡ b
   kept_in true q b e ne = e
-  kept_in false q b e ne = front_in f.saved.items 31 q b e ne
+  kept_in false q b e ne = front_in f.saved.items 31 q ne ∙ e
 
   kept_front : (leaf : Bool) (j r : ℕ) → slice_get f.saved.items j ≡ Some r → slice_get (kept leaf f) j ≡ Some r
   kept_front true j r e = e
-  kept_front false j r e = get_front f.saved.items 31 j r e
+  kept_front false j r e = get_before f.saved.items (31 ∷ []) j r e
 
   kept_length : (leaf : Bool) → length (kept leaf f) ≡ length f.saved.items + link_words leaf
   kept_length true = omega arith
@@ -129,34 +118,22 @@ record Shifted (is : List Plain) (s : State) (p : ℕ) : Type 0 where
 t29 : IsTarget 29
 t29 = record { low = omega arith; high = omega arith }
 
+shifted : (s : State) (n p : ℕ) (z : ℤ) → (n ≡ 0 → s.regs 29 ≡ p) → (n ≢ 0 → wrap (s.regs 29 + word_of_offset z) ≡ p)
+    → Shifted (if nat_eq n 0 then [] else Imm Addiu 29 29 z ∷ []) s p
+shifted s n p z none some = cond_both (nat_eq n 0) [] (Imm Addiu 29 29 z ∷ []) (λ is. Shifted is s p)
+    (λ e. record { regs = s.regs; runs = runs_none s; pointer = none (eqb-true n 0 e); others = λ q ne. refl })
+    (λ e. let v = op_value Addu (read 0 s.regs 29) (word_of_offset z) in record {
+      regs = put s.regs 29 v;
+      runs = record { ends = refl };
+      pointer = put_here s.regs 29 v t29 ∙ sum_value (s.regs 29) (word_of_offset z) ∙ some (eqb-false n 0 e);
+      others = put_other s.regs 29 v;
+    })
+
 lowered : (s : State) (n : ℕ) → n ≤ FRAME_BYTES → n ≤ s.regs 29 → s.regs 29 ≤ stack_end → Shifted (stack_step Save n) s (s.regs 29 - n)
-lowered s n few le up = go (nat_eq n 0) refl
-  where
-    go : (b : Bool) → nat_eq n 0 ≡ b → Shifted (if b then [] else Imm Addiu 29 29 (negsuc (n - 1)) ∷ []) s (s.regs 29 - n)
-    go true e = (let none = eqb-true n 0 e in record { regs = s.regs; runs = runs_none s; pointer = omega (arith, none); others = λ q ne. refl })
-    go false e =
-        let some : n ≢ 0 = eqb-false n 0 e in
-        let v = op_value Addu (read 0 s.regs 29) (word_of_offset (negsuc (n - 1))) in
-        record {
-          regs = put s.regs 29 v;
-          runs = record { ends = refl };
-          pointer = put_here s.regs 29 v t29 ∙ sum_value (s.regs 29) (word_of_offset (negsuc (n - 1))) ∙ omega (arith, some, few, le, up);
-          others = λ q ne. put_other s.regs 29 v q ne;
-        }
+lowered s n few le up = shifted s n (s.regs 29 - n) (negsuc (n - 1)) (λ e. omega (arith, e)) (λ some. omega (arith, some, few, le, up))
 
 raised : (s : State) (n : ℕ) → n ≤ FRAME_BYTES → s.regs 29 + n ≤ stack_end → Shifted (stack_step Restore n) s (s.regs 29 + n)
-raised s n few up = go (nat_eq n 0) refl
-  where
-    go : (b : Bool) → nat_eq n 0 ≡ b → Shifted (if b then [] else Imm Addiu 29 29 (pos n) ∷ []) s (s.regs 29 + n)
-    go true e = (let none = eqb-true n 0 e in record { regs = s.regs; runs = runs_none s; pointer = omega (arith, none); others = λ q ne. refl })
-    go false e =
-        let v = op_value Addu (read 0 s.regs 29) (word_of_offset (pos n)) in
-        record {
-          regs = put s.regs 29 v;
-          runs = record { ends = refl };
-          pointer = put_here s.regs 29 v t29 ∙ sum_value (s.regs 29) (word_of_offset (pos n)) ∙ omega (arith, few, up);
-          others = λ q ne. put_other s.regs 29 v q ne;
-        }
+raised s n few up = shifted s n (s.regs 29 + n) (pos n) (λ e. omega (arith, e)) (λ some. omega (arith, few, up))
 
 module _ (most total : ℕ) (gs : List RGlobal) (starts : ℕ → ℕ) (small : most ≤ FRAME_BYTES) where
   -- what a prologue leaves, before the parameters go to their homes
@@ -191,11 +168,9 @@ module _ (most total : ℕ) (gs : List RGlobal) (starts : ℕ → ℕ) (small : 
       let long = kept_length most f ok leaf in
       let saved = saves_run total v (frame_bytes leaf f) (4 * f.slots) (kept leaf f) s1 (kept_ok most f ok leaf) (omega arith) (omega (arith, long)) in_stack in
       let to : State = record s1 { memory = saved.memory } in
-      let saves' : RunsTo (frame_words Save (4 * f.slots) f.saved.items ++ frame_link Save leaf f) s1 to =
-      subst (λ is. RunsTo is s1 to) (sym (kept_words Save leaf f)) saved.runs in
       record {
         to = to;
-        runs = runs_then low.runs saves';
+        runs = runs_then low.runs (subst (λ is. RunsTo is s1 to) (sym (kept_words Save leaf f)) saved.runs);
         same = λ q lt. low.others q (omega (arith, lt));
         stands = record {
           words = saved.words;
@@ -260,16 +235,12 @@ module _ (most total : ℕ) (gs : List RGlobal) (starts : ℕ → ℕ) (small : 
         mapped = h.mapped;
         words = h.words;
         aligned = h.aligned;
-        low
-            = h.room;
+        low = h.room;
         high = up;
       } in
       let back = restores_run total (s.regs 29) (frame_bytes leaf f) (4 * f.slots) (kept leaf f) s (kept_ok most f ok leaf) (omega arith)
       (omega (arith, long)) in_stack in
       let s1 : State = record s { regs = back.regs } in
-      let restores' : RunsTo (frame_words Restore (4 * f.slots) f.saved.items ++ frame_link Restore leaf f) s s1 =
-      subst (λ is. RunsTo is s s1) (sym (kept_words Restore leaf f))
-      back.runs in
       let pointer1 : back.regs 29 ≡ s.regs 29 = back.others 29 (kept_in most f ok leaf 29 false (saved_other most f ok 29 (inr (omega arith)))
       (λ e. absurd (omega (arith, e)))) in
       let lift = raised s1 (frame_bytes leaf f) (omega (arith, fits, small)) (omega (arith, pointer1, up)) in
@@ -278,14 +249,14 @@ module _ (most total : ℕ) (gs : List RGlobal) (starts : ℕ → ℕ) (small : 
       let size4 : frame_bytes leaf f % 4 ≡ 0 = omega arith in
       record {
         to = to;
-        runs = runs_then restores' lift.runs;
+        runs = runs_then (subst (λ is. RunsTo is s s1) (sym (kept_words Restore leaf f)) back.runs) lift.runs;
         same = λ q lt. lift.others q (omega (arith, lt)) ∙ back.others q (kept_in most f ok leaf q false (saved_other most f ok q (inl lt))
             (omega (arith, lt)));
-        link_is = lift.others 31 (λ e. absurd (omega (arith, e))) ∙ link_back back.regs back.others back.inside leaf refl;
+        link_is = lift.others 31 (λ e. absurd (omega (arith, e))) ∙ link_back back leaf refl;
         stands = record {
           words = run_words (map action_of (stack_step Restore (frame_bytes leaf f))) s1 to back.words (lift.runs).ends;
           mapped = h.mapped;
-          held = λ q w ql qh at. lift.others q (omega (arith, qh)) ∙ held back.regs back.others back.inside q w ql qh (is_in f.saved.items q) refl at;
+          held = λ q w ql qh at. lift.others q (omega (arith, qh)) ∙ held back q w ql qh (is_in f.saved.items q) refl at;
           stack = subst (λ p. StackHolds most (word_at s) p fs) (sym pointer) h.stack.1;
           room = omega (arith, pointer, low);
           aligned = omega (arith, pointer, h.aligned, size4);
@@ -305,17 +276,15 @@ module _ (most total : ℕ) (gs : List RGlobal) (starts : ℕ → ℕ) (small : 
           ap (word_at s) place ∙ (h.stack.0).link calls
 
       -- the link comes from the frame, or was in register 31 all the time
-      link_back : (regs : ℕ → ℕ) → ((q : ℕ) → is_in (kept leaf f) q ≡ false → regs q ≡ s.regs q) → ((q v : ℕ) → is_in (kept leaf f) q ≡ true → ((j : ℕ)
-          → slice_get (kept leaf f) j ≡ Some q → word_at s (s.regs 29 + 4 * f.slots + 4 * j) ≡ v) → regs q ≡ v) → (b : Bool) → leaf ≡ b → regs 31 ≡ link
-      link_back regs others inside true is = others 31 (ap (λ leaf. is_in (kept leaf f) 31) is ∙ saved_other most f ok 31 (inr (omega arith))) ∙ (h.linked is).link
-      link_back regs others inside false is = inside 31 link (ap (λ leaf. is_in (kept leaf f) 31) is
+      link_back : (back : Restored (s.regs 29) (4 * f.slots) (kept leaf f) s) (b : Bool) → leaf ≡ b → back.regs 31 ≡ link
+      link_back back true is = back.others 31 (ap (λ leaf. is_in (kept leaf f) 31) is ∙ saved_other most f ok 31 (inr (omega arith))) ∙ (h.linked is).link
+      link_back back false is = back.inside 31 link (ap (λ leaf. is_in (kept leaf f) 31) is
           ∙ also_in f.saved.items 31) (λ j there. link_at is j 31 refl (kept_case most f ok leaf j 31 there))
 
-      held : (regs : ℕ → ℕ) → ((q : ℕ) → is_in (kept leaf f) q ≡ false → regs q ≡ s.regs q) → ((q v : ℕ) → is_in (kept leaf f) q ≡ true → ((j : ℕ)
-          → slice_get (kept leaf f) j ≡ Some q → word_at s (s.regs 29 + 4 * f.slots + 4 * j) ≡ v) → regs q ≡ v) → (q w : ℕ) → 4 ≤ q → q < 28 → (b : Bool)
-          → is_in f.saved.items q ≡ b → (if b then aside q else r q) ≡ Some w → regs q ≡ w
-      held regs others inside q w ql qh false e at = others q (kept_in most f ok leaf q false e (omega (arith, qh))) ∙ h.held q w ql qh at
-      held regs others inside q w ql qh true e at = inside q w (kept_in most f ok leaf q true e (omega (arith, qh)))
+      held : (back : Restored (s.regs 29) (4 * f.slots) (kept leaf f) s) (q w : ℕ) → 4 ≤ q → q < 28 → (b : Bool)
+          → is_in f.saved.items q ≡ b → (if b then aside q else r q) ≡ Some w → back.regs q ≡ w
+      held back q w ql qh false e at = back.others q (kept_in most f ok leaf q false e (omega (arith, qh))) ∙ h.held q w ql qh at
+      held back q w ql qh true e at = back.inside q w (kept_in most f ok leaf q true e (omega (arith, qh)))
           (λ j there. by j (kept_case most f ok leaf j q there))
         where
           by : (j : ℕ) → (slice_get f.saved.items j ≡ Some q) ⊎ ((j ≡ length f.saved.items) × (q ≡ 31)) → word_at s (s.regs 29 + 4 * f.slots + 4 * j) ≡ w

@@ -4,7 +4,7 @@ use Rattle.std.proofs.Common.{◌≢◌, ⊎_elim, length-append, Some, refl, sy
 use Rattle.std.specs.Prelude.{All, slice_get, slice_index, sum_by}
 use Rattle.std.proofs.lemmas.Bool.{cases_lt}
 use Rattle.std.proofs.lemmas.List.{append_assoc, length-map, length-replicate}
-use Rattle.std.proofs.lemmas.List.Elements.{All-append}
+use Rattle.std.proofs.lemmas.List.Elements.{All-append, All-cons, All-nil}
 use Rattle.std.proofs.lemmas.List.Sums.{sum_by-cons}
 use Rattle.std.proofs.lemmas.Option.{same_Some, none-some, slice_get_within}
 use Rattle.words.specs.declared.width.Width.{Width}
@@ -17,6 +17,7 @@ use Rattle.rtl.specs.declared.block.RGlobal.{RGlobal}
 use Rattle.rtl.specs.declared.limits.TheConstants.{MAX_GLOBAL_WORDS}
 use Rattle.rtl.specs.Programs.{IsGlobal, word_count}
 use Rattle.rtl.specs.Meaning.{first_values}
+use Rattle.mips_isa.specs.States.{byte_of}
 use Rattle.mips_emit.specs.Elements.{width_bytes, width_of, element_place}
 use Rattle.mips_select.specs.Emittable.{AreInside}
 use Rattle.mips_select.proofs.Lists.{all_at, get_behind, get_before}
@@ -153,23 +154,17 @@ elements_apart n (x ∷ gs) ok (suc a) i (suc b) j v w e f ne = elements_apart (
 abbrev AllBytes : List ℕ → Type 0
 AllBytes l = All (λ b. b < 2 ^ 8) l
 
-one_byte : (b : ℕ) → b < 2 ^ 8 → AllBytes (b ∷ [])
-one_byte b lt zero d low = lt
-one_byte b lt (suc k) d low = absurd (omega (arith, low))
+none_below : AllBytes []
+none_below = All-nil (λ b. b < 2 ^ 8)
+
+byte_below : (b : ℕ) (l : List ℕ) → b < 2 ^ 8 → AllBytes l → AllBytes (b ∷ l)
+byte_below b l lt all = All-cons (λ b. b < 2 ^ 8) b l lt all
 
 element_below : (w : Width) (v : ℕ) → AllBytes (element_bytes w (kept w v))
-element_below Byte v = one_byte (v % 2 ^ 8) (omega arith)
-element_below Word v = by
-  where
-    by : AllBytes (element_bytes Word v)
-    by zero d low = omega arith
-    by (suc zero) d low = omega arith
-    by (suc (suc zero)) d low = omega arith
-    by (suc (suc (suc zero))) d low = omega arith
-    by (suc (suc (suc (suc k)))) d low = absurd (omega (arith, low))
-
-none_below : AllBytes []
-none_below k d low = absurd (omega (arith, low))
+element_below Byte v = byte_below (v % 2 ^ 8) [] (omega arith) none_below
+element_below Word v =
+    byte_below (byte_of v 0) (byte_of v 1 ∷ byte_of v 2 ∷ byte_of v 3 ∷ []) (omega arith) (byte_below (byte_of v 1) (byte_of v 2 ∷ byte_of v 3 ∷ []) (omega arith)
+    (byte_below (byte_of v 2) (byte_of v 3 ∷ []) (omega arith) (byte_below (byte_of v 3) [] (omega arith) none_below)))
 
 elements_below : (w : Width) (vs : List ℕ) → AllBytes (elements_bytes w (map (λ v. kept w (wrap v)) vs))
 elements_below w [] = none_below
@@ -178,7 +173,7 @@ elements_below w (v ∷ vs) = All-append (λ b. b < 2 ^ 8) (element_bytes w (kep
 
 zeros_below : (n : ℕ) → AllBytes (zeros n)
 zeros_below zero = none_below
-zeros_below (suc n) = All-append (λ b. b < 2 ^ 8) (0 ∷ []) (zeros n) (one_byte 0 (omega arith)) (zeros_below n)
+zeros_below (suc n) = byte_below 0 (zeros n) (omega arith) (zeros_below n)
 
 pub data_below : (gs : List RGlobal) → All (λ b. b < 2 ^ 8) (padded_bytes gs)
 data_below [] = none_below

@@ -1,8 +1,8 @@
 -- How blocks are left, apart from what the unit does then: branches and comparisons, and what is known there.
-use Rattle.std.proofs.Common.{◌≡◌, ℕ, suc, ◌≤◌, Bool, true, false, ◌&&◌, List, [], ◌∷◌, length, Option, Some, None, refl, sym, ap, ◌∙◌, arith, nat_lt}
+use Rattle.std.proofs.Common.{◌≡◌, ℕ, suc, ◌≤◌, Bool, true, false, ◌&&◌, List, [], ◌∷◌, length, Some, None, refl, sym, ap, arith, nat_lt}
 use Rattle.std.proofs.Common.{ltb-true}
 use Rattle.std.specs.Prelude.{if◌then◌else◌, not, slice_get}
-use Rattle.std.proofs.lemmas.Option.{same_Some, none-some}
+use Rattle.std.proofs.lemmas.Option.{same_Some}
 use Rattle.runs.specs.Stores.{Places, chain}
 use Rattle.mips_isa.specs.declared.inst.Plain.{Plain}
 use Rattle.mips_isa.specs.States.{State}
@@ -22,6 +22,9 @@ use Rattle.mips_emit.specs.declared.comparison.Comparison.{Comparison}
 use Rattle.mips_emit.specs.declared.location.Source.{Source}
 use Rattle.mips_emit.specs.Locations.{Locations, Facts, locations}
 use Rattle.mips_emit.specs.Comparisons.{exit_by_form, comparison_of, last_with, tested}
+use Rattle.std.proofs.lemmas.Bool.{and_parts}
+use Rattle.runs.proofs.Words.{chain-some}
+use Rattle.mips_emit.proofs.Runs.{if_some}
 use Rattle.mips_emit.proofs.Operands.{passes}
 use Rattle.mips_emit.proofs.Comparing.{none_asked, asked_result, returned_result}
 use Rattle.mips_select.specs.Plans.{Linking, Placing}
@@ -30,18 +33,10 @@ use Rattle.mips_select.specs.Code.{asked_of, exit_code, exit_of}
 -- as many words as are read
 pub read_length : (homes : List Home) (r slots : Places) (xs vs : List ℕ) → read_homes homes r slots xs ≡ Some vs → length vs ≡ length xs
 read_length homes r slots [] vs e = sym (ap length (same_Some [] vs e))
-read_length homes r slots (x ∷ xs) vs e = first (λ ws e. read_length homes r slots xs ws e) (read_home homes r slots x) e
-  where
-    Again : Type 0
-    Again = (ws : List ℕ) → read_homes homes r slots xs ≡ Some ws → length ws ≡ length xs
-
-    second : Again → (v : ℕ) (o : Option (List ℕ)) → read_homes homes r slots xs ≡ o → chain o (λ vs. Some (v ∷ vs)) ≡ Some vs → length vs ≡ suc (length xs)
-    second again v None is e = absurd (none-some vs e)
-    second again v (Some ws) is e = sym (ap length (same_Some (v ∷ ws) vs e)) ∙ ap suc (again ws is)
-
-    first : Again → (o : Option ℕ) → chain o (λ v. chain (read_homes homes r slots xs) (λ vs. Some (v ∷ vs))) ≡ Some vs → length vs ≡ suc (length xs)
-    first again None e = absurd (none-some vs e)
-    first again (Some v) e = second again v (read_homes homes r slots xs) refl e
+read_length homes r slots (x ∷ xs) vs e =
+    let v = chain-some (read_home homes r slots x) (λ v. chain (read_homes homes r slots xs) (λ vs. Some (v ∷ vs))) vs e in
+    let ws = chain-some (read_homes homes r slots xs) (λ (vs : List ℕ). Some (v.0 ∷ vs)) vs v.2 in
+    rw (← same_Some _ vs ws.2) (ap suc (read_length homes r slots xs ws.0 ws.1))
 
 pub branch_words : (place : ℕ → ℕ) (x y v : ℕ) (b : Bool) → (if not b then place y else place x) ≡ place (if b then x else y)
 branch_words place x y v true = refl
@@ -57,11 +52,8 @@ either_place place x y false = refl
 
 -- a callee-saved register is none of those in which arguments are passed
 pub above_arguments : (r : Places) (q w : ℕ) → callee_saved r q ≡ Some w → 8 ≤ q
-above_arguments r q w e = by (nat_lt 15 q) (nat_lt q 24) refl e
-  where
-    by : (b c : Bool) → nat_lt 15 q ≡ b → (if b && c then r q else None) ≡ Some w → 8 ≤ q
-    by true c eb e = (let low = ltb-true 15 q eb in omega (arith, low))
-    by false c eb e = absurd (none-some w e)
+above_arguments r q w e =
+    let low = ltb-true 15 q (and_parts (nat_lt 15 q) (nat_lt q 24) (if_some (nat_lt 15 q && nat_lt q 24) (r q) w e).0).0 in omega (arith, low)
 
 -- a branch for a comparison
 pub goes_by : (blocks : List BlockParts) (links : ℕ → ℕ) (form : Form) (x y : Source) (t e : ℕ) (k : ℕ) (s : State) (out : List ℕ) (n : ℕ)

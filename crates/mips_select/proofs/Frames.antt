@@ -15,14 +15,15 @@ use Rattle.mips_homes.specs.declared.homed.Home.{Home}
 use Rattle.mips_homes.specs.declared.homed.Home.TheVariants.{Reg, Slot, Copied}
 use Rattle.mips_emit.specs.declared.location.Source.TheVariants.{Zero, Word}
 use Rattle.mips_emit.specs.Frames.{AreFrameHomes}
-use Rattle.mips_emit.specs.Locations.{deferred_none, Facts, known_in, known_source, deferred_at, deferred_source, source, operand}
-use Rattle.mips_emit.specs.Code.{store_word_at, carry, arguments_code}
+use Rattle.mips_emit.specs.Locations.{Facts, known_in, known_source, deferred_at, deferred_source, source, operand}
+use Rattle.mips_emit.specs.Code.{store_word_at, arguments_code}
 use Rattle.mips_emit.proofs.Runs.{RunsTo, runs_none, runs_then}
 use Rattle.mips_emit.proofs.View.{shown_at, word_at, set, set_word, shown_other, word_here, set_words, set_at_words, word_below, put_here, put_other}
 use Rattle.mips_emit.proofs.View.{read_register, loads_word, stores_word}
 use Rattle.mips_emit.proofs.Stands.{Stored, with_slots, Stands, open_stack}
-use Rattle.mips_emit.proofs.Operands.{hidden, hide, AreDeferred, none_deferred, IsKnown, Denotes, IsApart, denotes_kept, IsElsewhere}
-use Rattle.mips_emit.proofs.Homes.{fewer_stand, operand_means, caller_saved_kept, carries, arrives}
+use Rattle.mips_emit.proofs.Operands.{hide, AreDeferred, IsKnown, Denotes, IsApart, denotes_kept, IsElsewhere}
+use Rattle.runs.proofs.Words.{chain-some}
+use Rattle.mips_emit.proofs.Homes.{operand_means, caller_saved_kept, carries, arrives}
 use Rattle.mips_select.specs.declared.prologue.Direction.TheVariants.{Save, Restore}
 use Rattle.mips_select.specs.Code.{frame_words, parameters_code}
 use Rattle.mips_select.specs.Selected.{IsBehind, AreInOrder, IsClear, AreClear}
@@ -163,19 +164,6 @@ restores_run total p n at (r ∷ rs) s kept a4 le h =
     inside rest q w false false eb ec e f = absurd (true≢false (sym e ∙ ap₂ (λ x y. x || y) eb ec))
 
 module _ (most total : ℕ) (gs : List RGlobal) (starts : ℕ → ℕ) where
-  -- where no word is to come, all registers are shown
-  pub all_shown : (l : Option Home) (registers : Places) (g : Arrays) (fs : List Stored) (s : State)
-      → Stands most total gs starts (hide (deferred_none l (λ q. None)) registers) g fs s → Stands most total gs starts registers g fs s
-  all_shown l registers g fs s h = fewer_stand most total gs starts (hide (deferred_none l (λ q. None)) registers) registers g fs s (λ q v is. by l q v is) h
-    where
-      held : (b : Bool) (q v : ℕ) → registers q ≡ Some v → hidden (if b then None else None) (registers q) ≡ Some v
-      held true q v is = is
-      held false q v is = is
-
-      by : (l : Option Home) (q v : ℕ) → registers q ≡ Some v → hide (deferred_none l (λ q. None)) registers q ≡ Some v
-      by (Some (Reg r)) q v is = held (nat_eq q r) q v is
-      by _ q v is = is
-
   pub record Arguments (registers : Places) (g : Arrays) (fs : List Stored) (s : State) (hs : List Home) (facts : Facts) (t : ℕ) (xs vs : List ℕ) : Type 0 where
     pub regs : ℕ → ℕ
     pub runs : RunsTo (arguments_code (slice_get hs) facts t xs) s (record s { regs = regs })
@@ -197,23 +185,9 @@ module _ (most total : ℕ) (gs : List RGlobal) (starts : ℕ → ℕ) where
   all_denote registers g top fs s facts [] [] ok k lz h e = tt
   all_denote registers g top fs s facts [] (v ∷ vs) ok k lz h e = (let none : [] ≡ v ∷ vs = same_Some [] (v ∷ vs) e in let no = ap length none in absurd (omega (arith, no)))
   all_denote registers g top fs s facts (x ∷ xs) vs ok k lz h e =
-      first (λ ws rest. all_denote registers g top fs s facts xs ws ok k lz h rest) (read_home top.homes registers top.slots x) refl e
-    where
-      Again : Type 0
-      Again = (ws : List ℕ) → read_homes top.homes registers top.slots xs ≡ Some ws → AllDenote top.count s top.homes facts xs ws
-
-      first : Again → (o : Option ℕ) → read_home top.homes registers top.slots x ≡ o → chain o
-          (λ v. chain (read_homes top.homes registers top.slots xs) (λ vs. Some (v ∷ vs))) ≡ Some vs → AllDenote top.count s top.homes facts (x ∷ xs) vs
-      first again None there e = absurd (none-some vs e)
-      first again (Some v) there e = second (read_homes top.homes registers top.slots xs) refl e
-        where
-          second : (o : Option (List ℕ)) → read_homes top.homes registers top.slots xs ≡ o → chain o (λ vs. Some (v ∷ vs)) ≡ Some vs
-              → AllDenote top.count s top.homes facts (x ∷ xs) vs
-          second None rest e = absurd (none-some vs e)
-          second (Some ws) rest e = subst (AllDenote top.count s top.homes facts (x ∷ xs)) (same_Some (v ∷ ws) vs e) (
-            (operand_means most total gs starts facts.deferred registers g top fs s h lz (known_in facts) x v ok k there).0,
-            again ws rest,
-          )
+      let v = chain-some (read_home top.homes registers top.slots x) (λ v. chain (read_homes top.homes registers top.slots xs) (λ vs. Some (v ∷ vs))) vs e in
+      let ws = chain-some (read_homes top.homes registers top.slots xs) (λ (vs : List ℕ). Some (v.0 ∷ vs)) vs v.2 in
+      rw (← same_Some _ vs ws.2) ((operand_means h lz x v.0 ok k v.1).0, all_denote registers g top fs s facts xs ws.0 ok k lz h ws.1)
 
   -- an operand isn't in a register below its own
   operand_apart : (l : Option Home) (z k : Option ℕ) (t t' : ℕ) → t < t' → t < 8 → IsBehind l t' → IsApart t (deferred_source z (source k l))
@@ -256,9 +230,9 @@ module _ (most total : ℕ) (gs : List RGlobal) (starts : ℕ → ℕ) where
   arguments registers g top fs s facts t [] (v ∷ vs) above low high order d h = absurd d
   arguments registers g top fs s facts t (x ∷ xs) [] above low high order d h = absurd d
   arguments registers g top fs s facts t (x ∷ xs) (v ∷ vs) above low high order d h =
-      let one = carries most total gs starts registers g top fs s h t v (operand (slice_get top.homes) facts x)
+      let one = carries h t v (operand (slice_get top.homes) facts x)
       (record { low = low; high = omega (arith, high) }) d.0 in
-      let st = caller_saved_kept most total gs starts registers g (top ∷ fs) (carry t (operand (slice_get top.homes) facts x)) s t v above (omega (arith, high)) one h in
+      let st = caller_saved_kept h above (omega (arith, high)) one in
       let left = still_denote top.count t v s one.regs top.homes facts (suc t) xs vs (omega arith) (omega (arith, high)) order.1 one.others d.1 in
       let more = arguments registers g top fs (record s { regs = one.regs }) facts (suc t) xs vs above (omega arith) (omega (arith, high)) order.1 left st in
       record {
@@ -287,7 +261,7 @@ module _ (most total : ℕ) (gs : List RGlobal) (starts : ℕ → ℕ) where
 
   module _ (g : Arrays) (fs : List Stored) (P : Run → Type 0) (out : List ℕ) (failed : P (Failed out)) where
     pub parameters : (vs : List ℕ) (t x : ℕ) (registers : Places) (top : Stored) (s : State) (go : Places → Places → Run) → AreFrameHomes top.homes top.count
-        → 1 < t → t + length vs ≤ 8 → AreClear (slice_get top.homes) t x (length vs) → ((j v : ℕ) → slice_get vs j ≡ Some v → s.regs (t + j) ≡ v)
+        → 3 < t → t + length vs ≤ 8 → AreClear (slice_get top.homes) t x (length vs) → ((j v : ℕ) → slice_get vs j ≡ Some v → s.regs (t + j) ≡ v)
         → Stands most total gs starts registers g (top ∷ fs) s
         → ((registers' slots' : Places) (s' : State) → RunsTo (parameters_code (slice_get top.homes) t x (length vs)) s s'
         → Stands most total gs starts registers' g (with_slots top slots' ∷ fs) s' → P (go registers' slots'))
@@ -296,12 +270,12 @@ module _ (most total : ℕ) (gs : List RGlobal) (starts : ℕ → ℕ) where
     parameters (v ∷ vs) t x registers top s go ok low high clear here h f =
         let place : t + 0 ≡ t = omega arith in
         let is : s.regs t ≡ v = ap s.regs (sym place) ∙ here 0 v refl in
-        arrives most total gs starts (λ q. None) registers g top fs s h (none_deferred registers) P (λ r s. write_homes (cells top.homes r s) (suc x) vs out go) x v t out
-        low is (subst (λ v. v < 2 ^ 32) is ((h.words).regs t)) ok failed
+        arrives h P (λ r s. write_homes (cells top.homes r s) (suc x) vs out go) x v t out
+        (omega (arith, low)) is (subst (λ v. v < 2 ^ 32) is ((h.words).regs t)) ok failed
         (λ r1 slots1 s1 e1 h1 same.
         parameters vs (suc t) (suc x) r1 (with_slots top slots1) s1 go ok (omega (arith, low)) (omega (arith, high)) clear.1
         (λ j w there. (let next : suc t + j ≡ t + suc j = omega arith in let within = slice_get_within vs j w there in
-        same (suc t + j) (omega (arith, high, within)) (elsewhere (slice_get top.homes x) t (suc t + j) (omega arith) (omega (arith, high, within)) clear.0)
+        same.others (suc t + j) (omega (arith, low)) (elsewhere (slice_get top.homes x) t (suc t + j) (omega arith) (omega (arith, high, within)) clear.0)
         ∙ ap s.regs next) ∙ here (suc j) w there)
-        (all_shown (slice_get top.homes x) r1 g (with_slots top slots1 ∷ fs) s1 h1)
+        h1
         (λ r2 slots2 s2 e2 h2. f r2 slots2 s2 (runs_then e1 e2) h2))

@@ -33,11 +33,7 @@ use Rattle.mips_select.specs.Whole.{size_of_blocks, numbers, next_of, behind, bl
 use Rattle.mips_select.specs.Whole.{function_size, functions_size, entries_from, entry_of, owners_from, owners_for, functions_blocks, linking_for, program_blocks}
 
 pub behind_length : (p : Planning) (x : RExit) → suc (length (behind p x)) ≡ count p.heads x
-behind_length p (Call g xs d next) = go (resumes d (p.heads next))
-  where
-    go : (b : Bool) → suc (length (if b then [] else after_block p.frame d (p.place next) ∷ [])) ≡ (if b then 1 else 2)
-    go true = refl
-    go false = refl
+behind_length p (Call g xs d next) = grind arith
 behind_length p _ = refl
 
 -- each block takes a number

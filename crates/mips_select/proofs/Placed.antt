@@ -1,5 +1,5 @@
 -- The blocks for a program stand for it.
-use Rattle.std.proofs.Common.{◌≡◌, ℕ, zero, suc, ◌+◌, ◌*◌, ◌<◌, ◌≤◌, ◌⊎◌, inl, inr, Bool, true, false, true≢false, List, [], ◌∷◌, ◌++◌, length}
+use Rattle.std.proofs.Common.{◌≡◌, ℕ, zero, suc, ◌+◌, ◌*◌, ◌<◌, ◌≤◌, ◌⊎◌, inl, inr, Bool, true, false, List, [], ◌∷◌, ◌++◌, length}
 use Rattle.std.proofs.Common.{Option, Some, None, refl, sym, ap, ◌∙◌, subst, arith}
 use Rattle.std.specs.Prelude.{All, ◌&&◌, if◌then◌else◌, slice_get, slice_index}
 use Rattle.std.proofs.lemmas.Option.{same_Some, none-some, slice_get_within}
@@ -65,7 +65,7 @@ are_clear func f range seated t x (suc n) at few =
   where
     comes : (r : ℕ) → (8 ≤ r) ⊎ ((blocks_reach func.blocks.items x + 3 ≤ r) × (x < func.parameters → r ≡ 4 + x)) → (r ≤ t) ⊎ (8 ≤ r)
     comes r (inl high) = inr high
-    comes r (inr is) = (let same = is.1 (omega (arith, few)) in inl (omega (arith, same, at)))
+    comes r (inr is) = inl (omega (arith, is.1 (omega (arith, few)), at))
 
     here : (o : Option Home) → slice_get f.homes.items x ≡ o → IsClear o t
     here (Some (Reg r)) e = comes r (seated x r e)
@@ -194,28 +194,15 @@ module _ (whole : List BlockParts) (l : Linking) where
       f there f_there
 
 first_place : (k : ℕ) (bs : List RBlock) → heads_of bs 0 ≡ Enters → slice_index (numbers (heads_of bs) (k + lead_in (heads_of bs)) bs) 0 ≡ k
-first_place k [] e = absurd (bare_enters e)
-  where
-    is_bare : Head → Bool
-    is_bare Bare = true
-    is_bare Enters = false
-    is_bare (Takes d) = false
-
-    bare_enters : Bare ≡ Enters → ⊥
-    bare_enters e = true≢false (ap is_bare e)
+first_place k [] e = let no : Bare ≡ Enters = e in cc
 first_place k (b ∷ bs) e = ap (λ x. k + lead_of x) e ∙ omega arith
 
 no_take : (bs : List RBlock) (d : ℕ) → heads_of bs 0 ≡ Takes d → ⊥
 no_take bs d e = go (slice_get (namings bs (unnamed bs)) 0) e
   where
-    takes : Head → Bool
-    takes Bare = false
-    takes Enters = false
-    takes (Takes d) = true
-
     go : (o : Option Naming) → head_at 0 o ≡ Takes d → ⊥
-    go (Some (Called None)) e = true≢false (sym (ap takes e))
-    go _ e = true≢false (sym (ap takes e))
+    go (Some (Called None)) e = cc
+    go _ e = cc
 
 pub program_selected : (h : Homed) (depth most : ℕ) → IsProgram h.rtl.now → ((g : ℕ) (f : Frame) → slice_get h.frames.items g ≡ Some f → IsFrame most f)
     → ((g : ℕ) (func : RFunc) (f : Frame) → slice_get (h.rtl.now).functions g ≡ Some func → slice_get h.frames.items g ≡ Some f → AreSeated func f)

@@ -14,15 +14,6 @@ use Rattle.mblock.specs.UnitRuns.{wrong, exit_item, items}
 use Rattle.mips_select.specs.Split.{piece, pieces}
 use Rattle.mips_select.proofs.Places.{HasAt, has_head, has_tail}
 
-same_head : {A : Type 0} (x y : A) (xs ys : List A) → x ∷ xs ≡ y ∷ ys → x ≡ y
-same_head x y xs ys e = same_Some x y (ap (λ l. slice_get l 0) e)
-
-same_tail : {A : Type 0} (x y : A) (xs ys : List A) → x ∷ xs ≡ y ∷ ys → xs ≡ ys
-same_tail x y xs ys e = ap (drop 1) e
-
-none-cons : {A : Type 0} (x : A) (xs : List A) → [] ≡ x ∷ xs → ⊥
-none-cons x xs e = none-some x (ap (λ l. slice_get l 0) e)
-
 module _ (whole : List BlockParts) (links : ℕ → ℕ) where
   -- after i items or more, a run from there ends so
   pub record Reached (i k : ℕ) (part : List Plain) (s : State) (out : List ℕ) (end : Outcome) : Type 0 where
@@ -115,38 +106,40 @@ module _ (whole : List BlockParts) (links : ℕ → ℕ) where
         → Inside more k part (a ∷ rest)
         → ((more k : ℕ) (part : List Plain) → Inside more k part rest → Reached i k part (state_after (action_of a) s) out end)
         → Reached (suc i) k part s out (if is_safe (action_of a) s then end else wrong out)
-    steps zero k [] a rest i s out end at f = absurd (none-cons a rest at.same)
+    steps zero k [] a rest i s out end at f = let none : [] ≡ a ∷ rest = at.same in cc
     steps zero k (x ∷ part) a rest i s out end at f =
+        let same : x ∷ part ≡ a ∷ rest = at.same in
         let here : InLast k part rest =
-        record { same = same_tail x a part rest at.same; is_last = at.is_last; block = at.block; there = at.there; leaves = at.leaves } in
-        one_step k x a part i s out end (same_head x a part rest at.same) (f zero k part here)
+        record { same = cc; is_last = at.is_last; block = at.block; there = at.there; leaves = at.leaves } in
+        one_step k x a part i s out end (cc) (f zero k part here)
     steps (suc more) k [] a rest i s out end at f =
         let e = enters more (suc k) at.behind at.next at.is_last in
         entered (suc i) k at.block e.block (suc k) s out (if is_safe (action_of a) s then end else wrong out) at.there at.leaves e.there
         (steps more (suc k) e.block.insts a rest i s out end (subst (λ l. Inside more (suc k) e.block.insts l) (sym at.same) e.inside) f)
     steps (suc more) k (x ∷ part) a rest i s out end at f =
+        let same : a ∷ rest ≡ x ∷ (part ++ at.behind) = at.same in
         let here : InPiece more k part rest =
         record {
           behind = at.behind;
-          same = same_tail a x rest (part ++ at.behind) at.same;
+          same = cc;
           is_last = at.is_last;
           block = at.block;
           there = at.there;
           leaves = at.leaves;
           next = at.next;
         } in
-        one_step k x a part i s out end (sym (same_head a x rest (part ++ at.behind) at.same)) (f (suc more) k part here)
+        one_step k x a part i s out end (cc) (f (suc more) k part here)
 
     -- the exit of the block
     pub leaves_last : (more k : ℕ) (part : List Plain) (i : ℕ) (s : State) (out : List ℕ) (end : Outcome) → Inside more k part []
         → ((n : ℕ) × (i ≤ n) × (exit_item whole links last (Some (piece [] exit)) (items whole links n) s out ≡ end)) → Reached (suc i) k part s out end
-    leaves_last zero k (x ∷ part) i s out end at r = absurd (none-cons x part (sym at.same))
+    leaves_last zero k (x ∷ part) i s out end at r = let none : x ∷ part ≡ [] = at.same in cc
     leaves_last zero k [] i s out end at r = record {
       count = suc r.0;
       enough = (let enough = r.1 in omega (arith, enough));
       ends = cc (at.there, at.leaves, at.is_last, r.2);
     }
-    leaves_last (suc more) k (x ∷ part) i s out end at r = absurd (none-cons x (part ++ at.behind) at.same)
+    leaves_last (suc more) k (x ∷ part) i s out end at r = let none : [] ≡ x ∷ (part ++ at.behind) = at.same in cc
     leaves_last (suc more) k [] i s out end at r =
         let e = enters more (suc k) at.behind at.next at.is_last in
         entered (suc i) k at.block e.block (suc k) s out end at.there at.leaves e.there

@@ -9,7 +9,6 @@ use Rattle.std.proofs.lemmas.Bool.{and_parts}
 use Rattle.runs.specs.declared.ran.End.TheVariants.{Done}
 use Rattle.runs.specs.Runs.{Outcome}
 use Rattle.runs.specs.Stores.{Places, places_with, unset_places, Arrays}
-use Rattle.mips_isa.specs.declared.inst.PairTest.TheVariants.{NotEqual}
 use Rattle.mips_isa.specs.declared.inst.Plain.{Plain}
 use Rattle.mips_isa.specs.States.{State}
 use Rattle.mips_isa.specs.Starting.{stack_base, stack_end}
@@ -34,8 +33,8 @@ use Rattle.mips_emit.specs.declared.comparison.Comparison.{Comparison}
 use Rattle.mips_emit.specs.declared.facts.Last.{Last}
 use Rattle.mips_emit.specs.declared.location.Source.{Source}
 use Rattle.mips_emit.specs.Locations.{Facts, no_facts, known_in, locations, learned, known_after, fresh_of, last_operand}
-use Rattle.mips_emit.specs.Code.{move_code, inst_code, fetch, operand_register, carry}
-use Rattle.mips_emit.specs.Comparisons.{comparison_code, exit_by_form, comparison_of, asked_last, next_code, last_with, no_last, last_after}
+use Rattle.mips_emit.specs.Code.{move_code, inst_code, fetch, carry}
+use Rattle.mips_emit.specs.Comparisons.{comparison_code, comparison_of, asked_last, next_code, last_with, no_last, last_after}
 use Rattle.mips_emit.specs.Comparisons.{tested, branch_code, branch_exit, is_result, returned, return_code}
 use Rattle.mips_emit.specs.Frames.{IsFrame}
 use Rattle.mips_emit.proofs.Runs.{RunsTo, runs_none, runs_then, Point, At, Stopped, from, Leads, leads_nowhere, leads_then, leads_run, leads_exit}
@@ -50,10 +49,10 @@ use Rattle.mips_select.specs.Data.{padded_bytes, start_of}
 use Rattle.mips_select.specs.Plans.{Linking, Placing, placing_of}
 use Rattle.mips_select.specs.Code.{frame_words, frame_bytes, frame_link, stack_step, parameters_code, prologue, epilogue, asked_of, exit_code, exit_of, code_insts}
 use Rattle.mips_select.specs.declared.prologue.Direction.TheVariants.{Save}
-use Rattle.mips_select.specs.Code.{context_in, own_block, result_code, after_block, end_block}
+use Rattle.mips_select.specs.Code.{context_in, own_block, result_code, after_block}
 use Rattle.mips_select.specs.Selected.{AreClear, GoesOn, StandsAt, IsPlaced, IsFunction, IsSelected}
 use Rattle.mips_select.proofs.Departures.{read_length, branch_words, either, either_place, above_arguments, goes_by, same_exit, same_code}
-use Rattle.mips_select.proofs.Frames.{all_shown, all_denote, arguments, parameters}
+use Rattle.mips_select.proofs.Frames.{all_denote, arguments, parameters}
 use Rattle.mips_select.proofs.Returns.{return_found}
 use Rattle.mips_select.proofs.Calls.{stored_frame, frames_of, linked_frames, enters, leaves_frame}
 
@@ -183,36 +182,31 @@ module _ (h : Homed) (depth : ℕ) (blocks : List BlockParts) (ok : IsSelected h
   Reach n p (Failed out) = Unit {0}
   Reach n p run = Reached n p run
 
-  reached_after : (m n d : ℕ) (p q : Point) (run : Run) → m ≤ d + n → Lead d p q → Reached n q run → Reached m p run
-  reached_after m n d p q run le lead r = record {
-    to = r.to;
-    count = d + r.count;
-    enough = (let enough = r.enough in omega (arith, le, enough));
-    leads = leads_then blocks links d r.count p q r.to lead r.leads;
-    match = r.match;
-  }
+  reached_after : {m n d : ℕ} {p q : Point} {run : Run} → m ≤ d + n → Lead d p q → Reached n q run → Reached m p run
+  reached_after {d} le lead r =
+      record { to = r.to; count = d + r.count; enough = omega (arith, le, r.enough); leads = leads_then lead r.leads; match = r.match }
 
-  pub reach_after : (m n d : ℕ) (p q : Point) (run : Run) → m ≤ d + n → Lead d p q → Reach n q run → Reach m p run
-  reach_after m n d p q (Failed out) le lead x = tt
-  reach_after m n d p q run le lead x = reached_after m n d p q run le lead x
+  pub reach_after : (m n : ℕ) {d : ℕ} {p q : Point} (run : Run) → m ≤ d + n → Lead d p q → Reach n q run → Reach m p run
+  reach_after m n (Failed out) le lead x = tt
+  reach_after m n run le lead x = reached_after le lead x
 
   -- instructions up to the exit
-  pub code_leads : (k : ℕ) (is : List Plain) (s t : State) (out : List ℕ) → RunsTo is s t → Lead (length is) (At k is s out) (At k [] t out)
-  code_leads k is s t out e = subst (λ l. Lead (length is) (At k l s out) (At k [] t out)) (append-nil is) (leads_run blocks links k is [] s t out e)
+  pub code_leads : (k : ℕ) {is : List Plain} {s t : State} (out : List ℕ) → RunsTo is s t → Lead (length is) (At k is s out) (At k [] t out)
+  code_leads k {is} {s} {t} out e = subst (λ l. Lead (length is) (At k l s out) (At k [] t out)) (append-nil is) (leads_run k [] out e)
 
-  pub departs : (k : ℕ) (form : BlockParts) (x : Exit) (s : State) (out : List ℕ) (q : Point) → slice_get blocks k ≡ Some form → form.exit ≡ x → ((n : ℕ)
+  pub departs : {k : ℕ} {form : BlockParts} {x : Exit} {s : State} {out : List ℕ} {q : Point} → slice_get blocks k ≡ Some form → form.exit ≡ x → ((n : ℕ)
       → outcome_of_departure blocks links (exit_effect x s (links k)).goes (items blocks links n) (exit_effect x s (links k)).state out ≡ from blocks links n
       q) → Lead 1 (At k [] s out) q
-  departs k form x s out q there is e = leads_exit blocks links k form s out q there (λ n. rw is (e n))
+  departs there is e = leads_exit there (λ n. rw is (e n))
 
-  jump : (k : ℕ) (form : BlockParts) (t : ℕ) (target : BlockParts) (s : State) (out : List ℕ) → slice_get blocks k ≡ Some form → form.exit ≡ E.Goto t
+  jump : {k : ℕ} {form : BlockParts} {t : ℕ} {target : BlockParts} {s : State} {out : List ℕ} → slice_get blocks k ≡ Some form → form.exit ≡ E.Goto t
       → slice_get blocks t ≡ Some target → Lead 1 (At k [] s out) (At t target.insts s out)
-  jump k form t target s out there is at = departs k form (E.Goto t) s out (At t target.insts s out) there is (λ n. rw at)
+  jump there is at = departs there is (λ n. rw at)
 
   -- a block without head
-  no_head : (d : ℕ) (p : Point) (k : ℕ) (first code : List Plain) (s : State) (out : List ℕ) → first ≡ [] → Lead d p (At k (first ++ code) s out)
+  no_head : {d : ℕ} {p : Point} {k : ℕ} {first code : List Plain} {s : State} {out : List ℕ} → first ≡ [] → Lead d p (At k (first ++ code) s out)
       → Lead d p (At k code s out)
-  no_head d p k first code s out none lead = subst (λ first. Lead d p (At k (first ++ code) s out)) none lead
+  no_head none lead = rw none at lead
 
   -- one or more items lead there
   abbrev LeadOn : Point → Point → Type 0
@@ -225,23 +219,12 @@ module _ (h : Homed) (depth : ℕ) (blocks : List BlockParts) (ok : IsSelected h
       → ((slice_get blocks k ≡ Some (record { insts = code; exit = E.Goto t })) × (head ≡ [])) ⊎ ((k ≡ t) × (head ≡ code))
       → LeadOn p (At t rest s' out)
   through p k t target code head rest s s' out there is runs enter (inl at) =
-      let form : BlockParts = record { insts = code; exit = E.Goto t } in
-      let last = subst (λ l. Lead 1 (At k [] s' out) (At t l s' out)) is (jump k form t target s' out at.0 refl there) in (
-        1 + (length code + 1),
-        omega arith,
-        leads_then blocks links 1 (length code + 1) p (At k code s out) (At t rest s' out) (enter form at.0)
-            (leads_then blocks links (length code) 1 (At k code s out) (At k [] s' out) (At t rest s' out) (code_leads k code s s' out runs)
-            (no_head 1 (At k [] s' out) t head rest s' out at.1 last)),
-      )
+      let last = subst (λ l. Lead 1 (At k [] s' out) (At t l s' out)) is (jump at.0 refl there) in
+      (1 + (length code + 1), omega arith, leads_then (enter _ at.0) (leads_then (code_leads k out runs) (no_head at.1 last)))
   through p k t target code head rest s s' out there is runs enter (inr at) =
       let first : Lead 1 p (At k (code ++ rest) s out) =
-      subst (λ l. Lead 1 p (At k l s out)) (is ∙ ap (λ h. h ++ rest) at.1) (enter target (ap (slice_get blocks) at.0 ∙ there)) in (
-        1 + length code,
-        omega arith,
-        subst (λ t. Lead (1 + length code) p (At t rest s' out)) at.0
-            (leads_then blocks links 1 (length code) p (At k (code ++ rest) s out) (At k rest s' out) first
-            (leads_run blocks links k code rest s s' out runs)),
-      )
+      subst (λ l. Lead 1 p (At k l s out)) (is ∙ ap (λ h. h ++ rest) at.1) (enter target (ap (slice_get blocks) at.0 ∙ there)) in
+      (1 + length code, omega arith, subst (λ t. Lead (1 + length code) p (At t rest s' out)) at.0 (leads_then first (leads_run k rest out runs)))
 
   -- at the start of a block nothing is known
   starts_block : (r slots : Places) (a : Activation) (ws : List Activation) (g : Arrays) (out : List ℕ) (l : Lives a.frame a.blocks a.result_to ws)
@@ -343,9 +326,9 @@ module _ (h : Homed) (depth : ℕ) (blocks : List BlockParts) (ok : IsSelected h
       omega (arith, some, ok.room)
 
   -- the link leads back to a block
-  back : (k : ℕ) (form : BlockParts) (s : State) (out : List ℕ) (link n : ℕ) (target : BlockParts) → slice_get blocks k ≡ Some form → form.exit ≡ E.Return
+  back : {k : ℕ} {form : BlockParts} {s : State} {out : List ℕ} {link n : ℕ} {target : BlockParts} → slice_get blocks k ≡ Some form → form.exit ≡ E.Return
       → s.regs 31 ≡ link → return_block_of links link 0 blocks ≡ Some n → slice_get blocks n ≡ Some target → Lead 1 (At k [] s out) (At n target.insts s out)
-  back k form s out link n target there is at found next = departs k form E.Return s out (At n target.insts s out) there is (λ i. rw (at, found, next))
+  back there is at found next = departs there is (λ i. rw (at, found, next))
 
   -- a return, from a state in which the frame is gone
   returns : (p : Point) (d k : ℕ) (form : BlockParts) (a : Activation) (ws : List Activation) (link : ℕ) (below : List ℕ) (o : Option ℕ) (r : Places)
@@ -356,17 +339,14 @@ module _ (h : Homed) (depth : ℕ) (blocks : List BlockParts) (ok : IsSelected h
   returns p d k form a [] link below o r g out s there is at result st found lead =
       value_or_failed (λ run. Reach 1 p run) o out (λ v. Ended v out) tt (λ v o_v.
       let s1 = set s 4 (s.regs 2) in
-      let q = At 1 (move_code 4 2 ∷ []) s out in
-      let l1 = back k form s out link 1 end_block there is at found ok.end in
-      let l2 = code_leads 1 (move_code 4 2 ∷ []) s s1 out (moves s 4 2 st.words) in
+      let l1 : Lead 1 (At k [] s out) (At 1 (move_code 4 2 ∷ []) s out) = back there is at found ok.end in
       let value : s1.regs 4 ≡ v = put_here s.regs 4 (s.regs 2) (record { low = omega arith; high = omega arith }) ∙ result v o_v in
-      let l3 : Lead 1 (At 1 [] s1 out) (Stopped v out) = departs 1 end_block E.Halt s1 out (Stopped v out) ok.end refl (λ n. ap (λ w. halted w out) value) in
+      let l3 : Lead 1 (At 1 [] s1 out) (Stopped v out) = departs ok.end refl (λ n. ap (λ w. halted w out) value) in
       record {
         to = Stopped v out;
         count = d + (1 + (1 + 1));
         enough = omega arith;
-        leads = leads_then blocks links d (1 + (1 + 1)) p (At k [] s out) (Stopped v out) lead
-            (leads_then blocks links 1 (1 + 1) (At k [] s out) q (Stopped v out) l1 (leads_then blocks links 1 1 q (At 1 [] s1 out) (Stopped v out) l2 l3));
+        leads = leads_then lead (leads_then l1 (leads_then (code_leads 1 out (moves s 4 2 st.words)) l3));
         match = refl;
       })
   returns p d k form a (w ∷ ws) link [] o r g out s there is at result st waits lead = absurd waits
@@ -401,12 +381,12 @@ module _ (h : Homed) (depth : ℕ) (blocks : List BlockParts) (ok : IsSelected h
           let to = At (m.place m.next) rest s' out in
           let on = through (At k [] s out) m.number (m.place m.next) (own_block linking (placing_of false w.frame m.place) (m.head m.next) (m.at).next m.block)
           (result_code (locations w.frame) a.result_to) (m.head m.next) rest s s' out (m.at).there refl e
-          (λ target found. back k form s out link m.number target there is at m.found found) m.after in
+          (λ target found. back there is at m.found found) m.after in
           record {
             to = to;
             count = d + on.0;
             enough = (let some = on.1 in omega (arith, some));
-            leads = leads_then blocks links d on.0 p (At k [] s out) to lead on.2;
+            leads = leads_then lead on.2;
             match = subst (λ code. Match r' (at_code w slots' code) ws g out to) (sym m.code)
                 (starts_block r' slots' w ws g out lives m.next m.block s' m.at st');
           }
@@ -418,15 +398,12 @@ module _ (h : Homed) (depth : ℕ) (blocks : List BlockParts) (ok : IsSelected h
       put (Some x) f =
           value_or_failed (λ run. Reach 1 p run) o out (λ v. write_home (cells w.frame.homes.items (registers_at_return a.frame.saved.items a.aside r) w.slots) x v out again) tt (λ v o_v.
           let two = result v o_v in
-          arrives ok.most total gs starts (λ q. None) (registers_at_return a.frame.saved.items a.aside r) g (stored_frame false w.frame w.slots w.aside l)
-          (frames_of ws ls) s st (none_deferred (registers_at_return a.frame.saved.items a.aside r)) (λ run. Reach 1 p run) again x v 2 out
-          (omega arith) two (subst (λ v. v < 2 ^ 32) two ((st.words).regs 2)) (frame_homes ok.most w.frame m.frame) tt
-          (λ r' slots' s' e st' same. f r' slots' s' e
-          (all_shown ok.most total gs starts (slice_get w.frame.homes.items x) r' g (stored_frame false w.frame slots' w.aside l ∷ frames_of ws ls) s' st')))
+          arrives st (λ run. Reach 1 p run) again x v 2 out (omega arith) two (subst (λ v. v < 2 ^ 32) two ((st.words).regs 2)) (frame_homes ok.most w.frame m.frame) tt
+          (λ r' slots' s' e st' _. f r' slots' s' e st'))
 
   -- behind a block only callee-saved registers are known, and none of them has a word to come
   settled : (deferred r : Places) (g : Arrays) (fs : List Stored) (s : State) → AreDeferred deferred r → Stand (hide deferred r) g fs s → Stand (callee_saved r) g fs s
-  settled deferred r g fs s lz st = fewer_stand ok.most total gs starts (hide deferred r) (callee_saved r) g fs s (λ q v is. was q v (is_callee_saved q) refl (deferred q) refl is) st
+  settled deferred r g fs s lz st = fewer_stand st (λ q v is. was q v (is_callee_saved q) refl (deferred q) refl is)
     where
       was : (q v : ℕ) (c : Bool) → is_callee_saved q ≡ c → (o : Option ℕ) → deferred q ≡ o → (if c then r q else None) ≡ Some v → hide deferred r q ≡ Some v
       was q v false ec o eo e = absurd (none-some v e)
@@ -465,8 +442,7 @@ module _ (h : Homed) (depth : ℕ) (blocks : List BlockParts) (ok : IsSelected h
 
     -- what an exit reads is what the home holds
     means : (x v : ℕ) → Reads x v → Denotes stored.count s (operand x) v
-    means x v e = last_means ok.most total gs starts m.facts.deferred r g stored fs s m.stands m.are_deferred (known_in m.facts) m.last.fresh x v
-        (frame_homes ok.most a.frame m.frame) m.is_known m.is_last.fresh e
+    means x v e = last_means m.stands m.are_deferred x v (frame_homes ok.most a.frame m.frame) m.is_known m.is_last.fresh e
 
     -- on to a block without a head, behind some code
     goes_on : (code : List Plain) (b : ℕ) (out' : List ℕ) (s1 s2 : State) → RunsTo code s s1 → Stand (callee_saved r) g (stored ∷ fs) s2 → m.head b ≡ []
@@ -474,13 +450,7 @@ module _ (h : Homed) (depth : ℕ) (blocks : List BlockParts) (ok : IsSelected h
         → Reach 1 (At k code s out) (state_at_block b a a.slots (around (callee_saved r) ws g out'))
     goes_on code b out' s1 s2 runs st none leave =
         jumps (At k code s out) a ws m.lives b (callee_saved r) a.slots g out' s2 st (λ block stood.
-        let rest = block_code m.leaf a.frame m.place block in (
-          length code + 1,
-          omega arith,
-          leads_then blocks links (length code) 1 (At k code s out) (At k [] s1 out) (At (m.place b) rest s2 out') (code_leads k code s s1 out runs)
-              (no_head 1 (At k [] s1 out) (m.place b) (m.head b) rest s2 out' none
-              (leave (own_block linking placing (m.head b) stood.next block) stood.there)),
-        ))
+        (length code + 1, omega arith, leads_then (code_leads k out runs) (no_head none (leave (own_block linking placing (m.head b) stood.next block) stood.there))))
 
     -- back to the activation below, behind some code
     goes_back : (x : Option ℕ) → Leaving (Return x) → (code : List Plain) (o : Option ℕ) (s1 : State) → RunsTo code s s1
@@ -491,7 +461,7 @@ module _ (h : Homed) (depth : ℕ) (blocks : List BlockParts) (ok : IsSelected h
         (linked_frames ws m.below) st in
         let all = code ++ epilogue m.leaf a.frame in
         returns (At k all s out) (length all) k c.form a ws m.link m.below o (callee_saved r) g out e.to c.there c.exit e.link_is
-        (λ v is. e.same 2 (omega arith) ∙ result v is) e.stands m.waits (code_leads k all s e.to out (runs_then runs e.runs))
+        (λ v is. e.same 2 (omega arith) ∙ result v is) e.stands m.waits (code_leads k out (runs_then runs e.runs))
 
     branches : (x y z : ℕ) (c : Leaving (Branch x y z)) (v : ℕ) → Reads x v → (t : Option Comparison) → tested m.last.comparison x ≡ t
         → (known : Option ℕ) → known_in m.facts x ≡ known → c.form.exit ≡ branch_exit t known (operand x) (m.place y) (m.place z)
@@ -501,20 +471,18 @@ module _ (h : Homed) (depth : ℕ) (blocks : List BlockParts) (ok : IsSelected h
         let same : w ≡ v = same_Some w v (sym (m.is_known.by x w is_known) ∙ e) in
         let goes : c.form.exit ≡ E.Goto (m.place b) = cc (either_place m.place z y (nat_eq v 0)) in
         goes_on [] b out s s (runs_none s) (settles s m.stands) (either m.head z y (nat_eq v 0) c.leads_on)
-        (λ target there. jump k c.form (m.place b) target s out c.there goes there)
+        (λ target there. jump c.there goes there)
     branches x y z c v e None is_test None is_known is_exit =
-        let one = fetches ok.most total gs starts (hide m.facts.deferred r) g stored fs s m.stands 1 v (operand x) (omega arith) (omega arith)
-        (means x v e) in
+        let one = fetches m.stands 1 v (operand x) (omega arith) (omega arith) (means x v e) in
         let s1 : State = record s { regs = one.regs } in
         let b = if nat_eq v 0 then z else y in
         goes_on (fetch 1 (operand x)) b out s1 s1 one.runs (settles s1 one.stands) (either m.head z y (nat_eq v 0) c.leads_on) (λ target there.
-        departs k c.form (E.BranchPair NotEqual (operand_register 1 (operand x)) 0 (m.place y) (m.place z)) s1 out (At (m.place b) target.insts s1 out)
-        c.there is_exit (λ n. rw (one.here, branch_words m.place z y v (nat_eq v 0), there)))
+        departs c.there is_exit (λ n. rw (one.here, branch_words m.place z y v (nat_eq v 0), there)))
     branches x y z c v e (Some n) is_test known is_known is_exit =
         let b = if nat_eq v 0 then z else y in
         let taken : passes n.form n.left.source n.right.source s ≡ not (nat_eq v 0) = found m.last.comparison refl is_test in
         goes_on [] b out s s (runs_none s) (settles s m.stands) (either m.head z y (nat_eq v 0) c.leads_on) (λ target there.
-        departs k c.form (exit_by_form n.form n.left.source n.right.source (m.place y) (m.place z)) s out (At (m.place b) target.insts s out) c.there is_exit (λ i.
+        departs c.there is_exit (λ i.
         goes_by blocks links n.form n.left.source n.right.source (m.place y) (m.place z) k s out i
         ∙ rw (taken, branch_words m.place z y v (nat_eq v 0), there)))
       where
@@ -531,17 +499,14 @@ module _ (h : Homed) (depth : ℕ) (blocks : List BlockParts) (ok : IsSelected h
     outputs : (x next : ℕ) (c : Leaving (Out x next)) (v : ℕ) → Reads x v
         → Reach 1 (At k (carry 4 (operand x)) s out) (state_at_block next a a.slots (around (callee_saved r) ws g (out ++ v ∷ [])))
     outputs x next c v e =
-        let code = carry 4 (operand x) in
         let st0 = settles s m.stands in
-        let one = carries ok.most total gs starts (callee_saved r) g stored fs s st0 4 v (operand x)
-        (record { low = omega arith; high = omega arith }) (means x v e) in
-        let st1 = caller_saved_kept ok.most total gs starts (callee_saved r) g (stored ∷ fs) code s 4 v (above_arguments r) (omega arith) one st0 in
+        let one = carries st0 4 v (operand x) (record { low = omega arith; high = omega arith }) (means x v e) in
+        let st1 = caller_saved_kept st0 (above_arguments r) (omega arith) one in
         let s1 : State = record s { regs = one.regs } in
         let s2 = set s1 2 1 in
-        let st2 = words_kept ok.most total gs starts (callee_saved r) g (stored ∷ fs) s1 s2.regs (set_words s1 2 1 st1.words (omega arith))
-        (λ q low high. put_other s1.regs 2 1 q (omega (arith, low))) st1 in
-        goes_on code next (out ++ v ∷ []) s1 s2 one.runs st2 c.leads_on (λ target there.
-        departs k c.form (E.Out (m.place next)) s1 out (At (m.place next) target.insts s2 (out ++ v ∷ [])) c.there c.exit (λ n. rw (one.here, there)))
+        let st2 = words_kept st1 (set_words s1 2 1 st1.words (omega arith)) (λ q low _. put_other s1.regs 2 1 q (omega (arith, low))) in
+        goes_on (carry 4 (operand x)) next (out ++ v ∷ []) s1 s2 one.runs st2 c.leads_on (λ target there.
+        departs c.there c.exit (λ n. rw (one.here, there)))
 
     gives : (x : ℕ) → Leaving (Return (Some x)) → (v : ℕ) → Reads x v → (b : Bool) → returned m.last.comparison x ≡ b
         → Reach 1 (At k (return_code b (operand x) ++ epilogue m.leaf a.frame) s out) (state_after_return (Some v) a (callee_saved r) ws g out)
@@ -554,15 +519,13 @@ module _ (h : Homed) (depth : ℕ) (blocks : List BlockParts) (ok : IsSelected h
             m.is_last.result n v is (and_parts (is_result n.form) (nat_eq n.result x) t).0
             (ap (read_home a.frame.homes.items r a.slots) (eqb-true n.result x (and_parts (is_result n.form) (nat_eq n.result x) t).1) ∙ e)
     gives x c v e false is =
-        let one = carries ok.most total gs starts (hide m.facts.deferred r) g stored fs s m.stands 2 v (operand x)
-        (record { low = omega arith; high = omega arith }) (means x v e) in
-        let st1 = sets_kept ok.most total gs starts (hide m.facts.deferred r) g stored fs s m.stands (carry 2 (operand x)) 2 v (omega arith) one in
+        let one = carries m.stands 2 v (operand x) (record { low = omega arith; high = omega arith }) (means x v e) in
         let s1 : State = record s { regs = one.regs } in
-        goes_back (Some x) c (carry 2 (operand x)) (Some v) s1 one.runs (settles s1 st1) (λ w some. one.here ∙ same_Some v w some)
+        goes_back (Some x) c (carry 2 (operand x)) (Some v) s1 one.runs (settles s1 (sets_kept m.stands (omega arith) one)) (λ w some. one.here ∙ same_Some v w some)
 
     exits : (x : RExit) → Leaving x → Reach 1 (At k (exit_code m.leaf a.frame m.facts m.last x) s out) (state_after_exit h depth x a (around r ws g out))
     exits (Goto b) c = goes_on [] b out s s (runs_none s) (settles s m.stands) c.leads_on
-        (λ target there. jump k c.form (m.place b) target s out c.there c.exit there)
+        (λ target there. jump c.there c.exit there)
     exits (Branch x y z) c =
         value_or_failed (λ run. Reach 1 (At k (exit_code m.leaf a.frame m.facts m.last (Branch x y z)) s out) run)
         (read_home a.frame.homes.items r a.slots x) out _ tt
@@ -590,9 +553,8 @@ module _ (h : Homed) (depth : ℕ) (blocks : List BlockParts) (ok : IsSelected h
         (omega arith) (omega (arith, asked, count, few)) ((c.leads_on).0).1 denote (settled m.facts.deferred r g (kept ∷ fs) s m.are_deferred st) in
         let s1 : State = record s { regs = args.regs } in
         let s2 = set s1 31 (links k) in
-        let st2 = call_kept ok.most total gs starts (callee_saved r) g (kept ∷ fs) s1 s2.regs
-        (set_words s1 31 (links k) (args.stands).words (tells.words k)) (λ leaf. absurd (true≢false (sym leaf)))
-        (λ q low high. put_other s1.regs 31 (links k) q (omega (arith, high))) args.stands in
+        let st2 = call_kept args.stands (set_words s1 31 (links k) (args.stands).words (tells.words k)) (λ leaf. absurd (true≢false (sym leaf)))
+        (λ q low high. put_other s1.regs 31 (links k) q (omega (arith, high))) in
         let placed = subst (λ leaf. Placed leaf a.frame m.place m.head a.blocks) no_leaf m.placed in
         let resumes : Resumes (links k) result_to (waiting block) = record {
           place = m.place;
@@ -607,10 +569,9 @@ module _ (h : Homed) (depth : ℕ) (blocks : List BlockParts) (ok : IsSelected h
           code = refl;
           at = placed.by next block next_there;
         } in
-        let code = exit_code m.leaf a.frame m.facts m.last (Call f xs result_to next) in
-        reach_after 1 1 (length code) start (At k [] s1 out) _ (omega arith) (code_leads k code s s1 out args.runs)
+        reach_after 1 1 _ (omega arith) (code_leads k out args.runs)
         (entered (At k [] s1 out) f func callee is (callee_saved r) g (waiting block ∷ ws) (links k) result_to (m.link ∷ m.below) vs s2 out
-        (λ form there. departs k c.form (E.Call (ok.entry f) c.next) s1 out (At (ok.entry f) form.insts s2 out) c.there c.exit (λ n. rw there))
+        (λ form there. departs c.there c.exit (λ n. rw there))
         st2 (λ q passes. ap (λ b. if b then r q else None) passes) (put_here s1.regs 31 (links k) (record { low = omega arith; high = omega arith }))
         (λ j v there. (let low = slice_get_within vs j v there in put_other s1.regs 31 (links k) (4 + j) (omega (arith, low, count, few)))
         ∙ args.here j v there)
@@ -671,13 +632,13 @@ module _ (h : Homed) (depth : ℕ) (blocks : List BlockParts) (ok : IsSelected h
         let code = inst_code gs starts (locations a.frame) m.facts i in
         let now = learned (locations a.frame) i m.facts in
         let last = last_with None (fresh_of (locations a.frame) i) in
-        performs ok.most total gs starts g fs (λ run. Reach 1 (At k (code ++ behind is now last) s out) run) out tt i m.facts r stored s
+        performs g fs (λ run. Reach 1 (At k (code ++ behind is now last) s out) run) out tt i m.facts r stored s
         (λ r' s' g'. Running r' (at_code a s' (left is) ∷ ws) g' out) (frame_homes ok.most a.frame m.frame) m.is_known m.are_deferred m.are_bases m.stands
         (λ r' slots' g' s' some e st lz kp kn new. record {
           to = At k (behind is now last) s' out;
           count = length code;
           enough = some;
-          leads = leads_run blocks links k code (behind is now last) s s' out e;
+          leads = leads_run k (behind is now last) out e;
           match = matched is now last r' slots' g' s' c kn lz kp new st;
         })
     next i (j ∷ js) (Some n) is c = absurd (none_asked (locations a.frame) m.facts i n is)
@@ -692,7 +653,7 @@ module _ (h : Homed) (depth : ℕ) (blocks : List BlockParts) (ok : IsSelected h
           count = length code;
           enough = some;
           leads = subst (λ l. Lead (length code) (At k (code ++ rest) s out) (At k l s' out))
-              (same_code m.leaf a.frame m.facts now (waiting m.facts q u) i n a.code.exit is) (leads_run blocks links k code rest s s' out e);
+              (same_code m.leaf a.frame m.facts now (waiting m.facts q u) i n a.code.exit is) (leads_run k rest out e);
           match = matched [] (waiting m.facts q u) (last_with (Some n) None) (places_with r q (Some u)) a.slots g s'
               (record {
                 form = c.form;
@@ -716,8 +677,7 @@ module _ (h : Homed) (depth : ℕ) (blocks : List BlockParts) (ok : IsSelected h
     to = Stopped v out;
     count = 1;
     enough = omega arith;
-    leads = subst (λ p. Lead 1 p (Stopped v out)) (sym m)
-        (λ n. refl);
+    leads = rw m (record { by = λ n. refl });
     match = refl;
   }
   advances (Running r [] g out) p m = absurd m
@@ -731,13 +691,13 @@ module _ (h : Homed) (depth : ℕ) (blocks : List BlockParts) (ok : IsSelected h
   stays : (run : Run) (p : Point) → MatchRun run p → Reach 0 p run
   stays (Running r [] g out) p m = absurd m
   stays (Failed out) p m = tt
-  stays _ p m = record { to = p; count = 0; enough = omega arith; leads = leads_nowhere blocks links p; match = m }
+  stays _ p m = record { to = p; count = 0; enough = omega arith; leads = leads_nowhere p; match = m }
 
   -- one step, and then more
   after_one : (n : ℕ) (p : Point) (run : Run) → Reach 1 p run → ((run : Run) (q : Point) → MatchRun run q → Reach n q (homed_steps h depth n run))
       → Reach (suc n) p (homed_steps h depth n run)
   after_one n p (Failed out) a f = subst (λ run. Reach (suc n) p run) (sym (failed_steps n out)) tt
-  after_one n p run a f = reach_after (suc n) n a.count p a.to _ (omega (arith, a.enough)) a.leads (f run a.to a.match)
+  after_one n p run a f = reach_after (suc n) n _ (omega (arith, a.enough)) a.leads (f run a.to a.match)
 
   -- as many items as steps, at least
   runs : (n : ℕ) (run : Run) (p : Point) → MatchRun run p → Reach n p (homed_steps h depth n run)
@@ -745,4 +705,4 @@ module _ (h : Homed) (depth : ℕ) (blocks : List BlockParts) (ok : IsSelected h
   runs (suc n) run p m = after_one n p (homed_step h depth run) (advances run p m) (λ run q m. runs n run q m)
 
   pub then_runs : (n : ℕ) (p : Point) (run : Run) → Reach 1 p run → Reach n p (homed_steps h depth n run)
-  then_runs n p run a = reach_after n (suc n) 0 p p _ (omega arith) (leads_nowhere blocks links p) (after_one n p run a (λ run q m. runs n run q m))
+  then_runs n p run a = reach_after n (suc n) _ (omega arith) (leads_nowhere p) (after_one n p run a (λ run q m. runs n run q m))

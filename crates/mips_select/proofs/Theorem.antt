@@ -14,7 +14,6 @@ use Rattle.mips_isa.specs.States.{State, IsWords, byte_of, load_word, load_byte}
 use Rattle.mips_isa.specs.Starting.{data_base, stack_base, stack_end, first_bytes, start_state}
 use Rattle.mips_isa.specs.Actions.{action_of}
 use Rattle.mips_isa.proofs.StateWords.{start_words}
-use Rattle.mblock.specs.declared.exit.Exit.TheVariants as E
 use Rattle.mblock.specs.declared.limits.TheConstants.{UNIT_BYTES}
 use Rattle.mblock.specs.Parts.{BlockParts}
 use Rattle.mblock.specs.UnitRuns.{unit_run, TellsApart}
@@ -38,7 +37,7 @@ use Rattle.mips_select.specs.Selected.{IsSelected, KeepHomedRuns}
 use Rattle.mips_select.proofs.DataPlaces.{HaveValues, have_values, data_fits, element_within, element_byte, start_even, elements_apart, data_below}
 use Rattle.mips_select.proofs.DataPlaces.{values_below}
 use Rattle.mips_select.proofs.Returns.{return_found}
-use Rattle.mips_select.proofs.Simulation.{total, Lead, Reach, code_leads, departs, reach_after, entered, then_runs}
+use Rattle.mips_select.proofs.Simulation.{Lead, Reach, code_leads, departs, reach_after, entered, then_runs}
 
 -- what a function saves is unset at the start as it is
 entry_unset : (saved : List ℕ) → registers_at_entry saved unset_places ≡ unset_places
@@ -146,17 +145,14 @@ module _ (h : Homed) (depth : ℕ) (blocks : List BlockParts) (ok : IsSelected h
       let st0 = start_holds globals values few ok.most c.regs (run_words (map action_of (constant 28 data_middle)) s s0
       (start_words (padded_bytes globals) (data_below globals)) (c.runs).ends) (c.others 29 (λ e. absurd (omega (arith, e)))) c.here in
       let s1 = set s0 31 (links 0) in
-      let st1 = call_kept ok.most (total h depth blocks ok links tells) globals (start_of globals) unset_places arrays [] s0 s1.regs
-      (set_words s0 31 (links 0) st0.words (tells.words 0)) tt (λ q low high. put_other s0.regs 31 (links 0) q (omega (arith, high))) st0 in
+      let st1 = call_kept st0 (set_words s0 31 (links 0) st0.words (tells.words 0)) tt (λ q low high. put_other s0.regs 31 (links 0) q (omega (arith, high))) in
       let first = start_block (ok.entry main) in
-      reach_after h depth blocks ok links tells 1 1 2 start (At 0 [] s0 []) _ (omega arith)
-      (code_leads h depth blocks ok links tells 0 (constant 28 data_middle) s s0 [] c.runs)
+      reach_after h depth blocks ok links tells 1 1 _ (omega arith) (code_leads h depth blocks ok links tells 0 [] c.runs)
       (subst (λ registers. Comes 1 (At 0 [] s0 [])
       (state_at_block 0 (new_activation func.blocks.items frame unset_places unset_places None) unset_places (around registers [] arrays [])))
       (entry_unset frame.saved.items)
       (entered h depth blocks ok links tells (At 0 [] s0 []) main func frame is unset_places arrays [] (links 0) None [] [] s1 []
-      (λ form there. departs h depth blocks ok links tells 0 first (E.Call (ok.entry main) 1) s0 [] (At (ok.entry main) form.insts s1 []) ok.start refl
-      (λ n. rw there)) st1 (λ q passes. refl)
+      (λ form there. departs h depth blocks ok links tells ok.start refl (λ n. rw there)) st1 (λ q passes. refl)
       (put_here s0.regs 31 (links 0) (record { low = omega arith; high = omega arith })) (λ j v at. absurd (none-some v at)) (sym none)
       (omega (arith, ok.small)) (return_found links blocks 0 (ok.entry main) 1 first tells ok.start refl)))))
 
@@ -164,7 +160,7 @@ module _ (h : Homed) (depth : ℕ) (blocks : List BlockParts) (ok : IsSelected h
       → unit_run blocks links s count ≡ u
   led count to u lead e =
       let none : count ≡ count + 0 = omega arith in
-      rw ok.start (ap (λ n. from blocks links n start) none ∙ lead 0 ∙ e)
+      rw ok.start (ap (λ n. from blocks links n start) none ∙ lead.by 0 ∙ e)
 
   same_end : (n : ℕ) (run : Run) → Comes n start run → (outcome run).end ≢ Wrong → (i : ℕ) × (n ≤ i) × (unit_run blocks links s i ≡ outcome run)
   same_end n (Running r [] g out) x ne = absurd x.match

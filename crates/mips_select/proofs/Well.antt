@@ -1,8 +1,9 @@
 -- Pieces are short, go to pieces that exist, and keep their functions together.
-use Rattle.std.proofs.Common.{◌≡◌, ◌≢◌, ℕ, zero, suc, ◌+◌, ◌<◌, ◌≤◌, ◌==◌, ◌⊎◌, inl, inr, Bool, true, false, List, [], ◌∷◌, length}
+use Rattle.std.proofs.Common.{◌≡◌, ◌≢◌, ℕ, zero, suc, ◌+◌, ◌<◌, ◌≤◌, ◌==◌, ◌⊎◌, inl, inr, Bool, true, false, List, [], ◌∷◌, length, ⊎_elim}
 use Rattle.std.proofs.Common.{length-append, Some, refl, sym, ap, ◌∙◌, subst, arith, eqb-true, eq-eqb, true≢false}
 use Rattle.std.specs.Prelude.{slice_get, slice_index, replicate}
 use Rattle.std.proofs.lemmas.List.{length-replicate}
+use Rattle.std.proofs.lemmas.Bool.{cases_eq}
 use Rattle.std.proofs.lemmas.Option.{same_Some, none-some, slice_get_within}
 use Rattle.mblock.specs.declared.exit.Exit.{Exit}
 use Rattle.mblock.specs.declared.exit.Exit.TheVariants.{Goto, BranchPair, BranchZero, Call, Out}
@@ -105,17 +106,11 @@ module _ (most : ℕ) (some : 0 < most) (blocks : List BlockParts) where
   goes_below _ low = tt
 
   pub pieces_linked : AreLinked blocks → AreLinked whole
-  pieces_linked linked = record { by = λ i p there. by_piece i p (piece_of i p there) }
-    where
-      by_piece : (i : ℕ) (p : BlockParts) → Piece i p → GoesBelow (length whole) p.exit
-      by_piece i p is = go is.looks.leaves
-        where
-          go : ((is.at.behind ≡ more_pieces most is.at.block) × (p.exit ≡ renumbered_exit place is.at.block.exit)) ⊎
-              ((is.at.behind < more_pieces most is.at.block) × (p.exit ≡ Goto (suc (place is.at.number + is.at.behind)))) → GoesBelow (length whole) p.exit
-          go (inl last) = subst (λ x. GoesBelow (length whole) x) (sym last.1) (goes_below is.at.block.exit (linked.by is.at.number is.at.block is.at.there))
-          go (inr other) =
-              let next = piece_there is.at.number is.at.block is.at.there (suc is.at.behind) (omega (arith, other.0)) in
-              subst (λ x. GoesBelow (length whole) x) (sym other.1) (omega (arith, next))
+  pieces_linked linked = record {
+    by = λ i p there. let q = piece_of i p there in ⊎_elim
+        (λ last. rw last.1 (goes_below q.at.block.exit (linked.by q.at.number q.at.block q.at.there)))
+        (λ other. rw other.1 (omega (arith, piece_there q.at.number q.at.block q.at.there (suc q.at.behind) (omega (arith, other.0))))) q.looks.leaves;
+  }
 
   module _ (owner : List ℕ) (owners : AreOwners blocks owner) where
     abbrev owned : List ℕ
@@ -164,25 +159,14 @@ module _ (most : ℕ) (some : 0 < most) (blocks : List BlockParts) where
         }
 
     pieces_within : (i o : ℕ) (p : BlockParts) → slice_get whole i ≡ Some p → slice_get owned i ≡ Some o → BranchesWithin owned o p.exit
-    pieces_within i o p there is = by_piece (piece_of i p there)
-      where
-        by_piece : Piece i p → BranchesWithin owned o p.exit
-        by_piece q =
-            let n = q.at.number in
-            let low = slice_get_within blocks n q.at.block q.at.there in
-            let w = block_there owner n (omega (arith, low, owners.lengths)) in
-            let o_is : place w.0 ≡ o =
-            same_Some (place w.0) o
-            (sym (piece_owner n w.0 q.at.block q.at.there w.1 q.at.behind q.at.within) ∙ sym (ap (slice_get owned) q.is) ∙ is) in
-            go w.0 o_is (owners.within n w.0 q.at.block q.at.there w.1) q.looks.leaves
-          where
-            go : (w : ℕ) → place w ≡ o → BranchesWithin owner w q.at.block.exit
-                → ((q.at.behind ≡ more_pieces most q.at.block) × (p.exit ≡ renumbered_exit place q.at.block.exit)) ⊎
-                ((q.at.behind < more_pieces most q.at.block) × (p.exit ≡ Goto (suc (place q.at.number + q.at.behind)))) → BranchesWithin owned o p.exit
-            go w e within (inl last) =
-                subst (λ x. BranchesWithin owned o x) (sym last.1)
-                (subst (λ o. BranchesWithin owned o (renumbered_exit place q.at.block.exit)) e (stays_within w q.at.block.exit within))
-            go w e within (inr other) = subst (λ x. BranchesWithin owned o x) (sym other.1) tt
+    pieces_within i o p there is =
+        let q = piece_of i p there in
+        let n = q.at.number in
+        let low = slice_get_within blocks n q.at.block q.at.there in
+        let w = block_there owner n (omega (arith, low, owners.lengths)) in
+        let o_is : o ≡ place w.0 =
+        same_Some o (place w.0) (sym is ∙ ap (slice_get owned) q.is ∙ piece_owner n w.0 q.at.block q.at.there w.1 q.at.behind q.at.within) in
+        ⊎_elim (λ last. rw (last.1, o_is) (stays_within w.0 q.at.block.exit (owners.within n w.0 q.at.block q.at.there w.1))) (λ other. rw other.1 tt) q.looks.leaves
 
     starts_first : (w n j : ℕ) → slice_get owner n ≡ Some w → 0 ≡ place n + j → place w ≡ 0
     starts_first w zero j is e =
@@ -203,21 +187,14 @@ module _ (most : ℕ) (some : 0 < most) (blocks : List BlockParts) where
     continues_from i w zero zero b there le is e other =
         let first = first_zero most blocks in
         absurd (omega (arith, first, e))
-    continues_from i w (suc m) zero b there le is e other =
-        by_test (w == suc m) refl
-      where
-        by_test : (test : Bool) → (w == suc m) ≡ test → slice_get owned i ≡ Some (place w)
-        by_test true same =
-            let at : w ≡ suc m = eqb-true w (suc m) same in
-            let here : place (suc m) ≡ suc i = omega (arith, e) in
-            absurd (other (ap place at ∙ here))
-        by_test false same =
-            let before : slice_get owner m ≡ Some w = owners.continues (suc m) w is (λ at. true≢false (sym (eq-eqb w (suc m) at) ∙ same)) in
-            let low = slice_get_within owner m w before in
-            let a = block_there blocks m (omega (arith, low, owners.lengths)) in
-            let next = first_next most 0 blocks m a.0 b a.1 there in
-            let here : i ≡ place m + more_pieces most a.0 = omega (arith, next, e) in
-            ap (slice_get owned) here ∙ piece_owner m w a.0 a.1 before (more_pieces most a.0) (omega arith)
+    continues_from i w (suc m) zero b there le is e other = ⊎_elim
+        (λ at. (let here : place (suc m) ≡ suc i = omega (arith, e) in absurd (other (ap place at ∙ here))))
+        (λ ne. (let before : slice_get owner m ≡ Some w = owners.continues (suc m) w is ne in
+        let low = slice_get_within owner m w before in
+        let a = block_there blocks m (omega (arith, low, owners.lengths)) in
+        let next = first_next most 0 blocks m a.0 b a.1 there in
+        let here : i ≡ place m + more_pieces most a.0 = omega (arith, next, e) in
+        ap (slice_get owned) here ∙ piece_owner m w a.0 a.1 before (more_pieces most a.0) (omega arith))) (cases_eq w (suc m))
 
     pieces_continue : (i o : ℕ) → slice_get owned i ≡ Some o → Continues owned i o
     pieces_continue i o is =
