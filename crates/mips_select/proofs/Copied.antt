@@ -1,7 +1,7 @@
 -- The copies of a function's slots are in registers of their own.
-use Rattle.std.proofs.Common.{◌≡◌, ℕ, zero, suc, ◌<◌, ◌≤◌, Bool, true, false, List, [], ◌∷◌, Some}
+use Rattle.std.proofs.Common.{◌≡◌, ℕ, zero, suc, ◌<◌, ◌≤◌, false, List, [], ◌∷◌, Some}
 use Rattle.std.proofs.Common.{refl, sym, ap, ◌∙◌, arith, true≢false}
-use Rattle.std.specs.Prelude.{if◌then◌else◌, slice_get}
+use Rattle.std.specs.Prelude.{slice_get}
 use Rattle.std.proofs.lemmas.Option.{same_Some, none-some}
 use Rattle.std.proofs.lemmas.Bool.{cond_both}
 use Rattle.rtl.specs.declared.block.RBlock.{RBlock}
@@ -48,10 +48,7 @@ abbrev pub ArePlain : List Home → Type 0
 ArePlain hs = (x : ℕ) (h : Home) → slice_get hs x ≡ Some h → cell h ≡ h
 
 pub no_copies : (hs : List Home) → ArePlain hs → HaveNoCopies hs
-no_copies hs plain x r k e = other (plain x (Copied r k) e)
-  where
-    other : Slot k ≡ Copied r k → ⊥
-    other e = absurd cc
+no_copies hs plain x r k e = let other : Slot k ≡ Copied r k = plain x (Copied r k) e in cc
 
 no_copy : (h : Home) (hs : List Home) (q i : ℕ) → ArePlain (h ∷ hs) → h ≡ Copied q i → ⊥
 no_copy h hs q i plain e = no_copies (h ∷ hs) plain 0 q i (ap Some e)
@@ -106,13 +103,9 @@ module _ (hs : List Home) (plain : ArePlain hs) where
   }
 
 pub copies_are : (bs : List RBlock) (hs : List Home) → ArePlain hs → AreCopies (copied bs hs)
-copies_are bs hs plain = go (is_leaf bs)
-  where
-    go : (b : Bool) → AreCopies (if b then copied_onto (unused hs temporaries) hs else hs)
-    go true = are_copies hs plain
-    go false = record {
-      range = λ x r k e. absurd (no_copies hs plain x r k e);
-      caller_saved = λ x r k e. absurd (no_copies hs plain x r k e);
-      once = λ x y r j k e f. absurd (no_copies hs plain x r j e);
-      idle = λ x y r k at e. no_copies hs plain y r k e;
-    }
+copies_are bs hs plain = cond_both (is_leaf bs) (copied_onto (unused hs temporaries) hs) hs AreCopies (λ _. are_copies hs plain) (λ _. record {
+  range = λ x r k e. absurd (no_copies hs plain x r k e);
+  caller_saved = λ x r k e. absurd (no_copies hs plain x r k e);
+  once = λ x y r j k e f. absurd (no_copies hs plain x r j e);
+  idle = λ x y r k at e. no_copies hs plain y r k e;
+})

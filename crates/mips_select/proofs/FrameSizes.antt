@@ -1,8 +1,9 @@
 -- Frames of chosen homes are no larger than their functions say.
-use Rattle.std.proofs.Common.{◌≡◌, ◌≢◌, ℕ, zero, suc, ◌+◌, ◌-◌, ◌*◌, ◌<◌, ◌≤◌, ◌⊎◌, inl, inr, Bool, true, false, List, [], ◌∷◌, length, Option, Some, None, refl}
-use Rattle.std.proofs.Common.{sym, ap, ◌∙◌, subst, arith, nat_eq, eqb-true}
+use Rattle.std.proofs.Common.{◌≡◌, ℕ, zero, suc, ◌+◌, ◌-◌, ◌<◌, ◌≤◌, ◌⊎◌, inl, inr, true, false, List, [], ◌∷◌, length, Option, Some, None, refl}
+use Rattle.std.proofs.Common.{sym, ap, ◌∙◌, subst, arith, nat_eq}
 use Rattle.std.specs.Prelude.{if◌then◌else◌, slice_get, slice_index}
-use Rattle.std.proofs.lemmas.Bool.{eqb-false, cond_both}
+use Rattle.std.proofs.lemmas.Bool.{cond_both}
+use Rattle.std.proofs.lemmas.Bool.Decides.{nat_tests}
 use Rattle.std.proofs.lemmas.Option.{same_Some, none-some, slice_get_within, slice_get-get_or}
 use Rattle.rtl.specs.declared.block.RFunc.{RFunc}
 use Rattle.rtl.specs.Names.{how_many}
@@ -13,15 +14,13 @@ use Rattle.mips_homes.specs.declared.homed.Homed.{Homed}
 use Rattle.mips_homes.specs.Choice.{IsChoice}
 use Rattle.mips_homes.specs.Preferences.{blocks_reach}
 use Rattle.mips_homes.specs.Places.{some_slot, IsPlacedFor, ArePlaced}
-use Rattle.mips_homes.proofs.Located.{GetsTemporaryIn, uncopied, is_plain, within, seated, case_of, places_long_as, placed_apart, still_was, still_few, has_slot, same_register}
-use Rattle.mips_emit.specs.declared.limits.TheConstants.{FRAME_BYTES}
+use Rattle.mips_homes.proofs.Located.{GetsTemporaryIn, uncopied, is_plain, within, seated, case_of, places_long_as, placed_apart, still_was, still_few, has_slot}
 use Rattle.mips_homes.specs.Convention.{temporaries}
 use Rattle.mips_homes.specs.Homes.{cell}
 use Rattle.mips_homes.specs.Copies.{is_leaf, is_slot, unused, copied_onto}
 use Rattle.mips_emit.specs.Frames.{IsHome, AreCopies, HaveNoCopies, frame_size, IsFrame}
 use Rattle.mips_select.proofs.Copied.{copies_are, no_copies}
 use Rattle.mips_select.proofs.Places.{block_there}
-use Rattle.mips_select.specs.declared.limits.TheConstants.{STACK_BYTES}
 use Rattle.mips_select.specs.Emittable.{AreReachable}
 use Rattle.mips_select.specs.Limits.{frame_bytes_of, largest_frame, largest_by_homes, FramesFit, HaveRoom}
 
@@ -30,29 +29,13 @@ few : (m n : ℕ) (f : ℕ → ℕ) → ((j : ℕ) → j < n → f j < m) → ((
 few m zero f below apart = omega arith
 few zero (suc n) f below apart = (let no = below 0 (omega arith) in absurd (omega (arith, no)))
 few (suc m) (suc n) f below apart =
-    let rest = few m n g (λ j lt. g_below j lt (nat_eq (f j) m) refl) (λ i j li lj e. g_apart i j li lj (nat_eq (f i) m) (nat_eq (f j) m) refl refl e) in
-    omega (arith, rest)
-  where
     -- the last one takes the place of m
-    g : ℕ → ℕ
-    g j = if nat_eq (f j) m then f n else f j
-
-    g_below : (j : ℕ) → j < n → (b : Bool) → nat_eq (f j) m ≡ b → (if b then f n else f j) < m
-    g_below j lt true e =
-        let is : f j ≡ m = eqb-true (f j) m e in
-        let low = below n (omega arith) in
-        let other : f n ≢ m = λ same. (let no : j ≡ n = apart j n (omega (arith, lt)) (omega arith) (is ∙ sym same) in absurd (omega (arith, no, lt))) in
-        omega (arith, low, other)
-    g_below j lt false e =
-        let other : f j ≢ m = eqb-false (f j) m e in
-        let low = below j (omega (arith, lt)) in
-        omega (arith, low, other)
-
-    g_apart : (i j : ℕ) → i < n → j < n → (b c : Bool) → nat_eq (f i) m ≡ b → nat_eq (f j) m ≡ c → (if b then f n else f i) ≡ (if c then f n else f j) → i ≡ j
-    g_apart i j li lj true true eb ec e = apart i j (omega (arith, li)) (omega (arith, lj)) (eqb-true (f i) m eb ∙ sym (eqb-true (f j) m ec))
-    g_apart i j li lj true false eb ec e = (let no : n ≡ j = apart n j (omega arith) (omega (arith, lj)) e in absurd (omega (arith, no, lj)))
-    g_apart i j li lj false true eb ec e = (let no : i ≡ n = apart i n (omega (arith, li)) (omega arith) e in absurd (omega (arith, no, li)))
-    g_apart i j li lj false false eb ec e = apart i j (omega (arith, li)) (omega (arith, lj)) e
+    let last = below n (omega arith) in
+    let rest = few m n (λ j. if nat_eq (f j) m then f n else f j)
+    (λ j lt. let low = below j (omega (arith, lt)) in let other = apart j n (omega (arith, lt)) (omega arith) in grind (arith, nat_tests, low, last, other))
+    (λ i j li lj e. let both = apart i j (omega (arith, li)) (omega (arith, lj)) in let first = apart n j (omega arith) (omega (arith, lj)) in
+    let second = apart i n (omega (arith, li)) (omega arith) in grind (arith, nat_tests, both, first, second)) in
+    omega (arith, rest)
 
 -- the frame of a choice is within reach
 record IsFitting (most : ℕ) (f : Frame) : Type 0 where
@@ -107,10 +90,7 @@ module _ (func : RFunc) (f : Frame) (ok : IsChoice func f) where
       apart : (i j : ℕ) → i < length f.saved.items → j < length f.saved.items → chosen i (slice_get f.saved.items i) refl ≡ chosen j
           (slice_get f.saved.items j) refl → i ≡ j
       apart i j li lj e =
-          let homes : Reg (slice_index f.saved.items j) ≡ Reg (slice_index f.saved.items i) = same_Some (Reg (slice_index f.saved.items j))
-          (Reg (slice_index f.saved.items i)) (sym (home j lj) ∙ ap (slice_get f.homes.items) (sym e) ∙ home i li) in
-          let same : slice_index f.saved.items j ≡ slice_index f.saved.items i = same_register (slice_index f.saved.items j) (slice_index f.saved.items i)
-          homes in
+          let same : slice_index f.saved.items j ≡ slice_index f.saved.items i = cc (home i li, home j lj) in
           ok.saved_once i j (slice_index f.saved.items i) (saved_at i li) (saved_at j lj ∙ ap Some same)
 
   is_frame : (most : ℕ) → frame_bytes_of func ≤ most → IsFitting most f
@@ -159,16 +139,13 @@ placed_is_frame func f q most le = record {
         let slots : f.slots ≡ (q.choice).slots = (q.placed).slots ∙ ap (λ c. if c then (q.choice).slots else 0) (has_slot f.homes.items x h there slot) in
         omega (arith, lt, slots)
 
-    no_register : (k r : ℕ) → Slot k ≡ Reg r → ⊥
-    no_register k r e = absurd cc
-
     home : (x : ℕ) (h : Home) → slice_get f.homes.items x ≡ Some h → (slice_get (q.choice).homes.items x ≡ Some (cell h)) ⊎ GetsTemporaryIn func q.choice f q.is q.placed x (cell h)
         → IsHome f.slots h
     home x (Reg r) there e = within func q.choice f q.is q.placed x r there
     home x (Slot k) there (inl e) = in_slot x (Slot k) k there refl e
-    home x (Slot k) there (inr p) = absurd (no_register k p.r p.is)
+    home x (Slot k) there (inr p) = let no : Slot k ≡ Reg p.r = p.is in cc
     home x (Copied r k) there (inl e) = in_slot x (Copied r k) k there refl e
-    home x (Copied r k) there (inr p) = absurd (no_register k p.r p.is)
+    home x (Copied r k) there (inr p) = let no : Slot k ≡ Reg p.r = p.is in cc
 
 -- a function with calls has no copies
 pub are_alone : (h : Homed) → ArePlaced h → (g : ℕ) (func : RFunc) (f : Frame) → slice_get (h.rtl.now).functions g ≡ Some func
@@ -183,8 +160,7 @@ are_alone h ok g func f there at calls =
 
 largest_bounds : (funcs : List RFunc) (g : ℕ) (func : RFunc) → slice_get funcs g ≡ Some func → frame_bytes_of func ≤ largest_frame funcs
 largest_bounds [] g func there = absurd (none-some func there)
-largest_bounds (x ∷ funcs) zero func there =
-    subst (λ (func : RFunc). frame_bytes_of func ≤ largest_frame (x ∷ funcs)) (same_Some x func there) (omega arith)
+largest_bounds (x ∷ funcs) zero func there = rw (← same_Some x func there) (omega arith)
 largest_bounds (x ∷ funcs) (suc g) func there = omega (arith, largest_bounds funcs g func there)
 
 pub are_frames : (h : Homed) → ArePlaced h → (g : ℕ) (f : Frame) → slice_get h.frames.items g ≡ Some f → IsFrame (largest_frame (h.rtl.now).functions) f
@@ -215,19 +191,10 @@ largest_same h ok = homes_many (h.rtl.now).functions h.frames.items ok.long (λ 
 
 pub fit_from_room : (h : Homed) (depth : ℕ) → ArePlaced h → HaveRoom h.frames.items depth → FramesFit h.rtl.now depth
 fit_from_room h depth ok room =
-    let same = largest_same h ok in
-    record {
-      frames = subst (λ n. n ≤ FRAME_BYTES) same room.frames;
-      stack = subst (λ n. depth * n ≤ STACK_BYTES) same room.stack;
-    }
+    let same = sym (largest_same h ok) in record { frames = rw same room.frames; stack = rw same room.stack }
 
 pub room_from_fit : (h : Homed) (depth : ℕ) → ArePlaced h → FramesFit h.rtl.now depth → HaveRoom h.frames.items depth
-room_from_fit h depth ok fit =
-    let same = sym (largest_same h ok) in
-    record {
-      frames = subst (λ n. n ≤ FRAME_BYTES) same fit.frames;
-      stack = subst (λ n. depth * n ≤ STACK_BYTES) same fit.stack;
-    }
+room_from_fit h depth ok fit = let same = largest_same h ok in record { frames = rw same fit.frames; stack = rw same fit.stack }
 
 pub reachable : (h : Homed) (depth : ℕ) → ArePlaced h → HaveRoom h.frames.items depth → AreReachable h.frames.items
 reachable h depth ok room = record {

@@ -1,7 +1,7 @@
 -- Registers are saved in a frame and come back; arguments and parameters.
 use Rattle.std.proofs.Common.{◌≡◌, ◌≢◌, inl, inr, ℕ, zero, suc, ◌+◌, ◌*◌, ◌%◌, ◌^◌, ◌<◌, ◌≤◌, Bool, true, false, List, [], ◌∷◌, length, Option, Some, None}
 use Rattle.std.proofs.Common.{refl, sym, ap, ap₂, ◌∙◌, subst, arith, nat_eq, eqb-true, true≢false}
-use Rattle.std.specs.Prelude.{if◌then◌else◌, slice_get, ◌||◌}
+use Rattle.std.specs.Prelude.{slice_get, ◌||◌}
 use Rattle.std.proofs.lemmas.Bool.{eqb-false, or_parts, cond_both}
 use Rattle.std.proofs.lemmas.Option.{same_Some, none-some, slice_get_within}
 use Rattle.words.specs.declared.width.Width.{Width}
@@ -12,7 +12,7 @@ use Rattle.mips_isa.specs.Starting.{stack_base, stack_end, is_mapped}
 use Rattle.rtl.specs.declared.block.RGlobal.{RGlobal}
 use Rattle.mips_homes.specs.HomedRun.{cells, Run, Failed, read_home, read_homes, write_homes, is_in}
 use Rattle.mips_homes.specs.declared.homed.Home.{Home}
-use Rattle.mips_homes.specs.declared.homed.Home.TheVariants.{Reg, Slot, Copied}
+use Rattle.mips_homes.specs.declared.homed.Home.TheVariants.{Reg, Copied}
 use Rattle.mips_emit.specs.declared.location.Source.TheVariants.{Zero, Word}
 use Rattle.mips_emit.specs.Frames.{AreFrameHomes}
 use Rattle.mips_emit.specs.Locations.{Facts, known_in, known_source, deferred_at, deferred_source, source, operand}
@@ -194,14 +194,12 @@ module _ (most total : ℕ) (gs : List RGlobal) (starts : ℕ → ℕ) where
   operand_apart l (Some w) k t t' lt few behind = cond_both (nat_eq w 0) Zero (Word w) (IsApart t) (λ _. tt) (λ _. tt)
   operand_apart (Some (Reg r)) None None t t' lt few behind = λ e. absurd (omega (arith, lt, behind, e))
   operand_apart (Some (Copied r j)) None None t t' lt few behind = λ e. absurd (omega (arith, few, behind, e))
-  operand_apart l None (Some w) t t' lt few behind = by l behind (nat_eq w 0)
+  operand_apart l None (Some w) t t' lt few behind = cond_both (nat_eq w 0) Zero (known_source w l) (IsApart t) (λ _. tt) (λ _. by l behind)
     where
-      by : (l : Option Home) → IsBehind l t' → (b : Bool) → IsApart t (if b then Zero else known_source w l)
-      by l behind true = tt
-      by None behind false = tt
-      by (Some (Reg r)) behind false = λ e. absurd (omega (arith, lt, behind, e))
-      by (Some (Slot j)) behind false = tt
-      by (Some (Copied r j)) behind false = λ e. absurd (omega (arith, few, behind, e))
+      by : (l : Option Home) → IsBehind l t' → IsApart t (known_source w l)
+      by (Some (Reg r)) behind = λ e. absurd (omega (arith, lt, behind, e))
+      by (Some (Copied r j)) behind = λ e. absurd (omega (arith, few, behind, e))
+      by _ behind = tt
   operand_apart _ None None t t' lt few behind = tt
 
   -- the arguments that are left, after a register below theirs was written

@@ -36,14 +36,14 @@ module _ (bound : ℕ) (blocks : List BlockParts) (owner : List ℕ) where
   in_function k [] fits are has owned i lt = absurd (omega (arith, lt))
   in_function k (f ∷ fs) fits are has owned i lt =
       by_length (apart_from (length f) i)
-      (λ d d_lt. in_function (k + length f) fs (omega (arith, fits, sum)) are.1 (has_back blocks k f (blocks_of fs) has) owned_behind d d_lt)
+      (λ d d_lt. in_function (k + length f) fs (omega (arith, fits, sum)) are.1 (has_back _ _ has) owned_behind d d_lt)
     where
       sum : length (blocks_of (f ∷ fs)) ≡ length f + length (blocks_of fs)
       sum = length-append f (blocks_of fs)
 
       owned_behind : HasAt owner (k + length f) (owners_of (k + length f) fs)
       owned_behind = (let here : k + length (replicate (length f) k) ≡ k + length f = ap (λ n. k + n) (length-replicate (length f) k) in
-          subst (λ n. HasAt owner n (owners_of (k + length f) fs)) here (has_back owner k (replicate (length f) k) (owners_of (k + length f) fs) owned))
+          subst (λ n. HasAt owner n (owners_of (k + length f) fs)) here (has_back _ _ owned))
 
       by_length : (i < length f) ⊎ ((d : ℕ) × (i ≡ length f + d)) → ((d : ℕ) → d < length (blocks_of fs) → InFunction (k + length f + d)) → InFunction (k + i)
       by_length (inl here) rest = record {
@@ -54,8 +54,8 @@ module _ (bound : ℕ) (blocks : List BlockParts) (owner : List ℕ) where
         within = here;
         fits = omega (arith, fits, sum);
         function = are.0;
-        blocks_at = has_front blocks k f (blocks_of fs) has;
-        owned = has_front owner k (replicate (length f) k) (owners_of (k + length f) fs) owned;
+        blocks_at = has_front _ _ has;
+        owned = has_front _ _ owned;
       }
       by_length (inr e) rest =
           let moved : k + length f + e.0 ≡ k + i = omega (arith, e.1) in

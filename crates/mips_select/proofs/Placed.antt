@@ -124,7 +124,7 @@ module _ (whole : List BlockParts) (l : Linking) where
           ((if resumes d x then [] else after_block p.frame d (p.place next) ∷ []) ++ rest)
           → GoesOn whole l p.placing (heads_code p) (if resumes d x then p.place next else suc k) (Call g xs d next)
       go None Bare e ok has = ((calls, order), inr (refl, ap (head_code p) e))
-      go (Some d) Bare e ok has = ((calls, order), inl (has_head whole (suc k) (after_block p.frame (Some d) (p.place next)) rest has, ap (head_code p) e))
+      go (Some d) Bare e ok has = ((calls, order), inl (has_head has, ap (head_code p) e))
       go d Enters e ok has = absurd ok
       go None (Takes c) e ok has = absurd (none-some c ok)
       go (Some d) (Takes c) e ok has = ((calls, order), inr (refl, ap (head_code p) e ∙ ap (result_code (locations p.frame)) (sym ok)))
@@ -142,24 +142,17 @@ module _ (whole : List BlockParts) (l : Linking) where
       → StandsAt whole l p.placing (heads_code p) i block
   placed p k j [] has ok fine order i b block there at is = absurd (none-some block there)
   placed p k j (x ∷ bs) has ok fine order i zero block there at is =
-      let rest = behind p x.exit ++ blocks_from l p (k + count p.heads x.exit) (suc j) bs in
       let j_is : j ≡ i = omega (arith, is) in
-      let first = own_block l p.placing (head_code p (p.heads j)) (next_of p k x.exit) x in
       subst (λ (block : RBlock). StandsAt whole l p.placing (heads_code p) i block) (same_Some x block there) (record {
         next = next_of p k x.exit;
-        there = ap (slice_get whole) at ∙ has_head whole k first rest has
+        there = ap (slice_get whole) at ∙ has_head has
             ∙ ap (λ i. Some (own_block l p.placing (head_code p (p.heads i)) (next_of p k x.exit) x)) j_is;
-        leads_on = goes_on p k x.exit (blocks_from l p (k + count p.heads x.exit) (suc j) bs) (ok 0 x refl) (fine 0 x refl) (order 0 x refl)
-            (has_tail whole k first rest has);
+        leads_on = goes_on p k x.exit (blocks_from l p (k + count p.heads x.exit) (suc j) bs) (ok 0 x refl) (fine 0 x refl) (order 0 x refl) (has_tail has);
       })
   placed p k j (x ∷ bs) has ok fine order i (suc b) block there at is =
       let more = blocks_from l p (k + count p.heads x.exit) (suc j) bs in
-      let rest = behind p x.exit ++ more in
-      let one = behind_length p x.exit in
-      let first = own_block l p.placing (head_code p (p.heads j)) (next_of p k x.exit) x in
-      let next : suc k + length (behind p x.exit) ≡ k + count p.heads x.exit = omega (arith, one) in
-      let has' : HasAt whole (k + count p.heads x.exit) more = subst (λ n. HasAt whole n more) next
-      (has_back whole (suc k) (behind p x.exit) more (has_tail whole k first rest has)) in
+      let next : suc k + length (behind p x.exit) ≡ k + count p.heads x.exit = omega (arith, behind_length p x.exit) in
+      let has' : HasAt whole (k + count p.heads x.exit) more = subst (λ n. HasAt whole n more) next (has_back _ _ (has_tail has)) in
       placed p (k + count p.heads x.exit) (suc j) bs has' (λ b block there. ok (suc b) block there) (λ b block there. fine (suc b) block there)
       (λ b block there. order (suc b) block there) i b block there at (omega (arith, is))
 
@@ -173,7 +166,7 @@ module _ (whole : List BlockParts) (l : Linking) where
       go : (x : Head) → p.heads 0 ≡ x → HasAt whole k (lead_blocks p x ++ rest)
           → ((slice_get whole k ≡ Some (prologue_block p.leaf p.frame p.parameters (p.place 0))) × (heads_code p 0 ≡ []))
           ⊎ ((k ≡ p.place 0) × (heads_code p 0 ≡ prologue p.leaf p.frame p.parameters))
-      go Bare e has = inl (has_head whole k (prologue_block p.leaf p.frame p.parameters (p.place 0)) rest has, ap (head_code p) e)
+      go Bare e has = inl (has_head has, ap (head_code p) e)
       go Enters e has = inr (sym (same e), ap (head_code p) e)
       go (Takes d) e has = absurd (none d e)
 
@@ -183,14 +176,11 @@ module _ (whole : List BlockParts) (l : Linking) where
   found k [] fs has g func f there f_there = absurd (none-some func there)
   found k (x ∷ funcs) [] has g func f there f_there = absurd (none-some f f_there)
   found k (x ∷ funcs) (y ∷ fs) has zero func f there f_there =
-      subst (λ (func : RFunc). HasAt whole k (function_blocks l k func f)) (same_Some x func there)
-      (subst (λ (f : Frame). HasAt whole k (function_blocks l k x f)) (same_Some y f f_there)
-      (has_front whole k (function_blocks l k x y) (functions_blocks l (k + function_size x) funcs fs) has))
+      rw (← same_Some x func there, ← same_Some y f f_there) (has_front _ _ has)
   found k (x ∷ funcs) (y ∷ fs) has (suc g) func f there f_there =
       let long = function_length l k x y in
       let next : k + length (function_blocks l k x y) ≡ k + function_size x = omega (arith, long) in
-      found (k + function_size x) funcs fs (subst (λ n. HasAt whole n (functions_blocks l (k + function_size x) funcs fs)) next
-      (has_back whole k (function_blocks l k x y) (functions_blocks l (k + function_size x) funcs fs) has)) g func
+      found (k + function_size x) funcs fs (subst (λ n. HasAt whole n (functions_blocks l (k + function_size x) funcs fs)) next (has_back _ _ has)) g func
       f there f_there
 
 first_place : (k : ℕ) (bs : List RBlock) → heads_of bs 0 ≡ Enters → slice_index (numbers (heads_of bs) (k + lead_in (heads_of bs)) bs) 0 ≡ k
@@ -234,7 +224,7 @@ program_selected h depth most ok frames seated alone small room = record {
       (λ y. blocks_cover bs b block y at) ok.functions
       (all_at (programs.IsBlock program.functions (length program.globals) (length bs)) bs b block is.blocks at).exit in
       let behind_lead : k + length lead ≡ k + lead_in heads = omega (arith, front) in
-      let has' : HasAt whole (k + lead_in heads) more = subst (λ m. HasAt whole m more) behind_lead (has_back whole k lead more has) in
+      let has' : HasAt whole (k + lead_in heads) more = subst (λ m. HasAt whole m more) behind_lead (has_back _ _ has) in
       record {
         leaf = is_leaf bs;
         place = place_in k bs;

@@ -1,10 +1,9 @@
 -- Where the pieces of each block stand.
-use Rattle.std.proofs.Common.{◌≡◌, ℕ, zero, suc, ◌+◌, ◌<◌, ◌≤◌, List, [], ◌∷◌, ◌++◌, length, Some, refl, sym, ap, ◌∙◌, subst, arith, take, drop}
+use Rattle.std.proofs.Common.{◌≡◌, ℕ, zero, suc, ◌+◌, ◌<◌, ◌≤◌, List, [], ◌∷◌, ◌++◌, length, Some, refl, sym, ap, ◌∙◌, subst, arith, drop}
 use Rattle.std.specs.Prelude.{slice_get, slice_index}
 use Rattle.std.proofs.lemmas.Option.{same_Some, none-some}
 use Rattle.mips_isa.specs.declared.inst.Plain.{Plain}
 use Rattle.mblock.specs.declared.exit.Exit.{Exit}
-use Rattle.mblock.specs.declared.exit.Exit.TheVariants.{Goto}
 use Rattle.mblock.specs.Parts.{BlockParts}
 use Rattle.mips_select.specs.Split.{renumbered_exit, more_pieces, piece, pieces, count_of, firsts, lasts, split_from}
 use Rattle.mips_select.proofs.Lists.{get_behind, get_before}
@@ -17,17 +16,17 @@ pub record HasAt {A : Type 0} (whole : List A) (k : ℕ) (part : List A) : Type 
 pub has_whole : {A : Type 0} (l : List A) → HasAt l 0 l
 has_whole l = record { by = λ i x e. (let zero_i : 0 + i ≡ i = omega arith in ap (slice_get l) zero_i) ∙ e }
 
-pub has_head : {A : Type 0} (whole : List A) (k : ℕ) (x : A) (l : List A) → HasAt whole k (x ∷ l) → slice_get whole k ≡ Some x
-has_head whole k x l h = (let k_zero : k ≡ k + 0 = omega arith in ap (slice_get whole) k_zero) ∙ h.by 0 x refl
+pub has_head : {A : Type 0} {whole : List A} {k : ℕ} {x : A} {l : List A} → HasAt whole k (x ∷ l) → slice_get whole k ≡ Some x
+has_head {whole} {k} {x} h = (let k_zero : k ≡ k + 0 = omega arith in ap (slice_get whole) k_zero) ∙ h.by 0 x refl
 
-pub has_tail : {A : Type 0} (whole : List A) (k : ℕ) (x : A) (l : List A) → HasAt whole k (x ∷ l) → HasAt whole (suc k) l
-has_tail whole k x l h = record { by = λ i y e. (let next : suc k + i ≡ k + suc i = omega arith in ap (slice_get whole) next) ∙ h.by (suc i) y e }
+pub has_tail : {A : Type 0} {whole : List A} {k : ℕ} {x : A} {l : List A} → HasAt whole k (x ∷ l) → HasAt whole (suc k) l
+has_tail {whole} {k} h = record { by = λ i y e. (let next : suc k + i ≡ k + suc i = omega arith in ap (slice_get whole) next) ∙ h.by (suc i) y e }
 
-pub has_front : {A : Type 0} (whole : List A) (k : ℕ) (a b : List A) → HasAt whole k (a ++ b) → HasAt whole k a
-has_front whole k a b h = record { by = λ i x e. h.by i x (get_before a b i x e) }
+pub has_front : {A : Type 0} {whole : List A} {k : ℕ} (a b : List A) → HasAt whole k (a ++ b) → HasAt whole k a
+has_front a b h = record { by = λ i x e. h.by i x (get_before a b i x e) }
 
-pub has_back : {A : Type 0} (whole : List A) (k : ℕ) (a b : List A) → HasAt whole k (a ++ b) → HasAt whole (k + length a) b
-has_back whole k a b h =
+pub has_back : {A : Type 0} {whole : List A} {k : ℕ} (a b : List A) → HasAt whole k (a ++ b) → HasAt whole (k + length a) b
+has_back {whole} {k} a b h =
     record {
       by = λ i x e. (let sums : k + length a + i ≡ k + (length a + i) = omega arith in ap (slice_get whole) sums)
           ∙ h.by (length a + i) x (get_behind a b i ∙ e);
@@ -44,15 +43,12 @@ pub has_pieces : (most : ℕ) (place : ℕ → ℕ) (whole : List BlockParts) (k
     (pieces most (renumbered_exit place b.exit) (more_pieces most b) (slice_index (firsts most k bs) n) b.insts)
 has_pieces most place whole k [] has n b there = absurd (none-some b there)
 has_pieces most place whole k (x ∷ bs) has zero b there =
-    subst (λ (b : BlockParts). HasAt whole k (pieces most (renumbered_exit place b.exit) (more_pieces most b) k b.insts)) (same_Some x b there)
-    (has_front whole k (pieces most (renumbered_exit place x.exit) (more_pieces most x) k x.insts) (split_from most place (k + count_of most x) bs) has)
+    rw (← same_Some x b there) (has_front _ _ has)
 has_pieces most place whole k (x ∷ bs) has (suc n) b there =
     let long = length-pieces most (renumbered_exit place x.exit) (more_pieces most x) k x.insts in
     let next : k + length (pieces most (renumbered_exit place x.exit) (more_pieces most x) k x.insts) ≡ k + count_of most x = ap (λ n. k + n) long in
     has_pieces most place whole (k + count_of most x) bs
-    (subst (λ n. HasAt whole n (split_from most place (k + count_of most x) bs)) next
-    (has_back whole k (pieces most (renumbered_exit place x.exit) (more_pieces most x) k x.insts)
-    (split_from most place (k + count_of most x) bs) has)) n b there
+    (subst (λ n. HasAt whole n (split_from most place (k + count_of most x) bs)) next (has_back _ _ has)) n b there
 
 -- the last piece of block n
 pub last_piece : (most k : ℕ) (bs : List BlockParts) (n : ℕ) (b : BlockParts) → slice_get bs n ≡ Some b
@@ -66,8 +62,7 @@ pub last_there : (most : ℕ) (exit : Exit) (whole : List BlockParts) (more k : 
     → HasAt whole k (pieces most exit more k insts) → (p : BlockParts) × (slice_get whole (k + more) ≡ Some p) × (p.exit ≡ exit)
 last_there most exit whole zero k insts has = (piece insts exit, has.by 0 (piece insts exit) refl, refl)
 last_there most exit whole (suc more) k insts has =
-    let rest = last_there most exit whole more (suc k) (drop most insts)
-    (has_tail whole k (piece (take most insts) (Goto (suc k))) (pieces most exit more (suc k) (drop most insts)) has) in
+    let rest = last_there most exit whole more (suc k) (drop most insts) (has_tail has) in
     let next : k + suc more ≡ suc k + more = omega arith in
     (rest.0, ap (slice_get whole) next ∙ rest.1, rest.2)
 

@@ -1,8 +1,7 @@
 -- Each item of a long unit is one or more items of its pieces.
-use Rattle.std.proofs.Common.{◌≡◌, ℕ, zero, suc, ◌+◌, ◌≤◌, List, [], ◌∷◌, ◌++◌, Some, refl, sym, ap, ◌∙◌, subst, arith, take, drop}
+use Rattle.std.proofs.Common.{◌≡◌, ℕ, zero, suc, ◌+◌, ◌≤◌, List, [], ◌∷◌, ◌++◌, Some, refl, sym, ◌∙◌, subst, arith, take, drop}
 use Rattle.std.specs.Prelude.{if◌then◌else◌, slice_get}
 use Rattle.std.proofs.lemmas.List.{take-append-drop}
-use Rattle.std.proofs.lemmas.Option.{same_Some, none-some}
 use Rattle.mips_isa.specs.declared.inst.Plain.{Plain}
 use Rattle.mips_isa.specs.States.{State}
 use Rattle.mips_isa.specs.Actions.{action_of, is_safe, state_after}
@@ -71,33 +70,29 @@ module _ (whole : List BlockParts) (links : ℕ → ℕ) where
     pub enters : (more k : ℕ) (insts : List Plain) → HasAt whole k (pieces most exit more k insts) → k + more ≡ last → Entry more k insts
     enters zero k insts has is = record {
       block = piece insts exit;
-      there = has_head whole k (piece insts exit) [] has;
+      there = has_head has;
       inside = record {
         same = refl;
         is_last = (let k_zero : k ≡ k + 0 = omega arith in k_zero ∙ is);
         block = piece insts exit;
-        there =
-            has_head whole k (piece insts exit) [] has;
+        there = has_head has;
         leaves = refl;
       };
     }
     enters (suc more) k insts has is =
         let first = piece (take most insts) (Goto (suc k)) in
-        let others = pieces most exit more (suc k) (drop most insts) in
-        let at = has_head whole k first others has in
+        let at = has_head has in
         record {
           block = first;
           there = at;
           inside = record {
             behind = drop most insts;
             same = sym (take-append-drop most insts);
-            is_last =
-                (let next : suc k + more ≡ k + suc more = omega arith in next ∙ is);
+            is_last = (let next : suc k + more ≡ k + suc more = omega arith in next ∙ is);
             block = first;
             there = at;
             leaves = refl;
-            next =
-                has_tail whole k first others has;
+            next = has_tail has;
           };
         }
 

@@ -142,8 +142,7 @@ unit_keeps h u program ok is depth fit = subst (KeepsRuns h.rtl.now depth) (sym 
 -- of the program that was lent
 pub runs_told : (h : Homed) (p : Program) (depth : ℕ) (u : UnitParts) → h.rtl.now ≡ p → FramesFit p depth
     → ((depth : ℕ) → FramesFit h.rtl.now depth → KeepsRuns h.rtl.now depth u) → KeepsRuns p depth u
-runs_told h p depth u lent fit runs = subst (λ (p : Program). KeepsRuns p depth u) lent
-    (runs depth (subst (λ (p : Program). FramesFit p depth) (sym lent) fit))
+runs_told h p depth u lent fit runs = rw (← lent) (runs depth (rw lent fit))
 
 pub selected : (h : Homed) (p : Program) (u : UnitParts) → h.rtl.now ≡ p → ArePlaced h → u ≡ unit_for h → IsSelected p u
 selected h p u lent ok is = record { homed = h; lent = lent; places = ok; unit = is }
@@ -177,15 +176,12 @@ bytes_fit p bytes globals ok g_is is =
 
 pub room_told : (h : Homed) (frames : List Frame) (depth : ℕ) (b : Bool) → (IsTrue b → HaveRoom frames depth) → b ≡ true → frames ≡ h.frames.items
     → HaveRoom h.frames.items depth
-room_told h frames depth b says e is = subst (λ fs. HaveRoom fs depth) is (says e)
+room_told h frames depth b says e is = rw (← is) (says e)
 
 pub fit_told : (h : Homed) (p : Program) (frames : List Frame) (depth : ℕ) (b : Bool) → (IsTrue b → HaveRoom frames depth) → b ≡ true
     → frames ≡ h.frames.items → h.rtl.now ≡ p → ArePlaced h → FramesFit p depth
-fit_told h p frames depth b says e is lent ok = subst (λ (p : Program). FramesFit p depth) lent
-    (fit_from_room h depth ok (room_told h frames depth b says e is))
+fit_told h p frames depth b says e is lent ok = rw (← lent) (fit_from_room h depth ok (room_told h frames depth b says e is))
 
 pub no_room : (h : Homed) (p : Program) (frames : List Frame) (depth : ℕ) (b : Bool) → (HaveRoom frames depth → IsTrue b) → b ≡ false
     → frames ≡ h.frames.items → h.rtl.now ≡ p → ArePlaced h → FramesFit p depth → IsBeyond p
-no_room h p frames depth b says e is lent ok fit =
-    absurd (true≢false (sym (says (subst (λ fs. HaveRoom fs depth) (sym is) (room_from_fit h depth ok
-    (subst (λ (p : Program). FramesFit p depth) (sym lent) fit)))) ∙ e))
+no_room h p frames depth b says e is lent ok fit = absurd (true≢false (sym (says (rw is (room_from_fit h depth ok (rw lent fit)))) ∙ e))

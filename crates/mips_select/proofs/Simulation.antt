@@ -37,10 +37,10 @@ use Rattle.mips_emit.specs.Code.{move_code, inst_code, fetch, carry}
 use Rattle.mips_emit.specs.Comparisons.{comparison_code, comparison_of, asked_last, next_code, last_with, no_last, last_after}
 use Rattle.mips_emit.specs.Comparisons.{tested, branch_code, branch_exit, is_result, returned, return_code}
 use Rattle.mips_emit.specs.Frames.{IsFrame}
-use Rattle.mips_emit.proofs.Runs.{RunsTo, runs_none, runs_then, Point, At, Stopped, from, Leads, leads_nowhere, leads_then, leads_run, leads_exit}
+use Rattle.mips_emit.proofs.Runs.{RunsTo, if_some, runs_none, runs_then, Point, At, Stopped, from, Leads, leads_nowhere, leads_then, leads_run, leads_exit}
 use Rattle.mips_emit.proofs.View.{word_at, set, set_words, put_here, put_other, moves}
 use Rattle.mips_emit.proofs.Stands.{Stored, stack_room, Stands}
-use Rattle.mips_emit.proofs.Operands.{passes, Denotes, hidden, hide, AreDeferred, none_deferred, AreBases, no_bases, IsLast, none_last, frame_homes, IsKnown, nothing_known}
+use Rattle.mips_emit.proofs.Operands.{passes, Denotes, hide, AreDeferred, none_deferred, AreBases, no_bases, IsLast, none_last, frame_homes, IsKnown, nothing_known}
 use Rattle.mips_emit.proofs.Homes.{fewer_stand, words_kept, call_kept, last_means, fetches, carries, sets_kept, caller_saved_kept, arrives}
 use Rattle.mips_emit.proofs.Insts.{value_or_failed, performs}
 use Rattle.mips_emit.proofs.Comparing.{none_asked, waiting, compares}
@@ -403,12 +403,7 @@ module _ (h : Homed) (depth : ℕ) (blocks : List BlockParts) (ok : IsSelected h
 
   -- behind a block only callee-saved registers are known, and none of them has a word to come
   settled : (deferred r : Places) (g : Arrays) (fs : List Stored) (s : State) → AreDeferred deferred r → Stand (hide deferred r) g fs s → Stand (callee_saved r) g fs s
-  settled deferred r g fs s lz st = fewer_stand st (λ q v is. was q v (is_callee_saved q) refl (deferred q) refl is)
-    where
-      was : (q v : ℕ) (c : Bool) → is_callee_saved q ≡ c → (o : Option ℕ) → deferred q ≡ o → (if c then r q else None) ≡ Some v → hide deferred r q ≡ Some v
-      was q v false ec o eo e = absurd (none-some v e)
-      was q v true ec None eo e = ap (λ o. hidden o (r q)) eo ∙ e
-      was q v true ec (Some w) eo e = absurd (true≢false (sym ec ∙ lz.caller_saved q w eo))
+  settled deferred r g fs s lz st = fewer_stand st (λ q v is. grind (arith, lz.caller_saved q))
 
   -- an activation that has come to its exit
   module _ (r : Places) (a : Activation) (ws : List Activation) (g : Arrays) (out : List ℕ) (p : Point) (m : Match r a ws g out p) where
@@ -489,12 +484,9 @@ module _ (h : Homed) (depth : ℕ) (blocks : List BlockParts) (ok : IsSelected h
         -- what is left of a comparison says whether the branch is taken
         found : (p : Option Comparison) → m.last.comparison ≡ p → tested p x ≡ Some n → passes n.form n.left.source n.right.source s ≡ not (nat_eq v 0)
         found None is t = absurd (none-some n t)
-        found (Some q) is t = go (nat_eq q.result x) refl t
-          where
-            go : (b : Bool) → nat_eq q.result x ≡ b → (if b then Some q else None) ≡ Some n → passes n.form n.left.source n.right.source s ≡ not (nat_eq v 0)
-            go false eb t = absurd (none-some n t)
-            go true eb t = subst (λ (n : Comparison). passes n.form n.left.source n.right.source s ≡ not (nat_eq v 0)) (same_Some q n t)
-                (m.is_last.comparison q v is (ap (read_home a.frame.homes.items r a.slots) (eqb-true q.result x eb) ∙ e))
+        found (Some q) is t = let there = if_some (nat_eq q.result x) (Some q) n t in
+            subst (λ (n : Comparison). passes n.form n.left.source n.right.source s ≡ not (nat_eq v 0)) (same_Some q n there.1)
+            (m.is_last.comparison q v is (ap (read_home a.frame.homes.items r a.slots) (eqb-true q.result x there.0) ∙ e))
 
     outputs : (x next : ℕ) (c : Leaving (Out x next)) (v : ℕ) → Reads x v
         → Reach 1 (At k (carry 4 (operand x)) s out) (state_at_block next a a.slots (around (callee_saved r) ws g (out ++ v ∷ [])))

@@ -1,7 +1,7 @@
 -- The blocks that stand for a program keep its runs.
-use Rattle.std.proofs.Common.{◌≡◌, ◌≢◌, ℕ, ◌+◌, ◌-◌, ◌*◌, ◌/◌, ◌%◌, ◌^◌, ◌<◌, ◌≤◌, Bool, true, false, List, [], ◌∷◌, map}
+use Rattle.std.proofs.Common.{◌≡◌, ◌≢◌, ℕ, ◌+◌, ◌-◌, ◌*◌, ◌/◌, ◌%◌, ◌^◌, ◌<◌, ◌≤◌, List, [], ◌∷◌, map}
 use Rattle.std.proofs.Common.{length, Some, None, refl, sym, ap, ◌∙◌, subst, arith, le-leb}
-use Rattle.std.specs.Prelude.{if◌then◌else◌, slice_get}
+use Rattle.std.specs.Prelude.{slice_get}
 use Rattle.std.proofs.lemmas.Bool.{lt-leb}
 use Rattle.std.proofs.lemmas.Option.{same_Some, none-some, slice_get_within, get_or_from_slice_get}
 use mathlib.Core.Path.{fun_ext}
@@ -21,7 +21,7 @@ use Rattle.mblock.proofs.StateWords.{run_words}
 use Rattle.rtl.specs.declared.block.RFunc.{RFunc}
 use Rattle.rtl.specs.declared.block.RGlobal.{RGlobal}
 use Rattle.rtl.specs.Meaning.{first_values}
-use Rattle.mips_homes.specs.HomedRun.{around, Run, Running, Ended, Failed, new_activation, is_in, registers_at_entry, state_at_block, homed_steps}
+use Rattle.mips_homes.specs.HomedRun.{around, Run, Running, Ended, Failed, new_activation, registers_at_entry, state_at_block, homed_steps}
 use Rattle.mips_homes.specs.HomedRun.{homed_start, outcome}
 use Rattle.mips_homes.specs.declared.homed.Homed.{Homed}
 use Rattle.mips_emit.specs.Elements.{width_of, element_place, address_of_place, data_middle}
@@ -41,11 +41,7 @@ use Rattle.mips_select.proofs.Simulation.{Lead, Reach, code_leads, departs, reac
 
 -- what a function saves is unset at the start as it is
 entry_unset : (saved : List ℕ) → registers_at_entry saved unset_places ≡ unset_places
-entry_unset saved = fun_ext (λ r. by r (is_in saved r))
-  where
-    by : (r : ℕ) (b : Bool) → (if b then None else unset_places r) ≡ unset_places r
-    by r true = refl
-    by r false = refl
+entry_unset saved = fun_ext (λ r. grind arith)
 
 -- a byte of data at the start
 data_byte : (data_list : List ℕ) (p b : ℕ) → length data_list ≤ UNIT_BYTES → slice_get data_list p ≡ Some b → first_bytes data_list (data_base + p) ≡ b

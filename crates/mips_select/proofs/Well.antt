@@ -1,6 +1,6 @@
 -- Pieces are short, go to pieces that exist, and keep their functions together.
-use Rattle.std.proofs.Common.{◌≡◌, ◌≢◌, ℕ, zero, suc, ◌+◌, ◌<◌, ◌≤◌, ◌==◌, ◌⊎◌, inl, inr, Bool, true, false, List, [], ◌∷◌, length, ⊎_elim}
-use Rattle.std.proofs.Common.{length-append, Some, refl, sym, ap, ◌∙◌, subst, arith, eqb-true, eq-eqb, true≢false}
+use Rattle.std.proofs.Common.{◌≡◌, ◌≢◌, ℕ, zero, suc, ◌+◌, ◌<◌, ◌≤◌, List, [], ◌∷◌, length, ⊎_elim}
+use Rattle.std.proofs.Common.{length-append, Some, refl, sym, ap, ◌∙◌, subst, arith}
 use Rattle.std.specs.Prelude.{slice_get, slice_index, replicate}
 use Rattle.std.proofs.lemmas.List.{length-replicate}
 use Rattle.std.proofs.lemmas.Bool.{cases_eq}
@@ -34,14 +34,11 @@ has_owners : (most : ℕ) (place : ℕ → ℕ) (whole : List ℕ) (k : ℕ) (bs
 has_owners most place whole k [] os has n o b there owned = absurd (none-some b there)
 has_owners most place whole k (x ∷ bs) [] has n o b there owned = absurd (none-some o owned)
 has_owners most place whole k (x ∷ bs) (y ∷ os) has zero o b there owned =
-    subst (λ (b : BlockParts). HasAt whole k (replicate (count_of most b) (place o))) (same_Some x b there)
-    (subst (λ o. HasAt whole k (replicate (count_of most x) (place o))) (same_Some y o owned)
-    (has_front whole k (replicate (count_of most x) (place y)) (owners_from most place bs os) has))
+    rw (← same_Some x b there, ← same_Some y o owned) (has_front _ _ has)
 has_owners most place whole k (x ∷ bs) (y ∷ os) has (suc n) o b there owned =
     let next : k + length (replicate (count_of most x) (place y)) ≡ k + count_of most x = ap (λ n. k + n) (length-replicate (count_of most x) (place y)) in
     has_owners most place whole (k + count_of most x) bs os
-    (subst (λ n. HasAt whole n (owners_from most place bs os)) next
-    (has_back whole k (replicate (count_of most x) (place y)) (owners_from most place bs os) has)) n o b there owned
+    (subst (λ n. HasAt whole n (owners_from most place bs os)) next (has_back (replicate (count_of most x) (place y)) _ has)) n o b there owned
 
 first_zero : (most : ℕ) (bs : List BlockParts) → slice_index (firsts most 0 bs) 0 ≡ 0
 first_zero most [] = refl
