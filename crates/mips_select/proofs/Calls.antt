@@ -73,11 +73,9 @@ module _ (most : ℕ) (f : Frame) (ok : IsFrame most f) where
   kept_case false j r there = last_or f.saved.items 31 j r there
 
   kept_ok : (leaf : Bool) → AreKept (kept leaf f)
-  kept_ok leaf j r there = go (kept_case leaf j r there)
-    where
-      go : (slice_get f.saved.items j ≡ Some r) ⊎ ((j ≡ length f.saved.items) × (r ≡ 31)) → (0 < r) × (r < 32) × (r ≢ 29)
-      go (inl e) = let range = ok.saved j r e in (omega (arith, range.0), omega (arith, range.1), λ e. absurd (omega (arith, e, range.1)))
-      go (inr e) = let is = e.1 in (omega (arith, is), omega (arith, is), λ e. absurd (omega (arith, e, is)))
+  kept_ok leaf j r there = ⊎_elim
+      (λ e. let range = ok.saved j r e in (omega (arith, range.0), omega (arith, range.1), λ e. absurd (omega (arith, e, range.1))))
+      (λ e. let is = e.1 in (omega (arith, is), omega (arith, is), λ e. absurd (omega (arith, e, is)))) (kept_case leaf j r there)
 
   -- registers that no function saves
   saved_other : (q : ℕ) → (q < 16) ⊎ (24 ≤ q) → is_in f.saved.items q ≡ false

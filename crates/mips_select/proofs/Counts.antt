@@ -1,6 +1,6 @@
 -- Each piece belongs to one block, at one place.
-use Rattle.std.proofs.Common.{◌≡◌, ℕ, zero, suc, ◌+◌, ◌-◌, ◌*◌, ◌/◌, ◌<◌, ◌≤◌, ◌⊎◌, inl, inr, List, [], ◌∷◌, length, length-append, Some}
-use Rattle.std.proofs.Common.{refl, ap, ◌∙◌, subst, arith, take, drop}
+use Rattle.std.proofs.Common.{⊎_elim, ◌≡◌, ℕ, zero, suc, ◌+◌, ◌-◌, ◌*◌, ◌/◌, ◌<◌, ◌≤◌, ◌⊎◌, inl, inr, List, [], ◌∷◌, length, length-append, Some}
+use Rattle.std.proofs.Common.{refl, ap, ◌∙◌, arith, drop}
 use Rattle.std.specs.Prelude.{slice_get, slice_index}
 use Rattle.std.proofs.lemmas.List.{length-take, length-drop}
 use Rattle.std.proofs.lemmas.Option.{same_Some, none-some}
@@ -8,7 +8,7 @@ use Rattle.mips_isa.specs.declared.inst.Plain.{Plain}
 use Rattle.mblock.specs.declared.exit.Exit.{Exit}
 use Rattle.mblock.specs.declared.exit.Exit.TheVariants.{Goto}
 use Rattle.mblock.specs.Parts.{BlockParts}
-use Rattle.mips_select.specs.Split.{more_pieces, piece, pieces, count_of, firsts, split_from, total}
+use Rattle.mips_select.specs.Split.{more_pieces, pieces, count_of, firsts, split_from, total}
 use Rattle.mips_select.proofs.Places.{length-pieces}
 
 -- as many as the count says
@@ -35,23 +35,15 @@ pub record Located (most k : ℕ) (bs : List BlockParts) (i : ℕ) : Type 0 wher
 pub apart_from : (c i : ℕ) → (i < c) ⊎ ((d : ℕ) × (i ≡ c + d))
 apart_from zero i = inr (i, omega arith)
 apart_from (suc c) zero = inl (omega arith)
-apart_from (suc c) (suc i) = next (apart_from c i)
-  where
-    next : (i < c) ⊎ ((d : ℕ) × (i ≡ c + d)) → (suc i < suc c) ⊎ ((d : ℕ) × (suc i ≡ suc c + d))
-    next (inl lt) = inl (omega (arith, lt))
-    next (inr e) = (let same = e.1 in inr (e.0, omega (arith, same)))
+apart_from (suc c) (suc i) = ⊎_elim (λ lt. inl (omega (arith, lt))) (λ e. (let same = e.1 in inr (e.0, omega (arith, same)))) (apart_from c i)
 
 pub located : (most k : ℕ) (bs : List BlockParts) (i : ℕ) → i < total most bs → Located most k bs i
 located most k [] i lt = absurd (omega (arith, lt))
-located most k (b ∷ bs) i lt = by_count (apart_from (count_of most b) i) (λ d lt. located most (k + count_of most b) bs d lt)
-  where
-    by_count : (i < count_of most b) ⊎ ((d : ℕ) × (i ≡ count_of most b + d))
-        → ((d : ℕ) → d < total most bs → Located most (k + count_of most b) bs d) → Located most k (b ∷ bs) i
-    by_count (inl few) rest = record { number = 0; behind = i; block = b; there = refl; within = omega (arith, few); is = refl }
-    by_count (inr e) rest =
-        let l = rest e.0 (omega (arith, lt, e.1)) in
-        let is = l.is in
-        record { number = suc l.number; behind = l.behind; block = l.block; there = l.there; within = l.within; is = omega (arith, is, e.1) }
+located most k (b ∷ bs) i lt = ⊎_elim
+    (λ few. record { number = 0; behind = i; block = b; there = refl; within = omega (arith, few); is = refl })
+    (λ e. let l = located most (k + count_of most b) bs e.0 (omega (arith, lt, e.1)) in let is = l.is in
+    record { number = suc l.number; behind = l.behind; block = l.block; there = l.there; within = l.within; is = omega (arith, is, e.1) })
+    (apart_from (count_of most b) i)
 
 -- a block's first piece comes behind the last piece of the block before it
 pub first_next : (most k : ℕ) (bs : List BlockParts) (n : ℕ) (a b : BlockParts) → slice_get bs n ≡ Some a → slice_get bs (suc n) ≡ Some b
@@ -74,28 +66,17 @@ pub record IsPieceAt (most : ℕ) (exit : Exit) (more k j : ℕ) (b : BlockParts
 
 pub piece_at : (most : ℕ) (exit : Exit) (more k : ℕ) (insts : List Plain) → length insts ≤ most * more + most → (j : ℕ) (b : BlockParts)
     → slice_get (pieces most exit more k insts) j ≡ Some b → IsPieceAt most exit more k j b
-piece_at most exit zero k insts few zero b there =
-    subst (λ (b : BlockParts). IsPieceAt most exit 0 k 0 b) (same_Some (piece insts exit) b there)
-    (record { short = omega (arith, few); leaves = inl (refl, refl) })
+piece_at most exit zero k insts few zero b there = rw (← same_Some _ b there) (record { short = omega (arith, few); leaves = inl (refl, refl) })
 piece_at most exit zero k insts few (suc j) b there = absurd (none-some b there)
 piece_at most exit (suc more) k insts few zero b there =
     let here : k ≡ k + 0 = omega arith in
     let cut = length-take most insts in
-    subst (λ (b : BlockParts). IsPieceAt most exit (suc more) k 0 b) (same_Some (piece (take most insts) (Goto (suc k))) b there)
-    (record { short = omega (arith, cut); leaves = inr (omega arith, ap (λ n. Goto (suc n)) here) })
+    rw (← same_Some _ b there) (record { short = omega (arith, cut); leaves = inr (omega arith, ap (λ n. Goto (suc n)) here) })
 piece_at most exit (suc more) k insts few (suc j) b there =
     let cut = length-drop most insts in
-    shifted (piece_at most exit more (suc k) (drop most insts) (less more cut few) j b there)
-  where
-    less : (more : ℕ) → length (drop most insts) ≡ length insts - most → length insts ≤ most * suc more + most → length (drop most insts) ≤ most * more + most
-    less more cut few = omega (arith, cut, few)
-
-    shifted : IsPieceAt most exit more (suc k) j b → IsPieceAt most exit (suc more) k (suc j) b
-    shifted p = record { short = p.short; leaves = moved p.leaves }
-      where
-        moved : ((j ≡ more) × (b.exit ≡ exit)) ⊎ ((j < more) × (b.exit ≡ Goto (suc (suc k + j))))
-            → ((suc j ≡ suc more) × (b.exit ≡ exit)) ⊎ ((suc j < suc more) × (b.exit ≡ Goto (suc (k + suc j))))
-        moved (inl last) = inl (ap suc last.0, last.1)
-        moved (inr other) =
-            let next : suc k + j ≡ k + suc j = omega arith in
-            inr (omega (arith, other.0), other.1 ∙ ap (λ n. Goto (suc n)) next)
+    let p = piece_at most exit more (suc k) (drop most insts) (omega (arith, cut, few)) j b there in
+    let next : suc k + j ≡ k + suc j = omega arith in
+    record {
+      short = p.short;
+      leaves = ⊎_elim (λ last. inl (ap suc last.0, last.1)) (λ other. inr (omega (arith, other.0), other.1 ∙ ap (λ n. Goto (suc n)) next)) p.leaves;
+    }

@@ -27,7 +27,7 @@ use Rattle.mips_select.specs.declared.heads.Head.{Head}
 use Rattle.mips_select.specs.declared.heads.Head.TheVariants.{Bare, Enters}
 use Rattle.mips_select.specs.Heads.{heads_of, resumes, count, lead_of, lead_in}
 use Rattle.mips_select.specs.Plans.{Linking, Planning}
-use Rattle.mips_select.specs.Code.{asked_of, exit_of, own_block, head_code, after_block, prologue_block, start_block, end_block}
+use Rattle.mips_select.specs.Code.{asked_of, exit_of, after_block, start_block, end_block}
 use Rattle.mips_select.proofs.Lists.{all_at}
 use Rattle.mips_select.specs.Whole.{size_of_blocks, numbers, next_of, behind, blocks_from, place_in, lead_blocks, planning_in, function_blocks, size_in}
 use Rattle.mips_select.specs.Whole.{function_size, functions_size, entries_from, entry_of, owners_from, owners_for, functions_blocks, linking_for, program_blocks}
@@ -118,8 +118,7 @@ module _ (l : Linking) (functions : List RFunc) (bound : ℕ) (entry_below : (g 
       where
         go : (r : Bool) (i : ℕ) → slice_get ((if r then [] else after_block p.frame d (p.place next) ∷ []) ++ rest) i ≡ Some b → GoesWithin bound start size b.exit
         go true i there = goes i b there
-        go false zero there = subst (λ (b : BlockParts). GoesWithin bound start size b.exit) (same_Some (after_block p.frame d (p.place next)) b there)
-            (place_below next ((ok.1).1).1)
+        go false zero there = rw (← same_Some _ b there) (place_below next ((ok.1).1).1)
         go false (suc i) there = goes i b there
     behind_goes _ ok rest goes i b there = goes i b there
 
@@ -128,8 +127,7 @@ module _ (l : Linking) (functions : List RFunc) (bound : ℕ) (entry_below : (g 
         → GoesWithin bound start size b.exit
     blocks_go k j [] le ok i b there = absurd (none-some b there)
     blocks_go k j (x ∷ bs) le ok zero b there =
-        subst (λ (b : BlockParts). GoesWithin bound start size b.exit) (same_Some
-        (own_block l p.placing (head_code p (p.heads j)) (next_of p k x.exit) x) b there)
+        rw (← same_Some _ b there)
         (exit_goes k (known_after (locations p.frame) x.insts.items no_facts) (last_after (locations p.frame) (asked_of x.exit) no_facts x.insts.items no_last) x.exit
         (ok 0 x refl) (omega (arith, le)))
     blocks_go k j (x ∷ bs) le ok (suc i) b there =
@@ -140,8 +138,7 @@ module _ (l : Linking) (functions : List RFunc) (bound : ℕ) (entry_below : (g 
         → GoesWithin bound start size b.exit) → (i : ℕ) (b : BlockParts) → slice_get (lead_blocks p head ++ rest) i ≡ Some b
         → GoesWithin bound start size b.exit
     lead_goes Enters some rest goes i b there = goes i b there
-    lead_goes _ some rest goes zero b there = subst (λ (b : BlockParts). GoesWithin bound start size b.exit)
-        (same_Some (prologue_block p.leaf p.frame p.parameters (p.place 0)) b there) (place_below 0 some)
+    lead_goes _ some rest goes zero b there = rw (← same_Some _ b there) (place_below 0 some)
     lead_goes _ some rest goes (suc i) b there = goes i b there
 
   function_goes : (k : ℕ) (func : RFunc) (f : Frame) → IsFunction functions (length l.globals) func → k + function_size func ≤ bound
@@ -252,9 +249,9 @@ program_well h ok same =
     size = (let long = functions_length (linking_for h.rtl.now) funcs bound below 2 funcs h.frames.items same in omega (arith, long))
 
     starts_go : (i : ℕ) (b : BlockParts) → slice_get first i ≡ Some b → GoesWithin bound 0 2 b.exit
-    starts_go zero b there = subst (λ (b : BlockParts). GoesWithin bound 0 2 b.exit) (same_Some (start_block (entry_of funcs (h.rtl.now).main)) b there)
+    starts_go zero b there = rw (← same_Some _ b there)
         (below (h.rtl.now).main (slice_get_within funcs (h.rtl.now).main (ok.main).callee (ok.main).there), omega arith)
-    starts_go (suc zero) b there = subst (λ (b : BlockParts). GoesWithin bound 0 2 b.exit) (same_Some end_block b there) tt
+    starts_go (suc zero) b there = rw (← same_Some _ b there) tt
     starts_go (suc (suc i)) b there = absurd (none-some b there)
 
     functions : AreFunctions (length (blocks_of all)) 0 all
