@@ -30,7 +30,7 @@ use Rattle.mips_emit.specs.declared.limits.TheConstants.{KEPT_FACTS}
 use Rattle.mips_homes.specs.declared.homed.Home.TheVariants.{Reg, Slot, Copied}
 use Rattle.mips_emit.specs.declared.location.Source.{Source}
 use Rattle.mips_emit.specs.declared.product.ShiftedSum.{ShiftedSum}
-use Rattle.mips_emit.specs.declared.location.Source.TheVariants.{Word, From}
+use Rattle.mips_emit.specs.declared.location.Source.TheVariants.{From}
 use Rattle.mips_emit.specs.declared.facts.Fact.{Fact}
 use Rattle.mips_emit.specs.Frames.{AreFrameHomes}
 use Rattle.mips_emit.specs.Locations.{Facts, known_of, known_in, with_fact, learned, last_of, inner_of, operand, index_register, kept_with}
@@ -231,13 +231,13 @@ module _ {most total : ℕ} {gs : List RGlobal} {starts : ℕ → ℕ} where
         below : u < 2 ^ 32
         below = result-word op v w u vb wb e
 
-        on_left : (i : Plain) → (o : Option ℕ) → ((c : ℕ) → o ≡ Some c → c ≡ v) → is_symmetric op ≡ true → immediate_of op d (operand_register 2 y) o ≡ Some i
-            → Computed (fetch 2 y ++ i ∷ []) d u
-        on_left i None said turns is = absurd (none-some i is)
-        on_left i (Some c) said turns is =
-            let same : c ≡ v = said c refl in
-            one_operand 2 d w u y (i ∷ []) (omega arith) (omega arith) my below
-            (λ s at. immediate_gives (operand_register 2 y) c ok at wb (omega (arith, same, vb)) op is (rw same (symmetric op w v turns ∙ e)))
+        -- an operand alone, where the other one is known
+        with_word : (t v : ℕ) (x : Source) (i : Plain) (o : Option ℕ) → 0 < t → t < 4 → Means x v → v < 2 ^ 32
+            → ((c : ℕ) → o ≡ Some c → (c < 2 ^ 32) × (op_result op v c ≡ Some u)) → immediate_of op d (operand_register t x) o ≡ Some i
+            → Computed (fetch t x ++ i ∷ []) d u
+        with_word t v x i None low high mx vb said is = absurd (none-some i is)
+        with_word t v x i (Some c) low high mx vb said is = let known = said c refl in
+            one_operand t d v u x (i ∷ []) low high mx below (λ s at. immediate_gives (operand_register t x) c ok at vb known.0 op is known.1)
 
         by_less : (o : Option Plain) → turned_less_of op d (operand_register 2 y) k ≡ o → Computed (code_by_less op t d o x y) d u
         by_less None is = both op t d v w u x y is_inner ok away mx my vb wb e
@@ -246,22 +246,22 @@ module _ {most total : ℕ} {gs : List RGlobal} {starts : ℕ → ℕ} where
 
         by_left : (o : Option Plain) → turned_immediate_of op d (operand_register 2 y) k ≡ o → Computed (code_by_left op t d o (known_operand k x) (known_operand l y)) d u
         by_left None is = by_less (turned_less_of op d (operand_register 2 y) k) refl
-        by_left (Some i) is = let there = if_some (is_symmetric op) (immediate_of op d (operand_register 2 y) k) i is in on_left i k kv there.0 there.1
+        by_left (Some i) is =
+            let there = if_some (is_symmetric op) (immediate_of op d (operand_register 2 y) k) i is in
+            with_word 2 w y i k (omega arith) (omega arith) my wb
+            (λ c is. let same : c ≡ v = kv c is in (omega (arith, same, vb), rw same (symmetric op w v there.0 ∙ e))) there.1
 
-        by_right : (o : Option ℕ) → ((c : ℕ) → o ≡ Some c → c ≡ w) → (p : Option Plain) → immediate_of op d (operand_register t x) o ≡ p
-            → Computed (code_by_right op t d p (known_operand k x) (known_operand l y)) d u
-        by_right o said None is = by_left (turned_immediate_of op d (operand_register 2 y) k) refl
-        by_right None said (Some i) is = absurd (none-some i is)
-        by_right (Some c) said (Some i) is =
-            let same : c ≡ w = said c refl in
-            one_operand t d v u x (i ∷ []) is_inner.low is_inner.high mx below
-            (λ s at. immediate_gives (operand_register t x) c ok at vb (omega (arith, same, wb)) op is (rw same e))
+        by_right : (o : Option Plain) → immediate_of op d (operand_register t x) l ≡ o
+            → Computed (code_by_right op t d o (known_operand k x) (known_operand l y)) d u
+        by_right None is = by_left (turned_immediate_of op d (operand_register 2 y) k) refl
+        by_right (Some i) is = with_word t v x i l is_inner.low is_inner.high mx vb
+            (λ c is. let same : c ≡ w = lw c is in (omega (arith, same, wb), rw same e)) is
 
         by_multiple : (a b : Option ShiftedSum) → multiple_of op l ≡ a → multiple_of op k ≡ b
             → Computed (code_by_multiple t d a x (code_by_multiple t d b y (code_by_word op t d (known_operand k x) (known_operand l y)))) d u
         by_multiple (Some m) b is _ = times t d v u x m is_inner ok away mx below (multiplied op l m v w u lw vb wb is e)
         by_multiple None (Some m) _ is = times t d w u y m is_inner ok y_away my below (turned_multiplied op k m v w u kv vb wb is e)
-        by_multiple None None _ _ = by_right l lw (immediate_of op d (operand_register t x) l) refl
+        by_multiple None None _ _ = by_right (immediate_of op d (operand_register t x) l) refl
 
     -- a state in which a register and an offset lead to a place of the data, and what base is kept there
     pub record AtElement (is : List Plain) (w : Width) (b : ℕ) (z : ℤ) (p : ℕ) (kept : Option Kept) : Type 0 where
@@ -469,7 +469,7 @@ module _ {most total : ℕ} {gs : List RGlobal} {starts : ℕ → ℕ} where
         (stores_at width to (operand_register 2 y) (element_base o) (element_offset width (starts a) o) at
         (rw (read_other m.regs z.regs (element_base o) (λ _. z.others (element_base o) p.apart)) p.here) p.ok) in
         f registers top.slots g' (set_at width to at w) (longer_behind (element_code width (starts a) o x) _ (longer_behind (fetch 2 y) _ (omega arith)))
-        (runs_then p.runs (runs_then z.runs store))
+        (runs_then {u = set_at width to at w} p.runs (runs_then {u = set_at width to at w} z.runs store))
         (data_written a v w g' (operand_below h lz b w ok ew) (ap (arrays_with g a v) (sym (kept_is gs a w c ec)) ∙ eg) z.stands) lz
         (kept_same (λ q up. z.others q (omega (arith, up))) p.is_kept, offset_same (λ q up ne. z.others q (omega (arith, up)) ∙ p.others q up ne) kp.1) k
         (none_last top.homes registers top.slots (set_at width to at w))))))

@@ -268,9 +268,6 @@ sums : (s : State) (t q start k : ℕ) → IsTarget t → read 0 s.regs q ≡ k 
     → Based (base_sum t start q) s t (wrap (k + base_word start))
 sums s t q start k ok is apart gp few = go (nat_lt start 65536) refl
   where
-    high_is : start < 1048576 → wrap (page (address_of_place start) * 2 ^ 16) ≡ page (address_of_place start) * 65536
-    high_is few = omega (arith, few)
-
     go : (b : Bool) → nat_lt start 65536 ≡ b
         → Based (if b then Alu Addu t q 28 ∷ [] else LoadUpper 2 (page (address_of_place start)) ∷ Alu Addu t q 2 ∷ []) s t
         (wrap (k + (if b then data_middle else page (address_of_place start) * 65536)))
@@ -287,7 +284,8 @@ sums s t q start k ok is apart gp few = go (nat_lt start 65536) refl
         let s1 = set s 2 v in
         let all = op_value operators.Addu (read 0 s1.regs q) (s1.regs 2) in
         let index : read 0 s1.regs q ≡ k = read_other s.regs s1.regs q (λ _. put_other s.regs 2 v q apart) ∙ is in
-        let upper : s1.regs 2 ≡ page (address_of_place start) * 65536 = put_here s.regs 2 v t2 ∙ high_is few in
+        let high : v ≡ page (address_of_place start) * 65536 = omega (arith, few) in
+        let upper : s1.regs 2 ≡ page (address_of_place start) * 65536 = put_here s.regs 2 v t2 ∙ high in
         record {
           regs = put s1.regs t all;
           runs = record { ends = refl };
