@@ -55,8 +55,7 @@ module _ (func : RFunc) (f : Frame) (ok : IsChoice func f) where
   saved_eight = few 8 (length f.saved.items) (λ j. slice_index f.saved.items j - 16) (λ j lt. below j lt) (λ i j li lj e. apart i j li lj e)
     where
       below : (j : ℕ) → j < length f.saved.items → slice_index f.saved.items j - 16 < 8
-      below j lt = (let range = saved_range j (slice_index f.saved.items j) (saved_at j lt) in let low = range.0 in let high = range.1 in
-          omega (arith, low, high))
+      below j lt = (let range = saved_range j (slice_index f.saved.items j) (saved_at j lt) in omega (arith, range.0, range.1))
 
       apart : (i j : ℕ) → i < length f.saved.items → j < length f.saved.items → slice_index f.saved.items i - 16 ≡ slice_index f.saved.items j - 16 → i ≡ j
       apart i j li lj e =

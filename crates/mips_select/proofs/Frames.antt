@@ -58,6 +58,11 @@ stack_open total p n o s h a4 lt =
           (omega (arith, e, h.low)) (omega (arith, e, h.high, lt)),
     )
 
+-- it stays so where neither the stack pointer nor what is mapped changes
+still_in : {total p n : ℕ} {s t : State} → InStack total p n s → t.regs 29 ≡ s.regs 29 → t.mapped ≡ s.mapped → IsWords t → InStack total p n t
+still_in h pointer mapped words =
+    record { pointer = pointer ∙ h.pointer; mapped = mapped ∙ h.mapped; words = words; aligned = h.aligned; low = h.low; high = h.high }
+
 pub saves_run : (total p n at : ℕ) (rs : List ℕ) (s : State) → AreKept rs → at % 4 ≡ 0 → at + 4 * length rs ≤ n → InStack total p n s → Saved p at rs s
 saves_run total p n at [] s kept a4 le h = record {
   memory = s.memory;
@@ -70,14 +75,7 @@ saves_run total p n at (r ∷ rs) s kept a4 le h =
     let a = s.regs 29 + at in
     let ok = stack_open total p n at s h a4 (omega (arith, le)) in
     let s1 = set_word s a (s.regs r) in
-    let h1 : InStack total p n s1 = record {
-      pointer = h.pointer;
-      mapped = h.mapped;
-      words = set_at_words Word s a (s.regs r) h.words;
-      aligned = h.aligned;
-      low = h.low;
-      high = h.high;
-    } in
+    let h1 : InStack total p n s1 = still_in h refl refl (set_at_words Word s a (s.regs r) h.words) in
     let rest = saves_run total p n (at + 4) rs s1 (λ j q there. kept (suc j) q there) (omega (arith, a4)) (omega (arith, le)) h1 in
     let s2 : State = record s { memory = rest.memory } in
     let a_is : s.regs 29 + at ≡ p + at = ap (λ x. x + at) h.pointer in
@@ -132,15 +130,7 @@ restores_run total p n at (r ∷ rs) s kept a4 le h =
     let s1 = set s r v in
     let is_kept = kept 0 r refl in
     let pointer : s1.regs 29 ≡ s.regs 29 = put_other s.regs r v 29 (λ e. is_kept.2 (sym e)) in
-    let h1 : InStack total p n s1 = record {
-      pointer = pointer ∙ h.pointer;
-      mapped = h.mapped;
-      words = set_words s r v h.words
-          (word_below s (s.regs 29 + at) h.words);
-      aligned = h.aligned;
-      low = h.low;
-      high = h.high;
-    } in
+    let h1 : InStack total p n s1 = still_in h pointer refl (set_words s r v h.words (word_below s (s.regs 29 + at) h.words)) in
     let rest = restores_run total p n (at + 4) rs s1 (λ j q there. kept (suc j) q there) (omega (arith, a4)) (omega (arith, le)) h1 in
     record {
       regs = rest.regs;

@@ -1,5 +1,5 @@
 -- Functions one behind another are linked and owned.
-use Rattle.std.proofs.Common.{◌≡◌, ◌≢◌, ℕ, zero, suc, ◌+◌, ◌-◌, ◌<◌, ◌≤◌, ◌⊎◌, inl, inr, List, [], ◌∷◌, length, length-append, Some, refl}
+use Rattle.std.proofs.Common.{⊎_elim, ◌≡◌, ◌≢◌, ℕ, zero, suc, ◌+◌, ◌-◌, ◌<◌, ◌≤◌, ◌⊎◌, List, [], ◌∷◌, length, length-append, Some, refl}
 use Rattle.std.proofs.Common.{sym, ap, ◌∙◌, subst, arith}
 use Rattle.std.specs.Prelude.{slice_get, replicate}
 use Rattle.std.proofs.lemmas.List.{length-replicate}
@@ -34,19 +34,8 @@ module _ (bound : ℕ) (blocks : List BlockParts) (owner : List ℕ) where
   in_function : (k : ℕ) (fs : List (List BlockParts)) → k + length (blocks_of fs) ≤ bound → AreFunctions bound k fs
       → HasAt blocks k (blocks_of fs) → HasAt owner k (owners_of k fs) → (i : ℕ) → i < length (blocks_of fs) → InFunction (k + i)
   in_function k [] fits are has owned i lt = absurd (omega (arith, lt))
-  in_function k (f ∷ fs) fits are has owned i lt =
-      by_length (apart_from (length f) i)
-      (λ d d_lt. in_function (k + length f) fs (omega (arith, fits, sum)) are.1 (has_back _ _ has) owned_behind d d_lt)
-    where
-      sum : length (blocks_of (f ∷ fs)) ≡ length f + length (blocks_of fs)
-      sum = length-append f (blocks_of fs)
-
-      owned_behind : HasAt owner (k + length f) (owners_of (k + length f) fs)
-      owned_behind = (let here : k + length (replicate (length f) k) ≡ k + length f = ap (λ n. k + n) (length-replicate (length f) k) in
-          subst (λ n. HasAt owner n (owners_of (k + length f) fs)) here (has_back _ _ owned))
-
-      by_length : (i < length f) ⊎ ((d : ℕ) × (i ≡ length f + d)) → ((d : ℕ) → d < length (blocks_of fs) → InFunction (k + length f + d)) → InFunction (k + i)
-      by_length (inl here) rest = record {
+  in_function k (f ∷ fs) fits are has owned i lt = ⊎_elim
+      (λ here. record {
         start = k;
         behind = i;
         code = f;
@@ -56,10 +45,17 @@ module _ (bound : ℕ) (blocks : List BlockParts) (owner : List ℕ) where
         function = are.0;
         blocks_at = has_front _ _ has;
         owned = has_front _ _ owned;
-      }
-      by_length (inr e) rest =
-          let moved : k + length f + e.0 ≡ k + i = omega (arith, e.1) in
-          subst InFunction moved (rest e.0 (omega (arith, lt, e.1, sum)))
+      })
+      (λ e. let moved : k + length f + e.0 ≡ k + i = omega (arith, e.1) in
+      subst InFunction moved (in_function (k + length f) fs (omega (arith, fits, sum)) are.1 (has_back _ _ has) owned_behind e.0 (omega (arith, lt, e.1, sum))))
+      (apart_from (length f) i)
+    where
+      sum : length (blocks_of (f ∷ fs)) ≡ length f + length (blocks_of fs)
+      sum = length-append f (blocks_of fs)
+
+      owned_behind : HasAt owner (k + length f) (owners_of (k + length f) fs)
+      owned_behind = (let here : k + length (replicate (length f) k) ≡ k + length f = ap (λ n. k + n) (length-replicate (length f) k) in
+          subst (λ n. HasAt owner n (owners_of (k + length f) fs)) here (has_back _ _ owned))
 
   owned_from : (start n : ℕ) → HasAt owner start (replicate n start) → (t : ℕ) → IsFrom start n t → slice_get owner t ≡ Some start
   owned_from start n owned t at =
