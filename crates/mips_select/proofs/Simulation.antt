@@ -263,9 +263,6 @@ module _ (h : Homed) (depth : ℕ) (blocks : List BlockParts) (ok : IsSelected h
         match = starts_block r slots a ws g out l b block s at st;
       })
 
-  regrouped : (a b c : List Plain) (s t : State) → RunsTo ((a ++ b) ++ c) s t → RunsTo (a ++ (b ++ c)) s t
-  regrouped a b c s t e = subst (λ is. RunsTo is s t) (append_assoc a b c) e
-
   -- a function is entered, from a point that leads to its first block
   pub entered : (p : Point) (f : ℕ) (func : RFunc) (frame : Frame) → IsFunction blocks linking ok.most f func frame
       → (r : Places) (arrays : Arrays) (ws : List Activation) (link : ℕ) (result_to : Option ℕ) (below : List ℕ) (vs : List ℕ) (s : State) (out : List ℕ)
@@ -285,8 +282,8 @@ module _ (h : Homed) (depth : ℕ) (blocks : List BlockParts) (ok : IsSelected h
       (subst (λ n. AreClear (locations frame) 4 0 n) (sym count) is.clear)
       (λ j v at. (let low = slice_get_within vs j v at in e.same (4 + j) (omega (arith, low, count, is.parameters))) ∙ here j v at) e.stands
       (λ r' s' s2 e2 st2. begins r' s' s2 (subst (λ n. RunsTo (prologue is.leaf frame n) s s2) count
-      (regrouped (stack_step Save (frame_bytes is.leaf frame)) (frame_words Save (4 * frame.slots) frame.saved.items ++ frame_link Save is.leaf frame)
-      (parameters_code (locations frame) 4 0 (length vs)) s s2 (runs_then e.runs e2))) st2)
+      (subst (λ is. RunsTo is s s2) (append_assoc (stack_step Save (frame_bytes is.leaf frame)) (frame_words Save (4 * frame.slots) frame.saved.items
+      ++ frame_link Save is.leaf frame) (parameters_code (locations frame) 4 0 (length vs))) (runs_then e.runs e2))) st2)
     where
       callee : Places → Activation
       callee slots = new_activation func.blocks.items frame slots r result_to
@@ -402,8 +399,8 @@ module _ (h : Homed) (depth : ℕ) (blocks : List BlockParts) (ok : IsSelected h
           (λ r' slots' s' e st' _. f r' slots' s' e st'))
 
   -- behind a block only callee-saved registers are known, and none of them has a word to come
-  settled : (deferred r : Places) (g : Arrays) (fs : List Stored) (s : State) → AreDeferred deferred r → Stand (hide deferred r) g fs s → Stand (callee_saved r) g fs s
-  settled deferred r g fs s lz st = fewer_stand st (λ q v is. grind (arith, lz.caller_saved q))
+  settled : {deferred r : Places} {g : Arrays} {fs : List Stored} {s : State} → AreDeferred deferred r → Stand (hide deferred r) g fs s → Stand (callee_saved r) g fs s
+  settled lz st = fewer_stand st (λ q v is. grind (arith, lz.caller_saved q))
 
   -- an activation that has come to its exit
   module _ (r : Places) (a : Activation) (ws : List Activation) (g : Arrays) (out : List ℕ) (p : Point) (m : Match r a ws g out p) where
@@ -431,9 +428,6 @@ module _ (h : Homed) (depth : ℕ) (blocks : List BlockParts) (ok : IsSelected h
 
     abbrev Leaving : RExit → Type 0
     Leaving x = CodeAt placing m.head m.facts m.last k x
-
-    settles : (s : State) → Stand (hide m.facts.deferred r) g (stored ∷ fs) s → Stand (callee_saved r) g (stored ∷ fs) s
-    settles s st = settled m.facts.deferred r g (stored ∷ fs) s m.are_deferred st
 
     -- what an exit reads is what the home holds
     means : (x v : ℕ) → Reads x v → Denotes stored.count s (operand x) v
@@ -465,18 +459,18 @@ module _ (h : Homed) (depth : ℕ) (blocks : List BlockParts) (ok : IsSelected h
         let b = if nat_eq v 0 then z else y in
         let same : w ≡ v = same_Some w v (sym (m.is_known.by x w is_known) ∙ e) in
         let goes : c.form.exit ≡ E.Goto (m.place b) = cc (either_place m.place z y (nat_eq v 0)) in
-        goes_on [] b out s s (runs_none s) (settles s m.stands) (either m.head z y (nat_eq v 0) c.leads_on)
+        goes_on [] b out s s (runs_none s) (settled m.are_deferred m.stands) (either m.head z y (nat_eq v 0) c.leads_on)
         (λ target there. jump c.there goes there)
     branches x y z c v e None is_test None is_known is_exit =
         let one = fetches m.stands 1 v (operand x) (omega arith) (omega arith) (means x v e) in
         let s1 : State = record s { regs = one.regs } in
         let b = if nat_eq v 0 then z else y in
-        goes_on (fetch 1 (operand x)) b out s1 s1 one.runs (settles s1 one.stands) (either m.head z y (nat_eq v 0) c.leads_on) (λ target there.
+        goes_on (fetch 1 (operand x)) b out s1 s1 one.runs (settled m.are_deferred one.stands) (either m.head z y (nat_eq v 0) c.leads_on) (λ target there.
         departs c.there is_exit (λ n. rw (one.here, branch_words m.place z y v (nat_eq v 0), there)))
     branches x y z c v e (Some n) is_test known is_known is_exit =
         let b = if nat_eq v 0 then z else y in
         let taken : passes n.form n.left.source n.right.source s ≡ not (nat_eq v 0) = found m.last.comparison refl is_test in
-        goes_on [] b out s s (runs_none s) (settles s m.stands) (either m.head z y (nat_eq v 0) c.leads_on) (λ target there.
+        goes_on [] b out s s (runs_none s) (settled m.are_deferred m.stands) (either m.head z y (nat_eq v 0) c.leads_on) (λ target there.
         departs c.there is_exit (λ i.
         goes_by blocks links n.form n.left.source n.right.source (m.place y) (m.place z) k s out i
         ∙ rw (taken, branch_words m.place z y v (nat_eq v 0), there)))
@@ -491,7 +485,7 @@ module _ (h : Homed) (depth : ℕ) (blocks : List BlockParts) (ok : IsSelected h
     outputs : (x next : ℕ) (c : Leaving (Out x next)) (v : ℕ) → Reads x v
         → Reach 1 (At k (carry 4 (operand x)) s out) (state_at_block next a a.slots (around (callee_saved r) ws g (out ++ v ∷ [])))
     outputs x next c v e =
-        let st0 = settles s m.stands in
+        let st0 = settled m.are_deferred m.stands in
         let one = carries st0 4 v (operand x) (record { low = omega arith; high = omega arith }) (means x v e) in
         let st1 = caller_saved_kept st0 (above_arguments r) (omega arith) one in
         let s1 : State = record s { regs = one.regs } in
@@ -503,7 +497,7 @@ module _ (h : Homed) (depth : ℕ) (blocks : List BlockParts) (ok : IsSelected h
     gives : (x : ℕ) → Leaving (Return (Some x)) → (v : ℕ) → Reads x v → (b : Bool) → returned m.last.comparison x ≡ b
         → Reach 1 (At k (return_code b (operand x) ++ epilogue m.leaf a.frame) s out) (state_after_return (Some v) a (callee_saved r) ws g out)
     gives x c v e true is =
-        goes_back (Some x) c [] (Some v) s (runs_none s) (settles s m.stands) (λ w some. there_already m.last.comparison refl is ∙ same_Some v w some)
+        goes_back (Some x) c [] (Some v) s (runs_none s) (settled m.are_deferred m.stands) (λ w some. there_already m.last.comparison refl is ∙ same_Some v w some)
       where
         there_already : (p : Option Comparison) → m.last.comparison ≡ p → returned p x ≡ true → s.regs 2 ≡ v
         there_already None is t = absurd (true≢false (sym t))
@@ -513,10 +507,10 @@ module _ (h : Homed) (depth : ℕ) (blocks : List BlockParts) (ok : IsSelected h
     gives x c v e false is =
         let one = carries m.stands 2 v (operand x) (record { low = omega arith; high = omega arith }) (means x v e) in
         let s1 : State = record s { regs = one.regs } in
-        goes_back (Some x) c (carry 2 (operand x)) (Some v) s1 one.runs (settles s1 (sets_kept m.stands (omega arith) one)) (λ w some. one.here ∙ same_Some v w some)
+        goes_back (Some x) c (carry 2 (operand x)) (Some v) s1 one.runs (settled m.are_deferred (sets_kept m.stands (omega arith) one)) (λ w some. one.here ∙ same_Some v w some)
 
     exits : (x : RExit) → Leaving x → Reach 1 (At k (exit_code m.leaf a.frame m.facts m.last x) s out) (state_after_exit h depth x a (around r ws g out))
-    exits (Goto b) c = goes_on [] b out s s (runs_none s) (settles s m.stands) c.leads_on
+    exits (Goto b) c = goes_on [] b out s s (runs_none s) (settled m.are_deferred m.stands) c.leads_on
         (λ target there. jump c.there c.exit there)
     exits (Branch x y z) c =
         value_or_failed (λ run. Reach 1 (At k (exit_code m.leaf a.frame m.facts m.last (Branch x y z)) s out) run)
@@ -524,7 +518,7 @@ module _ (h : Homed) (depth : ℕ) (blocks : List BlockParts) (ok : IsSelected h
         (λ v e. branches x y z c v e (tested m.last.comparison x) refl (known_in m.facts x) refl c.exit)
     exits (Out x next) c =
         value_or_failed (λ run. Reach 1 (At k (carry 4 (operand x)) s out) run) (read_home a.frame.homes.items r a.slots x) out _ tt (outputs x next c)
-    exits (Return None) c = goes_back None c [] None s (runs_none s) (settles s m.stands) (λ v none. absurd (none-some v none))
+    exits (Return None) c = goes_back None c [] None s (runs_none s) (settled m.are_deferred m.stands) (λ v none. absurd (none-some v none))
     exits (Return (Some x)) c =
         value_or_failed (λ run. Reach 1 (At k (exit_code m.leaf a.frame m.facts m.last (Return (Some x))) s out) run)
         (read_home a.frame.homes.items r a.slots x) out _ tt (λ v e. gives x c v e (returned m.last.comparison x) refl)
@@ -542,7 +536,7 @@ module _ (h : Homed) (depth : ℕ) (blocks : List BlockParts) (ok : IsSelected h
         let denote = all_denote ok.most total gs starts r g kept fs s m.facts xs.items vs (frame_homes ok.most a.frame m.frame) m.is_known m.are_deferred
         st read_vs in
         let args = arguments ok.most total gs starts (callee_saved r) g kept fs s m.facts 4 xs.items vs (above_arguments r)
-        (omega arith) (omega (arith, asked, count, few)) ((c.leads_on).0).1 denote (settled m.facts.deferred r g (kept ∷ fs) s m.are_deferred st) in
+        (omega arith) (omega (arith, asked, count, few)) ((c.leads_on).0).1 denote (settled m.are_deferred st) in
         let s1 : State = record s { regs = args.regs } in
         let s2 = set s1 31 (links k) in
         let st2 = call_kept args.stands (set_words s1 31 (links k) (args.stands).words (tells.words k)) (λ leaf. absurd (true≢false (sym leaf)))
