@@ -121,8 +121,7 @@ placed_is_frame func f q most le = record {
   };
   saved = λ j r there. (let w = still_was f.homes.items (q.choice).saved.items j r (sym (ap (λ l. slice_get l j) (q.placed).saved) ∙ there) in
       was.saved w.0 r w.1);
-  fits = (let fits = was.fits in let few = still_few f.homes.items (q.choice).saved.items in let same = ap length (q.placed).saved in
-      let slots = slots_few in omega (arith, fits, few, same, slots));
+  fits = omega (arith, was.fits, still_few f.homes.items (q.choice).saved.items, ap length (q.placed).saved, slots_few);
 }
   where
     was : IsFitting most q.choice

@@ -121,8 +121,7 @@ restores_run total p n at [] s kept a4 le h = record {
   runs = runs_none s;
   words = h.words;
   others = λ q e. refl;
-  inside = λ q v e. absurd
-      (true≢false (sym e));
+  inside = λ q v e. absurd (true≢false (sym e));
 }
 restores_run total p n at (r ∷ rs) s kept a4 le h =
     let ok = stack_open total p n at s h a4 (omega (arith, le)) in

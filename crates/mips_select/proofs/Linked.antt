@@ -103,11 +103,8 @@ module _ (l : Linking) (functions : List RFunc) (bound : ℕ) (entry_below : (g 
     exit_goes k facts last (Goto b) ok le = place_below b ok
     exit_goes k facts last (Branch c t e) ok le = branch_goes (tested last.comparison c) (known_in facts c) (last_operand (locations p.frame) facts last.fresh c) (p.place t) (p.place e)
         (place_from t (ok.1).0) (place_from e (ok.1).1)
-    exit_goes k facts last (Call g xs d next) ok le = (
-      entry_below g (slice_get_within functions g (ok.0).callee (ok.0).there),
-      next_below k g d next
-          ((ok.1).1).1 (resumes d (p.heads next)) le,
-    )
+    exit_goes k facts last (Call g xs d next) ok le =
+        (entry_below g (slice_get_within functions g (ok.0).callee (ok.0).there), next_below k g d next ((ok.1).1).1 (resumes d (p.heads next)) le)
     exit_goes k facts last (Return o) ok le = tt
     exit_goes k facts last (Out x next) ok le = place_below next ok.1
 
@@ -144,8 +141,7 @@ module _ (l : Linking) (functions : List RFunc) (bound : ℕ) (entry_below : (g 
   function_goes : (k : ℕ) (func : RFunc) (f : Frame) → IsFunction functions (length l.globals) func → k + function_size func ≤ bound
       → IsFunctionAt bound k (function_blocks l k func f)
   function_goes k func f ok le = record {
-    by = λ i b there. subst (λ n. GoesWithin bound k n b.exit) (sym (function_length l k func f))
-        (go i b there);
+    by = λ i b there. subst (λ n. GoesWithin bound k n b.exit) (sym (function_length l k func f)) (go i b there);
   }
     where
       bs : List RBlock

@@ -101,8 +101,7 @@ pub functions_owned : (fs : List (List BlockParts)) → AreFunctions (length (bl
     × AreOwners (blocks_of fs) (owners_of 0 fs)
 functions_owned fs are = (
   record {
-    by =
-        λ i b there. (let at = place i (slice_get_within blocks i b there) in
+    by = λ i b there. (let at = place i (slice_get_within blocks i b there) in
         below bound blocks owner at.start (length at.code) at.fits b.exit (exit_within bound blocks owner i b at there));
   },
   record {

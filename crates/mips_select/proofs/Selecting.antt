@@ -74,8 +74,7 @@ functions_emittable p functions n ok is n_is = record {
               let x = all_at (IsBlock p.functions (length p.globals) (length func.blocks.items)) func.blocks.items b block function.blocks at in
               subst (λ n. IsEmittable n block) (sym n_is) (record {
                 insts = x.insts;
-                exit = few_arguments p.functions (length p.globals)
-                    (length func.blocks.items) block.exit ok.functions x.exit;
+                exit = few_arguments p.functions (length p.globals) (length func.blocks.items) block.exit ok.functions x.exit;
               });
         };
       };

@@ -347,8 +347,7 @@ module _ (h : Homed) (depth : ℕ) (blocks : List BlockParts) (ok : IsSelected h
         match = refl;
       })
   returns p d k form a (w ∷ ws) link [] o r g out s there is at result st waits lead = absurd waits
-  returns p d k form a (w ∷ ws) link (l ∷ ls) o r g out s there is at result st waits lead = put a.result_to
-      resumed
+  returns p d k form a (w ∷ ws) link (l ∷ ls) o r g out s there is at result st waits lead = put a.result_to resumed
     where
       m : Resumes link a.result_to w
       m = waits.0

@@ -46,11 +46,8 @@ module _ (most : ℕ) (blocks : List BlockParts) (linked : AreLinked blocks) (li
       let b = found.0 in
       let e = enters whole links most (renumbered_exit place b.exit) (last t) (more_pieces most b) (place t) b.insts
       (has_pieces most place whole 0 blocks (has_whole whole) t b found.1) (last_piece most 0 blocks t b found.1) in
-      let r = runs t b found.1 b.insts s out (more_pieces most b) (place t) e.block.insts e.inside in (
-        r.count,
-        r.enough,
-        cc (e.there, r.ends, found.1),
-      )
+      let r = runs t b found.1 b.insts s out (more_pieces most b) (place t) e.block.insts e.inside in
+      (r.count, r.enough, cc (e.there, r.ends, found.1))
 
   -- a return
   enter_back : (i : ℕ) → Runs i → (word : ℕ) (s : State) (out : List ℕ) → (j : ℕ) × (i ≤ j)
@@ -66,11 +63,7 @@ module _ (most : ℕ) (blocks : List BlockParts) (linked : AreLinked blocks) (li
           (return_block_of long word 0 blocks) (items blocks long i) s out)
       go None e f = (i, omega arith, cc)
       go (Some t) e f =
-          let r = enter i runs t (return_below long word (length blocks) 0 blocks linked.by t e) s out in (
-            r.0,
-            r.1,
-            cc (r.2),
-          )
+          let r = enter i runs t (return_below long word (length blocks) 0 blocks linked.by t e) s out in (r.0, r.1, cc (r.2))
 
   -- a branch
   choose : (i : ℕ) → Runs i → (passes : Bool) (t e : ℕ) → t < length blocks → e < length blocks → (s : State) (out : List ℕ)

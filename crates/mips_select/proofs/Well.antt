@@ -64,8 +64,7 @@ module _ (most : ℕ) (some : 0 < most) (blocks : List BlockParts) where
 
   place_below : (t : ℕ) → t < length blocks → place t < length whole
   place_below t lt =
-      let b = block_there blocks t lt in
-      omega (arith, piece_there t b.0 b.1 0 (omega arith))
+      let b = block_there blocks t lt in omega (arith, piece_there t b.0 b.1 0 (omega arith))
 
   -- piece i of the unit
   record Piece (i : ℕ) (p : BlockParts) : Type 0 where
@@ -151,8 +150,7 @@ module _ (most : ℕ) (some : 0 < most) (blocks : List BlockParts) where
           is = is;
           owner_is = o.0;
           by = o.1;
-          here =
-              ap (slice_get owned) is ∙ piece_owner at.number o.0 at.block at.there o.1 at.behind at.within;
+          here = ap (slice_get owned) is ∙ piece_owner at.number o.0 at.block at.there o.1 at.behind at.within;
         }
 
     pieces_within : (i o : ℕ) (p : BlockParts) → slice_get whole i ≡ Some p → slice_get owned i ≡ Some o → BranchesWithin owned o p.exit
@@ -181,9 +179,7 @@ module _ (most : ℕ) (some : 0 < most) (blocks : List BlockParts) where
     continues_from i w n (suc j) b there le is e other =
         let here : i ≡ place n + j = omega (arith, e) in
         ap (slice_get owned) here ∙ piece_owner n w b there is j (omega (arith, le))
-    continues_from i w zero zero b there le is e other =
-        let first = first_zero most blocks in
-        absurd (omega (arith, first, e))
+    continues_from i w zero zero b there le is e other = absurd (omega (arith, first_zero most blocks, e))
     continues_from i w (suc m) zero b there le is e other = ⊎_elim
         (λ at. (let here : place (suc m) ≡ suc i = omega (arith, e) in absurd (other (ap place at ∙ here))))
         (λ ne. (let before : slice_get owner m ≡ Some w = owners.continues (suc m) w is ne in
