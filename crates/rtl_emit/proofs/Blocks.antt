@@ -5,6 +5,8 @@ use Rattle.std.proofs.Math.ListN.{length-set}
 use Rattle.rtl.specs.Meaning.{Code, code_of}
 use Rattle.rtl_emit.specs.Blocks.{Spot, Block, Line, line_of, insts_of, insts_at, insts_in, Grows, Has, At, Fills}
 use Rattle.rtl.specs.declared.block.RBlock.{RBlock}
+use Rattle.rtl.specs.declared.instruction.RExit.{RExit}
+use Rattle.rtl.specs.declared.instruction.RInst.{RInst}
 
 pub within : {a b : List RBlock} {n : ℕ} → Grows a b → length b ≤ n → length a ≤ n
 within g le = let l = g.longer in omega (arith, l, le)
@@ -31,22 +33,17 @@ pub one_longer : (old new : List RBlock) (b : RBlock) → new ≡ old ++ b ∷ [
 one_longer old new b e = omega (arith, ap length e, length-append old (b ∷ []))
 
 pub grows_push : (old new : List RBlock) (b : RBlock) → new ≡ old ++ b ∷ [] → Grows old new
-grows_push old new b e =
-    let one : length (old ++ b ∷ []) ≡ length old + 1 = omega (arith, length-append old (b ∷ [])) in
-    record {
-      longer = omega (arith, ap length e, one);
-      kept = λ i lt. ap (λ l. slice_get l i) e ∙ before_seam old b i lt;
-    }
+grows_push old new b e = record {
+  longer = omega (arith, one_longer old new b e);
+  kept = λ i lt. ap (λ l. slice_get l i) e ∙ before_seam old b i lt;
+}
 
 pub at_seam : (bs old new : List RBlock) (b : RBlock) (c : Code) → new ≡ old ++ b ∷ [] → code_of b ≡ c → Has bs old new → At bs (length old) c
-at_seam bs old new b c e is h =
-    let one : length (old ++ b ∷ []) ≡ length old + 1 = omega (arith, length-append old (b ∷ [])) in
-    record {
-      block = b;
-      there = h.by (length old) (omega arith) (omega (arith, ap length e, one)) ∙ ap (λ l. slice_get l (length old)) e
-          ∙ seam old b;
-      is = is;
-    }
+at_seam bs old new b c e is h = record {
+  block = b;
+  there = h.by (length old) (omega arith) (omega (arith, one_longer old new b e)) ∙ ap (λ l. slice_get l (length old)) e ∙ seam old b;
+  is = is;
+}
 
 set_there : (l : List RBlock) (b : ℕ) (x : RBlock) → b < length l → slice_get (slice_set l b x) b ≡ Some x
 set_there [] b x lt = absurd (omega arith)
@@ -66,6 +63,10 @@ fills_set old b x c lt is = record {
   others = λ i ne. set_others old b x i ne;
   at = record { block = x; there = set_there old b x lt; is = is };
 }
+
+-- the code of a list of instructions that is another one
+pub coded : {x : RExit} {l m : List RInst} → l ≡ m → (let r : Code = record { insts = l; exit = x } in r) ≡ record { insts = m; exit = x }
+coded e = rw e refl
 
 -- their instructions
 

@@ -29,8 +29,7 @@ use Rattle.rtl_emit.proofs.Values.{at_both, taken, yields_after, yields_then}
 branch : (w : Surroundings) (bs : List RBlock) (p yes_block no_block : ℕ) (r : Places) (v : ℕ) → r p ≡ Some v
     → rtl_step w.program w.depth (at w bs r (exit_code (X.Branch p yes_block no_block)))
     ≡ state_at_block w bs r (if nat_eq v 0 then no_block else yes_block)
-branch w bs p yes_block no_block r v e =
-    with_some (r p) v w.output (λ v. state_at_block w bs r (if nat_eq v 0 then no_block else yes_block)) e
+branch w bs p yes_block no_block r v e = rw e refl
 
 -- the code of a block, where a condition has arrived
 enters : (w : Surroundings) (bs : List RBlock) (free : ℕ) (r : Places) (from code : Code) (side : ℕ) (ar : Arrives w bs free r from side) → At bs side code

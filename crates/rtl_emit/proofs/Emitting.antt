@@ -46,6 +46,22 @@ grows_same bs = record { longer = omega arith; kept = λ i lt. refl }
 pub beyond_more : (r b g r' b' g' : ℕ) → r ≤ r' → b ≤ b' → g ≤ g' → Beyond r b g → Beyond r' b' g'
 beyond_more r b g r' b' g' lr lb lg beyond = omega (arith, lr, lb, lg, beyond)
 
+-- a part that comes behind k blocks is refused, and with it the whole
+pub part_refused : {A B : Type 0} {part : Description A} {whole : Description B} {old mid new : List RBlock} {f : LowerFault}
+    {r : Result B LowerFault} (k : ℕ) → Emits part mid new (Err f) → r ≡ Err f → part.size.registers ≤ whole.size.registers
+    → k + part.size.blocks ≤ whole.size.blocks → part.size.globals ≤ whole.size.globals → Grows old mid → length mid ≡ length old + k
+    → Emits whole old new r
+part_refused {A} {B} {part} {whole} {old} {mid} {new} k e is lr lb lg g n =
+    subst (λ r. Emits whole old new r) (sym is) (record {
+      grows = grows_then old mid new g e.grows;
+      count = tt;
+      room = tt;
+      limit = λ l. beyond_more part.size.registers (length mid + part.size.blocks) part.size.globals whole.size.registers
+          (length old + whole.size.blocks) whole.size.globals lr (omega (arith, n, lb)) lg (e.limit l);
+      sound = tt;
+      does = tt;
+    })
+
 -- what is emitted last, behind k blocks, makes a whole of this size
 pub record Ends (last whole : Size) (k : ℕ) : Type 0 where
   pub blocks : whole.blocks ≡ k + last.blocks
@@ -68,15 +84,7 @@ ended {A} {last} {whole} {old} {mid} {new} {r} k emits sizes g n keeps does = by
       sound = keeps x e.sound;
       does = does x e.does;
     }
-    by (Err f) e = record {
-      grows = grows_then old mid new g e.grows;
-      count = tt;
-      room = tt;
-      limit = λ is. beyond_more last.size.registers (length mid + last.size.blocks) last.size.globals whole.size.registers
-          (length old + whole.size.blocks) whole.size.globals sizes.registers (omega (arith, n, sizes.blocks)) sizes.globals (e.limit is);
-      sound = tt;
-      does = tt;
-    }
+    by (Err f) e = part_refused k e refl sizes.registers (omega (arith, sizes.blocks)) sizes.globals g n
 
 -- nothing was added, and a size is beyond a limit or memory was refused
 pub refused : {A : Type 0} {d : Description A} {old new : List RBlock} {r : Result A LowerFault} (f : LowerFault) → r ≡ Err f → new ≡ old
@@ -87,22 +95,6 @@ refused {A} {d} {old} {new} f is same limit =
       count = tt;
       room = tt;
       limit = limit;
-      sound = tt;
-      does = tt;
-    })
-
--- a part that comes behind k blocks is refused, and with it the whole
-pub part_refused : {A B : Type 0} {part : Description A} {whole : Description B} {old mid new : List RBlock} {f : LowerFault}
-    {r : Result B LowerFault} (k : ℕ) → Emits part mid new (Err f) → r ≡ Err f → part.size.registers ≤ whole.size.registers
-    → k + part.size.blocks ≤ whole.size.blocks → part.size.globals ≤ whole.size.globals → Grows old mid → length mid ≡ length old + k
-    → Emits whole old new r
-part_refused {A} {B} {part} {whole} {old} {mid} {new} k e is lr lb lg g n =
-    subst (λ r. Emits whole old new r) (sym is) (record {
-      grows = grows_then old mid new g e.grows;
-      count = tt;
-      room = tt;
-      limit = λ l. beyond_more part.size.registers (length mid + part.size.blocks) part.size.globals whole.size.registers
-          (length old + whole.size.blocks) whole.size.globals lr (omega (arith, n, lb)) lg (e.limit l);
       sound = tt;
       does = tt;
     })
@@ -130,61 +122,19 @@ pub contrary_test_names : (b : Bool) (free p n m : ℕ) → b ≡ false → test
 contrary_test_names true free p n m is le = absurd (cc)
 contrary_test_names false free p n m is le = (omega (arith, le), omega (arith, le))
 
-pub contrary_ends : (likely : Bool) → likely ≡ false → (o : BinaryOp) (k : IntegerType) (l r : TypedExpression) (free next : ℕ) → is_logical o ≡ false
-    → has_contrary o ≡ true → next ≡ next_free l free
-    → max (free + 1) (both_registers l r free) ≤ MAX_REGISTERS
-    → Ends (both_size l r free next) (condition_size (binary o k l r) likely free) 0
-contrary_ends true it o k l r free next plain has is room = absurd (cc)
-contrary_ends false it o k l r free next plain has is room =
-    subst (λ next. Ends (both_size l r free next) (condition_size (binary o k l r) false free) 0) (sym is) (record {
-      blocks = rw plain (omega arith);
-      registers = rw (plain, has) (omega arith);
-      room = λ le. rw (plain, has) (omega (arith, le, room));
-      globals = omega arith;
-    })
-
 pub held_names : (l r : TypedExpression) (free p next q last n : ℕ) → IsPlace l free p next → IsPlace r next q last
     → operands_registers (place_registers l free) (place_registers r (next_free l free)) (value_registers l free) (value_registers r (next_free l free)) ≤ n
     → (p < n) × ((q < n) × ((max (value_registers r next) (value_registers l free) ≤ n)
     × (both_registers l r free ≤ n)))
 held_names l r free p next q last n pl pr le =
-    let pw = pl.counted in
-    let qw = pr.counted in
-    let qe = ap (place_registers r) pl.next_is in
-    let ve = ap (value_registers r) pl.next_is in
-    (omega (arith, pw, le), (omega (arith, qw, qe, le), (omega (arith, ve, le), omega (arith, le))))
+    (omega (arith, pl.counted, le), (omega (arith, pr.counted, ap (place_registers r) pl.next_is, le),
+    (omega (arith, ap (value_registers r) pl.next_is, le), omega (arith, le))))
 
--- of the registers of a contrary comparison, the one that is tested and those of its operands
-pub contrary_names : (likely : Bool) → likely ≡ false → (o : BinaryOp) (k : IntegerType) (l r : TypedExpression) (free n : ℕ) → is_logical o ≡ false
-    → has_contrary o ≡ true → condition_registers (binary o k l r) likely free ≤ n → max (free + 1) (operands_registers (place_registers l free)
-    (place_registers r (next_free l free)) (value_registers l free) (value_registers r (next_free l free))) ≤ n
-contrary_names true it o k l r free n plain has le = absurd (cc)
-contrary_names false it o k l r free n plain has le =
-    let is : condition_registers (binary o k l r) false free ≡ max (free + 1) (operands_registers (place_registers l free)
-    (place_registers r (next_free l free)) (value_registers l free) (value_registers r (next_free l free))) = rw (plain, has) refl in
-    subst (λ m. m ≤ n) is le
-
-pub contrary_beyond : (likely : Bool) → likely ≡ false → (o : BinaryOp) (k : IntegerType) (l r : TypedExpression) (free b : ℕ) → is_logical o ≡ false
-    → has_contrary o ≡ true → MAX_REGISTERS < max (free + 1) (both_registers l r free)
-    → Beyond (condition_registers (binary o k l r) likely free) b (globals_named (binary o k l r))
-contrary_beyond true it o k l r free b plain has more = absurd (cc)
-contrary_beyond false it o k l r free b plain has more = rw (plain, has) (omega (arith, more))
-
--- `&&` and `||`, whose two blocks are behind what comes there
-told_size : (both : Bool) (k : IntegerType) (l r : TypedExpression) (free n : ℕ) → value_size (binary (logical_of both) k l r) free n ≡ record {
-  registers = condition_registers (binary (logical_of both) k l r) true free;
-  blocks = n + 2 + condition_blocks (binary (logical_of both) k l r);
-  insts = condition_insts (binary (logical_of both) k l r) + 2;
-  globals = globals_named (binary (logical_of both) k l r);
-}
-told_size true k l r free n =
-    let s = condition_size (binary B.LogicalAnd k l r) true free in
-    let b : (value_size (binary B.LogicalAnd k l r) free n).blocks ≡ n + 2 + s.blocks = omega arith in
-    ap (λ (b : ℕ). let z : Size = record { registers = s.registers; blocks = b; insts = s.insts + 2; globals = s.globals } in z) b
-told_size false k l r free n =
-    let s = condition_size (binary B.LogicalOr k l r) true free in
-    let b : (value_size (binary B.LogicalOr k l r) free n).blocks ≡ n + 2 + s.blocks = omega arith in
-    ap (λ (b : ℕ). let z : Size = record { registers = s.registers; blocks = b; insts = s.insts + 2; globals = s.globals } in z) b
+-- the registers of a contrary comparison: the one that is tested, and those of its operands
+pub contrary_registers : (o : BinaryOp) (k : IntegerType) (l r : TypedExpression) (likely : Bool) (free : ℕ) → is_logical o ≡ false
+    → has_contrary o ≡ true → likely ≡ false → condition_registers (binary o k l r) likely free ≡ max (free + 1) (operands_registers
+    (place_registers l free) (place_registers r (next_free l free)) (value_registers l free) (value_registers r (next_free l free)))
+contrary_registers o k l r likely free plain has unlikely = rw (plain, has, unlikely) refl
 
 -- values
 
@@ -351,10 +301,8 @@ not_emits old mid new o k a b d free tr t after r prefix ib it truth last =
       λ s l gs h.
           let m = truth.sound s (within last'.grows l) gs (h.0, h.1.1) in
           let is : value_registers (unary U.Not k a) free ≡ condition_registers a true free = rw by refl in
-          keeps.0 s l m.0 ((subst (λ n. n ≤ s.registers) is h.1.0.0, h.1.0.1), (m.1.1, m.1.0)),
-      (let m = keeps.1 in
-          let n : value_insts (unary U.Not k a) ≡ condition_insts a + 2 = rw by refl in
-          omega (arith, m, n, truth.insts)),
+          keeps.0 s l m.0 ((omega (arith, is, h.1.0.0), h.1.0.1), (m.1.1, m.1.0)),
+      (let n : value_insts (unary U.Not k a) ≡ condition_insts a + 2 = rw by refl in omega (arith, keeps.1, n, truth.insts)),
     ))
     (λ from does bs h.
     let p = split2 bs old mid new truth.grows last'.grows h in
@@ -427,27 +375,19 @@ logical_stops false old new k l r t free f x is e =
 
 -- a value that branches tell
 told_value : (old b0 new : List RBlock) (e : TypedExpression) (t : Targets) (d free : ℕ) (after : Spot) (x : Result OpenBlock LowerFault)
-    → Truth old b0 d t after → IsTest e → value_size e free (joint after) ≡ record {
-      registers = (condition_size e true free).registers;
-      blocks = joint after + 2 + (condition_size e true free).blocks;
-      insts = condition_insts e + 2;
-      globals = globals_named e;
-    } → Emits (condition_branch e t free) b0 new x → Emits (value e d free after) old new x
-told_value old b0 new e t d free after x tr tests size last =
+    → Truth old b0 d t after → IsTest e → value_registers e free ≡ condition_registers e true free
+    → value_blocks e (joint after) ≡ joint after + 2 + condition_blocks e → value_insts e ≡ condition_insts e + 2
+    → Emits (condition_branch e t free) b0 new x → Emits (value e d free after) old new x
+told_value old b0 new e t d free after x tr tests registers blocks insts last =
     let last' = subst (λ b. Emits (branch (condition_size e b free) e t free) b0 new x) tr.likely last in
     ended (joint after + 2) last'
-    (record {
-      blocks = ap (λ s. s.blocks) size;
-      registers = subst (λ n. (condition_size e true free).registers ≤ n) (sym (ap (λ s. s.registers) size)) (omega arith);
-      room = λ le. subst (λ n. n ≤ MAX_REGISTERS) (sym (ap (λ s. s.registers) size)) le;
-      globals = omega arith;
-    })
+    (record { blocks = blocks; registers = omega (arith, registers); room = λ le. omega (arith, registers, le); globals = omega arith })
     tr.grows tr.count
     (λ from keeps. (
       λ s n g h.
           let m = tr.sound s (within last.grows n) g (h.0, h.1.1) in
-          keeps.0 s n m.0 ((subst (λ n. n ≤ s.registers) (ap (λ s. s.registers) size) h.1.0.0, h.1.0.1), m.1),
-      (let m = keeps.1 in let n : value_insts e ≡ condition_insts e + 2 = ap (λ s. s.insts) size in omega (arith, m, n, tr.insts)),
+          keeps.0 s n m.0 ((omega (arith, registers, h.1.0.0), h.1.0.1), m.1),
+      omega (arith, keeps.1, insts, tr.insts),
     ))
     (λ from does bs h.
     let p = split2 bs old b0 new tr.grows last.grows h in
@@ -472,9 +412,9 @@ pub told_emits : (both : Bool) (old b0 new : List RBlock) (k : IntegerType) (l r
     → Emits (condition_branch (binary (logical_of both) k l r) t free) b0 new x
     → Emits (value (binary (logical_of both) k l r) d free after) old new x
 told_emits true old b0 new k l r t d free after x tr last =
-    told_value old b0 new (binary B.LogicalAnd k l r) t d free after x tr (and_tests k l r) (told_size true k l r free (joint after)) last
+    told_value old b0 new (binary B.LogicalAnd k l r) t d free after x tr (and_tests k l r) refl (omega arith) refl last
 told_emits false old b0 new k l r t d free after x tr last =
-    told_value old b0 new (binary B.LogicalOr k l r) t d free after x tr (or_tests k l r) (told_size false k l r free (joint after)) last
+    told_value old b0 new (binary B.LogicalOr k l r) t d free after x tr (or_tests k l r) refl (omega arith) refl last
 
 -- two operands
 pub both_emits : (old mid new : List RBlock) (l r : TypedExpression) (free : ℕ) (w : WaitingForTwo) (middle : OpenBlock) (x : Result OpenBlock LowerFault)
@@ -496,31 +436,10 @@ both_emits old mid new l r free w middle x second left =
     let parts = split2 bs old mid new second.grows left.grows h in
     (open_code middle, does bs parts.1, second.does bs parts.0))
 
--- the sizes of an operator whose operands are in their places
-operator_ends : (o : BinaryOp) (k : IntegerType) (l r : TypedExpression) (free next n : ℕ) → is_logical o ≡ false → next ≡ next_free l free
-    → both_registers l r free ≤ MAX_REGISTERS
-    → Ends (both_size l r free next) (value_size (binary o k l r) free n) 0
-operator_ends o k l r free next n plain is places = subst (λ next. Ends (both_size l r free next) (value_size (binary o k l r) free n) 0) (sym is) (record {
-  blocks = rw plain (omega arith);
-  registers = rw plain (omega arith);
-  room = λ le. rw plain (omega (arith, le, places));
-  globals = omega arith;
-})
-
-operator_beyond : (o : BinaryOp) (k : IntegerType) (l r : TypedExpression) (free n b : ℕ) → is_logical o ≡ false
-    → MAX_REGISTERS < both_registers l r free
-    → Beyond (value_size (binary o k l r) free n).registers b (globals_named (binary o k l r))
-operator_beyond o k l r free n b plain more = rw plain (omega (arith, more))
-
--- of the registers of an operator, those of its places, of its operands, and of the operation
-operator_names : (o : BinaryOp) (k : IntegerType) (l r : TypedExpression) (free p next q last n : ℕ) → is_logical o ≡ false → IsPlace l free p next
-    → IsPlace r next q last → value_registers (binary o k l r) free ≤ n → (p < n) × ((q < n) × ((max (value_registers r next) (value_registers l free) ≤ n)
-    × (both_registers l r free ≤ n)))
-operator_names o k l r free p next q last n plain pl pr le =
-    let is : value_registers (binary o k l r) free ≡ operands_registers (place_registers l free) (place_registers r (next_free l free))
-    (value_registers l free) (value_registers r (next_free l free)) = rw plain refl in
-    let all = subst (λ m. m ≤ n) is le in
-    held_names l r free p next q last n pl pr all
+-- the registers of an operator: those of its operands
+operator_registers : (o : BinaryOp) (k : IntegerType) (l r : TypedExpression) (free : ℕ) → is_logical o ≡ false → value_registers (binary o k l r) free
+    ≡ operands_registers (place_registers l free) (place_registers r (next_free l free)) (value_registers l free) (value_registers r (next_free l free))
+operator_registers o k l r free plain = rw plain refl
 
 pub operator_emits : (old new : List RBlock) (o : BinaryOp) (k : IntegerType) (op : Operation) (l r : TypedExpression)
     (d free : ℕ) (code : OpenBlock) (after : Spot) (w : Result WaitingForTwo LowerFault) (x : Result OpenBlock LowerFault)
@@ -534,19 +453,17 @@ pub operator_emits : (old new : List RBlock) (o : BinaryOp) (k : IntegerType) (o
     → IfOk w (λ w. Emits (two_operands l r free w) old new x)
     → IfErr w (λ f. (x ≡ Err f) × (new ≡ old)) → Emits (value (binary o k l r) d free after) old new x
 operator_emits old new o k op l r d free code after (Ok w) x computes plain fe pl pr fw sound room limit two err =
+    let size = operator_registers o k l r free plain in
+    let ve = ap (value_registers r) pl.next_is in
     ended 0 two
-    (operator_ends o k l r free w.first.free (joint after) plain pl.next_is room)
+    (record { blocks = rw plain (omega arith); registers = omega (arith, size, ve); room = λ le. omega (arith, size, ve, room, le); globals = omega arith })
     (grows_same old) (omega arith)
     (λ from keeps. (
       λ s n g h.
-          let few = operator_names o k l r free _ _ _ _ s.registers plain pl pr h.1.0.0 in
+          let few = held_names l r free _ _ _ _ s.registers pl pr (omega (arith, size, h.1.0.0)) in
           keeps.0 s n g (few.0, (few.1.0, ((few.1.1.0, h.1.0.1), sound s h.0 few.1.1.1 (sound_along fe (sound_line _ h.1.1))))),
-      (let m = keeps.1 in
-          let all : value_insts (binary o k l r) ≡ value_insts r + value_insts l + 1 = rw plain refl in
-          let n = ap insts_of fw in
-          let e = ap insts_of fe in
-          let a = line_insts after in
-          omega (arith, m, all, n, e, a)),
+      (let all : value_insts (binary o k l r) ≡ value_insts r + value_insts l + 1 = rw plain refl in
+          omega (arith, keeps.1, all, ap insts_of fw, ap insts_of fe, line_insts after)),
     ))
     (λ from does bs h.
     let m = does bs h in
@@ -554,8 +471,7 @@ operator_emits old new o k op l r d free code after (Ok w) x computes plain fe p
     (operates bs op l r d free w.first.register w.first.free w.second.register w.second.free (open_code from) m.0 (line_of after) pl pr m.1
     (finds_to (fw ∙ ap (first (inst_of op d w.first.register w.second.register)) fe) m.2)))
 operator_emits old new o k op l r d free code after (Err f) x computes plain fe pl pr fw sound room limit two err =
-    refused f err.0 err.1
-    (λ is. operator_beyond o k l r free (joint after) (length old + (value_size (binary o k l r) free (joint after)).blocks) plain (limit is))
+    refused f err.0 err.1 (λ is. omega (arith, operator_registers o k l r free plain, limit is))
 
 pub told_stops : (both : Bool) (old new : List RBlock) (k : IntegerType) (l r : TypedExpression) (d free : ℕ) (after : Spot) (f : LowerFault)
     (x : Result OpenBlock LowerFault) → x ≡ Err f → Grows old new → (f ≡ Limit → MAX_BLOCKS < length old + (joint after + 2))

@@ -36,7 +36,7 @@ use Rattle.rtl_emit.proofs.Conditions.{constant_decides, contrary_decides, condi
 use Rattle.rtl_emit.proofs.Emitted.{finds_to, unary_is, Over}
 use Rattle.rtl_emit.proofs.Sound.{sound_exit}
 use Rattle.rtl_emit.proofs.Values.{operates, fetched}
-use Rattle.rtl_emit.proofs.Emitting.{contrary_beyond, contrary_ends, contrary_names, ended, grows_same, held_names, refused, test_beyond, test_both, test_least, test_names}
+use Rattle.rtl_emit.proofs.Emitting.{contrary_registers, ended, grows_same, held_names, refused, test_beyond, test_both, test_least, test_names}
 
 -- code as a block of its own
 pub block_emits : (old mid new : List RBlock) (size : Size) (Needs Needs' : Scope → Type 0) (Is : List RBlock → Code → Type 0) (code : OpenBlock)
@@ -213,28 +213,24 @@ pub contrary_emits : (old new : List RBlock) (o : BinaryOp) (k : IntegerType) (o
     → IfOk w (λ w. Emits (two_operands l r free w) old new x)
     → IfErr w (λ f. (x ≡ Err f) × (new ≡ old)) → Emits (condition_branch (binary o k l r) t free) old new x
 contrary_emits old new o k op l r t free (Ok w) x tests plain has unlikely pl pr fw sound room limit two err =
+    let size = contrary_registers o k l r t.likely free plain has unlikely in
+    let ve = ap (value_registers r) pl.next_is in
     ended 0 two
-    (contrary_ends t.likely unlikely o k l r free w.first.free plain has pl.next_is room)
+    (record { blocks = rw plain (omega arith); registers = omega (arith, size, ve); room = λ le. omega (arith, size, ve, room, le); globals = omega arith })
     (grows_same old) (omega arith)
     (λ from keeps. (
       λ s n g h.
-          let all = contrary_names t.likely unlikely o k l r free s.registers plain has h.0.0 in
-          let few = held_names l r free _ _ _ _ s.registers pl pr (omega (arith, all)) in
-          let places = few.1.1.1 in
-          let tested : max (free + 1) (both_registers l r free) ≤ s.registers = omega (arith, all, places) in
-          keeps.0 s n g (few.0, (few.1.0, ((few.1.1.0, h.0.1), sound s tested h.1.0 h.1.1))),
-      (let m = keeps.1 in
-          let all : condition_insts (binary o k l r) ≡ value_insts r + value_insts l + 1 + 2 = rw plain refl in
-          let n = ap insts_of fw in
-          omega (arith, m, all, n)),
+          let few = held_names l r free _ _ _ _ s.registers pl pr (omega (arith, size, h.0.0)) in
+          keeps.0 s n g (few.0, (few.1.0, ((few.1.1.0, h.0.1), sound s (omega (arith, size, h.0.0)) h.1.0 h.1.1))),
+      (let all : condition_insts (binary o k l r) ≡ value_insts r + value_insts l + 1 + 2 = rw plain refl in
+          omega (arith, keeps.1, all, ap insts_of fw)),
     ))
     (λ from does bs h.
     let m = does bs h in
     contrary_decides bs o k op l r free t.yes t.no free (open_code from) tests (omega arith)
     (operates bs op l r free free w.first.register w.first.free w.second.register w.second.free (open_code from) m.0 _ pl pr m.1 (finds_to fw m.2)))
 contrary_emits old new o k op l r t free (Err f) x tests plain has unlikely pl pr fw sound room limit two err =
-    refused f err.0 err.1
-    (λ is. contrary_beyond t.likely unlikely o k l r free (length old + condition_blocks (binary o k l r)) plain has (limit is))
+    refused f err.0 err.1 (λ is. omega (arith, contrary_registers o k l r t.likely free plain has unlikely, limit is))
 
 pub test_emits : (old new : List RBlock) (e : TypedExpression) (t : Targets) (free : ℕ) (w : Result Waiting LowerFault) (x : Result OpenBlock LowerFault)
     → IfOk w (λ w. IsPlace e free w.place.register w.place.free)

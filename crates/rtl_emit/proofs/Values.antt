@@ -102,10 +102,7 @@ fetched bs e free p from to ev = record {
 -- an element whose index is in a register
 loads : (w : Surroundings) (bs : List RBlock) (r : Places) (d a p x v : ℕ) (after : Code) → r p ≡ Some x → element_at w.globals a x ≡ Some v
     → rtl_step w.program w.depth (at w bs r (first (I.Load d a p) after)) ≡ at w bs (places_with r d (Some v)) after
-loads w bs r d a p x v after there is =
-    let done = λ (v : ℕ). at w bs (places_with r d (Some v)) after in
-    with_some (r p) x w.output (λ x. with_value (element_at w.globals a x) w.output done) there
-    ∙ with_some (element_at w.globals a x) v w.output done is
+loads w bs r d a p x v after there is = rw (there, is) refl
 
 -- a constant in a free register
 sets : (w : Surroundings) (bs : List RBlock) (r : Places) (z c : ℕ) (after : Code)
@@ -136,16 +133,8 @@ element_value bs a k i d free p next from after pl f = record {
 operated : (w : Surroundings) (bs : List RBlock) (r : Places) (t : Bool) (op : Op) (d p q x y v : ℕ) (after : Code) → r p ≡ Some x → r q ≡ Some y
     → (if t then op_result op y x else op_result op x y) ≡ Some v
     → rtl_step w.program w.depth (at w bs r (first (if t then I.Bin op d q p else I.Bin op d p q) after)) ≡ at w bs (places_with r d (Some v)) after
-operated w bs r true op d p q x y v after ep eq ev =
-    let done = λ (v : ℕ). at w bs (places_with r d (Some v)) after in
-    with_some (r q) y w.output (λ y. with_value (r p) w.output (λ x. with_value (op_result op y x) w.output done)) eq
-    ∙ with_some (r p) x w.output (λ x. with_value (op_result op y x) w.output done) ep
-    ∙ with_some (op_result op y x) v w.output done ev
-operated w bs r false op d p q x y v after ep eq ev =
-    let done = λ (v : ℕ). at w bs (places_with r d (Some v)) after in
-    with_some (r p) x w.output (λ x. with_value (r q) w.output (λ y. with_value (op_result op x y) w.output done)) ep
-    ∙ with_some (r q) y w.output (λ y. with_value (op_result op x y) w.output done) eq
-    ∙ with_some (op_result op x y) v w.output done ev
+operated w bs r true op d p q x y v after ep eq ev = rw (ep, eq, ev) refl
+operated w bs r false op d p q x y v after ep eq ev = rw (ep, eq, ev) refl
 
 -- two operands and an operation
 pub operates : (bs : List RBlock) (op : Operation) (a b : TypedExpression) (d free p next q last : ℕ) (from mid after : Code)

@@ -90,9 +90,7 @@ told_into-returns t c = λ k.
 
 pub conditional_into-returns-in_err-join : goal.conditional_into-returns-in_err-join
 conditional_into-returns-in_err-join t c = λ k.
-    let limit = c.in_err-join.ensures.limit in
-    refused c.in_err-join.field-0.0 (search rules) c.in_err-join.ensures.left
-    (λ is. let more = limit is in omega (arith, more))
+    refused c.in_err-join.field-0.0 (search rules) c.in_err-join.ensures.left (λ is. omega (arith, c.in_err-join.ensures.limit is))
 
 pub conditional_into-returns-in_err-yes : goal.conditional_into-returns-in_err-yes
 conditional_into-returns-in_err-yes t c = λ k.

@@ -12,14 +12,8 @@ returns-clause-truth c = rw c.likely_first.ensures
 
 pub returns-clause-insts : goal.returns-clause-insts
 returns-clause-insts c =
-    let join = c.in_ok-join.ensures.insts in
-    let no = c.in_ok-no.ensures.insts in
-    let yes = c.in_ok-yes.ensures.insts in
-    let in_no = ap insts_of c.in_ok-no_code.ensures in
-    let in_yes = ap insts_of c.in_ok-yes_code.ensures in
-    let no_end = ap insts_of c.exit_block.ensures in
-    let yes_end = ap insts_of c.exit_block-2.ensures in
-    omega (arith, join, no, yes, in_no, in_yes, no_end, yes_end)
+    omega (arith, c.in_ok-join.ensures.insts, c.in_ok-no.ensures.insts, c.in_ok-yes.ensures.insts, ap insts_of c.in_ok-no_code.ensures,
+    ap insts_of c.in_ok-yes_code.ensures, ap insts_of c.exit_block.ensures, ap insts_of c.exit_block-2.ensures)
 
 pub returns-clause-sound : goal.returns-clause-sound
 returns-clause-sound c = rw c.likely_first.ensures (λ s n g h.

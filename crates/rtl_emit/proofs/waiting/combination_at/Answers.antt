@@ -10,19 +10,12 @@ returns-clause-does c = λ bs from f.
     c.in_ok-other.ensures.is f
 
 pub returns-clause-insts : goal.returns-clause-insts
-returns-clause-insts c =
-    let last = ap insts_of c.in_ok-last.ensures in
-    let code = ap insts_of c.in_ok-code.ensures in
-    omega (arith, last, code)
+returns-clause-insts c = omega (arith, ap insts_of c.in_ok-last.ensures, ap insts_of c.in_ok-code.ensures)
 
 pub returns-clause-sound : goal.returns-clause-sound
 returns-clause-sound c = λ s to few after.
     let place = c.in_ok-place.ensures.place in
-    let pw = place.counted in
-    let pn = place.next_is in
-    let is = c.in_ok-other.ensures.is in
-    let held : c.in_ok-place.place.register < s.registers = omega (arith, pw, few) in
-    let other : c.in_ok-other.other < s.registers = omega (arith, is, pn, few) in
-    let last = sound_first _ c.in_ok-last.ensures
-    (sound_operation s _ _ _ _ _ c.instruction.ensures to held other) after in
-    sound_first _ c.in_ok-code.ensures other last
+    let held : c.in_ok-place.place.register < s.registers = omega (arith, place.counted, few) in
+    let other : c.in_ok-other.other < s.registers = omega (arith, c.in_ok-other.ensures.is, place.next_is, few) in
+    sound_first _ c.in_ok-code.ensures other
+    (sound_first _ c.in_ok-last.ensures (sound_operation s _ _ _ _ _ c.instruction.ensures to held other) after)

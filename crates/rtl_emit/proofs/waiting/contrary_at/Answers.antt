@@ -7,7 +7,6 @@ pub returns-clause-sound : goal.returns-clause-sound
 returns-clause-sound c =
     IfOk-weaker c.operation_at.result _ _
     (λ w h s few yes no.
-    let is = c.in_ok-to.ensures.is in
-    let to : c.in_ok-to.to < s.registers = omega (arith, is, few) in
+    let to : c.in_ok-to.to < s.registers = omega (arith, c.in_ok-to.ensures.is, few) in
     h s to (omega (arith, few)) (sound_exit _ c.exit_block-end.ensures (to, (no, yes))))
     c.operation_at.ensures.sound

@@ -7,11 +7,7 @@ use Rattle.rtl_emit.proofs.waiting.operation_at.Goals as goal
 pub returns-clause-sound : goal.returns-clause-sound
 returns-clause-sound c = λ s to few after.
     let first_place = c.in_ok-first.ensures.place in
-    let second_place = c.in_ok-second.ensures.place in
-    let pw = first_place.counted in
-    let qw = second_place.counted in
     let qe = ap (place_registers (typed_expression_of c.args.right.now)) first_place.next_is in
-    let one : c.in_ok-first.first.register < s.registers = omega (arith, pw, few) in
-    let other : c.in_ok-second.second.register < s.registers = omega (arith, qw, qe, few) in
-    sound_first _ c.in_ok-code.ensures
-    (sound_operation s _ _ _ _ _ c.instruction.ensures to one other) after
+    let one : c.in_ok-first.first.register < s.registers = omega (arith, first_place.counted, few) in
+    let other : c.in_ok-second.second.register < s.registers = omega (arith, c.in_ok-second.ensures.place.counted, qe, few) in
+    sound_first _ c.in_ok-code.ensures (sound_operation s _ _ _ _ _ c.instruction.ensures to one other) after

@@ -28,9 +28,8 @@ returns-in_ok-contrary-clause-insts c =
 
 pub returns-in_ok-place-clause-sound : goal.returns-in_ok-place-clause-sound
 returns-in_ok-place-clause-sound c = λ s few yes no.
-    let pw = c.in_ok-place.ensures.place.counted in
-    let le = (test_names c.args.targets.likely _ _ _ _ s.registers few).0 in
-    let held : c.in_ok-place.place.register < s.registers = omega (arith, pw, le) in
+    let names = test_names c.args.targets.likely _ _ _ _ s.registers few in
+    let held : c.in_ok-place.place.register < s.registers = omega (arith, c.in_ok-place.ensures.place.counted, names.0) in
     sound_exit _ c.exit_block-code.ensures (held, (yes, no))
 
 pub returns-in_ok-contrary-clause-sound : goal.returns-in_ok-contrary-clause-sound
@@ -38,8 +37,6 @@ returns-in_ok-contrary-clause-sound c =
     IfOk-weaker c.combination_at.result _ _
     (λ w h s few yes no.
     let names = contrary_test_names c.args.targets.likely _ _ _ s.registers c.if-targets.false few in
-    let is = c.in_ok-contrary.ensures.is in
-    let low = names.0 in
-    let to : c.in_ok-contrary.contrary < s.registers = omega (arith, is, low) in
+    let to : c.in_ok-contrary.contrary < s.registers = omega (arith, c.in_ok-contrary.ensures.is, names.0) in
     h s to names.1 (sound_exit _ c.exit_block-end.ensures (to, (no, yes))))
     c.combination_at.ensures.sound
