@@ -43,24 +43,23 @@ grows_same bs = record { longer = omega arith; kept = λ i lt. refl }
 
 -- sizes
 
-pub beyond_more : (r b g r' b' g' : ℕ) → r ≤ r' → b ≤ b' → g ≤ g' → Beyond r b g → Beyond r' b' g'
-beyond_more r b g r' b' g' lr lb lg beyond = omega (arith, lr, lb, lg, beyond)
+-- the blocks that were there stay, and a size is beyond a limit or memory was refused
+pub stopped : {A : Type 0} {d : Description A} {old new : List RBlock} {r : Result A LowerFault} (f : LowerFault) → r ≡ Err f → Grows old new
+    → (f ≡ Limit → Beyond d.size.registers (length old + d.size.blocks) d.size.globals) → Emits d old new r
+stopped f is g limit = rw is (record { grows = g; count = tt; room = tt; limit = limit; sound = tt; does = tt })
+
+-- the same where nothing was added
+pub refused : {A : Type 0} {d : Description A} {old new : List RBlock} {r : Result A LowerFault} (f : LowerFault) → r ≡ Err f → new ≡ old
+    → (f ≡ Limit → Beyond d.size.registers (length old + d.size.blocks) d.size.globals) → Emits d old new r
+refused {old = old} f is same limit = stopped f is (rw same (grows_same old)) limit
 
 -- a part that comes behind k blocks is refused, and with it the whole
 pub part_refused : {A B : Type 0} {part : Description A} {whole : Description B} {old mid new : List RBlock} {f : LowerFault}
     {r : Result B LowerFault} (k : ℕ) → Emits part mid new (Err f) → r ≡ Err f → part.size.registers ≤ whole.size.registers
     → k + part.size.blocks ≤ whole.size.blocks → part.size.globals ≤ whole.size.globals → Grows old mid → length mid ≡ length old + k
     → Emits whole old new r
-part_refused {A} {B} {part} {whole} {old} {mid} {new} k e is lr lb lg g n =
-    subst (λ r. Emits whole old new r) (sym is) (record {
-      grows = grows_then old mid new g e.grows;
-      count = tt;
-      room = tt;
-      limit = λ l. beyond_more part.size.registers (length mid + part.size.blocks) part.size.globals whole.size.registers
-          (length old + whole.size.blocks) whole.size.globals lr (omega (arith, n, lb)) lg (e.limit l);
-      sound = tt;
-      does = tt;
-    })
+part_refused {A} {B} {part} {whole} {old} {mid} {new} {f} k e is lr lb lg g n =
+    stopped f is (grows_then old mid new g e.grows) (λ l. omega (arith, lr, lb, lg, n, e.limit l))
 
 -- what is emitted last, behind k blocks, makes a whole of this size
 pub record Ends (last whole : Size) (k : ℕ) : Type 0 where
@@ -86,33 +85,11 @@ ended {A} {last} {whole} {old} {mid} {new} {r} k emits sizes g n keeps does = by
     }
     by (Err f) e = part_refused k e refl sizes.registers (omega (arith, sizes.blocks)) sizes.globals g n
 
--- nothing was added, and a size is beyond a limit or memory was refused
-pub refused : {A : Type 0} {d : Description A} {old new : List RBlock} {r : Result A LowerFault} (f : LowerFault) → r ≡ Err f → new ≡ old
-    → (f ≡ Limit → Beyond d.size.registers (length old + d.size.blocks) d.size.globals) → Emits d old new r
-refused {A} {d} {old} {new} f is same limit =
-    subst (λ r. Emits d old new r) (sym is) (record {
-      grows = subst (λ new. Grows old new) (sym same) (grows_same old);
-      count = tt;
-      room = tt;
-      limit = limit;
-      sound = tt;
-      does = tt;
-    })
-
 -- sizes of tests
 
-pub test_least : (b : Bool) (free p n v : ℕ) → v ≤ test_registers b free p n v
-test_least true free p n v = omega arith
-test_least false free p n v = omega arith
-
-pub test_both : (b : Bool) (free p n v : ℕ) → test_registers b free p n 0 ≤ MAX_REGISTERS → v ≤ MAX_REGISTERS → test_registers b free p n v ≤ MAX_REGISTERS
-test_both true free p n v lt lv = omega (arith, lt, lv)
-test_both false free p n v lt lv = omega (arith, lt, lv)
-
-pub test_beyond : (b : Bool) (free p n v blocks globals : ℕ) → MAX_REGISTERS < test_registers b free p n 0
-    → Beyond (test_registers b free p n v) blocks globals
-test_beyond true free p n v blocks globals more = omega (arith, more)
-test_beyond false free p n v blocks globals more = omega (arith, more)
+pub test_size_is : (b : Bool) (free p n v : ℕ) → test_registers b free p n v ≡ max (test_registers b free p n 0) v
+test_size_is true free p n v = omega arith
+test_size_is false free p n v = omega arith
 
 pub test_names : (b : Bool) (free p n v m : ℕ) → test_registers b free p n v ≤ m → (p ≤ m) × ((v ≤ m) × (test_registers b free p n 0 ≤ m))
 test_names true free p n v m le = (omega (arith, le), (omega (arith, le), omega (arith, le)))
@@ -204,37 +181,15 @@ element_emits old new a k i d free after (Ok w) r pl fe room limit o err =
     ))
     (λ from does bs h. element_value bs a k i d free w.place.register w.place.free (open_code from) (line_of after) pl (finds_to fe (does bs h)))
 element_emits old new a k i d free after (Err f) r pl fe room limit o err =
-    refused f err.0 err.1
-    (λ is. beyond_more (place_registers i free) 0 (a + 1) (value_size (element a k i) free (joint after)).registers _
-    (value_size (element a k i) free (joint after)).globals (omega arith) (omega arith) (omega arith) (limit is))
+    refused f err.0 err.1 (λ is. omega (arith, limit is))
 
--- a prefix operator that is computed by one operation
-abbrev combined_size : TypedExpression → (free : ℕ) → Size
-combined_size a free = record {
-  registers = combined_registers (place_registers a free) (next_free a free) (value_registers a free);
-  blocks = value_blocks a 1;
-  insts = value_insts a + 2;
-  globals = globals_named a;
-}
-
-prefix_size : (o : UnaryOp) (k : IntegerType) (a : TypedExpression) (free n : ℕ) → o ≢ U.Identity
-    → (o ≡ U.Not → by_branches a ≡ false) → value_size (unary o k a) free n ≡ combined_size a free
+-- the size of a prefix operator that is computed by one operation
+prefix_size : (o : UnaryOp) (k : IntegerType) (a : TypedExpression) (free n : ℕ) → o ≢ U.Identity → (o ≡ U.Not → by_branches a ≡ false)
+    → (value_registers (unary o k a) free ≡ combined_registers (place_registers a free) (next_free a free) (value_registers a free))
+    × ((value_blocks (unary o k a) n ≡ value_blocks a 1) × (value_insts (unary o k a) ≡ value_insts a + 2))
 prefix_size U.Identity k a free n ne plain = absurd (ne refl)
-prefix_size U.Not k a free n ne plain = rw (plain refl)
-prefix_size _ k a free n ne plain = refl
-
-abbrev value_of_size : Size → TypedExpression → (d free : ℕ) → Spot → Description OpenBlock
-value_of_size size e d free after = record {
-  size = size;
-  Keeps = KeepsCode (λ s. (d < s.registers) × (Covers size s × IsSoundSpot s after)) (insts_at after) size.insts;
-  Does = λ from bs. Evaluates bs e free d (open_code from) (line_of after);
-}
-
-combined_along : {old new : List RBlock} {o : UnaryOp} {k : IntegerType} {a : TypedExpression} {d free : ℕ}
-    {x : Result OpenBlock LowerFault} (after : Spot) → value_size (unary o k a) free (joint after) ≡ combined_size a free
-    → Emits (value_of_size (combined_size a free) (unary o k a) d free after) old new x → Emits (value (unary o k a) d free after) old new x
-combined_along {old} {new} {o} {k} {a} {d} {free} {x} after is e =
-    subst (λ size. Emits (value_of_size size (unary o k a) d free after) old new x) (sym is) e
+prefix_size U.Not k a free n ne plain = rw (plain refl) (refl, (refl, refl))
+prefix_size _ k a free n ne plain = (refl, (refl, refl))
 
 pub prefix_emits : (old new : List RBlock) (o : UnaryOp) (with : Combination) (k : IntegerType) (a : TypedExpression)
     (b : Bool) (d free : ℕ) (opened : OpenBlock) (after : Spot) (w : Result Waiting LowerFault) (x : Result OpenBlock LowerFault)
@@ -250,23 +205,22 @@ pub prefix_emits : (old new : List RBlock) (o : UnaryOp) (with : Combination) (k
     → IfOk w (λ w. Emits (operand a w.place.register free w.code) old new x) → IfErr w (λ f. (x ≡ Err f) × (new ≡ old))
     → Emits (value (unary o k a) d free after) old new x
 prefix_emits old new o with k a b d free opened after (Ok w) x prefix ib fe pl room does insts sound limit v err =
-    combined_along after (prefix_size o k a free (joint after) prefix.0 (λ io. sym ib ∙ prefix.1.0 io))
-    (ended 0 v
-    (record { blocks = omega arith; registers = omega arith; room = λ le. omega (arith, le, room); globals = omega arith })
+    let size = prefix_size o k a free (joint after) prefix.0 (λ io. sym ib ∙ prefix.1.0 io) in
+    ended 0 v
+    (record { blocks = omega (arith, size.1.0); registers = omega (arith, size.0); room = λ le. omega (arith, size.0, le, room); globals = omega arith })
     (grows_same old) (omega arith)
     (λ from keeps. (
       λ s n g h.
-          let spare : spare_registers a free ≤ s.registers = omega (arith, h.1.0.0) in
-          let held : w.place.register < s.registers = (let p = pl.counted in omega (arith, p, spare)) in
-          keeps.0 s n g (held, ((omega (arith, h.1.0.0), h.1.0.1), sound s h.0 spare (sound_along fe (sound_line _ h.1.1)))),
-      (let m = keeps.1 in let n = ap insts_of fe in let l = line_insts after in omega (arith, m, insts, n, l)),
+          let spare : spare_registers a free ≤ s.registers = omega (arith, size.0, h.1.0.0) in
+          let held : w.place.register < s.registers = omega (arith, pl.counted, spare) in
+          keeps.0 s n g (held, ((omega (arith, size.0, h.1.0.0), h.1.0.1), sound s h.0 spare (sound_along fe (sound_line _ h.1.1)))),
+      omega (arith, keeps.1, size.1.1, insts, ap insts_of fe, line_insts after),
     ))
     (λ from made bs h. prefix_value bs o k with a d free (open_code from) (line_of after) prefix.1.1
-    (subst (λ c. Gives bs (at_constant with.operation a with.word) free d (open_code from) c) fe (does bs (open_code from) (made bs h)))))
+    (subst (λ c. Gives bs (at_constant with.operation a with.word) free d (open_code from) c) fe (does bs (open_code from) (made bs h))))
 prefix_emits old new o with k a b d free opened after (Err f) x prefix ib fe pl room does insts sound limit v err =
-    combined_along after (prefix_size o k a free (joint after) prefix.0 (λ io. sym ib ∙ prefix.1.0 io))
-    (refused f err.0 err.1
-    (λ is. let more = limit is in omega (arith, more)))
+    let size = prefix_size o k a free (joint after) prefix.0 (λ io. sym ib ∙ prefix.1.0 io) in
+    refused f err.0 err.1 (λ is. omega (arith, size.0, limit is))
 
 pub identity_emits : (old new : List RBlock) (o : UnaryOp) (k : IntegerType) (a : TypedExpression) (d free : ℕ) (after : Spot)
     (x : Result OpenBlock LowerFault) → o ≡ U.Identity → Emits (value a d free after) old new x → Emits (value (unary o k a) d free after) old new x
@@ -348,10 +302,9 @@ pub logical_branches : (both : Bool) (b0 b1 new : List RBlock) (k : IntegerType)
     → Emits (condition_branch (binary (logical_of both) k l r) t free) b0 new x
 logical_branches both b0 b1 new k l r t t' free block x it second last' =
     let last = subst (λ t. Emits (condition_branch l t free) b1 new x) it last' in
-    let c1 : length b1 ≡ length b0 + ((condition_size r t.likely free).blocks + 1) = second.count in
     ended ((condition_size r t.likely free).blocks + 1) last
     (logical_ends both k l r t free block second.room)
-    second.grows c1
+    second.grows second.count
     (λ from keeps. (
       λ s n g h.
           let parts = logical_covers both k l r t free block s h.0 in
@@ -397,15 +350,7 @@ told_value old b0 new e t d free after x tr tests registers blocks insts last =
 pub truth_stops : (old new : List RBlock) (e : TypedExpression) (d free : ℕ) (after : Spot) (f : LowerFault) (x : Result OpenBlock LowerFault)
     → x ≡ Err f → Grows old new → joint after + 2 ≤ value_blocks e (joint after)
     → (f ≡ Limit → MAX_BLOCKS < length old + (joint after + 2)) → Emits (value e d free after) old new x
-truth_stops old new e d free after f x is g more limit =
-    subst (λ r. Emits (value e d free after) old new r) (sym is) (record {
-      grows = g;
-      count = tt;
-      room = tt;
-      limit = λ l. let beyond = limit l in omega (arith, more, beyond);
-      sound = tt;
-      does = tt;
-    })
+truth_stops old new e d free after f x is g more limit = stopped f is g (λ l. omega (arith, more, limit l))
 
 pub told_emits : (both : Bool) (old b0 new : List RBlock) (k : IntegerType) (l r : TypedExpression) (t : Targets) (d free : ℕ) (after : Spot)
     (x : Result OpenBlock LowerFault) → Truth old b0 d t after
@@ -421,11 +366,9 @@ pub both_emits : (old mid new : List RBlock) (l r : TypedExpression) (free : ℕ
     → Emits (operand r w.second.register w.first.free w.code) old mid (Ok middle) → Emits (operand l w.first.register free middle) mid new x
     → Emits (two_operands l r free w) old new x
 both_emits old mid new l r free w middle x second left =
-    let c1 : length mid ≡ length old + value_blocks r 1 = second.count in
-    let room : value_registers r w.first.free ≤ MAX_REGISTERS = second.room in
     ended (value_blocks r 1) left
-    (record { blocks = omega arith; registers = omega arith; room = λ le. omega (arith, le, room); globals = omega arith })
-    second.grows c1
+    (record { blocks = omega arith; registers = omega arith; room = λ le. omega (arith, le, second.room); globals = omega arith })
+    second.grows second.count
     (λ from keeps. (
       λ s n g h.
           let m = second.sound.0 s (within left.grows n) g (h.1.0, ((omega (arith, h.1.1.0.0), omega (arith, h.1.1.0.1)), h.1.1.1)) in

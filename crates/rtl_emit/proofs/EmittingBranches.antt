@@ -36,7 +36,7 @@ use Rattle.rtl_emit.proofs.Conditions.{constant_decides, contrary_decides, condi
 use Rattle.rtl_emit.proofs.Emitted.{finds_to, unary_is, Over}
 use Rattle.rtl_emit.proofs.Sound.{sound_exit}
 use Rattle.rtl_emit.proofs.Values.{operates, fetched}
-use Rattle.rtl_emit.proofs.Emitting.{contrary_registers, ended, grows_same, held_names, refused, test_beyond, test_both, test_least, test_names}
+use Rattle.rtl_emit.proofs.Emitting.{contrary_registers, ended, grows_same, held_names, refused, stopped, test_names, test_size_is}
 
 -- code as a block of its own
 pub block_emits : (old mid new : List RBlock) (size : Size) (Needs Needs' : Scope → Type 0) (Is : List RBlock → Code → Type 0) (code : OpenBlock)
@@ -64,15 +64,7 @@ block_emits old mid new size Needs Needs' Is code (Ok b) e needs g n insts limit
           (open_code code, ats bs p.1, e.does bs p.0);
     }
 block_emits old mid new size Needs Needs' Is code (Err f) e needs g n insts limit sound ats =
-    let c : length mid ≡ length old + size.blocks = e.count in
-    record {
-      grows = grows_then old mid new e.grows g;
-      count = tt;
-      room = tt;
-      limit = λ is. let more = limit is in omega (arith, c, more);
-      sound = tt;
-      does = tt;
-    }
+    stopped f refl (grows_then old mid new e.grows g) (λ is. omega (arith, e.count, limit is))
 
 -- both sides of `?:` as blocks of their own
 record Sides (b0 b2 : List RBlock) (registers blocks insts globals : ℕ) (Needs : Scope → Type 0) (IsYes IsNo : List RBlock → Code → Type 0)
@@ -89,14 +81,10 @@ sides : (b0 b1 b2 : List RBlock) (s1 s2 : Size) (Needs : Scope → Type 0) (IsYe
     → Sides b0 b2 (max s1.registers s2.registers) (s1.blocks + s2.blocks) (s1.insts + s2.insts) (max s1.globals s2.globals) Needs IsYes IsNo
     yes_block no_block
 sides b0 b1 b2 s1 s2 Needs IsYes IsNo yes_block no_block e1 e2 =
-    let c1 : length b1 ≡ length b0 + (s1.blocks + 1) = e1.count in
-    let c2 : length b2 ≡ length b1 + (s2.blocks + 1) = e2.count in
-    let r1 : s1.registers ≤ MAX_REGISTERS = e1.room in
-    let r2 : s2.registers ≤ MAX_REGISTERS = e2.room in
     record {
       grows = grows_then b0 b1 b2 e1.grows e2.grows;
-      count = omega (arith, c1, c2);
-      room = omega (arith, r1, r2);
+      count = omega (arith, e1.count, e2.count);
+      room = omega (arith, e1.room, e2.room);
       sound = λ s n g h.
           let a = e1.sound.0 s (within e2.grows n) g ((omega (arith, h.0.0), omega (arith, h.0.1)), h.1) in
           let b = e2.sound.0 s n a.0 ((omega (arith, h.0.0), omega (arith, h.0.1)), h.1) in
@@ -146,12 +134,10 @@ pub conditional_emits : (old b0 b1 b2 new : List RBlock) (k : IntegerType) (c a 
 conditional_emits old b0 b1 b2 new k c a b t' d free join yes_block no_block after x it j yes_side no_side last =
     let two = sides b0 b1 b2 (value_size a free 0) (value_size b free 0) (λ s. (d < s.registers) × (join < s.blocks))
     (λ bs from. Evaluates bs a free d from (goto join)) (λ bs from. Evaluates bs b free d from (goto join)) yes_block no_block yes_side no_side in
-    let c2 : length b2 ≡ length b0 + (value_blocks a 0 + value_blocks b 0 + 2) = two.count in
-    let room : max (value_registers a free) (value_registers b free) ≤ MAX_REGISTERS = two.room in
     let last' = subst (λ t. Emits (condition_branch c t free) b2 new x) it last in
     ended (joint after + (value_blocks a 0 + value_blocks b 0 + 2)) last'
-    (record { blocks = omega arith; registers = omega arith; room = λ le. omega (arith, le, room); globals = omega arith })
-    (grows_then old b0 b2 j.grows two.grows) (omega (arith, j.count, c2))
+    (record { blocks = omega arith; registers = omega arith; room = λ le. omega (arith, le, two.room); globals = omega arith })
+    (grows_then old b0 b2 j.grows two.grows) (omega (arith, j.count, two.count))
     (λ from keeps. (
       λ s n g h.
           let n2 = within last'.grows n in
@@ -243,13 +229,9 @@ pub test_emits : (old new : List RBlock) (e : TypedExpression) (t : Targets) (fr
     → IfOk w (λ w. Emits (operand e w.place.register free w.code) old new x) → IfErr w (λ f. (x ≡ Err f) × (new ≡ old))
     → Emits (value_branch e t free) old new x
 test_emits old new e t free (Ok w) x pl room does insts sound limit v err =
+    let size = test_size_is t.likely free (place_registers e free) (next_free e free) (value_registers e free) in
     ended 0 v
-    (record {
-      blocks = omega arith;
-      registers = test_least t.likely free (place_registers e free) (next_free e free) (value_registers e free);
-      room = λ le. test_both t.likely free (place_registers e free) (next_free e free) (value_registers e free) room le;
-      globals = omega arith;
-    })
+    (record { blocks = omega arith; registers = omega (arith, size); room = λ le. omega (arith, size, room, le); globals = omega arith })
     (grows_same old) (omega arith)
     (λ from keeps. (
       λ s n g h.
@@ -260,8 +242,8 @@ test_emits old new e t free (Ok w) x pl room does insts sound limit v err =
     ))
     (λ from made bs h. does bs (open_code from) (made bs h))
 test_emits old new e t free (Err f) x pl room does insts sound limit v err =
-    refused f err.0 err.1
-    (λ is. test_beyond t.likely free (place_registers e free) (next_free e free) (value_registers e free) (length old + value_blocks e 1) (globals_named e) (limit is))
+    let size = test_size_is t.likely free (place_registers e free) (next_free e free) (value_registers e free) in
+    refused f err.0 err.1 (λ is. omega (arith, size, limit is))
 
 pub operand_emits : (old new : List RBlock) (e : TypedExpression) (p free : ℕ) (after : OpenBlock) (x : Result OpenBlock LowerFault)
     → Emits (value e p free (Line (open_code after))) old new x → Emits (operand e p free after) old new x
@@ -279,12 +261,11 @@ pub operands_emits : (old mid new : List RBlock) (all es : List TypedExpression)
     → Emits (operands all ps free after) old new x
 operands_emits old mid new all es e ps ps2 p free after middle x ia ip are rest one =
     let both : ArePlaces (e ∷ es) free (p ∷ ps2) = subst (λ ps. ArePlaces (e ∷ es) free ps) ip (subst (λ all. ArePlaces all free ps) ia are) in
-    let c1 : length mid ≡ length old + arguments_blocks es = rest.count in
     let room : values_registers es (next_free e free) ≤ MAX_REGISTERS = subst (λ n. values_registers es n ≤ MAX_REGISTERS) both.0.next_is rest.room in
     subst (λ all. Emits (operands all ps free after) old new x) (sym ia) (subst (λ ps. Emits (operands (e ∷ es) ps free after) old new x) (sym ip)
     (ended (arguments_blocks es) one
     (record { blocks = omega arith; registers = omega arith; room = λ le. omega (arith, le, room); globals = omega arith })
-    rest.grows c1
+    rest.grows rest.count
     (λ from keeps. (
       λ s n g h.
           let pw = both.0.counted in
