@@ -43,17 +43,13 @@ arrives_then : (w : Surroundings) (bs : List RBlock) (free : ℕ) (r : Places) (
 arrives_then w bs free r from second_code second to a ats b =
     record { regs = b.regs; moves = moves_then (enters w bs free r from second_code second a ats) (goes_of b.moves); kept = λ x k. b.kept x k ∙ a.kept x k }
 
-arrives_at : (w : Surroundings) (bs : List RBlock) (free : ℕ) (r : Places) (from : Code) (to to' : ℕ) → to ≡ to' → Arrives w bs free r from to
-    → Arrives w bs free r from to'
-arrives_at w bs free r from to to' e a = subst (λ c. Arrives w bs free r from c) e a
-
 pub constant_decides : (bs : List RBlock) (c : Literal) (target yes_block no_block free : ℕ) → target
     ≡ (if nat_eq (wrap c.value) 0 then no_block else yes_block)
     → Decides bs (constant c) free yes_block no_block (goto target)
 constant_decides bs c target yes_block no_block free t = record {
   by = λ w l r v h e.
       let is : wrap c.value ≡ v = cc in
-      arrives_at w bs free r (goto target) target _ (t ∙ ap (λ v. if nat_eq v 0 then no_block else yes_block) is)
+      subst (λ c. Arrives w bs free r (goto target) c) (t ∙ ap (λ v. if nat_eq v 0 then no_block else yes_block) is)
       (record { regs = r; moves = moves_one refl; kept = λ x k. refl });
 }
 
@@ -72,7 +68,7 @@ pub negated_decides : (bs : List RBlock) (e : TypedExpression) (z yes_block no_b
 negated_decides bs e z yes_block no_block free from le ne = record {
   by = λ w l r v h is.
       let y = ne.by w l r (truth (nat_eq v 0)) h (ap (λ o. chain o (λ x. result_of (straight_op O.Eq) x 0)) is) in
-      arrives_at w bs free r from _ _ (flipped (nat_eq v 0) yes_block no_block) (record {
+      subst (λ c. Arrives w bs free r from c) (flipped (nat_eq v 0) yes_block no_block) (record {
         regs = y.regs;
         moves = moves_then y.moves (goes_one w.program w.depth _ _ (branch w bs z no_block yes_block y.regs (truth (nat_eq v 0)) y.done.value));
         kept = λ x k. let ne : x ≢ z = omega arith in y.done.kept x k ne;
@@ -90,7 +86,7 @@ contrary_decides bs o k op a b z yes_block no_block free from tests le o' = reco
       let some : Some (truth t.0) ≡ Some v = sym t.1 ∙ c.is in
       let is : truth t.0 ≡ v = cc in
       let y = o'.by w l r (truth (not t.0)) h (at_both op a b l w.globals c.x c.y (truth (not t.0)) c.left_is c.right_is t.2) in
-      arrives_at w bs free r from _ _ (same_way t.0 yes_block no_block ∙ sym (flipped t.0 no_block yes_block)
+      subst (λ c. Arrives w bs free r from c) (same_way t.0 yes_block no_block ∙ sym (flipped t.0 no_block yes_block)
       ∙ ap (λ v. if nat_eq v 0 then no_block else yes_block) is) (record {
         regs = y.regs;
         moves = moves_then y.moves (goes_one w.program w.depth _ _ (branch w bs z no_block yes_block y.regs (truth (not t.0)) y.done.value));
@@ -112,7 +108,7 @@ not_decides bs k a yes_block no_block free from da = record {
   by = λ w l r v h e.
       let c = chained (value_of a l w.globals) (λ x. Some (truth (nat_eq x 0))) v e in
       let is : truth (nat_eq c.value 0) ≡ v = cc in
-      arrives_at w bs free r from _ _ (sym (flipped (nat_eq c.value 0) no_block yes_block) ∙ ap (λ v. if nat_eq v 0 then no_block else yes_block) is)
+      subst (λ c. Arrives w bs free r from c) (sym (flipped (nat_eq c.value 0) no_block yes_block) ∙ ap (λ v. if nat_eq v 0 then no_block else yes_block) is)
       (da.by w l r c.value h c.is);
 }
 
@@ -124,7 +120,7 @@ second_decides : (bs : List RBlock) (b : TypedExpression) (yes_block no_block se
 second_decides bs b yes_block no_block second free from second_code ats db w l r v h e ar =
     let c = chained (value_of b l w.globals) (λ y. Some (truth (not (nat_eq y 0)))) v e in
     let is : truth (not (nat_eq c.value 0)) ≡ v = cc in
-    arrives_at w bs free r from _ _ (sym (same_way (nat_eq c.value 0) no_block yes_block) ∙ ap (λ v. if nat_eq v 0 then no_block else yes_block) is)
+    subst (λ c. Arrives w bs free r from c) (sym (same_way (nat_eq c.value 0) no_block yes_block) ∙ ap (λ v. if nat_eq v 0 then no_block else yes_block) is)
     (arrives_then w bs free r from second_code second _ ar ats
     (db.by w l ar.regs c.value (holds_kept free free l r ar.regs w.globals (omega arith) h ar.kept) c.is))
 

@@ -71,11 +71,6 @@ pub combine_from : (bs : List RBlock) (op : Operation) (e : TypedExpression) (c 
 combine_from bs op e c d free p next z inst from middle last after ii f1 f2 pl iz f =
     combines bs op e c d free p next z from after pl (omega arith) (finds_to (f2 ∙ ap (first (I.Const z c)) (f1 ∙ ap (λ i. first i after) ii)) f)
 
-combines_to : {bs : List RBlock} {op op' : Operation} {e : TypedExpression} {c free d : ℕ} {from to to' : Code} → op ≡ op' → to ≡ to'
-    → Gives bs (at_constant op e c) free d from to → Gives bs (at_constant op' e c) free d from to'
-combines_to {bs} {op} {op'} {e} {c} {free} {d} {from} {to} {to'} io is ev =
-    subst (λ op. Gives bs (at_constant op e c) free d from to') io (subst (λ t. Gives bs (at_constant op e c) free d from t) is ev)
-
 -- conditions
 
 pub plain_from : (bs : List RBlock) (e : TypedExpression) (p y n free next : ℕ) (from end : Code) → end ≡ exit_code (X.Branch p y n)
@@ -84,7 +79,7 @@ plain_from bs e p y n free next from end fe pl f = plain_decides bs e p y n free
 
 pub negated_from : (bs : List RBlock) (e : TypedExpression) (op : Operation) (z y n free : ℕ) (from end : Code) → end ≡ exit_code (X.Branch z n y)
     → op ≡ straight_op O.Eq → z ≡ free → Gives bs (at_constant op e 0) free z from end → Decides bs e free y n from
-negated_from bs e op z y n free from end fe io iz m = negated_decides bs e z y n free from (omega arith) (combines_to io fe m)
+negated_from bs e op z y n free from end fe io iz m = negated_decides bs e z y n free from (omega arith) (rw (← io, ← fe) m)
 
 -- values by conditions
 

@@ -263,26 +263,13 @@ not_emits old mid new o k a b d free tr t after r prefix ib it truth last =
     told bs (unary U.Not k a) d tr.yes tr.no free (open_code from) after (not_tests k a) (truth.truth bs p.0)
     (not_decides bs k a tr.yes tr.no free (open_code from) (does bs p.1))))
 
--- the size of `&&` and `||`, whose right operand is a block of its own and stands behind the left one
-logical_ends : (both : Bool) (k : IntegerType) (l r : TypedExpression) (t : Targets) (free block : ℕ)
-    → (condition_size r t.likely free).registers ≤ MAX_REGISTERS → Ends (condition_size l (left_targets both t block).likely free)
-    (condition_size (binary (logical_of both) k l r) t.likely free) ((condition_size r t.likely free).blocks + 1)
-logical_ends true k l r t free block room =
-    record { blocks = omega arith; registers = omega arith; room = λ le. omega (arith, le, room); globals = omega arith }
-logical_ends false k l r t free block room =
-    record { blocks = omega arith; registers = omega arith; room = λ le. omega (arith, le, room); globals = omega arith }
+logical_is : (both : Bool) → is_logical (logical_of both) ≡ true
+logical_is true = refl
+logical_is false = refl
 
--- of the registers and globals of the whole, those of its operands
-logical_covers : (both : Bool) (k : IntegerType) (l r : TypedExpression) (t : Targets) (free block : ℕ) (s : Scope)
-    → Covers (condition_size (binary (logical_of both) k l r) t.likely free) s
-    → Covers (condition_size l (left_targets both t block).likely free) s × Covers (condition_size r t.likely free) s
-logical_covers true k l r t free block s h = ((omega (arith, h.0), omega (arith, h.1)), (omega (arith, h.0), omega (arith, h.1)))
-logical_covers false k l r t free block s h = ((omega (arith, h.0), omega (arith, h.1)), (omega (arith, h.0), omega (arith, h.1)))
-
-logical_insts : (both : Bool) (k : IntegerType) (l r : TypedExpression)
-    → condition_insts (binary (logical_of both) k l r) ≡ condition_insts r + condition_insts l
-logical_insts true k l r = refl
-logical_insts false k l r = refl
+left_likely : (both : Bool) (t : Targets) (block : ℕ) → (left_targets both t block).likely ≡ t.likely
+left_likely true t block = refl
+left_likely false t block = refl
 
 left_within : (both : Bool) (t : Targets) (block blocks : ℕ) → block < blocks → (t.yes < blocks) × (t.no < blocks)
     → ((left_targets both t block).yes < blocks) × ((left_targets both t block).no < blocks)
@@ -302,15 +289,22 @@ pub logical_branches : (both : Bool) (b0 b1 new : List RBlock) (k : IntegerType)
     → Emits (condition_branch (binary (logical_of both) k l r) t free) b0 new x
 logical_branches both b0 b1 new k l r t t' free block x it second last' =
     let last = subst (λ t. Emits (condition_branch l t free) b1 new x) it last' in
+    let size : condition_registers (binary (logical_of both) k l r) t.likely free ≡ max (condition_registers r t.likely free)
+    (condition_registers l (left_targets both t block).likely free) = rw (logical_is both, left_likely both t block) refl in
     ended ((condition_size r t.likely free).blocks + 1) last
-    (logical_ends both k l r t free block second.room)
+    (record {
+      blocks = rw (logical_is both) (omega arith);
+      registers = omega (arith, size);
+      room = λ le. omega (arith, size, le, second.room);
+      globals = omega arith;
+    })
     second.grows second.count
     (λ from keeps. (
       λ s n g h.
-          let parts = logical_covers both k l r t free block s h.0 in
-          let b = second.sound.0 s (within last.grows n) g (parts.1, h.1) in
-          keeps.0 s n b.0 (parts.0, left_within both t block s.blocks b.1 h.1),
-      (let m = keeps.1 in let n = second.sound.1 in let all = logical_insts both k l r in omega (arith, m, n, all)),
+          let b = second.sound.0 s (within last.grows n) g ((omega (arith, size, h.0.0), omega (arith, h.0.1)), h.1) in
+          keeps.0 s n b.0 ((omega (arith, size, h.0.0), omega (arith, h.0.1)), left_within both t block s.blocks b.1 h.1),
+      (let all : condition_insts (binary (logical_of both) k l r) ≡ condition_insts r + condition_insts l = rw (logical_is both) refl in
+          omega (arith, keeps.1, second.sound.1, all)),
     ))
     (λ from does bs h.
     let p = split2 bs b0 b1 new second.grows last.grows h in
@@ -321,10 +315,8 @@ logical_branches both b0 b1 new k l r t t' free block x it second last' =
 pub logical_stops : (both : Bool) (old new : List RBlock) (k : IntegerType) (l r : TypedExpression) (t : Targets) (free : ℕ) (f : LowerFault)
     (x : Result OpenBlock LowerFault) → x ≡ Err f → Emits (own_branch r t free) old new (Err f)
     → Emits (condition_branch (binary (logical_of both) k l r) t free) old new x
-logical_stops true old new k l r t free f x is e =
-    part_refused 0 e is (omega arith) (omega arith) (omega arith) (grows_same old) (omega arith)
-logical_stops false old new k l r t free f x is e =
-    part_refused 0 e is (omega arith) (omega arith) (omega arith) (grows_same old) (omega arith)
+logical_stops both old new k l r t free f x is e =
+    part_refused 0 e is (rw (logical_is both) (omega arith)) (rw (logical_is both) (omega arith)) (omega arith) (grows_same old) (omega arith)
 
 -- a value that branches tell
 told_value : (old b0 new : List RBlock) (e : TypedExpression) (t : Targets) (d free : ℕ) (after : Spot) (x : Result OpenBlock LowerFault)
@@ -419,8 +411,8 @@ operator_emits old new o k op l r d free code after (Err f) x computes plain fe 
 pub told_stops : (both : Bool) (old new : List RBlock) (k : IntegerType) (l r : TypedExpression) (d free : ℕ) (after : Spot) (f : LowerFault)
     (x : Result OpenBlock LowerFault) → x ≡ Err f → Grows old new → (f ≡ Limit → MAX_BLOCKS < length old + (joint after + 2))
     → Emits (value (binary (logical_of both) k l r) d free after) old new x
-told_stops true old new k l r d free after f x is g limit = truth_stops old new (binary B.LogicalAnd k l r) d free after f x is g (omega arith) limit
-told_stops false old new k l r d free after f x is g limit = truth_stops old new (binary B.LogicalOr k l r) d free after f x is g (omega arith) limit
+told_stops both old new k l r d free after f x is g limit =
+    truth_stops old new (binary (logical_of both) k l r) d free after f x is g (rw (logical_is both) (omega arith)) limit
 
 pub not_stops : (old new : List RBlock) (o : UnaryOp) (k : IntegerType) (a : TypedExpression) (b : Bool) (d free : ℕ) (after : Spot) (f : LowerFault)
     (x : Result OpenBlock LowerFault) → x ≡ Err f → IsPrefix o b P.Branches → b ≡ by_branches a → Grows old new
