@@ -21,7 +21,7 @@ use Rattle.rtl_emit.specs.Runs.{Goes, Moves, Holds, Puts, Yields, Arrives}
 use Rattle.rtl_emit.specs.Expressions.{IsPlace, Gives, Evaluates, Fetches, Decides, IsTruth, at_values, at_constant}
 use Rattle.rtl_emit.specs.declared.operation.Operation.{Operation}
 use Rattle.rtl_emit.proofs.Operations.{straight_op}
-use Rattle.rtl_emit.proofs.Steps.{goes_then, goes_one, moves_one, moves_then, moves_after, goes_of, with_some, chained, both_valued, written_here, written_other}
+use Rattle.rtl_emit.proofs.Steps.{goes_then, goes_one, moves_one, moves_then, moves_after, goes_of, chained, both_valued, written_here, written_other}
 use Rattle.rtl_emit.proofs.Steps.{jump_to, joins, holds_kept}
 use Rattle.rtl_emit.proofs.Values.{at_both, taken, yields_after, yields_then}
 

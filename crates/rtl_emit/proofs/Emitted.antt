@@ -1,5 +1,5 @@
 -- What code does that waits for its operands, and truth values.
-use Rattle.std.proofs.Common.{◌≡◌, ℕ, List, sym, ◌∙◌, ap, subst, arith}
+use Rattle.std.proofs.Common.{◌≡◌, ℕ, List, refl, sym, ◌∙◌, ap, subst, arith}
 use Rattle.c_tokens.specs.declared.token.IntegerType.{IntegerType}
 use Rattle.c_tree.specs.declared.tree.BinaryOp.{BinaryOp}
 use Rattle.c_tree.specs.declared.tree.UnaryOp.{UnaryOp}
@@ -46,22 +46,20 @@ at_equal {bs} {b} e a = subst (λ c. At bs b c) e a
 -- an expression whose operator and parts are these
 pub element_is : {e : TypedExpression} (k : IntegerType) (p q : ℕ × Tree.TypedExpression) → e ≡ element p.0 k (typed_expression_of p.1) → q ≡ p
     → e ≡ element q.0 k (typed_expression_of q.1)
-element_is k p q is iq = is ∙ ap (λ (p : ℕ × Tree.TypedExpression). element p.0 k (typed_expression_of p.1)) (sym iq)
+element_is k p q is iq = rw (is, iq) refl
 
 pub unary_is : {e : TypedExpression} (o o' : UnaryOp) (k : IntegerType) (a a' : TypedExpression) → e ≡ unary o k a → o ≡ o' → a' ≡ a → e ≡ unary o' k a'
-unary_is o o' k a a' is io ia = is ∙ ap (λ o. unary o k a) io ∙ ap (λ a. unary o' k a) (sym ia)
+unary_is o o' k a a' is io ia = rw (is, io, ia) refl
 
 pub binary_is : {e : TypedExpression} (o o' : BinaryOp) (k : IntegerType) (p q : Tree.TypedExpression × Tree.TypedExpression)
     → e ≡ binary o k (typed_expression_of p.0) (typed_expression_of p.1) → o ≡ o' → q ≡ p
     → e ≡ binary o' k (typed_expression_of q.0) (typed_expression_of q.1)
-binary_is o o' k p q is io iq =
-    is ∙ ap (λ o. binary o k (typed_expression_of p.0) (typed_expression_of p.1)) io
-    ∙ ap (λ p. binary o' k (typed_expression_of p.0) (typed_expression_of p.1)) (sym iq)
+binary_is o o' k p q is io iq = rw (is, io, iq) refl
 
 pub conditional_is : {e : TypedExpression} (k : IntegerType) (p q : Tree.TypedExpression × Tree.TypedExpression × Tree.TypedExpression)
     → e ≡ conditional k (typed_expression_of p.0) (typed_expression_of p.1) (typed_expression_of p.2) → q ≡ p
     → e ≡ conditional k (typed_expression_of q.0) (typed_expression_of q.1) (typed_expression_of q.2)
-conditional_is k p q is iq = is ∙ ap (λ p. conditional k (typed_expression_of p.0) (typed_expression_of p.1) (typed_expression_of p.2)) (sym iq)
+conditional_is k p q is iq = rw (is, iq) refl
 
 -- values
 

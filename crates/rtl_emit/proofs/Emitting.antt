@@ -14,11 +14,11 @@ use Rattle.rtl.specs.declared.instruction.RInst.TheVariants as I
 use Rattle.rtl.specs.Meaning.{Code}
 use Rattle.rtl.specs.declared.limits.TheConstants.{MAX_REGISTERS, MAX_BLOCKS}
 use Rattle.rtl_emit.specs.Blocks.{open_code, first, line_of, insts_of, insts_at, insts_in, Spot, Grows, At}
-use Rattle.rtl_emit.specs.Emits.{Size, Covers, Description, Emits, KeepsCode, value_size, condition_size, both_size, value, operand, two_operands}
+use Rattle.rtl_emit.specs.Emits.{Size, Description, Emits, condition_size, value, operand, two_operands}
 use Rattle.rtl_emit.specs.Emits.{branch, condition_branch, own_branch, left_targets}
 use Rattle.rtl_emit.specs.Expressions.{IsPlace, IsTruth, Decides, Evaluates, Fetches, Gives, at_constant}
 use Rattle.rtl_emit.specs.Operations.{IsPrefix, Computes, inst_of}
-use Rattle.rtl_emit.specs.Sizes.{spare_registers, both_registers, logical_of, joint, Beyond, by_branches, is_logical, place_registers, next_free, value_registers, value_blocks, globals_named}
+use Rattle.rtl_emit.specs.Sizes.{spare_registers, both_registers, logical_of, joint, Beyond, by_branches, is_logical, place_registers, next_free, value_registers, value_blocks}
 use Rattle.rtl_emit.specs.Sizes.{condition_registers, condition_blocks, combined_registers, test_registers, has_contrary}
 use Rattle.rtl_emit.specs.Sizes.{operands_registers, value_insts, condition_insts}
 use Rattle.rtl_emit.specs.Sound.{Scope, IsSound, IsSoundSpot, KeepsSound}
@@ -103,9 +103,13 @@ pub held_names : (l r : TypedExpression) (free p next q last n : ℕ) → IsPlac
     → operands_registers (place_registers l free) (place_registers r (next_free l free)) (value_registers l free) (value_registers r (next_free l free)) ≤ n
     → (p < n) × ((q < n) × ((max (value_registers r next) (value_registers l free) ≤ n)
     × (both_registers l r free ≤ n)))
-held_names l r free p next q last n pl pr le =
-    (omega (arith, pl.counted, le), (omega (arith, pr.counted, ap (place_registers r) pl.next_is, le),
-    (omega (arith, ap (value_registers r) pl.next_is, le), omega (arith, le))))
+held_names l r free p next q last n pl pr le = (
+  omega (arith, pl.counted, le),
+  (
+    omega (arith, pr.counted, ap (place_registers r) pl.next_is, le),
+    (omega (arith, ap (value_registers r) pl.next_is, le), omega (arith, le)),
+  ),
+)
 
 -- the registers of a contrary comparison: the one that is tested, and those of its operands
 pub contrary_registers : (o : BinaryOp) (k : IntegerType) (l r : TypedExpression) (likely : Bool) (free : ℕ) → is_logical o ≡ false

@@ -18,8 +18,8 @@ use Rattle.rtl_emit.specs.Emits.{KeepsCode, Size, Covers, Emits, value_size, con
 use Rattle.rtl_emit.specs.Emits.{value_branch, condition_branch, own_block, own_value, own_branch}
 use Rattle.rtl_emit.specs.Expressions.{IsPlace, ArePlaces, Decides, Evaluates, Fetches}
 use Rattle.rtl_emit.specs.Operations.{ComputesContrary, inst_of}
-use Rattle.rtl_emit.specs.Sizes.{both_registers, tested_registers, joint, is_logical, place_registers, next_free, value_registers, value_blocks, globals_named}
-use Rattle.rtl_emit.specs.Sizes.{condition_blocks, has_contrary, arguments_blocks, values_registers}
+use Rattle.rtl_emit.specs.Sizes.{both_registers, tested_registers, joint, is_logical, place_registers, next_free, value_registers, value_blocks}
+use Rattle.rtl_emit.specs.Sizes.{has_contrary, arguments_blocks, values_registers}
 use Rattle.rtl_emit.specs.Sizes.{places_registers, value_insts, condition_insts}
 use Rattle.rtl_emit.specs.Sound.{Scope, IsSound, IsSoundSpot, KeepsSound}
 use Rattle.rtl_emit.specs.declared.block.OpenBlock.{OpenBlock}

@@ -5,7 +5,6 @@ use Rattle.std.specs.Prelude.{map, if◌then◌else◌}
 use Rattle.std.proofs.lemmas.Bool.Decides.{eqb_tells}
 use Rattle.words.specs.Words.{wrap}
 use Rattle.runs.specs.Stores.{Places, Arrays, places_with, chain, element_at}
-use Rattle.runs.specs.Runs.{with_value}
 use Rattle.c_tokens.specs.declared.token.IntegerType.{IntegerType}
 use Rattle.c_tokens.specs.declared.token.Literal.{Literal}
 use Rattle.c_tree.specs.declared.tree.BinaryOp.{BinaryOp}
@@ -224,12 +223,10 @@ taken_all w bs (x ∷ es) (p ∷ ps) free from to l r vs pl f h e =
     let t = taken w bs x free p.register p.free from f.0 l r c.value pl.0 f.1 h c.is in
     let a = taken_all w bs es ps p.free f.0 to l t.regs c2.value pl.1 f.2 (holds_kept free p.free l r t.regs w.globals pl.0.rooms h t.kept) c2.is in
     let there : a.regs p.register ≡ Some c.value = a.kept p.register t.held ∙ t.value in
-    let rest = map (λ (p : Place). p.register) ps in
     record {
       regs = a.regs;
       goes = goes_then t.goes a.goes;
-      values = ap (λ o. chain o (λ v. chain (words_in a.regs rest) (λ vs. Some (v ∷ vs)))) there
-          ∙ ap (λ o. chain o (λ vs. Some (c.value ∷ vs))) a.values ∙ c2.then_is;
+      values = rw (there, a.values) c2.then_is;
       kept = λ y k. let k' : y < p.free = omega (arith, pl.0.rooms) in a.kept y k' ∙ t.kept y k;
     }
 taken_all w bs _ _ free from to l r vs pl f h e = absurd pl

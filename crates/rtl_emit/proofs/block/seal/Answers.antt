@@ -17,6 +17,7 @@ returns-clause-insts c = insts_push _ _ _ (open_code c.args.code) c.in_ok-put_bl
 
 pub returns-clause-sound : goal.returns-clause-sound
 returns-clause-sound c = λ s n g h.
-    let e = one_longer _ _ _ c.in_ok-put_block.ensures.added in
-    (sound_push s _ _ _ (open_code c.args.code) c.in_ok-put_block.ensures.added (coded c.reverse.ensures.items) g h,
-    omega (arith, n, e, c.len-number.ensures ∙ c.args.blocks.now.ok.0))
+    let e = one_longer _ _ _ c.in_ok-put_block.ensures.added in (
+      sound_push s _ _ _ (open_code c.args.code) c.in_ok-put_block.ensures.added (coded c.reverse.ensures.items) g h,
+      omega (arith, n, e, c.len-number.ensures ∙ c.args.blocks.now.ok.0),
+    )

@@ -12,8 +12,16 @@ returns-clause-truth c = rw c.likely_first.ensures
 
 pub returns-clause-insts : goal.returns-clause-insts
 returns-clause-insts c =
-    omega (arith, c.in_ok-join.ensures.insts, c.in_ok-no.ensures.insts, c.in_ok-yes.ensures.insts, ap insts_of c.in_ok-no_code.ensures,
-    ap insts_of c.in_ok-yes_code.ensures, ap insts_of c.exit_block.ensures, ap insts_of c.exit_block-2.ensures)
+    omega (
+      arith,
+      c.in_ok-join.ensures.insts,
+      c.in_ok-no.ensures.insts,
+      c.in_ok-yes.ensures.insts,
+      ap insts_of c.in_ok-no_code.ensures,
+      ap insts_of c.in_ok-yes_code.ensures,
+      ap insts_of c.exit_block.ensures,
+      ap insts_of c.exit_block-2.ensures,
+    )
 
 pub returns-clause-sound : goal.returns-clause-sound
 returns-clause-sound c = rw c.likely_first.ensures (λ s n g h.
