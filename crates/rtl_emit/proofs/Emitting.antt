@@ -103,13 +103,10 @@ pub held_names : (l r : TypedExpression) (free p next q last n : ℕ) → IsPlac
     → operands_registers (place_registers l free) (place_registers r (next_free l free)) (value_registers l free) (value_registers r (next_free l free)) ≤ n
     → (p < n) × ((q < n) × ((max (value_registers r next) (value_registers l free) ≤ n)
     × (both_registers l r free ≤ n)))
-held_names l r free p next q last n pl pr le = (
-  omega (arith, pl.counted, le),
-  (
-    omega (arith, pr.counted, ap (place_registers r) pl.next_is, le),
-    (omega (arith, ap (value_registers r) pl.next_is, le), omega (arith, le)),
-  ),
-)
+held_names l r free p next q last n pl pr le =
+    let qe = ap (place_registers r) pl.next_is in
+    let ve = ap (value_registers r) pl.next_is in
+    (omega (arith, pl.counted, le), (omega (arith, pr.counted, qe, le), (omega (arith, ve, le), omega (arith, le))))
 
 -- the registers of a contrary comparison: the one that is tested, and those of its operands
 pub contrary_registers : (o : BinaryOp) (k : IntegerType) (l r : TypedExpression) (likely : Bool) (free : ℕ) → is_logical o ≡ false

@@ -12,16 +12,11 @@ returns-clause-truth c = rw c.likely_first.ensures
 
 pub returns-clause-insts : goal.returns-clause-insts
 returns-clause-insts c =
-    omega (
-      arith,
-      c.in_ok-join.ensures.insts,
-      c.in_ok-no.ensures.insts,
-      c.in_ok-yes.ensures.insts,
-      ap insts_of c.in_ok-no_code.ensures,
-      ap insts_of c.in_ok-yes_code.ensures,
-      ap insts_of c.exit_block.ensures,
-      ap insts_of c.exit_block-2.ensures,
-    )
+    let no = ap insts_of c.in_ok-no_code.ensures in
+    let yes = ap insts_of c.in_ok-yes_code.ensures in
+    let no_end = ap insts_of c.exit_block.ensures in
+    let yes_end = ap insts_of c.exit_block-2.ensures in
+    omega (arith, c.in_ok-join.ensures.insts, c.in_ok-no.ensures.insts, c.in_ok-yes.ensures.insts, no, yes, no_end, yes_end)
 
 pub returns-clause-sound : goal.returns-clause-sound
 returns-clause-sound c = rw c.likely_first.ensures (λ s n g h.
