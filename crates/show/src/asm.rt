@@ -14,7 +14,7 @@ fn address_after(address: u32, words: usize) -> u32 {
 }
 
 impl<'a> View<'a> {
-    /// Returns the labels of the program's functions and globals.
+    /// Returns the labels of the program's functions and globals, in the order of their addresses.
     pub(crate) fn labels(&self, orders: &[Order]) -> Result<Vec<Label<'a>>, AllocError> {
         let mut labels = Vec::new(self.alloc);
         let mut address = CODE_BASE;

@@ -94,10 +94,11 @@ impl<'a> Label<'a> {
     }
 }
 
-/// Returns the first name of an address.
+/// Returns the name of an address. The labels stand in the order of their addresses, one for each.
 fn name_at<'a>(labels: &[Label<'a>], address: u32) -> Option<&'a str> {
-    let label = labels.iter().find(|label| label.is_of(address))?;
-    Some(label.name)
+    let place = labels.partition_point(|label| label.address < address);
+    let label = labels.get(place)?;
+    label.is_of(address).then_some(label.name)
 }
 
 /// Writes a branch or jump with a label in place of the address.
@@ -142,13 +143,10 @@ fn put_form(
     Ok(())
 }
 
-/// Writes the names of an address, each a global label.
-fn put_names(out: &mut Writer, labels: &[Label<'_>], address: u32) {
-    for label in labels {
-        if label.is_of(address) {
-            let name = label.name;
-            out.put(&format_args!(".globl {name}\n{name}:\n"));
-        }
+/// Writes the name of an address, if it has one, as a global label.
+fn put_name(out: &mut Writer, labels: &[Label<'_>], address: u32) {
+    if let Some(name) = name_at(labels, address) {
+        out.put(&format_args!(".globl {name}\n{name}:\n"));
     }
 }
 
@@ -165,7 +163,7 @@ fn put_code(
         if address == image.entry() {
             out.text("__start:\n");
         }
-        put_names(out, labels, address);
+        put_name(out, labels, address);
         if *is_target && name_at(labels, address).is_none() {
             out.put(&format_args!("L{}:\n", WordDigits(address)));
         }
@@ -195,7 +193,7 @@ fn put_data(out: &mut Writer, bytes: &[u8], labels: &[Label<'_>]) {
     out.text(".data\n");
     let mut address = DATA_BASE;
     for part in bytes.chunks(4) {
-        put_names(out, labels, address);
+        put_name(out, labels, address);
         put_bytes(out, part);
         address = address.wrapping_add(4);
     }
@@ -214,8 +212,9 @@ pub(crate) fn put_source(
     Ok(())
 }
 
-/// Returns the assembler source of an image, with labels where the image has names. Functions are at words of the code, globals at words of
-/// the data. A name that is like a label of the source itself (`__start`, `L` and eight digits) is left out.
+/// Returns the assembler source of an image, with labels where the image has names: functions at words of the code, globals at words of
+/// the data. Labels come in the order of their addresses, one for each. A name that is like a label of the source itself (`__start`, `L`
+/// and eight digits) is left out.
 pub fn assembler_source(
     alloc: Global,
     image: &Image,

@@ -60,8 +60,8 @@ impl<'a> View<'a> {
             return None;
         };
         let first = function.number() as usize;
-        let found = self.ranges.iter().position(|range| range.from == first)?;
-        Some(self.names.function(found.saturating_sub(1)))
+        let number = self.ranges.partition_point(|range| range.from < first);
+        Some(self.names.function(number.checked_sub(1)?))
     }
 
     /// Returns RTL of the function of this number among the ranges, the first of which is none of the program's.
