@@ -9,7 +9,7 @@ ghost use Rattle.host.specs.Hosts.{RanOn};
 ghost use Rattle.host.specs.Requests.{IsSent, LeavesOutput, TellsLine, WasRefused, relations};
 
 use crate::check_command::explanations::explanation;
-use crate::check_command::verdicts::{CheckAnswer, CheckFault, check};
+use crate::check_command::verdicts::{CheckAnswer, CheckFault, LONGEST, check};
 use explain::explain_line;
 use host::{
     BadFile, Broken, Complaints, FileCommand, Files, Host, HostFault, Output, Place, answer_file,
@@ -81,19 +81,23 @@ fn print_answer<W: Output>(
     }
 }
 
-/// Returns where a fault of a check text lies: at a line, if anywhere.
+/// Returns where a fault of a check text lies: at a line, or at the first byte too many.
 fn offset_of(text: &[u8], fault: CheckFault) -> Option<usize> {
     match fault {
         CheckFault::Line(line) => Some(line_offset(text, line)),
-        CheckFault::Size | CheckFault::NoMemory => None,
+        CheckFault::Size => Some(LONGEST),
+        CheckFault::NoMemory => None,
     }
 }
 
-/// Returns what is said of a fault of a check text: of a line, if anything.
+/// Returns what is said of a fault of a check text.
 fn explanation_of(alloc: Global, text: &[u8], fault: CheckFault) -> Option<Explanation> {
     match fault {
         CheckFault::Line(line) => explain_line(alloc, text, line).ok(),
-        CheckFault::Size | CheckFault::NoMemory => None,
+        CheckFault::Size => {
+            Explanation::new(alloc, "the file has more than 1048576 bytes", None).ok()
+        }
+        CheckFault::NoMemory => None,
     }
 }
 
