@@ -1,13 +1,10 @@
 -- At most how many machine instructions stand for an instruction, an exit and the beginning of a function.
 use Rattle.std.proofs.Common.{◌≡◌, ℕ, zero, suc, ◌+◌, ◌*◌, ◌≤◌, Bool, true, false, List, [], ◌∷◌, length, length-append, Option, Some, None, arith, refl}
-use Rattle.std.specs.Prelude.{slice_get, nat_eq, nat_lt, if◌then◌else◌}
+use Rattle.std.specs.Prelude.{slice_get}
 use Rattle.words.specs.Words.{wrap}
 use Rattle.words.specs.declared.width.Width.{Width}
 use Rattle.words.specs.declared.width.Width.TheVariants.{Word, Byte}
-use Rattle.mips_isa.specs.declared.inst.AluOp.TheVariants.{Addu}
-use Rattle.mips_isa.specs.declared.inst.ImmOp.TheVariants.{Addiu}
 use Rattle.mips_isa.specs.declared.inst.Plain.{Plain}
-use Rattle.mips_isa.specs.declared.inst.Plain.TheVariants.{Alu, Imm, LoadUpper}
 use Rattle.rtl.specs.declared.operator.Op.{Op}
 use Rattle.rtl.specs.declared.operator.Op.TheVariants as ops
 use Rattle.rtl.specs.declared.instruction.RInst.{RInst}
@@ -15,11 +12,10 @@ use Rattle.rtl.specs.declared.instruction.RInst.TheVariants.{Const, Move, Bin, L
 use Rattle.rtl.specs.declared.instruction.RExit.{RExit}
 use Rattle.rtl.specs.declared.instruction.RExit.TheVariants.{Goto, Branch, Call, Return, Out}
 use Rattle.rtl.specs.declared.block.RGlobal.{RGlobal}
-use Rattle.mips_homes.specs.HomedRun.{is_callee_saved}
 use Rattle.mips_homes.specs.declared.homed.Home.{Home}
 use Rattle.mips_homes.specs.declared.homed.Frame.{Frame}
 use Rattle.mips_homes.specs.declared.homed.Home.TheVariants.{Reg, Slot, Copied}
-use Rattle.mips_emit.specs.Frames.{HaveNoCopies}
+use Rattle.mips_emit.specs.Frames.{HaveNoCopies, link_words}
 use Rattle.mips_emit.specs.declared.location.Source.{Source}
 use Rattle.mips_emit.specs.declared.location.Source.TheVariants.{Word as Known, From}
 use Rattle.mips_emit.specs.declared.comparison.Asked.{Asked}
@@ -30,22 +26,17 @@ use Rattle.mips_emit.specs.declared.facts.Last.{Last}
 use Rattle.mips_emit.specs.Locations.{Locations, Facts, locations, known_in, learned, operand, last_operand, inner_of, word_source}
 use Rattle.mips_emit.specs.declared.element.Reach.{Reach}
 use Rattle.mips_emit.specs.declared.element.Reach.TheVariants.{ByScratch, ByNew}
-use Rattle.mips_emit.specs.Elements.{scaled, base_sum, page, address_of_place}
-use Rattle.mips_emit.specs.Code.{li, fetch, operand_register, bring, stays, carry, finish, put_at, arrive, operation, code_by_less}
+use Rattle.mips_emit.specs.Elements.{scaled, base_sum}
+use Rattle.mips_emit.specs.Code.{li, fetch, operand_register, bring, carry, finish, put_at, arrive, operation, code_by_less}
 use Rattle.mips_emit.specs.declared.operation.Operand.{Operand}
 use Rattle.mips_emit.specs.Code.{Context, code_by_left, code_by_right, code_by_word, multiple_of, multiple_code, code_by_multiple, op_code, element_code}
-use Rattle.mips_emit.specs.Code.{immediate_of, turned_immediate_of, turned_less_of, const_code, nop, inst_code, arguments_code}
+use Rattle.mips_emit.specs.Code.{immediate_of, turned_immediate_of, turned_less_of, const_code, inst_code, arguments_code}
 use Rattle.mips_emit.specs.Comparisons.{code_by_form, opposite_op, next_code, insts_code, branch_code}
 use Rattle.mips_emit.specs.Comparisons.{tested, return_code}
 use Rattle.mips_select.specs.declared.prologue.Direction.{Direction}
-use Rattle.mips_select.specs.declared.prologue.Direction.TheVariants.{Save, Restore}
-use Rattle.mips_select.specs.Code.{frame_words, frame_link, step_of, stack_step}
+use Rattle.mips_select.specs.Code.{frame_words, frame_link, stack_step}
 use Rattle.mips_select.specs.Code.{parameters_code, prologue, epilogue, exit_code, result_code}
 use Rattle.mips_select.specs.Emittable.{HasFewArguments}
-
-either : (b : Bool) (n : ℕ) (x y : List Plain) → length x ≤ n → length y ≤ n → length (if b then x else y) ≤ n
-either true n x y lx ly = lx
-either false n x y lx ly = ly
 
 -- ---- operands and results
 
@@ -71,16 +62,17 @@ finish_few _ = omega arith
 
 put_few : (o : Option Home) (x : Source) → length (put_at o x) ≤ 8
 put_few None x = omega arith
-put_few (Some (Reg r)) x = let n = bring_few r x in omega (arith, n)
+put_few (Some (Reg r)) x = omega (arith, bring_few r x)
 put_few (Some (Copied r k)) x = omega (arith, length-append {A = Plain}, bring_few r x)
 put_few (Some (Slot k)) x = omega (arith, length-append {A = Plain}, fetch_few (inner_of (Some (Slot k))) x)
 
+moved_few : (r t : ℕ) → length (carry r (From (Reg t))) ≤ 1
+moved_few r t = grind arith
+
 -- two, of which the second is the store of a copy
 arrive_few : (o : Option Home) (t : ℕ) → length (arrive o t) ≤ 2
-arrive_few (Some (Reg r)) t = either (stays r (From (Reg t))) 2 [] (bring r (From (Reg t))) (omega arith) (omega arith)
-arrive_few (Some (Copied r k)) t =
-    let one = either (stays r (From (Reg t))) 1 [] (bring r (From (Reg t))) (omega arith) (omega arith) in
-    omega (arith, length-append {A = Plain}, one)
+arrive_few (Some (Reg r)) t = omega (arith, moved_few r t)
+arrive_few (Some (Copied r k)) t = omega (arith, length-append {A = Plain}, moved_few r t)
 arrive_few _ t = omega arith
 
 -- and one where no slot has a copy
@@ -88,10 +80,9 @@ arrive_one : (hs : List Home) (x t : ℕ) → HaveNoCopies hs → length (arrive
 arrive_one hs x t none = by (slice_get hs x) refl
   where
     by : (o : Option Home) → slice_get hs x ≡ o → length (arrive o t) ≤ 1
-    by None e = omega arith
-    by (Some (Reg r)) e = either (stays r (From (Reg t))) 1 [] (bring r (From (Reg t))) (omega arith) (omega arith)
-    by (Some (Slot k)) e = omega arith
+    by (Some (Reg r)) e = moved_few r t
     by (Some (Copied r k)) e = absurd (none x r k e)
+    by _ e = omega arith
 
 -- ---- operators
 
@@ -132,8 +123,7 @@ scaled_few Word t q = omega arith
 scaled_few Byte t q = omega arith
 
 sum_few : (t start q : ℕ) → length (base_sum t start q) ≤ 2
-sum_few t start q = either (nat_lt start 65536) 2 (Alu Addu t q 28 ∷ []) (LoadUpper 2 (page (address_of_place start)) ∷ Alu Addu t q 2 ∷ [])
-    (omega arith) (omega arith)
+sum_few t start q = grind arith
 
 element_few : (w : Width) (start : ℕ) (by : Reach) (x : Source) → length (element_code w start by x) ≤ 5
 element_few w start ByScratch x = omega (arith, length-append {A = Plain}, fetch_few, scaled_few, sum_few)
@@ -141,9 +131,7 @@ element_few w start (ByNew q c) x = omega (arith, length-append {A = Plain}, sca
 element_few w start _ x = omega arith
 
 const_few : (o : Option Home) (w : ℕ) → length (const_code o w) ≤ 8
-const_few (Some (Reg r)) w =
-    let few = bring_few r (word_source w) in
-    either (is_callee_saved r) 8 (bring r (word_source w)) (nop ∷ []) (omega (arith, few)) (omega arith)
+const_few (Some (Reg r)) w = grind (arith, bring_few r (word_source w))
 const_few o w = put_few o (word_source w)
 
 inst_few : (globals : List RGlobal) (starts : ℕ → ℕ) (at : Locations) (facts : Facts) (i : RInst) → length (inst_code globals starts at facts i) ≤ 8
@@ -158,9 +146,9 @@ form_few (Known b) op x y = omega arith
 form_few (OnPair test) op x y = omega (arith, length-append {A = Plain}, fetch_few)
 form_few (OnLeft test) op x y = omega (arith, length-append {A = Plain}, fetch_few)
 form_few (OnRight test) op x y = omega (arith, length-append {A = Plain}, fetch_few)
-form_few ByResult op x y = let n = op_few op 1 3 x y in omega (arith, n)
-form_few ByOpposite op x y = let n = op_few (opposite_op op) 1 3 y x in omega (arith, n)
-form_few InResult op x y = let n = op_few op 1 2 x y in omega (arith, n)
+form_few ByResult op x y = omega (arith, op_few op 1 3 x y)
+form_few ByOpposite op x y = omega (arith, op_few (opposite_op op) 1 3 y x)
+form_few InResult op x y = omega (arith, op_few op 1 2 x y)
 
 next_few : (c : Context) (facts : Facts) (o : Option Comparison) (i : RInst) → length (next_code c facts o i) ≤ 8
 next_few c facts None i = inst_few c.globals c.starts c.at facts i
@@ -175,10 +163,14 @@ insts_few c asked facts (i ∷ is) behind = omega (arith, length-append {A = Pla
 
 words_many : (direction : Direction) (at : ℕ) (rs : List ℕ) → length (frame_words direction at rs) ≡ length rs
 words_many direction at [] = omega arith
-words_many direction at (r ∷ rs) = let n = words_many direction (at + 4) rs in omega (arith, n)
+words_many direction at (r ∷ rs) = omega (arith, words_many direction (at + 4) rs)
 
 step_few : (direction : Direction) (n : ℕ) → length (stack_step direction n) ≤ 1
-step_few direction n = either (nat_eq n 0) 1 [] (Imm Addiu 29 29 (step_of direction n) ∷ []) (omega arith) (omega arith)
+step_few direction n = grind arith
+
+link_length : (direction : Direction) (leaf : Bool) (f : Frame) → length (frame_link direction leaf f) ≡ link_words leaf
+link_length direction true f = refl
+link_length direction false f = refl
 
 parameters_few : (at : Locations) (t x n : ℕ) → length (parameters_code at t x n) ≤ 2 * n
 parameters_few at t x zero = omega arith
@@ -194,35 +186,18 @@ prologue_most true = 17
 prologue_most false = 14
 
 abbrev pub exit_most : Bool → ℕ
-exit_most true = 11
-exit_most false = 12
-
-prologue_by : (leaf : Bool) (f : Frame) (n p most : ℕ) → length f.saved.items ≤ 8 → length (parameters_code (locations f) 4 0 n) ≤ p
-    → 9 + length (frame_link Save leaf f) + p ≤ most → length (prologue leaf f n) ≤ most
-prologue_by leaf f n p most eight moved room = omega (arith, length-append {A = Plain}, words_many, step_few, eight, moved, room)
+exit_most leaf = 11 + link_words leaf
 
 pub prologue_few : (leaf : Bool) (f : Frame) (n : ℕ) → length f.saved.items ≤ 8 → n ≤ 4 → (leaf ≡ false → HaveNoCopies f.homes.items)
     → length (prologue leaf f n) ≤ prologue_most leaf
 prologue_few true f n eight four alone =
-    let moved = parameters_few (locations f) 4 0 n in
-    prologue_by true f n 8 17 eight (omega (arith, moved, four)) (omega arith)
+    omega (arith, length-append {A = Plain}, words_many, step_few, eight, four, parameters_few (locations f) 4 0 n)
 prologue_few false f n eight four alone =
-    let moved = parameters_one f.homes.items 4 0 n (alone refl) in
-    prologue_by false f n 4 14 eight (omega (arith, moved, four)) (omega arith)
+    omega (arith, length-append {A = Plain}, words_many, step_few, eight, four, parameters_one f.homes.items 4 0 n (alone refl))
 
 -- an epilogue, and two instructions for what is returned
 epilogue_few : (leaf : Bool) (f : Frame) → length f.saved.items ≤ 8 → length (epilogue leaf f) + 2 ≤ exit_most leaf
-epilogue_few leaf f eight =
-    by leaf (length (epilogue leaf f)) (length (frame_link Restore leaf f)) (omega (arith, length-append {A = Plain}, words_many, step_few, eight))
-    (link_most leaf)
-  where
-    link_most : (leaf : Bool) → length (frame_link Restore leaf f) + 11 ≤ exit_most leaf
-    link_most true = omega arith
-    link_most false = omega arith
-
-    by : (leaf : Bool) (n link : ℕ) → n ≤ 9 + link → link + 11 ≤ exit_most leaf → n + 2 ≤ exit_most leaf
-    by true n link le most = omega (arith, le, most)
-    by false n link le most = omega (arith, le, most)
+epilogue_few leaf f eight = omega (arith, length-append {A = Plain}, words_many, step_few, link_length, eight)
 
 arguments_few : (at : Locations) (facts : Facts) (t : ℕ) (xs : List ℕ) → length (arguments_code at facts t xs) ≤ 2 * length xs
 arguments_few at facts t [] = omega arith
@@ -241,25 +216,16 @@ abbrev pub behind_most : RExit → ℕ
 behind_most (Call g xs d next) = 2
 behind_most _ = 0
 
-ten_most : (leaf : Bool) (n : ℕ) → n ≤ 10 → n ≤ exit_most leaf
-ten_most true n le = omega (arith, le)
-ten_most false n le = omega (arith, le)
-
 pub exit_few : (leaf : Bool) (f : Frame) (facts : Facts) (last : Last) (x : RExit) → length f.saved.items ≤ 8 → HasFewArguments x
     → length (exit_code leaf f facts last x) + behind_most x ≤ exit_most leaf
-exit_few leaf f facts last (Goto b) eight few = ten_most leaf 0 (omega arith)
+exit_few leaf f facts last (Goto b) eight few = omega arith
 exit_few leaf f facts last (Branch c t e) eight few =
-    let n = branch_few (tested last.comparison c) (known_in facts c) (last_operand (locations f) facts last.fresh c) in
-    ten_most leaf _ (omega (arith, n))
-exit_few leaf f facts last (Call g xs d next) eight few =
-    let n = arguments_few (locations f) facts 4 xs.items in
-    ten_most leaf _ (omega (arith, n, few))
-exit_few leaf f facts last (Return None) eight few = let n = epilogue_few leaf f eight in omega (arith, n)
+    omega (arith, branch_few (tested last.comparison c) (known_in facts c) (last_operand (locations f) facts last.fresh c))
+exit_few leaf f facts last (Call g xs d next) eight few = omega (arith, arguments_few (locations f) facts 4 xs.items, few)
+exit_few leaf f facts last (Return None) eight few = omega (arith, epilogue_few leaf f eight)
 exit_few leaf f facts last (Return (Some x)) eight few =
     omega (arith, return_few, epilogue_few leaf f eight, length-append {A = Plain})
-exit_few leaf f facts last (Out x next) eight few =
-    let n = carry_few 4 (last_operand (locations f) facts last.fresh x) in
-    ten_most leaf _ (omega (arith, n))
+exit_few leaf f facts last (Out x next) eight few = omega (arith, carry_few 4 (last_operand (locations f) facts last.fresh x))
 
 pub result_few : (at : Locations) (o : Option ℕ) → length (result_code at o) ≤ 2
 result_few at None = omega arith

@@ -39,7 +39,7 @@ not_home : (hs : List Home) (x r : ℕ) → lives_in hs r ≡ false → slice_ge
 not_home hs x r none e = true≢false (sym (lives hs x r e) ∙ none)
 
 all_rise : Rising 7 temporaries
-all_rise = (omega arith, (omega arith, (omega arith, (omega arith, (omega arith, (omega arith, (omega arith, (omega arith, (omega arith, (omega arith, (omega arith, (omega arith, tt))))))))))))
+all_rise = omega arith
 
 -- ---- copies
 

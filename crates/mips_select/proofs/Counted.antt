@@ -13,7 +13,7 @@ use Rattle.mips_emit.specs.Frames.{HaveNoCopies}
 use Rattle.mips_emit.specs.Locations.{locations, no_facts, known_after}
 use Rattle.mips_emit.specs.Comparisons.{last_after, no_last}
 use Rattle.mips_select.specs.Split.{first_piece_of, total}
-use Rattle.mips_select.proofs.Counts.{length-split_from}
+use Rattle.mips_select.proofs.Places.{length-split_from}
 use Rattle.mips_select.specs.declared.heads.Naming.{Naming}
 use Rattle.mips_select.specs.declared.heads.Naming.TheVariants.{Unnamed, Called}
 use Rattle.mips_select.specs.declared.heads.Head.TheVariants.{Bare, Enters, Takes}
@@ -54,9 +54,8 @@ record Few (bs : List BlockParts) (blocks words : ℕ) : Type 0 where
   blocks_few : length bs ≤ blocks
   words_few : words_in bs ≤ words
 
-both : (xs ys : List BlockParts) (a b c d : ℕ) → Few xs a b → Few ys c d → Few (xs ++ ys) (a + c) (b + d)
-both xs ys a b c d x y =
-    record { blocks_few = omega (arith, length-append xs ys, x.blocks_few, y.blocks_few); words_few = omega (arith, words_append xs ys, x.words_few, y.words_few) }
+both : (xs ys : List BlockParts) {a b c d : ℕ} → Few xs a b → Few ys c d → Few (xs ++ ys) (a + c) (b + d)
+both xs ys x y = omega (arith, length-append xs ys, words_append xs ys)
 
 -- ---- one function
 
@@ -64,9 +63,8 @@ module _ (l : Linking) (p : Planning) (eight : length p.frame.saved.items ≤ 8)
     (alone : p.leaf ≡ false → HaveNoCopies p.frame.homes.items) where
   behind_few : (x : RExit) → Few (behind p x) (exit_blocks x - 1) (behind_most x)
   behind_few (Call g xs d next) = cond_both (resumes d (p.heads next)) [] (after_block p.frame d (p.place next) ∷ []) (λ bs. Few bs 1 2)
-      (λ _. record { blocks_few = omega arith; words_few = omega arith })
-      (λ _. record { blocks_few = omega arith; words_few = omega (arith, result_few (locations p.frame) d) })
-  behind_few _ = record { blocks_few = omega arith; words_few = omega arith }
+      (λ _. omega arith) (λ _. omega (arith, result_few (locations p.frame) d))
+  behind_few _ = omega arith
 
   own_few : (j m : ℕ) (b : RBlock) → HasFewArguments b.exit
       → length (own_block l p.placing (head_code p (p.heads j)) m b).insts + behind_most b.exit
@@ -84,39 +82,34 @@ module _ (l : Linking) (p : Planning) (eight : length p.frame.saved.items ≤ 8)
   one_or_more _ = omega arith
 
   -- a block, and what is behind it
-  one_few : (k j : ℕ) (b : RBlock) (bs : List RBlock) (blocks words : ℕ) → HasFewArguments b.exit
+  one_few : (k j : ℕ) (b : RBlock) (bs : List RBlock) {blocks words : ℕ} → HasFewArguments b.exit
       → Few (blocks_from l p (k + count p.heads b.exit) (suc j) bs) blocks words
       → Few (blocks_from l p k j (b ∷ bs)) (exit_blocks b.exit + blocks)
       (length (head_code p (p.heads j)) + (exit_most p.leaf + 8 * length b.insts.items) + words)
-  one_few k j b bs blocks words few rest =
+  one_few k j b bs few rest =
       let own = own_few j (next_of p k b.exit) b few in
-      let more = both (behind p b.exit) (blocks_from l p (k + count p.heads b.exit) (suc j) bs) (exit_blocks b.exit - 1)
-      (behind_most b.exit) blocks words (behind_few b.exit) rest in
-      let some = one_or_more b.exit in
-      record { blocks_few = omega (arith, some, more.blocks_few); words_few = omega (arith, own, more.words_few) }
+      let more = both (behind p b.exit) (blocks_from l p (k + count p.heads b.exit) (suc j) bs) (behind_few b.exit) rest in
+      omega (arith, one_or_more b.exit, own, more)
 
   -- what an exit has at most, and a prologue with it
   most : (leaf : Bool) → (exit_most leaf ≤ 12) × (prologue_most leaf + exit_most leaf ≤ 28)
-  most true = (omega arith, omega arith)
-  most false = (omega arith, omega arith)
+  most true = omega arith
+  most false = omega arith
 
   -- those behind the first begin with two instructions at most
   rest_few : ((j : ℕ) → length (head_code p (p.heads (suc j))) ≤ 2) → (k j : ℕ) (bs : List RBlock)
       → ((i : ℕ) (b : RBlock) → slice_get bs i ≡ Some b → HasFewArguments b.exit)
       → Few (blocks_from l p k (suc j) bs) (exits_blocks bs) (14 * length bs + 8 * insts_in bs)
-  rest_few small k j [] few = record { blocks_few = omega arith; words_few = omega arith }
+  rest_few small k j [] few = omega arith
   rest_few small k j (b ∷ bs) few =
-      let head = small j in
-      let exit = (most p.leaf).0 in
-      let rest = rest_few small (k + count p.heads b.exit) (suc j) bs (λ i c e. few (suc i) c e) in
-      let all = one_few k (suc j) b bs (exits_blocks bs) (14 * length bs + 8 * insts_in bs) (few 0 b refl) rest in
-      record { blocks_few = omega (arith, all.blocks_few); words_few = omega (arith, head, exit, all.words_few) }
+      let all = one_few k (suc j) b bs (few 0 b refl) (rest_few small (k + count p.heads b.exit) (suc j) bs (λ i c e. few (suc i) c e)) in
+      omega (arith, small j, most p.leaf, all)
 
   -- the prologue is in a block of its own, or at the head of the first
   lead_few : (o : Option Naming) → (length (lead_blocks p (head_at 0 o)) ≤ 1)
       × (words_in (lead_blocks p (head_at 0 o)) + length (head_code p (head_at 0 o)) ≤ prologue_most p.leaf)
-  lead_few (Some (Called None)) = let m = prologue_few p.leaf p.frame p.parameters eight four alone in (omega arith, omega (arith, m))
-  lead_few _ = let m = prologue_few p.leaf p.frame p.parameters eight four alone in (omega arith, omega (arith, m))
+  lead_few (Some (Called None)) = omega (arith, prologue_few p.leaf p.frame p.parameters eight four alone)
+  lead_few _ = omega (arith, prologue_few p.leaf p.frame p.parameters eight four alone)
 
 later_head : (p : Planning) (names : List Naming) (j : ℕ) → length (head_code p (head_at (suc j) (slice_get names (suc j)))) ≤ 2
 later_head p names j = by (slice_get names (suc j))
@@ -128,6 +121,13 @@ later_head p names j = by (slice_get names (suc j))
         (λ _. omega arith) (λ _. result_few (locations p.frame) (Some d))
     by _ = omega arith
 
+record IsFew (func : RFunc) (f : Frame) : Type 0 where
+  eight : length f.saved.items ≤ 8
+  four : func.parameters ≤ 4
+  alone : is_leaf func.blocks.items ≡ false → HaveNoCopies f.homes.items
+  some : 0 < length func.blocks.items
+  few : (i : ℕ) (b : RBlock) → slice_get func.blocks.items i ≡ Some b → HasFewArguments b.exit
+
 function_few : (l : Linking) (n k : ℕ) (bs : List RBlock) (f : Frame) → length f.saved.items ≤ 8 → n ≤ 4
     → (is_leaf bs ≡ false → HaveNoCopies f.homes.items) → 0 < length bs → ((i : ℕ) (b : RBlock) → slice_get bs i ≡ Some b → HasFewArguments b.exit)
     → Few (blocks_in l n k bs f) (1 + exits_blocks bs) (14 + 14 * length bs + 8 * insts_in bs)
@@ -136,25 +136,13 @@ function_few l n k (b ∷ bs) f eight four alone some few =
     let all = b ∷ bs in
     let heads = heads_of all in
     let p = planning_in n k all f in
-    let naming = slice_get (namings all (unnamed all)) 0 in
-    let small = later_head p (namings all (unnamed all)) in
-    let lead = lead_few l p eight four alone naming in
+    let lead = lead_few l p eight four alone (slice_get (namings all (unnamed all)) 0) in
     let fits = (most l p eight four alone (is_leaf all)).1 in
-    let rest = rest_few l p eight four alone (λ j. small j) (k + lead_in heads + count heads b.exit) 0 bs (λ i c e. few (suc i) c e) in
-    let first = one_few l p eight four alone (k + lead_in heads) 0 b bs (exits_blocks bs) (14 * length bs + 8 * insts_in bs) (few 0 b refl) rest in
-    record {
-      blocks_few = omega (arith, lead.0, first.blocks_few, length-append {A = BlockParts});
-      words_few = omega (arith, lead.1, fits, first.words_few, words_append);
-    }
+    let rest = rest_few l p eight four alone (later_head p (namings all (unnamed all))) (k + lead_in heads + count heads b.exit) 0 bs (λ i c e. few (suc i) c e) in
+    let first = one_few l p eight four alone (k + lead_in heads) 0 b bs (few 0 b refl) rest in
+    omega (arith, lead, fits, first, length-append {A = BlockParts}, words_append)
 
 -- ---- the program
-
-record IsFew (func : RFunc) (f : Frame) : Type 0 where
-  eight : length f.saved.items ≤ 8
-  four : func.parameters ≤ 4
-  alone : is_leaf func.blocks.items ≡ false → HaveNoCopies f.homes.items
-  some : 0 < length func.blocks.items
-  few : (i : ℕ) (b : RBlock) → slice_get func.blocks.items i ≡ Some b → HasFewArguments b.exit
 
 functions_few : (l : Linking) (k : ℕ) (funcs : List RFunc) (fs : List Frame)
     → ((i : ℕ) (func : RFunc) (f : Frame) → slice_get funcs i ≡ Some func → slice_get fs i ≡ Some f → IsFew func f)

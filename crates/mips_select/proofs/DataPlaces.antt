@@ -1,12 +1,13 @@
 -- Where the bytes of globals stand.
-use Rattle.std.proofs.Common.{◌≡◌, ◌⊎◌, inl, inr, ℕ, zero, suc, ◌+◌, ◌-◌, ◌*◌, ◌%◌, ◌^◌, ◌<◌, ◌≤◌, List, [], ◌∷◌, ◌++◌, map, length}
-use Rattle.std.proofs.Common.{◌≢◌, ⊎_elim, length-append, Some, refl, sym, ap, ◌∙◌, subst, arith}
-use Rattle.std.specs.Prelude.{All, slice_get, slice_index, sum_by}
+use Rattle.std.proofs.Common.{◌≡◌, ◌⊎◌, inl, inr, ℕ, zero, suc, ◌+◌, ◌-◌, ◌*◌, ◌/◌, ◌%◌, ◌^◌, ◌<◌, ◌≤◌, Bool, List, [], ◌∷◌, ◌++◌, map, length, take}
+use Rattle.std.proofs.Common.{drop, ◌≢◌, ⊎_elim, length-append, append-nil, Some, refl, sym, ap, ap₂, ◌∙◌, subst, arith}
+use Rattle.std.specs.Prelude.{All, nat_le, if◌then◌else◌, slice_get, slice_index, sum_by}
 use Rattle.std.proofs.lemmas.Bool.{cases_lt}
-use Rattle.std.proofs.lemmas.List.{append_assoc, length-map, length-replicate}
-use Rattle.std.proofs.lemmas.List.Elements.{All-append, All-cons, All-nil}
+use Rattle.std.proofs.lemmas.List.{append_assoc, take-append-drop, length-drop, length-map, length-replicate}
+use Rattle.std.proofs.lemmas.List.Elements.{All-append, All-from_recursion, All-nil, All-replicate}
 use Rattle.std.proofs.lemmas.List.Sums.{sum_by-cons}
 use Rattle.std.proofs.lemmas.Option.{same_Some, none-some, slice_get_within}
+use mathlib.Core.Path.{fun_ext}
 use Rattle.words.specs.declared.width.Width.{Width}
 use Rattle.words.specs.declared.width.Width.TheVariants.{Word, Byte}
 use Rattle.words.specs.Words.{wrap}
@@ -17,14 +18,15 @@ use Rattle.rtl.specs.declared.block.RGlobal.{RGlobal}
 use Rattle.rtl.specs.declared.limits.TheConstants.{MAX_GLOBAL_WORDS}
 use Rattle.rtl.specs.Programs.{IsGlobal, word_count}
 use Rattle.rtl.specs.Meaning.{first_values}
-use Rattle.mips_isa.specs.States.{byte_of}
+use Rattle.mips_isa.specs.States.{State, put}
+use Rattle.mips_isa.specs.Starting.{data_base, stack_base, stack_end, first_bytes, words_mapped, start_state}
 use Rattle.mips_emit.specs.Elements.{width_bytes, width_of, element_place}
 use Rattle.mips_select.specs.Emittable.{AreInside}
 use Rattle.mips_select.proofs.Lists.{all_at, get_behind, get_before}
-use Rattle.mips_select.specs.Data.{element_bytes, elements_bytes, gap_behind, zeros, global_bytes, padded_bytes, starts_from}
+use Rattle.mips_select.specs.Data.{element_bytes, elements_bytes, gap_behind, zeros, global_bytes, padded_bytes, bare_bytes, data_bytes, starts_from}
 
-pub zeros_step : (n i : ℕ) (bytes bytes' all : List ℕ) → i < n → bytes' ≡ bytes ++ 0 ∷ [] → bytes ++ zeros (n - i) ≡ all → bytes' ++ zeros (n - (i + 1)) ≡ all
-zeros_step n i bytes bytes' all lt e before =
+pub zeros_step : (n i : ℕ) (bytes : List ℕ) {bytes' all : List ℕ} → i < n → bytes' ≡ bytes ++ 0 ∷ [] → bytes ++ zeros (n - i) ≡ all → bytes' ++ zeros (n - (i + 1)) ≡ all
+zeros_step n i bytes lt e before =
     let one : suc (n - (i + 1)) ≡ n - i = omega (arith, lt) in
     cc (append_assoc bytes (0 ∷ []) (zeros (n - (i + 1))))
 
@@ -95,11 +97,9 @@ pub element_within : (n : ℕ) (gs : List RGlobal) → HaveValues gs → (a i v 
     (padded_bytes gs))
 element_within n [] ok a i v e = absurd (none-some v e)
 element_within n (x ∷ gs) ok zero i v e =
-    let inside = global_inside x i v (ok 0 x refl) e in
-    (omega arith, omega (arith, inside, global_length x (ok 0 x refl), length-append {A = ℕ}))
+    omega (arith, global_inside x i v (ok 0 x refl) e, global_length x (ok 0 x refl), length-append {A = ℕ})
 element_within n (x ∷ gs) ok (suc a) i v e =
-    let rest = element_within (n + 4 * word_count x) gs (later x gs ok) a i v e in
-    (omega (arith, rest.0), omega (arith, rest.1, global_length x (ok 0 x refl), length-append {A = ℕ}))
+    omega (arith, element_within (n + 4 * word_count x) gs (later x gs ok) a i v e, global_length x (ok 0 x refl), length-append {A = ℕ})
 
 pub element_byte : (n : ℕ) (gs : List RGlobal) → HaveValues gs → (a i v k b p : ℕ) → element_at (map first_values gs) a i ≡ Some v
     → slice_get (element_bytes (width_of gs a) v) k ≡ Some b
@@ -139,48 +139,32 @@ elements_apart n [] ok a i b j v w e f ne = absurd (none-some v e)
 elements_apart n (x ∷ gs) ok zero i zero j v w e f ne = ⊎_elim (λ lt. inl (element_before x.width n i j lt))
     (λ le. (let apart : i ≢ j = ne refl in inr (element_before x.width n j i (omega (arith, le, apart))))) (cases_lt i j)
 elements_apart n (x ∷ gs) ok zero i (suc b) j v w e f ne =
-    let inside = global_inside x i v (ok 0 x refl) e in
-    let low = (element_within (n + 4 * word_count x) gs (later x gs ok) b j w f).0 in
-    inl (omega (arith, inside, low))
+    inl (omega (arith, global_inside x i v (ok 0 x refl) e, element_within (n + 4 * word_count x) gs (later x gs ok) b j w f))
 elements_apart n (x ∷ gs) ok (suc a) i zero j v w e f ne =
-    let inside = global_inside x j w (ok 0 x refl) f in
-    let low = (element_within (n + 4 * word_count x) gs (later x gs ok) a i v e).0 in
-    inr (omega (arith, inside, low))
+    inr (omega (arith, global_inside x j w (ok 0 x refl) f, element_within (n + 4 * word_count x) gs (later x gs ok) a i v e))
 elements_apart n (x ∷ gs) ok (suc a) i (suc b) j v w e f ne = elements_apart (n + 4 * word_count x) gs (later x gs ok) a i b j v w e f
     (λ same. ne (ap suc same))
 
 -- ---- bytes and words
 
-abbrev AllBytes : List ℕ → Type 0
-AllBytes l = All (λ b. b < 2 ^ 8) l
+abbrev IsByte : ℕ → Type 0
+IsByte b = b < 2 ^ 8
 
-none_below : AllBytes []
-none_below = All-nil (λ b. b < 2 ^ 8)
+element_below : (w : Width) (v : ℕ) → All IsByte (element_bytes w (kept w v))
+element_below Byte v = All-from_recursion IsByte (element_bytes Byte (kept Byte v)) (omega arith)
+element_below Word v = All-from_recursion IsByte (element_bytes Word (kept Word v)) (omega arith)
 
-byte_below : (b : ℕ) (l : List ℕ) → b < 2 ^ 8 → AllBytes l → AllBytes (b ∷ l)
-byte_below b l lt all = All-cons (λ b. b < 2 ^ 8) b l lt all
-
-element_below : (w : Width) (v : ℕ) → AllBytes (element_bytes w (kept w v))
-element_below Byte v = byte_below (v % 2 ^ 8) [] (omega arith) none_below
-element_below Word v =
-    byte_below (byte_of v 0) (byte_of v 1 ∷ byte_of v 2 ∷ byte_of v 3 ∷ []) (omega arith) (byte_below (byte_of v 1) (byte_of v 2 ∷ byte_of v 3 ∷ []) (omega arith)
-    (byte_below (byte_of v 2) (byte_of v 3 ∷ []) (omega arith) (byte_below (byte_of v 3) [] (omega arith) none_below)))
-
-elements_below : (w : Width) (vs : List ℕ) → AllBytes (elements_bytes w (map (λ v. kept w (wrap v)) vs))
-elements_below w [] = none_below
-elements_below w (v ∷ vs) = All-append (λ b. b < 2 ^ 8) (element_bytes w (kept w (wrap v))) (elements_bytes w (map (λ v. kept w (wrap v)) vs))
+elements_below : (w : Width) (vs : List ℕ) → All IsByte (elements_bytes w (map (λ v. kept w (wrap v)) vs))
+elements_below w [] = All-nil IsByte
+elements_below w (v ∷ vs) = All-append IsByte (element_bytes w (kept w (wrap v))) (elements_bytes w (map (λ v. kept w (wrap v)) vs))
     (element_below w (wrap v)) (elements_below w vs)
 
-zeros_below : (n : ℕ) → AllBytes (zeros n)
-zeros_below zero = none_below
-zeros_below (suc n) = byte_below 0 (zeros n) (omega arith) (zeros_below n)
-
 pub data_below : (gs : List RGlobal) → All (λ b. b < 2 ^ 8) (padded_bytes gs)
-data_below [] = none_below
+data_below [] = All-nil IsByte
 data_below (x ∷ gs) =
-    All-append (λ b. b < 2 ^ 8) (global_bytes x) (padded_bytes gs)
-    (All-append (λ b. b < 2 ^ 8) (elements_bytes x.width (first_values x)) (zeros (gap_behind x.width x.length)) (elements_below x.width x.first.items)
-    (zeros_below (gap_behind x.width x.length)))
+    let gap = gap_behind x.width x.length in
+    All-append IsByte (global_bytes x) (padded_bytes gs)
+    (All-append IsByte (elements_bytes x.width (first_values x)) (zeros gap) (elements_below x.width x.first.items) (All-replicate IsByte gap 0 (omega arith)))
     (data_below gs)
 
 kept_below : (w : Width) (v : ℕ) → kept w (wrap v) < 2 ^ 32
@@ -203,17 +187,15 @@ have_values gs all a x there = (all_at IsGlobal gs a x all there).first
 pub data_length : (gs : List RGlobal) → HaveValues gs → length (padded_bytes gs) ≡ 4 * sum_by word_count gs
 data_length [] ok = refl
 data_length (x ∷ gs) ok =
-    let one = global_length x (ok 0 x refl) in
-    let rest = data_length gs (later x gs ok) in
-    omega (arith, one, rest, length-append (global_bytes x) (padded_bytes gs), sum_by-cons word_count x gs)
+    omega (arith, global_length x (ok 0 x refl), data_length gs (later x gs ok), length-append (global_bytes x) (padded_bytes gs), sum_by-cons word_count x gs)
 
 pub data_fits : (gs : List RGlobal) → HaveValues gs → sum_by word_count gs ≤ MAX_GLOBAL_WORDS → length (padded_bytes gs) ≤ UNIT_BYTES
-data_fits gs ok le = (let long = data_length gs ok in omega (arith, long, le))
+data_fits gs ok le = omega (arith, data_length gs ok, le)
 
 -- each start is inside the data
 starts_within : (n : ℕ) (gs : List RGlobal) (i v : ℕ) → slice_get (starts_from n gs) i ≡ Some v → v ≤ n + 4 * sum_by word_count gs
 starts_within n [] i v e = absurd (none-some v e)
-starts_within n (x ∷ gs) zero v e = (let is = same_Some n v e in omega (arith, is))
+starts_within n (x ∷ gs) zero v e = omega (arith, same_Some n v e)
 starts_within n (x ∷ gs) (suc i) v e =
     omega (arith, starts_within (n + 4 * word_count x) gs i v e, sum_by-cons word_count x gs)
 
@@ -226,3 +208,61 @@ starts_inside gs starts is few = record {
 pub starts_length : (n : ℕ) (gs : List RGlobal) → length (starts_from n gs) ≡ length gs
 starts_length n [] = refl
 starts_length n (x ∷ gs) = ap suc (starts_length (n + 4 * word_count x) gs)
+
+-- ---- data without the gap behind the last global start a program as data with it
+
+padded_append : (xs ys : List RGlobal) → padded_bytes (xs ++ ys) ≡ padded_bytes xs ++ padded_bytes ys
+padded_append [] ys = refl
+padded_append (x ∷ xs) ys = cc (padded_append xs ys, append_assoc (global_bytes x) (padded_bytes xs) (padded_bytes ys))
+
+gap_low : (w : Width) (n : ℕ) → gap_behind w n < 4
+gap_low Word n = omega arith
+gap_low Byte n = omega arith
+
+one_ends : (l : List RGlobal) → length l ≤ 1 → (k : ℕ) × (k < 4) × (padded_bytes l ≡ bare_bytes l ++ zeros k)
+one_ends [] le = (0, omega arith, refl)
+one_ends (x ∷ []) le =
+    let es = elements_bytes x.width (first_values x) in
+    let gap = gap_behind x.width x.length in
+    (gap, gap_low x.width x.length, append-nil (es ++ zeros gap) ∙ ap (λ l. l ++ zeros gap) (sym (append-nil es)))
+one_ends (x ∷ y ∷ l) le = absurd (omega (arith, le))
+
+-- with the gap behind the last global they are the padded ones
+pub data_ends : (gs : List RGlobal) → (k : ℕ) × (k < 4) × (padded_bytes gs ≡ data_bytes gs ++ zeros k)
+data_ends gs =
+    let m = length gs - 1 in
+    let front = take m gs in
+    let back = drop m gs in
+    let few : length back ≤ 1 = (let e = length-drop m gs in omega (arith, e)) in
+    let one = one_ends back few in (
+      one.0,
+      one.1,
+      cc (take-append-drop m gs, padded_append front back, one.2, append_assoc (padded_bytes front) (bare_bytes back) (zeros one.0)),
+    )
+
+zeros_are_none : (k i : ℕ) → slice_index (zeros k) i ≡ 0
+zeros_are_none zero i = refl
+zeros_are_none (suc k) zero = refl
+zeros_are_none (suc k) (suc i) = zeros_are_none k i
+
+none_beyond : (xs : List ℕ) (k i : ℕ) → slice_index (xs ++ zeros k) i ≡ slice_index xs i
+none_beyond [] k i = zeros_are_none k i
+none_beyond (x ∷ xs) k zero = refl
+none_beyond (x ∷ xs) k (suc i) = none_beyond xs k i
+
+starts_same : (xs ys : List ℕ) (k n : ℕ) → k < 4 → ys ≡ xs ++ zeros k → length ys ≡ 4 * n → start_state ys ≡ start_state xs
+starts_same xs ys k n low e long =
+    let sum = ap length e ∙ length-append xs (zeros k) in
+    let zs = length-replicate {A = ℕ} k 0 in
+    let words : (length ys + 3) / 4 ≡ (length xs + 3) / 4 = omega (arith, low, sum, zs, long) in
+    let memory : first_bytes ys ≡ first_bytes xs = fun_ext (λ a.
+    ap (λ b. if nat_le stack_base a then 0 else (if nat_le data_base a then b else 0))
+    (ap (λ l. slice_index l (a - data_base)) e ∙ none_beyond xs k (a - data_base))) in
+    let at : (ℕ → ℕ) → (ℕ → Bool) → State =
+    λ memory mapped. record { regs = put (λ r. 0) 29 stack_end; hi = 0; lo = 0; memory = memory; mapped = mapped } in
+    ap₂ at memory (ap words_mapped words)
+
+pub data_starts_same : (gs : List RGlobal) → HaveValues gs → start_state (padded_bytes gs) ≡ start_state (data_bytes gs)
+data_starts_same gs ok =
+    let ends = data_ends gs in
+    starts_same (data_bytes gs) (padded_bytes gs) ends.0 _ ends.1 ends.2 (data_length gs ok)

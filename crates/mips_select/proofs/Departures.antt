@@ -1,14 +1,16 @@
--- How blocks are left, apart from what the unit does then: branches and comparisons, and what is known there.
-use Rattle.std.proofs.Common.{◌≡◌, ℕ, suc, ◌≤◌, Bool, true, false, ◌&&◌, List, [], ◌∷◌, length, Some, None, refl, sym, ap, arith, nat_lt}
-use Rattle.std.proofs.Common.{ltb-true}
+-- How blocks are left, apart from what the unit does then: branches and comparisons, what is known there, and where a call goes on.
+use Rattle.std.proofs.Common.{◌≡◌, ℕ, zero, suc, ◌+◌, ◌<◌, ◌≤◌, ◌==◌, Bool, true, false, ◌&&◌, List, [], ◌∷◌, length, Some, None, refl, sym, ap, ◌∙◌}
+use Rattle.std.proofs.Common.{arith, nat_lt, ltb-true, eq-eqb, eqb-true}
 use Rattle.std.specs.Prelude.{if◌then◌else◌, not, slice_get}
-use Rattle.std.proofs.lemmas.Option.{same_Some}
+use Rattle.std.proofs.lemmas.Option.{same_Some, none-some}
 use Rattle.runs.specs.Stores.{Places, chain}
 use Rattle.mips_isa.specs.declared.inst.Plain.{Plain}
 use Rattle.mips_isa.specs.States.{State}
+use Rattle.mblock.specs.declared.exit.Exit.{Exit}
+use Rattle.mblock.specs.declared.exit.Exit.TheVariants as E
 use Rattle.mblock.specs.Parts.{BlockParts}
 use Rattle.mblock.specs.BlockMeaning.{exit_effect}
-use Rattle.mblock.specs.UnitRuns.{items, outcome_at_block, outcome_of_departure}
+use Rattle.mblock.specs.UnitRuns.{items, outcome_at_block, outcome_of_departure, call_return_of, return_block_of, is_call, TellsApart}
 use Rattle.rtl.specs.declared.instruction.RInst.{RInst}
 use Rattle.rtl.specs.declared.instruction.RExit.{RExit}
 use Rattle.rtl.specs.declared.instruction.RExit.TheVariants.{Branch, Return}
@@ -87,3 +89,35 @@ same_code leaf f facts known known' i m (Return (Some x)) is =
     let test = returned_result (locations f) facts x i m is in
     rw test
 same_code leaf f facts known known' i m _ is = absurd (none_asked (locations f) facts i m is)
+
+-- ---- where a call goes on
+
+passed_by : (e : Exit) (t : Bool) (n : ℕ) → (is_call e ≡ true → t ≡ true → ⊥) → call_return_of e t (Some n) ≡ Some n
+passed_by (E.Call g m) true n no_call = absurd (no_call refl refl)
+passed_by (E.Call g m) false n no_call = refl
+passed_by _ t n no_call = refl
+
+found_from : (links : ℕ → ℕ) (word base : ℕ) (bs : List BlockParts) (k f n : ℕ) (b : BlockParts) → slice_get bs k ≡ Some b → b.exit ≡ E.Call f n
+    → links (base + k) ≡ word
+    → ((j : ℕ) (c : BlockParts) → j < k → slice_get bs j ≡ Some c → is_call c.exit ≡ true → links (base + j) ≡ word → ⊥)
+    → return_block_of links word base bs ≡ Some n
+found_from links word base [] k f n b there is here others = absurd (none-some b there)
+found_from links word base (x ∷ bs) zero f n b there is here others =
+    let zero_base : base + 0 ≡ base = omega arith in
+    let found : links base ≡ word = sym (ap links zero_base) ∙ here in
+    cc (eq-eqb (links base) word found, same_Some x b there)
+found_from links word base (x ∷ bs) (suc k) f n b there is here others =
+    let zero_base : base + 0 ≡ base = omega arith in
+    let next : (j : ℕ) → base + suc j ≡ suc base + j = λ j. omega arith in
+    let rest = found_from links word (suc base) bs k f n b there is (sym (ap links (next k)) ∙ here) (λ j c lt has call same.
+    others (suc j) c (omega (arith, lt)) has call (ap links (next j) ∙ same)) in
+    rw rest (passed_by x.exit (links base == word) n (λ call same.
+    others 0 x (omega arith) refl call (ap links zero_base ∙ eqb-true (links base) word same)))
+
+pub return_found : (links : ℕ → ℕ) (blocks : List BlockParts) (k f n : ℕ) (b : BlockParts) → TellsApart links blocks → slice_get blocks k ≡ Some b
+    → b.exit ≡ E.Call f n → return_block_of links (links k) 0 blocks ≡ Some n
+return_found links blocks k f n b tells there is =
+    let plain : (j : ℕ) → 0 + j ≡ j = λ j. omega arith in
+    found_from links (links k) 0 blocks k f n b there is (ap links (plain k)) (λ j c lt has call same.
+    let same_k : j ≡ k = tells.apart j k c b has there call (ap is_call is) (sym (ap links (plain j)) ∙ same) in
+    absurd (omega (arith, lt, same_k)))

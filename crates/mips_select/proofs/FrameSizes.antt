@@ -2,7 +2,6 @@
 use Rattle.std.proofs.Common.{◌≡◌, ℕ, zero, suc, ◌+◌, ◌-◌, ◌<◌, ◌≤◌, ◌⊎◌, inl, inr, true, false, List, [], ◌∷◌, length, Option, Some, None, refl}
 use Rattle.std.proofs.Common.{sym, ap, ◌∙◌, subst, arith, nat_eq}
 use Rattle.std.specs.Prelude.{if◌then◌else◌, slice_get, slice_index}
-use Rattle.std.proofs.lemmas.Bool.{cond_both}
 use Rattle.std.proofs.lemmas.Bool.Decides.{nat_tests}
 use Rattle.std.proofs.lemmas.Option.{same_Some, none-some, slice_get_within, slice_get-get_or}
 use Rattle.rtl.specs.declared.block.RFunc.{RFunc}
@@ -13,12 +12,12 @@ use Rattle.mips_homes.specs.declared.homed.Frame.{Frame}
 use Rattle.mips_homes.specs.declared.homed.Homed.{Homed}
 use Rattle.mips_homes.specs.Choice.{IsChoice}
 use Rattle.mips_homes.specs.Preferences.{blocks_reach}
-use Rattle.mips_homes.specs.Places.{some_slot, IsPlacedFor, ArePlaced}
+use Rattle.mips_homes.specs.Places.{IsPlacedFor, ArePlaced}
 use Rattle.mips_homes.proofs.Located.{GetsTemporaryIn, uncopied, is_plain, within, seated, case_of, places_long_as, placed_apart, still_was, still_few, has_slot}
 use Rattle.mips_homes.specs.Convention.{temporaries}
 use Rattle.mips_homes.specs.Homes.{cell}
 use Rattle.mips_homes.specs.Copies.{is_leaf, is_slot, unused, copied_onto}
-use Rattle.mips_emit.specs.Frames.{IsHome, AreCopies, HaveNoCopies, frame_size, IsFrame}
+use Rattle.mips_emit.specs.Frames.{IsHome, HaveNoCopies, frame_size, IsFrame}
 use Rattle.mips_select.proofs.Copied.{copies_are, no_copies}
 use Rattle.mips_select.proofs.Places.{block_there}
 use Rattle.mips_select.specs.Emittable.{AreReachable}
@@ -43,26 +42,24 @@ record IsFitting (most : ℕ) (f : Frame) : Type 0 where
   saved : (j r : ℕ) → slice_get f.saved.items j ≡ Some r → (16 ≤ r) × (r < 24)
   fits : frame_size f ≤ most
 
-module _ (func : RFunc) (f : Frame) (ok : IsChoice func f) where
+module _ {func : RFunc} {f : Frame} (ok : IsChoice func f) where
   saved_at : (j : ℕ) → j < length f.saved.items → slice_get f.saved.items j ≡ Some (slice_index f.saved.items j)
   saved_at j lt = slice_get-get_or f.saved.items j 0 lt
 
   saved_range : (j r : ℕ) → slice_get f.saved.items j ≡ Some r → (16 ≤ r) × (r < 24)
   saved_range j r there = (let home = ok.saved j r there in (ok.registers home.0 r home.1).0)
 
+  -- each is saved once
+  saved_apart : (i j : ℕ) → i < length f.saved.items → j < length f.saved.items → slice_index f.saved.items i ≡ slice_index f.saved.items j → i ≡ j
+  saved_apart i j li lj e = ok.saved_once i j (slice_index f.saved.items i) (saved_at i li) (saved_at j lj ∙ ap Some (sym e))
+
   -- at most eight are saved
   saved_eight : length f.saved.items ≤ 8
-  saved_eight = few 8 (length f.saved.items) (λ j. slice_index f.saved.items j - 16) (λ j lt. below j lt) (λ i j li lj e. apart i j li lj e)
+  saved_eight = few 8 (length f.saved.items) (λ j. slice_index f.saved.items j - 16) (λ j lt. omega (arith, range j lt))
+      (λ i j li lj e. saved_apart i j li lj (omega (arith, e, range i li, range j lj)))
     where
-      below : (j : ℕ) → j < length f.saved.items → slice_index f.saved.items j - 16 < 8
-      below j lt = (let range = saved_range j (slice_index f.saved.items j) (saved_at j lt) in omega (arith, range.0, range.1))
-
-      apart : (i j : ℕ) → i < length f.saved.items → j < length f.saved.items → slice_index f.saved.items i - 16 ≡ slice_index f.saved.items j - 16 → i ≡ j
-      apart i j li lj e =
-          let low_i = (saved_range i (slice_index f.saved.items i) (saved_at i li)).0 in
-          let low_j = (saved_range j (slice_index f.saved.items j) (saved_at j lj)).0 in
-          let same : slice_index f.saved.items j ≡ slice_index f.saved.items i = omega (arith, e, low_i, low_j) in
-          ok.saved_once i j (slice_index f.saved.items i) (saved_at i li) (saved_at j lj ∙ ap Some same)
+      range : (j : ℕ) → j < length f.saved.items → (16 ≤ slice_index f.saved.items j) × (slice_index f.saved.items j < 24)
+      range j lt = saved_range j (slice_index f.saved.items j) (saved_at j lt)
 
   -- a pseudo-register for each that is saved
   chosen : (j : ℕ) (o : Option ℕ) → slice_get f.saved.items j ≡ o → ℕ
@@ -76,66 +73,49 @@ module _ (func : RFunc) (f : Frame) (ok : IsChoice func f) where
 
   -- no more are saved than there are pseudo-registers
   saved_few : length f.saved.items ≤ how_many func
-  saved_few = few (how_many func) (length f.saved.items) (λ j. chosen j (slice_get f.saved.items j) refl) (λ j lt. below j lt)
-      (λ i j li lj e. apart i j li lj e)
+  saved_few = few (how_many func) (length f.saved.items) (λ j. chosen j (slice_get f.saved.items j) refl)
+      (λ j lt. rw (← ok.long) (slice_get_within f.homes.items _ _ (home j lt)))
+      (λ i j li lj e. saved_apart i j li lj (cc (home i li, home j lj)))
     where
       home : (j : ℕ) → j < length f.saved.items → slice_get f.homes.items (chosen j (slice_get f.saved.items j) refl) ≡ Some (Reg (slice_index f.saved.items j))
       home j lt = chosen_home j (slice_get f.saved.items j) refl (slice_index f.saved.items j) (saved_at j lt)
-
-      below : (j : ℕ) → j < length f.saved.items → chosen j (slice_get f.saved.items j) refl < how_many func
-      below j lt = subst (λ n. chosen j (slice_get f.saved.items j) refl < n) ok.long
-          (slice_get_within f.homes.items (chosen j (slice_get f.saved.items j) refl) (Reg (slice_index f.saved.items j)) (home j lt))
-
-      apart : (i j : ℕ) → i < length f.saved.items → j < length f.saved.items → chosen i (slice_get f.saved.items i) refl ≡ chosen j
-          (slice_get f.saved.items j) refl → i ≡ j
-      apart i j li lj e =
-          let same : slice_index f.saved.items j ≡ slice_index f.saved.items i = cc (home i li, home j lj) in
-          ok.saved_once i j (slice_index f.saved.items i) (saved_at i li) (saved_at j lj ∙ ap Some same)
 
   is_frame : (most : ℕ) → frame_bytes_of func ≤ most → IsFitting most f
   is_frame most le = record {
     by = λ x h there. home x h there;
     saved = saved_range;
-    fits = (let eight = saved_eight in let all = saved_few in let slots = ok.slots in omega (arith, eight, all, slots, le));
+    fits = omega (arith, saved_eight, saved_few, ok.slots, le);
   }
     where
       home : (x : ℕ) (h : Home) → slice_get f.homes.items x ≡ Some h → IsHome f.slots h
-      home x (Reg r) there = (let range = (ok.registers x r there).0 in (omega (arith, range.0), omega (arith, range.1)))
+      home x (Reg r) there = omega (arith, (ok.registers x r there).0)
       home x (Slot k) there = ok.in_slots x k there
       home x (Copied r k) there = absurd (ok.uncopied x r k there)
 
 -- eight at most are saved then too
 pub placed_eight : (func : RFunc) (f : Frame) → IsPlacedFor func f → length f.saved.items ≤ 8
-placed_eight func f q =
-    let eight = saved_eight func q.choice q.is in
-    omega (arith, eight, still_few f.homes.items (q.choice).saved.items, ap length (q.placed).saved)
+placed_eight func f q = omega (arith, saved_eight q.is, still_few f.homes.items (q.choice).saved.items, ap length (q.placed).saved)
 
 -- with local pseudo-registers in caller-saved registers
 placed_is_frame : (func : RFunc) (f : Frame) → IsPlacedFor func f → (most : ℕ) → frame_bytes_of func ≤ most → IsFrame most f
 placed_is_frame func f q most le = record {
   homes = record {
-    copied = subst AreCopies (sym (q.placed).homes)
-        (copies_are func.blocks.items (uncopied func q.choice f q.is q.placed) (is_plain func q.choice f q.is q.placed));
+    copied = rw (q.placed).homes (copies_are func.blocks.items (uncopied func q.choice f q.is q.placed) (is_plain func q.choice f q.is q.placed));
     by = λ x h there. home x h there (case_of func q.choice f q.is q.placed x h there);
     apart = placed_apart func q.choice f q.is q.placed;
   };
-  saved = λ j r there. (let w = still_was f.homes.items (q.choice).saved.items j r (sym (ap (λ l. slice_get l j) (q.placed).saved) ∙ there) in
-      was.saved w.0 r w.1);
+  saved = λ j r there. let w = still_was f.homes.items (q.choice).saved.items j r (rw (q.placed).saved at there) in was.saved w.0 r w.1;
   fits = omega (arith, was.fits, still_few f.homes.items (q.choice).saved.items, ap length (q.placed).saved, slots_few);
 }
   where
     was : IsFitting most q.choice
-    was = is_frame func q.choice q.is most le
+    was = is_frame q.is most le
 
     slots_few : f.slots ≤ (q.choice).slots
-    slots_few = subst (λ n. n ≤ (q.choice).slots) (sym (q.placed).slots)
-        (cond_both (some_slot f.homes.items) (q.choice).slots 0 (λ n. n ≤ (q.choice).slots) (λ _. omega arith) (λ _. omega arith))
+    slots_few = grind (arith, (q.placed).slots)
 
     in_slot : (x : ℕ) (h : Home) (k : ℕ) → slice_get f.homes.items x ≡ Some h → is_slot h ≡ true → slice_get (q.choice).homes.items x ≡ Some (Slot k) → k < f.slots
-    in_slot x h k there slot e =
-        let lt = was.by x (Slot k) e in
-        let slots : f.slots ≡ (q.choice).slots = (q.placed).slots ∙ ap (λ c. if c then (q.choice).slots else 0) (has_slot f.homes.items x h there slot) in
-        omega (arith, lt, slots)
+    in_slot x h k there slot e = omega (arith, was.by x (Slot k) e, rw (has_slot f.homes.items x h there slot) at (q.placed).slots)
 
     home : (x : ℕ) (h : Home) → slice_get f.homes.items x ≡ Some h → (slice_get (q.choice).homes.items x ≡ Some (cell h)) ⊎ GetsTemporaryIn func q.choice f q.is q.placed x (cell h)
         → IsHome f.slots h

@@ -1,7 +1,8 @@
 -- The blocks for a program are functions one behind another.
 use Rattle.std.proofs.Common.{◌≡◌, ℕ, zero, suc, ◌+◌, ◌<◌, ◌≤◌, Bool, true, false, List, [], ◌∷◌, ◌++◌, length, length-append, Option, None, Some, nat_eq}
 use Rattle.std.proofs.Common.{refl, sym, ap, subst, arith}
-use Rattle.std.specs.Prelude.{slice_get, slice_index, if◌then◌else◌}
+use Rattle.std.specs.Prelude.{All, slice_get, slice_index, if◌then◌else◌}
+use Rattle.std.proofs.lemmas.List.Elements.{All-append, All-cons, All-head, All-nil, All-tail}
 use Rattle.std.proofs.lemmas.Option.{same_Some, none-some, slice_get_within}
 use Rattle.std.proofs.lemmas.Bool.{cond_both}
 use Rattle.mblock.specs.Parts.{BlockParts}
@@ -10,7 +11,6 @@ use Rattle.rtl.specs.declared.instruction.RExit.{RExit}
 use Rattle.rtl.specs.declared.instruction.RExit.TheVariants.{Goto, Branch, Call, Return, Out}
 use Rattle.rtl.specs.declared.block.RBlock.{RBlock}
 use Rattle.rtl.specs.declared.block.RFunc.{RFunc}
-use Rattle.rtl.specs.declared.block.RGlobal.{RGlobal}
 use Rattle.rtl.specs.Programs.{IsExit, IsBlock, IsFunction, IsProgram}
 use Rattle.mips_homes.specs.declared.homed.Frame.{Frame}
 use Rattle.mips_homes.specs.declared.homed.Homed.{Homed}
@@ -38,7 +38,7 @@ behind_length p _ = refl
 
 -- each block takes a number
 pub one_at_least : (heads : ℕ → Head) (x : RExit) → 1 ≤ count heads x
-one_at_least heads (Call g xs d next) = cond_both (resumes d (heads next)) 1 2 (λ n. 1 ≤ n) (λ _. omega arith) (λ _. omega arith)
+one_at_least heads (Call g xs d next) = grind arith
 one_at_least heads _ = omega arith
 
 pub blocks_length : (l : Linking) (p : Planning) (k j : ℕ) (bs : List RBlock) → length (blocks_from l p k j bs) ≡ size_of_blocks p.heads bs
@@ -58,38 +58,40 @@ function_length l k func f = omega (arith, lead_length, blocks_length, length-ap
 -- numbers of blocks are from the first on, and below the end
 numbers_from : (heads : ℕ → Head) (k : ℕ) (bs : List RBlock) (b : ℕ) → b < length bs → IsFrom k (size_of_blocks heads bs) (slice_index (numbers heads k bs) b)
 numbers_from heads k [] b lt = absurd (omega (arith, lt))
-numbers_from heads k (x ∷ bs) zero lt = (let one = one_at_least heads x.exit in (omega arith, omega (arith, one)))
-numbers_from heads k (x ∷ bs) (suc b) lt =
-    let rest = numbers_from heads (k + count heads x.exit) bs b (omega (arith, lt)) in
-    (omega (arith, rest.0), omega (arith, rest.1))
+numbers_from heads k (x ∷ bs) zero lt = omega (arith, one_at_least heads x.exit)
+numbers_from heads k (x ∷ bs) (suc b) lt = omega (arith, numbers_from heads (k + count heads x.exit) bs b (omega (arith, lt)))
 
 pub function_some : (bs : List RBlock) → 1 ≤ size_in bs
 function_some [] = omega arith
-function_some (b ∷ bs) = (let one = one_at_least (heads_of (b ∷ bs)) b.exit in omega (arith, one))
+function_some (b ∷ bs) = omega (arith, one_at_least (heads_of (b ∷ bs)) b.exit)
 
 entries_below : (k : ℕ) (funcs : List RFunc) (g : ℕ) → g < length funcs → slice_index (entries_from k funcs) g < k + functions_size funcs
 entries_below k [] g lt = absurd (omega (arith, lt))
-entries_below k (func ∷ funcs) zero lt = (let some = function_some func.blocks.items in omega (arith, some))
-entries_below k (func ∷ funcs) (suc g) lt = (let rest = entries_below (k + function_size func) funcs g (omega (arith, lt)) in omega (arith, rest))
+entries_below k (func ∷ funcs) zero lt = omega (arith, function_some func.blocks.items)
+entries_below k (func ∷ funcs) (suc g) lt = omega (arith, entries_below (k + function_size func) funcs g (omega (arith, lt)))
 
 module _ (l : Linking) (functions : List RFunc) (bound : ℕ) (entry_below : (g : ℕ) → g < length functions → l.entry g < bound) where
   module _ (start size blocks : ℕ) (fits : start + size ≤ bound) (p : Planning) (place_from : (t : ℕ)
       → t < blocks → IsFrom start size (p.place t)) where
-    place_below : (t : ℕ) → t < blocks → p.place t < bound
-    place_below t lt = (let high = (place_from t lt).1 in omega (arith, fits, high))
+    abbrev Goes : BlockParts → Type 0
+    Goes b = GoesWithin bound start size b.exit
 
-    from_below : (t : ℕ) → IsFrom start size t → t < bound
-    from_below t at_t = (let high = at_t.1 in omega (arith, fits, high))
+    abbrev GivenBlock : RBlock → Type 0
+    GivenBlock b = IsBlock functions (length l.globals) blocks b
+
+    place_below : (t : ℕ) → t < blocks → p.place t < bound
+    place_below t lt = omega (arith, fits, place_from t lt)
 
     compared_goes : (form : Form) (x y : Source) (t e : ℕ) → IsFrom start size t → IsFrom start size e → GoesWithin bound start size (exit_by_form form x y t e)
-    compared_goes (Known true) x y t e at_t at_e = from_below t at_t
-    compared_goes (Known false) x y t e at_t at_e = from_below e at_e
+    compared_goes (Known true) x y t e at_t at_e = omega (arith, fits, at_t)
+    compared_goes (Known false) x y t e at_t at_e = omega (arith, fits, at_e)
     compared_goes _ x y t e at_t at_e = (at_t, at_e)
 
     branch_goes : (test : Option Comparison) (known : Option ℕ) (x : Source) (t e : ℕ) → IsFrom start size t → IsFrom start size e
         → GoesWithin bound start size (branch_exit test known x t e)
     branch_goes None None x t e at_t at_e = (at_t, at_e)
-    branch_goes None (Some w) x t e at_t at_e = cond_both (nat_eq w 0) e t (λ n. n < bound) (λ _. from_below e at_e) (λ _. from_below t at_t)
+    branch_goes None (Some w) x t e at_t at_e =
+        cond_both (nat_eq w 0) e t (λ n. n < bound) (λ _. omega (arith, fits, at_e)) (λ _. omega (arith, fits, at_t))
     branch_goes (Some m) known x t e at_t at_e = compared_goes m.form m.left.source m.right.source t e at_t at_e
 
     next_below : (k : ℕ) (g : ℕ) (d : Option ℕ) (next : ℕ) → next < blocks → (b : Bool) → k + (if b then 1 else 2) ≤ bound
@@ -108,61 +110,43 @@ module _ (l : Linking) (functions : List RFunc) (bound : ℕ) (entry_below : (g 
     exit_goes k facts last (Return o) ok le = tt
     exit_goes k facts last (Out x next) ok le = place_below next ok.1
 
-    behind_goes : (x : RExit) → IsExit functions blocks x → (rest : List BlockParts) → ((i : ℕ) (b : BlockParts) → slice_get rest i ≡ Some b
-        → GoesWithin bound start size b.exit) → (i : ℕ) (b : BlockParts) → slice_get (behind p x ++ rest) i ≡ Some b
-        → GoesWithin bound start size b.exit
-    behind_goes (Call g xs d next) ok rest goes i b there = go (resumes d (p.heads next)) i there
-      where
-        go : (r : Bool) (i : ℕ) → slice_get ((if r then [] else after_block p.frame d (p.place next) ∷ []) ++ rest) i ≡ Some b → GoesWithin bound start size b.exit
-        go true i there = goes i b there
-        go false zero there = rw (← same_Some _ b there) (place_below next ((ok.1).1).1)
-        go false (suc i) there = goes i b there
-    behind_goes _ ok rest goes i b there = goes i b there
+    behind_goes : (x : RExit) → IsExit functions blocks x → All Goes (behind p x)
+    behind_goes (Call g xs d next) ok = cond_both (resumes d (p.heads next)) [] (after_block p.frame d (p.place next) ∷ []) (All Goes)
+        (λ _. All-nil Goes) (λ _. All-cons Goes _ [] (place_below next ((ok.1).1).1) (All-nil Goes))
+    behind_goes _ ok = All-nil Goes
 
-    blocks_go : (k j : ℕ) (bs : List RBlock) → k + size_of_blocks p.heads bs ≤ bound → ((i : ℕ) (b : RBlock) → slice_get bs i ≡ Some b
-        → IsExit functions blocks b.exit) → (i : ℕ) (b : BlockParts) → slice_get (blocks_from l p k j bs) i ≡ Some b
-        → GoesWithin bound start size b.exit
-    blocks_go k j [] le ok i b there = absurd (none-some b there)
-    blocks_go k j (x ∷ bs) le ok zero b there =
-        rw (← same_Some _ b there)
-        (exit_goes k (known_after (locations p.frame) x.insts.items no_facts) (last_after (locations p.frame) (asked_of x.exit) no_facts x.insts.items no_last) x.exit
-        (ok 0 x refl) (omega (arith, le)))
-    blocks_go k j (x ∷ bs) le ok (suc i) b there =
-        behind_goes x.exit (ok 0 x refl) (blocks_from l p (k + count p.heads x.exit) (suc j) bs)
-        (λ i b there. blocks_go (k + count p.heads x.exit) (suc j) bs (omega (arith, le)) (λ i b there. ok (suc i) b there) i b there) i b there
+    blocks_go : (k j : ℕ) (bs : List RBlock) → k + size_of_blocks p.heads bs ≤ bound → All GivenBlock bs → All Goes (blocks_from l p k j bs)
+    blocks_go k j [] le ok = All-nil Goes
+    blocks_go k j (x ∷ bs) le ok =
+        let more = blocks_from l p (k + count p.heads x.exit) (suc j) bs in
+        let exit = (All-head GivenBlock x bs ok).exit in
+        let facts = known_after (locations p.frame) x.insts.items no_facts in
+        let last = last_after (locations p.frame) (asked_of x.exit) no_facts x.insts.items no_last in
+        All-cons Goes _ (behind p x.exit ++ more) (exit_goes k facts last x.exit exit (omega (arith, le)))
+        (All-append Goes (behind p x.exit) more (behind_goes x.exit exit)
+        (blocks_go (k + count p.heads x.exit) (suc j) bs (omega (arith, le)) (All-tail GivenBlock x bs ok)))
 
-    lead_goes : (head : Head) → 0 < blocks → (rest : List BlockParts) → ((i : ℕ) (b : BlockParts) → slice_get rest i ≡ Some b
-        → GoesWithin bound start size b.exit) → (i : ℕ) (b : BlockParts) → slice_get (lead_blocks p head ++ rest) i ≡ Some b
-        → GoesWithin bound start size b.exit
-    lead_goes Enters some rest goes i b there = goes i b there
-    lead_goes _ some rest goes zero b there = rw (← same_Some _ b there) (place_below 0 some)
-    lead_goes _ some rest goes (suc i) b there = goes i b there
+    lead_goes : (head : Head) → 0 < blocks → All Goes (lead_blocks p head)
+    lead_goes Enters some = All-nil Goes
+    lead_goes _ some = All-cons Goes _ [] (place_below 0 some) (All-nil Goes)
 
-  function_goes : (k : ℕ) (func : RFunc) (f : Frame) → IsFunction functions (length l.globals) func → k + function_size func ≤ bound
-      → IsFunctionAt bound k (function_blocks l k func f)
-  function_goes k func f ok le = record {
-    by = λ i b there. subst (λ n. GoesWithin bound k n b.exit) (sym (function_length l k func f)) (go i b there);
-  }
-    where
-      bs : List RBlock
-      bs = func.blocks.items
+  abbrev GivenFunction : RFunc → Type 0
+  GivenFunction func = IsFunction functions (length l.globals) func
 
-      heads : ℕ → Head
-      heads = heads_of func.blocks.items
-
-      from_next : (t : ℕ) → t < length func.blocks.items → IsFrom k (function_size func) (place_in k func.blocks.items t)
-      from_next t lt =
-          let at = numbers_from heads (k + lead_in heads) func.blocks.items t lt in
-          (omega (arith, at.0), omega (arith, at.1))
-
-      go : (i : ℕ) (b : BlockParts) → slice_get (function_blocks l k func f) i ≡ Some b → GoesWithin bound k (function_size func) b.exit
-      go i b there =
-          let p = planning_in func.parameters k func.blocks.items f in
-          lead_goes k (function_size func) (length func.blocks.items) le p from_next (heads 0) ok.entry
-          (blocks_from l p (k + lead_in heads) 0 func.blocks.items)
-          (λ i b there. blocks_go k (function_size func) (length func.blocks.items) le p from_next (k + lead_in heads) 0 func.blocks.items (omega (arith, le))
-          (λ i b there. (all_at (IsBlock functions (length l.globals) (length func.blocks.items)) func.blocks.items i b ok.blocks there).exit) i b there) i b
-          there
+  function_goes : (k : ℕ) (func : RFunc) (f : Frame) → GivenFunction func → k + function_size func ≤ bound → IsFunctionAt bound k (function_blocks l k func f)
+  function_goes k func f ok le =
+      let bs = func.blocks.items in
+      let heads = heads_of bs in
+      let first = k + lead_in heads in
+      let size = function_size func in
+      let p = planning_in func.parameters k bs f in
+      let from_next : (t : ℕ) → t < length bs → IsFrom k size (place_in k bs t) = λ t lt. omega (arith, numbers_from heads first bs t lt) in
+      let all = All-append (Goes k size (length bs) le p from_next) (lead_blocks p (heads 0)) (blocks_from l p first 0 bs)
+      (lead_goes k size (length bs) le p from_next (heads 0) ok.entry)
+      (blocks_go k size (length bs) le p from_next first 0 bs (omega (arith, le)) ok.blocks) in
+      record {
+        by = λ i b there. rw (function_length l k func f) (all_at (Goes k size (length bs) le p from_next) (function_blocks l k func f) i b all there);
+      }
 
   -- those of each function
   abbrev pub each_function : ℕ → List RFunc → List Frame → List (List BlockParts)
@@ -170,14 +154,13 @@ module _ (l : Linking) (functions : List RFunc) (bound : ℕ) (entry_below : (g 
   each_function k (func ∷ funcs) [] = []
   each_function k (func ∷ funcs) (f ∷ fs) = function_blocks l k func f ∷ each_function (k + function_size func) funcs fs
 
-  functions_go : (k : ℕ) (funcs : List RFunc) (fs : List Frame) → ((g : ℕ) (func : RFunc) → slice_get funcs g ≡ Some func
-      → IsFunction functions (length l.globals) func) → k + functions_size funcs ≤ bound → AreFunctions bound k (each_function k funcs fs)
+  functions_go : (k : ℕ) (funcs : List RFunc) (fs : List Frame) → All GivenFunction funcs → k + functions_size funcs ≤ bound
+      → AreFunctions bound k (each_function k funcs fs)
   functions_go k [] fs has le = tt
   functions_go k (func ∷ funcs) [] has le = tt
   functions_go k (func ∷ funcs) (f ∷ fs) has le = (
-    function_goes k func f (has 0 func refl) (omega (arith, le)),
-    subst (λ n. AreFunctions bound (k + n) (each_function (k + function_size func) funcs fs)) (sym (function_length l k func f))
-        (functions_go (k + function_size func) funcs fs (λ g func there. has (suc g) func there) (omega (arith, le))),
+    function_goes k func f (All-head GivenFunction func funcs has) (omega (arith, le)),
+    rw (function_length l k func f) (functions_go (k + function_size func) funcs fs (All-tail GivenFunction func funcs has) (omega (arith, le))),
   )
 
   functions_joined : (k : ℕ) (funcs : List RFunc) (fs : List Frame) → blocks_of (each_function k funcs fs) ≡ functions_blocks l k funcs fs
@@ -211,14 +194,16 @@ program_length h same =
 pub program_well : (h : Homed) → IsProgram h.rtl.now → length h.frames.items ≡ length (h.rtl.now).functions
     → AreLinked (program_blocks h) × AreOwners (program_blocks h) (owners_for (h.rtl.now).functions)
 program_well h ok same =
-    subst (λ os. AreLinked (program_blocks h) × AreOwners (program_blocks h) os) owners
-    (subst (λ bs. AreLinked bs × AreOwners bs (owners_of 0 all)) joined (functions_owned all functions))
+    rw (functions_joined l funcs bound below 2 funcs fs, functions_owners l funcs bound below 2 funcs fs same) at (functions_owned all functions)
   where
-    globals : List RGlobal
-    globals = (h.rtl.now).globals
+    l : Linking
+    l = linking_for h.rtl.now
 
     funcs : List RFunc
     funcs = (h.rtl.now).functions
+
+    fs : List Frame
+    fs = h.frames.items
 
     bound : ℕ
     bound = 2 + functions_size (h.rtl.now).functions
@@ -226,23 +211,14 @@ program_well h ok same =
     below : (g : ℕ) → g < length (h.rtl.now).functions → entry_of (h.rtl.now).functions g < bound
     below g lt = entries_below 2 (h.rtl.now).functions g lt
 
-    rest : List (List BlockParts)
-    rest = each_function (linking_for h.rtl.now) funcs bound below 2 funcs h.frames.items
-
     first : List BlockParts
     first = start_block (entry_of funcs (h.rtl.now).main) ∷ end_block ∷ []
 
     all : List (List BlockParts)
-    all = first ∷ rest
-
-    joined : blocks_of all ≡ program_blocks h
-    joined = ap (λ l. first ++ l) (functions_joined (linking_for h.rtl.now) funcs bound below 2 funcs h.frames.items)
-
-    owners : owners_of 0 all ≡ owners_for (h.rtl.now).functions
-    owners = ap (λ l. 0 ∷ 0 ∷ l) (functions_owners (linking_for h.rtl.now) funcs bound below 2 funcs h.frames.items same)
+    all = first ∷ each_function l funcs bound below 2 funcs fs
 
     size : length (blocks_of all) ≡ bound
-    size = (let long = functions_length (linking_for h.rtl.now) funcs bound below 2 funcs h.frames.items same in omega (arith, long))
+    size = omega (arith, functions_length l funcs bound below 2 funcs fs same)
 
     starts_go : (i : ℕ) (b : BlockParts) → slice_get first i ≡ Some b → GoesWithin bound 0 2 b.exit
     starts_go zero b there = rw (← same_Some _ b there)
@@ -251,8 +227,5 @@ program_well h ok same =
     starts_go (suc (suc i)) b there = absurd (none-some b there)
 
     functions : AreFunctions (length (blocks_of all)) 0 all
-    functions = subst (λ n. AreFunctions n 0 all) (sym size) (
-      record { by = starts_go },
-      functions_go (linking_for h.rtl.now) funcs bound below 2 funcs h.frames.items
-          (λ g func there. all_at (IsFunction funcs (length globals)) funcs g func ok.functions there) (omega arith),
-    )
+    functions = subst (λ n. AreFunctions n 0 all) (sym size)
+        (record { by = starts_go }, functions_go l funcs bound below 2 funcs fs ok.functions (omega arith))

@@ -9,8 +9,7 @@ use Rattle.mblock.specs.declared.exit.Exit.TheVariants.{Goto}
 use Rattle.mblock.specs.Parts.{BlockParts}
 use Rattle.mips_select.specs.Split.{renumbered_exit, more_pieces, piece, pieces, count_of, total, firsts, split_from, first_piece_of, owners_from, split_blocks}
 use Rattle.mblock.specs.Units.{AreLinked, AreOwners, IsUnit, unit_parts}
-use Rattle.mips_select.proofs.Places.{length-pieces}
-use Rattle.mips_select.proofs.Counts.{length-split_from, total_above}
+use Rattle.mips_select.proofs.Places.{length-pieces, length-split_from, total_above}
 use Rattle.mips_select.proofs.Well.{pieces_linked, pieces_owned}
 
 -- one more piece of a block

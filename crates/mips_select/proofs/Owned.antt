@@ -1,6 +1,6 @@
 -- Functions one behind another are linked and owned.
-use Rattle.std.proofs.Common.{⊎_elim, ◌≡◌, ◌≢◌, ℕ, zero, suc, ◌+◌, ◌-◌, ◌<◌, ◌≤◌, List, [], ◌∷◌, length, length-append, Some, refl}
-use Rattle.std.proofs.Common.{sym, ap, ◌∙◌, subst, arith}
+use Rattle.std.proofs.Common.{⊎_elim, ◌≡◌, ℕ, zero, suc, ◌+◌, ◌-◌, ◌<◌, ◌≤◌, List, [], ◌∷◌, length, length-append, Some, refl}
+use Rattle.std.proofs.Common.{sym, ap, ◌∙◌, arith}
 use Rattle.std.specs.Prelude.{slice_get, replicate}
 use Rattle.std.proofs.lemmas.List.{length-replicate}
 use Rattle.std.proofs.lemmas.Option.{same_Some, slice_get_within}
@@ -9,8 +9,7 @@ use Rattle.mblock.specs.declared.exit.Exit.TheVariants.{BranchPair, BranchZero, 
 use Rattle.mblock.specs.Parts.{BlockParts}
 use Rattle.mblock.specs.Units.{GoesBelow, BranchesWithin, Continues, AreLinked, AreOwners}
 use Rattle.mips_select.specs.Functions.{blocks_of, owners_of, IsFrom, GoesWithin, IsFunctionAt, AreFunctions}
-use Rattle.mips_select.proofs.Places.{HasAt, has_whole, has_front, has_back, block_there}
-use Rattle.mips_select.proofs.Counts.{apart_from}
+use Rattle.mips_select.proofs.Places.{HasAt, has_whole, has_front, has_back, block_there, apart_from}
 use Rattle.mips_select.proofs.Well.{get_replicate}
 
 length-owners_of : (k : ℕ) (fs : List (List BlockParts)) → length (owners_of k fs) ≡ length (blocks_of fs)
@@ -18,7 +17,16 @@ length-owners_of k [] = refl
 length-owners_of k (f ∷ fs) =
     omega (arith, length-owners_of (k + length f) fs, length-replicate (length f) k, length-append {A = ℕ}, length-append f (blocks_of fs))
 
-module _ (bound : ℕ) (blocks : List BlockParts) (owner : List ℕ) where
+module _ (fs : List (List BlockParts)) (are : AreFunctions (length (blocks_of fs)) 0 fs) where
+  abbrev blocks : List BlockParts
+  blocks = blocks_of fs
+
+  abbrev owner : List ℕ
+  owner = owners_of 0 fs
+
+  abbrev bound : ℕ
+  bound = length (blocks_of fs)
+
   -- block i is in the function that begins at `start`
   record InFunction (i : ℕ) : Type 0 where
     start : ℕ
@@ -31,10 +39,10 @@ module _ (bound : ℕ) (blocks : List BlockParts) (owner : List ℕ) where
     blocks_at : HasAt blocks start code
     owned : HasAt owner start (replicate (length code) start)
 
-  in_function : (k : ℕ) (fs : List (List BlockParts)) → k + length (blocks_of fs) ≤ bound → AreFunctions bound k fs
-      → HasAt blocks k (blocks_of fs) → HasAt owner k (owners_of k fs) → (i : ℕ) → i < length (blocks_of fs) → InFunction (k + i)
+  in_function : (k : ℕ) (gs : List (List BlockParts)) → k + length (blocks_of gs) ≤ bound → AreFunctions bound k gs
+      → HasAt blocks k (blocks_of gs) → HasAt owner k (owners_of k gs) → (i : ℕ) → i < length (blocks_of gs) → InFunction (k + i)
   in_function k [] fits are has owned i lt = absurd (omega (arith, lt))
-  in_function k (f ∷ fs) fits are has owned i lt = ⊎_elim
+  in_function k (f ∷ gs) fits are has owned i lt = ⊎_elim
       (λ here. record {
         start = k;
         behind = i;
@@ -46,32 +54,29 @@ module _ (bound : ℕ) (blocks : List BlockParts) (owner : List ℕ) where
         blocks_at = has_front _ _ has;
         owned = has_front _ _ owned;
       })
-      (λ e. let moved : k + length f + e.0 ≡ k + i = omega (arith, e.1) in
-      subst InFunction moved (in_function (k + length f) fs (omega (arith, fits, sum)) are.1 (has_back _ _ has) owned_behind e.0 (omega (arith, lt, e.1, sum))))
+      (λ (e : (d : ℕ) × (i ≡ length f + d)). let moved : k + length f + e.0 ≡ k + i = omega (arith, e.1) in
+      rw moved at (in_function (k + length f) gs (omega (arith, fits, sum)) are.1 (has_back _ _ has refl)
+      (has_back _ _ owned (ap (λ n. k + n) (length-replicate (length f) k))) e.0 (omega (arith, lt, e.1, sum))))
       (apart_from (length f) i)
     where
-      sum : length (blocks_of (f ∷ fs)) ≡ length f + length (blocks_of fs)
-      sum = length-append f (blocks_of fs)
+      sum : length (blocks_of (f ∷ gs)) ≡ length f + length (blocks_of gs)
+      sum = length-append f (blocks_of gs)
 
-      owned_behind : HasAt owner (k + length f) (owners_of (k + length f) fs)
-      owned_behind = (let here : k + length (replicate (length f) k) ≡ k + length f = ap (λ n. k + n) (length-replicate (length f) k) in
-          subst (λ n. HasAt owner n (owners_of (k + length f) fs)) here (has_back _ _ owned))
-
-  owned_from : (start n : ℕ) → HasAt owner start (replicate n start) → (t : ℕ) → IsFrom start n t → slice_get owner t ≡ Some start
-  owned_from start n owned t at =
-      let here : t ≡ start + (t - start) = omega (arith, at.0) in
-      ap (slice_get owner) here ∙ owned.by (t - start) start (get_replicate n start (t - start) (omega (arith, at.0, at.1)))
+  owned_from : (n : ℕ) {start : ℕ} → HasAt owner start (replicate n start) → (t : ℕ) → IsFrom start n t → slice_get owner t ≡ Some start
+  owned_from n {start} owned t at =
+      let here : t ≡ start + (t - start) = omega (arith, at) in
+      ap (slice_get owner) here ∙ owned.by (t - start) start (get_replicate n start (t - start) (omega (arith, at)))
 
   below : (start n : ℕ) → start + n ≤ bound → (exit : Exit) → GoesWithin bound start n exit → GoesBelow bound exit
-  below start n fits (BranchPair test a b t e) at = (let lt = at.0.1 in let lt' = at.1.1 in (omega (arith, fits, lt), omega (arith, fits, lt')))
-  below start n fits (BranchZero test a t e) at = (let lt = at.0.1 in let lt' = at.1.1 in (omega (arith, fits, lt), omega (arith, fits, lt')))
+  below start n fits (BranchPair test a b t e) at = omega (arith, fits, at)
+  below start n fits (BranchZero test a t e) at = omega (arith, fits, at)
   below start n fits Return at = tt
   below start n fits Halt at = tt
   below start n fits _ at = at
 
   inside : (start n : ℕ) → HasAt owner start (replicate n start) → (exit : Exit) → GoesWithin bound start n exit → BranchesWithin owner start exit
-  inside start n owned (BranchPair test a b t e) at = (owned_from start n owned t at.0, owned_from start n owned e at.1)
-  inside start n owned (BranchZero test a t e) at = (owned_from start n owned t at.0, owned_from start n owned e at.1)
+  inside start n owned (BranchPair test a b t e) at = (owned_from n owned t at.0, owned_from n owned e at.1)
+  inside start n owned (BranchZero test a t e) at = (owned_from n owned t at.0, owned_from n owned e at.1)
   inside start n owned _ at = tt
 
   -- the exit of a block keeps to its function
@@ -81,53 +86,31 @@ module _ (bound : ℕ) (blocks : List BlockParts) (owner : List ℕ) where
       let same : c.0 ≡ b = same_Some c.0 b (sym (at.blocks_at.by at.behind c.0 c.1) ∙ sym (ap (slice_get blocks) at.is) ∙ there) in
       at.function.by at.behind b (c.1 ∙ ap Some same)
 
-  owner_at : (i : ℕ) (at : InFunction i) → slice_get owner i ≡ Some at.start
-  owner_at i at =
-      owned_from at.start (length at.code) at.owned i (omega (arith, at.is), omega (arith, at.is, at.within))
+  same_owner : (i o : ℕ) (at : InFunction i) → slice_get owner i ≡ Some o → at.start ≡ o
+  same_owner i o at here = same_Some at.start o (sym (owned_from (length at.code) at.owned i (omega (arith, at.is, at.within))) ∙ here)
 
   goes_on_from : (i o : ℕ) → InFunction i → slice_get owner i ≡ Some o → Continues owner i o
-  goes_on_from zero o at here =
-      let same = same_Some at.start o (sym (owner_at zero at) ∙ here) in
-      omega (arith, at.is, same)
+  goes_on_from zero o at here = omega (arith, at.is, same_owner zero o at here)
   goes_on_from (suc i) o at here = λ other.
-      let same : at.start ≡ o = same_Some at.start o (sym (owner_at (suc i) at) ∙ here) in
-      by_place at.behind at.is at.within same other
+      let same = same_owner (suc i) o at here in
+      owned_from (length at.code) at.owned i (omega (arith, at.is, at.within, same, other)) ∙ ap Some same
+
+  place : (i : ℕ) → i < length (blocks_of fs) → InFunction i
+  place i lt = let zero_i : 0 + i ≡ i = omega arith in rw zero_i at (in_function 0 fs (omega arith) are (has_whole blocks) (has_whole owner) i lt)
+
+  pub functions_owned : AreLinked (blocks_of fs) × AreOwners (blocks_of fs) (owners_of 0 fs)
+  functions_owned = (
+    record {
+      by = λ i b there. let at = place i (slice_get_within blocks i b there) in
+          below at.start (length at.code) at.fits b.exit (exit_within i b at there);
+    },
+    record {
+      lengths = same;
+      continues = λ i o here. goes_on_from i o (place i (omega (arith, slice_get_within owner i o here, same))) here;
+      within = λ i o b there here. let at = place i (slice_get_within blocks i b there) in
+          rw (← same_owner i o at here) (inside at.start (length at.code) at.owned b.exit (exit_within i b at there));
+    },
+  )
     where
-      by_place : (j : ℕ) → suc i ≡ at.start + j → j < length at.code → at.start ≡ o → o ≢ suc i → slice_get owner i ≡ Some o
-      by_place zero is lt same other = absurd (other (omega (arith, is, same)))
-      by_place (suc j) is lt same other = owned_from at.start (length at.code) at.owned i (omega (arith, is), omega (arith, is, lt)) ∙ ap Some same
-
-pub functions_owned : (fs : List (List BlockParts)) → AreFunctions (length (blocks_of fs)) 0 fs → AreLinked (blocks_of fs)
-    × AreOwners (blocks_of fs) (owners_of 0 fs)
-functions_owned fs are = (
-  record {
-    by = λ i b there. (let at = place i (slice_get_within blocks i b there) in
-        below bound blocks owner at.start (length at.code) at.fits b.exit (exit_within bound blocks owner i b at there));
-  },
-  record {
-    lengths = same;
-    continues = λ i o here. (let low = slice_get_within owner i o here in goes_on_from bound blocks owner i o (place i (omega (arith, low, same))) here);
-    within = λ i o b there here.
-        (let at = place i (slice_get_within blocks i b there) in
-        subst (λ o. BranchesWithin owner o b.exit) (same_Some at.start o (sym (owner_at bound blocks owner i at) ∙ here))
-        (inside bound blocks owner at.start (length at.code) at.owned b.exit (exit_within bound blocks owner i b at there)));
-  },
-)
-  where
-    blocks : List BlockParts
-    blocks = blocks_of fs
-
-    owner : List ℕ
-    owner = owners_of 0 fs
-
-    bound : ℕ
-    bound = length (blocks_of fs)
-
-    same : length (owners_of 0 fs) ≡ length (blocks_of fs)
-    same = length-owners_of 0 fs
-
-    place : (i : ℕ) → i < length (blocks_of fs) → InFunction (length (blocks_of fs)) (blocks_of fs) (owners_of 0 fs) i
-    place i lt = (let zero_i : 0 + i ≡ i = omega arith in
-        subst (InFunction (length (blocks_of fs)) (blocks_of fs) (owners_of 0 fs)) zero_i
-        (in_function (length (blocks_of fs)) (blocks_of fs) (owners_of 0 fs) 0 fs (omega arith) are (has_whole (blocks_of fs))
-        (has_whole (owners_of 0 fs)) i lt))
+      same : length (owners_of 0 fs) ≡ length (blocks_of fs)
+      same = length-owners_of 0 fs

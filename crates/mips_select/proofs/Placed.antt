@@ -1,6 +1,6 @@
 -- The blocks for a program stand for it.
 use Rattle.std.proofs.Common.{◌≡◌, ℕ, zero, suc, ◌+◌, ◌*◌, ◌<◌, ◌≤◌, ◌⊎◌, inl, inr, Bool, true, false, List, [], ◌∷◌, ◌++◌, length}
-use Rattle.std.proofs.Common.{Option, Some, None, refl, sym, ap, ◌∙◌, subst, arith}
+use Rattle.std.proofs.Common.{⊎_elim, Option, Some, None, refl, sym, ap, ◌∙◌, arith}
 use Rattle.std.specs.Prelude.{All, ◌&&◌, if◌then◌else◌, slice_get, slice_index}
 use Rattle.std.proofs.lemmas.Option.{same_Some, none-some, slice_get_within}
 use Rattle.mips_isa.specs.declared.inst.Plain.{Plain}
@@ -11,10 +11,10 @@ use Rattle.rtl.specs.declared.block.RBlock.{RBlock}
 use Rattle.rtl.specs.declared.block.RFunc.{RFunc}
 use Rattle.rtl.specs.Programs as programs
 use Rattle.rtl.specs.Programs.{IsProgram}
-use Rattle.mips_homes.specs.Preferences.{reach_from, exit_reach, blocks_reach}
+use Rattle.mips_homes.specs.Preferences.{exit_reach, blocks_reach}
 use Rattle.mips_homes.proofs.Located.{reach_covers, blocks_cover}
 use Rattle.mips_homes.specs.declared.homed.Home.{Home}
-use Rattle.mips_homes.specs.declared.homed.Home.TheVariants.{Reg, Slot, Copied}
+use Rattle.mips_homes.specs.declared.homed.Home.TheVariants.{Reg, Copied}
 use Rattle.mips_homes.specs.declared.homed.Frame.{Frame}
 use Rattle.mips_homes.specs.declared.homed.Homed.{Homed}
 use Rattle.mips_emit.specs.declared.limits.TheConstants.{FRAME_BYTES}
@@ -45,52 +45,40 @@ abbrev pub AreSeated : RFunc → Frame → Type 0
 AreSeated func f = (x r : ℕ) → slice_get f.homes.items x ≡ Some (Reg r)
     → (8 ≤ r) ⊎ ((blocks_reach func.blocks.items x + 3 ≤ r) × (x < func.parameters → r ≡ 4 + x))
 
--- so no argument and no parameter is lost
-in_order : (f : Frame) (t : ℕ) (xs : List ℕ) → ((x r k : ℕ) → slice_get f.homes.items x ≡ Some (Copied r k) → (8 ≤ r) × (r < 28)) → ((j x r : ℕ) → slice_get xs j ≡ Some x → slice_get f.homes.items x ≡ Some (Reg r) → t + j ≤ r)
-    → AreInOrder (locations f) t xs
-in_order f t [] range behind = tt
-in_order f t (x ∷ xs) range behind =
-    (here (slice_get f.homes.items x) refl, in_order f (suc t) xs range (λ j y r e there. (let le = behind (suc j) y r e there in omega (arith, le))))
-  where
-    here : (o : Option Home) → slice_get f.homes.items x ≡ o → IsBehind o t
-    here None e = tt
-    here (Some (Reg r)) e = (let le = behind 0 x r refl e in omega (arith, le))
-    here (Some (Slot k)) e = tt
-    here (Some (Copied r k)) e = (range x r k e).0
-
-are_clear : (func : RFunc) (f : Frame) → ((x r k : ℕ) → slice_get f.homes.items x ≡ Some (Copied r k) → (8 ≤ r) × (r < 28)) → AreSeated func f → (t x n : ℕ) → t ≡ 4 + x → x + n ≤ func.parameters → AreClear (locations f) t x n
-are_clear func f range seated t x zero at few = tt
-are_clear func f range seated t x (suc n) at few =
-    (here (slice_get f.homes.items x) refl, are_clear func f range seated (suc t) (suc x) n (omega (arith, at)) (omega (arith, few)))
-  where
-    comes : (r : ℕ) → (8 ≤ r) ⊎ ((blocks_reach func.blocks.items x + 3 ≤ r) × (x < func.parameters → r ≡ 4 + x)) → (r ≤ t) ⊎ (8 ≤ r)
-    comes r (inl high) = inr high
-    comes r (inr is) = inl (omega (arith, is.1 (omega (arith, few)), at))
-
-    here : (o : Option Home) → slice_get f.homes.items x ≡ o → IsClear o t
-    here (Some (Reg r)) e = comes r (seated x r e)
-    here (Some (Copied r k)) e = (range x r k e).0
-    here _ e = tt
-
 abbrev IsOrdered : Frame → RExit → Type 0
 IsOrdered f (Call g xs d next) = AreInOrder (locations f) 4 xs.items
 IsOrdered f _ = Unit {0}
 
-ordered : (functions : List RFunc) (globals blocks : ℕ) (func : RFunc) (f : Frame) (x : RExit)
-    → ((x r k : ℕ) → slice_get f.homes.items x ≡ Some (Copied r k) → (8 ≤ r) × (r < 28)) → AreSeated func f
-    → ((y : ℕ) → exit_reach x y ≤ blocks_reach func.blocks.items y) → All (programs.IsFunction functions globals) functions
-    → programs.IsExit functions blocks x → IsOrdered f x
-ordered functions globals blocks func f (Call g xs d next) range seated covers all ok =
-    let callee = ok.0 in
-    let few = (all_at (programs.IsFunction functions globals) functions g callee.callee all callee.there).parameters in
-    in_order f 4 xs.items range (λ j y r at there. (let lt = slice_get_within xs.items j y at in
-    behind j y r (omega (arith, lt, few, callee.takes)) (reach_covers 0 xs.items j y at) (covers y) (seated y r there)))
-  where
-    behind : (j y r : ℕ) → j < 4 → 0 + suc j ≤ reach_from 0 xs.items y → reach_from 0 xs.items y ≤ blocks_reach func.blocks.items y
-        → (8 ≤ r) ⊎ ((blocks_reach func.blocks.items y + 3 ≤ r) × (y < func.parameters → r ≡ 4 + y)) → 4 + j ≤ r
-    behind j y r lt one two (inl high) = omega (arith, lt, high)
-    behind j y r lt one two (inr is) = (let le = is.0 in omega (arith, one, two, le))
-ordered functions globals blocks func f _ range seated covers all ok = tt
+-- so no argument and no parameter is lost
+module _ (func : RFunc) (f : Frame) (range : (x r k : ℕ) → slice_get f.homes.items x ≡ Some (Copied r k) → (8 ≤ r) × (r < 28)) (seated : AreSeated func f) where
+  in_order : (t : ℕ) (xs : List ℕ) → ((j x r : ℕ) → slice_get xs j ≡ Some x → slice_get f.homes.items x ≡ Some (Reg r) → t + j ≤ r)
+      → AreInOrder (locations f) t xs
+  in_order t [] behind = tt
+  in_order t (x ∷ xs) behind =
+      (here (slice_get f.homes.items x) refl, in_order (suc t) xs (λ j y r e there. omega (arith, behind (suc j) y r e there)))
+    where
+      here : (o : Option Home) → slice_get f.homes.items x ≡ o → IsBehind o t
+      here (Some (Reg r)) e = omega (arith, behind 0 x r refl e)
+      here (Some (Copied r k)) e = (range x r k e).0
+      here _ e = tt
+
+  are_clear : (t x n : ℕ) → t ≡ 4 + x → x + n ≤ func.parameters → AreClear (locations f) t x n
+  are_clear t x zero at few = tt
+  are_clear t x (suc n) at few = (here (slice_get f.homes.items x) refl, are_clear (suc t) (suc x) n (omega (arith, at)) (omega (arith, few)))
+    where
+      here : (o : Option Home) → slice_get f.homes.items x ≡ o → IsClear o t
+      here (Some (Reg r)) e = ⊎_elim inr (λ is. inl (omega (arith, is.1 (omega (arith, few)), at))) (seated x r e)
+      here (Some (Copied r k)) e = (range x r k e).0
+      here _ e = tt
+
+  ordered : (functions : List RFunc) (globals blocks : ℕ) (x : RExit) → ((y : ℕ) → exit_reach x y ≤ blocks_reach func.blocks.items y)
+      → All (programs.IsFunction functions globals) functions → programs.IsExit functions blocks x → IsOrdered f x
+  ordered functions globals blocks (Call g xs d next) covers all ok =
+      let callee = ok.0 in
+      let few = (all_at (programs.IsFunction functions globals) functions g callee.callee all callee.there).parameters in
+      in_order 4 xs.items (λ j y r at there. let lt = slice_get_within xs.items j y at in
+      ⊎_elim (λ high. omega (arith, lt, few, callee.takes, high)) (λ is. omega (arith, reach_covers 0 xs.items j y at, covers y, is.0)) (seated y r there))
+  ordered functions globals blocks _ covers all ok = tt
 
 -- a leaf has no call
 abbrev IsFine : Bool → RExit → Type 0
@@ -99,7 +87,7 @@ IsFine leaf _ = Unit {0}
 
 leaf_fine : (bs : List RBlock) (b : ℕ) (block : RBlock) → slice_get bs b ≡ Some block → IsFine (is_leaf bs) block.exit
 leaf_fine [] b block there = absurd (none-some block there)
-leaf_fine (x ∷ bs) zero block there = subst (λ (block : RBlock). IsFine (is_leaf (x ∷ bs)) block.exit) (same_Some x block there) (here x.exit)
+leaf_fine (x ∷ bs) zero block there = rw (← same_Some x block there) (here x.exit)
   where
     here : (e : RExit) → IsFine (calls_none e && is_leaf bs) e
     here (Call g xs d next) = refl
@@ -115,46 +103,45 @@ leaf_fine (x ∷ bs) (suc b) block there = more (calls_none x.exit) block.exit (
 abbrev heads_code : Planning → ℕ → List Plain
 heads_code p b = head_code p (p.heads b)
 
+-- what the blocks for a block ask of its exit
+abbrev Allows : Planning → RExit → Type 0
+Allows p x = Named p.heads x × IsFine p.leaf x × IsOrdered p.frame x
+
 module _ (whole : List BlockParts) (l : Linking) where
-  goes_on : (p : Planning) (k : ℕ) (x : RExit) (rest : List BlockParts) → Named p.heads x → IsFine p.leaf x → IsOrdered p.frame x
-      → HasAt whole (suc k) (behind p x ++ rest) → GoesOn whole l p.placing (heads_code p) (next_of p k x) x
-  goes_on p k (Call g xs d next) rest ok calls order has = go d (p.heads next) refl ok has
+  goes_on : (p : Planning) (k : ℕ) (x : RExit) (rest : List BlockParts) → Allows p x → HasAt whole (suc k) (behind p x ++ rest)
+      → GoesOn whole l p.placing (heads_code p) (next_of p k x) x
+  goes_on p k (Call g xs d next) rest ok has = go d (p.heads next) refl ok.0 has
     where
       go : (d : Option ℕ) (x : Head) → p.heads next ≡ x → NamedCall d x → HasAt whole (suc k)
           ((if resumes d x then [] else after_block p.frame d (p.place next) ∷ []) ++ rest)
           → GoesOn whole l p.placing (heads_code p) (if resumes d x then p.place next else suc k) (Call g xs d next)
-      go None Bare e ok has = ((calls, order), inr (refl, ap (head_code p) e))
-      go (Some d) Bare e ok has = ((calls, order), inl (has_head has, ap (head_code p) e))
-      go d Enters e ok has = absurd ok
-      go None (Takes c) e ok has = absurd (none-some c ok)
-      go (Some d) (Takes c) e ok has = ((calls, order), inr (refl, ap (head_code p) e ∙ ap (result_code (locations p.frame)) (sym ok)))
-  goes_on p k (Goto b) rest ok calls order has = no_head_code p (p.heads b) ok
-  goes_on p k (Branch c t e) rest ok calls order has = (no_head_code p (p.heads t) ok.0, no_head_code p (p.heads e) ok.1)
-  goes_on p k (Return o) rest ok calls order has = tt
-  goes_on p k (Out x next) rest ok calls order has = no_head_code p (p.heads next) ok
+      go None Bare e names has = ((ok.1, ok.2), inr (refl, ap (head_code p) e))
+      go (Some d) Bare e names has = ((ok.1, ok.2), inl (has_head has, ap (head_code p) e))
+      go d Enters e names has = absurd names
+      go None (Takes c) e names has = absurd (none-some c names)
+      go (Some d) (Takes c) e names has = ((ok.1, ok.2), inr (refl, ap (head_code p) e ∙ ap (result_code (locations p.frame)) (sym names)))
+  goes_on p k (Goto b) rest ok has = no_head_code p (p.heads b) ok.0
+  goes_on p k (Branch c t e) rest ok has = (no_head_code p (p.heads t) (ok.0).0, no_head_code p (p.heads e) (ok.0).1)
+  goes_on p k (Return o) rest ok has = tt
+  goes_on p k (Out x next) rest ok has = no_head_code p (p.heads next) ok.0
 
   -- block i of a function is block b of those from j on
   placed : (p : Planning) (k j : ℕ) (bs : List RBlock) → HasAt whole k (blocks_from l p k j bs)
-      → ((b : ℕ) (block : RBlock) → slice_get bs b ≡ Some block → Named p.heads block.exit)
-      → ((b : ℕ) (block : RBlock) → slice_get bs b ≡ Some block → IsFine p.leaf block.exit)
-      → ((b : ℕ) (block : RBlock) → slice_get bs b ≡ Some block → IsOrdered p.frame block.exit)
+      → ((b : ℕ) (block : RBlock) → slice_get bs b ≡ Some block → Allows p block.exit)
       → (i b : ℕ) (block : RBlock) → slice_get bs b ≡ Some block → p.place i ≡ slice_index (numbers p.heads k bs) b → i ≡ j + b
       → StandsAt whole l p.placing (heads_code p) i block
-  placed p k j [] has ok fine order i b block there at is = absurd (none-some block there)
-  placed p k j (x ∷ bs) has ok fine order i zero block there at is =
+  placed p k j [] has ok i b block there at is = absurd (none-some block there)
+  placed p k j (x ∷ bs) has ok i zero block there at is =
       let j_is : j ≡ i = omega (arith, is) in
-      subst (λ (block : RBlock). StandsAt whole l p.placing (heads_code p) i block) (same_Some x block there) (record {
+      rw (← same_Some x block there) (record {
         next = next_of p k x.exit;
         there = ap (slice_get whole) at ∙ has_head has
             ∙ ap (λ i. Some (own_block l p.placing (head_code p (p.heads i)) (next_of p k x.exit) x)) j_is;
-        leads_on = goes_on p k x.exit (blocks_from l p (k + count p.heads x.exit) (suc j) bs) (ok 0 x refl) (fine 0 x refl) (order 0 x refl) (has_tail has);
+        leads_on = goes_on p k x.exit _ (ok 0 x refl) (has_tail has);
       })
-  placed p k j (x ∷ bs) has ok fine order i (suc b) block there at is =
-      let more = blocks_from l p (k + count p.heads x.exit) (suc j) bs in
-      let next : suc k + length (behind p x.exit) ≡ k + count p.heads x.exit = omega (arith, behind_length p x.exit) in
-      let has' : HasAt whole (k + count p.heads x.exit) more = subst (λ n. HasAt whole n more) next (has_back _ _ (has_tail has)) in
-      placed p (k + count p.heads x.exit) (suc j) bs has' (λ b block there. ok (suc b) block there) (λ b block there. fine (suc b) block there)
-      (λ b block there. order (suc b) block there) i b block there at (omega (arith, is))
+  placed p k j (x ∷ bs) has ok i (suc b) block there at is =
+      placed p (k + count p.heads x.exit) (suc j) bs (has_back (behind p x.exit) _ (has_tail has) (omega (arith, behind_length p x.exit))) (λ b. ok (suc b)) i b block there
+      at (omega (arith, is))
 
   -- the prologue stands in a block of its own, or at the head of block 0
   begins : (p : Planning) (k : ℕ) (rest : List BlockParts) → HasAt whole k (lead_blocks p (p.heads 0) ++ rest)
@@ -178,10 +165,7 @@ module _ (whole : List BlockParts) (l : Linking) where
   found k (x ∷ funcs) (y ∷ fs) has zero func f there f_there =
       rw (← same_Some x func there, ← same_Some y f f_there) (has_front _ _ has)
   found k (x ∷ funcs) (y ∷ fs) has (suc g) func f there f_there =
-      let long = function_length l k x y in
-      let next : k + length (function_blocks l k x y) ≡ k + function_size x = omega (arith, long) in
-      found (k + function_size x) funcs fs (subst (λ n. HasAt whole n (functions_blocks l (k + function_size x) funcs fs)) next (has_back _ _ has)) g func
-      f there f_there
+      found (k + function_size x) funcs fs (has_back _ _ has (ap (λ n. k + n) (function_length l k x y))) g func f there f_there
 
 first_place : (k : ℕ) (bs : List RBlock) → heads_of bs 0 ≡ Enters → slice_index (numbers (heads_of bs) (k + lead_in (heads_of bs)) bs) 0 ≡ k
 first_place k [] e = let no : Bare ≡ Enters = e in cc
@@ -211,32 +195,30 @@ program_selected h depth most ok frames seated alone small room = record {
       let l = linking_for program in
       let k = entry_of program.functions g in
       let bs = func.blocks.items in
-      let n = func.parameters in
-      let p = planning_in n k bs f in
+      let p = planning_in func.parameters k bs f in
       let has = found whole l 2 program.functions h.frames.items rest g func f there_f f_there in
       let heads = heads_of bs in
-      let lead = lead_blocks p (heads 0) in
-      let more = blocks_from l p (k + lead_in heads) 0 bs in
-      let front = lead_length p (heads 0) in
+      let first = k + lead_in heads in
       let is = all_at (programs.IsFunction program.functions (length program.globals)) program.functions g func ok.functions there_f in
-      let exit_ordered : (b : ℕ) (block : RBlock) → slice_get bs b ≡ Some block → IsOrdered f block.exit = λ b block at.
-      ordered program.functions (length program.globals) (length bs) func f block.exit (((frames g f f_there).homes).copied).range (seated g func f there_f f_there)
-      (λ y. blocks_cover bs b block y at) ok.functions
-      (all_at (programs.IsBlock program.functions (length program.globals) (length bs)) bs b block is.blocks at).exit in
-      let behind_lead : k + length lead ≡ k + lead_in heads = omega (arith, front) in
-      let has' : HasAt whole (k + lead_in heads) more = subst (λ m. HasAt whole m more) behind_lead (has_back _ _ has) in
+      let frame = frames g f f_there in
+      let range = ((frame.homes).copied).range in
+      let seats = seated g func f there_f f_there in
+      let allows : (b : ℕ) (block : RBlock) → slice_get bs b ≡ Some block → Allows p block.exit = λ b block at. (
+        named bs (unnamed bs) b block at,
+        leaf_fine bs b block at,
+        ordered func f range seats program.functions (length program.globals) (length bs) block.exit (λ y. blocks_cover bs b block y at) ok.functions
+            (all_at (programs.IsBlock program.functions (length program.globals) (length bs)) bs b block is.blocks at).exit,
+      ) in
+      let has' : HasAt whole first (blocks_from l p first 0 bs) = has_back _ _ has (ap (λ n. k + n) (lead_length p (heads 0))) in
       record {
         leaf = is_leaf bs;
         place = place_in k bs;
         head = heads_code p;
-        first = begins whole l p k more has (first_place k bs) (no_take bs);
-        placed = record {
-          by = λ b block there. placed whole l p (k + lead_in heads) 0 bs has' (λ b block at. named bs (unnamed bs) b block at) (leaf_fine bs)
-              (λ b block at. exit_ordered b block at) b b block there refl (omega arith);
-        };
-        frame = frames g f f_there;
+        first = begins whole l p k (blocks_from l p first 0 bs) has (first_place k bs) (no_take bs);
+        placed = record { by = λ b block there. placed whole l p first 0 bs has' allows b b block there refl (omega arith) };
+        frame = frame;
         parameters = is.parameters;
-        clear = are_clear func f (((frames g f f_there).homes).copied).range (seated g func f there_f f_there) 4 0 n refl (omega arith);
+        clear = are_clear func f range seats 4 0 func.parameters refl (omega arith);
         alone = alone g func f there_f f_there;
       };
   small = small;

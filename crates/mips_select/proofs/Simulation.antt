@@ -1,5 +1,5 @@
 -- Each step over homes is one or more items of the unit.
-use Rattle.std.proofs.Common.{◌≡◌, ℕ, zero, suc, ◌+◌, ◌*◌, ◌^◌, ◌<◌, ◌≤◌, ◌==◌, ◌⊎◌, inl, inr, Bool, true, false, eqb-true, ◌&&◌, List, []}
+use Rattle.std.proofs.Common.{◌≡◌, ℕ, zero, suc, ◌+◌, ◌*◌, ◌<◌, ◌≤◌, ◌==◌, ◌⊎◌, inl, inr, Bool, true, false, eqb-true, ◌&&◌, List, []}
 use Rattle.std.proofs.Common.{◌∷◌, ◌++◌, length, Option, Some, None, refl, sym, ap, ◌∙◌, subst, arith, nat_eq, nat_lt, true≢false, ltb-true}
 use Rattle.std.specs.Prelude.{if◌then◌else◌, not, slice_get}
 use Rattle.std.proofs.lemmas.List.{append-nil, append_assoc}
@@ -24,16 +24,17 @@ use Rattle.rtl.specs.declared.block.RBlock.{RBlock}
 use Rattle.rtl.specs.declared.block.RFunc.{RFunc}
 use Rattle.rtl.specs.declared.block.RGlobal.{RGlobal}
 use Rattle.rtl.specs.Meaning.{Code, code_of}
-use Rattle.mips_homes.specs.HomedRun.{cells, around, Activation, new_activation, at_code, Run, Running, Ended, Failed, read_home, read_homes, write_home}
+use Rattle.mips_homes.specs.HomedRun.{cells, around, Activation, new_activation, at_code, Run, Running, Ended, Failed, with_value, read_home, read_homes}
 use Rattle.mips_homes.specs.HomedRun.{is_callee_saved, callee_saved, write_homes, registers_at_entry, registers_at_return, state_at_block, with_result, state_after_return}
 use Rattle.mips_homes.specs.HomedRun.{state_after_exit, step_at, homed_step, homed_steps}
 use Rattle.mips_homes.specs.declared.homed.Frame.{Frame}
+use Rattle.mips_homes.specs.declared.homed.Home.{Home}
 use Rattle.mips_homes.specs.declared.homed.Homed.{Homed}
 use Rattle.mips_emit.specs.declared.comparison.Comparison.{Comparison}
 use Rattle.mips_emit.specs.declared.facts.Last.{Last}
 use Rattle.mips_emit.specs.declared.location.Source.{Source}
 use Rattle.mips_emit.specs.Locations.{Facts, no_facts, known_in, locations, learned, known_after, fresh_of, last_operand}
-use Rattle.mips_emit.specs.Code.{move_code, inst_code, fetch, carry}
+use Rattle.mips_emit.specs.Code.{inst_code, carry}
 use Rattle.mips_emit.specs.Comparisons.{comparison_code, comparison_of, asked_last, next_code, last_with, no_last, last_after}
 use Rattle.mips_emit.specs.Comparisons.{tested, branch_code, branch_exit, is_result, returned, return_code}
 use Rattle.mips_emit.specs.Frames.{IsFrame}
@@ -47,19 +48,17 @@ use Rattle.mips_emit.proofs.Comparing.{none_asked, waiting, compares}
 use Rattle.mips_select.specs.declared.limits.TheConstants.{STACK_BYTES}
 use Rattle.mips_select.specs.Data.{padded_bytes, start_of}
 use Rattle.mips_select.specs.Plans.{Linking, Placing, placing_of}
-use Rattle.mips_select.specs.Code.{frame_words, frame_bytes, frame_link, stack_step, parameters_code, prologue, epilogue, asked_of, exit_code, exit_of, code_insts}
-use Rattle.mips_select.specs.declared.prologue.Direction.TheVariants.{Save}
+use Rattle.mips_select.specs.Code.{epilogue, asked_of, exit_code, exit_of, code_insts}
 use Rattle.mips_select.specs.Code.{context_in, own_block, result_code, after_block}
-use Rattle.mips_select.specs.Selected.{AreClear, GoesOn, StandsAt, IsPlaced, IsFunction, IsSelected}
-use Rattle.mips_select.proofs.Departures.{read_length, branch_words, either, either_place, above_arguments, goes_by, same_exit, same_code}
+use Rattle.mips_select.specs.Selected.{GoesOn, StandsAt, IsPlaced, IsFunction, IsSelected}
+use Rattle.mips_select.proofs.Departures.{read_length, branch_words, either, either_place, above_arguments, goes_by, same_exit, same_code, return_found}
 use Rattle.mips_select.proofs.Frames.{all_denote, arguments, parameters}
-use Rattle.mips_select.proofs.Returns.{return_found}
 use Rattle.mips_select.proofs.Calls.{stored_frame, frames_of, linked_frames, enters, leaves_frame}
 
 abbrev halted : ℕ → List ℕ → Outcome
 halted w out = record { end = Done w; output = out }
 
-module _ (h : Homed) (depth : ℕ) (blocks : List BlockParts) (ok : IsSelected h depth blocks) (links : ℕ → ℕ) (tells : TellsApart links blocks) where
+module _ {h : Homed} {depth : ℕ} {blocks : List BlockParts} (ok : IsSelected h depth blocks) {links : ℕ → ℕ} (tells : TellsApart links blocks) where
   abbrev pub gs : List RGlobal
   gs = (h.rtl.now).globals
 
@@ -74,9 +73,6 @@ module _ (h : Homed) (depth : ℕ) (blocks : List BlockParts) (ok : IsSelected h
 
   abbrev pub linking : Linking
   linking = record { globals = gs; starts = starts; entry = ok.entry }
-
-  abbrev pub Placed : Bool → Frame → (ℕ → ℕ) → (ℕ → List Plain) → List RBlock → Type 0
-  Placed leaf f place head bs = IsPlaced blocks linking (placing_of leaf f place) head bs
 
   abbrev pub Stood : Bool → Frame → (ℕ → ℕ) → (ℕ → List Plain) → ℕ → RBlock → Type 0
   Stood leaf f place head b block = StandsAt blocks linking (placing_of leaf f place) head b block
@@ -101,22 +97,17 @@ module _ (h : Homed) (depth : ℕ) (blocks : List BlockParts) (ok : IsSelected h
   CodeBefore p head facts last k c = CodeAt p head (known_after (locations p.frame) c.insts facts)
       (last_after (locations p.frame) (asked_of c.exit) facts c.insts last) k c.exit
 
-  code_at : (leaf : Bool) (f : Frame) (place : ℕ → ℕ) (head : ℕ → List Plain) (j : ℕ) (b : RBlock) → Stood leaf f place head j b
-      → CodeBefore (placing_of leaf f place) head no_facts no_last (place j) (code_of b)
-  code_at leaf f place head j b at = record {
-    form = own_block linking (placing_of leaf f place) (head j) at.next b;
-    next = at.next;
-    there = at.there;
-    exit = refl;
-    leads_on = at.leads_on;
-  }
+  -- where the blocks of a function stand and what they begin with
+  pub record Homes (leaf : Bool) (f : Frame) (bs : List RBlock) : Type 0 where
+    pub place : ℕ → ℕ
+    pub head : ℕ → List Plain
+    pub placed : IsPlaced blocks linking (placing_of leaf f place) head bs
+    pub frame : IsFrame ok.most f
 
   -- where the call with a link goes on, for an activation that waits
   pub record Resumes (link : ℕ) (d : Option ℕ) (w : Activation) : Type 0 where
-    pub place : ℕ → ℕ
-    pub head : ℕ → List Plain
-    pub placed : Placed false w.frame place head w.blocks
-    pub frame : IsFrame ok.most w.frame
+    pub homes : Homes false w.frame w.blocks
+    pub open homes use {place, head, placed, frame}
     pub number : ℕ
     pub found : return_block_of links link 0 blocks ≡ Some number
     pub next : ℕ
@@ -136,16 +127,13 @@ module _ (h : Homed) (depth : ℕ) (blocks : List BlockParts) (ok : IsSelected h
   as_deep link d (a ∷ ws) [] w = absurd w
   as_deep link d (a ∷ ws) (l ∷ ls) w = ap suc (as_deep l a.result_to ws ls w.1)
 
-  -- where an activation of a function stands in the unit: its link and those below it, whether it is a leaf, and where the blocks of its
-  -- function stand and what they begin with
+  -- where an activation of a function stands in the unit: its link and those below it, whether it is a leaf, and its blocks
   pub record Lives (f : Frame) (bs : List RBlock) (result_to : Option ℕ) (ws : List Activation) : Type 0 where
     pub link : ℕ
     pub below : List ℕ
     pub leaf : Bool
-    pub place : ℕ → ℕ
-    pub head : ℕ → List Plain
-    pub placed : Placed leaf f place head bs
-    pub frame : IsFrame ok.most f
+    pub homes : Homes leaf f bs
+    pub open homes use {place, head, placed, frame}
     pub waits : Waits link result_to ws below
 
   -- the state of a run over homes, and a point of the unit's run
@@ -182,13 +170,10 @@ module _ (h : Homed) (depth : ℕ) (blocks : List BlockParts) (ok : IsSelected h
   Reach n p (Failed out) = Unit {0}
   Reach n p run = Reached n p run
 
-  reached_after : {m n d : ℕ} {p q : Point} {run : Run} → m ≤ d + n → Lead d p q → Reached n q run → Reached m p run
-  reached_after {d} le lead r =
-      record { to = r.to; count = d + r.count; enough = omega (arith, le, r.enough); leads = leads_then lead r.leads; match = r.match }
-
   pub reach_after : (m n : ℕ) {d : ℕ} {p q : Point} (run : Run) → m ≤ d + n → Lead d p q → Reach n q run → Reach m p run
   reach_after m n (Failed out) le lead x = tt
-  reach_after m n run le lead x = reached_after le lead x
+  reach_after m n {d} _ le lead r =
+      record { to = r.to; count = d + r.count; enough = omega (arith, le, r.enough); leads = leads_then lead r.leads; match = r.match }
 
   -- instructions up to the exit
   pub code_leads : (k : ℕ) {is : List Plain} {s t : State} (out : List ℕ) → RunsTo is s t → Lead (length is) (At k is s out) (At k [] t out)
@@ -213,32 +198,37 @@ module _ (h : Homed) (depth : ℕ) (blocks : List BlockParts) (ok : IsSelected h
   LeadOn p q = (d : ℕ) × (1 ≤ d) × Lead d p q
 
   -- code that stands in a block of its own, before a block without head, or that is the block's head
-  through : (p : Point) (k t : ℕ) (target : BlockParts) (code head rest : List Plain) (s s' : State) (out : List ℕ)
-      → slice_get blocks t ≡ Some target → target.insts ≡ head ++ rest → RunsTo code s s'
+  through : {p : Point} {k t : ℕ} {target : BlockParts} {code head rest : List Plain} {s s' : State} {out : List ℕ}
+      → slice_get blocks t ≡ Some target → RunsTo code s s'
       → ((form : BlockParts) → slice_get blocks k ≡ Some form → Lead 1 p (At k form.insts s out))
       → ((slice_get blocks k ≡ Some (record { insts = code; exit = E.Goto t })) × (head ≡ [])) ⊎ ((k ≡ t) × (head ≡ code))
-      → LeadOn p (At t rest s' out)
-  through p k t target code head rest s s' out there is runs enter (inl at) =
-      let last = subst (λ l. Lead 1 (At k [] s' out) (At t l s' out)) is (jump at.0 refl there) in
-      (1 + (length code + 1), omega arith, leads_then (enter _ at.0) (leads_then (code_leads k out runs) (no_head at.1 last)))
-  through p k t target code head rest s s' out there is runs enter (inr at) =
-      let first : Lead 1 p (At k (code ++ rest) s out) =
-      subst (λ l. Lead 1 p (At k l s out)) (is ∙ ap (λ h. h ++ rest) at.1) (enter target (ap (slice_get blocks) at.0 ∙ there)) in
-      (1 + length code, omega arith, subst (λ t. Lead (1 + length code) p (At t rest s' out)) at.0 (leads_then first (leads_run k rest out runs)))
+      → target.insts ≡ head ++ rest → LeadOn p (At t rest s' out)
+  through {k} {t} {target} {code} {s' = s'} {out} there runs enter (inl at) is =
+      let last : Lead 1 (At k [] s' out) (At t target.insts s' out) = jump at.0 refl there in
+      (1 + (length code + 1), omega arith, leads_then (enter _ at.0) (leads_then (code_leads k out runs) (no_head at.1 (rw is at last))))
+  through {p} {k} {target} {code} {rest} {s} {out} there runs enter (inr at) is =
+      let first : Lead 1 p (At k (code ++ rest) s out) = rw (← at.1, ← is) (enter target (rw at.0 there)) in
+      (1 + length code, omega arith, rw at.0 at (leads_then first (leads_run k rest out runs)))
 
   -- at the start of a block nothing is known
-  starts_block : (r slots : Places) (a : Activation) (ws : List Activation) (g : Arrays) (out : List ℕ) (l : Lives a.frame a.blocks a.result_to ws)
-      (b : ℕ) (block : RBlock) (s : State) → Stood l.leaf a.frame l.place l.head b block
+  starts_block : {r slots : Places} (a : Activation) {ws : List Activation} {g : Arrays} (out : List ℕ) (l : Lives a.frame a.blocks a.result_to ws)
+      {b : ℕ} {block : RBlock} {s : State} → Stood l.leaf a.frame l.place l.head b block
       → Stand r g (stored_frame l.leaf a.frame slots a.aside l.link ∷ frames_of ws l.below) s
       → Match r (at_code a slots (code_of block)) ws g out (At (l.place b) (block_code l.leaf a.frame l.place block) s out)
-  starts_block r slots a ws g out l b block s at st = record {
+  starts_block {r} {slots} a out l {b} {block} {s} at st = record {
     state = s;
     number = l.place b;
     lives = l;
     facts = no_facts;
     last = no_last;
     point = refl;
-    code = code_at l.leaf a.frame l.place l.head b block at;
+    code = record {
+      form = own_block linking (placing_of l.leaf a.frame l.place) (l.head b) at.next block;
+      next = at.next;
+      there = at.there;
+      exit = refl;
+      leads_on = at.leads_on;
+    };
     is_known = nothing_known a.frame.homes.items r slots;
     are_deferred = none_deferred r;
     are_bases = no_bases gs starts s.regs;
@@ -247,12 +237,11 @@ module _ (h : Homed) (depth : ℕ) (blocks : List BlockParts) (ok : IsSelected h
   }
 
   -- a jump over homes
-  jumps : (p : Point) (a : Activation) (ws : List Activation) (l : Lives a.frame a.blocks a.result_to ws) (b : ℕ) (r slots : Places)
-      (g : Arrays) (out : List ℕ) (s : State) → Stand r g (stored_frame l.leaf a.frame slots a.aside l.link ∷ frames_of ws l.below) s
+  jumps : (p : Point) (a : Activation) (ws : List Activation) (l : Lives a.frame a.blocks a.result_to ws) (b : ℕ) {r slots : Places}
+      {g : Arrays} (out : List ℕ) {s : State} → Stand r g (stored_frame l.leaf a.frame slots a.aside l.link ∷ frames_of ws l.below) s
       → ((block : RBlock) → Stood l.leaf a.frame l.place l.head b block → LeadOn p (At (l.place b) (block_code l.leaf a.frame l.place block) s out))
       → Reach 1 p (state_at_block b a slots (around r ws g out))
-  jumps p a ws l b r slots g out s st f =
-      value_or_failed (λ run. Reach 1 p run) (slice_get a.blocks b) out (λ block. Running r (at_code a slots (code_of block) ∷ ws) g out) tt (λ block there.
+  jumps p a ws l b out {s} st f = value_or_failed (λ run. Reach 1 p run) (slice_get a.blocks b) out _ tt (λ block there.
       let at = l.placed.by b block there in
       let lead = f block at in
       record {
@@ -260,7 +249,7 @@ module _ (h : Homed) (depth : ℕ) (blocks : List BlockParts) (ok : IsSelected h
         count = lead.0;
         enough = lead.1;
         leads = lead.2;
-        match = starts_block r slots a ws g out l b block s at st;
+        match = starts_block a out l at st;
       })
 
   -- a function is entered, from a point that leads to its first block
@@ -274,47 +263,27 @@ module _ (h : Homed) (depth : ℕ) (blocks : List BlockParts) (ok : IsSelected h
   entered p f func frame is r arrays ws link result_to below vs s out enter st passing is_link here count deep waits =
       let room : stack_base + ok.most ≤ s.regs 29 = enough_room (s.regs 29) (length ws)
       (stack_room ok.most (word_at s) (s.regs 29) (frames_of ws below) st.stack) (as_deep link result_to ws below waits) in
-      let e = enters ok.most total gs starts ok.small r arrays (frames_of ws below) s is.leaf frame link is.frame is_link is.alone passing room st in
-      parameters ok.most total gs starts arrays (frames_of ws below) (λ run. Reach 1 p run) out tt vs 4 0
-      (registers_at_entry frame.saved.items r) (stored_frame is.leaf frame unset_places r link) e.to
+      let e = enters ok.small is.leaf is.frame st link is_link is.alone passing room in
+      parameters (λ run. Reach 1 p run) out tt e.stands (frame_homes ok.most frame is.frame) vs 4 0
       (λ r' s'. state_at_block 0 (new_activation func.blocks.items frame s' r result_to) s' (around r' ws arrays out))
-      (frame_homes ok.most frame is.frame) (omega arith) (omega (arith, count, is.parameters))
-      (subst (λ n. AreClear (locations frame) 4 0 n) (sym count) is.clear)
-      (λ j v at. (let low = slice_get_within vs j v at in e.same (4 + j) (omega (arith, low, count, is.parameters))) ∙ here j v at) e.stands
-      (λ r' s' s2 e2 st2. begins r' s' s2 (subst (λ n. RunsTo (prologue is.leaf frame n) s s2) count
-      (subst (λ is. RunsTo is s s2) (append_assoc (stack_step Save (frame_bytes is.leaf frame)) (frame_words Save (4 * frame.slots) frame.saved.items
-      ++ frame_link Save is.leaf frame) (parameters_code (locations frame) 4 0 (length vs))) (runs_then e.runs e2))) st2)
+      (omega arith) (omega (arith, count, is.parameters)) (rw count is.clear)
+      (λ j v at. (let low = slice_get_within vs j v at in e.same (4 + j) (omega (arith, low, count, is.parameters))) ∙ here j v at)
+      (λ r' slots' s2 e2 st2. jumps p (new_activation func.blocks.items frame slots' r result_to) ws lives 0 out st2 (λ block stood.
+      through stood.there (rw (count, append_assoc) at (runs_then e.runs e2)) enter is.first refl))
     where
-      callee : Places → Activation
-      callee slots = new_activation func.blocks.items frame slots r result_to
-
       lives : Lives frame func.blocks.items result_to ws
       lives = record {
         link = link;
         below = below;
         leaf = is.leaf;
-        place = is.place;
-        head = is.head;
-        placed = is.placed;
-        frame = is.frame;
+        homes = record { place = is.place; head = is.head; placed = is.placed; frame = is.frame };
         waits = waits;
       }
-
-      code : List Plain
-      code = prologue is.leaf frame func.parameters
-
-      begins : (r' slots' : Places) (s2 : State) → RunsTo code s s2
-          → Stand r' arrays (stored_frame is.leaf frame slots' r link ∷ frames_of ws below) s2
-          → Reach 1 p (state_at_block 0 (callee slots') slots' (around r' ws arrays out))
-      begins r' slots' s2 body st2 = jumps p (callee slots') ws lives 0 r' slots' arrays out s2 st2 (λ block stood.
-          through p (ok.entry f) (is.place 0) (own_block linking (placing_of is.leaf frame is.place) (is.head 0) stood.next block) code (is.head 0)
-          (block_code is.leaf frame is.place block) s s2 out stood.there refl body enter is.first)
 
       enough_room : (p n : ℕ) → stack_end ≤ p + length (frames_of ws below) * ok.most → length (frames_of ws below) ≡ length ws → stack_base + ok.most ≤ p
       enough_room p n low same =
           let one : suc (length ws) * ok.most ≡ ok.most + length ws * ok.most = omega arith in
-          let low' : stack_end ≤ p + length ws * ok.most = subst (λ n. stack_end ≤ p + n * ok.most) same low in
-          omega (arith, one, deep, low')
+          omega (arith, one, deep, rw same at low)
 
   -- so many frames fit the stack
   room_for : (n : ℕ) → n < depth → suc n * ok.most ≤ STACK_BYTES
@@ -328,26 +297,24 @@ module _ (h : Homed) (depth : ℕ) (blocks : List BlockParts) (ok : IsSelected h
   back there is at found next = departs there is (λ i. rw (at, found, next))
 
   -- a return, from a state in which the frame is gone
-  returns : (p : Point) (d k : ℕ) (form : BlockParts) (a : Activation) (ws : List Activation) (link : ℕ) (below : List ℕ) (o : Option ℕ) (r : Places)
-      (g : Arrays) (out : List ℕ) (s : State)
-      → slice_get blocks k ≡ Some form → form.exit ≡ E.Return → s.regs 31 ≡ link → ((v : ℕ) → o ≡ Some v → s.regs 2 ≡ v)
-      → Stand (registers_at_return a.frame.saved.items a.aside r) g (frames_of ws below) s → Waits link a.result_to ws below → Lead d p (At k [] s out)
-      → Reach 1 p (state_after_return o a r ws g out)
-  returns p d k form a [] link below o r g out s there is at result st found lead =
+  returns : {p : Point} {d k : ℕ} {form : BlockParts} {out : List ℕ} {s : State} → Lead d p (At k [] s out) → slice_get blocks k ≡ Some form
+      → form.exit ≡ E.Return → (a : Activation) (ws : List Activation) (below : List ℕ) (o : Option ℕ) (r : Places) {g : Arrays} {link : ℕ} → s.regs 31 ≡ link
+      → ((v : ℕ) → o ≡ Some v → s.regs 2 ≡ v) → Stand (registers_at_return a.frame.saved.items a.aside r) g (frames_of ws below) s
+      → Waits link a.result_to ws below → Reach 1 p (state_after_return o a r ws g out)
+  returns {p} {d} {out} {s} lead there is a [] below o r at result st found =
       value_or_failed (λ run. Reach 1 p run) o out (λ v. Ended v out) tt (λ v o_v.
       let s1 = set s 4 (s.regs 2) in
-      let l1 : Lead 1 (At k [] s out) (At 1 (move_code 4 2 ∷ []) s out) = back there is at found ok.end in
-      let value : s1.regs 4 ≡ v = put_here s.regs 4 (s.regs 2) (record { low = omega arith; high = omega arith }) ∙ result v o_v in
-      let l3 : Lead 1 (At 1 [] s1 out) (Stopped v out) = departs ok.end refl (λ n. ap (λ w. halted w out) value) in
+      let value : s1.regs 4 ≡ v = put_here s.regs 4 (s.regs 2) (omega arith) ∙ result v o_v in
+      let end : Lead 1 (At 1 [] s1 out) (Stopped v out) = departs ok.end refl (λ n. ap (λ w. halted w out) value) in
       record {
         to = Stopped v out;
         count = d + (1 + (1 + 1));
         enough = omega arith;
-        leads = leads_then lead (leads_then l1 (leads_then (code_leads 1 out (moves s 4 2 st.words)) l3));
+        leads = leads_then lead (leads_then (back there is at found ok.end) (leads_then (code_leads 1 out (moves s 4 2 st.words)) end));
         match = refl;
       })
-  returns p d k form a (w ∷ ws) link [] o r g out s there is at result st waits lead = absurd waits
-  returns p d k form a (w ∷ ws) link (l ∷ ls) o r g out s there is at result st waits lead = put a.result_to resumed
+  returns lead there is a (w ∷ ws) [] o r at result st waits = absurd waits
+  returns {p} {d} {k} {out} {s} lead there is a (w ∷ ws) (l ∷ ls) o r {g} {link} at result st waits = put a.result_to resumed
     where
       m : Resumes link a.result_to w
       m = waits.0
@@ -356,45 +323,29 @@ module _ (h : Homed) (depth : ℕ) (blocks : List BlockParts) (ok : IsSelected h
       again r' s' = Running r' (at_code w s' w.code ∷ ws) g out
 
       lives : Lives w.frame w.blocks w.result_to ws
-      lives = record {
-        link = l;
-        below = ls;
-        leaf = false;
-        place = m.place;
-        head = m.head;
-        placed = m.placed;
-        frame = m.frame;
-        waits = waits.1;
-      }
-
-      rest : List Plain
-      rest = block_code false w.frame m.place m.block
+      lives = record { link = l; below = ls; leaf = false; homes = m.homes; waits = waits.1 }
 
       -- the result is put into its home at the head of the block, or in a block of its own
       resumed : (r' slots' : Places) (s' : State) → RunsTo (result_code (locations w.frame) a.result_to) s s'
           → Stand r' g (stored_frame false w.frame slots' w.aside l ∷ frames_of ws ls) s' → Reach 1 p (again r' slots')
       resumed r' slots' s' e st' =
-          let to = At (m.place m.next) rest s' out in
-          let on = through (At k [] s out) m.number (m.place m.next) (own_block linking (placing_of false w.frame m.place) (m.head m.next) (m.at).next m.block)
-          (result_code (locations w.frame) a.result_to) (m.head m.next) rest s s' out (m.at).there refl e
-          (λ target found. back there is at m.found found) m.after in
+          let to = At (m.place m.next) (block_code false w.frame m.place m.block) s' out in
+          let on : LeadOn (At k [] s out) to = through (m.at).there e (λ target found. back there is at m.found found) m.after refl in
           record {
             to = to;
             count = d + on.0;
-            enough = (let some = on.1 in omega (arith, some));
+            enough = omega (arith, on.1);
             leads = leads_then lead on.2;
-            match = subst (λ code. Match r' (at_code w slots' code) ws g out to) (sym m.code)
-                (starts_block r' slots' w ws g out lives m.next m.block s' m.at st');
+            match = subst (λ code. Match r' (at_code w slots' code) ws g out to) (sym m.code) (starts_block w out lives m.at st');
           }
 
       put : (result_to : Option ℕ) → ((r' slots' : Places) (s' : State) → RunsTo (result_code (locations w.frame) result_to) s s'
           → Stand r' g (stored_frame false w.frame slots' w.aside l ∷ frames_of ws ls) s' → Reach 1 p (again r' slots'))
           → Reach 1 p (with_result result_to o (cells w.frame.homes.items (registers_at_return a.frame.saved.items a.aside r) w.slots) out again)
       put None f = f (registers_at_return a.frame.saved.items a.aside r) w.slots s (runs_none s) st
-      put (Some x) f =
-          value_or_failed (λ run. Reach 1 p run) o out (λ v. write_home (cells w.frame.homes.items (registers_at_return a.frame.saved.items a.aside r) w.slots) x v out again) tt (λ v o_v.
+      put (Some x) f = value_or_failed (λ run. Reach 1 p run) o out _ tt (λ v o_v.
           let two = result v o_v in
-          arrives st (λ run. Reach 1 p run) again x v 2 out (omega arith) two (subst (λ v. v < 2 ^ 32) two ((st.words).regs 2)) (frame_homes ok.most w.frame m.frame) tt
+          arrives st (λ run. Reach 1 p run) again x v 2 out (omega arith) two (rw (← two) ((st.words).regs 2)) (frame_homes ok.most w.frame m.frame) tt
           (λ r' slots' s' e st' _. f r' slots' s' e st'))
 
   -- behind a block only callee-saved registers are known, and none of them has a word to come
@@ -402,7 +353,7 @@ module _ (h : Homed) (depth : ℕ) (blocks : List BlockParts) (ok : IsSelected h
   settled lz st = fewer_stand st (λ q v is. grind (arith, lz.caller_saved q))
 
   -- an activation that has come to its exit
-  module _ (r : Places) (a : Activation) (ws : List Activation) (g : Arrays) (out : List ℕ) (p : Point) (m : Match r a ws g out p) where
+  module _ {r : Places} {a : Activation} {ws : List Activation} {g : Arrays} {out : List ℕ} {p : Point} (m : Match r a ws g out p) where
     abbrev s : State
     s = m.state
 
@@ -418,58 +369,64 @@ module _ (h : Homed) (depth : ℕ) (blocks : List BlockParts) (ok : IsSelected h
     abbrev fs : List Stored
     fs = frames_of ws m.below
 
+    abbrev homes : List Home
+    homes = a.frame.homes.items
+
+    -- the unit reaches what the run over homes does, from some code in the block
+    abbrev From : List Plain → Run → Type 0
+    From code run = Reach 1 (At k code s out) run
+
     -- what an exit reads
     abbrev operand : ℕ → Source
     operand x = last_operand (locations a.frame) m.facts m.last.fresh x
 
     abbrev Reads : (x v : ℕ) → Type 0
-    Reads x v = read_home a.frame.homes.items r a.slots x ≡ Some v
+    Reads x v = read_home homes r a.slots x ≡ Some v
 
     abbrev Leaving : RExit → Type 0
     Leaving x = CodeAt placing m.head m.facts m.last k x
+
+    -- an exit that reads a pseudo-register
+    reading : (x : ℕ) (code : List Plain) (go : ℕ → Run) → ((v : ℕ) → Reads x v → From code (go v)) → From code (with_value (read_home homes r a.slots x) out go)
+    reading x code go f = value_or_failed (From code) (read_home homes r a.slots x) out go tt f
+
+    settles : Stand (callee_saved r) g (stored ∷ fs) s
+    settles = settled m.are_deferred m.stands
 
     -- what an exit reads is what the home holds
     means : (x v : ℕ) → Reads x v → Denotes stored.count s (operand x) v
     means x v e = last_means m.stands m.are_deferred x v (frame_homes ok.most a.frame m.frame) m.is_known m.is_last.fresh e
 
     -- on to a block without a head, behind some code
-    goes_on : (code : List Plain) (b : ℕ) (out' : List ℕ) (s1 s2 : State) → RunsTo code s s1 → Stand (callee_saved r) g (stored ∷ fs) s2 → m.head b ≡ []
+    goes_on : {code : List Plain} (b : ℕ) (out' : List ℕ) {s1 s2 : State} → RunsTo code s s1 → Stand (callee_saved r) g (stored ∷ fs) s2 → m.head b ≡ []
         → ((target : BlockParts) → slice_get blocks (m.place b) ≡ Some target → Lead 1 (At k [] s1 out) (At (m.place b) target.insts s2 out'))
-        → Reach 1 (At k code s out) (state_at_block b a a.slots (around (callee_saved r) ws g out'))
-    goes_on code b out' s1 s2 runs st none leave =
-        jumps (At k code s out) a ws m.lives b (callee_saved r) a.slots g out' s2 st (λ block stood.
-        (length code + 1, omega arith, leads_then (code_leads k out runs) (no_head none (leave (own_block linking placing (m.head b) stood.next block) stood.there))))
+        → From code (state_at_block b a a.slots (around (callee_saved r) ws g out'))
+    goes_on {code} b out' runs st none leave = jumps (At k code s out) a ws m.lives b out' st (λ block stood.
+        (length code + 1, omega arith, leads_then (code_leads k out runs) (no_head none (leave _ stood.there))))
 
     -- back to the activation below, behind some code
-    goes_back : (x : Option ℕ) → Leaving (Return x) → (code : List Plain) (o : Option ℕ) (s1 : State) → RunsTo code s s1
+    goes_back : (x : Option ℕ) → Leaving (Return x) → {code : List Plain} (o : Option ℕ) {s1 : State} → RunsTo code s s1
         → Stand (callee_saved r) g (stored ∷ fs) s1 → ((v : ℕ) → o ≡ Some v → s1.regs 2 ≡ v)
-        → Reach 1 (At k (code ++ epilogue m.leaf a.frame) s out) (state_after_return o a (callee_saved r) ws g out)
-    goes_back x c code o s1 runs st result =
-        let e = leaves_frame ok.most total gs starts ok.small (callee_saved r) g fs s1 m.leaf a.frame a.slots a.aside m.link m.frame
-        (linked_frames ws m.below) st in
-        let all = code ++ epilogue m.leaf a.frame in
-        returns (At k all s out) (length all) k c.form a ws m.link m.below o (callee_saved r) g out e.to c.there c.exit e.link_is
-        (λ v is. e.same 2 (omega arith) ∙ result v is) e.stands m.waits (code_leads k out (runs_then runs e.runs))
+        → From (code ++ epilogue m.leaf a.frame) (state_after_return o a (callee_saved r) ws g out)
+    goes_back x c o runs st result =
+        let e = leaves_frame ok.small m.leaf m.frame st (linked_frames ws m.below) in
+        returns (code_leads k out (runs_then runs e.runs)) c.there c.exit a ws m.below o (callee_saved r) e.link_is
+        (λ v is. e.same 2 (omega arith) ∙ result v is) e.stands m.waits
 
     branches : (x y z : ℕ) (c : Leaving (Branch x y z)) (v : ℕ) → Reads x v → (t : Option Comparison) → tested m.last.comparison x ≡ t
         → (known : Option ℕ) → known_in m.facts x ≡ known → c.form.exit ≡ branch_exit t known (operand x) (m.place y) (m.place z)
-        → Reach 1 (At k (branch_code t known (operand x)) s out) (state_at_block (if nat_eq v 0 then z else y) a a.slots (around (callee_saved r) ws g out))
+        → From (branch_code t known (operand x)) (state_at_block (if nat_eq v 0 then z else y) a a.slots (around (callee_saved r) ws g out))
     branches x y z c v e None is_test (Some w) is_known is_exit =
-        let b = if nat_eq v 0 then z else y in
         let same : w ≡ v = same_Some w v (sym (m.is_known.by x w is_known) ∙ e) in
-        let goes : c.form.exit ≡ E.Goto (m.place b) = cc (either_place m.place z y (nat_eq v 0)) in
-        goes_on [] b out s s (runs_none s) (settled m.are_deferred m.stands) (either m.head z y (nat_eq v 0) c.leads_on)
-        (λ target there. jump c.there goes there)
+        let goes : c.form.exit ≡ E.Goto (m.place (if nat_eq v 0 then z else y)) = cc (either_place m.place z y (nat_eq v 0)) in
+        goes_on _ out (runs_none s) settles (either m.head z y (nat_eq v 0) c.leads_on) (λ target there. jump c.there goes there)
     branches x y z c v e None is_test None is_known is_exit =
         let one = fetches m.stands 1 v (operand x) (omega arith) (omega arith) (means x v e) in
-        let s1 : State = record s { regs = one.regs } in
-        let b = if nat_eq v 0 then z else y in
-        goes_on (fetch 1 (operand x)) b out s1 s1 one.runs (settled m.are_deferred one.stands) (either m.head z y (nat_eq v 0) c.leads_on) (λ target there.
+        goes_on _ out one.runs (settled m.are_deferred one.stands) (either m.head z y (nat_eq v 0) c.leads_on) (λ target there.
         departs c.there is_exit (λ n. rw (one.here, branch_words m.place z y v (nat_eq v 0), there)))
     branches x y z c v e (Some n) is_test known is_known is_exit =
-        let b = if nat_eq v 0 then z else y in
         let taken : passes n.form n.left.source n.right.source s ≡ not (nat_eq v 0) = found m.last.comparison refl is_test in
-        goes_on [] b out s s (runs_none s) (settled m.are_deferred m.stands) (either m.head z y (nat_eq v 0) c.leads_on) (λ target there.
+        goes_on _ out (runs_none s) settles (either m.head z y (nat_eq v 0) c.leads_on) (λ target there.
         departs c.there is_exit (λ i.
         goes_by blocks links n.form n.left.source n.right.source (m.place y) (m.place z) k s out i
         ∙ rw (taken, branch_words m.place z y v (nat_eq v 0), there)))
@@ -478,74 +435,58 @@ module _ (h : Homed) (depth : ℕ) (blocks : List BlockParts) (ok : IsSelected h
         found : (p : Option Comparison) → m.last.comparison ≡ p → tested p x ≡ Some n → passes n.form n.left.source n.right.source s ≡ not (nat_eq v 0)
         found None is t = absurd (none-some n t)
         found (Some q) is t = let there = if_some (nat_eq q.result x) (Some q) n t in
-            subst (λ (n : Comparison). passes n.form n.left.source n.right.source s ≡ not (nat_eq v 0)) (same_Some q n there.1)
-            (m.is_last.comparison q v is (ap (read_home a.frame.homes.items r a.slots) (eqb-true q.result x there.0) ∙ e))
+            rw (← same_Some q n there.1) (m.is_last.comparison q v is (ap (read_home homes r a.slots) (eqb-true q.result x there.0) ∙ e))
 
     outputs : (x next : ℕ) (c : Leaving (Out x next)) (v : ℕ) → Reads x v
-        → Reach 1 (At k (carry 4 (operand x)) s out) (state_at_block next a a.slots (around (callee_saved r) ws g (out ++ v ∷ [])))
+        → From (carry 4 (operand x)) (state_at_block next a a.slots (around (callee_saved r) ws g (out ++ v ∷ [])))
     outputs x next c v e =
-        let st0 = settled m.are_deferred m.stands in
-        let one = carries st0 4 v (operand x) (record { low = omega arith; high = omega arith }) (means x v e) in
-        let st1 = caller_saved_kept st0 (above_arguments r) (omega arith) one in
+        let one = carries settles 4 v (operand x) (omega arith) (means x v e) in
+        let st1 = caller_saved_kept settles (above_arguments r) (omega arith) one in
         let s1 : State = record s { regs = one.regs } in
-        let s2 = set s1 2 1 in
         let st2 = words_kept st1 (set_words s1 2 1 st1.words (omega arith)) (λ q low _. put_other s1.regs 2 1 q (omega (arith, low))) in
-        goes_on (carry 4 (operand x)) next (out ++ v ∷ []) s1 s2 one.runs st2 c.leads_on (λ target there.
-        departs c.there c.exit (λ n. rw (one.here, there)))
+        goes_on next (out ++ v ∷ []) one.runs st2 c.leads_on (λ target there. departs c.there c.exit (λ n. rw (one.here, there)))
 
     gives : (x : ℕ) → Leaving (Return (Some x)) → (v : ℕ) → Reads x v → (b : Bool) → returned m.last.comparison x ≡ b
-        → Reach 1 (At k (return_code b (operand x) ++ epilogue m.leaf a.frame) s out) (state_after_return (Some v) a (callee_saved r) ws g out)
+        → From (return_code b (operand x) ++ epilogue m.leaf a.frame) (state_after_return (Some v) a (callee_saved r) ws g out)
     gives x c v e true is =
-        goes_back (Some x) c [] (Some v) s (runs_none s) (settled m.are_deferred m.stands) (λ w some. there_already m.last.comparison refl is ∙ same_Some v w some)
+        goes_back (Some x) c (Some v) (runs_none s) settles (λ w some. there_already m.last.comparison refl is ∙ same_Some v w some)
       where
         there_already : (p : Option Comparison) → m.last.comparison ≡ p → returned p x ≡ true → s.regs 2 ≡ v
         there_already None is t = absurd (true≢false (sym t))
         there_already (Some n) is t =
-            m.is_last.result n v is (and_parts (is_result n.form) (nat_eq n.result x) t).0
-            (ap (read_home a.frame.homes.items r a.slots) (eqb-true n.result x (and_parts (is_result n.form) (nat_eq n.result x) t).1) ∙ e)
+            let both = and_parts (is_result n.form) (nat_eq n.result x) t in
+            m.is_last.result n v is both.0 (ap (read_home homes r a.slots) (eqb-true n.result x both.1) ∙ e)
     gives x c v e false is =
-        let one = carries m.stands 2 v (operand x) (record { low = omega arith; high = omega arith }) (means x v e) in
-        let s1 : State = record s { regs = one.regs } in
-        goes_back (Some x) c (carry 2 (operand x)) (Some v) s1 one.runs (settled m.are_deferred (sets_kept m.stands (omega arith) one)) (λ w some. one.here ∙ same_Some v w some)
+        let one = carries m.stands 2 v (operand x) (omega arith) (means x v e) in
+        goes_back (Some x) c (Some v) one.runs (settled m.are_deferred (sets_kept m.stands (omega arith) one)) (λ w some. one.here ∙ same_Some v w some)
 
-    exits : (x : RExit) → Leaving x → Reach 1 (At k (exit_code m.leaf a.frame m.facts m.last x) s out) (state_after_exit h depth x a (around r ws g out))
-    exits (Goto b) c = goes_on [] b out s s (runs_none s) (settled m.are_deferred m.stands) c.leads_on
-        (λ target there. jump c.there c.exit there)
-    exits (Branch x y z) c =
-        value_or_failed (λ run. Reach 1 (At k (exit_code m.leaf a.frame m.facts m.last (Branch x y z)) s out) run)
-        (read_home a.frame.homes.items r a.slots x) out _ tt
-        (λ v e. branches x y z c v e (tested m.last.comparison x) refl (known_in m.facts x) refl c.exit)
-    exits (Out x next) c =
-        value_or_failed (λ run. Reach 1 (At k (carry 4 (operand x)) s out) run) (read_home a.frame.homes.items r a.slots x) out _ tt (outputs x next c)
-    exits (Return None) c = goes_back None c [] None s (runs_none s) (settled m.are_deferred m.stands) (λ v none. absurd (none-some v none))
-    exits (Return (Some x)) c =
-        value_or_failed (λ run. Reach 1 (At k (exit_code m.leaf a.frame m.facts m.last (Return (Some x))) s out) run)
-        (read_home a.frame.homes.items r a.slots x) out _ tt (λ v e. gives x c v e (returned m.last.comparison x) refl)
+    exits : (x : RExit) → Leaving x → From (exit_code m.leaf a.frame m.facts m.last x) (state_after_exit h depth x a (around r ws g out))
+    exits (Goto b) c = goes_on b out (runs_none s) settles c.leads_on (λ target there. jump c.there c.exit there)
+    exits (Branch x y z) c = reading x _ _ (λ v e. branches x y z c v e (tested m.last.comparison x) refl (known_in m.facts x) refl c.exit)
+    exits (Out x next) c = reading x _ _ (outputs x next c)
+    exits (Return None) c = goes_back None c None (runs_none s) settles (λ v none. absurd (none-some v none))
+    exits (Return (Some x)) c = reading x _ _ (λ v e. gives x c v e (returned m.last.comparison x) refl)
     exits (Call f xs result_to next) c =
-        value_or_failed (λ run. Reach 1 start run) (read_homes a.frame.homes.items r a.slots xs.items) out _ tt (λ vs read_vs.
-        value_or_failed (λ run. Reach 1 start run) (slice_get a.blocks next) out _ tt (λ block next_there.
-        value_or_failed (λ run. Reach 1 start run) (slice_get (h.rtl.now).functions f) out _ tt (λ func func_there.
-        value_or_failed (λ run. Reach 1 start run) (slice_get h.frames.items f) out _ tt (λ callee frame_there.
+        value_or_failed (From start) (read_homes homes r a.slots xs.items) out _ tt (λ vs read_vs.
+        value_or_failed (From start) (slice_get a.blocks next) out _ tt (λ block next_there.
+        value_or_failed (From start) (slice_get (h.rtl.now).functions f) out _ tt (λ func func_there.
+        value_or_failed (From start) (slice_get h.frames.items f) out _ tt (λ callee frame_there.
         deep_enough (nat_lt (length (waiting block ∷ ws)) depth) (length vs == func.parameters) _ (λ deep as_many.
         let is = ok.functions f func callee func_there frame_there in
         let few = is.parameters in
-        let asked = read_length a.frame.homes.items r a.slots xs.items vs read_vs in
+        let asked = read_length homes r a.slots xs.items vs read_vs in
         let count : length vs ≡ func.parameters = eqb-true (length vs) func.parameters as_many in
-        let st = subst (λ leaf. Stand (hide m.facts.deferred r) g (stored_frame leaf a.frame a.slots a.aside m.link ∷ fs) s) no_leaf m.stands in
-        let denote = all_denote ok.most total gs starts r g kept fs s m.facts xs.items vs (frame_homes ok.most a.frame m.frame) m.is_known m.are_deferred
-        st read_vs in
-        let args = arguments ok.most total gs starts (callee_saved r) g kept fs s m.facts 4 xs.items vs (above_arguments r)
-        (omega arith) (omega (arith, asked, count, few)) ((c.leads_on).0).1 denote (settled m.are_deferred st) in
+        let st = rw no_leaf at m.stands in
+        let denote = all_denote m.facts st (frame_homes ok.most a.frame m.frame) m.is_known m.are_deferred xs.items vs read_vs in
+        let args = arguments m.facts (above_arguments r) 4 xs.items vs (settled m.are_deferred st) (omega arith) (omega (arith, asked, count, few))
+        ((c.leads_on).0).1 denote in
         let s1 : State = record s { regs = args.regs } in
         let s2 = set s1 31 (links k) in
         let st2 = call_kept args.stands (set_words s1 31 (links k) (args.stands).words (tells.words k)) (λ leaf. absurd (true≢false (sym leaf)))
         (λ q low high. put_other s1.regs 31 (links k) q (omega (arith, high))) in
-        let placed = subst (λ leaf. Placed leaf a.frame m.place m.head a.blocks) no_leaf m.placed in
+        let placed = rw no_leaf at m.placed in
         let resumes : Resumes (links k) result_to (waiting block) = record {
-          place = m.place;
-          head = m.head;
-          placed = placed;
-          frame = m.frame;
+          homes = record { place = m.place; head = m.head; placed = placed; frame = m.frame };
           number = c.next;
           found = return_found links blocks k (ok.entry f) c.next c.form tells c.there c.exit;
           next = next;
@@ -557,27 +498,23 @@ module _ (h : Homed) (depth : ℕ) (blocks : List BlockParts) (ok : IsSelected h
         reach_after 1 1 _ (omega arith) (code_leads k out args.runs)
         (entered (At k [] s1 out) f func callee is (callee_saved r) g (waiting block ∷ ws) (links k) result_to (m.link ∷ m.below) vs s2 out
         (λ form there. departs c.there c.exit (λ n. rw there))
-        st2 (λ q passes. ap (λ b. if b then r q else None) passes) (put_here s1.regs 31 (links k) (record { low = omega arith; high = omega arith }))
+        st2 (λ q passes. ap (λ b. if b then r q else None) passes) (put_here s1.regs 31 (links k) (omega arith))
         (λ j v there. (let low = slice_get_within vs j v there in put_other s1.regs 31 (links k) (4 + j) (omega (arith, low, count, few)))
         ∙ args.here j v there)
         count (room_for (suc (length ws)) (ltb-true (length (waiting block ∷ ws)) depth deep)) (resumes, m.waits)))))))
       where
-        start : Point
-        start = At k (exit_code m.leaf a.frame m.facts m.last (Call f xs result_to next)) s out
+        start : List Plain
+        start = exit_code m.leaf a.frame m.facts m.last (Call f xs result_to next)
 
         no_leaf : m.leaf ≡ false
         no_leaf = ((c.leads_on).0).0
 
-        kept : Stored
-        kept = stored_frame false a.frame a.slots a.aside m.link
-
         waiting : RBlock → Activation
         waiting block = at_code a a.slots (code_of block)
 
-        deep_enough : (b c : Bool) (run : Run) → (b ≡ true → c ≡ true → Reach 1 start run) → Reach 1 start (if b && c then run else Failed out)
+        deep_enough : (b c : Bool) (run : Run) → (b ≡ true → c ≡ true → From start run) → From start (if b && c then run else Failed out)
         deep_enough true true run f = f refl refl
-        deep_enough true false run f = tt
-        deep_enough false c run f = tt
+        deep_enough _ _ run f = tt
 
     -- the code where some instructions are left, and the match there
     abbrev left : List RInst → Code
@@ -586,12 +523,12 @@ module _ (h : Homed) (depth : ℕ) (blocks : List BlockParts) (ok : IsSelected h
     abbrev behind : List RInst → Facts → Last → List Plain
     behind is facts last = code_insts linking placing facts last (left is)
 
-    matched : (is : List RInst) (facts : Facts) (last : Last) (r' slots' : Places) (g' : Arrays) (s' : State)
+    matched : (is : List RInst) (facts : Facts) (last : Last) {r' slots' : Places} {g' : Arrays} {s' : State}
         → CodeBefore placing m.head facts last k (left is)
-        → IsKnown (known_in facts) a.frame.homes.items r' slots' → AreDeferred facts.deferred r' → AreBases gs starts facts s'.regs
-        → IsLast last a.frame.homes.items r' slots' s' → Stand (hide facts.deferred r') g' (stored_frame m.leaf a.frame slots' a.aside m.link ∷ fs) s'
+        → IsKnown (known_in facts) homes r' slots' → AreDeferred facts.deferred r' → AreBases gs starts facts s'.regs
+        → IsLast last homes r' slots' s' → Stand (hide facts.deferred r') g' (stored_frame m.leaf a.frame slots' a.aside m.link ∷ fs) s'
         → Match r' (at_code a slots' (left is)) ws g' out (At k (behind is facts last) s' out)
-    matched is facts last r' slots' g' s' code known deferred bases fresh stands = record {
+    matched is facts last {s' = s'} code known deferred bases fresh stands = record {
       state = s';
       number = k;
       lives = m.lives;
@@ -610,28 +547,28 @@ module _ (h : Homed) (depth : ℕ) (blocks : List BlockParts) (ok : IsSelected h
     next : (i : RInst) (is : List RInst) (o : Option Comparison)
         → comparison_of (locations a.frame) m.facts (asked_last (asked_of a.code.exit) is) i ≡ o
         → CodeBefore placing m.head (learned (locations a.frame) i m.facts) (last_with o (fresh_of (locations a.frame) i)) k (left is)
-        → Reach 1 (At k (next_code (context_in linking placing) m.facts o i
-        ++ behind is (learned (locations a.frame) i m.facts) (last_with o (fresh_of (locations a.frame) i))) s out)
+        → From (next_code (context_in linking placing) m.facts o i
+        ++ behind is (learned (locations a.frame) i m.facts) (last_with o (fresh_of (locations a.frame) i)))
         (step_at h depth (i ∷ is) a.code.exit a (around r ws g out))
     next i is None e0 c =
         let code = inst_code gs starts (locations a.frame) m.facts i in
         let now = learned (locations a.frame) i m.facts in
         let last = last_with None (fresh_of (locations a.frame) i) in
-        performs g fs (λ run. Reach 1 (At k (code ++ behind is now last) s out) run) out tt i m.facts r stored s
+        performs g fs (From (code ++ behind is now last)) out tt i m.facts r stored s
         (λ r' s' g'. Running r' (at_code a s' (left is) ∷ ws) g' out) (frame_homes ok.most a.frame m.frame) m.is_known m.are_deferred m.are_bases m.stands
         (λ r' slots' g' s' some e st lz kp kn new. record {
           to = At k (behind is now last) s' out;
           count = length code;
           enough = some;
           leads = leads_run k (behind is now last) out e;
-          match = matched is now last r' slots' g' s' c kn lz kp new st;
+          match = matched is now last c kn lz kp new st;
         })
     next i (j ∷ js) (Some n) is c = absurd (none_asked (locations a.frame) m.facts i n is)
     next i [] (Some n) is c =
         let code = comparison_code n in
         let now = learned (locations a.frame) i m.facts in
         let rest = exit_code m.leaf a.frame now (last_with (Some n) None) a.code.exit in
-        compares ok.most total gs starts g fs (λ run. Reach 1 (At k (code ++ rest) s out) run) out tt i m.facts (asked_of a.code.exit) n r stored s
+        compares ok.most total gs starts g fs (From (code ++ rest)) out tt i m.facts (asked_of a.code.exit) n r stored s
         (λ r' s' g'. Running r' (at_code a s' (left []) ∷ ws) g' out) is (frame_homes ok.most a.frame m.frame) m.is_known m.are_deferred m.stands
         (λ q u s' some e st lz new. record {
           to = At k (exit_code m.leaf a.frame (waiting m.facts q u) (last_with (Some n) None) a.code.exit) s' out;
@@ -639,7 +576,7 @@ module _ (h : Homed) (depth : ℕ) (blocks : List BlockParts) (ok : IsSelected h
           enough = some;
           leads = subst (λ l. Lead (length code) (At k (code ++ rest) s out) (At k l s' out))
               (same_code m.leaf a.frame m.facts now (waiting m.facts q u) i n a.code.exit is) (leads_run k rest out e);
-          match = matched [] (waiting m.facts q u) (last_with (Some n) None) (places_with r q (Some u)) a.slots g s'
+          match = matched [] (waiting m.facts q u) (last_with (Some n) None)
               (record {
                 form = c.form;
                 next = c.next;
@@ -647,11 +584,11 @@ module _ (h : Homed) (depth : ℕ) (blocks : List BlockParts) (ok : IsSelected h
                 exit = c.exit ∙ same_exit linking placing m.facts now (waiting m.facts q u) i n c.next a.code.exit is;
                 leads_on = c.leads_on;
               })
-              (nothing_known a.frame.homes.items (places_with r q (Some u)) a.slots) lz (no_bases gs starts s'.regs) new st;
+              (nothing_known homes (places_with r q (Some u)) a.slots) lz (no_bases gs starts s'.regs) new st;
         })
 
     step : (is : List RInst) → CodeBefore placing m.head m.facts m.last k (left is)
-        → Reach 1 (At k (behind is m.facts m.last) s out) (step_at h depth is a.code.exit a (around r ws g out))
+        → From (behind is m.facts m.last) (step_at h depth is a.code.exit a (around r ws g out))
     step [] c = exits a.code.exit c
     step (i ∷ is) c = next i is (comparison_of (locations a.frame) m.facts (asked_last (asked_of a.code.exit) is) i) refl c
 
@@ -666,8 +603,7 @@ module _ (h : Homed) (depth : ℕ) (blocks : List BlockParts) (ok : IsSelected h
     match = refl;
   }
   advances (Running r [] g out) p m = absurd m
-  advances (Running r (a ∷ ws) g out) p m =
-      subst (λ p. Reach 1 p (step_at h depth a.code.insts a.code.exit a (around r ws g out))) (sym m.point) (step r a ws g out p m a.code.insts m.code)
+  advances (Running r (a ∷ ws) g out) p m = rw m.point (step m a.code.insts m.code)
 
   failed_steps : (n : ℕ) (out : List ℕ) → homed_steps h depth n (Failed out) ≡ Failed out
   failed_steps zero out = refl
@@ -681,7 +617,7 @@ module _ (h : Homed) (depth : ℕ) (blocks : List BlockParts) (ok : IsSelected h
   -- one step, and then more
   after_one : (n : ℕ) (p : Point) (run : Run) → Reach 1 p run → ((run : Run) (q : Point) → MatchRun run q → Reach n q (homed_steps h depth n run))
       → Reach (suc n) p (homed_steps h depth n run)
-  after_one n p (Failed out) a f = subst (λ run. Reach (suc n) p run) (sym (failed_steps n out)) tt
+  after_one n p (Failed out) a f = rw (failed_steps n out) tt
   after_one n p run a f = reach_after (suc n) n _ (omega (arith, a.enough)) a.leads (f run a.to a.match)
 
   -- as many items as steps, at least

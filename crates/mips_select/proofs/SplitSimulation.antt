@@ -1,21 +1,173 @@
 -- The pieces of a unit do what the unit does.
-use Rattle.std.proofs.Common.{◌≡◌, ℕ, zero, suc, ◌+◌, ◌<◌, ◌≤◌, Bool, true, false, List, [], ◌∷◌, ◌++◌, length, Option, Some, None, refl}
-use Rattle.std.proofs.Common.{sym, ap, subst, arith}
-use Rattle.std.specs.Prelude.{if◌then◌else◌, slice_get, option_map}
+use Rattle.std.proofs.Common.{◌≡◌, ℕ, zero, suc, ◌+◌, ◌<◌, ◌≤◌, ◌==◌, Bool, true, false, List, [], ◌∷◌, ◌++◌, length, Option, Some, None, refl}
+use Rattle.std.proofs.Common.{sym, ap, ◌∙◌, subst, arith, take, drop}
+use Rattle.std.specs.Prelude.{if◌then◌else◌, slice_get, slice_index, option_map}
+use Rattle.std.proofs.lemmas.List.{append-nil, take-append-drop}
+use Rattle.std.proofs.lemmas.Option.{same_Some, none-some}
+use Rattle.runs.specs.Runs.{Outcome}
 use Rattle.mips_isa.specs.declared.inst.Plain.{Plain}
 use Rattle.mips_isa.specs.States.{State, read}
-use Rattle.mips_isa.specs.Actions.{action_of, state_after}
+use Rattle.mips_isa.specs.Actions.{action_of, is_safe, state_after}
+use Rattle.mips_isa.specs.Controls.{pair_passes, zero_passes}
 use Rattle.mblock.specs.declared.exit.Exit.{Exit}
 use Rattle.mblock.specs.declared.exit.Exit.TheVariants.{Goto, BranchPair, BranchZero, Call, Return, Out, Halt}
 use Rattle.mblock.specs.Parts.{BlockParts}
-use Rattle.mips_isa.specs.Controls.{pair_passes, zero_passes}
 use Rattle.mblock.specs.BlockMeaning.{exit_effect}
-use Rattle.mblock.specs.UnitRuns.{return_block_of, outcome_at_block, outcome_at_return, exit_item, items, unit_run}
+use Rattle.mblock.specs.UnitRuns.{wrong, call_return_of, return_block_of, outcome_at_block, outcome_at_return, exit_item, items, unit_run}
 use Rattle.mblock.specs.Units.{GoesBelow, AreLinked}
-use Rattle.mips_select.specs.Split.{renumbered_exit, more_pieces, piece, first_piece_of, last_of, split_at_most}
-use Rattle.mips_select.proofs.Places.{has_whole, has_pieces, last_piece, block_there}
-use Rattle.mips_select.proofs.Runs.{Reached, Inside, enters, steps, leaves_last}
-use Rattle.mips_select.proofs.SplitReturns.{return_renumbered, return_below}
+use Rattle.mips_select.specs.Split.{renumbered_exit, more_pieces, piece, pieces, count_of, lasts, split_from, first_piece_of, last_of, split_at_most}
+use Rattle.mips_select.proofs.Places.{HasAt, has_head, has_tail, has_whole, has_pieces, last_piece, block_there}
+
+-- ---- where a call of the pieces goes on
+
+module _ (most : ℕ) (place links : ℕ → ℕ) (word : ℕ) where
+  -- of a block's pieces the last one alone can be a call
+  pieces_return : (exit : Exit) (more k : ℕ) (insts : List Plain) (rest : List BlockParts)
+      → return_block_of links word k (pieces most exit more k insts ++ rest) ≡ call_return_of exit (links (k + more) == word)
+      (return_block_of links word (k + suc more) rest)
+  pieces_return exit zero k insts rest =
+      let here : k ≡ k + 0 = omega arith in
+      let next : suc k ≡ k + 1 = omega arith in
+      cc
+  pieces_return exit (suc more) k insts rest =
+      let here : suc k + more ≡ k + suc more = omega arith in
+      let next : suc k + suc more ≡ k + suc (suc more) = omega arith in
+      cc (pieces_return exit more (suc k) (drop most insts) rest)
+
+  call_renumbered : (exit : Exit) (found : Bool) (rest : Option ℕ)
+      → call_return_of (renumbered_exit place exit) found (option_map place rest) ≡ option_map place (call_return_of exit found rest)
+  call_renumbered (Call f n) true rest = refl
+  call_renumbered (Call f n) false rest = refl
+  call_renumbered _ found rest = refl
+
+  -- a return finds the first piece of the block that it finds in the long unit
+  pub return_renumbered : (long : ℕ → ℕ) (k n : ℕ) (bs : List BlockParts) → ((j : ℕ) → long (n + j) ≡ links (slice_index (lasts most k bs) j))
+      → return_block_of links word k (split_from most place k bs) ≡ option_map place (return_block_of long word n bs)
+  return_renumbered long k n [] same = refl
+  return_renumbered long k n (b ∷ bs) same =
+      let here : n ≡ n + 0 = omega arith in
+      let next : k + count_of most b ≡ k + suc (more_pieces most b) = omega arith in
+      let behind = return_renumbered long (k + count_of most b) (suc n) bs (λ j. (let next : suc n + j ≡ n + suc j = omega arith in ap long next) ∙ same (suc j)) in
+      cc (
+        pieces_return (renumbered_exit place b.exit) (more_pieces most b) k b.insts (split_from most place (k + count_of most b) bs),
+        same 0,
+        call_renumbered b.exit (long n == word) (return_block_of long word (suc n) bs),
+      )
+
+-- where a call goes on is below what bounds all targets
+pub return_below : (links : ℕ → ℕ) (word bound k : ℕ) (bs : List BlockParts)
+    → ((i : ℕ) (b : BlockParts) → slice_get bs i ≡ Some b → GoesBelow bound b.exit) → (t : ℕ) → return_block_of links word k bs ≡ Some t → t < bound
+return_below links word bound k [] below t e = absurd (none-some t e)
+return_below links word bound k (b ∷ bs) below t e =
+    by_exit b.exit (links k == word) (below 0 b refl) (λ e. return_below links word bound (suc k) bs (λ i b there. below (suc i) b there) t e) e
+  where
+    by_exit : (exit : Exit) (found : Bool) → GoesBelow bound exit → (return_block_of links word (suc k) bs ≡ Some t → t < bound)
+        → call_return_of exit found (return_block_of links word (suc k) bs) ≡ Some t → t < bound
+    by_exit (Call g n) true low f e = subst (λ t. t < bound) (same_Some n t e) low.1
+    by_exit (Call g n) false low f e = f e
+    by_exit _ found low f e = f e
+
+-- ---- each item of a long unit is one or more items of its pieces
+module _ (whole : List BlockParts) (links : ℕ → ℕ) where
+  -- after i items or more, a run from there ends so
+  pub record Reached (i k : ℕ) (part : List Plain) (s : State) (out : List ℕ) (end : Outcome) : Type 0 where
+    pub count : ℕ
+    pub enough : i ≤ count
+    pub ends : items whole links count k part s out ≡ end
+
+  -- an exit that enters a block
+  entered : (i k : ℕ) (p q : BlockParts) (t : ℕ) (s : State) (out : List ℕ) (end : Outcome) → slice_get whole k ≡ Some p → p.exit ≡ Goto t
+      → slice_get whole t ≡ Some q → Reached i t q.insts s out end → Reached i k [] s out end
+  entered i k p q t s out end there is at r = record {
+    count = suc r.count;
+    enough = (let enough = r.enough in omega (arith, enough));
+    ends = rw (there, is, at) r.ends;
+  }
+
+  -- one instruction
+  one_step : (k : ℕ) (x a : Plain) (part : List Plain) (i : ℕ) (s : State) (out : List ℕ) (end : Outcome) → x ≡ a
+      → Reached i k part (state_after (action_of a) s) out end → Reached (suc i) k (x ∷ part) s out (if is_safe (action_of a) s then end else wrong out)
+  one_step k x a part i s out end e r = record {
+    count = suc r.count;
+    enough = (let enough = r.enough in omega (arith, enough));
+    ends = cc (r.ends);
+  }
+
+  module _ (most : ℕ) (exit : Exit) (last : ℕ) where
+    -- a piece is left for the next one, and the last one as the block is
+    abbrev Leaves : (more k : ℕ) → (behind : List Plain) → Exit → Type 0
+    Leaves zero k behind e = (behind ≡ []) × (e ≡ exit)
+    Leaves (suc more) k behind e = (e ≡ Goto (suc k)) × HasAt whole (suc k) (pieces most exit more (suc k) behind)
+
+    -- a piece behind which so many more come: what is left of it and what is behind it are what is left of the block
+    record Inside (more k : ℕ) (part rest : List Plain) : Type 0 where
+      behind : List Plain
+      same : rest ≡ part ++ behind
+      is_last : k + more ≡ last
+      block : BlockParts
+      there : slice_get whole k ≡ Some block
+      leaves : Leaves more k behind block.exit
+
+    record Entry (more k : ℕ) (insts : List Plain) : Type 0 where
+      block : BlockParts
+      there : slice_get whole k ≡ Some block
+      inside : Inside more k block.insts insts
+
+    -- the first of several pieces
+    enters : (more k : ℕ) (insts : List Plain) → HasAt whole k (pieces most exit more k insts) → k + more ≡ last → Entry more k insts
+    enters zero k insts has is =
+        let first = piece insts exit in
+        let at = has_head has in record {
+          block = first;
+          there = at;
+          inside = record { behind = []; same = sym (append-nil insts); is_last = is; block = first; there = at; leaves = (refl, refl) };
+        }
+    enters (suc more) k insts has is =
+        let first = piece (take most insts) (Goto (suc k)) in
+        let at = has_head has in
+        let same = sym (take-append-drop most insts) in record {
+          block = first;
+          there = at;
+          inside = record { behind = drop most insts; same = same; is_last = is; block = first; there = at; leaves = (refl, has_tail has) };
+        }
+
+    -- the next piece
+    next : {more k : ℕ} {rest : List Plain} → (at : Inside (suc more) k [] rest) → Entry more (suc k) rest
+    next {more} {k} at = rw at.same (enters more (suc k) at.behind at.leaves.1 (omega (arith, at.is_last)))
+
+    -- an instruction of the block
+    steps : (more k : ℕ) (part : List Plain) (a : Plain) (rest : List Plain) (i : ℕ) (s : State) (out : List ℕ) (end : Outcome)
+        → Inside more k part (a ∷ rest)
+        → ((more k : ℕ) (part : List Plain) → Inside more k part rest → Reached i k part (state_after (action_of a) s) out end)
+        → Reached (suc i) k part s out (if is_safe (action_of a) s then end else wrong out)
+    steps more k (x ∷ part) a rest i s out end at f =
+        let same : a ∷ rest ≡ x ∷ (part ++ at.behind) = at.same in
+        one_step k x a part i s out end (cc) (f more k part (record {
+          behind = at.behind;
+          same = cc;
+          is_last = at.is_last;
+          block = at.block;
+          there = at.there;
+          leaves = at.leaves;
+        }))
+    steps zero k [] a rest i s out end at f = let none : a ∷ rest ≡ [] = at.same ∙ at.leaves.0 in cc
+    steps (suc more) k [] a rest i s out end at f =
+        let e = next at in
+        entered (suc i) k at.block e.block (suc k) s out (if is_safe (action_of a) s then end else wrong out) at.there at.leaves.0 e.there
+        (steps more (suc k) e.block.insts a rest i s out end e.inside f)
+
+    -- the exit of the block
+    leaves_last : (more k : ℕ) (part : List Plain) (i : ℕ) (s : State) (out : List ℕ) (end : Outcome) → Inside more k part []
+        → ((n : ℕ) × (i ≤ n) × (exit_item whole links last (Some (piece [] exit)) (items whole links n) s out ≡ end)) → Reached (suc i) k part s out end
+    leaves_last more k (x ∷ part) i s out end at r = let none : [] ≡ x ∷ (part ++ at.behind) = at.same in cc
+    leaves_last zero k [] i s out end at r =
+        let here : k ≡ last = omega (arith, at.is_last) in
+        record { count = suc r.0; enough = omega (arith, r.1); ends = cc (at.there, at.leaves.1, r.2) }
+    leaves_last (suc more) k [] i s out end at r =
+        let e = next at in
+        entered (suc i) k at.block e.block (suc k) s out end at.there at.leaves.0 e.there (leaves_last more (suc k) e.block.insts i s out end e.inside r)
+
+-- ---- whole runs
 
 module _ (most : ℕ) (blocks : List BlockParts) (linked : AreLinked blocks) (links : ℕ → ℕ) where
   abbrev place : ℕ → ℕ
@@ -37,10 +189,13 @@ module _ (most : ℕ) (blocks : List BlockParts) (linked : AreLinked blocks) (li
       → Inside whole links most (renumbered_exit place b.exit) (last n) more k part rest
       → Reached whole links i k part s out (items blocks long i n rest s out)
 
+  -- what goes on for i items or more comes to the same
+  abbrev Comes : ℕ → ((ℕ → List Plain → State → List ℕ → Outcome) → Outcome) → Outcome → Type 0
+  Comes i from end = (j : ℕ) × (i ≤ j) × (from (items whole links j) ≡ end)
+
   -- a block is entered
-  enter : (i : ℕ) → Runs i → (t : ℕ) → t < length blocks → (s : State) (out : List ℕ) → (j : ℕ) × (i ≤ j)
-      × (outcome_at_block (place t) (slice_get whole (place t)) (items whole links j) s out ≡ outcome_at_block t (slice_get blocks t)
-      (items blocks long i) s out)
+  enter : (i : ℕ) → Runs i → (t : ℕ) → t < length blocks → (s : State) (out : List ℕ)
+      → Comes i (λ go. outcome_at_block (place t) (slice_get whole (place t)) go s out) (outcome_at_block t (slice_get blocks t) (items blocks long i) s out)
   enter i runs t lt s out =
       let found = block_there blocks t lt in
       let b = found.0 in
@@ -50,34 +205,29 @@ module _ (most : ℕ) (blocks : List BlockParts) (linked : AreLinked blocks) (li
       (r.count, r.enough, cc (e.there, r.ends, found.1))
 
   -- a return
-  enter_back : (i : ℕ) → Runs i → (word : ℕ) (s : State) (out : List ℕ) → (j : ℕ) × (i ≤ j)
-      × (outcome_at_return whole (return_block_of links word 0 whole) (items whole links j) s out ≡ outcome_at_return blocks
-      (return_block_of long word 0 blocks) (items blocks long i) s out)
+  enter_back : (i : ℕ) → Runs i → (word : ℕ) (s : State) (out : List ℕ)
+      → Comes i (λ go. outcome_at_return whole (return_block_of links word 0 whole) go s out)
+      (outcome_at_return blocks (return_block_of long word 0 blocks) (items blocks long i) s out)
   enter_back i runs word s out =
-      go (return_block_of long word 0 blocks) refl
-      (return_renumbered most place links word long 0 0 blocks (λ j. (let here : 0 + j ≡ j = omega arith in ap long here)))
+      rw (return_renumbered most place links word long 0 0 blocks (λ j. (let here : 0 + j ≡ j = omega arith in ap long here)))
+      (go (return_block_of long word 0 blocks) refl)
     where
-      go : (o : Option ℕ) → return_block_of long word 0 blocks ≡ o → return_block_of links word 0 whole ≡ option_map place (return_block_of long word 0 blocks)
-          → (j : ℕ) × (i ≤ j)
-          × (outcome_at_return whole (return_block_of links word 0 whole) (items whole links j) s out ≡ outcome_at_return blocks
-          (return_block_of long word 0 blocks) (items blocks long i) s out)
-      go None e f = (i, omega arith, cc)
-      go (Some t) e f =
-          let r = enter i runs t (return_below long word (length blocks) 0 blocks linked.by t e) s out in (r.0, r.1, cc (r.2))
+      go : (o : Option ℕ) → return_block_of long word 0 blocks ≡ o
+          → Comes i (λ go. outcome_at_return whole (option_map place o) go s out) (outcome_at_return blocks o (items blocks long i) s out)
+      go None e = (i, omega arith, refl)
+      go (Some t) e = enter i runs t (return_below long word (length blocks) 0 blocks linked.by t e) s out
 
   -- a branch
   choose : (i : ℕ) → Runs i → (passes : Bool) (t e : ℕ) → t < length blocks → e < length blocks → (s : State) (out : List ℕ)
-      → (j : ℕ) × (i ≤ j)
-      × (outcome_at_block (if passes then place t else place e) (slice_get whole (if passes then place t else place e))
-      (items whole links j) s out ≡ outcome_at_block (if passes then t else e) (slice_get blocks (if passes then t else e)) (items blocks long i) s out)
+      → Comes i (λ go. outcome_at_block (if passes then place t else place e) (slice_get whole (if passes then place t else place e)) go s out)
+      (outcome_at_block (if passes then t else e) (slice_get blocks (if passes then t else e)) (items blocks long i) s out)
   choose i runs true t e t_lt e_lt s out = enter i runs t t_lt s out
   choose i runs false t e t_lt e_lt s out = enter i runs e e_lt s out
 
   -- an exit
   departs : (i : ℕ) → Runs i → (n : ℕ) (exit : Exit) → GoesBelow (length blocks) exit → (s : State) (out : List ℕ)
-      → (j : ℕ) × (i ≤ j)
-      × (exit_item whole links (last n) (Some (piece [] (renumbered_exit place exit)))
-      (items whole links j) s out ≡ exit_item blocks long n (Some (piece [] exit)) (items blocks long i) s out)
+      → Comes i (λ go. exit_item whole links (last n) (Some (piece [] (renumbered_exit place exit))) go s out)
+      (exit_item blocks long n (Some (piece [] exit)) (items blocks long i) s out)
   departs i runs n (Goto t) low s out = enter i runs t low s out
   departs i runs n (BranchPair test a b t e) low s out = choose i runs (pair_passes test (read 0 s.regs a) (read 0 s.regs b)) t e low.0 low.1 s out
   departs i runs n (BranchZero test a t e) low s out = choose i runs (zero_passes test (read 0 s.regs a)) t e low.0 low.1 s out
@@ -94,8 +244,7 @@ module _ (most : ℕ) (blocks : List BlockParts) (linked : AreLinked blocks) (li
       (λ more k part at. runs i n b there rest (state_after (action_of a) s) out more k part at)
   runs (suc i) n b there [] s out more k part at =
       let r = departs i (λ n b there rest s out more k part at. runs i n b there rest s out more k part at) n b.exit (linked.by n b there) s out in
-      subst (λ end. Reached whole links (suc i) k part s out end) (sym (ap (λ o. exit_item blocks long n o (items blocks long i) s out) there))
-      (leaves_last whole links most (renumbered_exit place b.exit) (last n) more k part i s out
+      rw there (leaves_last whole links most (renumbered_exit place b.exit) (last n) more k part i s out
       (exit_item blocks long n (Some (piece [] b.exit)) (items blocks long i) s out) at r)
 
 -- from the start of block 0

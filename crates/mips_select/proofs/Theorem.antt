@@ -1,4 +1,4 @@
--- The blocks that stand for a program keep its runs.
+-- The blocks that stand for a program keep its runs, and so does its unit.
 use Rattle.std.proofs.Common.{◌≡◌, ◌≢◌, ℕ, ◌+◌, ◌-◌, ◌*◌, ◌/◌, ◌%◌, ◌^◌, ◌<◌, ◌≤◌, List, [], ◌∷◌, map}
 use Rattle.std.proofs.Common.{length, Some, None, refl, sym, ap, ◌∙◌, subst, arith, le-leb}
 use Rattle.std.specs.Prelude.{slice_get}
@@ -14,15 +14,16 @@ use Rattle.mips_isa.specs.States.{State, IsWords, byte_of, load_word, load_byte}
 use Rattle.mips_isa.specs.Starting.{data_base, stack_base, stack_end, first_bytes, start_state}
 use Rattle.mips_isa.specs.Actions.{action_of}
 use Rattle.mips_isa.proofs.StateWords.{start_words}
-use Rattle.mblock.specs.declared.limits.TheConstants.{UNIT_BYTES}
+use Rattle.mblock.specs.declared.limits.TheConstants.{BLOCK_INSTS, UNIT_BYTES}
 use Rattle.mblock.specs.Parts.{BlockParts}
 use Rattle.mblock.specs.UnitRuns.{unit_run, TellsApart}
 use Rattle.mblock.proofs.StateWords.{run_words}
 use Rattle.rtl.specs.declared.block.RFunc.{RFunc}
 use Rattle.rtl.specs.declared.block.RGlobal.{RGlobal}
-use Rattle.rtl.specs.Meaning.{first_values}
+use Rattle.rtl.specs.Meaning.{first_values, rtl_run}
 use Rattle.mips_homes.specs.HomedRun.{around, Run, Running, Ended, Failed, new_activation, registers_at_entry, state_at_block, homed_steps}
-use Rattle.mips_homes.specs.HomedRun.{homed_start, outcome}
+use Rattle.mips_homes.specs.HomedRun.{homed_start, homed_run, outcome}
+use Rattle.mips_homes.proofs.Located.{places_keep_runs}
 use Rattle.mips_homes.specs.declared.homed.Homed.{Homed}
 use Rattle.mips_emit.specs.Elements.{width_of, element_place, address_of_place, data_middle}
 use Rattle.mips_emit.specs.Code.{constant}
@@ -34,10 +35,17 @@ use Rattle.mips_emit.proofs.Insts.{value_or_failed}
 use Rattle.mips_select.specs.Data.{element_bytes, padded_bytes, start_of}
 use Rattle.mips_select.specs.Code.{start_block}
 use Rattle.mips_select.specs.Selected.{IsSelected, KeepHomedRuns}
+use Rattle.mips_select.specs.Limits.{largest_frame}
+use Rattle.mips_select.specs.Whole.{program_blocks}
+use Rattle.mips_select.specs.Laws.{EachUnitKeepsRuns}
 use Rattle.mips_select.proofs.DataPlaces.{HaveValues, have_values, data_fits, element_within, element_byte, start_even, elements_apart, data_below}
-use Rattle.mips_select.proofs.DataPlaces.{values_below}
-use Rattle.mips_select.proofs.Returns.{return_found}
+use Rattle.mips_select.proofs.DataPlaces.{values_below, data_starts_same}
+use Rattle.mips_select.proofs.Departures.{return_found}
 use Rattle.mips_select.proofs.Simulation.{Lead, Reach, code_leads, departs, reach_after, entered, then_runs}
+use Rattle.mips_select.proofs.Linked.{program_well}
+use Rattle.mips_select.proofs.Placed.{program_selected}
+use Rattle.mips_select.proofs.FrameSizes.{are_frames, are_seated, are_alone}
+use Rattle.mips_select.proofs.Apart.{comes_to}
 
 -- what a function saves is unset at the start as it is
 entry_unset : (saved : List ℕ) → registers_at_entry saved unset_places ≡ unset_places
@@ -110,7 +118,7 @@ module _ (globals : List RGlobal) (ok : HaveValues globals) (few : length (padde
     gp = gp;
   }
 
-module _ (h : Homed) (depth : ℕ) (blocks : List BlockParts) (ok : IsSelected h depth blocks) (links : ℕ → ℕ) (tells : TellsApart links blocks) where
+module _ {h : Homed} {depth : ℕ} {blocks : List BlockParts} (ok : IsSelected h depth blocks) {links : ℕ → ℕ} (tells : TellsApart links blocks) where
   abbrev globals : List RGlobal
   globals = (h.rtl.now).globals
 
@@ -124,7 +132,7 @@ module _ (h : Homed) (depth : ℕ) (blocks : List BlockParts) (ok : IsSelected h
   start = At 0 (constant 28 data_middle) s []
 
   abbrev Comes : ℕ → Point → Run → Type 0
-  Comes n p run = Reach h depth blocks ok links tells n p run
+  Comes n p run = Reach ok tells n p run
 
   starts_reach : Comes 1 start (homed_start h)
   starts_reach =
@@ -133,39 +141,45 @@ module _ (h : Homed) (depth : ℕ) (blocks : List BlockParts) (ok : IsSelected h
       let is = ok.functions main func frame func_there frame_there in
       let callee = (ok.program).main in
       let none : func.parameters ≡ 0 = ap (λ (f : RFunc). f.parameters) (same_Some func callee.callee (sym func_there ∙ callee.there)) ∙ callee.takes in
-      let arrays = map first_values globals in
-      let c = constant_set s 28 data_middle (record { low = omega arith; high = omega arith }) in
+      let c = constant_set s 28 data_middle (omega arith) in
       let s0 : State = record s { regs = c.regs } in
       let values = have_values globals (ok.program).globals in
       let few = data_fits globals values (ok.program).words_fit in
       let st0 = start_holds globals values few ok.most c.regs (run_words (map action_of (constant 28 data_middle)) s s0
-      (start_words (padded_bytes globals) (data_below globals)) (c.runs).ends) (c.others 29 (λ e. absurd (omega (arith, e)))) c.here in
+      (start_words (padded_bytes globals) (data_below globals)) (c.runs).ends) (c.others 29 (omega arith)) c.here in
       let s1 = set s0 31 (links 0) in
       let st1 = call_kept st0 (set_words s0 31 (links 0) st0.words (tells.words 0)) tt (λ q low high. put_other s0.regs 31 (links 0) q (omega (arith, high))) in
-      let first = start_block (ok.entry main) in
-      reach_after h depth blocks ok links tells 1 1 _ (omega arith) (code_leads h depth blocks ok links tells 0 [] c.runs)
+      reach_after ok tells 1 1 _ (omega arith) (code_leads ok tells 0 [] c.runs)
       (subst (λ registers. Comes 1 (At 0 [] s0 [])
-      (state_at_block 0 (new_activation func.blocks.items frame unset_places unset_places None) unset_places (around registers [] arrays [])))
+      (state_at_block 0 (new_activation func.blocks.items frame unset_places unset_places None) unset_places (around registers [] (map first_values globals) [])))
       (entry_unset frame.saved.items)
-      (entered h depth blocks ok links tells (At 0 [] s0 []) main func frame is unset_places arrays [] (links 0) None [] [] s1 []
-      (λ form there. departs h depth blocks ok links tells ok.start refl (λ n. rw there)) st1 (λ q passes. refl)
-      (put_here s0.regs 31 (links 0) (record { low = omega arith; high = omega arith })) (λ j v at. absurd (none-some v at)) (sym none)
-      (omega (arith, ok.small)) (return_found links blocks 0 (ok.entry main) 1 first tells ok.start refl)))))
+      (entered ok tells (At 0 [] s0 []) main func frame is unset_places (map first_values globals) [] (links 0) None [] [] s1 []
+      (λ form there. departs ok tells ok.start refl (λ n. rw there)) st1 (λ q passes. refl)
+      (put_here s0.regs 31 (links 0) (omega arith)) (λ j v at. absurd (none-some v at)) (sym none)
+      (omega (arith, ok.small)) (return_found links blocks 0 (ok.entry main) 1 (start_block (ok.entry main)) tells ok.start refl)))))
 
-  led : (count : ℕ) (to : Point) (u : Outcome) → Lead h depth blocks ok links tells count start to → from blocks links 0 to ≡ u
-      → unit_run blocks links s count ≡ u
-  led count to u lead e =
+  led : {count : ℕ} {to : Point} (u : Outcome) → Lead ok tells count start to → from blocks links 0 to ≡ u → unit_run blocks links s count ≡ u
+  led {count} u lead e =
       let none : count ≡ count + 0 = omega arith in
       rw ok.start (ap (λ n. from blocks links n start) none ∙ lead.by 0 ∙ e)
 
   same_end : (n : ℕ) (run : Run) → Comes n start run → (outcome run).end ≢ Wrong → (i : ℕ) × (n ≤ i) × (unit_run blocks links s i ≡ outcome run)
   same_end n (Running r [] g out) x ne = absurd x.match
   same_end n (Running r (a ∷ ws) g out) x ne =
-      (x.count, x.enough, led x.count x.to (outcome (Running r (a ∷ ws) g out)) x.leads (ap (from blocks links 0) (x.match).point))
-  same_end n (Ended v out) x ne = (x.count, x.enough, led x.count x.to (outcome (Ended v out)) x.leads (ap (from blocks links 0) x.match))
+      (x.count, x.enough, led (outcome (Running r (a ∷ ws) g out)) x.leads (ap (from blocks links 0) (x.match).point))
+  same_end n (Ended v out) x ne = (x.count, x.enough, led (outcome (Ended v out)) x.leads (ap (from blocks links 0) x.match))
   same_end n (Failed out) x ne = absurd (ne refl)
 
 pub keep_homed_runs : (h : Homed) (depth : ℕ) (blocks : List BlockParts) → IsSelected h depth blocks → KeepHomedRuns h depth blocks
 keep_homed_runs h depth blocks ok n ne links tells =
-    same_end h depth blocks ok links tells n (homed_steps h depth n (homed_start h))
-    (then_runs h depth blocks ok links tells n (start h depth blocks ok links tells) (homed_start h) (starts_reach h depth blocks ok links tells)) ne
+    same_end ok tells n (homed_steps h depth n (homed_start h)) (then_runs ok tells n (start ok tells) (homed_start h) (starts_reach ok tells)) ne
+
+-- so does the unit, in which long blocks are cut
+pub each_unit : EachUnitKeepsRuns
+each_unit h depth ok choices fit r right =
+    let globals = (h.rtl.now).globals in
+    let same : homed_run h depth r ≡ rtl_run h.rtl.now depth r = places_keep_runs h choices depth r in
+    let selected = program_selected h depth (largest_frame (h.rtl.now).functions) ok (are_frames h choices) (are_seated h choices) (are_alone h choices) fit.frames fit.stack in
+    let blocks_come_to = rw same at (keep_homed_runs h depth (program_blocks h) selected r (rw same right)) in
+    rw (← data_starts_same globals (have_values globals ok.globals))
+    (comes_to BLOCK_INSTS (program_blocks h) (program_well h ok choices.long).0 (start_state (padded_bytes globals)) r (rtl_run h.rtl.now depth r) blocks_come_to)

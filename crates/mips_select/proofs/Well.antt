@@ -1,6 +1,6 @@
 -- Pieces are short, go to pieces that exist, and keep their functions together.
 use Rattle.std.proofs.Common.{◌≡◌, ◌≢◌, ℕ, zero, suc, ◌+◌, ◌<◌, ◌≤◌, List, [], ◌∷◌, length, ⊎_elim}
-use Rattle.std.proofs.Common.{length-append, Some, refl, sym, ap, ◌∙◌, subst, arith}
+use Rattle.std.proofs.Common.{length-append, Some, refl, sym, ap, ◌∙◌, arith}
 use Rattle.std.specs.Prelude.{slice_get, slice_index, replicate}
 use Rattle.std.proofs.lemmas.List.{length-replicate}
 use Rattle.std.proofs.lemmas.Bool.{cases_eq}
@@ -11,7 +11,7 @@ use Rattle.mblock.specs.Parts.{BlockParts}
 use Rattle.mblock.specs.Units.{GoesBelow, BranchesWithin, Continues, AreLinked, AreOwners}
 use Rattle.mips_select.specs.Split.{renumbered_exit, more_pieces, pieces, count_of, firsts, first_piece_of, split_at_most, owners_from, total}
 use Rattle.mips_select.proofs.Places.{HasAt, has_whole, has_front, has_back, has_pieces, block_there, length-pieces}
-use Rattle.mips_select.proofs.Counts.{length-split_from, Located, located, first_next, pieces_enough, IsPieceAt, piece_at}
+use Rattle.mips_select.proofs.Places.{length-split_from, Located, located, first_next, pieces_enough, IsPieceAt, piece_at}
 
 pub get_replicate : {A : Type 0} (n : ℕ) (x : A) (j : ℕ) → j < n → slice_get (replicate n x) j ≡ Some x
 get_replicate zero x j lt = absurd (omega (arith, lt))
@@ -36,9 +36,7 @@ has_owners most place whole k (x ∷ bs) [] has n o b there owned = absurd (none
 has_owners most place whole k (x ∷ bs) (y ∷ os) has zero o b there owned =
     rw (← same_Some x b there, ← same_Some y o owned) (has_front _ _ has)
 has_owners most place whole k (x ∷ bs) (y ∷ os) has (suc n) o b there owned =
-    let next : k + length (replicate (count_of most x) (place y)) ≡ k + count_of most x = ap (λ n. k + n) (length-replicate (count_of most x) (place y)) in
-    has_owners most place whole (k + count_of most x) bs os
-    (subst (λ n. HasAt whole n (owners_from most place bs os)) next (has_back (replicate (count_of most x) (place y)) _ has)) n o b there owned
+    has_owners most place whole (k + count_of most x) bs os (has_back (replicate (count_of most x) (place y)) _ has (ap (λ n. k + n) (length-replicate (count_of most x) (place y)))) n o b there owned
 
 first_zero : (most : ℕ) (bs : List BlockParts) → slice_index (firsts most 0 bs) 0 ≡ 0
 first_zero most [] = refl

@@ -2,5 +2,5 @@ use Rattle.mips_select.proofs.Emitted.{head_made}
 use Rattle.mips_select.proofs.code.block_for.Goals as goal
 
 pub returns : goal.returns
-returns c = head_made _ _ _ _ _ _ _ c.in_ok-insts.ensures.items c.in_ok-emit_head.ensures c.in_ok-exit.ensures.code c.in_ok-exit.ensures.exit
+returns c = head_made _ _ c.in_ok-insts.ensures.items c.in_ok-emit_head.ensures c.in_ok-exit.ensures.code c.in_ok-exit.ensures.exit
     c.new.ensures

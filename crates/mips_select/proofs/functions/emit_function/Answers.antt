@@ -13,7 +13,7 @@ emit_blocks-requires-clause-number c = function_room c.args.k _ _ c.args.func.no
 
 pub returns : goal.returns
 returns c = IfOk-weaker c.emit_blocks.result _ _
-    (λ r h. function_made _ c.args.k c.args.func.now c.args.frame.now _ _ _ _ _ _ _ _ _ _ c.as_slice-blocks.ensures.value
+    (λ r h. function_made _ c.args.k c.args.func.now c.args.frame.now _ c.as_slice-blocks.ensures.value
     c.is_leaf.ensures
     c.requires.named c.lead_in.ensures.value c.in_ok-numbers.ensures c.as_slice-places.ensures.value c.head_at.ensures
     c.in_ok-emit_lead.ensures h)

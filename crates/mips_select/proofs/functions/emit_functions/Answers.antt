@@ -1,8 +1,9 @@
-use Rattle.std.proofs.Common.{◌∙◌, ◌++◌, arith, drop, length, sym}
+use Rattle.std.proofs.Common.{◌∙◌, ◌++◌, arith, drop, length, refl, sym}
 use Rattle.std.proofs.lemmas.List.{append-nil, at_drop_all}
+use Rattle.std.proofs.lemmas.Option.{slice_get_read}
 use Rattle.mips_select.specs.Plans.{linking_of}
 use Rattle.mips_select.specs.Whole.{functions_blocks}
-use Rattle.mips_select.proofs.Blocks.{read_at, functions_room, functions_step, named_here, named_long}
+use Rattle.mips_select.proofs.Blocks.{functions_room, functions_step, named_here, named_long}
 use Rattle.mips_select.proofs.functions.emit_functions.Goals as goal
 
 pub emit_function-requires-clause-number : goal.emit_function-requires-clause-number
@@ -12,7 +13,7 @@ emit_function-requires-clause-number c =
     omega (arith, room, c.len-k.ensures)
 
 pub bounds-namings-i : goal.bounds-namings-i
-bounds-namings-i c = (let long = named_long _ _ c.requires.named in let lt = c.loop-i-test.true in omega (arith, long, lt))
+bounds-namings-i c = omega (arith, named_long _ _ c.requires.named, c.loop-i-test.true)
 
 pub emit_function-requires-clause-named : goal.emit_function-requires-clause-named
 emit_function-requires-clause-named c = c.as_slice-table.ensures.value
@@ -21,16 +22,15 @@ emit_function-requires-clause-named c = c.as_slice-table.ensures.value
 pub emit_function-requires-clause-frame : goal.emit_function-requires-clause-frame
 emit_function-requires-clause-frame c =
     let same = c.requires.lengths in
-    (c.requires.frames).by c.loop-i.i c.index-frames-i.result (read_at _ c.loop-i.i _ (omega (arith, c.loop-i-test.true, same)) c.index-frames-i.is)
+    (c.requires.frames).by c.loop-i.i c.index-frames-i.result (slice_get_read _ _ c.loop-i.i _ refl (omega (arith, c.loop-i-test.true, same)) c.index-frames-i.is)
 
 pub emit_function-requires-clause-function : goal.emit_function-requires-clause-function
 emit_function-requires-clause-function c = (c.requires.functions).by c.loop-i.i c.index-functions-i.result
-    (read_at _ c.loop-i.i _ c.loop-i-test.true c.index-functions-i.is)
+    (slice_get_read _ _ c.loop-i.i _ refl c.loop-i-test.true c.index-functions-i.is)
 
 pub loop-i-preserved : goal.loop-i-preserved
 loop-i-preserved c =
-    functions_step _ c.loop-i.i _ c.args.functions.now c.args.frames.now c.index-functions-i.result c.index-frames-i.result c.loop-i.emitter.blocks.items _ _
-    c.len-k.result c.loop-i-test.true c.requires.lengths c.index-functions-i.is c.index-frames-i.is
+    functions_step _ c.loop-i.i c.args.functions.now c.args.frames.now c.index-functions-i.result c.index-frames-i.result _ c.loop-i-test.true c.requires.lengths c.index-functions-i.is c.index-frames-i.is
     (omega (arith, c.len-k.ensures)) c.in_ok-emit_function.ensures c.loop-i.invariant
 
 pub returns : goal.returns

@@ -1,4 +1,4 @@
-use Rattle.mips_select.proofs.Correct.{each_unit}
+use Rattle.mips_select.proofs.Theorem.{each_unit}
 use Rattle.mips_select.proofs.laws.each_unit_keeps_runs.Goals as goal
 
 pub returns : goal.returns

@@ -1,6 +1,9 @@
 use Rattle.std.proofs.Common.{ap, arith}
-use Rattle.mips_select.specs.Whole.{functions_size}
-use Rattle.mips_select.proofs.Selecting.{function_blocks_few, told_beyond, many_counted, numbered}
+use Rattle.mblock.specs.declared.limits.TheConstants.{BLOCK_INSTS}
+use Rattle.mips_select.specs.Split.{first_piece_of, total}
+use Rattle.mips_select.specs.Whole.{functions_size, program_blocks}
+use Rattle.mips_select.proofs.Places.{length-split_from}
+use Rattle.mips_select.proofs.Selecting.{function_blocks_few, told_beyond, numbered}
 use Rattle.mips_select.proofs.numbering.select_numbered.Goals as goal
 
 pub block_numbers-requires-clause-small : goal.block_numbers-requires-clause-small
@@ -18,8 +21,14 @@ returns-in_err-unit-clause-limit c = told_beyond _ _ c.from_residual-in_err-unit
 
 pub returns-in_err-numbers-clause-limit : goal.returns-in_err-numbers-clause-limit
 returns-in_err-numbers-clause-limit c = told_beyond _ _ c.from_residual-in_err-numbers.ensures.1 c.in_ok-homed.ensures.lent c.in_ok-homed.ensures.places
-    (λ e. many_counted c.in_ok-homed.homed _ c.in_ok-long.ensures.blocks (c.in_err-numbers.ensures.limit e))
+    (λ e. let whole = program_blocks c.in_ok-homed.homed in
+    omega (
+      arith,
+      length-split_from BLOCK_INSTS (first_piece_of BLOCK_INSTS whole) 0 whole,
+      ap (total BLOCK_INSTS) c.in_ok-long.ensures.blocks,
+      c.in_err-numbers.ensures.limit e,
+    ))
 
 pub returns-clause-numbered : goal.returns-clause-numbered
-returns-clause-numbered c = numbered c.in_ok-homed.homed c.args.rtl.now _ _ _ _ c.in_ok-homed.ensures.lent c.in_ok-homed.ensures.places
+returns-clause-numbered c = numbered c.in_ok-homed.homed c.args.rtl.now _ c.in_ok-homed.ensures.lent c.in_ok-homed.ensures.places
     c.in_ok-unit.ensures.unit c.in_ok-long.ensures.blocks c.functions.ensures.value c.in_ok-numbers.ensures.numbers

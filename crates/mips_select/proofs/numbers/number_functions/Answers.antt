@@ -1,14 +1,15 @@
-use Rattle.std.proofs.Common.{List, ◌++◌, map, refl, ap, arith, ◌∙◌}
-use Rattle.std.proofs.lemmas.List.{at_drop_more, at_drop_all}
+use Rattle.std.proofs.Common.{List, [], ◌∷◌, ◌++◌, ◌+◌, drop, map, refl, sym, ap, arith, ◌∙◌}
+use Rattle.std.specs.Prelude.{replicate}
+use Rattle.std.proofs.lemmas.List.{at_drop_more, at_drop_all, map_push}
 use Rattle.std.specs.declared.alloc.Global.{Global}
 use Rattle.std.specs.declared.vec.Vec.{Vec}
 use Rattle.rtl.specs.declared.block.RFunc.{RFunc}
 use Rattle.mips_select.specs.declared.heads.Naming.{Naming}
 use Rattle.mips_select.specs.Heads.{namings, namings_of, unnamed}
 use Rattle.mips_select.specs.Whole.{entries_from, function_size, functions_size, owners_from}
-use Rattle.mips_select.proofs.Blocks.{numbered_step, read_at}
+use Rattle.std.proofs.lemmas.Option.{slice_get_read}
 use Rattle.mips_select.proofs.Linked.{function_some}
-use Rattle.mips_select.proofs.Lists.{all_made}
+use Rattle.mips_select.proofs.Lists.{made_more, all_made}
 use Rattle.mips_select.proofs.numbers.number_functions.Goals as goal
 
 pub loop-func-init : goal.loop-func-init
@@ -24,7 +25,7 @@ loop-func-init c =
 
 pub count_function-size-requires-clause-few : goal.count_function-size-requires-clause-few
 count_function-size-requires-clause-few c =
-    c.requires c.loop-func.func-index c.func-item.result (read_at _ c.loop-func.func-index _ c.loop-func-test.true c.func-item.is)
+    c.requires c.loop-func.func-index c.func-item.result (slice_get_read _ _ c.loop-func.func-index _ refl c.loop-func-test.true c.func-item.is)
 
 pub number-requires : goal.number-requires
 number-requires c =
@@ -38,10 +39,31 @@ returns-then-size-k-clause-limit c = λ _.
 
 pub loop-func-preserved : goal.loop-func-preserved
 loop-func-preserved c =
-    numbered_step _ c.loop-func.func-index _ _ c.args.functions.now c.func-item.result _ _ _ _ c.in_ok-table.table _ _ _ _ _ _ _ c.loop-func-test.true
-    c.func-item.is (c.in_ok-table.ensures ∙ ap (λ bs. namings bs (unnamed bs)) c.as_slice.ensures.value) c.count_function-size.ensures.value
-    c.number.ensures (omega (arith, c.if-size-k.false)) c.in_ok-push_function.ensures.namings c.in_ok-push_function.ensures.entries
-    c.in_ok-push_function.ensures.owners c.loop-func.invariant
+    let items = λ (t : Vec Naming Global). t.items in
+    let k = c.loop-func.k in
+    let funcs = c.args.functions.now in
+    let i = c.loop-func.func-index in
+    let func = c.func-item.result in
+    let lt = c.loop-func-test.true in
+    let size = c.count_function-size.result in
+    let size_is = c.count_function-size.ensures.value in
+    let rest = drop (i + 1) funcs in
+    let sizes = at_drop_more functions_size funcs i func lt in
+    let one = ap (λ (f : RFunc). function_size f) c.func-item.is in
+    let named = c.in_ok-table.ensures ∙ ap (λ bs. namings bs (unnamed bs)) c.as_slice.ensures.value in
+    let old = c.loop-func.numbers in (
+      omega (arith, c.if-size-k.false),
+      omega (arith, sizes, one, size_is, c.loop-func.invariant.1),
+      made_more (map namings_of) funcs i func (map items old.namings.items) _ (namings_of func ∷ []) (map namings_of rest) _ lt c.func-item.is refl
+          (ap (map items) c.in_ok-push_function.ensures.namings ∙ map_push items old.namings.items c.in_ok-table.table
+          ∙ ap (λ l. map items old.namings.items ++ l ∷ []) named) c.loop-func.invariant.2,
+      made_more (entries_from k) funcs i func _ _ (k ∷ []) (entries_from (k + size) rest) _ lt c.func-item.is
+          (ap (λ n. k ∷ entries_from (k + n) rest) (sym size_is))
+          (c.in_ok-push_function.ensures.entries ∙ ap (λ n. old.entries.items ++ n ∷ []) c.number.ensures) c.loop-func.invariant.3,
+      made_more (owners_from k) funcs i func _ _ (replicate size k) (owners_from (k + size) rest) _ lt c.func-item.is
+          (ap (λ n. replicate n k ++ owners_from (k + n) rest) (sym size_is))
+          (c.in_ok-push_function.ensures.owners ∙ ap (λ n. old.owners.items ++ replicate size n) c.number.ensures) c.loop-func.invariant.4,
+    )
 
 pub returns-clause-namings : goal.returns-clause-namings
 returns-clause-namings c = all_made (map namings_of) c.args.functions.now c.loop-func.func-index _ _ c.loop-func-test.false refl c.loop-func.invariant.2

@@ -4,7 +4,7 @@ use Rattle.std.proofs.lemmas.Result.{err_from_is_err_and}
 use Rattle.mips_select.specs.Split.{first_piece_of, total, firsts, owners_from}
 use Rattle.mblock.specs.Units.{UnitParts}
 use Rattle.mblock.specs.UnitRuns.{ComesTo}
-use Rattle.mips_select.proofs.Counts.{length-split_from}
+use Rattle.mips_select.proofs.Places.{length-split_from}
 use Rattle.mips_select.proofs.Made.{unit_made, pieces_are}
 use Rattle.mips_select.proofs.Apart.{comes_to}
 use Rattle.mips_select.proofs.pieces.split_unit.Goals as goal

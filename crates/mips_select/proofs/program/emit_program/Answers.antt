@@ -1,7 +1,7 @@
 use Rattle.std.proofs.Common.{◌∙◌, length, ap}
 use Rattle.mips_select.specs.Data.{starts_from}
 use Rattle.mips_select.proofs.DataPlaces.{starts_inside, starts_length}
-use Rattle.mips_select.proofs.Selecting.{functions_emittable, program_made}
+use Rattle.mips_select.proofs.Selecting.{functions_emittable}
 use Rattle.mips_select.proofs.program.emit_program.Goals as goal
 
 pub invariant_of-linkage : goal.invariant_of-linkage
@@ -18,7 +18,17 @@ emit_functions-requires-clause-functions c =
 
 pub returns : goal.returns
 returns c =
-    program_made c.args.homed.now _ _ _ _ _ _ _ _ _ _ _ c.requires.entries (c.as_slice-starts.ensures.value
-    ∙ c.in_ok-table.ensures) c.globals-globals.ensures.value c.functions-functions.ensures.value c.as_slice-frames.ensures.value
-    c.main.ensures.value c.number_at.ensures c.in_ok-out.ensures.items c.in_ok-emit_start.ensures c.in_ok-emit_end.ensures
-    c.in_ok-emit_functions.ensures
+    rw (
+      c.in_ok-emit_functions.ensures,
+      c.in_ok-emit_end.ensures,
+      c.in_ok-emit_start.ensures,
+      c.in_ok-out.ensures.items,
+      c.number_at.ensures,
+      c.requires.entries,
+      c.as_slice-starts.ensures.value,
+      c.in_ok-table.ensures,
+      c.globals-globals.ensures.value,
+      c.functions-functions.ensures.value,
+      c.as_slice-frames.ensures.value,
+      c.main.ensures.value,
+    )

@@ -1,5 +1,5 @@
 use Rattle.std.proofs.lemmas.Result.{IfOk-weaker, IfErr-weaker}
-use Rattle.mips_select.proofs.Selecting.{beyond, told_beyond, runs_told, selected}
+use Rattle.mips_select.proofs.Selecting.{beyond, told_beyond, selected}
 use Rattle.mips_select.proofs.program.select.Goals as goal
 
 pub returns-in_err-long-clause-limit : goal.returns-in_err-long-clause-limit
@@ -13,13 +13,11 @@ returns-clause-limit c = IfErr-weaker c.unit_of.result _ _
 
 pub returns-clause-runs : goal.returns-clause-runs
 returns-clause-runs c = IfOk-weaker c.unit_of.result _ _
-    (λ u h. runs_told c.in_ok-homed.homed c.args.rtl.now c.args.depth u c.in_ok-homed.ensures.lent c.in_ok-homed.ensures.within h)
-    c.unit_of.ensures.runs
+    (λ u h. rw (← c.in_ok-homed.ensures.lent) (h c.args.depth (rw c.in_ok-homed.ensures.lent c.in_ok-homed.ensures.within))) c.unit_of.ensures.runs
 
 pub returns-clause-unit : goal.returns-clause-unit
 returns-clause-unit c = IfOk-weaker c.unit_of.result _ _
     (λ u h. selected c.in_ok-homed.homed c.args.rtl.now u c.in_ok-homed.ensures.lent c.in_ok-homed.ensures.places h) c.unit_of.ensures.unit
 
 pub returns-clause-data : goal.returns-clause-data
-returns-clause-data c = IfOk-weaker c.unit_of.result _ _
-    (λ u h. cc (c.in_ok-homed.ensures.lent)) c.unit_of.ensures.unit
+returns-clause-data c = IfOk-weaker c.unit_of.result _ _ (λ u h. cc (c.in_ok-homed.ensures.lent)) c.unit_of.ensures.unit

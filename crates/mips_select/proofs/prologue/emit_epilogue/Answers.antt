@@ -4,7 +4,7 @@ use Rattle.mips_select.proofs.prologue.emit_epilogue.Goals as goal
 
 pub returns : goal.returns
 returns c = IfOk-weaker c.emit_step.result _ _
-    (λ r h. epilogue_made c.args.leaf c.args.frame.now c.size_of_frame-size.result _ _ _ _ _ c.size_of_frame-size.ensures.size
+    (λ r h. epilogue_made c.args.leaf c.args.frame.now _ c.size_of_frame-size.ensures.size
     c.as_slice.ensures.value
     c.in_ok-emit_words.ensures c.in_ok-emit_link.ensures h)
     c.emit_step.ensures

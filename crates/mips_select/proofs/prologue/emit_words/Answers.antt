@@ -1,15 +1,17 @@
 use Rattle.std.proofs.Common.{◌∷◌, [], ◌++◌, ◌+◌, drop, get_or, refl, ap, arith, ◌∙◌}
 use Rattle.std.proofs.lemmas.List.{get_or_default}
 use Rattle.mips_select.specs.Code.{frame_word, frame_words}
-use Rattle.mips_select.proofs.Emitted.{saved_number}
+use Rattle.std.proofs.lemmas.Option.{slice_get-get_or}
 use Rattle.mips_select.proofs.Lists.{made_more, all_made}
 use Rattle.mips_select.proofs.prologue.emit_words.Goals as goal
 
 pub register-requires-clause-nonzero : goal.register-requires-clause-nonzero
-register-requires-clause-nonzero c = (saved_number c.args.registers.now c.loop-r.r-index c.requires.registers c.loop-r-test.true).0
+register-requires-clause-nonzero c =
+    omega (arith, c.requires.registers _ _ (slice_get-get_or c.args.registers.now c.loop-r.r-index 0 c.loop-r-test.true))
 
 pub register-requires-clause-range : goal.register-requires-clause-range
-register-requires-clause-range c = (saved_number c.args.registers.now c.loop-r.r-index c.requires.registers c.loop-r-test.true).1
+register-requires-clause-range c =
+    omega (arith, c.requires.registers _ _ (slice_get-get_or c.args.registers.now c.loop-r.r-index 0 c.loop-r-test.true))
 
 pub loop-r-preserved : goal.loop-r-preserved
 loop-r-preserved c =

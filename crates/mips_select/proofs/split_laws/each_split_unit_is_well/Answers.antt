@@ -1,6 +1,6 @@
 use Rattle.std.proofs.Common.{◌<◌, arith}
 use Rattle.mips_select.specs.Split.{first_piece_of}
-use Rattle.mips_select.proofs.Counts.{total_above, length-split_from}
+use Rattle.mips_select.proofs.Places.{total_above, length-split_from}
 use Rattle.mips_select.proofs.Well.{pieces_short, pieces_linked, pieces_owned}
 use Rattle.mips_select.proofs.split_laws.each_split_unit_is_well.Goals as goal
 
