@@ -52,29 +52,23 @@ owner_step place i o first more long owner b out out' all within same b_is o_is 
     cc (append_assoc out own (owners_from 512 place bs os), at_drop_more (λ l. l) long i b within, at_drop_more (λ l. l) owner i o (omega (arith, within, same)))
 
 -- pieces by a table of the numbers of first pieces
-pub pieces_are : (long : List BlockParts) (numbers table : List ℕ) (blocks : List BlockParts) → numbers ≡ firsts 512 0 long
-    → table ≡ numbers → blocks ≡ split_from 512 (λ n. slice_index table n) 0 long → blocks ≡ split_blocks long
-pieces_are long numbers table blocks numbers_is table_is blocks_is = rw (blocks_is, table_is, numbers_is)
+pub pieces_are : (long : List BlockParts) {numbers table : List ℕ} {blocks : List BlockParts} → numbers ≡ firsts 512 0 long → table ≡ numbers
+    → blocks ≡ split_from 512 (λ n. slice_index table n) 0 long → blocks ≡ split_blocks long
+pieces_are long numbers_is table_is blocks_is = rw (blocks_is, table_is, numbers_is)
 
 -- pieces with their owners are a unit
-pub unit_made : (long : List BlockParts) (owner globals : List ℕ) (numbers table table2 : List ℕ) (blocks : List BlockParts)
-    (owners : List ℕ) → AreLinked long → AreOwners long owner → 0 < length long → length globals ≤ 1048576 → All (λ b. b < 2 ^ 8) globals
-    → total 512 long ≤ 1048576
+pub unit_made : {long : List BlockParts} {owner globals numbers table table2 : List ℕ} {blocks : List BlockParts} {owners : List ℕ} → AreLinked long
+    → AreOwners long owner → 0 < length long → length globals ≤ 1048576 → All (λ b. b < 2 ^ 8) globals → total 512 long ≤ 1048576
     → numbers ≡ firsts 512 0 long → table ≡ numbers → table2 ≡ numbers → blocks ≡ split_from 512 (λ n. slice_index table n) 0 long
-    → owners ≡ owners_from 512 (λ n. slice_index table2 n) long owner
-    → IsUnit (unit_parts blocks owners globals)
-unit_made long owner globals numbers table table2 blocks owners linked owned some data_few data_small few numbers_is table_is table2_is blocks_is owners_is =
+    → owners ≡ owners_from 512 (λ n. slice_index table2 n) long owner → IsUnit (unit_parts blocks owners globals)
+unit_made {long} {owner} linked owned some data_few data_small few numbers_is table_is table2_is blocks_is owners_is =
+    let positive : 0 < 512 = omega arith in
+    let count = length-split_from 512 (first_piece_of 512 long) 0 long in
     rw (blocks_is, owners_is, table_is, table2_is, numbers_is) (record {
-      some = (let many = total_above 512 long in omega (arith, some, many, count));
+      some = omega (arith, some, total_above 512 long, count);
       few = omega (arith, few, count);
       linked = pieces_linked 512 positive long linked;
       owners = pieces_owned 512 positive long owner owned;
       data_fits = data_few;
       data_bytes = data_small;
     })
-  where
-    positive : 0 < 512
-    positive = omega arith
-
-    count : length (split_blocks long) ≡ total 512 long
-    count = length-split_from 512 (first_piece_of 512 long) 0 long
