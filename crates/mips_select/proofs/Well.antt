@@ -23,9 +23,8 @@ length-owners_from : (most : ℕ) (place : ℕ → ℕ) (bs : List BlockParts) (
 length-owners_from most place [] os same = refl
 length-owners_from most place (b ∷ bs) [] same = absurd (omega (arith, same))
 length-owners_from most place (b ∷ bs) (o ∷ os) same =
-    let rest = length-owners_from most place bs os (omega (arith, same)) in
     let sum = length-append (replicate (count_of most b) (place o)) (owners_from most place bs os) in
-    omega (arith, rest, sum, length-replicate (count_of most b) (place o))
+    omega (arith, length-owners_from most place bs os (omega (arith, same)), sum, length-replicate (count_of most b) (place o))
 
 -- the owners of the pieces of block n
 has_owners : (most : ℕ) (place : ℕ → ℕ) (whole : List ℕ) (k : ℕ) (bs : List BlockParts) (os : List ℕ)
@@ -67,14 +66,11 @@ module _ (most : ℕ) (some : 0 < most) (blocks : List BlockParts) where
   -- piece i of the unit
   record Piece (i : ℕ) (p : BlockParts) : Type 0 where
     at : Located most 0 blocks i
-    is : i ≡ place at.number + at.behind
     looks : IsPieceAt most (renumbered_exit place at.block.exit) (more_pieces most at.block) (place at.number) at.behind p
 
   piece_of : (i : ℕ) (p : BlockParts) → slice_get whole i ≡ Some p → Piece i p
   piece_of i p there =
-      let low = slice_get_within whole i p there in
-      let long = length-split_from most place 0 blocks in
-      let at = located most 0 blocks i (omega (arith, low, long)) in
+      let at = located most 0 blocks i (omega (arith, slice_get_within whole i p there, length-split_from most place 0 blocks)) in
       let exit = renumbered_exit place at.block.exit in
       let parts = pieces most exit (more_pieces most at.block) (place at.number) at.block.insts in
       let is : i ≡ place at.number + at.behind = omega (arith, at.is) in
@@ -83,7 +79,6 @@ module _ (most : ℕ) (some : 0 < most) (blocks : List BlockParts) where
       let same : q.0 ≡ p = same_Some q.0 p (sym ((at_block at.number at.block at.there).by at.behind q.0 q.1) ∙ sym (ap (slice_get whole) is) ∙ there) in
       record {
         at = at;
-        is = is;
         looks = piece_at most exit (more_pieces most at.block) (place at.number) at.block.insts
             (pieces_enough most (length at.block.insts) some) at.behind p (q.1 ∙ ap Some same);
       }
@@ -129,48 +124,28 @@ module _ (most : ℕ) (some : 0 < most) (blocks : List BlockParts) where
     stays_within o (BranchZero test a t e) in_o = (owner_moved t o in_o.0, owner_moved e o in_o.1)
     stays_within o _ in_o = tt
 
-    -- a place among the pieces, with the owner of its block
-    record Owned (i : ℕ) : Type 0 where
-      at : Located most 0 blocks i
-      is : i ≡ place at.number + at.behind
-      owner_is : ℕ
-      by : slice_get owner at.number ≡ Some owner_is
-      here : slice_get owned i ≡ Some (place owner_is)
-
-    owned_at : (i : ℕ) → i < total most blocks → Owned i
-    owned_at i lt =
-        let at = located most 0 blocks i lt in
-        let is : i ≡ place at.number + at.behind = omega (arith, at.is) in
-        let low = slice_get_within blocks at.number at.block at.there in
-        let o = block_there owner at.number (omega (arith, low, owners.lengths)) in
-        record {
-          at = at;
-          is = is;
-          owner_is = o.0;
-          by = o.1;
-          here = ap (slice_get owned) is ∙ piece_owner at.number o.0 at.block at.there o.1 at.behind at.within;
-        }
+    -- the owner of a piece is that of its block
+    owner_at : (i o : ℕ) (at : Located most 0 blocks i) → slice_get owned i ≡ Some o → (w : ℕ) × (slice_get owner at.number ≡ Some w) × (place w ≡ o)
+    owner_at i o at is =
+        let here : i ≡ place at.number + at.behind = omega (arith, at.is) in
+        let w = block_there owner at.number (omega (arith, slice_get_within blocks at.number at.block at.there, owners.lengths)) in
+        let own = piece_owner at.number w.0 at.block at.there w.1 at.behind at.within in
+        (w.0, w.1, same_Some (place w.0) o (sym own ∙ sym (ap (slice_get owned) here) ∙ is))
 
     pieces_within : (i o : ℕ) (p : BlockParts) → slice_get whole i ≡ Some p → slice_get owned i ≡ Some o → BranchesWithin owned o p.exit
     pieces_within i o p there is =
         let q = piece_of i p there in
-        let n = q.at.number in
-        let low = slice_get_within blocks n q.at.block q.at.there in
-        let w = block_there owner n (omega (arith, low, owners.lengths)) in
-        let o_is : o ≡ place w.0 =
-        same_Some o (place w.0) (sym is ∙ ap (slice_get owned) q.is ∙ piece_owner n w.0 q.at.block q.at.there w.1 q.at.behind q.at.within) in
-        ⊎_elim (λ last. rw (last.1, o_is) (stays_within w.0 q.at.block.exit (owners.within n w.0 q.at.block q.at.there w.1))) (λ other. rw other.1 tt) q.looks.leaves
+        let w = owner_at i o q.at is in
+        ⊎_elim (λ last. rw (last.1, ← w.2) (stays_within w.0 q.at.block.exit (owners.within q.at.number w.0 q.at.block q.at.there w.1)))
+        (λ other. rw other.1 tt) q.looks.leaves
 
     starts_first : (w n j : ℕ) → slice_get owner n ≡ Some w → 0 ≡ place n + j → place w ≡ 0
-    starts_first w zero j is e =
-        let first : w ≡ 0 = owners.continues 0 w is in
-        ap place first ∙ omega (arith, e)
+    starts_first w zero j is e = ap place (owners.continues 0 w is) ∙ omega (arith, e)
     starts_first w (suc m) j is e =
         let low = slice_get_within owner (suc m) w is in
         let a = block_there blocks m (omega (arith, low, owners.lengths)) in
         let b = block_there blocks (suc m) (omega (arith, low, owners.lengths)) in
-        let next = first_next most 0 blocks m a.0 b.0 a.1 b.1 in
-        absurd (omega (arith, next, e))
+        absurd (omega (arith, first_next most 0 blocks m a.0 b.0 a.1 b.1, e))
 
     continues_from : (i w n j : ℕ) (b : BlockParts) → slice_get blocks n ≡ Some b → j ≤ more_pieces most b → slice_get owner n ≡ Some w
         → suc i ≡ place n + j → place w ≢ suc i → slice_get owned i ≡ Some (place w)
@@ -181,21 +156,22 @@ module _ (most : ℕ) (some : 0 < most) (blocks : List BlockParts) where
     continues_from i w (suc m) zero b there le is e other = ⊎_elim
         (λ at. (let here : place (suc m) ≡ suc i = omega (arith, e) in absurd (other (ap place at ∙ here))))
         (λ ne. (let before : slice_get owner m ≡ Some w = owners.continues (suc m) w is ne in
-        let low = slice_get_within owner m w before in
-        let a = block_there blocks m (omega (arith, low, owners.lengths)) in
-        let next = first_next most 0 blocks m a.0 b a.1 there in
-        let here : i ≡ place m + more_pieces most a.0 = omega (arith, next, e) in
+        let a = block_there blocks m (omega (arith, slice_get_within owner m w before, owners.lengths)) in
+        let here : i ≡ place m + more_pieces most a.0 = omega (arith, first_next most 0 blocks m a.0 b a.1 there, e) in
         ap (slice_get owned) here ∙ piece_owner m w a.0 a.1 before (more_pieces most a.0) (omega arith))) (cases_eq w (suc m))
 
+    located_at : (i o : ℕ) → slice_get owned i ≡ Some o → Located most 0 blocks i
+    located_at i o is = located most 0 blocks i (omega (arith, slice_get_within owned i o is, length-owners_from most place blocks owner owners.lengths))
+
     pieces_continue : (i o : ℕ) → slice_get owned i ≡ Some o → Continues owned i o
-    pieces_continue i o is =
-        by_owned i is (owned_at i (omega (arith, slice_get_within owned i o is, length-owners_from most place blocks owner owners.lengths)))
-      where
-        by_owned : (i : ℕ) → slice_get owned i ≡ Some o → Owned i → Continues owned i o
-        by_owned zero is q = sym (same_Some (place q.owner_is) o (sym q.here ∙ is)) ∙ starts_first q.owner_is q.at.number q.at.behind q.by q.is
-        by_owned (suc i) is q = λ other.
-            let same : place q.owner_is ≡ o = same_Some (place q.owner_is) o (sym q.here ∙ is) in
-            continues_from i q.owner_is q.at.number q.at.behind q.at.block q.at.there q.at.within q.by q.is (λ e. other (sym same ∙ e)) ∙ ap Some same
+    pieces_continue zero o is =
+        let at = located_at zero o is in
+        let w = owner_at zero o at is in
+        sym w.2 ∙ starts_first w.0 at.number at.behind w.1 (omega (arith, at.is))
+    pieces_continue (suc i) o is = λ other.
+        let at = located_at (suc i) o is in
+        let w = owner_at (suc i) o at is in
+        continues_from i w.0 at.number at.behind at.block at.there at.within w.1 (omega (arith, at.is)) (λ e. other (sym w.2 ∙ e)) ∙ ap Some w.2
 
     pub pieces_owned : AreOwners whole owned
     pieces_owned = record {
