@@ -102,13 +102,10 @@ right_few : (op : Op) (t d : ℕ) (right : Option Plain) (x y : Operand) → len
 right_few op t d None x y = left_few op t d (turned_immediate_of op d (operand_register 2 y.source) x.known) x y
 right_few op t d (Some i) x y = omega (arith, length-append {A = Plain}, fetch_few)
 
-product_few : (t d : ℕ) (m : _) (x : Source) → length (multiple_code t d m x) ≤ 6
-product_few t d m x = omega (arith, length-append {A = Plain}, fetch_few)
-
 multiple_few : (t d : ℕ) (multiple : Option _) (x : Source) (other : List Plain) → length other ≤ 6
     → length (code_by_multiple t d multiple x other) ≤ 6
 multiple_few t d None x other le = le
-multiple_few t d (Some m) x other le = product_few t d m x
+multiple_few t d (Some m) x other le = omega (arith, length-append {A = Plain}, fetch_few)
 
 op_few : (op : Op) (t d : ℕ) (x y : Operand) → length (op_code op t d x y) ≤ 6
 op_few op t d x y =

@@ -22,7 +22,7 @@ Rising low (r ∷ rs) = (low < r) × Rising r rs
 
 lower : (low low' : ℕ) (rs : List ℕ) → low' ≤ low → Rising low rs → Rising low' rs
 lower low low' [] le h = tt
-lower low low' (r ∷ rs) le h = (let lt = h.0 in omega (arith, lt, le), h.1)
+lower low low' (r ∷ rs) le h = (omega (arith, h.0, le), h.1)
 
 unused_rises : (hs : List Home) (low : ℕ) (rs : List ℕ) → Rising low rs → Rising low (unused hs rs)
 unused_rises hs low [] h = tt
@@ -32,14 +32,8 @@ unused_rises hs low (r ∷ rs) h =
 
 above : (low : ℕ) (rs : List ℕ) (j r : ℕ) → Rising low rs → slice_get rs j ≡ Some r → low < r
 above low [] j r h e = absurd (none-some r e)
-above low (x ∷ rs) zero r h e = (let lt = h.0 in let same = same_Some x r e in omega (arith, lt, same))
-above low (x ∷ rs) (suc j) r h e = (let lt = h.0 in let more = above x rs j r h.1 e in omega (arith, lt, more))
-
-not_home : (hs : List Home) (x r : ℕ) → lives_in hs r ≡ false → slice_get hs x ≡ Some (Reg r) → ⊥
-not_home hs x r none e = true≢false (sym (lives hs x r e) ∙ none)
-
-all_rise : Rising 7 temporaries
-all_rise = omega arith
+above low (x ∷ rs) zero r h e = omega (arith, h.0, same_Some x r e)
+above low (x ∷ rs) (suc j) r h e = omega (arith, h.0, above x rs j r h.1 e)
 
 -- ---- copies
 
@@ -96,10 +90,10 @@ module _ (hs : List Home) (plain : ArePlain hs) where
   are_copies = record {
     range = λ x r k e. (let t = (is_free x r k e).0 in (t.0, t.1));
     caller_saved = λ x r k e. ((is_free x r k e).0).2;
-    once = λ x y r j k e f. once 7 (unused hs temporaries) hs x y r j k plain (unused_rises hs 7 temporaries all_rise) e f;
+    once = λ x y r j k e f. once 7 (unused hs temporaries) hs x y r j k plain (unused_rises hs 7 temporaries (omega arith)) e f;
     idle = λ x y r k at e.
         let was = onto_get (unused hs temporaries) hs x (Reg r) at in
-        not_home hs x r (is_free y r k e).1 (was.1 ∙ ap Some (sym (plain x was.0 was.1) ∙ was.2));
+        true≢false (sym (lives hs x r (was.1 ∙ ap Some (sym (plain x was.0 was.1) ∙ was.2))) ∙ (is_free y r k e).1);
   }
 
 pub copies_are : (bs : List RBlock) (hs : List Home) → ArePlain hs → AreCopies (copied bs hs)

@@ -38,16 +38,16 @@ words_in (b ∷ bs) = length b.insts + words_in bs
 
 words_append : (xs ys : List BlockParts) → words_in (xs ++ ys) ≡ words_in xs + words_in ys
 words_append [] ys = omega arith
-words_append (x ∷ xs) ys = let rest = words_append xs ys in omega (arith, rest)
+words_append (x ∷ xs) ys = omega (arith, words_append xs ys)
 
 -- cut at 512 instructions
 total_append : (xs ys : List BlockParts) → total 512 (xs ++ ys) ≡ total 512 xs + total 512 ys
 total_append [] ys = omega arith
-total_append (x ∷ xs) ys = let rest = total_append xs ys in omega (arith, rest)
+total_append (x ∷ xs) ys = omega (arith, total_append xs ys)
 
 total_few : (bs : List BlockParts) → 512 * total 512 bs ≤ 512 * length bs + words_in bs
 total_few [] = omega arith
-total_few (b ∷ bs) = let rest = total_few bs in omega (arith, rest)
+total_few (b ∷ bs) = omega (arith, total_few bs)
 
 -- so many blocks, with so many instructions in all
 record Few (bs : List BlockParts) (blocks words : ℕ) : Type 0 where
@@ -172,7 +172,7 @@ each_counted_by_exits h ok places =
 -- a block has two at most
 exits_few : (bs : List RBlock) → exits_blocks bs ≤ 2 * length bs
 exits_few [] = omega arith
-exits_few (b ∷ bs) = let rest = exits_few bs in let one = by b.exit in omega (arith, one, rest)
+exits_few (b ∷ bs) = omega (arith, exits_few bs, by b.exit)
   where
     by : (x : RExit) → exit_blocks x ≤ 2
     by (Call g xs d next) = omega arith
@@ -180,7 +180,7 @@ exits_few (b ∷ bs) = let rest = exits_few bs in let one = by b.exit in omega (
 
 most_few : (funcs : List RFunc) → most_by_exits_for funcs ≤ most_blocks_for funcs
 most_few [] = omega arith
-most_few (func ∷ funcs) = let one = exits_few func.blocks.items in let rest = most_few funcs in omega (arith, one, rest)
+most_few (func ∷ funcs) = omega (arith, exits_few func.blocks.items, most_few funcs)
 
 pub each_counted : EachUnitIsCounted
 each_counted h ok places = omega (arith, each_counted_by_exits h ok places, most_few (h.rtl.now).functions)

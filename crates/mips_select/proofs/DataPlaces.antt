@@ -58,9 +58,6 @@ global_length x same =
 
 -- ---- one global
 
-element_behind : (w : Width) (i size : ℕ) → size ≡ width_bytes w → (k : ℕ) → width_bytes w * suc i + k ≡ size + (width_bytes w * i + k)
-element_behind w i size is k = (let next : width_bytes w * suc i ≡ width_bytes w + width_bytes w * i = omega arith in omega (arith, next, is))
-
 elements_byte : (w : Width) (vs : List ℕ) (i v k b : ℕ) → slice_get vs i ≡ Some v → slice_get (element_bytes w v) k ≡ Some b
     → slice_get (elements_bytes w vs) (width_bytes w * i + k) ≡ Some b
 elements_byte w [] i v k b at e = absurd (none-some v at)
@@ -68,8 +65,8 @@ elements_byte w (x ∷ vs) zero v k b at e =
     let place : width_bytes w * 0 + k ≡ k = omega arith in
     cc (get_before (element_bytes w x) (elements_bytes w vs) k b (ap (λ v. slice_get (element_bytes w v) k) (same_Some x v at) ∙ e))
 elements_byte w (x ∷ vs) (suc i) v k b at e =
+    let next : width_bytes w * suc i + k ≡ length (element_bytes w x) + (width_bytes w * i + k) = omega (arith, element_length w x) in
     cc (
-      element_behind w i (length (element_bytes w x)) (element_length w x) k,
       get_behind (element_bytes w x) (elements_bytes w vs) (width_bytes w * i + k),
       elements_byte w vs i v k b at e,
     )
@@ -233,7 +230,7 @@ data_ends gs =
     let m = length gs - 1 in
     let front = take m gs in
     let back = drop m gs in
-    let few : length back ≤ 1 = (let e = length-drop m gs in omega (arith, e)) in
+    let few : length back ≤ 1 = omega (arith, length-drop m gs) in
     let one = one_ends back few in (
       one.0,
       one.1,

@@ -94,11 +94,6 @@ module _ (l : Linking) (functions : List RFunc) (bound : ℕ) (entry_below : (g 
         cond_both (nat_eq w 0) e t (λ n. n < bound) (λ _. omega (arith, fits, at_e)) (λ _. omega (arith, fits, at_t))
     branch_goes (Some m) known x t e at_t at_e = compared_goes m.form m.left.source m.right.source t e at_t at_e
 
-    next_below : (k : ℕ) (g : ℕ) (d : Option ℕ) (next : ℕ) → next < blocks → (b : Bool) → k + (if b then 1 else 2) ≤ bound
-        → (if b then p.place next else suc k) < bound
-    next_below k g d next lt true le = place_below next lt
-    next_below k g d next lt false le = omega (arith, le)
-
     -- the exits of the blocks that stand for a block
     exit_goes : (k : ℕ) (facts : Facts) (last : Last) (x : RExit) → IsExit functions blocks x → k + count p.heads x ≤ bound
         → GoesWithin bound start size (exit_of l p.placing facts last (next_of p k x) x)
@@ -106,7 +101,7 @@ module _ (l : Linking) (functions : List RFunc) (bound : ℕ) (entry_below : (g 
     exit_goes k facts last (Branch c t e) ok le = branch_goes (tested last.comparison c) (known_in facts c) (last_operand (locations p.frame) facts last.fresh c) (p.place t) (p.place e)
         (place_from t (ok.1).0) (place_from e (ok.1).1)
     exit_goes k facts last (Call g xs d next) ok le =
-        (entry_below g (slice_get_within functions g (ok.0).callee (ok.0).there), next_below k g d next ((ok.1).1).1 (resumes d (p.heads next)) le)
+        (entry_below g (slice_get_within functions g (ok.0).callee (ok.0).there), grind (arith, le, place_below next ((ok.1).1).1))
     exit_goes k facts last (Return o) ok le = tt
     exit_goes k facts last (Out x next) ok le = place_below next ok.1
 

@@ -77,11 +77,9 @@ pub last_apart : (most k : ℕ) (bs : List BlockParts) (m n : ℕ) → m < lengt
 last_apart most k [] m n m_lt n_lt same = absurd (omega (arith, m_lt))
 last_apart most k (b ∷ bs) zero zero m_lt n_lt same = refl
 last_apart most k (b ∷ bs) zero (suc n) m_lt n_lt same =
-    let above = last_above most (k + count_of most b) bs n (omega (arith, n_lt)) in
-    absurd (omega (arith, above, same))
+    absurd (omega (arith, last_above most (k + count_of most b) bs n (omega (arith, n_lt)), same))
 last_apart most k (b ∷ bs) (suc m) zero m_lt n_lt same =
-    let above = last_above most (k + count_of most b) bs m (omega (arith, m_lt)) in
-    absurd (omega (arith, above, same))
+    absurd (omega (arith, last_above most (k + count_of most b) bs m (omega (arith, m_lt)), same))
 last_apart most k (b ∷ bs) (suc m) (suc n) m_lt n_lt same =
     ap suc (last_apart most (k + count_of most b) bs m n (omega (arith, m_lt)) (omega (arith, n_lt)) same)
 
@@ -94,7 +92,7 @@ length-split_from most place k (b ∷ bs) =
 -- there is a piece for each block
 pub total_above : (most : ℕ) (bs : List BlockParts) → length bs ≤ total most bs
 total_above most [] = omega arith
-total_above most (b ∷ bs) = (let rest = total_above most bs in omega (arith, rest))
+total_above most (b ∷ bs) = omega (arith, total_above most bs)
 
 -- piece i, from k on, is number `behind` of block n
 pub record Located (most k : ℕ) (bs : List BlockParts) (i : ℕ) : Type 0 where
@@ -123,8 +121,7 @@ pub first_next : (most k : ℕ) (bs : List BlockParts) (n : ℕ) (a b : BlockPar
 first_next most k [] n a b a_there b_there = absurd (none-some a a_there)
 first_next most k (x ∷ []) zero a b a_there b_there = absurd (none-some b b_there)
 first_next most k (x ∷ y ∷ bs) zero a b a_there b_there =
-    let same : more_pieces most x ≡ more_pieces most a = ap (λ (b : BlockParts). more_pieces most b) (same_Some x a a_there) in
-    omega (arith, same)
+    omega (arith, ap (λ (b : BlockParts). more_pieces most b) (same_Some x a a_there))
 first_next most k (x ∷ bs) (suc n) a b a_there b_there = first_next most (k + count_of most x) bs n a b a_there b_there
 
 -- the pieces hold all instructions

@@ -80,7 +80,7 @@ module _ (whole : List BlockParts) (links : ℕ → ℕ) where
       → slice_get whole t ≡ Some q → Reached i t q.insts s out end → Reached i k [] s out end
   entered i k p q t s out end there is at r = record {
     count = suc r.count;
-    enough = (let enough = r.enough in omega (arith, enough));
+    enough = omega (arith, r.enough);
     ends = rw (there, is, at) r.ends;
   }
 
@@ -89,7 +89,7 @@ module _ (whole : List BlockParts) (links : ℕ → ℕ) where
       → Reached i k part (state_after (action_of a) s) out end → Reached (suc i) k (x ∷ part) s out (if is_safe (action_of a) s then end else wrong out)
   one_step k x a part i s out end e r = record {
     count = suc r.count;
-    enough = (let enough = r.enough in omega (arith, enough));
+    enough = omega (arith, r.enough);
     ends = cc (r.ends);
   }
 

@@ -109,7 +109,7 @@ module _ (globals : List RGlobal) (ok : HaveValues globals) (few : length (padde
         (start_even 0 globals (omega arith) a)
         (λ k b byte. element_byte 0 globals ok a i v k b (element_place (width_of globals a) (start_of globals a) i + k) at byte (omega arith));
     places = record {
-      inside = λ a i v at. (let within = (element_within 0 globals ok a i v at).1 in omega (arith, within));
+      inside = λ a i v at. omega (arith, element_within 0 globals ok a i v at);
       apart = λ a i b j v w e f ne. elements_apart 0 globals ok a i b j v w e f ne;
       even = start_even 0 globals (omega arith);
       few = few;

@@ -9,7 +9,7 @@ returns c = λ blocks owner linked owners. record {
   short = pieces_short 512 some blocks;
   linked = pieces_linked 512 some blocks linked;
   owners = pieces_owned 512 some blocks owner owners;
-  some = (let many = total_above 512 blocks in let long = length-split_from 512 (first_piece_of 512 blocks) 0 blocks in omega (arith, many, long));
+  some = omega (arith, total_above 512 blocks, length-split_from 512 (first_piece_of 512 blocks) 0 blocks);
 }
   where
     some : 0 < 512
