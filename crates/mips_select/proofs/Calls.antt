@@ -57,14 +57,12 @@ stored_frame leaf f slots aside link = record { leaf = leaf; homes = f.homes.ite
 
 -- the frames of waiting activations, with their links
 abbrev pub frames_of : List Activation → List ℕ → List Stored
-frames_of [] ls = []
-frames_of (a ∷ rest) [] = []
 frames_of (a ∷ rest) (l ∷ ls) = stored_frame false a.frame a.slots a.aside l ∷ frames_of rest ls
+frames_of _ _ = []
 
 pub linked_frames : (ws : List Activation) (ls : List ℕ) (registers : Places) (regs : ℕ → ℕ) → Linked (frames_of ws ls) registers regs
-linked_frames [] ls registers regs = tt
-linked_frames (a ∷ ws) [] registers regs = tt
 linked_frames (a ∷ ws) (l ∷ ls) registers regs = λ leaf. absurd (true≢false (sym leaf))
+linked_frames _ _ registers regs = tt
 
 front_in : (xs : List ℕ) (x q : ℕ) → q ≢ x → is_in (xs ++ x ∷ []) q ≡ is_in xs q
 front_in [] x q ne = rw (ne_eqb q x ne) refl

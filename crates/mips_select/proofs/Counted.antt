@@ -147,13 +147,12 @@ function_few l n k (b ∷ bs) f eight four alone some few =
 functions_few : (l : Linking) (k : ℕ) (funcs : List RFunc) (fs : List Frame)
     → ((i : ℕ) (func : RFunc) (f : Frame) → slice_get funcs i ≡ Some func → slice_get fs i ≡ Some f → IsFew func f)
     → total 512 (functions_blocks l k funcs fs) ≤ most_by_exits_for funcs
-functions_few l k [] fs each = omega arith
-functions_few l k (func ∷ funcs) [] each = omega arith
 functions_few l k (func ∷ funcs) (f ∷ fs) each =
     let is = each 0 func f refl refl in
     let one = function_few l func.parameters k func.blocks.items f is.eight is.four is.alone is.some is.few in
     let rest = functions_few l (k + function_size func) funcs fs (λ i g h eg eh. each (suc i) g h eg eh) in
     omega (arith, one.blocks_few, one.words_few, total_few, rest, total_append)
+functions_few l k _ _ each = omega arith
 
 pub each_counted_by_exits : EachUnitIsCountedByExits
 each_counted_by_exits h ok places =

@@ -158,11 +158,9 @@ homes_many : (funcs : List RFunc) (fs : List Frame) → length fs ≡ length fun
     → slice_get fs i ≡ Some f → length f.homes.items ≡ how_many func)
     → largest_by_homes fs ≡ largest_frame funcs
 homes_many [] [] same each = refl
-homes_many [] (f ∷ fs) same each = absurd (omega (arith, same))
-homes_many (func ∷ funcs) [] same each = absurd (omega (arith, same))
 homes_many (func ∷ funcs) (f ∷ fs) same each =
-    let rest = homes_many funcs fs (omega (arith, same)) (λ i func f there f_there. each (suc i) func f there f_there) in
-    omega (arith, rest, each 0 func f refl refl)
+    omega (arith, homes_many funcs fs (omega (arith, same)) (λ i. each (suc i)), each 0 func f refl refl)
+homes_many _ _ same each = absurd (omega (arith, same))
 
 pub largest_same : (h : Homed) → ArePlaced h → largest_by_homes h.frames.items ≡ largest_frame (h.rtl.now).functions
 largest_same h ok = homes_many (h.rtl.now).functions h.frames.items ok.long (λ i func f there f_there. (let q = ok.by i func f there f_there in places_long_as func q.choice f q.is q.placed))

@@ -145,23 +145,20 @@ module _ (l : Linking) (functions : List RFunc) (bound : ℕ) (entry_below : (g 
 
   -- those of each function
   abbrev pub each_function : ℕ → List RFunc → List Frame → List (List BlockParts)
-  each_function k [] fs = []
-  each_function k (func ∷ funcs) [] = []
   each_function k (func ∷ funcs) (f ∷ fs) = function_blocks l k func f ∷ each_function (k + function_size func) funcs fs
+  each_function k _ _ = []
 
   functions_go : (k : ℕ) (funcs : List RFunc) (fs : List Frame) → All GivenFunction funcs → k + functions_size funcs ≤ bound
       → AreFunctions bound k (each_function k funcs fs)
-  functions_go k [] fs has le = tt
-  functions_go k (func ∷ funcs) [] has le = tt
   functions_go k (func ∷ funcs) (f ∷ fs) has le = (
     function_goes k func f (All-head GivenFunction func funcs has) (omega (arith, le)),
     rw (function_length l k func f) (functions_go (k + function_size func) funcs fs (All-tail GivenFunction func funcs has) (omega (arith, le))),
   )
+  functions_go k _ _ has le = tt
 
   functions_joined : (k : ℕ) (funcs : List RFunc) (fs : List Frame) → blocks_of (each_function k funcs fs) ≡ functions_blocks l k funcs fs
-  functions_joined k [] fs = refl
-  functions_joined k (func ∷ funcs) [] = refl
   functions_joined k (func ∷ funcs) (f ∷ fs) = ap (λ rest. function_blocks l k func f ++ rest) (functions_joined (k + function_size func) funcs fs)
+  functions_joined k _ _ = refl
 
   functions_length : (k : ℕ) (funcs : List RFunc) (fs : List Frame) → length fs ≡ length funcs
       → length (blocks_of (each_function k funcs fs)) ≡ functions_size funcs

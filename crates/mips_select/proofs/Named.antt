@@ -12,22 +12,18 @@ use Rattle.mips_select.specs.declared.heads.Head.{Head}
 use Rattle.mips_select.specs.declared.heads.Head.TheVariants.{Bare, Enters, Takes}
 use Rattle.mips_select.specs.Heads.{naming_with_call, note, namings, head_at, heads_in}
 
--- what heads the exit allows
-abbrev pub NamedJump : Head → Type 0
-NamedJump Bare = Unit {0}
-NamedJump _ = ⊥
-
+-- what heads an exit allows
 abbrev pub NamedCall : Option ℕ → Head → Type 0
 NamedCall d Bare = Unit {0}
 NamedCall d Enters = ⊥
 NamedCall d (Takes e) = d ≡ Some e
 
 abbrev pub Named : (ℕ → Head) → RExit → Type 0
-Named heads (Goto b) = NamedJump (heads b)
-Named heads (Branch c t e) = NamedJump (heads t) × NamedJump (heads e)
+Named heads (Goto b) = heads b ≡ Bare
+Named heads (Branch c t e) = (heads t ≡ Bare) × (heads e ≡ Bare)
 Named heads (Call g xs d next) = NamedCall d (heads next)
 Named heads (Return o) = Unit {0}
-Named heads (Out x next) = NamedJump (heads next)
+Named heads (Out x next) = heads next ≡ Bare
 
 -- the same of the table
 abbrev IsJumped : Option Naming → Type 0
@@ -42,11 +38,9 @@ IsCalled d _ = Unit {0}
 
 set_keeps : (Q : Option Naming → Type 0) (v : Option Naming → Naming) → ((o : Naming) → Q (Some o) → Q (Some (v (Some o)))) → (l : List Naming) (t b : ℕ)
     → Q (slice_get l b) → Q (slice_get (slice_set l t (v (slice_get l t))) b)
-set_keeps Q v up [] t b q = q
 set_keeps Q v up (x ∷ l) zero zero q = up x q
-set_keeps Q v up (x ∷ l) zero (suc b) q = q
-set_keeps Q v up (x ∷ l) (suc t) zero q = q
 set_keeps Q v up (x ∷ l) (suc t) (suc b) q = set_keeps Q v up l t b q
+set_keeps Q v up _ _ _ q = q
 
 set_makes : (Q : Option Naming → Type 0) (v : Option Naming → Naming) → Q None → ((o : Naming) → Q (Some (v (Some o)))) → (l : List Naming) (t : ℕ)
     → Q (slice_get (slice_set l t (v (slice_get l t))) t)
@@ -79,17 +73,17 @@ called_now : (d : Option ℕ) (o : Naming) → IsCalled d (Some (naming_with_cal
 called_now d Unnamed = refl
 called_now d _ = tt
 
-jump_head : (b : ℕ) (o : Option Naming) → IsJumped o → NamedJump (head_at b o)
+jump_head : (b : ℕ) (o : Option Naming) → IsJumped o → head_at b o ≡ Bare
 jump_head b (Some Unnamed) q = absurd q
 jump_head b (Some (Called d)) q = absurd q
-jump_head b _ q = tt
+jump_head b _ q = refl
 
 call_head : (d : Option ℕ) (b : ℕ) (o : Option Naming) → IsCalled d o → NamedCall d (head_at b o)
 call_head d b (Some Unnamed) q = absurd q
 call_head d b (Some (Called (Some e))) q = cond_both (nat_eq b 0) Bare (Takes e) (NamedCall d) (λ _. tt) (λ _. q)
 call_head d b _ q = tt
 
-jumped_after : (bs : List RBlock) (l : List Naming) (t : ℕ) → IsJumped (slice_get l t) → NamedJump (heads_in (namings bs l) t)
+jumped_after : (bs : List RBlock) (l : List Naming) (t : ℕ) → IsJumped (slice_get l t) → heads_in (namings bs l) t ≡ Bare
 jumped_after bs l t q = jump_head t (slice_get (namings bs l) t) (namings_keep IsJumped (λ o q. tt) jumped_stays bs l t q)
 
 pub named : (bs : List RBlock) (l : List Naming) (i : ℕ) (block : RBlock) → slice_get bs i ≡ Some block → Named (heads_in (namings bs l)) block.exit

@@ -70,8 +70,6 @@ module _ (fs : List (List BlockParts)) (are : AreFunctions (length (blocks_of fs
   below : (start n : ℕ) → start + n ≤ bound → (exit : Exit) → GoesWithin bound start n exit → GoesBelow bound exit
   below start n fits (BranchPair test a b t e) at = omega (arith, fits, at)
   below start n fits (BranchZero test a t e) at = omega (arith, fits, at)
-  below start n fits Return at = tt
-  below start n fits Halt at = tt
   below start n fits _ at = at
 
   inside : (start n : ℕ) → HasAt owner start (replicate n start) → (exit : Exit) → GoesWithin bound start n exit → BranchesWithin owner start exit

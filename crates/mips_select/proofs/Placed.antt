@@ -34,11 +34,7 @@ use Rattle.mips_select.specs.Whole.{entry_of, functions_blocks, linking_for, pro
 use Rattle.mips_select.specs.Selected.{IsBehind, AreInOrder, IsClear, AreClear, GoesOn, StandsAt, IsSelected}
 use Rattle.mips_select.proofs.Lists.{all_at}
 use Rattle.mips_select.proofs.Linked.{behind_length, lead_length, function_length}
-use Rattle.mips_select.proofs.Named.{NamedJump, NamedCall, Named, named}
-
-no_head_code : (p : Planning) (x : Head) → NamedJump x → head_code p x ≡ []
-no_head_code p Bare ok = refl
-no_head_code p _ ok = absurd ok
+use Rattle.mips_select.proofs.Named.{NamedCall, Named, named}
 
 -- a home below 8 is in a register in which no argument is passed behind it, and where a parameter comes
 abbrev pub AreSeated : RFunc → Frame → Type 0
@@ -120,10 +116,10 @@ module _ (whole : List BlockParts) (l : Linking) where
       go d Enters e names has = absurd names
       go None (Takes c) e names has = absurd (none-some c names)
       go (Some d) (Takes c) e names has = ((ok.1, ok.2), inr (refl, ap (head_code p) e ∙ ap (result_code (locations p.frame)) (sym names)))
-  goes_on p k (Goto b) rest ok has = no_head_code p (p.heads b) ok.0
-  goes_on p k (Branch c t e) rest ok has = (no_head_code p (p.heads t) (ok.0).0, no_head_code p (p.heads e) (ok.0).1)
+  goes_on p k (Goto b) rest ok has = ap (head_code p) ok.0
+  goes_on p k (Branch c t e) rest ok has = (ap (head_code p) (ok.0).0, ap (head_code p) (ok.0).1)
   goes_on p k (Return o) rest ok has = tt
-  goes_on p k (Out x next) rest ok has = no_head_code p (p.heads next) ok.0
+  goes_on p k (Out x next) rest ok has = ap (head_code p) ok.0
 
   -- block i of a function is block b of those from j on
   placed : (p : Planning) (k j : ℕ) (bs : List RBlock) → HasAt whole k (blocks_from l p k j bs)
