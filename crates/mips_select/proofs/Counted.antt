@@ -3,6 +3,7 @@ use Rattle.std.proofs.Common.{◌≡◌, ℕ, suc, ◌+◌, ◌-◌, ◌*◌, �
 use Rattle.std.proofs.Common.{refl, arith, nat_eq, eqb-true}
 use Rattle.std.specs.Prelude.{slice_get}
 use Rattle.std.proofs.lemmas.Bool.{cond_both}
+use Rattle.std.proofs.lemmas.Bool.Decides.{nat_tests}
 use Rattle.mblock.specs.Parts.{BlockParts}
 use Rattle.rtl.specs.declared.instruction.RExit.{RExit}
 use Rattle.rtl.specs.declared.instruction.RExit.TheVariants.{Call}
@@ -115,10 +116,8 @@ later_head : (p : Planning) (names : List Naming) (j : ℕ) → length (head_cod
 later_head p names j = by (slice_get names (suc j))
   where
     by : (o : Option Naming) → length (head_code p (head_at (suc j) o)) ≤ 2
-    by (Some Unnamed) = cond_both (nat_eq (suc j) 0) Enters Bare (λ head. length (head_code p head) ≤ 2)
-        (λ e. absurd (omega (arith, eqb-true (suc j) 0 e))) (λ _. omega arith)
-    by (Some (Called (Some d))) = cond_both (nat_eq (suc j) 0) Bare (Takes d) (λ head. length (head_code p head) ≤ 2)
-        (λ _. omega arith) (λ _. result_few (locations p.frame) (Some d))
+    by (Some Unnamed) = grind (arith, nat_tests)
+    by (Some (Called (Some d))) = grind (arith, nat_tests, result_few (locations p.frame) (Some d))
     by _ = omega arith
 
 record IsFew (func : RFunc) (f : Frame) : Type 0 where

@@ -40,17 +40,13 @@ read_length homes r slots (x ∷ xs) vs e =
     let ws = chain-some (read_homes homes r slots xs) (λ (vs : List ℕ). Some (v.0 ∷ vs)) vs v.2 in
     rw (← same_Some _ vs ws.2) (ap suc (read_length homes r slots xs ws.0 ws.1))
 
-pub branch_words : (place : ℕ → ℕ) (x y v : ℕ) (b : Bool) → (if not b then place y else place x) ≡ place (if b then x else y)
-branch_words place x y v true = refl
-branch_words place x y v false = refl
+pub branch_words : (place : ℕ → ℕ) (x y : ℕ) (b : Bool) → (if not b then place y else place x) ≡ place (if b then x else y)
+branch_words place x y true = refl
+branch_words place x y false = refl
 
 pub either : (head : ℕ → List Plain) (x y : ℕ) (b : Bool) → (head y ≡ []) × (head x ≡ []) → head (if b then x else y) ≡ []
 either head x y true e = e.1
 either head x y false e = e.0
-
-pub either_place : (place : ℕ → ℕ) (x y : ℕ) (b : Bool) → (if b then place x else place y) ≡ place (if b then x else y)
-either_place place x y true = refl
-either_place place x y false = refl
 
 -- a callee-saved register is none of those in which arguments are passed
 pub above_arguments : (r : Places) (q w : ℕ) → callee_saved r q ≡ Some w → 8 ≤ q

@@ -12,6 +12,7 @@ use Rattle.runs.specs.Stores.{Places, places_with, unset_places, Arrays}
 use Rattle.mips_isa.specs.declared.inst.Plain.{Plain}
 use Rattle.mips_isa.specs.States.{State}
 use Rattle.mips_isa.specs.Starting.{stack_base, stack_end}
+use Rattle.mips_isa.proofs.Registers.{cond-ap}
 use Rattle.mblock.specs.declared.exit.Exit.{Exit}
 use Rattle.mblock.specs.declared.exit.Exit.TheVariants as E
 use Rattle.mblock.specs.Parts.{BlockParts}
@@ -51,7 +52,7 @@ use Rattle.mips_select.specs.Plans.{Linking, Placing, placing_of}
 use Rattle.mips_select.specs.Code.{epilogue, asked_of, exit_code, exit_of, code_insts}
 use Rattle.mips_select.specs.Code.{context_in, own_block, result_code, after_block}
 use Rattle.mips_select.specs.Selected.{GoesOn, StandsAt, IsPlaced, IsFunction, IsSelected}
-use Rattle.mips_select.proofs.Departures.{read_length, branch_words, either, either_place, above_arguments, goes_by, same_exit, same_code, return_found}
+use Rattle.mips_select.proofs.Departures.{read_length, branch_words, either, above_arguments, goes_by, same_exit, same_code, return_found}
 use Rattle.mips_select.proofs.Frames.{all_denote, arguments, parameters}
 use Rattle.mips_select.proofs.Calls.{stored_frame, frames_of, linked_frames, enters, leaves_frame}
 
@@ -418,18 +419,18 @@ module _ {h : Homed} {depth : ℕ} {blocks : List BlockParts} (ok : IsSelected h
         → From (branch_code t known (operand x)) (state_at_block (if nat_eq v 0 then z else y) a a.slots (around (callee_saved r) ws g out))
     branches x y z c v e None is_test (Some w) is_known is_exit =
         let same : w ≡ v = same_Some w v (sym (m.is_known.by x w is_known) ∙ e) in
-        let goes : c.form.exit ≡ E.Goto (m.place (if nat_eq v 0 then z else y)) = cc (either_place m.place z y (nat_eq v 0)) in
+        let goes : c.form.exit ≡ E.Goto (m.place (if nat_eq v 0 then z else y)) = cc (cond-ap m.place (nat_eq v 0) z y) in
         goes_on _ out (runs_none s) settles (either m.head z y (nat_eq v 0) c.leads_on) (λ target there. jump c.there goes there)
     branches x y z c v e None is_test None is_known is_exit =
         let one = fetches m.stands 1 v (operand x) (omega arith) (omega arith) (means x v e) in
         goes_on _ out one.runs (settled m.are_deferred one.stands) (either m.head z y (nat_eq v 0) c.leads_on) (λ target there.
-        departs c.there is_exit (λ n. rw (one.here, branch_words m.place z y v (nat_eq v 0), there)))
+        departs c.there is_exit (λ n. rw (one.here, branch_words m.place z y (nat_eq v 0), there)))
     branches x y z c v e (Some n) is_test known is_known is_exit =
         let taken : passes n.form n.left.source n.right.source s ≡ not (nat_eq v 0) = found m.last.comparison refl is_test in
         goes_on _ out (runs_none s) settles (either m.head z y (nat_eq v 0) c.leads_on) (λ target there.
         departs c.there is_exit (λ i.
         goes_by blocks links n.form n.left.source n.right.source (m.place y) (m.place z) k s out i
-        ∙ rw (taken, branch_words m.place z y v (nat_eq v 0), there)))
+        ∙ rw (taken, branch_words m.place z y (nat_eq v 0), there)))
       where
         -- what is left of a comparison says whether the branch is taken
         found : (p : Option Comparison) → m.last.comparison ≡ p → tested p x ≡ Some n → passes n.form n.left.source n.right.source s ≡ not (nat_eq v 0)

@@ -150,10 +150,7 @@ module _ {h : Homed} {depth : ℕ} {blocks : List BlockParts} (ok : IsSelected h
       let s1 = set s0 31 (links 0) in
       let st1 = call_kept st0 (set_words s0 31 (links 0) st0.words (tells.words 0)) tt (λ q low high. put_other s0.regs 31 (links 0) q (omega (arith, high))) in
       reach_after ok tells 1 1 _ (omega arith) (code_leads ok tells 0 [] c.runs)
-      (subst (λ registers. Comes 1 (At 0 [] s0 [])
-      (state_at_block 0 (new_activation func.blocks.items frame unset_places unset_places None) unset_places (around registers [] (map first_values globals) [])))
-      (entry_unset frame.saved.items)
-      (entered ok tells (At 0 [] s0 []) main func frame is unset_places (map first_values globals) [] (links 0) None [] [] s1 []
+      (rw (entry_unset frame.saved.items) at (entered ok tells (At 0 [] s0 []) main func frame is unset_places (map first_values globals) [] (links 0) None [] [] s1 []
       (λ form there. departs ok tells ok.start refl (λ n. rw there)) st1 (λ q passes. refl)
       (put_here s0.regs 31 (links 0) (omega arith)) (λ j v at. absurd (none-some v at)) (sym none)
       (omega (arith, ok.small)) (return_found links blocks 0 (ok.entry main) 1 (start_block (ok.entry main)) tells ok.start refl)))))
