@@ -9,14 +9,12 @@ mod Blocks
 mod DataPlaces
 mod Linked
 mod Frames
-mod Emitted
 mod Calls
 mod Departures
 mod Simulation
 mod Theorem
 mod Lists
 mod Placed
-mod Copied
 mod FrameSizes
 mod Selecting
 mod CodeSizes

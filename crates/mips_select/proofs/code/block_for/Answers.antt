@@ -1,4 +1,4 @@
-use Rattle.mips_select.proofs.Emitted.{head_made}
+use Rattle.mips_select.proofs.Blocks.{head_made}
 use Rattle.mips_select.proofs.code.block_for.Goals as goal
 
 pub returns : goal.returns

@@ -2,7 +2,7 @@ use Rattle.std.proofs.Common.{refl, ap}
 use Rattle.std.proofs.lemmas.Result.{IfOk-weaker}
 use Rattle.mblock.specs.Parts.{BlockParts}
 use Rattle.mips_select.specs.Plans.{linking_of, planning_of}
-use Rattle.mips_select.proofs.Emitted.{block_made}
+use Rattle.mips_select.proofs.Blocks.{block_made}
 use Rattle.mips_select.proofs.code.emit_own.Goals as goal
 
 pub returns-clause-code : goal.returns-clause-code

@@ -1,5 +1,5 @@
 use Rattle.std.proofs.lemmas.Result.{IfOk-weaker}
-use Rattle.mips_select.proofs.Emitted.{epilogue_made}
+use Rattle.mips_select.proofs.Blocks.{epilogue_made}
 use Rattle.mips_select.proofs.prologue.emit_epilogue.Goals as goal
 
 pub returns : goal.returns

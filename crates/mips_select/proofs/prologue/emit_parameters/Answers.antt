@@ -1,5 +1,5 @@
 use Rattle.mips_emit.specs.Locations.{locations}
-use Rattle.mips_select.proofs.Emitted.{parameters_step, all_parameters}
+use Rattle.mips_select.proofs.Blocks.{parameters_step, all_parameters}
 use Rattle.mips_select.proofs.prologue.emit_parameters.Goals as goal
 
 pub loop-x-preserved : goal.loop-x-preserved

@@ -1,5 +1,5 @@
 use Rattle.std.proofs.lemmas.Result.{IfOk-weaker}
-use Rattle.mips_select.proofs.Emitted.{prologue_made}
+use Rattle.mips_select.proofs.Blocks.{prologue_made}
 use Rattle.mips_select.proofs.prologue.emit_prologue.Goals as goal
 
 pub returns : goal.returns
