@@ -3,6 +3,7 @@ use Rattle.std.proofs.Common.{◌≡◌, ℕ, zero, suc, ◌+◌, ◌*◌, ◌<�
 use Rattle.std.proofs.Common.{⊎_elim, Option, Some, None, refl, sym, ap, ◌∙◌, arith}
 use Rattle.std.specs.Prelude.{All, ◌&&◌, if◌then◌else◌, slice_get, slice_index}
 use Rattle.std.proofs.lemmas.Option.{same_Some, none-some, slice_get_within}
+use Rattle.std.proofs.lemmas.Bool.Decides.{nat_tests}
 use Rattle.mips_isa.specs.declared.inst.Plain.{Plain}
 use Rattle.mblock.specs.Parts.{BlockParts}
 use Rattle.rtl.specs.declared.instruction.RExit.{RExit}
@@ -78,22 +79,12 @@ module _ (func : RFunc) (f : Frame) (range : (x r k : ℕ) → slice_get f.homes
 
 -- a leaf has no call
 abbrev IsFine : Bool → RExit → Type 0
-IsFine leaf (Call g xs d next) = leaf ≡ false
-IsFine leaf _ = Unit {0}
+IsFine leaf x = calls_none x ≡ false → leaf ≡ false
 
 leaf_fine : (bs : List RBlock) (b : ℕ) (block : RBlock) → slice_get bs b ≡ Some block → IsFine (is_leaf bs) block.exit
-leaf_fine [] b block there = absurd (none-some block there)
-leaf_fine (x ∷ bs) zero block there = rw (← same_Some x block there) (here x.exit)
-  where
-    here : (e : RExit) → IsFine (calls_none e && is_leaf bs) e
-    here (Call g xs d next) = refl
-    here _ = tt
-leaf_fine (x ∷ bs) (suc b) block there = more (calls_none x.exit) block.exit (leaf_fine bs b block there)
-  where
-    more : (c : Bool) (e : RExit) → IsFine (is_leaf bs) e → IsFine (c && is_leaf bs) e
-    more true e ok = ok
-    more false (Call g xs d next) ok = refl
-    more false _ ok = tt
+leaf_fine [] b block there calls = absurd (none-some block there)
+leaf_fine (x ∷ bs) zero block there calls = let here : calls_none x.exit ≡ false = rw (same_Some x block there) calls in rw here
+leaf_fine (x ∷ bs) (suc b) block there calls = let rest = leaf_fine bs b block there calls in grind (arith, nat_tests)
 
 -- what stands before the own code of each block
 abbrev heads_code : Planning → ℕ → List Plain
@@ -111,11 +102,11 @@ module _ (whole : List BlockParts) (l : Linking) where
       go : (d : Option ℕ) (x : Head) → p.heads next ≡ x → NamedCall d x → HasAt whole (suc k)
           ((if resumes d x then [] else after_block p.frame d (p.place next) ∷ []) ++ rest)
           → GoesOn whole l p.placing (heads_code p) (if resumes d x then p.place next else suc k) (Call g xs d next)
-      go None Bare e names has = ((ok.1, ok.2), inr (refl, ap (head_code p) e))
-      go (Some d) Bare e names has = ((ok.1, ok.2), inl (has_head has, ap (head_code p) e))
+      go None Bare e names has = ((ok.1 refl, ok.2), inr (refl, ap (head_code p) e))
+      go (Some d) Bare e names has = ((ok.1 refl, ok.2), inl (has_head has, ap (head_code p) e))
       go d Enters e names has = absurd names
       go None (Takes c) e names has = absurd (none-some c names)
-      go (Some d) (Takes c) e names has = ((ok.1, ok.2), inr (refl, ap (head_code p) e ∙ ap (result_code (locations p.frame)) (sym names)))
+      go (Some d) (Takes c) e names has = ((ok.1 refl, ok.2), inr (refl, ap (head_code p) e ∙ ap (result_code (locations p.frame)) (sym names)))
   goes_on p k (Goto b) rest ok has = ap (head_code p) ok.0
   goes_on p k (Branch c t e) rest ok has = (ap (head_code p) (ok.0).0, ap (head_code p) (ok.0).1)
   goes_on p k (Return o) rest ok has = tt

@@ -2,8 +2,8 @@
 use Rattle.std.proofs.Common.{◌≡◌, ℕ, zero, suc, ◌+◌, ◌<◌, ◌≤◌, List, [], ◌∷◌, length, length-append, Some, sym, ap}
 use Rattle.std.proofs.Common.{◌∙◌, subst, arith, Result, IfErr}
 use Rattle.std.specs.Prelude.{All, map, slice_get, slice_index, sum_by}
-use Rattle.std.proofs.lemmas.List.Sums.{sum_by-cons}
-use Rattle.std.proofs.lemmas.Option.{same_Some, none-some}
+use Rattle.std.proofs.lemmas.List.Sums.{get_or-le-sum_by}
+use Rattle.std.proofs.lemmas.Option.{get_or_from_slice_get, slice_get_within}
 use Rattle.std.proofs.lemmas.Result.{err_from_is_err_and}
 use Rattle.std.specs.Result.{IsErrAnd}
 use Rattle.mblock.specs.declared.limits.TheConstants.{UNIT_BLOCKS, UNIT_BYTES, BLOCK_INSTS}
@@ -40,20 +40,12 @@ few_arguments functions globals blocks (Call g xs d next) all ok =
     omega (arith, few, callee.takes)
 few_arguments functions globals blocks _ all ok = tt
 
-few_blocks : (functions : List RFunc) (g : ℕ) (func : RFunc) → slice_get functions g ≡ Some func → length func.blocks.items ≤ sum_by block_count functions
-few_blocks [] g func there = absurd (none-some func there)
-few_blocks (x ∷ functions) zero func there =
-    let same = ap (λ (f : RFunc). length f.blocks.items) (same_Some x func there) in
-    let sum = sum_by-cons block_count x functions in
-    omega (arith, same, sum)
-few_blocks (x ∷ functions) (suc g) func there =
-    omega (arith, few_blocks functions g func there, sum_by-cons block_count x functions)
-
 pub function_blocks_few : (p : Program) (functions : List RFunc) → IsProgram p → functions ≡ p.functions → (g : ℕ) (func : RFunc)
     → slice_get functions g ≡ Some func → length func.blocks.items ≤ MAX_BLOCKS
 function_blocks_few p functions ok is g func there =
-    let few = few_blocks p.functions g func (ap (λ (l : List RFunc). slice_get l g) (sym is) ∙ there) in
-    omega (arith, few, ok.blocks_fit)
+    let at = rw is at there in
+    let most = get_or-le-sum_by block_count p.functions g func (slice_get_within p.functions g func at) in
+    omega (arith, most, ap block_count (get_or_from_slice_get p.functions g func func at), ok.blocks_fit)
 
 pub functions_emittable : (p : Program) (functions : List RFunc) (n : ℕ) → IsProgram p → functions ≡ p.functions → n ≡ length p.globals
     → AreFunctionsEmittable n functions
