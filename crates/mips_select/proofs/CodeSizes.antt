@@ -29,7 +29,7 @@ use Rattle.mips_emit.specs.declared.element.Reach.TheVariants.{ByScratch, ByNew}
 use Rattle.mips_emit.specs.Elements.{scaled, base_sum}
 use Rattle.mips_emit.specs.Code.{li, fetch, operand_register, bring, carry, finish, put_at, arrive, operation, code_by_less}
 use Rattle.mips_emit.specs.declared.operation.Operand.{Operand}
-use Rattle.mips_emit.specs.Code.{Context, code_by_left, code_by_right, code_by_word, multiple_of, multiple_code, code_by_multiple, op_code, element_code}
+use Rattle.mips_emit.specs.Code.{Context, code_by_left, code_by_right, code_by_word, multiple_of, code_by_multiple, op_code, element_code}
 use Rattle.mips_emit.specs.Code.{immediate_of, turned_immediate_of, turned_less_of, const_code, inst_code, arguments_code}
 use Rattle.mips_emit.specs.Comparisons.{code_by_form, opposite_op, next_code, insts_code, branch_code}
 use Rattle.mips_emit.specs.Comparisons.{tested, return_code}

@@ -1,7 +1,7 @@
 -- The parts of a program's unit, put together.
-use Rattle.std.proofs.Common.{◌≡◌, ℕ, zero, suc, ◌+◌, ◌<◌, ◌≤◌, List, [], ◌∷◌, length, length-append, Some, sym, ap}
-use Rattle.std.proofs.Common.{◌∙◌, subst, arith, Result, IfErr}
-use Rattle.std.specs.Prelude.{All, map, slice_get, slice_index, sum_by}
+use Rattle.std.proofs.Common.{◌≡◌, ℕ, ◌+◌, ◌<◌, ◌≤◌, List, length, length-append, Some, refl, ap}
+use Rattle.std.proofs.Common.{◌∙◌, arith, Result, IfErr}
+use Rattle.std.specs.Prelude.{All, map, slice_get, slice_index}
 use Rattle.std.proofs.lemmas.List.Sums.{get_or-le-sum_by}
 use Rattle.std.proofs.lemmas.Option.{get_or_from_slice_get, slice_get_within}
 use Rattle.std.proofs.lemmas.Result.{err_from_is_err_and}
@@ -22,7 +22,7 @@ use Rattle.mips_select.specs.declared.fault.SelectFault.TheVariants.{Limit}
 use Rattle.mips_select.specs.Split.{split_blocks, split_owners, first_piece_of, firsts}
 use Rattle.mips_select.proofs.Places.{total_above, length-split_from}
 use Rattle.mips_select.specs.Data.{zeros, data_bytes}
-use Rattle.mips_select.specs.Emittable.{HasFewArguments, IsEmittable, AreFunctionsEmittable}
+use Rattle.mips_select.specs.Emittable.{HasFewArguments, AreFunctionsEmittable}
 use Rattle.mips_select.specs.Limits.{FramesFit}
 use Rattle.mips_select.specs.Whole.{functions_size, numbers_from, owners_for, program_blocks, unit_for}
 use Rattle.mips_select.specs.Laws.{IsSelected, IsNumbered, IsBeyond}
@@ -49,23 +49,19 @@ function_blocks_few p functions ok is g func there =
 
 pub functions_emittable : (p : Program) (functions : List RFunc) (n : ℕ) → IsProgram p → functions ≡ p.functions → n ≡ length p.globals
     → AreFunctionsEmittable n functions
-functions_emittable p functions n ok is n_is = record {
+functions_emittable p functions n ok is n_is = rw (is, n_is) (record {
   by = λ g func there.
-      let there' = ap (λ (l : List RFunc). slice_get l g) (sym is) ∙ there in
-      let function = all_at (IsFunction p.functions (length p.globals)) p.functions g func ok.functions there' in
+      let function = all_at (IsFunction p.functions (length p.globals)) p.functions g func ok.functions there in
       record {
         parameters = function.parameters;
-        few = function_blocks_few p functions ok is g func there;
+        few = function_blocks_few p p.functions ok refl g func there;
         blocks = record {
           by = λ b block at.
               let x = all_at (IsBlock p.functions (length p.globals) (length func.blocks.items)) func.blocks.items b block function.blocks at in
-              subst (λ n. IsEmittable n block) (sym n_is) (record {
-                insts = x.insts;
-                exit = few_arguments p.functions (length p.globals) (length func.blocks.items) block.exit ok.functions x.exit;
-              });
+              record { insts = x.insts; exit = few_arguments p.functions (length p.globals) (length func.blocks.items) block.exit ok.functions x.exit };
         };
       };
-}
+})
 
 -- ---- the unit
 
