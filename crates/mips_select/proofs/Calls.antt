@@ -214,7 +214,8 @@ module _ {most total : ℕ} {gs : List RGlobal} {starts : ℕ → ℕ} (small : 
       let in_stack : InStack total size s = record { mapped = h.mapped; words = h.words; aligned = h.aligned; low = h.room; high = up } in
       let back = restores_run (4 * f.slots) (kept leaf f) in_stack (kept_ok ok leaf) (omega arith) (omega (arith, kept_length ok leaf)) in
       let s1 : State = record s { regs = back.regs } in
-      let other : (q : ℕ) → (q < 16) ⊎ (24 ≤ q) → q ≢ 31 → back.regs q ≡ s.regs q = λ q out ne. back.others q (kept_in ok leaf q false (saved_other ok q out) ne) in
+      let other : (q : ℕ) → (q < 16) ⊎ (24 ≤ q) → q ≢ 31 → back.regs q ≡ s.regs q = λ q out ne.
+      back.others q (kept_in ok leaf q false (saved_other ok q out) ne) in
       let pointer1 : back.regs 29 ≡ s.regs 29 = other 29 (inr (omega arith)) (omega arith) in
       let lift = raised s1 size (omega (arith, bytes_fit ok leaf, small)) (omega (arith, pointer1, up)) in
       let to : State = record s1 { regs = lift.regs } in

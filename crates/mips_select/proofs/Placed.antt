@@ -127,8 +127,8 @@ module _ (whole : List BlockParts) (l : Linking) where
         leads_on = goes_on p k x.exit _ (ok 0 x refl) (has_tail has);
       })
   placed p k j (x ∷ bs) has ok i (suc b) block there at is =
-      placed p (k + count p.heads x.exit) (suc j) bs (has_back (behind p x.exit) _ (has_tail has) (omega (arith, behind_length p x.exit))) (λ b. ok (suc b)) i b block there
-      at (omega (arith, is))
+      placed p (k + count p.heads x.exit) (suc j) bs (has_back (behind p x.exit) _ (has_tail has) (omega (arith, behind_length p x.exit)))
+      (λ b. ok (suc b)) i b block there at (omega (arith, is))
 
   -- the prologue stands in a block of its own, or at the head of block 0
   begins : (p : Planning) (k : ℕ) (rest : List BlockParts) → HasAt whole k (lead_blocks p (p.heads 0) ++ rest)

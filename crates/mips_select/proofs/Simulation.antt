@@ -6,8 +6,6 @@ use Rattle.std.proofs.lemmas.List.{append-nil, append_assoc}
 use Rattle.std.proofs.lemmas.Option.{same_Some, none-some, slice_get_within}
 use Rattle.std.proofs.Math.Nat.{mul-le-mul_right}
 use Rattle.std.proofs.lemmas.Bool.{and_parts}
-use Rattle.runs.specs.declared.ran.End.TheVariants.{Done}
-use Rattle.runs.specs.Runs.{Outcome}
 use Rattle.runs.specs.Stores.{Places, places_with, unset_places, Arrays}
 use Rattle.mips_isa.specs.declared.inst.Plain.{Plain}
 use Rattle.mips_isa.specs.States.{State}
@@ -55,9 +53,6 @@ use Rattle.mips_select.specs.Selected.{GoesOn, StandsAt, IsPlaced, IsFunction, I
 use Rattle.mips_select.proofs.Departures.{read_length, branch_words, either, above_arguments, goes_by, same_exit, same_code, return_found}
 use Rattle.mips_select.proofs.Frames.{all_denote, arguments, parameters}
 use Rattle.mips_select.proofs.Calls.{stored_frame, frames_of, linked_frames, enters, leaves_frame}
-
-abbrev halted : ℕ → List ℕ → Outcome
-halted w out = record { end = Done w; output = out }
 
 module _ {h : Homed} {depth : ℕ} {blocks : List BlockParts} (ok : IsSelected h depth blocks) {links : ℕ → ℕ} (tells : TellsApart links blocks) where
   abbrev pub gs : List RGlobal
@@ -255,10 +250,11 @@ module _ {h : Homed} {depth : ℕ} {blocks : List BlockParts} (ok : IsSelected h
 
   -- a function is entered, from a point that leads to its first block
   pub entered : (p : Point) (f : ℕ) (func : RFunc) (frame : Frame) → IsFunction blocks linking ok.most f func frame
-      → (r : Places) (arrays : Arrays) (ws : List Activation) (link : ℕ) (result_to : Option ℕ) (below : List ℕ) (vs : List ℕ) (s : State) (out : List ℕ)
+      → (r : Places) (arrays : Arrays) (ws : List Activation) (link : ℕ) (result_to : Option ℕ) (below vs : List ℕ) (s : State) (out : List ℕ)
       → ((form : BlockParts) → slice_get blocks (ok.entry f) ≡ Some form → Lead 1 p (At (ok.entry f) form.insts s out))
-      → Stand r arrays (frames_of ws below) s → ((q : ℕ) → is_callee_saved q ≡ false → r q ≡ None) → s.regs 31 ≡ link → ((j v : ℕ) → slice_get vs j ≡ Some v → s.regs (4 + j) ≡ v) → length vs ≡ func.parameters
-      → suc (length ws) * ok.most ≤ STACK_BYTES → Waits link result_to ws below
+      → Stand r arrays (frames_of ws below) s → ((q : ℕ) → is_callee_saved q ≡ false → r q ≡ None) → s.regs 31 ≡ link
+      → ((j v : ℕ) → slice_get vs j ≡ Some v → s.regs (4 + j) ≡ v) → length vs ≡ func.parameters → suc (length ws) * ok.most ≤ STACK_BYTES
+      → Waits link result_to ws below
       → Reach 1 p (write_homes (cells frame.homes.items (registers_at_entry frame.saved.items r) unset_places) 0 vs out (λ r' s'.
       state_at_block 0 (new_activation func.blocks.items frame s' r result_to) s' (around r' ws arrays out)))
   entered p f func frame is r arrays ws link result_to below vs s out enter st passing is_link here count deep waits =
@@ -306,7 +302,7 @@ module _ {h : Homed} {depth : ℕ} {blocks : List BlockParts} (ok : IsSelected h
       value_or_failed (λ run. Reach 1 p run) o out (λ v. Ended v out) tt (λ v o_v.
       let s1 = set s 4 (s.regs 2) in
       let value : s1.regs 4 ≡ v = put_here s.regs 4 (s.regs 2) (omega arith) ∙ result v o_v in
-      let end : Lead 1 (At 1 [] s1 out) (Stopped v out) = departs ok.end refl (λ n. ap (λ w. halted w out) value) in
+      let end : Lead 1 (At 1 [] s1 out) (Stopped v out) = departs ok.end refl (λ n. rw value) in
       record {
         to = Stopped v out;
         count = d + (1 + (1 + 1));

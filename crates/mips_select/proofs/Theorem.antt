@@ -150,8 +150,8 @@ module _ {h : Homed} {depth : ℕ} {blocks : List BlockParts} (ok : IsSelected h
       let s1 = set s0 31 (links 0) in
       let st1 = call_kept st0 (set_words s0 31 (links 0) st0.words (tells.words 0)) tt (λ q low high. put_other s0.regs 31 (links 0) q (omega (arith, high))) in
       reach_after ok tells 1 1 _ (omega arith) (code_leads ok tells 0 [] c.runs)
-      (rw (entry_unset frame.saved.items) at (entered ok tells (At 0 [] s0 []) main func frame is unset_places (map first_values globals) [] (links 0) None [] [] s1 []
-      (λ form there. departs ok tells ok.start refl (λ n. rw there)) st1 (λ q passes. refl)
+      (rw (entry_unset frame.saved.items) at (entered ok tells (At 0 [] s0 []) main func frame is unset_places
+      (map first_values globals) [] (links 0) None [] [] s1 [] (λ form there. departs ok tells ok.start refl (λ n. rw there)) st1 (λ q passes. refl)
       (put_here s0.regs 31 (links 0) (omega arith)) (λ j v at. absurd (none-some v at)) (sym none)
       (omega (arith, ok.small)) (return_found links blocks 0 (ok.entry main) 1 (start_block (ok.entry main)) tells ok.start refl)))))
 
@@ -176,7 +176,8 @@ pub each_unit : EachUnitKeepsRuns
 each_unit h depth ok choices fit r right =
     let globals = (h.rtl.now).globals in
     let same : homed_run h depth r ≡ rtl_run h.rtl.now depth r = places_keep_runs h choices depth r in
-    let selected = program_selected h depth (largest_frame (h.rtl.now).functions) ok (are_frames h choices) (are_seated h choices) (are_alone h choices) fit.frames fit.stack in
+    let selected = program_selected h depth (largest_frame (h.rtl.now).functions) ok (are_frames h choices) (are_seated h choices)
+    (are_alone h choices) fit.frames fit.stack in
     let blocks_come_to = rw same at (keep_homed_runs h depth (program_blocks h) selected r (rw same right)) in
     rw (← data_starts_same globals (have_values globals ok.globals))
     (comes_to BLOCK_INSTS (program_blocks h) (program_well h ok choices.long).0 (start_state (padded_bytes globals)) r (rtl_run h.rtl.now depth r) blocks_come_to)

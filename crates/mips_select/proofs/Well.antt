@@ -35,7 +35,8 @@ has_owners most place whole k (x ∷ bs) [] has n o b there owned = absurd (none
 has_owners most place whole k (x ∷ bs) (y ∷ os) has zero o b there owned =
     rw (← same_Some x b there, ← same_Some y o owned) (has_front _ _ has)
 has_owners most place whole k (x ∷ bs) (y ∷ os) has (suc n) o b there owned =
-    has_owners most place whole (k + count_of most x) bs os (has_back (replicate (count_of most x) (place y)) _ has (ap (λ n. k + n) (length-replicate (count_of most x) (place y)))) n o b there owned
+    has_owners most place whole (k + count_of most x) bs os
+    (has_back (replicate (count_of most x) (place y)) _ has (ap (λ n. k + n) (length-replicate (count_of most x) (place y)))) n o b there owned
 
 first_zero : (most : ℕ) (bs : List BlockParts) → slice_index (firsts most 0 bs) 0 ≡ 0
 first_zero most [] = refl

@@ -14,7 +14,8 @@ emit_block-requires-clause-number c = block_room _ c.loop-j.k c.loop-j.j _ c.arg
     c.loop-j.invariant.0
 
 pub emit_block-requires-clause-block : goal.emit_block-requires-clause-block
-emit_block-requires-clause-block c = (c.requires.blocks).by c.loop-j.j c.index-blocks-j.result (slice_get_read _ _ c.loop-j.j _ refl c.loop-j-test.true c.index-blocks-j.is)
+emit_block-requires-clause-block c =
+    (c.requires.blocks).by c.loop-j.j c.index-blocks-j.result (slice_get_read _ _ c.loop-j.j _ refl c.loop-j-test.true c.index-blocks-j.is)
 
 pub loop-j-preserved : goal.loop-j-preserved
 loop-j-preserved c =
@@ -36,4 +37,5 @@ loop-j-preserved c =
 
 pub returns : goal.returns
 returns c =
-    all_made (blocks_from (linking_of c.args.linkage.now) (planning_of c.args.plan.now) c.loop-j.k c.loop-j.j) c.args.blocks.now c.loop-j.j _ _ c.loop-j-test.false refl c.loop-j.invariant.1
+    all_made (blocks_from (linking_of c.args.linkage.now) (planning_of c.args.plan.now) c.loop-j.k c.loop-j.j) c.args.blocks.now
+    c.loop-j.j _ _ c.loop-j-test.false refl c.loop-j.invariant.1

@@ -1,9 +1,9 @@
-use Rattle.std.proofs.Common.{◌∙◌, ◌++◌, arith, drop, length, refl, sym}
-use Rattle.std.proofs.lemmas.List.{append-nil, at_drop_all}
+use Rattle.std.proofs.Common.{◌∙◌, arith, drop, length, refl}
 use Rattle.std.proofs.lemmas.Option.{slice_get_read}
 use Rattle.mips_select.specs.Plans.{linking_of}
 use Rattle.mips_select.specs.Whole.{functions_blocks}
 use Rattle.mips_select.proofs.Blocks.{functions_room, functions_step, named_here, named_long}
+use Rattle.mips_select.proofs.Lists.{all_made}
 use Rattle.mips_select.proofs.functions.emit_functions.Goals as goal
 
 pub emit_function-requires-clause-number : goal.emit_function-requires-clause-number
@@ -30,11 +30,11 @@ emit_function-requires-clause-function c = (c.requires.functions).by c.loop-i.i 
 
 pub loop-i-preserved : goal.loop-i-preserved
 loop-i-preserved c =
-    functions_step _ c.loop-i.i c.args.functions.now c.args.frames.now c.index-functions-i.result c.index-frames-i.result _ c.loop-i-test.true c.requires.lengths c.index-functions-i.is c.index-frames-i.is
+    functions_step _ c.loop-i.i c.args.functions.now c.args.frames.now c.index-functions-i.result c.index-frames-i.result _
+    c.loop-i-test.true c.requires.lengths c.index-functions-i.is c.index-frames-i.is
     (omega (arith, c.len-k.ensures)) c.in_ok-emit_function.ensures c.loop-i.invariant
 
 pub returns : goal.returns
 returns c =
-    let out = c.loop-i.emitter.blocks.items in
-    sym (at_drop_all (λ fs. out ++ functions_blocks (linking_of c.args.linkage.now) (length out) fs (drop c.loop-i.i c.args.frames.now)) c.args.functions.now c.loop-i.i
-    c.loop-i-test.false ∙ append-nil out) ∙ c.loop-i.invariant.1
+    all_made (λ fs. functions_blocks (linking_of c.args.linkage.now) (length c.loop-i.emitter.blocks.items) fs (drop c.loop-i.i c.args.frames.now))
+    c.args.functions.now c.loop-i.i _ _ c.loop-i-test.false refl c.loop-i.invariant.1
