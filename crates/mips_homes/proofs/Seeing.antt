@@ -1,9 +1,8 @@
 -- What a walk over blocks sees, one instruction after another.
-use Rattle.std.proofs.Common.{◌≡◌, ℕ, ◌+◌, ◌<◌, ◌≤◌, Bool, true, false, ◌&&◌, List, [], ◌∷◌, ◌++◌, refl, sym, ap, ◌∙◌, subst, arith, length, drop, get_or, nat_eq}
+use Rattle.std.proofs.Common.{◌≡◌, ℕ, ◌+◌, ◌<◌, ◌≤◌, Bool, true, false, ◌&&◌, List, [], ◌∷◌, ◌++◌, refl, sym, ap, ◌∙◌, arith, length, drop, get_or, nat_eq}
 use Rattle.std.specs.Prelude.{if◌then◌else◌, ◌||◌, not}
 use Rattle.std.proofs.Common.{ne_eqb}
-use Rattle.std.proofs.lemmas.List.{drop_all}
-use Rattle.std.proofs.lemmas.List.{at_drop_more}
+use Rattle.std.proofs.lemmas.List.{drop_all, at_drop_more}
 use Rattle.rtl.specs.declared.instruction.RInst.{RInst}
 use Rattle.rtl.specs.declared.block.RBlock.{RBlock}
 use Rattle.mips_homes.specs.HomedRun.{is_in}
@@ -14,18 +13,9 @@ use Rattle.mips_homes.specs.declared.locals.Sight.{Sight}
 -- ---- instructions
 
 pub sees_none : (k : ℕ) (s : List Sight) → Sees k s s [] []
-sees_none k s = record { first = λ x. none (is_read_first s x) (is_unwritten k s x); unwritten = λ x. all (is_unwritten k s x); late = λ up. up }
-  where
-    none : (a b : Bool) → a ≡ (a || (b && false))
-    none true b = refl
-    none false true = refl
-    none false false = refl
+sees_none k s = record { first = λ x. grind arith; unwritten = λ x. grind arith; late = λ up. up }
 
-    all : (b : Bool) → b ≡ (b && not false)
-    all true = refl
-    all false = refl
-
-in_append : (xs ys : List ℕ) (x : ℕ) → is_in (xs ++ ys) x ≡ (is_in xs x || is_in ys x)
+pub in_append : (xs ys : List ℕ) (x : ℕ) → is_in (xs ++ ys) x ≡ (is_in xs x || is_in ys x)
 in_append [] ys x = refl
 in_append (y ∷ xs) ys x = by (nat_eq x y) (in_append xs ys x)
   where
@@ -42,14 +32,10 @@ sees_then k s t u xs ys ws a b = record {
 }
   where
     both : (f n p q : Bool) → ((f || (n && p)) || ((n && not false) && q)) ≡ (f || (n && (p || q)))
-    both true n p q = refl
-    both false true true q = refl
-    both false true false q = refl
-    both false false p q = refl
+    both f n p q = grind arith
 
     still : (n w : Bool) → ((n && not false) && not w) ≡ (n && not w)
-    still true w = refl
-    still false w = refl
+    still n w = grind arith
 
 -- ---- a block
 
@@ -60,12 +46,9 @@ pub record IsSeenTo (k : ℕ) (start now : List Sight) (is : List RInst) (block 
 
 pub seen_start : (k : ℕ) (s : List Sight) (block : RBlock) → ((x : ℕ) → (sight_at s x).written_in < k) → IsSeenTo k s s block.insts.items block
 seen_start k s block before = record {
-  first = λ x. ap (λ c. is_read_first s x || (not c && block_reads_first block x)) (unequal (sight_at s x).written_in (before x));
-  late = λ x. (let lt = before x in omega (arith, lt));
+  first = λ x. rw (ne_eqb (sight_at s x).written_in k (λ e. absurd (omega (arith, e, before x))));
+  late = λ x. omega (arith, before x);
 }
-  where
-    unequal : (n : ℕ) → n < k → nat_eq n k ≡ false
-    unequal n lt = ne_eqb n k (λ e. absurd (omega (arith, e, lt)))
 
 pub seen_step : (k : ℕ) (s t u : List Sight) (is is' : List RInst) (j : ℕ) (i d : RInst) (block : RBlock) → is' ≡ is → j < length is'
     → i ≡ get_or is' j d → Sees k t u (inst_reads i) (inst_writes i) → IsSeenTo k s t (drop j is) block → IsSeenTo k s u (drop (j + 1) is) block
@@ -84,11 +67,7 @@ seen_step k s t u is is' j i d block same lt at one before = record {
     here = cc (at_drop_more (λ l. l) is' j d lt)
 
     step : (f n r w rest : Bool) → ((f || (n && r)) || ((n && not w) && rest)) ≡ (f || (n && (if r then true else if w then false else rest)))
-    step true n r w rest = refl
-    step false true true w rest = refl
-    step false true false true rest = refl
-    step false true false false rest = refl
-    step false false r w rest = refl
+    step f n r w rest = grind arith
 
 pub seen_end : (k : ℕ) (s t u : List Sight) (is : List RInst) (block : RBlock) → is ≡ [] → Sees k t u (exit_reads block.exit) []
     → IsSeenTo k s t is block → (x : ℕ) → is_read_first u x ≡ (is_read_first s x || block_reads_first block x)
@@ -102,11 +81,11 @@ pub all_step : (k : ℕ) (xs : List ℕ) (i x d : ℕ) (start s t : List Sight) 
     → Sees k start end xs []
 all_step k xs i x d start s t lt at one before end rest =
     let here : drop i xs ≡ x ∷ drop (i + 1) xs = cc (at_drop_more (λ l. l) xs i d lt) in
-    before end (subst (λ l. Sees k s end l []) (sym here) (sees_then k s t end (x ∷ []) (drop (i + 1) xs) [] one rest))
+    before end (rw here (sees_then k s t end (x ∷ []) (drop (i + 1) xs) [] one rest))
 
 pub all_end : (k : ℕ) (xs : List ℕ) (i : ℕ) (start s : List Sight) → length xs ≤ i
     → ((end : List Sight) → Sees k s end (drop i xs) [] → Sees k start end xs []) → Sees k start s xs []
-all_end k xs i start s le before = before s (subst (λ l. Sees k s s l []) (sym (drop_all i xs le)) (sees_none k s))
+all_end k xs i start s le before = before s (rw (drop_all i xs le) (sees_none k s))
 
 -- ---- blocks
 
@@ -127,14 +106,11 @@ are_seen_step bs i b s t lt at one late before = record {
     here = cc (at_drop_more (λ l. l) bs i b lt)
 
     step : (f r rest : Bool) → (not (f || r) && rest) ≡ (not f && (if true && r then false else rest))
-    step true r rest = refl
-    step false true rest = refl
-    step false false rest = refl
+    step f r rest = grind arith
 
 pub are_seen_end : (bs : List RBlock) (i : ℕ) (s : List Sight) → length bs ≤ i → AreSeenTo i s (drop i bs) bs
     → (x : ℕ) → not (is_read_first s x) ≡ is_local bs x
-are_seen_end bs i s le before x =
-    all (not (is_read_first s x)) ∙ ap (λ l. not (is_read_first s x) && none_reads_first true l x) (sym (drop_all i bs le)) ∙ before.first x
+are_seen_end bs i s le before x = all (not (is_read_first s x)) ∙ rw (drop_all i bs le) at (before.first x)
   where
     all : (b : Bool) → b ≡ (b && true)
     all true = refl
