@@ -1,6 +1,7 @@
 -- Copies of slots.
-use Rattle.std.proofs.Common.{◌≡◌, ℕ, zero, suc, ◌+◌, ◌<◌, Bool, true, false, List, [], ◌∷◌, ◌++◌, Some, refl, ap, ◌∙◌, arith, length, get_or, drop}
+use Rattle.std.proofs.Common.{◌≡◌, ℕ, zero, suc, ◌+◌, ◌<◌, Bool, true, false, List, [], ◌∷◌, ◌++◌, Some, refl, sym, ap, ◌∙◌, length, get_or, drop, drop-drop}
 use Rattle.std.specs.Prelude.{if◌then◌else◌, Option, None, slice_get}
+use Rattle.std.proofs.lemmas.Bool.{cond_both}
 use Rattle.std.proofs.lemmas.List.{append_assoc, at_drop_more}
 use Rattle.std.proofs.lemmas.Option.{same_Some, none-some}
 use Rattle.rtl.specs.declared.block.RBlock.{RBlock}
@@ -24,19 +25,12 @@ copied_step free hs i used used' out out' all h b within here slot used_is out_i
     )
   where
     got_drop : (l : List ℕ) (n : ℕ) → slice_get (drop n l) 0 ≡ slice_get l n
-    got_drop [] zero = refl
+    got_drop l zero = refl
     got_drop [] (suc n) = refl
-    got_drop (x ∷ l) zero = refl
     got_drop (x ∷ l) (suc n) = got_drop l n
 
-    past : (l : List ℕ) (n : ℕ) → drop (suc n) l ≡ drop 1 (drop n l)
-    past [] zero = refl
-    past [] (suc n) = refl
-    past (x ∷ l) zero = refl
-    past (x ∷ l) (suc n) = past l n
-
     left : (b : Bool) → drop (if b then used + 1 else used) free ≡ (if b then drop 1 (drop used free) else drop used free)
-    left true = (let next : used + 1 ≡ suc used = omega arith in ap (λ n. drop n free) next ∙ past free used)
+    left true = sym (drop-drop 1 used free)
     left false = refl
 
 -- ---- what copies are
@@ -56,19 +50,15 @@ onto_get free (g ∷ hs) zero h e = (g, refl, with_copy_cell g (slice_get free 0
 onto_get free (g ∷ hs) (suc x) h e = onto_get (if is_slot g then drop 1 free else free) hs x h e
 
 pub copied_get : (bs : List RBlock) (hs : List Home) (x : ℕ) (h : Home) → slice_get (copied bs hs) x ≡ Some h → HasCell hs x h
-copied_get bs hs x h e = by (is_leaf bs) e
-  where
-    by : (b : Bool) → slice_get (if b then copied_onto (unused hs temporaries) hs else hs) x ≡ Some h → HasCell hs x h
-    by true e = onto_get (unused hs temporaries) hs x h e
-    by false e = (h, e, refl)
+copied_get bs hs x h =
+    cond_both (is_leaf bs) (copied_onto (unused hs temporaries) hs) hs (λ l. slice_get l x ≡ Some h → HasCell hs x h)
+    (λ _. onto_get (unused hs temporaries) hs x h) (λ _ e. (h, e, refl))
 
 onto_long : (free : List ℕ) (hs : List Home) → length (copied_onto free hs) ≡ length hs
 onto_long free [] = refl
 onto_long free (h ∷ hs) = ap suc (onto_long (if is_slot h then drop 1 free else free) hs)
 
 pub copied_long : (bs : List RBlock) (hs : List Home) → length (copied bs hs) ≡ length hs
-copied_long bs hs = by (is_leaf bs)
-  where
-    by : (b : Bool) → length (if b then copied_onto (unused hs temporaries) hs else hs) ≡ length hs
-    by true = onto_long (unused hs temporaries) hs
-    by false = refl
+copied_long bs hs =
+    cond_both (is_leaf bs) (copied_onto (unused hs temporaries) hs) hs (λ l. length l ≡ length hs)
+    (λ _. onto_long (unused hs temporaries) hs) (λ _. refl)

@@ -151,7 +151,7 @@ restored_cleared saved registers = fun_ext (λ q. grind (arith, nat_tests))
 pub is_in_first : (x : ℕ) (xs : List ℕ) → is_in (x ∷ xs) x ≡ true
 is_in_first x xs = rw (eq-eqb x x refl)
 
-pub is_in_later : (x y : ℕ) (xs : List ℕ) → is_in xs x ≡ true → is_in (y ∷ xs) x ≡ true
+is_in_later : (x y : ℕ) (xs : List ℕ) → is_in xs x ≡ true → is_in (y ∷ xs) x ≡ true
 is_in_later x y xs e = or_right (nat_eq x y) (is_in xs x) e
 
 reads_all : {hs : List Home} {registers slots regs : Places} {wanted : ℕ → Bool} (xs : List ℕ) → Agrees hs registers slots regs wanted

@@ -1,62 +1,44 @@
 -- The homes that the best and the others get, and the places of all.
-use Rattle.std.proofs.Common.{◌≡◌, ℕ, suc, ◌+◌, ◌<◌, ⊎_elim, Bool, true, false, List, [], ◌∷◌, ◌++◌, Option, Some, None, refl, sym, ap, ◌∙◌, subst, arith}
+use Rattle.std.proofs.Common.{◌≡◌, ℕ, suc, ◌+◌, ◌<◌, Bool, false, List, [], ◌∷◌, ◌++◌, Option, Some, None, refl, sym, ap, arith, add-one}
 use Rattle.std.proofs.Common.{length, drop, get_or}
 use Rattle.std.specs.Prelude.{slice_get, if◌then◌else◌}
-use Rattle.std.proofs.lemmas.List.{append_assoc, at_drop_more}
+use Rattle.std.proofs.lemmas.List.{append_assoc, at_drop_more, length_push}
 use Rattle.std.proofs.lemmas.Option.{none-some}
 use Rattle.mips_homes.specs.HomedRun.{is_in}
 use Rattle.mips_homes.specs.Best.{IsHome, AreHomesOf, AreFirst}
 use Rattle.mips_homes.specs.Places.{free_register, home_or, also, places_from}
-use Rattle.mips_homes.proofs.Choosing.{one_if, got_push, length_one, is_in_at}
+use Rattle.mips_homes.proofs.Choosing.{each_push, is_in_at}
 use Rattle.mips_homes.specs.declared.homed.Home.{Home}
 use Rattle.mips_homes.specs.declared.homed.Home.TheVariants.{Reg, Slot}
 
 -- one more home
 more : (best : List ℕ) (x used used' : ℕ) (homes : List Home) (h : Home) → AreHomesOf best x homes used → IsHome best x h
-    → used' + one_if (is_in best x) ≡ used + 1 → AreHomesOf best (x + 1) (homes ++ h ∷ []) used'
-more best x used used' homes h before is one =
-    let next : suc x ≡ x + 1 = omega arith in
-    let long = length_one homes h in
-    let old = before.long in
-    subst (λ n. AreHomesOf best n (homes ++ h ∷ []) used') next (record {
-      long = omega (arith, long, old);
-      by = λ y k got. ⊎_elim (λ a. before.by y k a)
-          (λ a. subst (λ z. IsHome best z k) (sym (a.0 ∙ old)) (subst (λ k. IsHome best x k) (sym a.1) is)) (got_push homes h y k got);
-      counted = omega (arith, one, before.counted);
-    })
+    → used' + (if is_in best x then 1 else 0) ≡ used + 1 → AreHomesOf best (x + 1) (homes ++ h ∷ []) used'
+more best x used used' homes h before is one = rw (add-one x) (record {
+  long = omega (arith, length_push homes h, before.long);
+  by = each_push (IsHome best) homes h before.by (rw before.long is);
+  counted = omega (arith, one, before.counted);
+})
 
 pub home_register : (best : List ℕ) (x used j : ℕ) (homes homes' : List Home) → homes' ≡ homes ++ Reg (16 + j) ∷ []
     → slice_get best j ≡ Some x → AreHomesOf best x homes used → AreHomesOf best (x + 1) homes' used
 home_register best x used j homes homes' e at before =
-    let one : one_if (is_in best x) ≡ one_if true = ap one_if (is_in_at best j x at) in
-    subst (λ l. AreHomesOf best (x + 1) l used) (sym e) (more best x used used homes (Reg (16 + j)) before (j, refl, at) (omega (arith, one)))
+    rw e (more best x used used homes (Reg (16 + j)) before (j, refl, at) (rw (is_in_at best j x at)))
 
 pub home_slot : (best : List ℕ) (x used : ℕ) (homes homes' : List Home) → homes' ≡ homes ++ Slot used ∷ [] → is_in best x ≡ false
     → AreHomesOf best x homes used → AreHomesOf best (x + 1) homes' (used + 1)
 home_slot best x used homes homes' e out before =
-    let none : one_if (is_in best x) ≡ one_if false = ap one_if out in
-    subst (λ l. AreHomesOf best (x + 1) l (used + 1)) (sym e) (more best x used (used + 1) homes (Slot used) before (out, before.counted) (omega (arith, none)))
+    rw e (more best x used (used + 1) homes (Slot used) before (out, before.counted) (rw out (omega arith)))
 
 -- the first n registers, and one more
 pub none_first : (saved : List ℕ) → saved ≡ [] → AreFirst 0 saved
-none_first saved e = subst (λ l. AreFirst 0 l) (sym e) (record { long = refl; by = λ j r got. absurd (none-some r got) })
+none_first saved e = rw e (record { long = refl; by = λ j r got. absurd (none-some r got) })
 
 pub one_more_first : (n : ℕ) (saved saved' : List ℕ) → saved' ≡ saved ++ (16 + n) ∷ [] → AreFirst n saved → AreFirst (n + 1) saved'
-one_more_first n saved saved' e before =
-    let long = length_one saved (16 + n) in
-    let old = before.long in
-    subst (λ l. AreFirst (n + 1) l) (sym e) (record {
-      long = omega (arith, long, old);
-      by = λ j r got. ⊎_elim (λ a. before.by j r a) (λ a. a.1 ∙ ap (λ k. 16 + k) (sym (a.0 ∙ old))) (got_push saved (16 + n) j r got);
-    })
-
--- ---- places
-
-pub register_told : (local local' : Bool) (taken taken' : List ℕ) (preference preference' register : Option ℕ)
-    → register ≡ (if local then free_register taken preference else None) → local ≡ local' → taken ≡ taken' → preference ≡ preference'
-    → register ≡ (if local' then free_register taken' preference' else None)
-register_told local local' taken taken' preference preference' register is same same_taken same_preference =
-    cc
+one_more_first n saved saved' e before = rw e (record {
+  long = omega (arith, length_push saved (16 + n), before.long);
+  by = each_push (λ j r. r ≡ 16 + j) saved (16 + n) before.by (ap (λ k. 16 + k) (sym before.long));
+})
 
 -- one more place
 pub places_step : (local : ℕ → Bool) (preference : ℕ → Option ℕ) (x : ℕ) (taken taken' : List ℕ) (homes out out' all : List Home) (d h : Home)

@@ -1,17 +1,17 @@
 use Rattle.std.proofs.Common.{◌∙◌, ap, ap₂, sym}
 use Rattle.mips_homes.specs.Convention.{temporaries}
 use Rattle.mips_homes.specs.Copies.{unused, copied_onto}
-use Rattle.mips_homes.proofs.Located.{unused_range, copied-leaf, copied-else}
+use Rattle.mips_homes.proofs.Located.{unused_range}
 use Rattle.mips_homes.proofs.copies.copied.Goals as goal
 
 pub copied_onto-requires : goal.copied_onto-requires
-copied_onto-requires c = λ j r e. unused_range c.as_slice.result.now c.as_slice-3.result.now j r (c.as_slice-3.ensures.value ∙ c.in_ok-free.ensures) e
+copied_onto-requires c = λ j r e.
+    unused_range c.as_slice.result.now j r (rw (c.as_slice-3.ensures.value, c.in_ok-free.ensures) at e)
 
 pub returns-then-not-is_leaf : goal.returns-then-not-is_leaf
-returns-then-not-is_leaf c = copied-else c.args.blocks.now c.args.homes.items (sym c.is_leaf.ensures ∙ c.if-not-is_leaf.true)
+returns-then-not-is_leaf c = rw (sym c.is_leaf.ensures ∙ c.if-not-is_leaf.true)
 
 pub returns : goal.returns
 returns c =
-    let homes = c.args.homes.items in
     let free = c.as_slice-3.ensures.value ∙ c.in_ok-free.ensures ∙ ap (λ hs. unused hs temporaries) c.as_slice.ensures.value in
-    rw (ap₂ copied_onto free c.as_slice-2.ensures.value ∙ copied-leaf c.args.blocks.now homes (sym c.is_leaf.ensures ∙ c.if-not-is_leaf.false)) at c.copied_onto.ensures
+    rw (sym c.is_leaf.ensures ∙ c.if-not-is_leaf.false) (rw (ap₂ copied_onto free c.as_slice-2.ensures.value) at c.copied_onto.ensures)
