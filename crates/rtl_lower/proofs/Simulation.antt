@@ -1,9 +1,8 @@
 -- Each step of the source is one or more steps of RTL.
-use Rattle.std.proofs.Common.{◌≡◌, ◌≢◌, ℕ, zero, suc, ◌+◌, ◌<◌, ◌≤◌, ◌⊎◌, inl, inr, Bool, true, false, List, [], ◌∷◌, ◌++◌, Option, Some, None, refl}
-use Rattle.std.proofs.Common.{sym, ◌∙◌, ap, subst, arith, length, nat_eq, nat_lt, eq-eqb}
+use Rattle.std.proofs.Common.{◌≡◌, ◌≢◌, ℕ, zero, suc, ◌+◌, ◌<◌, ◌≤◌, Bool, true, false, List, [], ◌∷◌, ◌++◌, Option, Some, None, refl}
+use Rattle.std.proofs.Common.{sym, ◌∙◌, ap, subst, ⊎_elim, arith, length, nat_eq, nat_lt, eq-eqb}
 use Rattle.std.specs.Prelude.{slice_get, if◌then◌else◌, map, ◌==◌, ◌&&◌}
 use Rattle.std.proofs.lemmas.Bool.Decides.{eqb_tells}
-use Rattle.std.proofs.lemmas.Bool.{true≢false}
 use Rattle.std.proofs.lemmas.Option.{slice_get_within, none-some}
 use Rattle.std.proofs.lemmas.List.Elements.{All-head}
 use Rattle.words.specs.declared.width.Width.{Width}
@@ -26,7 +25,6 @@ use Rattle.c_typed.specs.Meaning.{source_start, first_words}
 use Rattle.c_typed.specs.Laws.{FrameHoldsWords, RunHoldsWords}
 use Rattle.c_typed.proofs.Keeping.{source-start-words, source-step-words}
 use Rattle.rtl.specs.declared.instruction.RInst.TheVariants as I
-use Rattle.rtl.specs.declared.instruction.RExit.TheVariants as X
 use Rattle.rtl.specs.declared.block.RBlock.{RBlock}
 use Rattle.rtl.specs.declared.block.RFunc.{RFunc}
 use Rattle.rtl.specs.Programs.{Program}
@@ -36,7 +34,7 @@ use Rattle.rtl.specs.Meaning.{rtl_start, first_values, argument_registers}
 use Rattle.rtl_emit.specs.Blocks.{exit_code, first, Spot, Block, Line, line_of, Lands, At}
 use Rattle.rtl_emit.specs.Runs.{Goes, Moves, Holds}
 use Rattle.rtl_emit.specs.Expressions.{IsPlace, Fetches, Decides}
-use Rattle.rtl_emit.proofs.Steps.{goes_one, with_some, chained, jump_to, holds_kept, written_here, written_other}
+use Rattle.rtl_emit.proofs.Steps.{goes_one, moves_one, moves_after, with_some, chained, jump_to, holds_kept, written_here, written_other}
 use Rattle.rtl_emit.proofs.Values.{taken, taken_all}
 use Rattle.rtl_lower.specs.Laws.{KeepsRuns}
 use Rattle.rtl_lower.specs.Coded.{enclosing, Sits, put_code, Coded, Receives, IsCodeOf, IsCodeOfProgram}
@@ -45,8 +43,8 @@ use Rattle.rtl_lower.proofs.Follows.{Fits, Targets, Follows, Stands, Starts, sta
 use Rattle.rtl_lower.proofs.Follows.{follows_from, settles}
 
 -- the locals that are set are below a number, and in their registers
-abbrev pub Located : ℕ → Places → Places → Type 0
-Located n l r = (x v : ℕ) → l x ≡ Some v → (x < n) × (r x ≡ Some v)
+pub record Located (n : ℕ) (l r : Places) : Type 0 where
+  pub by : (x v : ℕ) → l x ≡ Some v → (x < n) × (r x ≡ Some v)
 
 -- a call of the source, and an activation that has come to some code
 pub record Matches (src : TypedProgram) (f : Src.Frame) (bs : List RBlock) (r : Places) (code : Code) : Type 0 where
@@ -110,49 +108,37 @@ pub record Advance (src : TypedProgram) (p : Program) (depth : ℕ) (t : Blk.Run
   pub ends : rtl_steps p depth (suc more) t ≡ to
   pub match : MatchRun src s to
 
-module _ (src : TypedProgram) (p : Program) (depth : ℕ) where
-  advance_one : (t t' : Blk.Run) (s : Src.Run) → rtl_step p depth t ≡ t' → MatchRun src s t' → Advance src p depth t s
-  advance_one t t' s e m = record { to = t'; more = 0; ends = e; match = m }
+module _ {src : TypedProgram} {p : Program} {depth : ℕ} where
+  advance_moves : {t t' : Blk.Run} {s : Src.Run} → Moves p depth t t' → MatchRun src s t' → Advance src p depth t s
+  advance_moves {t' = t'} e m = record { to = t'; more = e.more; ends = e.ends; match = m }
 
-  advance_moves : (t t' : Blk.Run) (s : Src.Run) → Moves p depth t t' → MatchRun src s t' → Advance src p depth t s
-  advance_moves t t' s e m = record { to = t'; more = e.more; ends = e.ends; match = m }
+  advance_one : {t t' : Blk.Run} {s : Src.Run} → rtl_step p depth t ≡ t' → MatchRun src s t' → Advance src p depth t s
+  advance_one e m = advance_moves (moves_one e) m
 
-  advance_after : (t t1 : Blk.Run) (s : Src.Run) → Goes p depth t t1 → Advance src p depth t1 s → Advance src p depth t s
-  advance_after t t1 s go a =
-      let n : suc (go.count + a.more) ≡ go.count + suc a.more = omega arith in
-      record {
-        to = a.to;
-        more = go.count + a.more;
-        ends = ap (λ k. rtl_steps p depth k t) n ∙ steps-add (rtl_step p depth) go.count (suc a.more) t ∙ ap (rtl_steps p depth (suc a.more)) go.ends
-            ∙ a.ends;
-        match = a.match;
-      }
+  advance_after : {t t1 : Blk.Run} {s : Src.Run} → Goes p depth t t1 → Advance src p depth t1 s → Advance src p depth t s
+  advance_after go a = advance_moves (moves_after go (record { more = a.more; ends = a.ends })) a.match
 
-  advance_failed : (t : Blk.Run) (out : List ℕ) → Advance src p depth t (Failed out)
-  advance_failed t out = advance_one t (rtl_step p depth t) (Failed out) refl tt
+  advance_failed : {t : Blk.Run} {out : List ℕ} → Advance src p depth t (Failed out)
+  advance_failed {t} = record { to = rtl_step p depth t; more = 0; ends = refl; match = tt }
 
   -- a step that goes wrong where there is no value
-  advance_value : {A : Type 0} (t : Blk.Run) (o : Option A) (out : List ℕ) (go : A → Src.Run) → ((v : A) → o ≡ Some v → Advance src p depth t (go v))
+  advance_value : {A : Type 0} {t : Blk.Run} (o : Option A) (out : List ℕ) (go : A → Src.Run) → ((v : A) → o ≡ Some v → Advance src p depth t (go v))
       → Advance src p depth t (with_value o out go)
-  advance_value t None out go f = advance_failed t out
-  advance_value t (Some v) out go f = f v refl
+  advance_value None out go f = advance_failed
+  advance_value (Some v) out go f = f v refl
 
 -- a local that is written where its register is, and nothing else of the locals
-located_assigned : (n : ℕ) (l r r' : Places) (x v : ℕ) → x < n → Located n l r → r' x ≡ Some v → ((y : ℕ) → y < n → y ≢ x → r' y ≡ r y)
+located_assigned : {n : ℕ} {l r r' : Places} (x v : ℕ) → x < n → Located n l r → r' x ≡ Some v → ((y : ℕ) → y < n → y ≢ x → r' y ≡ r y)
     → Located n (places_with l x (Some v)) r'
-located_assigned n l r r' x v low h there same y w e = by (eqb_tells y x) e
-  where
-    by : ((nat_eq y x ≡ true) × (y ≡ x)) ⊎ ((nat_eq y x ≡ false) × (y ≢ x)) → places_with l x (Some v) y ≡ Some w → (y < n) × (r' y ≡ Some w)
-    by (inl eq) e =
-        let is : Some v ≡ Some w = ap (λ c. if c then Some v else l y) (sym eq.0) ∙ e in
-        (omega (arith, eq.1), ap r' eq.1 ∙ there ∙ is)
-    by (inr ne) e =
-        let b = h y w (sym (ap (λ c. if c then Some v else l y) ne.0) ∙ e) in
-        (b.0, same y b.0 ne.1 ∙ b.1)
+located_assigned {n} {l} {r} {r'} x v low h there same = record {
+  by = λ y w e. ⊎_elim
+      (λ eq. let is : Some v ≡ Some w = rw eq.0 at e in (omega (arith, eq.1, low), ap r' eq.1 ∙ there ∙ is))
+      (λ ne. let b = h.by y w (rw ne.0 at e) in (b.0, same y b.0 ne.1 ∙ b.1)) (eqb_tells y x);
+}
 
 -- registers above the locals may change
-located_kept : (n : ℕ) (l r r' : Places) → Located n l r → ((y : ℕ) → y < n → r' y ≡ r y) → Located n l r'
-located_kept n l r r' h same x v e = let b = h x v e in (b.0, same x b.0 ∙ b.1)
+located_kept : {n : ℕ} {l r r' : Places} → Located n l r → ((y : ℕ) → y < n → r' y ≡ r y) → Located n l r'
+located_kept h same = record { by = λ x v e. let b = h.by x v e in (b.0, same x b.0 ∙ b.1) }
 
 get_some : {A : Type 0} (xs : List A) (i : ℕ) → i < length xs → (x : A) × (slice_get xs i ≡ Some x)
 get_some [] i lt = absurd (omega arith)
@@ -170,10 +156,10 @@ values_length (x ∷ es) l g vs e =
 -- the arguments are the first locals
 arguments_located : (vs : List ℕ) (parameters locals : ℕ) → length vs ≡ parameters → parameters ≤ locals
     → Located locals (argument_registers vs) (argument_registers vs)
-arguments_located vs parameters locals many le x v e = (omega (arith, slice_get_within vs x v e), e)
+arguments_located vs parameters locals many le = record { by = λ x v e. (omega (arith, slice_get_within vs x v e), e) }
 
 if_both : {A : Type 0} (b c : Bool) (x y : A) → c ≡ true → (if b && c then x else y) ≡ (if b then x else y)
-if_both true c x y e = ap (λ c. if c then x else y) e
+if_both true c x y e = rw e
 if_both false c x y e = refl
 
 -- what surrounds the call that runs and its activation: where their results go, what waits, and the globals and the output of both
@@ -226,9 +212,9 @@ module _ (src : TypedProgram) (p : Program) (ok : IsCodeOfProgram src p) (well :
   }
 
   -- what is to do stands at some code
-  matches : (w : Around src) (bs : List RBlock) (n : ℕ) (l r : Places) (k : List Todo) (code : Code) → Stands src bs n k code → Located n l r
+  matches : (w : Around src) {bs : List RBlock} {n : ℕ} {l r : Places} {k : List Todo} {code : Code} → Stands src bs n k code → Located n l r
       → MatchRun src (Src.at (source w) l k) (at (target w) bs r code)
-  matches w bs n l r k code s h = record {
+  matches w {bs} {n} {l} {r} {k} {code} s h = record {
     a = activation (target w) bs r code;
     ws = w.activations;
     is = refl;
@@ -236,9 +222,9 @@ module _ (src : TypedProgram) (p : Program) (ok : IsCodeOfProgram src p) (well :
     below = w.stack;
   }
 
-  enters_block : (w : Around src) (bs : List RBlock) (n : ℕ) (l r : Places) (k : List Todo) (b : ℕ) → Starts src bs n b k → Located n l r
+  enters_block : (w : Around src) {bs : List RBlock} {n : ℕ} {l r : Places} {k : List Todo} (b : ℕ) → Starts src bs n b k → Located n l r
       → MatchRun src (Src.at (source w) l k) (state_at_block (target w) bs r b)
-  enters_block w bs n l r k b s h = rw (jump_to s.1 (target w) r) (matches w bs n l r k s.0 s.2 h)
+  enters_block w {r = r} b s h = rw (jump_to s.1 (target w) r) (matches w s.2 h)
 
   -- what a function begins with
   begins : (i : ℕ) (f : TypedFunction) (r : RFunc) → slice_get src.functions i ≡ Some f → (c : IsCodeOf f r)
@@ -252,17 +238,15 @@ module _ (src : TypedProgram) (p : Program) (ok : IsCodeOfProgram src p) (well :
             (follows_all src r.blocks.items f.locals f.body [] 0 None c.entry (Line c.after) c.body _ _ fits.body tt),
       )
 
-  -- a call of a function that begins
-  entered : (w : Around src) (i : ℕ) (vs : List ℕ) (t : Blk.Run) (func : TypedFunction) (r : RFunc) → slice_get src.functions i ≡ Some func
-      → IsCodeOf func r → length vs ≡ func.parameters → (b b' : Bool) → b' ≡ b
+  -- a call of a function that begins, or is beyond the depth
+  entered : (w : Around src) (i : ℕ) (vs : List ℕ) {t : Blk.Run} (func : TypedFunction) (r : RFunc) → slice_get src.functions i ≡ Some func
+      → IsCodeOf func r → length vs ≡ func.parameters → (b : Bool)
       → rtl_step p depth t ≡ (if b then state_at_block (target w) r.blocks.items (argument_registers vs) 0 else Failed w.output)
-      → Advance src p depth t (if b' then Src.at (source w) (Src.argument_places vs) (before_all func.body []) else Failed w.output)
-  entered w i vs t func r there c many true true same step =
-      advance_one src p depth t _ _ step
-      (enters_block w r.blocks.items func.locals (argument_registers vs) (argument_registers vs) (before_all func.body []) 0 (begins i func r there c)
-      (arguments_located vs func.parameters func.locals many (at-index (FitsFunction src) src.functions i func well.functions there).first))
-  entered w i vs t func r there c many b false same step = advance_failed src p depth t w.output
-  entered w i vs t func r there c many false true same step = absurd (true≢false same)
+      → Advance src p depth t (if b then Src.at (source w) (Src.argument_places vs) (before_all func.body []) else Failed w.output)
+  entered w i vs func r there c many true step =
+      let fits = at-index (FitsFunction src) src.functions i func well.functions there in
+      advance_one step (enters_block w 0 (begins i func r there c) (arguments_located vs func.parameters func.locals many fits.first))
+  entered w i vs func r there c many false step = advance_failed
 
   call_step : (w : Around src) (f : ℕ) (vs : List ℕ) (r : RFunc) → slice_get p.functions f ≡ Some r → length vs ≡ r.parameters
       → Blk.state_after_call (target w) f vs
@@ -271,16 +255,14 @@ module _ (src : TypedProgram) (p : Program) (ok : IsCodeOfProgram src p) (well :
       (state_at_block (target w) r.blocks.items (argument_registers vs) 0) (Failed w.output) (eq-eqb (length vs) r.parameters many))
 
   -- a call
-  calls : (w : Around src) (f : ℕ) (vs : List ℕ) (t : Blk.Run)
+  calls : (w : Around src) (f : ℕ) (vs : List ℕ) {t : Blk.Run}
       → ((func : TypedFunction) → slice_get src.functions f ≡ Some func → length vs ≡ func.parameters)
       → rtl_step p depth t ≡ Blk.state_after_call (target w) f vs → Advance src p depth t (Src.state_after_call (source w) f vs)
-  calls w f vs t count e = advance_value src p depth t (slice_get src.functions f) w.output _ (λ func is.
+  calls w f vs count e = advance_value _ _ _ (λ func is.
       let r = ok.functions f func is in
       let many : length vs ≡ r.0.parameters = count func is ∙ sym r.2.parameters in
-      let same : nat_lt (length w.waiting) depth ≡ nat_lt (length w.activations) depth =
-      ap (λ n. nat_lt n depth) (same_depth src w.place w.to w.waiting w.activations w.stack) in
-      entered w f vs t func r.0 is r.2 (count func is) (nat_lt (length w.activations) depth) (nat_lt (length w.waiting) depth) same
-      (e ∙ call_step w f vs r.0 r.1 many))
+      rw (same_depth src w.place w.to w.waiting w.activations w.stack)
+      (entered w f vs func r.0 is r.2 (count func is) (nat_lt (length w.activations) depth) (e ∙ call_step w f vs r.0 r.1 many)))
 
   -- what surrounds the two that wait, once the result has come
   abbrev around_caller : Around src → (f : Src.Frame) (fs : List Src.Frame) (a : Blk.Frame) (ws : List Blk.Frame) → Stack src f.result_to a.result_to fs ws
@@ -288,72 +270,61 @@ module _ (src : TypedProgram) (p : Program) (ok : IsCodeOfProgram src p) (well :
   around_caller w f fs a ws m = record w { place = f.result_to; to = a.result_to; waiting = fs; activations = ws; stack = m }
 
   -- a result
-  returns : (w : Around src) (v : Option ℕ) (place : Option Destination) (to : Option ℕ) (fs : List Src.Frame) (ws : List Blk.Frame) (t : Blk.Run)
+  returns : (w : Around src) (v : Option ℕ) (place : Option Destination) (to : Option ℕ) (fs : List Src.Frame) (ws : List Blk.Frame) {t : Blk.Run}
       → Stack src place to fs ws → rtl_step p depth t ≡ Blk.state_after_return v to ws w.globals w.output
       → Advance src p depth t (Src.state_with_result (source w) v place fs)
-  returns w None place to [] [] t m e = advance_failed src p depth t w.output
-  returns w (Some v) place to [] [] t m e = advance_one src p depth t _ _ e refl
-  returns w v place to [] (a ∷ ws) t m e = absurd m
-  returns w v place to (f ∷ fs) [] t m e = absurd m
-  returns w v None to (f ∷ fs) (a ∷ ws) t m e =
-      let is = ap (λ to. Blk.state_after_return v to (a ∷ ws) w.globals w.output) m.0.0 in
-      advance_one src p depth t (Running (a ∷ ws) w.globals w.output) _ (e ∙ is) (record { a = a; ws = ws; is = refl; top = m.0.1; below = m.1 })
-  returns w None (Some place) to (f ∷ fs) (a ∷ ws) t m e = advance_failed src p depth t w.output
-  returns w (Some v) (Some (Local x)) to (f ∷ fs) (a ∷ ws) t m e =
+  returns w None place to [] [] m e = advance_failed
+  returns w (Some v) place to [] [] m e = advance_one e refl
+  returns w v place to [] (a ∷ ws) m e = absurd m
+  returns w v place to (f ∷ fs) [] m e = absurd m
+  returns w v None to (f ∷ fs) (a ∷ ws) m e = advance_one (rw m.0.0 at e) (record { a = a; ws = ws; is = refl; top = m.0.1; below = m.1 })
+  returns w None (Some place) to (f ∷ fs) (a ∷ ws) m e = advance_failed
+  returns w (Some v) (Some (Local x)) to (f ∷ fs) (a ∷ ws) m e =
       let top = m.0.match in
-      let is = ap (λ to. Blk.state_after_return (Some v) to (a ∷ ws) w.globals w.output) m.0.is in
-      advance_one src p depth t _ _ (e ∙ is)
-      (matches (around_caller w f fs a ws m.1) a.blocks top.count (places_with f.locals x (Some v)) (places_with a.registers x (Some v)) f.todo a.code top.stands
-      (located_assigned top.count f.locals a.registers (places_with a.registers x (Some v)) x v m.0.low top.located (written_here a.registers x (Some v))
-      (λ y lt ne. written_other a.registers x (Some v) y ne)))
-  returns w (Some v) (Some (Variable x)) to (f ∷ fs) (a ∷ ws) t m e =
-      advance_value src p depth t (Src.elements_with src.globals w.globals x 0 v) w.output _ (λ g gs.
+      advance_one (rw m.0.is at e) (matches (around_caller w f fs a ws m.1) top.stands
+      (located_assigned x v m.0.low top.located (written_here a.registers x (Some v)) (λ y lt ne. written_other a.registers x (Some v) y ne)))
+  returns w (Some v) (Some (Variable x)) to (f ∷ fs) (a ∷ ws) {t} m e =
+      advance_value _ _ _ (λ g gs.
       let wait = m.0 in
-      let top = wait.match in
-      let is = ap (λ to. Blk.state_after_return (Some v) to (a ∷ ws) w.globals w.output) wait.is in
       let w' = around_caller w f fs a ws m.1 in
       let r1 = places_with a.registers wait.t (Some v) in
-      let r2 = places_with r1 wait.z (Some 0) in
-      let ne : wait.t ≢ wait.z = omega (arith, wait.apart) in
       let first_step : Goes p depth t (at (target w') a.blocks r1 (put_code x wait.z wait.t wait.code)) =
-      goes_one p depth t _ (e ∙ is ∙ ap (λ c. at (target w') a.blocks r1 c) wait.there) in
-      advance_after src p depth t _ _ first_step
-      (advance_moves src p depth _ _ _
-      (puts w' a.blocks r1 x wait.z wait.t v wait.code g wait.global ne (written_here a.registers wait.t (Some v)) gs)
-      (matches (record w' { globals = g }) a.blocks top.count f.locals r2 f.todo wait.code top.stands
-      (located_kept top.count f.locals a.registers r2 top.located (λ y lt.
-      let nz : y ≢ wait.z = omega (arith, wait.low, wait.apart) in
-      let nt : y ≢ wait.t = omega (arith, wait.low) in
-      written_other r1 wait.z (Some 0) y nz ∙ written_other a.registers wait.t (Some v) y nt)))))
+      goes_one p depth t _ (rw wait.is at e ∙ ap (λ c. at (target w') a.blocks r1 c) wait.there) in
+      advance_after first_step (advance_moves
+      (puts w' a.blocks r1 x wait.z wait.t v wait.code g wait.global (omega (arith, wait.apart)) (written_here a.registers wait.t (Some v)) gs)
+      (matches (record w' { globals = g }) (wait.match).stands (located_kept (wait.match).located (λ y lt.
+      written_other r1 wait.z (Some 0) y (omega (arith, lt, wait.low, wait.apart))
+      ∙ written_other a.registers wait.t (Some v) y (omega (arith, lt, wait.low)))))))
 
   module _ (w : Around src) (bs : List RBlock) (n : ℕ) (l r : Places) (h : Holds n l r w.globals) where
+    held_here : Located n l r
+    held_here = record { by = h.by }
+
     -- a statement that first takes an operand
-    with_operand : (e : TypedExpression) (q next_free : ℕ) (from to : Code) (go : ℕ → Src.Run) → IsPlace e n q next_free → Fetches bs e n q from to
+    with_operand : {e : TypedExpression} {q next_free : ℕ} {from to : Code} (go : ℕ → Src.Run) → IsPlace e n q next_free → Fetches bs e n q from to
         → ((v : ℕ) → value_of e l w.globals ≡ Some v → (r' : Places) → r' q ≡ Some v → ((x : ℕ) → x < n → r' x ≡ r x) → q < next_free
         → Advance src p depth (at (target w) bs r' to) (go v))
         → Advance src p depth (at (target w) bs r from) (Src.with_value_of (source w) l e go)
-    with_operand e q next_free from to go pl f k = advance_value src p depth _ (value_of e l w.globals) w.output go (λ v is.
+    with_operand {e} {q} {next_free} {from} {to} go pl f k = advance_value _ _ go (λ v is.
         let y = taken (target w) bs e n q next_free from to l r v pl f h is in
-        advance_after src p depth _ (at (target w) bs y.regs to) _ y.goes (k v is y.regs y.value y.kept y.held))
+        advance_after y.goes (k v is y.regs y.value y.kept y.held))
 
     -- a condition, and the two ways from it
-    ways : (e : TypedExpression) (t f : ℕ) (from : Code) (a b : List Todo) → Decides bs e n t f from → Starts src bs n t a → Starts src bs n f b
+    ways : {e : TypedExpression} {t f : ℕ} {from : Code} {a b : List Todo} → Decides bs e n t f from → Starts src bs n t a → Starts src bs n f b
         → Advance src p depth (at (target w) bs r from) (Src.with_value_of (source w) l e (λ v. Src.at (source w) l (todo_of_test v a b)))
-    ways e t f from a b de sa sb = advance_value src p depth _ (value_of e l w.globals) w.output _ (λ v is.
+    ways {t = t} {f} {a = a} {b} de sa sb = advance_value _ _ _ (λ v is.
         let ar = de.by (target w) l r v h is in
-        advance_moves src p depth _ _ _ ar.moves (by ar.regs (located_kept n l r ar.regs h.by ar.kept) (nat_eq v 0)))
+        advance_moves ar.moves (by ar.regs (located_kept held_here ar.kept) (nat_eq v 0)))
       where
         by : (r' : Places) → Located n l r' → (z : Bool)
             → MatchRun src (Src.at (source w) l (if z then b else a)) (state_at_block (target w) bs r' (if z then f else t))
-        by r' h' true = enters_block w bs n l r' b f sb h'
-        by r' h' false = enters_block w bs n l r' a t sa h'
+        by r' h' true = enters_block w f sb h'
+        by r' h' false = enters_block w t sa h'
 
     -- code at a spot of its own
-    in_line : (spot : Spot) (x code : Code) (s : Src.Run) → spot ≡ Line x → Sits bs spot code → Advance src p depth (at (target w) bs r x) s
+    in_line : {spot : Spot} {x code : Code} {s : Src.Run} → spot ≡ Line x → Sits bs spot code → Advance src p depth (at (target w) bs r x) s
         → Advance src p depth (at (target w) bs r code) s
-    in_line spot x code s e si a =
-        let is : code ≡ x = subst (λ s. Sits bs s code) e si in
-        subst (λ c. Advance src p depth (at (target w) bs r c) s) (sym is) a
+    in_line {x = x} {code} e si a = let is : code ≡ x = rw e at si in rw is a
 
     module _ (k : List Todo) (leave : ℕ) (next : Option ℕ) (after : Spot) (t : Targets bs leave next) (f : Follows src bs n k leave next after) where
       rest : Stands src bs n k (line_of after)
@@ -389,43 +360,32 @@ module _ (src : TypedProgram) (p : Program) (ok : IsCodeOfProgram src p) (well :
       -- a statement that takes a step
       acts_at : (s : TypedStatement) (from : Spot) (code : Code) → Sits bs from code → Coded (enclosing bs n) s leave next from after → Fits src n s
           → Advance src p depth (at (target w) bs r code) (step_at (source w) l (Do s ∷ k))
-      acts_at (assign (Local x) e) from code si c sc =
-          in_line from c.code code _ c.is si (advance_value src p depth _ (value_of e l w.globals) w.output _ (λ v is.
+      acts_at (assign (Local x) e) from code si c sc = in_line c.is si (advance_value _ _ _ (λ v is.
           let y = c.value.by (target w) l r v h is in
-          advance_moves src p depth _ _ _ y.moves
-          (matches w bs n (places_with l x (Some v)) y.regs k (line_of after) rest
-          (located_assigned n l r y.regs x v sc.2.0 h.by y.done.value y.done.kept))))
+          advance_moves y.moves (matches w rest (located_assigned x v sc.2.0 held_here y.done.value y.done.kept))))
       acts_at (assign (Variable x) e) from code si c sc =
-          in_line from c.code code _ c.is si (with_operand e c.p c.next c.code _ _ c.is_place c.value (λ v is r' rv same held.
-          advance_value src p depth _ (Src.elements_with src.globals w.globals x 0 v) w.output _ (λ g gs.
-          let ne : c.p ≢ c.z = omega (arith, held, c.spare) in
-          advance_moves src p depth _ _ _ (puts w bs r' x c.z c.p v (line_of after) g sc.2.0 ne rv gs)
-          (matches (record w { globals = g }) bs n l (places_with r' c.z (Some 0)) k (line_of after) rest
-          (located_kept n l r (places_with r' c.z (Some 0)) h.by
-          (λ y lt. let nz : y ≢ c.z = omega (arith, c.is_place.rooms, c.spare) in written_other r' c.z (Some 0) y nz ∙ same y lt))))))
+          in_line c.is si (with_operand _ c.is_place c.value (λ v is r' rv same held. advance_value _ _ _ (λ g gs.
+          advance_moves (puts w bs r' x c.z c.p v (line_of after) g sc.2.0 (omega (arith, held, c.spare)) rv gs)
+          (matches (record w { globals = g }) rest (located_kept held_here (λ y lt.
+          written_other r' c.z (Some 0) y (omega (arith, lt, c.is_place.rooms, c.spare)) ∙ same y lt))))))
       acts_at (store a i e) from code si c sc =
-          in_line from c.code code _ c.is si (with_operand i c.p c.next c.code c.middle _ c.index_place c.index (λ x is r1 rx same1 held1.
-          advance_value src p depth _ (value_of e l w.globals) w.output _ (λ v vs.
+          in_line c.is si (with_operand _ c.index_place c.index (λ x is r1 rx same1 held1. advance_value _ _ _ (λ v vs.
           let h1 = holds_kept n c.next l r r1 w.globals c.index_place.rooms h same1 in
           let y = taken (target w) bs e c.next c.q c.last c.middle _ l r1 v c.value_place c.value h1 vs in
-          let x_there : y.regs c.p ≡ Some x = y.kept c.p held1 ∙ rx in
-          let kept : (z : ℕ) → z < n → y.regs z ≡ r z = λ z lt. let lt' : z < c.next = omega (arith, c.index_place.rooms) in y.kept z lt' ∙ same1 z lt in
-          advance_after src p depth _ (at (target w) bs y.regs (first (I.Store a c.p c.q) (line_of after))) _ y.goes
-          (advance_value src p depth _ (Src.elements_with src.globals w.globals a x v) w.output _ (λ g gs.
-          advance_one src p depth _ _ _ (store_step w bs y.regs a x v c.p c.q (line_of after) g sc.2.0 x_there y.value gs)
-          (matches (record w { globals = g }) bs n l y.regs k (line_of after) rest (located_kept n l r y.regs h.by kept)))))))
+          let kept : (z : ℕ) → z < n → y.regs z ≡ r z = λ z lt. y.kept z (omega (arith, lt, c.index_place.rooms)) ∙ same1 z lt in
+          advance_after y.goes (advance_value _ _ _ (λ g gs.
+          advance_one (store_step w bs y.regs a x v c.p c.q (line_of after) g sc.2.0 (y.kept c.p held1 ∙ rx) y.value gs)
+          (matches (record w { globals = g }) rest (located_kept held_here kept)))))))
       acts_at (output e) from code si c sc =
-          let c1 = c.leaves in
-          in_line from c1.code code _ c1.is si (with_operand e c1.p c1.next c1.code _ _ c1.is_place c1.value (λ v is r' rv same held.
+          in_line c.leaves.is si (with_operand _ c.leaves.is_place c.leaves.value (λ v is r' rv same held.
           let after_output : ℕ → Around src = λ v. record w { output = w.output ++ v ∷ [] } in
-          advance_one src p depth _ _ _ (with_some (r' c1.p) v w.output (λ v. state_at_block (target (after_output v)) bs r' c.block) rv)
-          (enters_block (after_output v) bs n l r' k c.block (rest_in c.block c.lands) (located_kept n l r r' h.by same))))
+          advance_one (with_some (r' c.leaves.p) v w.output (λ v. state_at_block (target (after_output v)) bs r' c.block) rv)
+          (enters_block (after_output v) c.block (rest_in c.block c.lands) (located_kept held_here same))))
       acts_at (if_else e a b) from code si c sc =
           let joined = follows_from src bs n k leave next (Block c.join) after (comes_join bs c.join after c.joined) f in
           let a_follows = follows_before src bs n a k leave next c.a_spot (Block c.join) c.a_for (sc.0, sc.1, sc.2.1.0) joined in
           let b_follows = follows_before src bs n b k leave next c.b_spot (Block c.join) c.b_for (sc.0, sc.1, sc.2.1.1) joined in
-          in_line from c.code code _ c.is si (ways e c.a c.b c.code (before a k) (before b k) c.test
-          (starts_there src bs n (before a k) leave next c.a_spot t a_follows c.a c.a_lands)
+          in_line c.is si (ways c.test (starts_there src bs n (before a k) leave next c.a_spot t a_follows c.a c.a_lands)
           (starts_there src bs n (before b k) leave next c.b_spot t b_follows c.b c.b_lands))
       acts_at (loop e last body) from code si c sc =
           let left = rest_in c.leave c.left in
@@ -460,57 +420,50 @@ module _ (src : TypedProgram) (p : Program) (ok : IsCodeOfProgram src p) (well :
           } in
           let follows = follows_before src bs n body (Next last (loop e last body) ∷ k) c.leave c.next c.body_spot c.turn c.body_for
           (sc.0, true, sc.2.1.1) turn in
-          in_line from c.top code _ c.is si (ways e c.body c.leave c.top (before body (Next last (loop e last body) ∷ k)) k c.test
-          (line_of c.body_spot, c.body_at, stands_there src bs n _ c.leave c.next c.body_spot inner follows) left)
-      acts_at (call place callee es) from code si c sc =
-          in_line from c.code code _ c.is si (advance_value src p depth _ (values_of es l w.globals) w.output _ (λ vs is.
+          in_line c.is si (ways c.test (line_of c.body_spot, c.body_at, stands_there src bs n _ c.leave c.next c.body_spot inner follows) left)
+      acts_at (call place callee es) from code si c sc = in_line c.is si (advance_value _ _ _ (λ vs is.
           let y = taken_all (target w) bs es c.places n c.code (exit_code c.exit) l r vs c.are_places c.values h is in
-          let a = waits y.regs place c.to c.block c.receives sc.2.0 (located_kept n l r y.regs h.by y.kept) in
+          let a = waits y.regs place c.to c.block c.receives sc.2.0 (located_kept held_here y.kept) in
           let fits = sc.2.1.0 in
           let count : (func : TypedFunction) → slice_get src.functions callee ≡ Some func → length vs ≡ func.parameters = λ func there.
           let same : fits.callee ≡ func = cc fits.there in
           values_length es l w.globals vs is ∙ fits.count ∙ ap (λ (f : TypedFunction). f.parameters) same in
           let step = rw (y.values, a.1.there, a.1.is) at (c.leaves (target w) y.regs) in
-          advance_after src p depth _ (at (target w) bs y.regs (exit_code c.exit)) _ y.goes
-          (calls (record w {
+          advance_after y.goes (calls (record w {
             place = place;
             to = c.to;
             waiting = Src.frame_at (source w) l k ∷ w.waiting;
             activations = activation (target w) bs y.regs a.0 ∷ w.activations;
             stack = (a.2, w.stack);
-          }) callee vs _ count step)))
-      acts_at (return_with None) from code si c sc =
-          in_line from (exit_code (X.Return None)) code _ c si (returns w None w.place w.to w.waiting w.activations _ w.stack refl)
+          }) callee vs count step)))
+      acts_at (return_with None) from code si c sc = in_line c si (returns w None w.place w.to w.waiting w.activations w.stack refl)
       acts_at (return_with (Some e)) from code si c sc =
-          in_line from c.code code _ c.is si (with_operand e c.p c.next c.code _ _ c.is_place c.value (λ v is r' rv same held.
-          returns w (Some v) w.place w.to w.waiting w.activations _ w.stack
+          in_line c.is si (with_operand _ c.is_place c.value (λ v is r' rv same held.
+          returns w (Some v) w.place w.to w.waiting w.activations w.stack
           (with_some (r' c.p) v w.output (λ v. Blk.state_after_return (Some v) w.to w.activations w.globals w.output) rv)))
-      acts_at _ from code si c sc = advance_failed src p depth _ w.output
+      acts_at _ from code si c sc = advance_failed
 
     acts : (k : List Todo) (code : Code) → Stands src bs n k code → Advance src p depth (at (target w) bs r code) (step_at (source w) l k)
     acts (Do s ∷ k) code stands =
         let f = stands.follows in
         let x = f.comes.by code stands.sits (target w) r in
-        advance_after src p depth _ (at (target w) bs r x.0) _ x.2
-        (acts_at k stands.leave stands.next f.middle stands.targets f.rest s f.spot x.0 x.1 f.coded f.fits)
-    acts _ code stands = advance_failed src p depth _ w.output
+        advance_after x.2 (acts_at k stands.leave stands.next f.middle stands.targets f.rest s f.spot x.0 x.1 f.coded f.fits)
+    acts _ code stands = advance_failed
 
   -- a step of the source
   advances : (s : Src.Run) (t : Blk.Run) → RunHoldsWords s → MatchRun src s t → Advance src p depth t (source_step src depth s)
-  advances (Failed out) t words m = advance_failed src p depth t out
-  advances (Ended v out) t words m = advance_one src p depth t (Ended v out) (Ended v out) (ap (rtl_step p depth) m) refl
+  advances (Failed out) t words m = advance_failed
+  advances (Ended v out) t words m = advance_one (ap (rtl_step p depth) m) refl
   advances (Running [] g out) t words m = absurd m
   advances (Running (f ∷ fs) g out) t words m =
       let a = m.a in
       let top = m.top in
       let w : Around src = record { place = f.result_to; to = a.result_to; waiting = fs; activations = m.ws; stack = m.below; globals = g; output = out } in
-      let h : Holds top.count f.locals a.registers g = record { by = top.located; locals = All-head FrameHoldsWords f fs words.0; globals = words.1.0 } in
+      let h : Holds top.count f.locals a.registers g = record { by = top.located.by; locals = All-head FrameHoldsWords f fs words.0; globals = words.1.0 } in
       let s = settles src (target w) a.blocks top.count a.registers Going f.locals f.todo top.leave top.next top.spot a.code top.sits top.targets
       top.follows h in
       let point = next_point Going f.locals f.todo in
-      let there : Goes p depth t (at (target w) a.blocks a.registers s.code) =
-      subst (λ t. Goes p depth t (at (target w) a.blocks a.registers s.code)) (sym m.is) s.goes in
-      advance_after src p depth t _ _ there (acts w a.blocks top.count point.locals a.registers s.holds point.todo s.code s.stands)
+      rw m.is (advance_after s.goes (acts w a.blocks top.count point.locals a.registers s.holds point.todo s.code s.stands))
 
   -- as many steps, at least
   runs : (n : ℕ) (s : Src.Run) (t : Blk.Run) → RunHoldsWords s → MatchRun src s t
@@ -533,7 +486,6 @@ module _ (src : TypedProgram) (p : Program) (ok : IsCodeOfProgram src p) (well :
       first_frame None e = tt
       first_frame (Some func) e =
           let r = ok.functions src.main func e in
-          let there : slice_get p.functions p.main ≡ Some r.0 = ap (slice_get p.functions) ok.main ∙ r.1 in
           let w : Around src = record {
             place = None;
             to = None;
@@ -543,9 +495,7 @@ module _ (src : TypedProgram) (p : Program) (ok : IsCodeOfProgram src p) (well :
             globals = map first_words src.globals;
             output = [];
           } in
-          rw (there, ok.first)
-          (enters_block w r.0.blocks.items func.locals unset_places unset_places (before_all func.body []) 0 (begins src.main func r.0 e r.2)
-          (λ x v e. absurd (none-some v e)))
+          rw (ok.main, r.1, ok.first) (enters_block w 0 (begins src.main func r.0 e r.2) (record { by = λ x v e. absurd (none-some v e) }))
 
 same_end : (src : TypedProgram) (s : Src.Run) (t : Blk.Run) → MatchRun src s t → (outcome s).end ≢ Wrong → outcome t ≡ outcome s
 same_end src (Running [] g out) t m ne = absurd m
