@@ -104,8 +104,7 @@ pub local_emits : (old new : List RBlock) (to : Destination) (x local : ℕ) (e 
     (r : Result OpenBlock LowerFault) → to ≡ Local x → local ≡ x → local < MAX_REGISTERS → Emits (value e local free after) old new r
     → Emits (simple_code (assign to e) free after) old new r
 local_emits old new to x local e free after r it il lt v =
-    rw (it, ← il) (meant v
-    (record { blocks = omega arith; registers = omega arith; room = λ le. omega (arith, le, lt); globals = omega arith })
+    rw (it, ← il) (meant v (omega (arith, lt))
     (λ from keeps. (λ p n gives inside f s l g h. keeps.0 s l g (omega (arith, h.0.registers_fit), ((omega (arith, h.0.registers_fit), named p s n e h.0 f.1), h.1)), keeps.1))
     (λ from does bs h leave next. record { code = open_code from; is = refl; value = does bs h }))
 
@@ -116,8 +115,7 @@ pub variable_emits : (old new : List RBlock) (to : Destination) (x g : ℕ) (e :
 variable_emits old new to x g e free p next z last middle after r it ig pl room iz lt fl fm o =
     let next_is : z ≡ next_free e free = iz ∙ pl.next_is in
     let code : open_code middle ≡ first (I.Const z 0) (first (I.Store g z p) (line_of after)) = fm ∙ ap (first (I.Const z 0)) fl in
-    rw (it, ← ig) (meant o
-    (record { blocks = omega arith; registers = omega arith; room = λ le. omega (arith, le, room, lt, next_is); globals = omega arith })
+    rw (it, ← ig) (meant o (omega (arith, room, lt, next_is))
     (λ from keeps. (
       λ p' n gives inside f s l g' h.
           let there = in_scope p' s _ _ h.0 refl f.0 in
@@ -134,11 +132,9 @@ pub store_emits : (old mid new : List RBlock) (a a' : ℕ) (i e : TypedExpressio
     → place_registers e next ≤ MAX_REGISTERS → open_code code ≡ first (I.Store a' p q) (line_of after)
     → Emits (operand e q next code) old mid (Ok middle) → Emits (operand i p free middle) mid new r → Emits (simple_code (store a i e) free after) old new r
 store_emits old mid new a a' i e free p next q last code middle after r ia pi ri pe re fe second one =
-    let values : value_registers e (next_free i free) ≤ MAX_REGISTERS = subst (λ n. value_registers e n ≤ MAX_REGISTERS) pi.next_is second.room in
-    let places : place_registers e (next_free i free) ≤ MAX_REGISTERS = subst (λ n. place_registers e n ≤ MAX_REGISTERS) pi.next_is re in
-    rw (← ia) (ended (value_blocks e 1) one
-    (record { blocks = omega arith; registers = omega arith; room = λ le. omega (arith, le, ri, places, values); globals = omega arith })
-    second.grows second.count
+    let values = rw pi.next_is at second.room in
+    let places = rw pi.next_is at re in
+    rw (← ia) (ended (value_blocks e 1) one (omega (arith, ri, places, values)) second.grows second.count
     (λ from keeps. (
       λ p' n gives inside f s l g h.
           let at_index : p < s.registers = omega (arith, h.0.registers_fit, pi.counted) in
@@ -170,9 +166,7 @@ pub output_emits : (old mid new : List RBlock) (e : TypedExpression) (free b p n
     (r : Result OpenBlock LowerFault) → Sealing old mid b after → IsPlace e free p next → place_registers e free ≤ MAX_REGISTERS
     → open_code end ≡ exit_code (X.Out p b) → Emits (operand e p free end) mid new r → Emits (simple_code (output e) free after) old new r
 output_emits old mid new e free b p next end after r sealing pl room fe o =
-    ended (joint after) o
-    (record { blocks = omega arith; registers = omega arith; room = λ le. omega (arith, le, room); globals = omega arith })
-    sealing.grows sealing.count
+    ended (joint after) o (omega (arith, room)) sealing.grows sealing.count
     (λ from keeps. (
       λ p' n gives inside f s l g h.
           let j = sealing.sound s (within o.grows l) g h.1 in
@@ -214,7 +208,7 @@ to_variable_emits {g = g} {t = t} {z = z} {b = b} free last code after it ig ift
       omega (arith, ap insts_of both, line_insts after, sealing.insts),
     )
     (λ bs h.
-    let there = subst (λ c. Lands bs b (Line c)) both (sealing.lands bs h) in
+    let there = rw both at (sealing.lands bs h) in
     record { t = t; z = z; is = refl; low = omega (arith, ift); apart = omega (arith, iz); there = there }))
 
 pub call_emits : (old mid new : List RBlock) (to : Option Destination) (f f' : ℕ) (es : List TypedExpression) (free : ℕ) (x : Receiver)
@@ -225,9 +219,7 @@ pub call_emits : (old mid new : List RBlock) (to : Option Destination) (f f' : �
 call_emits old mid new to f f' es free x places0 places ps1 ps2 args end after r ig receiver i0 add room i1 i2 ia fe values =
     let all : places ≡ add.0 = add.1 ∙ ap (λ l. l ++ add.0) i0 in
     let registers : args.items ≡ map (λ p. p.register) add.0 = ia ∙ ap (map (λ p. p.register)) (i1 ∙ all) in
-    rw (← ig) (ended (receiver_blocks to (joint after)) values
-    (record { blocks = omega arith; registers = omega arith; room = λ le. omega (arith, le, room, receiver.room); globals = omega arith })
-    receiver.grows receiver.count
+    rw (← ig) (ended (receiver_blocks to (joint after)) values (omega (arith, room, receiver.room)) receiver.grows receiver.count
     (λ from keeps. (
       λ p n gives inside fits s l g h.
           let j = receiver.sound.0 p n fits.0 s (within values.grows l) g (fewer h.0 (omega arith), h.1) in
@@ -266,8 +258,7 @@ nothing_returned old given free code after ig fe = rw ig (emitted _ (grows_same 
 pub value_returned : (old new : List RBlock) (given : Option TypedExpression) (e : TypedExpression) (free p next : ℕ) (end : OpenBlock) (after : Spot)
     (r : Result OpenBlock LowerFault) → given ≡ Some e → IsPlace e free p next → place_registers e free ≤ MAX_REGISTERS
     → open_code end ≡ exit_code (X.Return (Some p)) → Emits (operand e p free end) old new r → Emits (simple_code (return_with given) free after) old new r
-value_returned old new given e free p next end after r ig pl room fe o = rw ig (meant o
-    (record { blocks = omega arith; registers = omega arith; room = λ le. omega (arith, le, room); globals = omega arith })
+value_returned old new given e free p next end after r ig pl room fe o = rw ig (meant o (omega (arith, room))
     (λ from keeps. (
       λ p' n gives inside f s l g h.
           let held : p < s.registers = omega (arith, h.0.registers_fit, pl.counted) in
@@ -310,9 +301,7 @@ pub more_emits : (old mid new : List RBlock) (all : TypedStatements) (s : TypedS
     → Emits (statement_code s c (spot middle)) mid new r → Emits (statements_code all c after) old new r
 more_emits old mid new all s rest c after middle r is others one =
     let same : joint (spot middle) ≡ statements_joint rest (joint after) = others.sound.0 in
-    rw is (ended (statements_blocks rest (joint after)) one
-    (record { blocks = omega (arith, ap (statement_blocks s) same); registers = omega arith; room = λ le. omega (arith, le, others.room); globals = omega arith })
-    others.grows others.count
+    rw is (ended (statements_blocks rest (joint after)) one (omega (arith, ap (statement_blocks s) same, others.room)) others.grows others.count
     (λ from keeps. (
       keeps.0 ∙ ap (statement_joint s) same,
       λ p n gives inside f s' l g h.
@@ -332,7 +321,7 @@ list_stopped all k c after ir e =
 -- `if`
 
 pub if_is : {s : TypedStatement} {e : TypedExpression} {a b a' b' : TypedStatement} → s ≡ if_else e a b → a' ≡ a → b' ≡ b → s ≡ if_else e a' b'
-if_is {s} {e} {a} {b} {a'} is ia ib = is ∙ ap (λ a. if_else e a b) (sym ia) ∙ ap (λ b. if_else e a' b) (sym ib)
+if_is is ia ib = rw (ia, ib) is
 
 pub side_emits : (old mid new : List RBlock) (s : TypedStatement) (c : Context) (join : ℕ) (code : Continuation) (r : Result ℕ LowerFault)
     → Emits (statement_code s c (Block join)) old mid (Ok code) → Grows mid new → OnOk r (length new ≡ length mid + joint (spot code))
@@ -353,11 +342,10 @@ pub if_emits : {b0 b1 b2 b3 b4 : List RBlock} {join y n : ℕ} {likely : Bool} {
     → Emits (condition_branch e (record { yes = y; no = n; likely = likely }) c.free) b3 b4 r
     → Emits (statement_code (if_else e a b) c after) b0 b4 (made_of r)
 if_emits {b0} {b1} {b2} {b3} {b4} {join} {y} {n} {likely} {after} {r} e a b c il sealing one other test =
-    let test' = subst (λ l. Emits (condition_branch e (record { yes = y; no = n; likely = l }) c.free) b3 b4 r) il test in
+    let test' = rw il at test in
     let sides = statement_blocks a 0 + statement_joint a 0 + statement_blocks b 0 + statement_joint b 0 in
     made_emits (statement_code (if_else e a b) c after) b0 b4 r
-    (ended (joint after + sides) test'
-    (record { blocks = omega arith; registers = omega arith; room = λ le. omega (arith, le, one.room, other.room); globals = omega arith })
+    (ended (joint after + sides) test' (omega (arith, one.room, other.room))
     (grows_then b0 b1 b3 sealing.grows (grows_then b1 b2 b3 one.grows other.grows)) (omega (arith, sealing.count, one.count, other.count))
     (λ from keeps. (
       refl,
@@ -407,7 +395,7 @@ if_second_stops {b0} {b1} {b2} {after = after} e a b c is sealing one other =
 -- loops
 
 pub loop_is : {s : TypedStatement} {e : TypedExpression} {a b a' b' : TypedStatement} → s ≡ loop e a b → a' ≡ a → b' ≡ b → s ≡ loop e a' b'
-loop_is {s} {e} {a} {b} {a'} is ia ib = is ∙ ap (λ a. loop e a b) (sym ia) ∙ ap (λ b. loop e a' b) (sym ib)
+loop_is is ia ib = rw (ia, ib) is
 
 pub block_ends : {old new : List RBlock} {many : Bool} {last : Spot} {b : ℕ} → many ≡ true → Sealing old new b last
     → Emits (end_of_turn many last) old new (Ok (record { next = Some b; after = Jump b }))
@@ -424,8 +412,7 @@ pub turn_emits : {b0 b1 b2 b3 : List RBlock} {bottom : OpenBlock} {code : Contin
     → Emits (statement_code last c (Line (open_code bottom))) b1 b2 (Ok code) → Emits (end_of_turn many (spot code)) b2 b3 r → Emits (last_code e last c many again) b0 b3 r
 turn_emits {b0} {b1} {b2} {b3} {bottom} {code} e last c many again test part end =
     let same : joint (spot code) ≡ statement_joint last 1 = part.sound.0 in
-    ended (condition_blocks e + statement_blocks last 1) end
-    (record { blocks = omega (arith, ap (λ n. if many then n else 0) same); registers = omega arith; room = λ le. omega (arith, test.room, part.room); globals = omega arith })
+    ended (condition_blocks e + statement_blocks last 1) end (omega (arith, ap (λ n. if many then n else 0) same, test.room, part.room))
     (grows_then b0 b1 b2 test.grows part.grows) (omega (arith, test.count, part.count))
     (λ t keeps. (
       subst (λ n. IsEnd many t n) same keeps.0,
@@ -450,7 +437,7 @@ pub loop_head_stops : {b0 b1 b2 : List RBlock} {left : ℕ} {after : Spot} {f : 
     (last body : TypedStatement) (c : Context) → r ≡ Err f → Sealing b0 b1 left after → b2 ≡ b1 → (f ≡ Limit → MAX_BLOCKS < length b1 + 1)
     → Emits (statement_code (loop e last body) c after) b0 b2 (made_of r)
 loop_head_stops {b0} e last body c is sealing same limit = rw (ap made_of is) (record {
-  grows = subst (λ b. Grows b0 b) (sym same) sealing.grows;
+  grows = rw same sealing.grows;
   count = tt;
   room = tt;
   limit = λ l. omega (arith, limit l, sealing.count);
@@ -471,7 +458,7 @@ module _ {b0 b1 b2 : List RBlock} {left head : ℕ} {many : Bool} {after : Spot}
   pub loop_turn_stops : {b3 : List RBlock} {f : LowerFault} {r : Result OpenBlock LowerFault} → r ≡ Err f
       → Emits (last_code e last c many (again head left)) b2 b3 (Err f) → Emits (statement_code (loop e last body) c after) b0 b3 (made_of r)
   loop_turn_stops {b3} {f} is turns =
-      let turn = subst (λ many. Emits (last_code e last c many (again head left)) b2 b3 (Err f)) im turns in
+      let turn = rw im at turns in
       part_refused (joint after + 1) turn (ap made_of is) (omega arith) (omega arith) (omega arith)
       (grows_then b0 b1 b2 sealing.grows res.grows) (omega (arith, sealing.count, res.longer))
 
@@ -479,11 +466,11 @@ module _ {b0 b1 b2 : List RBlock} {left head : ℕ} {many : Bool} {after : Spot}
   module _ {b3 : List RBlock} {inner : Context} {turn : Turn} (turns : Emits (last_code e last c many (again head left)) b2 b3 (Ok turn))
       (ii : inner ≡ inside_of c left turn) where
     turn_made : Emits (last_code e last c (continues body) (again head left)) b2 b3 (Ok turn)
-    turn_made = subst (λ many. Emits (last_code e last c many (again head left)) b2 b3 (Ok turn)) im turns
+    turn_made = rw im at turns
 
     body_made : {b4 : List RBlock} {r : Result Continuation LowerFault} → Emits (statement_code body inner (spot turn.after)) b3 b4 r
         → Emits (statement_code body (inside_of c left turn) (spot turn.after)) b3 b4 r
-    body_made {b4} {r} part = subst (λ inner. Emits (statement_code body inner (spot turn.after)) b3 b4 r) ii part
+    body_made part = rw ii at part
 
     body_blocks : statement_blocks body (joint (spot turn.after)) ≡ statement_blocks body (if continues body then 0 else statement_joint last 1)
     body_blocks = ap (statement_blocks body) turn_made.sound.0.1
@@ -546,7 +533,7 @@ module _ {b0 b1 b2 : List RBlock} {left head : ℕ} {many : Bool} {after : Spot}
               next = turn.next;
               body = head;
               body_spot = spot code;
-              body_at = subst (λ c. Lands bs head (Line c)) ie (at_filled bs b0 b5 b6 head filled low (omega (arith, f.same_length, g25.longer)) f h);
+              body_at = rw ie at (at_filled bs b0 b5 b6 head filled low (omega (arith, f.same_length, g25.longer)) f h);
               turn = spot turn.after;
               body_for = made.does bs sp.1;
               last_spot = t.from;
