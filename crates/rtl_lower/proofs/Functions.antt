@@ -1,8 +1,9 @@
 -- From the blocks of functions to those of a program.
-use Rattle.std.proofs.Common.{◌≡◌, ◌≢◌, ℕ, zero, suc, ◌+◌, ◌<◌, ◌≤◌, List, [], ◌∷◌, ◌++◌, Some, None, refl, sym, ◌∙◌, ap, subst, arith, length}
+use Rattle.std.proofs.Common.{◌≡◌, ◌≢◌, ℕ, zero, suc, ◌+◌, ◌<◌, ◌≤◌, List, [], ◌∷◌, ◌++◌, Some, None, refl, ◌∙◌, ap, subst, arith, length}
 use Rattle.std.proofs.Common.{get_or, take}
-use Rattle.std.specs.Prelude.{slice_get, map, replicate}
+use Rattle.std.specs.Prelude.{All, slice_get, map, replicate}
 use Rattle.std.proofs.lemmas.List.{length-replicate}
+use Rattle.std.proofs.lemmas.List.Elements.{All-nil, All-cons, All-head, All-tail}
 use Rattle.words.specs.Words.{wrap}
 use Rattle.words.specs.Widths.{kept}
 use Rattle.words.specs.declared.width.Width.{Width}
@@ -19,12 +20,12 @@ use Rattle.rtl.specs.Meaning.{Code, first_values}
 use Rattle.rtl.specs.declared.block.RBlock.{RBlock}
 use Rattle.rtl.specs.declared.block.RFunc.{RFunc}
 use Rattle.rtl.specs.declared.block.RGlobal.{RGlobal}
-use Rattle.rtl_emit.specs.Blocks.{Spot, Line, line_of, insts_in, At, Reserves, Fills}
+use Rattle.rtl_emit.specs.Blocks.{Spot, Line, line_of, insts_in, Reserves, Fills}
 use Rattle.rtl_emit.specs.Sound.{Scope, AreSound}
 use Rattle.rtl_lower.specs.Sizes.{statements_blocks, statements_insts, function_registers}
 use Rattle.rtl_lower.specs.Sound.{Suits}
 use Rattle.rtl_lower.specs.Laws.{KeepsRuns}
-use Rattle.rtl_lower.specs.Coded.{enclosing, IsCodeOf, IsGlobalOf, ArePairs, AreCodesOf, AreGlobalsOf, CodedAll}
+use Rattle.rtl_lower.specs.Coded.{IsCodeOf, IsGlobalOf, ArePairs, AreCodesOf, AreGlobalsOf}
 use Rattle.rtl_lower.proofs.Fitted.{functions_more}
 use Rattle.rtl_lower.proofs.Sizes.{take_one}
 use Rattle.rtl_lower.proofs.Statements.{MakesAll}
@@ -44,12 +45,11 @@ function_code f r b0 b1 b2 free entry all filled end from il ip ib e0 res makes 
     record {
       parameters = ip;
       entry = from;
-      entry_at = subst (λ c. At r.blocks.items 0 c) fe (subst (λ n. At r.blocks.items n filled) zero_entry f'.at);
+      entry_at = rw (zero_entry, fe) at f'.at;
       after = end;
-      body = subst (λ n. CodedAll (enclosing r.blocks.items n) f.body 0 None from (Line end)) il
-          (subst (λ b. CodedAll (enclosing r.blocks.items free) b 0 None from (Line end)) ib here);
-      count = (let blocks = ap (λ b. statements_blocks b 1) ib in omega (arith, f'.same_length, count, one, blocks));
-      insts = subst (λ b. insts_in r.blocks.items ≤ statements_insts b) ib insts;
+      body = rw (ib, il) at here;
+      count = omega (arith, f'.same_length, count, one, ap (λ b. statements_blocks b 1) ib);
+      insts = rw ib at insts;
       sound = sound;
     }
 
@@ -78,14 +78,12 @@ pairs_push IsPair _ _ x y m c = absurd m
 pub one_function : (all : List Function) (rs rs' : List RFunc) (i : ℕ) (f : Function) (r : RFunc) → rs' ≡ rs ++ r ∷ [] → i < length all → f ≡ get_or all i f
     → IsCodeOf (function_of f) r → AreCodesOf (functions_of (take i all)) rs → AreCodesOf (functions_of (take (i + 1) all)) rs'
 one_function all rs rs' i f r e lt is c m =
-    subst (λ fs. AreCodesOf fs rs') (sym (functions_more all i f lt is)) (subst (λ rs. AreCodesOf (functions_of (take i all) ++ function_of f ∷ []) rs) (sym e)
-    (pairs_push IsCodeOf (functions_of (take i all)) rs (function_of f) r m c))
+    rw (functions_more all i f lt is, e) (pairs_push IsCodeOf (functions_of (take i all)) rs (function_of f) r m c)
 
 pub one_global : (all : List Global) (rs rs' : List RGlobal) (i : ℕ) (g d : Global) (r : RGlobal) → rs' ≡ rs ++ r ∷ [] → i < length all → g ≡ get_or all i d
     → IsGlobalOf g r → AreGlobalsOf (take i all) rs → AreGlobalsOf (take (i + 1) all) rs'
 one_global all rs rs' i g d r e lt is c m =
-    subst (λ gs. AreGlobalsOf gs rs') (sym (take_one all i (i + 1) g d lt refl is)) (subst (λ rs. AreGlobalsOf (take i all ++ g ∷ []) rs) (sym e)
-    (pairs_push IsGlobalOf (take i all) rs g r m c))
+    rw (take_one all i (i + 1) g d lt refl is, e) (pairs_push IsGlobalOf (take i all) rs g r m c)
 
 pub pairs_at : {A B : Type 0} (IsPair : A → B → Type 0) (xs : List A) (ys : List B) → ArePairs IsPair xs ys → (i : ℕ) (x : A) → slice_get xs i ≡ Some x
     → (y : B) × (slice_get ys i ≡ Some y) × IsPair x y
@@ -93,6 +91,14 @@ pairs_at IsPair [] ys m i x e = cc
 pairs_at IsPair (a ∷ xs) (b ∷ ys) m zero x e = let is : a ≡ x = cc in (b, refl, subst (λ x. IsPair x b) is m.0)
 pairs_at IsPair (a ∷ xs) (b ∷ ys) m (suc i) x e = pairs_at IsPair xs ys m.1 i x e
 pairs_at IsPair (a ∷ xs) [] m i x e = absurd m
+
+-- what holds of each of the first, with what its pair is, holds of the second
+pub pairs_all : {A B : Type 0} (IsPair : A → B → Type 0) (P : A → Type 0) (Q : B → Type 0) → ((x : A) (y : B) → IsPair x y → P x → Q y)
+    → (xs : List A) (ys : List B) → ArePairs IsPair xs ys → All P xs → All Q ys
+pairs_all IsPair P Q each [] [] m a = All-nil Q
+pairs_all IsPair P Q each (x ∷ xs) (y ∷ ys) m a =
+    All-cons Q y ys (each x y m.0 (All-head P x xs a)) (pairs_all IsPair P Q each xs ys m.1 (All-tail P x xs a))
+pairs_all IsPair P Q each _ _ m a = absurd m
 
 firsts : (gs : List Global) (rs : List RGlobal) → AreGlobalsOf gs rs → map first_values rs ≡ map first_words gs
 firsts [] [] m = refl
@@ -103,10 +109,10 @@ pub program_made : (parts : TypedParts) (fs : List Function) (gs : List Global) 
     → p ≡ Programs.program_of rfs rgs m → m ≡ parts.main → fs ≡ parts.functions → gs ≡ parts.globals → AreCodesOf (functions_of fs) rfs
     → AreGlobalsOf gs rgs → IsWellFormed (program_of parts) → KeepsRuns (program_of parts) p
 program_made parts fs gs rfs rgs m p ip im ifs igs cs ds well =
-    let globals = subst (λ gs. AreGlobalsOf gs rgs) igs ds in
-    subst (λ p. KeepsRuns (program_of parts) p) (sym ip) (keeps_runs (program_of parts) (Programs.program_of rfs rgs m) (record {
+    let globals = rw igs at ds in
+    rw ip (keeps_runs (program_of parts) (Programs.program_of rfs rgs m) (record {
       main = im;
-      functions = pairs_at IsCodeOf (functions_of parts.functions) rfs (subst (λ fs. AreCodesOf (functions_of fs) rfs) ifs cs);
+      functions = pairs_at IsCodeOf (functions_of parts.functions) rfs (rw ifs at cs);
       globals = pairs_at IsGlobalOf parts.globals rgs globals;
       first = firsts parts.globals rgs globals;
     }) well)

@@ -34,12 +34,12 @@ use Rattle.rtl_emit.specs.Blocks.{Reserves, Fills}
 use Rattle.rtl_emit.specs.Sound.{Scope, IsSoundInst, IsSoundMaybe, IsSoundExit, AreSound}
 use Rattle.rtl_emit.specs.Expressions.{ArePlaces}
 use Rattle.rtl_emit.specs.declared.place.Place.{Place}
-use Rattle.rtl_lower.specs.Coded.{IsCodeOf, AreCodesOf, AreGlobalsOf}
+use Rattle.rtl_lower.specs.Coded.{IsCodeOf, IsGlobalOf, AreCodesOf, AreGlobalsOf}
 use Rattle.rtl_lower.specs.Laws.{IsOfSize, AreOfSizes}
 use Rattle.rtl_lower.specs.Sizes.{HaveRoom, function_blocks, function_registers}
 use Rattle.rtl_lower.specs.Sound.{Suits}
 use Rattle.rtl_lower.proofs.Fitted.{expression_numbers, list_numbers}
-use Rattle.rtl_lower.proofs.Functions.{pairs_at}
+use Rattle.rtl_lower.proofs.Functions.{pairs_at, pairs_all}
 
 -- expressions
 
@@ -102,13 +102,8 @@ globals_length (g ∷ gs) (r ∷ rs) m = ap suc (globals_length gs rs m.1)
 globals_length _ _ m = absurd m
 
 globals_are : (gs : List Global) (rs : List RGlobal) → AreGlobalsOf gs rs → All (λ (g : Global). 1 ≤ g.length) gs → All IsGlobal rs
-globals_are [] [] m a = All-nil IsGlobal
-globals_are (g ∷ gs) (r ∷ rs) m a =
-    let h : 1 ≤ g.length = All-head (λ (g : Global). 1 ≤ g.length) g gs a in
-    let l = m.0.elements in
-    All-cons IsGlobal r rs (record { some = omega (arith, h, l); first = m.0.values ∙ sym l })
-    (globals_are gs rs m.1 (All-tail (λ (g : Global). 1 ≤ g.length) g gs a))
-globals_are _ _ m a = absurd m
+globals_are = pairs_all IsGlobalOf (λ (g : Global). 1 ≤ g.length) IsGlobal
+    (λ g r m h. record { some = omega (arith, h, m.elements); first = m.values ∙ sym m.elements })
 
 same_words : (gs : List Global) (rs : List RGlobal) → AreGlobalsOf gs rs → sum_by word_count rs ≡ words_in gs
 same_words [] [] m = refl
@@ -215,12 +210,9 @@ module _ (p : TypedProgram) (rs : List RFunc)
 
   functions_are : (globals : ℕ) → length p.globals ≤ globals → (fs : List TypedFunction) (some : List RFunc) → AreCodesOf fs some → All (FitsFunction p) fs
       → All (λ f. function_registers f ≤ MAX_REGISTERS) fs → All (IsFunction rs globals) some
-  functions_are globals gs [] [] m a few = All-nil (IsFunction rs globals)
-  functions_are globals gs (f ∷ fs) (r ∷ some) m a few =
-      All-cons (IsFunction rs globals) r some (function_is globals f r gs (All-head (FitsFunction p) f fs a)
-      (All-head (λ f. function_registers f ≤ MAX_REGISTERS) f fs few) m.0)
-      (functions_are globals gs fs some m.1 (All-tail (FitsFunction p) f fs a) (All-tail (λ f. function_registers f ≤ MAX_REGISTERS) f fs few))
-  functions_are globals gs _ _ m a few = absurd m
+  functions_are globals gs fs some m a few =
+      pairs_all IsCodeOf (λ f. FitsFunction p f × (function_registers f ≤ MAX_REGISTERS)) (IsFunction rs globals)
+      (λ f r c h. function_is globals f r gs h.0 h.1 c) fs some m (λ k d lt. (a k d lt, few k d lt))
 
   sizes_of : (fs : List TypedFunction) (some : List RFunc) → AreCodesOf fs some → All (FitsFunction p) fs → AreOfSizes fs some
   sizes_of [] [] m a = tt
@@ -235,8 +227,8 @@ pub sizes_are : (parts : TypedParts) (fs : List Function) (rs all : List RFunc) 
     → IsWellFormed (program_of parts) → AreOfSizes (functions_of parts.functions) all
 sizes_are parts fs rs all ifs ia codes well =
     let p = program_of parts in
-    let m = subst (λ fs. AreCodesOf (functions_of fs) rs) ifs codes in
-    subst (λ l. AreOfSizes p.functions l) (sym ia) (sizes_of p rs (callee_of p.functions rs m) p.functions rs m well.functions)
+    let m = rw ifs at codes in
+    rw ia (sizes_of p rs (callee_of p.functions rs m) p.functions rs m well.functions)
 
 -- a program of RTL
 
@@ -246,8 +238,8 @@ pub parts_program : (parts : TypedParts) (fs : List Function) (ds : List Global)
     → IsProgram (Programs.program_of rs gs main)
 parts_program parts fs ds rs gs main em ifs ids of_parts of_globals sum well room =
     let p = program_of parts in
-    let codes = subst (λ fs. AreCodesOf (functions_of fs) rs) ifs of_parts in
-    let globals = subst (λ ds. AreGlobalsOf ds gs) ids of_globals in
+    let codes = rw ifs at of_parts in
+    let globals = rw ids at of_globals in
     let callees = callee_of p.functions rs codes in
     let m = callees p.main well.main well.entry in
     record {
