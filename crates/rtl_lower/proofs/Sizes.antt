@@ -1,9 +1,9 @@
 -- The sizes of lists of statements, taken from the last one on.
-use Rattle.std.proofs.Common.{◌≡◌, ℕ, zero, suc, ◌+◌, ◌-◌, ◌<◌, ◌≤◌, true, false, List, [], ◌∷◌, ◌++◌, Some, None, refl, sym, ◌∙◌, ap, subst}
+use Rattle.std.proofs.Common.{◌≡◌, ℕ, zero, suc, ◌+◌, ◌-◌, ◌<◌, ◌≤◌, true, false, List, [], ◌∷◌, ◌++◌, Some, None, refl, sym, ◌∙◌, ap}
 use Rattle.std.proofs.Common.{add-one, arith, length, get_or, take, drop, take_all, drop_of_length-le}
 use Rattle.std.specs.Prelude.{slice_get}
 use Rattle.std.proofs.lemmas.Bool.{or_parts, or_from, or_left, or_right}
-use Rattle.std.proofs.lemmas.Option.{none-some}
+use Rattle.std.proofs.lemmas.Option.{none-some, same_Some}
 use Rattle.std.proofs.Math.Seq.{take-suc, drop-cons}
 use Rattle.c_typed.specs.declared.tree.TypedStatement.{TypedStatement}
 use Rattle.c_typed.specs.Shape.{statement_of, statements_of}
@@ -55,11 +55,11 @@ take_one all i j x d lt ij is = rw (ij, add-one, is) (take-suc all i d lt)
 
 pub none_more : (all : List TypedStatement) (i j : ℕ) (s : TypedStatement) → i < length all → s ≡ get_or all i s → j ≡ i + 1
     → continues (statement_of s) ≡ false → any_continues (statements_of (take i all)) ≡ false → any_continues (statements_of (take j all)) ≡ false
-none_more all i j s lt is ij f e = subst (λ l. any_continues (statements_of l) ≡ false) (sym (take_one all i j s s lt ij is)) (none_append (take i all) s e f)
+none_more all i j s lt is ij f e = rw (take_one all i j s s lt ij is) (none_append (take i all) s e f)
 
 pub none_all : (all : List TypedStatement) (i : ℕ) → length all ≤ i → any_continues (statements_of (take i all)) ≡ false
     → any_continues (statements_of all) ≡ false
-none_all all i le e = subst (λ l. any_continues (statements_of l) ≡ false) (take_all i all le) e
+none_all all i le e = rw (take_all i all le) at e
 
 -- statements of a list that are done, the last ones
 pub none_left : (all : List TypedStatement) (n : ℕ) → n ≡ length all → statements_of (drop n all) ≡ no_statements
@@ -91,31 +91,22 @@ rest_numbers zero all = omega arith
 rest_numbers (suc k) [] = omega arith
 rest_numbers (suc k) (s ∷ all) = omega (arith, rest_numbers k all)
 
--- the last statement of a list
-last_below : (all : List TypedStatement) (x s : TypedStatement) → slice_get (x ∷ all) (length all) ≡ Some s
-    → last_stays (statements_of all) (stays (statement_of x)) ≡ stays (statement_of s)
-last_below [] x s e = let is : x ≡ s = cc in ap (λ s. stays (statement_of s)) is
-last_below (y ∷ all) x s e = last_below all y s e
+-- the last statement of a list, by which code goes on after it
+last_is : (x : TypedStatement) (all : List TypedStatement) → (s : TypedStatement) × (slice_get (x ∷ all) (length (x ∷ all) - 1) ≡ Some s)
+    × (last_stays (statements_of all) (stays (statement_of x)) ≡ stays (statement_of s))
+last_is x [] = (x, refl, refl)
+last_is x (y ∷ all) =
+    let rest = last_is y all in
+    let next : length (x ∷ y ∷ all) - 1 ≡ suc (length (y ∷ all) - 1) = omega arith in
+    (rest.0, rw next rest.1, rest.2)
 
 pub last_of : (v w : List TypedStatement) (s : TypedStatement) → v ≡ w → Some s ≡ slice_get v (length v - 1)
     → last_stays (statements_of w) true ≡ stays (statement_of s)
-last_of v w s iv e = here w (sym (e ∙ ap (λ l. slice_get l (length l - 1)) iv))
-  where
-    here : (w : List TypedStatement) → slice_get w (length w - 1) ≡ Some s → last_stays (statements_of w) true ≡ stays (statement_of s)
-    here [] e = cc
-    here (x ∷ w) e =
-        let n : length w ≡ length (x ∷ w) - 1 = omega arith in
-        last_below w x s (ap (λ n. slice_get (x ∷ w) n) n ∙ e)
-
-none_last : (all : List TypedStatement) (x : TypedStatement) → slice_get (x ∷ all) (length all) ≡ None → ⊥
-none_last [] x e = none-some x (sym e)
-none_last (y ∷ all) x e = none_last all y e
+last_of v [] s iv e = absurd (none-some s (sym (rw iv at e)))
+last_of v (x ∷ w) s iv e =
+    let last = last_is x w in
+    last.2 ∙ ap (λ s. stays (statement_of s)) (same_Some last.0 s (sym last.1 ∙ sym (rw iv at e)))
 
 pub last_none : (v w : List TypedStatement) → v ≡ w → None ≡ slice_get v (length v - 1) → last_stays (statements_of w) true ≡ true
-last_none v w iv e = here w (sym (e ∙ ap (λ l. slice_get l (length l - 1)) iv))
-  where
-    here : (w : List TypedStatement) → slice_get w (length w - 1) ≡ None → last_stays (statements_of w) true ≡ true
-    here [] e = refl
-    here (x ∷ w) e =
-        let n : length w ≡ length (x ∷ w) - 1 = omega arith in
-        absurd (none_last w x (ap (λ n. slice_get (x ∷ w) n) n ∙ e))
+last_none v [] iv e = refl
+last_none v (x ∷ w) iv e = let last = last_is x w in absurd (none-some last.0 (rw iv at e ∙ last.1))
