@@ -1,5 +1,5 @@
 -- What is still to do in the source, and where its code stands.
-use Rattle.std.proofs.Common.{◌≡◌, ℕ, ◌<◌, Bool, true, false, List, [], ◌∷◌, Option, Some, None, refl, sym, subst}
+use Rattle.std.proofs.Common.{◌≡◌, ℕ, ◌<◌, Bool, true, false, List, [], ◌∷◌, Option, Some, None, refl}
 use Rattle.std.proofs.Common.{nat_eq}
 use Rattle.std.specs.Prelude.{if◌then◌else◌}
 use Rattle.runs.specs.Stores.{Places, Arrays, places_with}
@@ -67,56 +67,55 @@ Follows src bs n (Do s ∷ k) leave next from = StandsDo src bs n s leave next f
 Follows src bs n (Next last again ∷ k) leave next from = StandsNext src bs n last again leave next from
     (λ leave' next' c. Follows src bs n k leave' next' c)
 
-mutual
-  pub there_coded : (bs : List RBlock) (n : ℕ) (s : TypedStatement) (leave : ℕ) (next : Option ℕ) (from after : Spot) → Targets bs leave next
-      → Coded (enclosing bs n) s leave next from after → IsThere bs after → IsThere bs from
-  there_coded bs n empty leave next from after t c th = subst (λ s. IsThere bs s) (sym c) th
-  there_coded bs n (block all) leave next from after t c th = there_all bs n all leave next from after t c th
-  there_coded bs n (unset x) leave next from after t c th = subst (λ s. IsThere bs s) (sym c) th
-  there_coded bs n (assign (Local x) e) leave next from after t c th = subst (λ s. IsThere bs s) (sym c.is) tt
-  there_coded bs n (output e) leave next from after t c th = subst (λ s. IsThere bs s) (sym c.leaves.is) tt
-  there_coded bs n break_loop leave next from after t c th = subst (λ s. IsThere bs s) (sym c) t.leaves
-  there_coded bs n continue_loop leave next from after t c th = subst (λ s. IsThere bs s) (sym c.2) (t.continues c.0 c.1)
-  there_coded bs n (return_with None) leave next from after t c th = subst (λ s. IsThere bs s) (sym c) tt
-  there_coded bs n _ leave next from after t c th = subst (λ s. IsThere bs s) (sym c.is) tt
+module _ (bs : List RBlock) (n : ℕ) where
+  mutual
+    pub there_coded : (s : TypedStatement) (leave : ℕ) (next : Option ℕ) (from after : Spot) → Targets bs leave next
+        → Coded (enclosing bs n) s leave next from after → IsThere bs after → IsThere bs from
+    there_coded empty leave next from after t c th = rw c th
+    there_coded (block all) leave next from after t c th = there_all all leave next from after t c th
+    there_coded (unset x) leave next from after t c th = rw c th
+    there_coded (assign (Local x) e) leave next from after t c th = rw c.is tt
+    there_coded (output e) leave next from after t c th = rw c.leaves.is tt
+    there_coded break_loop leave next from after t c th = rw c t.leaves
+    there_coded continue_loop leave next from after t c th = rw c.2 (t.continues c.0 c.1)
+    there_coded (return_with None) leave next from after t c th = rw c tt
+    there_coded _ leave next from after t c th = rw c.is tt
 
-  pub there_all : (bs : List RBlock) (n : ℕ) (all : TypedStatements) (leave : ℕ) (next : Option ℕ) (from after : Spot) → Targets bs leave next
-      → CodedAll (enclosing bs n) all leave next from after → IsThere bs after → IsThere bs from
-  there_all bs n no_statements leave next from after t c th = subst (λ s. IsThere bs s) (sym c) th
-  there_all bs n (more_statements s rest) leave next from after t c th =
-      there_coded bs n s leave next from c.0 t c.1 (there_all bs n rest leave next c.0 after t c.2 th)
+    there_all : (all : TypedStatements) (leave : ℕ) (next : Option ℕ) (from after : Spot) → Targets bs leave next
+        → CodedAll (enclosing bs n) all leave next from after → IsThere bs after → IsThere bs from
+    there_all no_statements leave next from after t c th = rw c th
+    there_all (more_statements s rest) leave next from after t c th =
+        there_coded s leave next from c.0 t c.1 (there_all rest leave next c.0 after t c.2 th)
 
-pub there_follows : (src : TypedProgram) (bs : List RBlock) (n : ℕ) (k : List Todo) (leave : ℕ) (next : Option ℕ) (from : Spot)
-    → Targets bs leave next → Follows src bs n k leave next from → IsThere bs from
-there_follows src bs n [] leave next from t f = f
-there_follows src bs n (Do s ∷ k) leave next from t f = f.comes.there
-    (there_coded bs n s leave next f.spot f.middle t f.coded (there_follows src bs n k leave next f.middle t f.rest))
-there_follows src bs n (Next last again ∷ k) leave next from t f =
-    f.comes.there (there_coded bs n last f.outer_leave f.outer_next f.last_spot (Line f.bottom) f.targets f.last_coded tt)
+module _ (src : TypedProgram) (bs : List RBlock) (n : ℕ) where
+  there_follows : (k : List Todo) (leave : ℕ) (next : Option ℕ) (from : Spot) → Targets bs leave next → Follows src bs n k leave next from → IsThere bs from
+  there_follows [] leave next from t f = f
+  there_follows (Do s ∷ k) leave next from t f =
+      f.comes.there (there_coded bs n s leave next f.spot f.middle t f.coded (there_follows k leave next f.middle t f.rest))
+  there_follows (Next last again ∷ k) leave next from t f =
+      f.comes.there (there_coded bs n last f.outer_leave f.outer_next f.last_spot (Line f.bottom) f.targets f.last_coded tt)
 
-pub follows_from : (src : TypedProgram) (bs : List RBlock) (n : ℕ) (k : List Todo) (leave : ℕ) (next : Option ℕ) (from to : Spot) → Comes bs from to
-    → Follows src bs n k leave next to → Follows src bs n k leave next from
-follows_from src bs n [] leave next from to c f = c.there f
-follows_from src bs n (Do s ∷ k) leave next from to c f =
-    record { spot = f.spot; comes = comes_then c f.comes; middle = f.middle; coded = f.coded; fits = f.fits; rest = f.rest }
-follows_from src bs n (Next last again ∷ k) leave next from to c f = record { last_spot = f.last_spot; comes = comes_then c f.comes; turn = f.turn }
+  pub follows_from : (k : List Todo) (leave : ℕ) (next : Option ℕ) (from to : Spot) → Comes bs from to → Follows src bs n k leave next to
+      → Follows src bs n k leave next from
+  follows_from [] leave next from to c f = c.there f
+  follows_from (Do s ∷ k) leave next from to c f =
+      record { spot = f.spot; comes = comes_then c f.comes; middle = f.middle; coded = f.coded; fits = f.fits; rest = f.rest }
+  follows_from (Next last again ∷ k) leave next from to c f = record { last_spot = f.last_spot; comes = comes_then c f.comes; turn = f.turn }
 
-mutual
-  pub follows_before : (src : TypedProgram) (bs : List RBlock) (n : ℕ) (s : TypedStatement) (k : List Todo) (leave : ℕ) (next : Option ℕ)
-      (from middle : Spot) → Coded (enclosing bs n) s leave next from middle → Fits src n s → Follows src bs n k leave next middle
-      → Follows src bs n (before s k) leave next from
-  follows_before src bs n empty k leave next from middle c sc f = subst (λ m. Follows src bs n k leave next m) (sym c) f
-  follows_before src bs n (block all) k leave next from middle c sc f = follows_all src bs n all k leave next from middle c sc.0 sc.1 sc.2 f
-  follows_before src bs n s k leave next from middle c sc f =
-      record { spot = from; comes = comes_equal bs from from refl; middle = middle; coded = c; fits = sc; rest = f }
+  mutual
+    pub follows_before : (s : TypedStatement) (k : List Todo) (leave : ℕ) (next : Option ℕ) (from middle : Spot)
+        → Coded (enclosing bs n) s leave next from middle → Fits src n s → Follows src bs n k leave next middle → Follows src bs n (before s k) leave next from
+    follows_before empty k leave next from middle c sc f = rw c f
+    follows_before (block all) k leave next from middle c sc f = follows_all all k leave next from middle c sc.0 sc.1 sc.2 f
+    follows_before s k leave next from middle c sc f =
+        record { spot = from; comes = comes_equal bs from from refl; middle = middle; coded = c; fits = sc; rest = f }
 
-  pub follows_all : (src : TypedProgram) (bs : List RBlock) (n : ℕ) (all : TypedStatements) (k : List Todo) (leave : ℕ) (next : Option ℕ)
-      (from middle : Spot) → CodedAll (enclosing bs n) all leave next from middle → (gives inside : Bool) → FitsStatements src n gives inside all
-      → Follows src bs n k leave next middle → Follows src bs n (before_all all k) leave next from
-  follows_all src bs n no_statements k leave next from middle c gives inside sc f = subst (λ m. Follows src bs n k leave next m) (sym c) f
-  follows_all src bs n (more_statements s rest) k leave next from middle c gives inside sc f =
-      follows_before src bs n s (before_all rest k) leave next from c.0 c.1 (gives, inside, sc.0)
-      (follows_all src bs n rest k leave next c.0 middle c.2 gives inside sc.1 f)
+    pub follows_all : (all : TypedStatements) (k : List Todo) (leave : ℕ) (next : Option ℕ) (from middle : Spot)
+        → CodedAll (enclosing bs n) all leave next from middle → (gives inside : Bool) → FitsStatements src n gives inside all
+        → Follows src bs n k leave next middle → Follows src bs n (before_all all k) leave next from
+    follows_all no_statements k leave next from middle c gives inside sc f = rw c f
+    follows_all (more_statements s rest) k leave next from middle c gives inside sc f =
+        follows_before s (before_all rest k) leave next from c.0 c.1 (gives, inside, sc.0) (follows_all rest k leave next c.0 middle c.2 gives inside sc.1 f)
 
 -- a local that is unset needs no register
 pub holds_unset : (n : ℕ) (l r : Places) (g : Arrays) (x : ℕ) → Holds n l r g → Holds n (places_with l x None) r g
