@@ -1,7 +1,6 @@
 -- The homes that are made are the choice, and the choice serves its function.
-use Rattle.std.proofs.Common.{◌≡◌, ℕ, zero, suc, ◌+◌, ◌-◌, ◌^◌, ◌<◌, ◌≤◌, ⊎_elim, true, false, ◌||◌, List, [], ◌∷◌}
-use Rattle.std.proofs.Common.{Some, refl, sym, ap, ◌∙◌, arith, length, nat_eq, nat_lt, true≢false, eqb-true, ne_eqb, lt-ltb}
-use Rattle.std.proofs.Common.{ltb-true, get_or}
+use Rattle.std.proofs.Common.{◌≡◌, ℕ, zero, suc, ◌+◌, ◌-◌, ◌^◌, ◌<◌, ◌≤◌, ⊎_elim, true, false, ◌||◌, List, [], ◌∷◌, Some, refl, sym, ap}
+use Rattle.std.proofs.Common.{◌∙◌, arith, length, nat_eq, nat_lt, true≢false, eqb-true, ne_eqb, lt-ltb, ltb-true, get_or}
 use mathlib.Core.Path.{fun_ext}
 use Rattle.std.specs.Prelude.{if◌then◌else◌, slice_get}
 use Rattle.std.proofs.lemmas.Bool.{cases_lt, or_cases, false_from_ne_true, true_from_ne_false}

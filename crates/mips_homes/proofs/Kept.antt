@@ -11,12 +11,11 @@ use Rattle.words.specs.Words.{wrap}
 use Rattle.rtl.specs.declared.block.RGlobal.{RGlobal}
 use Rattle.rtl.specs.Operators.{op_result}
 use Rattle.rtl.specs.Meaning.{code_of, kept_in, first_values}
-use Rattle.mips_homes.specs.HomedRun.{cells, Surroundings, around, rules, is_callee_saved, callee_saved, Activation, new_activation, Run, Running}
-use Rattle.mips_homes.specs.HomedRun.{with_value, read_home, read_homes, write_at, write_home, write_homes}
-use Rattle.mips_homes.specs.HomedRun.{registers_at_entry, registers_at_return, with_inst, at_code}
-use Rattle.mips_homes.specs.HomedRun.{state_at_block, with_result, state_after_return, state_after_call, state_after_exit, step_at}
-use Rattle.mips_homes.specs.HomedRun.{exit_keeping, code_keeping, step_keeping, steps_keeping, remembering_run, homed_step, homed_steps, homed_start}
-use Rattle.mips_homes.specs.HomedRun.{outcome}
+use Rattle.mips_homes.specs.HomedRun.{cells, Surroundings, around, rules, is_callee_saved, callee_saved, Activation, new_activation, Run}
+use Rattle.mips_homes.specs.HomedRun.{Running, with_value, read_home, read_homes, write_at, write_home, write_homes, registers_at_entry}
+use Rattle.mips_homes.specs.HomedRun.{registers_at_return, with_inst, at_code, state_at_block, with_result, state_after_return}
+use Rattle.mips_homes.specs.HomedRun.{state_after_call, state_after_exit, step_at, exit_keeping, code_keeping, step_keeping, steps_keeping}
+use Rattle.mips_homes.specs.HomedRun.{remembering_run, homed_step, homed_steps, homed_start, outcome}
 use Rattle.mips_homes.specs.Forgetting.{ForgetsNothing, EachChoiceNeverForgets}
 use Rattle.mips_homes.specs.Choice.{AreChoices}
 use Rattle.mips_homes.specs.Laws.{KeepsRtlRuns}

@@ -49,9 +49,6 @@ meant : {A : Type 0} {part whole : Description A} {old new : List RBlock} {r : R
     → ((x : A) → Over old new (part.Does x) → Over old new (whole.Does x)) → Emits whole old new r
 meant {old = old} e sizes keeps does = ended 0 e sizes (grows_same old) (omega arith) keeps does
 
-same_size : (s : Size) → Ends s s 0
-same_size s = record { blocks = omega arith; registers = omega arith; room = λ le. le; globals = omega arith }
-
 -- what an Ok promises
 emitted : {A : Type 0} {d : Description A} {old new : List RBlock} (x : A) → Grows old new → length new ≡ length old + d.size.blocks
     → d.size.registers ≤ MAX_REGISTERS → d.Keeps old new x → Over old new (d.Does x) → Emits d old new (Ok x)
@@ -91,7 +88,7 @@ pub simple_emits : {old new : List RBlock} {s s' : TypedStatement} {code : Resul
     → Emits (statement_code s c after) old new r
 simple_emits {old} {new} {s} {s'} {code} c after is one ir e =
     rw (ir, is) (made_emits (statement_code s' c after) old new code
-    (meant e (same_size (statement_size s' c.free (joint after)))
+    (meant e (omega arith)
     (λ from keeps. (sym (one (joint after)), λ p n gives inside f s l g h. keeps.0 p n gives inside f s l g (h.0, h.1.1.1), keeps.1))
     (λ from does bs h. does bs h c.leave c.next)))
 
@@ -289,7 +286,7 @@ continue_emits old s c b after is ib = rw is (emitted _ (grows_same old) (omega 
 
 pub block_emits : (old new : List RBlock) (s : TypedStatement) (all : TypedStatements) (c : Context) (after : Spot)
     (r : Result Continuation LowerFault) → s ≡ block all → Emits (statements_code all c after) old new r → Emits (statement_code s c after) old new r
-block_emits old new s all c after r is e = rw is (meant e (same_size (statements_size all c.free (joint after))) (λ from keeps. keeps) (λ from does. does))
+block_emits old new s all c after r is e = rw is (meant e (omega arith) (λ from keeps. keeps) (λ from does. does))
 
 pub none_emits : (old : List RBlock) (all : TypedStatements) (c : Context) (after : Continuation) → all ≡ no_statements
     → Emits (statements_code all c (spot after)) old old (Ok after)

@@ -1,9 +1,10 @@
 -- The sizes of programs, and what a well-formed one keeps.
 use Rattle.std.proofs.Common.{◌≡◌, ℕ, zero, suc, ◌+◌, ◌<◌, ◌≤◌, Bool, true, false, List, [], ◌∷◌, ◌++◌, Option, Some, None, refl, sym, ◌∙◌, ap, subst}
 use Rattle.std.proofs.Common.{arith, length, get_or, take}
-use Rattle.std.specs.Prelude.{All, sum_by, is_some}
-use Rattle.std.proofs.lemmas.List.Sums.{sum_by-cons, sum_by_push}
-use Rattle.std.proofs.lemmas.List.Elements.{All-append}
+use Rattle.std.specs.Prelude.{All, sum_by, is_some, map}
+use Rattle.std.proofs.lemmas.List.{get_or-map, length-map, map_push}
+use Rattle.std.proofs.lemmas.List.Sums.{get_or-le-sum_by, sum_by_push}
+use Rattle.std.proofs.lemmas.List.Elements.{All-push}
 use Rattle.std.proofs.lemmas.Bool.{or_from}
 use Rattle.std.proofs.lemmas.Option.{slice_get_within}
 use Rattle.words.specs.Widths.{words_of_elements}
@@ -29,61 +30,47 @@ use Rattle.rtl_lower.proofs.Sizes.{take_one}
 
 -- one of a list
 
-functions_at : (all : List Function) (i : ℕ) (d : Function) (d' : TypedFunction) → i < length all
-    → get_or (functions_of all) i d' ≡ function_of (get_or all i d)
-functions_at [] i d d' lt = absurd (omega arith)
-functions_at (f ∷ all) zero d d' lt = refl
-functions_at (f ∷ all) (suc i) d d' lt = functions_at all i d d' (omega arith)
+functions_is : (all : List Function) → functions_of all ≡ map function_of all
+functions_is [] = refl
+functions_is (f ∷ all) = ap (λ l. function_of f ∷ l) (functions_is all)
+
+functions_at : (all : List Function) (i : ℕ) (d : Function) → i < length all → get_or (functions_of all) i (function_of d) ≡ function_of (get_or all i d)
+functions_at all i d lt = rw (functions_is all) (get_or-map function_of all i d (function_of d) lt)
 
 functions_length : (all : List Function) → length (functions_of all) ≡ length all
-functions_length [] = refl
-functions_length (f ∷ all) = ap suc (functions_length all)
+functions_length all = rw (functions_is all) (length-map all function_of)
 
 pub each_at : (P : TypedFunction → Type 0) (all : List Function) (i : ℕ) (d : Function) → i < length all → All P (functions_of all)
     → P (function_of (get_or all i d))
-each_at P all i d lt a = subst P (functions_at all i d (function_of d) lt) (a i (function_of d) (omega (arith, lt, functions_length all)))
-
-alone : (f : TypedFunction) → function_registers f ≤ MAX_REGISTERS → All (λ f. function_registers f ≤ MAX_REGISTERS) (f ∷ [])
-alone f r zero d lt = r
-alone f r (suc k) d lt = absurd (omega arith)
-
-blocks_at : (all : List Function) (i : ℕ) (d : Function) → i < length all
-    → function_blocks (function_of (get_or all i d)) ≤ sum_by function_blocks (functions_of all)
-blocks_at [] i d lt = absurd (omega arith)
-blocks_at (f ∷ all) zero d lt = omega (arith, sum_by-cons function_blocks (function_of f) (functions_of all))
-blocks_at (f ∷ all) (suc i) d lt = omega (arith, sum_by-cons function_blocks (function_of f) (functions_of all), blocks_at all i d (omega arith))
+each_at P all i d lt a = subst P (functions_at all i d lt) (a i (function_of d) (omega (arith, lt, functions_length all)))
 
 -- a function that is beyond puts the program beyond
 pub too_large : (all : List Function) (i : ℕ) (f : Function) → i < length all → f ≡ get_or all i f
     → Beyond (function_registers (function_of f)) (function_blocks (function_of f)) 0 → HaveRoom (functions_of all) → ⊥
 too_large all i f lt is b room =
-    let r = each_at (λ f. function_registers f ≤ MAX_REGISTERS) all i f lt room.registers in
-    omega (arith, b, r, blocks_at all i f lt, ap (λ f. function_registers (function_of f)) is, ap (λ f. function_blocks (function_of f)) is, room.blocks)
+    let same : get_or (functions_of all) i (function_of f) ≡ function_of f = functions_at all i f lt ∙ ap function_of (sym is) in
+    let inside : i < length (functions_of all) = omega (arith, lt, functions_length all) in
+    let registers = subst (λ f. function_registers f ≤ MAX_REGISTERS) same (room.registers i (function_of f) inside) in
+    omega (arith, b, registers, get_or-le-sum_by function_blocks (functions_of all) i (function_of f) inside, ap function_blocks same, room.blocks)
 
 -- functions that are emitted
 pub record Fitted (fs : List TypedFunction) (rs : List RFunc) : Type 0 where
   pub blocks : sum_by block_count rs ≡ sum_by function_blocks fs
   pub registers : All (λ f. function_registers f ≤ MAX_REGISTERS) fs
 
-functions-append : (xs ys : List Function) → functions_of (xs ++ ys) ≡ functions_of xs ++ functions_of ys
-functions-append [] ys = refl
-functions-append (x ∷ xs) ys = ap (λ l. function_of x ∷ l) (functions-append xs ys)
-
 -- the functions up to one, and that one
 pub functions_more : (all : List Function) (i : ℕ) (f : Function) → i < length all → f ≡ get_or all i f
     → functions_of (take (i + 1) all) ≡ functions_of (take i all) ++ function_of f ∷ []
-functions_more all i f lt is = ap functions_of (take_one all i (i + 1) f f lt refl is) ∙ functions-append (take i all) (f ∷ [])
+functions_more all i f lt is =
+    rw (functions_is (take (i + 1) all), functions_is (take i all), take_one all i (i + 1) f f lt refl is) (map_push function_of (take i all) f)
 
 pub one_fitted : (all : List Function) (rs rs' : List RFunc) (i : ℕ) (f : Function) (r : RFunc) → rs' ≡ rs ++ r ∷ [] → i < length all → f ≡ get_or all i f
     → length r.blocks.items ≡ function_blocks (function_of f) → function_registers (function_of f) ≤ MAX_REGISTERS
     → Fitted (functions_of (take i all)) rs → Fitted (functions_of (take (i + 1) all)) rs'
-one_fitted all rs rs' i f r e lt is eb room m =
-    let sf = sum_by_push function_blocks (functions_of (take i all)) (function_of f) in
-    let sum : sum_by block_count rs' ≡ sum_by function_blocks (functions_of (take i all) ++ function_of f ∷ []) =
-    omega (arith, sum_by_push block_count rs r, sf, ap (sum_by block_count) e, m.blocks, eb) in
-    let each = All-append (λ f. function_registers f ≤ MAX_REGISTERS) (functions_of (take i all)) (function_of f ∷ []) m.registers
-    (alone (function_of f) room) in
-    subst (λ fs. Fitted fs rs') (sym (functions_more all i f lt is)) (record { blocks = sum; registers = each })
+one_fitted all rs rs' i f r e lt is eb room m = rw (functions_more all i f lt is, e) (record {
+  blocks = omega (arith, sum_by_push block_count rs r, sum_by_push function_blocks (functions_of (take i all)) (function_of f), m.blocks, eb);
+  registers = All-push (λ f. function_registers f ≤ MAX_REGISTERS) (functions_of (take i all)) (function_of f) m.registers room;
+})
 
 -- functions whose blocks fit together
 pub room_of : (fs : List TypedFunction) (rs : List RFunc) → sum_by block_count rs ≤ MAX_BLOCKS

@@ -14,8 +14,7 @@ use Rattle.runs.proofs.Steps.{steps-add}
 use Rattle.runs.proofs.Words.{at-index}
 use Rattle.c_typed.specs.declared.tree.Destination.{Destination}
 use Rattle.c_typed.specs.declared.tree.Destination.TheVariants.{Local, Global as Variable}
-use Rattle.c_typed.specs.Trees.{TypedExpression, TypedStatement, TypedFunction, TypedProgram, assign, store, call, output}
-use Rattle.c_typed.specs.Trees.{if_else, loop}
+use Rattle.c_typed.specs.Trees.{TypedExpression, TypedStatement, TypedFunction, TypedProgram, assign, store, call, output, if_else, loop}
 use Rattle.c_typed.specs.Trees.{return_with}
 use Rattle.c_typed.specs.WellFormed.{FitsFunction, FitsTarget, IsWellFormed}
 use Rattle.c_typed.specs.Values.{value_of, values_of}
@@ -390,12 +389,6 @@ module _ (src : TypedProgram) (p : Program) (ok : IsCodeOfProgram src p) (well :
       acts_at (loop e last body) from code si c sc =
           let left = rest_in c.leave c.left in
           let last_there = there_coded bs n last leave next c.last_spot (Line c.bottom) t c.last_for tt in
-          let again : Coded (enclosing bs n) (loop e last body) leave next (Line c.bottom) after = record {
-            blocks = c.blocks;
-            top = c.bottom;
-            is = refl;
-            test = c.again;
-          } in
           let turn : Follows src bs n (Next last (loop e last body) ∷ k) c.leave c.next c.turn = record {
             last_spot = c.last_spot;
             comes = c.is_turn.comes;
@@ -408,7 +401,7 @@ module _ (src : TypedProgram) (p : Program) (ok : IsCodeOfProgram src p) (well :
               outer_next = next;
               targets = t;
               last_coded = c.last_for;
-              loop_coded = again;
+              loop_coded = record { blocks = c.blocks; top = c.bottom; is = refl; test = c.again };
               last_fits = (sc.0, false, sc.2.1.0);
               loop_fits = sc;
               rest = f;

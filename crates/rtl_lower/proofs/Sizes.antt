@@ -9,8 +9,7 @@ use Rattle.c_typed.specs.declared.tree.TypedStatement.{TypedStatement}
 use Rattle.c_typed.specs.Shape.{statement_of, statements_of}
 use Rattle.c_typed.specs.Trees as Trees
 use Rattle.c_typed.specs.Trees.{TypedStatements, no_statements, more_statements}
-use Rattle.rtl_lower.specs.Sizes.{continues, any_continues, stays, last_stays, statements_blocks}
-use Rattle.rtl_lower.specs.Sizes.{statements_registers, numbers_named_in}
+use Rattle.rtl_lower.specs.Sizes.{continues, any_continues, stays, last_stays, statements_blocks, statements_registers, numbers_named_in}
 
 -- a measure of statements
 abbrev mutual

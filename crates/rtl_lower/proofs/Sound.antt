@@ -116,10 +116,7 @@ same_words _ _ m = absurd m
 
 inst_is : (s : Scope) (i : RInst) → s.registers ≤ MAX_REGISTERS → IsSoundInst s i → IsInst s.globals i
 inst_is s (Const d w) le h = omega (arith, le, h)
-inst_is s (Move d a) le h = (omega (arith, le, h.0), omega (arith, le, h.1))
-inst_is s (Bin op d a b) le h = (omega (arith, le, h.0), (omega (arith, le, h.1.0), omega (arith, le, h.1.1)))
-inst_is s (Load d g i) le h = (omega (arith, le, h.0), (h.1.0, omega (arith, le, h.1.1)))
-inst_is s (Store g i a) le h = (h.0, (omega (arith, le, h.1.0), omega (arith, le, h.1.1)))
+inst_is s _ le h = omega arith
 
 maybe_is : (s : Scope) (o : Option ℕ) → s.registers ≤ MAX_REGISTERS → IsSoundMaybe s o → IsMaybeRegister o
 maybe_is s None le h = tt
@@ -145,10 +142,7 @@ blocks_are s (b ∷ bs) le a =
 
 inst_below : (s : Scope) (i : RInst) → IsSoundInst s i → AllByRecursion (λ x. x < s.registers) (inst_names i)
 inst_below s (Const d w) h = (h, tt)
-inst_below s (Move d a) h = (h.0, (h.1, tt))
-inst_below s (Bin op d a b) h = (h.0, (h.1.0, (h.1.1, tt)))
-inst_below s (Load d g i) h = (h.0, (h.1.1, tt))
-inst_below s (Store g i a) h = (h.1.0, (h.1.1, tt))
+inst_below s _ h = omega arith
 
 insts_below : (s : Scope) (is : List RInst) → AllByRecursion (IsSoundInst s) is → AllByRecursion (λ x. x < s.registers) (insts_names is)
 insts_below s [] a = tt

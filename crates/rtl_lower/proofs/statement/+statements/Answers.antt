@@ -10,9 +10,8 @@ use Rattle.rtl_lower.specs.Emits.{made_of}
 use Rattle.rtl_lower.specs.Sizes.{continues}
 use Rattle.rtl_lower.proofs.Sizes.{any_of, weight, weight_within, none_left, one_left}
 use Rattle.rtl_lower.proofs.Emitting.{nothing_emits, break_emits, continue_emits, simple_emits, whole_emits, block_emits, none_emits}
-use Rattle.rtl_lower.proofs.Emitting.{more_emits, list_stopped, side_emits, if_is, if_emits, turn_emits, loop_is, loop_emits}
-use Rattle.rtl_lower.proofs.Emitting.{sealed, join_stops, if_second_stops}
-use Rattle.rtl_lower.proofs.Emitting.{loop_head_stops, loop_turn_stops, loop_body_stops, loop_top_stops}
+use Rattle.rtl_lower.proofs.Emitting.{more_emits, list_stopped, side_emits, if_is, if_emits, turn_emits, loop_is, loop_emits, sealed}
+use Rattle.rtl_lower.proofs.Emitting.{join_stops, if_second_stops, loop_head_stops, loop_turn_stops, loop_body_stops, loop_top_stops}
 use Rattle.rtl_lower.proofs.statement.+statements.Goals as goal
 
 pub statement-returns-in-Empty : goal.statement-returns-in-Empty
