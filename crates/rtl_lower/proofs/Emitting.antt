@@ -223,7 +223,7 @@ call_emits old mid new to f f' es free x places0 places ps1 ps2 args end after r
           let in_places : places_registers es free ≤ s.registers = omega (arith, h.0.registers_fit) in
           let named_call = fits.1.0 in
           let callee = callee_sound p s _ _ named_call.callee _ _ _ _ h.0 refl named_call.there named_call.count registers add.2 in
-          let exit = sound_exit _ fe (callee, (place_registers_sound s.registers _ _ _ _ registers add.2 in_places, j.1)) in
+          let exit = sound_exit _ fe (callee, (rw registers (place_registers_sound s.registers es free add.0 add.2 in_places), j.1)) in
           keeps.0 s l j.0 (in_places, ((omega (arith, h.0.registers_fit), named_all p s n es h.0 fits.1.1), exit)),
       omega (arith, keeps.1, receiver.sound.1, ap insts_of fe),
     ))

@@ -1,5 +1,5 @@
 -- What is still to do in the source, and where its code stands.
-use Rattle.std.proofs.Common.{◌≡◌, ℕ, ◌<◌, Bool, true, false, List, [], ◌∷◌, Option, Some, None, refl, nat_eq}
+use Rattle.std.proofs.Common.{◌≡◌, ℕ, ◌<◌, Bool, true, false, List, [], ◌∷◌, Option, Some, None, refl, nat_eq, arith}
 use Rattle.std.specs.Prelude.{if◌then◌else◌}
 use Rattle.runs.specs.Stores.{Places, Arrays, places_with}
 use Rattle.runs.proofs.Words.{written-words}
@@ -118,11 +118,11 @@ module _ (src : TypedProgram) (bs : List RBlock) (n : ℕ) where
 
 -- a local that is unset needs no register
 pub holds_unset : (n : ℕ) (l r : Places) (g : Arrays) (x : ℕ) → Holds n l r g → Holds n (places_with l x None) r g
-holds_unset n l r g x h = record { by = λ y v e. by y v (nat_eq y x) e; locals = written-words l x None h.locals (λ v e. cc); globals = h.globals }
-  where
-    by : (y v : ℕ) (b : Bool) → (if b then None else l y) ≡ Some v → (y < n) × (r y ≡ Some v)
-    by y v true e = cc
-    by y v false e = h.by y v e
+holds_unset n l r g x h = record {
+  by = λ y v e. (let before : l y ≡ Some v = grind arith in h.by y v before);
+  locals = written-words l x None h.locals (λ v e. cc);
+  globals = h.globals;
+}
 
 -- where the code of a mode is
 abbrev pub Seated : List RBlock → Mode → Spot → (leave : ℕ) (next : Option ℕ) → Code → Type 0

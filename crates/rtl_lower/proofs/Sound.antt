@@ -59,17 +59,13 @@ fewer su le = record { registers_fit = omega (arith, su.registers_fit, le); func
 
 -- calls
 
-callee_registers : (n : ℕ) (es : List TypedExpression) (free : ℕ) (ps : List Place) → ArePlaces es free ps → places_registers es free ≤ n
+pub place_registers_sound : (n : ℕ) (es : List TypedExpression) (free : ℕ) (ps : List Place) → ArePlaces es free ps → places_registers es free ≤ n
     → All (λ x. x < n) (map (λ p. p.register) ps)
-callee_registers n [] free [] a le = All-nil (λ x. x < n)
-callee_registers n (e ∷ es) free (p ∷ ps) a le =
+place_registers_sound n [] free [] a le = All-nil (λ x. x < n)
+place_registers_sound n (e ∷ es) free (p ∷ ps) a le =
     All-cons (λ x. x < n) p.register (map (λ p. p.register) ps) (omega (arith, a.0.counted, le))
-    (callee_registers n es p.free ps a.1 (omega (arith, ap (places_registers es) a.0.next_is, le)))
-callee_registers n _ free _ a le = absurd a
-
-pub place_registers_sound : (n : ℕ) (es : List TypedExpression) (free : ℕ) (ps : List Place) (rs : List ℕ) → rs ≡ map (λ p. p.register) ps
-    → ArePlaces es free ps → places_registers es free ≤ n → All (λ x. x < n) rs
-place_registers_sound n es free ps rs e a le = subst (λ rs. All (λ x. x < n) rs) (sym e) (callee_registers n es free ps a le)
+    (place_registers_sound n es p.free ps a.1 (omega (arith, ap (places_registers es) a.0.next_is, le)))
+place_registers_sound n _ free _ a le = absurd a
 
 places_length : (es : List TypedExpression) (free : ℕ) (ps : List Place) → ArePlaces es free ps → length (map (λ p. p.register) ps) ≡ length es
 places_length [] free [] a = refl

@@ -23,7 +23,7 @@ returns-clause-code c =
     (λ p s su fits le.
     let n = within_filled c.fill.ensures.fills le in
     let some = some_within c.in_ok-entry.ensures.reserves (within c.in_ok-code.ensures.grows n) in
-    let g = c.in_ok-entry.ensures.sound s (subst (λ l. AreSound s l) (sym c.in_ok-blocks.ensures.items) tt) in
+    let g = c.in_ok-entry.ensures.sound s (rw c.in_ok-blocks.ensures.items tt) in
     let body = subst (λ (b : TypedStatements). FitsStatements p c.args.f.now.locals (is_some c.args.f.now.result) false b)
     (sym (ap statements_of c.as_slice.ensures.value))
     fits.body in

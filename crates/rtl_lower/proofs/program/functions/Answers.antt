@@ -29,13 +29,10 @@ returns-in_err-next-clause-limit c =
     search rules
 
 pub returns-clause-codes : goal.returns-clause-codes
-returns-clause-codes c =
-    subst (λ l. AreCodesOf (functions_of l) c.loop-f.lowered.items) (take_all c.loop-f.f-index c.args.all.now c.loop-f-test.false) c.loop-f.invariant.0
+returns-clause-codes c = rw (take_all c.loop-f.f-index c.args.all.now c.loop-f-test.false) at c.loop-f.invariant.0
 
 pub returns-clause-count : goal.returns-clause-count
-returns-clause-count c =
-    (subst (λ l. Fitted (functions_of l) c.loop-f.lowered.items) (take_all c.loop-f.f-index c.args.all.now c.loop-f-test.false) c.loop-f.invariant.1).blocks
+returns-clause-count c = (rw (take_all c.loop-f.f-index c.args.all.now c.loop-f-test.false) at c.loop-f.invariant.1).blocks
 
 pub returns-clause-room : goal.returns-clause-room
-returns-clause-room c =
-    (subst (λ l. Fitted (functions_of l) c.loop-f.lowered.items) (take_all c.loop-f.f-index c.args.all.now c.loop-f-test.false) c.loop-f.invariant.1).registers
+returns-clause-room c = (rw (take_all c.loop-f.f-index c.args.all.now c.loop-f-test.false) at c.loop-f.invariant.1).registers

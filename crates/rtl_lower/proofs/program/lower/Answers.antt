@@ -24,21 +24,16 @@ returns-clause-sizes c =
 
 pub returns-clause-variables : goal.returns-clause-variables
 returns-clause-variables c =
-    subst (λ gs. AreGlobalsOf gs c.in-Some.lowered.globals) c.globals.ensures
-    (subst (λ rs. AreGlobalsOf c.globals.result.now rs) (sym (ap (λ (p : Program). p.globals) c.in-Some.ensures.1)) c.in_ok-globals.ensures.are)
+    rw (← c.globals.ensures, ap (λ (p : Program). p.globals) c.in-Some.ensures.1) c.in_ok-globals.ensures.are
 
 pub returns-clause-within : goal.returns-clause-within
 returns-clause-within c =
-    subst (λ l. HaveRoom (functions_of l)) c.functions.ensures.value
+    rw (← c.functions.ensures.value)
     (have_room (Programs.program_of c.in_ok-functions.functions.items c.in_ok-globals.globals.items c.in_ok-main.main) (functions_of c.functions.result.now)
     c.in_ok-functions.functions.items c.in-Some.ensures.0 refl c.in_ok-functions.ensures.count c.in_ok-functions.ensures.room)
 
 pub functions-requires-2 : goal.functions-requires-2
-functions-requires-2 c =
-    record {
-      plain = subst (λ l. All IsPlain (functions_of l)) (sym c.functions.ensures.value)
-          (plain_functions (program_of c.args.program.now) c.functions.ensures.fits);
-    }
+functions-requires-2 c = record { plain = rw c.functions.ensures.value (plain_functions (program_of c.args.program.now) c.functions.ensures.fits) }
 
 pub returns-in_default-clause-limit : goal.returns-in_default-clause-limit
 returns-in_default-clause-limit c = λ e room.
@@ -51,5 +46,5 @@ if_blocks_fit-requires c = λ fit.
     parts_program c.args.program.now c.functions.result.now c.globals.result.now c.in_ok-functions.functions.items
     c.in_ok-globals.globals.items c.in_ok-main.main (c.in_ok-main.ensures.is ∙ c.main.ensures.value) c.functions.ensures.value c.globals.ensures
     c.in_ok-functions.ensures.codes c.in_ok-globals.ensures.are c.in_ok-functions.ensures.count c.functions.ensures.fits
-    (subst (λ l. HaveRoom (functions_of l)) c.functions.ensures.value
+    (rw (← c.functions.ensures.value)
     (room_of _ c.in_ok-functions.functions.items fit c.in_ok-functions.ensures.count c.in_ok-functions.ensures.room))
