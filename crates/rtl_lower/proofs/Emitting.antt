@@ -92,11 +92,6 @@ simple_emits {old} {new} {s} {s'} {code} c after is one ir e =
     (λ from keeps. (sym (one (joint after)), λ p n gives inside f s l g h. keeps.0 p n gives inside f s l g (h.0, h.1.1.1), keeps.1))
     (λ from does bs h. does bs h c.leave c.next)))
 
-pub whole_emits : {old new : List RBlock} {s s' : TypedStatement} (c : Context) (after : Spot) (code : Result OpenBlock LowerFault)
-    {r : Result Continuation LowerFault} → s ≡ s' → r ≡ made_of code → Emits (statement_code s' c after) old new (made_of code)
-    → Emits (statement_code s c after) old new r
-whole_emits c after code is ir e = rw (ir, is) e
-
 pub local_emits : (old new : List RBlock) (to : Destination) (x local : ℕ) (e : TypedExpression) (free : ℕ) (after : Spot)
     (r : Result OpenBlock LowerFault) → to ≡ Local x → local ≡ x → local < MAX_REGISTERS → Emits (value e local free after) old new r
     → Emits (simple_code (assign to e) free after) old new r
@@ -283,10 +278,6 @@ continue_emits old s c b after is ib = rw is (emitted _ (grows_same old) (omega 
     (refl, λ p n gives inside f s l g h. (g, subst (λ next. IfSome next (λ b. b < s.blocks)) ib h.1.1.0), omega arith) (λ bs h. (b, ib, refl)))
 
 -- lists of statements
-
-pub block_emits : (old new : List RBlock) (s : TypedStatement) (all : TypedStatements) (c : Context) (after : Spot)
-    (r : Result Continuation LowerFault) → s ≡ block all → Emits (statements_code all c after) old new r → Emits (statement_code s c after) old new r
-block_emits old new s all c after r is e = rw is (meant e (omega arith) (λ from keeps. keeps) (λ from does. does))
 
 pub none_emits : (old : List RBlock) (all : TypedStatements) (c : Context) (after : Continuation) → all ≡ no_statements
     → Emits (statements_code all c (spot after)) old old (Ok after)

@@ -157,10 +157,6 @@ arguments_located : (vs : List ℕ) (parameters locals : ℕ) → length vs ≡ 
     → Located locals (argument_registers vs) (argument_registers vs)
 arguments_located vs parameters locals many le = record { by = λ x v e. (omega (arith, slice_get_within vs x v e), e) }
 
-if_both : {A : Type 0} (b c : Bool) (x y : A) → c ≡ true → (if b && c then x else y) ≡ (if b then x else y)
-if_both true c x y e = rw e
-if_both false c x y e = refl
-
 -- what surrounds the call that runs and its activation: where their results go, what waits, and the globals and the output of both
 record Around (src : TypedProgram) : Type 0 where
   place : Option Destination
@@ -185,21 +181,15 @@ module _ (src : TypedProgram) (p : Program) (ok : IsCodeOfProgram src p) (well :
       let r = ok.globals a there.0 there.1 in
       rw (r.1, there.1) (ap (λ (w : Width). Some (kept w v)) r.2.width)
 
-  -- a store that has its global in the source has it in RTL
-  stored : (w : Around src) (a i v : ℕ) (g : Arrays) (done : Arrays → Blk.Run) → a < length src.globals
-      → Src.elements_with src.globals w.globals a i v ≡ Some g
-      → with_value (kept_in p.globals a v) w.output (λ k. with_value (arrays_with w.globals a i k) w.output done) ≡ done g
-  stored w a i v g done lt e =
-      let fits = ap (λ o. chain o (λ k. arrays_with w.globals a i k)) (same_kept a v lt) ∙ e in
-      let c = chained (kept_in p.globals a v) (λ k. arrays_with w.globals a i k) g fits in
-      rw (c.is, c.then_is) refl
 
-  -- the store of a word from one register at the index in another
+  -- the store of a word from one register at the index in another: what has its global in the source has it in RTL
   store_step : (w : Around src) (bs : List RBlock) (r : Places) (a i v y q : ℕ) (after : Code) (g : Arrays) → a < length src.globals
       → r y ≡ Some i → r q ≡ Some v → Src.elements_with src.globals w.globals a i v ≡ Some g
       → rtl_step p depth (at (target w) bs r (first (I.Store a y q) after)) ≡ at (target (record w { globals = g })) bs r after
   store_step w bs r a i v y q after g low index value is =
-      rw (index, value) (stored w a i v g (λ (g : Arrays). at (target (record w { globals = g })) bs r after) low is)
+      let fits = ap (λ o. chain o (λ k. arrays_with w.globals a i k)) (same_kept a v low) ∙ is in
+      let c = chained (kept_in p.globals a v) (λ k. arrays_with w.globals a i k) g fits in
+      rw (index, value, c.is, c.then_is)
 
   -- a word from a register to a global variable
   puts : (w : Around src) (bs : List RBlock) (r : Places) (x z q v : ℕ) (after : Code) (g : Arrays) → x < length src.globals → q ≢ z
@@ -240,18 +230,13 @@ module _ (src : TypedProgram) (p : Program) (ok : IsCodeOfProgram src p) (well :
   -- a call of a function that begins, or is beyond the depth
   entered : (w : Around src) (i : ℕ) (vs : List ℕ) {t : Blk.Run} (func : TypedFunction) (r : RFunc) → slice_get src.functions i ≡ Some func
       → IsCodeOf func r → length vs ≡ func.parameters → (b : Bool)
-      → rtl_step p depth t ≡ (if b then state_at_block (target w) r.blocks.items (argument_registers vs) 0 else Failed w.output)
+      → rtl_step p depth t ≡ (if b && (length vs == r.parameters) then state_at_block (target w) r.blocks.items (argument_registers vs) 0 else Failed w.output)
       → Advance src p depth t (if b then Src.at (source w) (Src.argument_places vs) (before_all func.body []) else Failed w.output)
   entered w i vs func r there c many true step =
       let fits = at-index (FitsFunction src) src.functions i func well.functions there in
-      advance_one step (enters_block w 0 (begins i func r there c) (arguments_located vs func.parameters func.locals many fits.first))
+      advance_one (rw (eq-eqb (length vs) r.parameters (many ∙ sym c.parameters)) at step)
+      (enters_block w 0 (begins i func r there c) (arguments_located vs func.parameters func.locals many fits.first))
   entered w i vs func r there c many false step = advance_failed
-
-  call_step : (w : Around src) (f : ℕ) (vs : List ℕ) (r : RFunc) → slice_get p.functions f ≡ Some r → length vs ≡ r.parameters
-      → Blk.state_after_call (target w) f vs
-      ≡ (if nat_lt (length w.activations) depth then state_at_block (target w) r.blocks.items (argument_registers vs) 0 else Failed w.output)
-  call_step w f vs r there many = rw there (if_both (nat_lt (length w.activations) depth) (length vs == r.parameters)
-      (state_at_block (target w) r.blocks.items (argument_registers vs) 0) (Failed w.output) (eq-eqb (length vs) r.parameters many))
 
   -- a call
   calls : (w : Around src) (f : ℕ) (vs : List ℕ) {t : Blk.Run}
@@ -259,9 +244,8 @@ module _ (src : TypedProgram) (p : Program) (ok : IsCodeOfProgram src p) (well :
       → rtl_step p depth t ≡ Blk.state_after_call (target w) f vs → Advance src p depth t (Src.state_after_call (source w) f vs)
   calls w f vs count e = advance_value _ _ _ (λ func is.
       let r = ok.functions f func is in
-      let many : length vs ≡ r.0.parameters = count func is ∙ sym r.2.parameters in
       rw (same_depth src w.place w.to w.waiting w.activations w.stack)
-      (entered w f vs func r.0 is r.2 (count func is) (nat_lt (length w.activations) depth) (e ∙ call_step w f vs r.0 r.1 many)))
+      (entered w f vs func r.0 is r.2 (count func is) (nat_lt (length w.activations) depth) (rw r.1 at e)))
 
   -- what surrounds the two that wait, once the result has come
   abbrev around_caller : Around src → (f : Src.Frame) (fs : List Src.Frame) (a : Blk.Frame) (ws : List Blk.Frame) → Stack src f.result_to a.result_to fs ws
@@ -274,8 +258,6 @@ module _ (src : TypedProgram) (p : Program) (ok : IsCodeOfProgram src p) (well :
       → Advance src p depth t (Src.state_with_result (source w) v place fs)
   returns w None place to [] [] m e = advance_failed
   returns w (Some v) place to [] [] m e = advance_one e refl
-  returns w v place to [] (a ∷ ws) m e = absurd m
-  returns w v place to (f ∷ fs) [] m e = absurd m
   returns w v None to (f ∷ fs) (a ∷ ws) m e = advance_one (rw m.0.0 at e) (record { a = a; ws = ws; is = refl; top = m.0.1; below = m.1 })
   returns w None (Some place) to (f ∷ fs) (a ∷ ws) m e = advance_failed
   returns w (Some v) (Some (Local x)) to (f ∷ fs) (a ∷ ws) m e =
@@ -294,6 +276,7 @@ module _ (src : TypedProgram) (p : Program) (ok : IsCodeOfProgram src p) (well :
       (matches (record w' { globals = g }) (wait.match).stands (located_kept (wait.match).located (λ y lt.
       written_other r1 wait.z (Some 0) y (omega (arith, lt, wait.low, wait.apart))
       ∙ written_other a.registers wait.t (Some v) y (omega (arith, lt, wait.low)))))))
+  returns w v place to _ _ m e = absurd m
 
   module _ (w : Around src) (bs : List RBlock) (n : ℕ) (l r : Places) (h : Holds n l r w.globals) where
     held_here : Located n l r

@@ -9,7 +9,7 @@ use Rattle.rtl_emit.proofs.Emitting.{part_refused, grows_same}
 use Rattle.rtl_lower.specs.Emits.{made_of}
 use Rattle.rtl_lower.specs.Sizes.{continues}
 use Rattle.rtl_lower.proofs.Sizes.{any_of, weight, weight_within, none_left, one_left}
-use Rattle.rtl_lower.proofs.Emitting.{nothing_emits, break_emits, continue_emits, simple_emits, whole_emits, block_emits, none_emits}
+use Rattle.rtl_lower.proofs.Emitting.{nothing_emits, break_emits, continue_emits, simple_emits, none_emits}
 use Rattle.rtl_lower.proofs.Emitting.{more_emits, list_stopped, side_emits, if_is, if_emits, turn_emits, loop_is, loop_emits, sealed}
 use Rattle.rtl_lower.proofs.Emitting.{join_stops, if_second_stops, loop_head_stops, loop_turn_stops, loop_body_stops, loop_top_stops}
 use Rattle.rtl_lower.proofs.statement.+statements.Goals as goal
@@ -19,8 +19,7 @@ statement-returns-in-Empty t c = nothing_emits _ _ c.args.context c.args.after c
 
 pub statement-returns-in-Block : goal.statement-returns-in-Block
 statement-returns-in-Block t c =
-    block_emits _ _ _ _ c.args.context (spot c.args.after) _
-    (ap statement_of c.in-Block.is ∙ block-is c.in-Block.all ∙ ap (λ l. block (statements_of l)) (sym c.as_slice.ensures.value)) c.statements.ensures
+    rw (ap statement_of c.in-Block.is ∙ block-is c.in-Block.all ∙ ap (λ l. block (statements_of l)) (sym c.as_slice.ensures.value)) c.statements.ensures
 
 pub statement-returns-in-Assign : goal.statement-returns-in-Assign
 statement-returns-in-Assign t c =
@@ -42,13 +41,11 @@ statement-returns-in-Output t c =
 
 pub statement-returns-in-If : goal.statement-returns-in-If
 statement-returns-in-If t c =
-    whole_emits c.args.context (spot c.args.after) _
-    (if_is (ap statement_of c.in-If.is) (ap statement_of c.deref.ensures) (ap statement_of c.deref-in-If.ensures)) c.continuation_of-in-If.ensures c.if_statement.ensures
+    rw (c.continuation_of-in-If.ensures, if_is (ap statement_of c.in-If.is) (ap statement_of c.deref.ensures) (ap statement_of c.deref-in-If.ensures)) c.if_statement.ensures
 
 pub statement-returns-in-Loop : goal.statement-returns-in-Loop
 statement-returns-in-Loop t c =
-    whole_emits c.args.context (spot c.args.after) _
-    (loop_is (ap statement_of c.in-Loop.is) (ap statement_of c.deref-in-Loop.ensures) (ap statement_of c.deref-in-Loop-2.ensures)) c.continuation_of-in-Loop.ensures c.loop_statement.ensures
+    rw (c.continuation_of-in-Loop.ensures, loop_is (ap statement_of c.in-Loop.is) (ap statement_of c.deref-in-Loop.ensures) (ap statement_of c.deref-in-Loop-2.ensures)) c.loop_statement.ensures
 
 pub statement-returns-in-Break : goal.statement-returns-in-Break
 statement-returns-in-Break t c = break_emits _ _ c.args.context (spot c.args.after) (ap statement_of c.in-Break.is)
