@@ -441,47 +441,38 @@ abbrev inside_of : Context → (left : ℕ) → Turn → Context
 inside_of c left turn = record { alloc = c.alloc; free = c.free; leave = left; next = turn.next }
 
 -- a loop whose blocks before its turn are there
-module _ {b0 b1 b2 : List RBlock} {left head : ℕ} {many : Bool} {after : Spot} (e : TypedExpression) (last body : TypedStatement) (c : Context)
-    (sealing : Sealing b0 b1 left after) (res : Reserves b1 b2 head) (im : many ≡ continues body) where
+module _ {b0 b1 b2 : List RBlock} {left head : ℕ} {after : Spot} (e : TypedExpression) (last body : TypedStatement) (c : Context)
+    (sealing : Sealing b0 b1 left after) (res : Reserves b1 b2 head) where
   pub loop_turn_stops : {b3 : List RBlock} {f : LowerFault} {r : Result OpenBlock LowerFault} → r ≡ Err f
-      → Emits (last_code e last c many (again head left)) b2 b3 (Err f) → Emits (statement_code (loop e last body) c after) b0 b3 (made_of r)
-  loop_turn_stops {b3} {f} is turns =
-      let turn = rw im at turns in
+      → Emits (last_code e last c (continues body) (again head left)) b2 b3 (Err f) → Emits (statement_code (loop e last body) c after) b0 b3 (made_of r)
+  loop_turn_stops is turn =
       part_refused (joint after + 1) turn (ap made_of is) (omega arith) (omega arith) (omega arith)
       (grows_then b0 b1 b2 sealing.grows res.grows) (omega (arith, sealing.count, res.longer))
 
   -- and its turn
-  module _ {b3 : List RBlock} {inner : Context} {turn : Turn} (turns : Emits (last_code e last c many (again head left)) b2 b3 (Ok turn))
-      (ii : inner ≡ inside_of c left turn) where
-    turn_made : Emits (last_code e last c (continues body) (again head left)) b2 b3 (Ok turn)
-    turn_made = rw im at turns
-
-    body_made : {b4 : List RBlock} {r : Result Continuation LowerFault} → Emits (statement_code body inner (spot turn.after)) b3 b4 r
-        → Emits (statement_code body (inside_of c left turn) (spot turn.after)) b3 b4 r
-    body_made part = rw ii at part
-
+  module _ {b3 : List RBlock} {turn : Turn} (turns : Emits (last_code e last c (continues body) (again head left)) b2 b3 (Ok turn)) where
     body_blocks : statement_blocks body (joint (spot turn.after)) ≡ statement_blocks body (if continues body then 0 else statement_joint last 1)
-    body_blocks = ap (statement_blocks body) turn_made.sound.0.1
+    body_blocks = ap (statement_blocks body) turns.sound.0.1
 
     turn_grows : Grows b0 b3
-    turn_grows = grows_then b0 b1 b3 sealing.grows (grows_then b1 b2 b3 res.grows turn_made.grows)
+    turn_grows = grows_then b0 b1 b3 sealing.grows (grows_then b1 b2 b3 res.grows turns.grows)
 
     turn_count : length b3 ≡ length b0 + (joint after + 1 + (last_size e last (continues body) true c.free).blocks)
-    turn_count = omega (arith, sealing.count, res.longer, turn_made.count)
+    turn_count = omega (arith, sealing.count, res.longer, turns.count)
 
     pub loop_body_stops : {b4 : List RBlock} {f : LowerFault} {r : Result OpenBlock LowerFault} → r ≡ Err f
-        → Emits (statement_code body inner (spot turn.after)) b3 b4 (Err f) → Emits (statement_code (loop e last body) c after) b0 b4 (made_of r)
-    loop_body_stops is part = part_refused (joint after + 1 + (last_size e last (continues body) true c.free).blocks) (body_made part)
+        → Emits (statement_code body (inside_of c left turn) (spot turn.after)) b3 b4 (Err f) → Emits (statement_code (loop e last body) c after) b0 b4 (made_of r)
+    loop_body_stops is part = part_refused (joint after + 1 + (last_size e last (continues body) true c.free).blocks) part
         (ap made_of is) (omega arith) (omega (arith, body_blocks)) (omega arith) turn_grows turn_count
 
     -- and its body
-    module _ {b4 b5 : List RBlock} {code : Continuation} (part : Emits (statement_code body inner (spot turn.after)) b3 b4 (Ok code)) where
+    module _ {b4 b5 : List RBlock} {code : Continuation} (part : Emits (statement_code body (inside_of c left turn) (spot turn.after)) b3 b4 (Ok code)) where
       pub loop_top_stops : {f : LowerFault} {r : Result OpenBlock LowerFault} → r ≡ Err f
           → Emits (condition_branch e (again head left) c.free) b4 b5 (Err f) → Emits (statement_code (loop e last body) c after) b0 b5 (made_of r)
       loop_top_stops is test =
           part_refused (joint after + 1 + (last_size e last (continues body) true c.free).blocks + statement_blocks body (joint (spot turn.after))) test
           (ap made_of is) (omega arith) (omega (arith, body_blocks)) (omega arith)
-          (grows_then b0 b3 b4 turn_grows (body_made part).grows) (omega (arith, turn_count, (body_made part).count))
+          (grows_then b0 b3 b4 turn_grows part.grows) (omega (arith, turn_count, part.count))
 
       pub loop_emits : {b6 : List RBlock} {top : OpenBlock} {filled : Code} → insts_in b2 ≡ insts_in b1
           → ((s : Scope) → AreSound s b1 → AreSound s b2) → Emits (condition_branch e (again head left) c.free) b4 b5 (Ok top)
@@ -489,31 +480,30 @@ module _ {b0 b1 b2 : List RBlock} {left head : ℕ} {many : Bool} {after : Spot}
           → ((s : Scope) → AreSound s b5 → IsSound s filled → AreSound s b6)
           → Emits (statement_code (loop e last body) c after) b0 b6 (Ok (Made top))
       loop_emits {b6} {top} {filled} i2 kept test ie f i6 sound =
-          let made = body_made part in
-          let g25 = grows_then b2 b3 b5 turn_made.grows (grows_then b3 b4 b5 made.grows test.grows) in
+          let g25 = grows_then b2 b3 b5 turns.grows (grows_then b3 b4 b5 part.grows test.grows) in
           let g15 = grows_then b1 b2 b5 res.grows g25 in
           let low : length b0 ≤ head = omega (arith, sealing.grows.longer, res.number) in
           let in_b2 : head < length b2 = omega (arith, res.number, res.longer) in
           emitted (Made top) (grows_filled b0 b5 b6 head filled (grows_then b0 b1 b5 sealing.grows g15) low f)
-          (omega (arith, turn_count, made.count, test.count, body_blocks, f.same_length)) (omega (arith, turn_made.room, made.room)) (
+          (omega (arith, turn_count, part.count, test.count, body_blocks, f.same_length)) (omega (arith, turns.room, part.room)) (
             refl,
             λ p n gives inside f' s l g h.
                 let l5 = within_filled f l in
                 let l4 = within test.grows l5 in
-                let l3 = within made.grows l4 in
-                let l2 = within turn_made.grows l3 in
+                let l3 = within part.grows l4 in
+                let l2 = within turns.grows l3 in
                 let j = sealing.sound s (within res.grows l2) g h.1.1.1 in
                 let at : head < s.blocks = reserved_within res l2 in
-                let x = turn_made.sound.1 p n gives f'.0 f'.1.0 s l3 (kept s j.0) (fewer h.0 (omega arith), (h.1.0, (h.1.1.0, (at, j.1)))) in
-                let y = made.sound.1 p n gives true f'.1.1 s l4 x.0 (fewer h.0 (omega arith), (j.1, x.1)) in
+                let x = turns.sound.1 p n gives f'.0 f'.1.0 s l3 (kept s j.0) (fewer h.0 (omega arith), (h.1.0, (h.1.1.0, (at, j.1)))) in
+                let y = part.sound.1 p n gives true f'.1.1 s l4 x.0 (fewer h.0 (omega arith), (j.1, x.1)) in
                 let z = test.sound.0 s l5 y.0 ((omega (arith, h.0.registers_fit), named p s n e h.0 f'.0), (at, j.1)) in
                 (sound s z.0 (sound_along ie (sound_line _ y.1)), z.1),
-            omega (arith, turn_made.sound.2, made.sound.2, test.sound.1, ap insts_of ie, line_insts (spot code), i2, i6, sealing.insts),
+            omega (arith, turns.sound.2, part.sound.2, test.sound.1, ap insts_of ie, line_insts (spot code), i2, i6, sealing.insts),
           )
           (λ bs h.
           let h2 = has_past bs b0 b2 b5 b6 head filled (omega (arith, sealing.grows.longer, res.longer)) in_b2 f h in
-          let sp = split3 bs b2 b3 b4 b5 turn_made.grows made.grows test.grows h2 in
-          let t = turn_made.does bs sp.0 in
+          let sp = split3 bs b2 b3 b4 b5 turns.grows part.grows test.grows h2 in
+          let t = turns.does bs sp.0 in
           record {
             blocks = record {
               leave = left;
@@ -523,7 +513,7 @@ module _ {b0 b1 b2 : List RBlock} {left head : ℕ} {many : Bool} {after : Spot}
               body_spot = spot code;
               body_at = rw ie at (at_filled bs b0 b5 b6 head filled low (omega (arith, f.same_length, g25.longer)) f h);
               turn = spot turn.after;
-              body_for = made.does bs sp.1;
+              body_for = part.does bs sp.1;
               last_spot = t.from;
               is_turn = t.is_turn;
               bottom = t.bottom;

@@ -77,11 +77,6 @@ pub room_of : (fs : List TypedFunction) (rs : List RFunc) → sum_by block_count
     → sum_by block_count rs ≡ sum_by function_blocks fs → All (λ f. function_registers f ≤ MAX_REGISTERS) fs → HaveRoom fs
 room_of fs rs h sum each = record { registers = each; blocks = omega (arith, h, sum) }
 
--- the same of those of a program
-pub have_room : (p : Program) (fs : List TypedFunction) (rs : List RFunc) → IsProgram p → p.functions ≡ rs
-    → sum_by block_count rs ≡ sum_by function_blocks fs → All (λ f. function_registers f ≤ MAX_REGISTERS) fs → HaveRoom fs
-have_room p fs rs is e sum each = room_of fs rs (omega (arith, is.blocks_fit, ap (sum_by block_count) e)) sum each
-
 -- what a well-formed program keeps
 
 mutual

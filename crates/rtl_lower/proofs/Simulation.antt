@@ -152,11 +152,6 @@ values_length (x ∷ es) l g vs e =
     let is : c.value ∷ c2.value ≡ vs = let some = c2.then_is in cc in
     sym (ap length is) ∙ ap suc (values_length es l g c2.value c2.is)
 
--- the arguments are the first locals
-arguments_located : (vs : List ℕ) (parameters locals : ℕ) → length vs ≡ parameters → parameters ≤ locals
-    → Located locals (argument_registers vs) (argument_registers vs)
-arguments_located vs parameters locals many le = record { by = λ x v e. (omega (arith, slice_get_within vs x v e), e) }
-
 -- what surrounds the call that runs and its activation: where their results go, what waits, and the globals and the output of both
 record Around (src : TypedProgram) : Type 0 where
   place : Option Destination
@@ -235,7 +230,7 @@ module _ (src : TypedProgram) (p : Program) (ok : IsCodeOfProgram src p) (well :
   entered w i vs func r there c many true step =
       let fits = at-index (FitsFunction src) src.functions i func well.functions there in
       advance_one (rw (eq-eqb (length vs) r.parameters (many ∙ sym c.parameters)) at step)
-      (enters_block w 0 (begins i func r there c) (arguments_located vs func.parameters func.locals many fits.first))
+      (enters_block w 0 (begins i func r there c) (record { by = λ x v e. (omega (arith, slice_get_within vs x v e, many, fits.first), e) }))
   entered w i vs func r there c many false step = advance_failed
 
   -- a call

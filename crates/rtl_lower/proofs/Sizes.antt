@@ -1,8 +1,10 @@
 -- The sizes of lists of statements, taken from the last one on.
 use Rattle.std.proofs.Common.{◌≡◌, ℕ, zero, suc, ◌+◌, ◌-◌, ◌<◌, ◌≤◌, true, false, List, [], ◌∷◌, ◌++◌, Some, None, refl, sym, ◌∙◌, ap}
 use Rattle.std.proofs.Common.{add-one, arith, length, get_or, take, drop, take_all, drop_of_length-le}
-use Rattle.std.specs.Prelude.{slice_get}
-use Rattle.std.proofs.lemmas.Bool.{or_parts, or_from, or_left, or_right}
+use Rattle.std.specs.Prelude.{slice_get, ◌||◌}
+use Rattle.std.proofs.lemmas.Bool.{or_from}
+use Rattle.std.proofs.lemmas.List.Folds.{list_any_at, list_any-append}
+use Rattle.std.specs.List.{list_any}
 use Rattle.std.proofs.lemmas.Option.{none-some, same_Some}
 use Rattle.std.proofs.Math.Seq.{take-suc, drop-cons}
 use Rattle.c_typed.specs.declared.tree.TypedStatement.{TypedStatement}
@@ -30,31 +32,23 @@ weight_within (s ∷ all) zero d lt = omega arith
 weight_within (s ∷ all) (suc k) d lt = omega (arith, weight_within all k d (omega arith))
 
 -- one of them, and none of them
-pub any_at : (all : List TypedStatement) (k : ℕ) (d : TypedStatement) → k < length all → continues (statement_of (get_or all k d)) ≡ true
-    → any_continues (statements_of all) ≡ true
-any_at [] k d lt e = absurd (omega arith)
-any_at (s ∷ all) zero d lt e = or_left (continues (statement_of s)) (any_continues (statements_of all)) e
-any_at (s ∷ all) (suc k) d lt e = or_right (continues (statement_of s)) (any_continues (statements_of all)) (any_at all k d (omega arith) e)
+any_is : (all : List TypedStatement) → any_continues (statements_of all) ≡ list_any (λ s. continues (statement_of s)) all
+any_is [] = refl
+any_is (s ∷ all) = ap (λ c. continues (statement_of s) || c) (any_is all)
 
--- the same as the prover finds it
 pub any_of : (all : List TypedStatement) (k : ℕ) (s : TypedStatement) → k < length all → s ≡ get_or all k s → continues (statement_of s) ≡ true
     → any_continues (statements_of all) ≡ true
-any_of all k s lt is e = any_at all k s lt (ap (λ s. continues (statement_of s)) (sym is) ∙ e)
-
-none_append : (xs : List TypedStatement) (s : TypedStatement) → any_continues (statements_of xs) ≡ false → continues (statement_of s) ≡ false
-    → any_continues (statements_of (xs ++ s ∷ [])) ≡ false
-none_append [] s e f = or_from (continues (statement_of s)) false f refl
-none_append (x ∷ xs) s e f =
-    let a = continues (statement_of x) in
-    let b = any_continues (statements_of xs) in
-    or_from a (any_continues (statements_of (xs ++ s ∷ []))) (or_parts a b e).0 (none_append xs s (or_parts a b e).1 f)
+any_of all k s lt is e =
+    rw (any_is all) (list_any_at (λ s. continues (statement_of s)) all k s lt (ap (λ s. continues (statement_of s)) (sym is) ∙ e))
 
 pub take_one : {A : Type 0} (all : List A) (i j : ℕ) (x d : A) → i < length all → j ≡ i + 1 → x ≡ get_or all i d → take j all ≡ take i all ++ x ∷ []
 take_one all i j x d lt ij is = rw (ij, add-one, is) (take-suc all i d lt)
 
 pub none_more : (all : List TypedStatement) (i j : ℕ) (s : TypedStatement) → i < length all → s ≡ get_or all i s → j ≡ i + 1
     → continues (statement_of s) ≡ false → any_continues (statements_of (take i all)) ≡ false → any_continues (statements_of (take j all)) ≡ false
-none_more all i j s lt is ij f e = rw (take_one all i j s s lt ij is) (none_append (take i all) s e f)
+none_more all i j s lt is ij f e =
+    rw (take_one all i j s s lt ij is, any_is (take i all ++ s ∷ []), list_any-append (λ s. continues (statement_of s)) (take i all) (s ∷ []))
+    (or_from _ _ (sym (any_is (take i all)) ∙ e) (or_from _ _ f refl))
 
 pub none_all : (all : List TypedStatement) (i : ℕ) → length all ≤ i → any_continues (statements_of (take i all)) ≡ false
     → any_continues (statements_of all) ≡ false

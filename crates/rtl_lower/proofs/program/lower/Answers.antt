@@ -7,7 +7,7 @@ use Rattle.rtl.specs.Programs.{Program}
 use Rattle.rtl_lower.specs.Coded.{AreGlobalsOf}
 use Rattle.rtl_lower.specs.Sizes.{IsPlain, HaveRoom}
 use Rattle.rtl_lower.proofs.Functions.{program_made}
-use Rattle.rtl_lower.proofs.Fitted.{have_room, plain_functions, room_of}
+use Rattle.rtl_lower.proofs.Fitted.{plain_functions, room_of}
 use Rattle.rtl_lower.proofs.Sound.{parts_program, sizes_are}
 use Rattle.rtl_lower.proofs.program.lower.Goals as goal
 
@@ -29,8 +29,7 @@ returns-clause-variables c =
 pub returns-clause-within : goal.returns-clause-within
 returns-clause-within c =
     rw (← c.functions.ensures.value)
-    (have_room (Programs.program_of c.in_ok-functions.functions.items c.in_ok-globals.globals.items c.in_ok-main.main) (functions_of c.functions.result.now)
-    c.in_ok-functions.functions.items c.in-Some.ensures.0 refl c.in_ok-functions.ensures.count c.in_ok-functions.ensures.room)
+    (room_of _ c.in_ok-functions.functions.items (c.in-Some.ensures.0).blocks_fit c.in_ok-functions.ensures.count c.in_ok-functions.ensures.room)
 
 pub functions-requires-2 : goal.functions-requires-2
 functions-requires-2 c = record { plain = rw c.functions.ensures.value (plain_functions (program_of c.args.program.now) c.functions.ensures.fits) }

@@ -19,7 +19,8 @@ statement-returns-in-Empty t c = nothing_emits _ _ c.args.context c.args.after c
 
 pub statement-returns-in-Block : goal.statement-returns-in-Block
 statement-returns-in-Block t c =
-    rw (ap statement_of c.in-Block.is ∙ block-is c.in-Block.all ∙ ap (λ l. block (statements_of l)) (sym c.as_slice.ensures.value)) c.statements.ensures
+    let is = ap statement_of c.in-Block.is ∙ block-is c.in-Block.all ∙ ap (λ l. block (statements_of l)) (sym c.as_slice.ensures.value) in
+    rw is c.statements.ensures
 
 pub statement-returns-in-Assign : goal.statement-returns-in-Assign
 statement-returns-in-Assign t c =
@@ -41,11 +42,13 @@ statement-returns-in-Output t c =
 
 pub statement-returns-in-If : goal.statement-returns-in-If
 statement-returns-in-If t c =
-    rw (c.continuation_of-in-If.ensures, if_is (ap statement_of c.in-If.is) (ap statement_of c.deref.ensures) (ap statement_of c.deref-in-If.ensures)) c.if_statement.ensures
+    let is = if_is (ap statement_of c.in-If.is) (ap statement_of c.deref.ensures) (ap statement_of c.deref-in-If.ensures) in
+    rw (c.continuation_of-in-If.ensures, is) c.if_statement.ensures
 
 pub statement-returns-in-Loop : goal.statement-returns-in-Loop
 statement-returns-in-Loop t c =
-    rw (c.continuation_of-in-Loop.ensures, loop_is (ap statement_of c.in-Loop.is) (ap statement_of c.deref-in-Loop.ensures) (ap statement_of c.deref-in-Loop-2.ensures)) c.loop_statement.ensures
+    let is = loop_is (ap statement_of c.in-Loop.is) (ap statement_of c.deref-in-Loop.ensures) (ap statement_of c.deref-in-Loop-2.ensures) in
+    rw (c.continuation_of-in-Loop.ensures, is) c.loop_statement.ensures
 
 pub statement-returns-in-Break : goal.statement-returns-in-Break
 statement-returns-in-Break t c = break_emits _ _ c.args.context (spot c.args.after) (ap statement_of c.in-Break.is)
@@ -77,8 +80,9 @@ pub loop_statement-returns : goal.loop_statement-returns
 loop_statement-returns t c =
     let join = c.in_ok-left.ensures in
     let head = c.in_ok-head.ensures in
-    loop_emits _ _ _ c.args.context (sealed (spot c.args.after) join.grows join.count join.insts join.sound join.lands) head.reserves c.may_continue.ensures
-    c.in_ok-turn.ensures c.inside_loop-inner.ensures c.in_ok-body_code.ensures head.insts head.sound c.in_ok-top.ensures c.open_block.ensures
+    loop_emits _ _ _ c.args.context (sealed (spot c.args.after) join.grows join.count join.insts join.sound join.lands) head.reserves
+    (rw c.may_continue.ensures at c.in_ok-turn.ensures) (rw c.inside_loop-inner.ensures at c.in_ok-body_code.ensures) head.insts head.sound
+    c.in_ok-top.ensures c.open_block.ensures
     c.fill.ensures.fills c.fill.ensures.insts c.fill.ensures.sound
 
 pub statements-returns : goal.statements-returns
@@ -159,19 +163,19 @@ pub loop_statement-returns-in_err-turn : goal.loop_statement-returns-in_err-turn
 loop_statement-returns-in_err-turn t c =
     let join = c.in_ok-left.ensures in
     loop_turn_stops _ _ _ c.args.context (sealed (spot c.args.after) join.grows join.count join.insts join.sound join.lands) c.in_ok-head.ensures.reserves
-    c.may_continue.ensures (search rules) c.in_err-turn.ensures
+    (search rules) (rw c.may_continue.ensures at c.in_err-turn.ensures)
 
 pub loop_statement-returns-in_err-body_code : goal.loop_statement-returns-in_err-body_code
 loop_statement-returns-in_err-body_code t c =
     let join = c.in_ok-left.ensures in
     loop_body_stops _ _ _ c.args.context (sealed (spot c.args.after) join.grows join.count join.insts join.sound join.lands) c.in_ok-head.ensures.reserves
-    c.may_continue.ensures c.in_ok-turn.ensures c.inside_loop-inner.ensures (search rules) c.in_err-body_code.ensures
+    (rw c.may_continue.ensures at c.in_ok-turn.ensures) (search rules) (rw c.inside_loop-inner.ensures at c.in_err-body_code.ensures)
 
 pub loop_statement-returns-in_err-top : goal.loop_statement-returns-in_err-top
 loop_statement-returns-in_err-top t c =
     let join = c.in_ok-left.ensures in
     loop_top_stops _ _ _ c.args.context (sealed (spot c.args.after) join.grows join.count join.insts join.sound join.lands) c.in_ok-head.ensures.reserves
-    c.may_continue.ensures c.in_ok-turn.ensures c.inside_loop-inner.ensures c.in_ok-body_code.ensures (search rules) c.in_err-top.ensures
+    (rw c.may_continue.ensures at c.in_ok-turn.ensures) (rw c.inside_loop-inner.ensures at c.in_ok-body_code.ensures) (search rules) c.in_err-top.ensures
 
 pub if_statement-side_block-requires : goal.if_statement-side_block-requires
 if_statement-side_block-requires t c = (omega arith, λ e. c.requires.next (or_left _ _ e))
