@@ -6,7 +6,7 @@ use Rattle.c_typed.specs.declared.tree.Destination.{Destination}
 use Rattle.c_typed.specs.declared.tree.Destination.TheVariants.{Local, Global as Variable}
 use Rattle.c_typed.specs.declared.tree.TypedStatement as Tree
 use Rattle.c_typed.specs.Shape.{statement_of, statements_of}
-use Rattle.c_typed.specs.Trees.{TypedExpression, TypedStatement, TypedStatements, block, assign, store, call, output, if_else, loop}
+use Rattle.c_typed.specs.Trees.{TypedExpression, TypedStatement, TypedStatements, assign, store, call, output, if_else, loop}
 use Rattle.c_typed.specs.Trees.{break_loop, continue_loop, return_with, no_statements, more_statements}
 use Rattle.rtl.specs.declared.instruction.RInst.TheVariants as I
 use Rattle.rtl.specs.declared.instruction.RExit.TheVariants as X
@@ -15,8 +15,8 @@ use Rattle.rtl.specs.declared.limits.TheConstants.{MAX_REGISTERS, MAX_BLOCKS}
 use Rattle.runs.specs.Runs.{with_value}
 use Rattle.rtl.specs.Meaning.{Code, activation, around_callee, code_of, words_in, state_after_call}
 use Rattle.rtl_emit.specs.Blocks.{Spot, Block, Line, Lands, Grows, Has, Reserves, Fills, open_code, exit_code, first, spot, line_of, insts_of, insts_at, insts_in}
-use Rattle.rtl_emit.specs.Emits.{Size, Description, Emits, value, operand, operands, condition_branch}
-use Rattle.rtl_emit.specs.Expressions.{IsPlace, Fetches, FetchAll, AddPlaces}
+use Rattle.rtl_emit.specs.Emits.{Description, Emits, value, operand, operands, condition_branch}
+use Rattle.rtl_emit.specs.Expressions.{IsPlace, Fetches, AddPlaces}
 use Rattle.rtl_emit.specs.Sizes.{joint, place_registers, places_registers, next_free, value_registers, value_blocks, condition_blocks}
 use Rattle.rtl_emit.specs.Sound.{Scope, IsSound, IsSoundSpot, AreSound, KeepsSound}
 use Rattle.rtl_emit.specs.declared.block.OpenBlock.{OpenBlock}
@@ -30,7 +30,7 @@ use Rattle.rtl_emit.proofs.Blocks.{grows_then, within, line_insts, split2, split
 use Rattle.rtl_emit.proofs.Emitted.{Over, Joins, finds_to}
 use Rattle.rtl_emit.proofs.Emitting.{Ends, ended, part_refused, refused, grows_same}
 use Rattle.rtl_emit.proofs.Sound.{sound_along, sound_first, sound_exit, sound_line}
-use Rattle.rtl_lower.specs.Emits.{statement_size, statements_size, simple_code, statement_code, statements_code, made_of, side_code}
+use Rattle.rtl_lower.specs.Emits.{simple_code, statement_code, statements_code, made_of, side_code}
 use Rattle.rtl_lower.specs.Emits.{receiver, IsEnd, end_of_turn, last_size, last_code}
 use Rattle.rtl_lower.specs.Sizes.{stays, is_equality, continues, receiver_blocks, statement_joint, statements_joint}
 use Rattle.rtl_lower.specs.Sizes.{statement_blocks, statements_blocks}
@@ -236,8 +236,7 @@ call_emits old mid new to f f' es free x places0 places ps1 ps2 args end after r
       exit = exit;
       leaves = λ w r. ap (λ l. with_value (words_in r l) w.output (λ vs. with_value (slice_get bs x.block) w.output (λ b.
           state_after_call (around_callee w (activation w bs r (code_of b)) x.to) f' vs))) registers;
-      values = subst (λ ps. FetchAll bs es free ps (open_code from) (exit_code exit)) (i2 ∙ all)
-          (subst (λ c. FetchAll bs es free ps2 (open_code from) c) fe (does bs sp.1));
+      values = rw (i2 ∙ all, fe) at (does bs sp.1);
     }))
 
 -- returns

@@ -1,5 +1,5 @@
 -- The sizes of programs, and what a well-formed one keeps.
-use Rattle.std.proofs.Common.{◌≡◌, ℕ, zero, suc, ◌+◌, ◌<◌, ◌≤◌, Bool, true, false, List, [], ◌∷◌, ◌++◌, Option, Some, None, refl, sym, ◌∙◌, ap, subst}
+use Rattle.std.proofs.Common.{◌≡◌, ℕ, suc, ◌+◌, ◌<◌, ◌≤◌, Bool, true, false, List, [], ◌∷◌, ◌++◌, Option, Some, None, refl, sym, ◌∙◌, ap, subst}
 use Rattle.std.proofs.Common.{arith, length, get_or, take}
 use Rattle.std.specs.Prelude.{All, sum_by, is_some, map}
 use Rattle.std.proofs.lemmas.List.{get_or-map, length-map, map_push}
@@ -21,7 +21,7 @@ use Rattle.c_typed.specs.Trees.{no_statements, more_statements}
 use Rattle.c_typed.specs.WellFormed.{FitsExpression, FitsAll, FitsMaybe, FitsPlace, FitsTarget, FitsStatement, FitsStatements}
 use Rattle.c_typed.specs.WellFormed.{FitsFunction, IsWellFormed, words_in}
 use Rattle.rtl.specs.declared.limits.TheConstants.{MAX_BLOCKS, MAX_REGISTERS}
-use Rattle.rtl.specs.Programs.{Program, IsProgram, block_count}
+use Rattle.rtl.specs.Programs.{block_count}
 use Rattle.rtl.specs.declared.block.RFunc.{RFunc}
 use Rattle.rtl_emit.specs.Sizes.{globals_named, globals_named_in, Beyond}
 use Rattle.rtl_lower.specs.Sizes.{continues, any_continues, numbers_named, numbers_named_in, target_number, function_blocks, function_registers, IsPlain}

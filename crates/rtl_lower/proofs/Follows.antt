@@ -1,6 +1,5 @@
 -- What is still to do in the source, and where its code stands.
-use Rattle.std.proofs.Common.{◌≡◌, ℕ, ◌<◌, Bool, true, false, List, [], ◌∷◌, Option, Some, None, refl, nat_eq, arith}
-use Rattle.std.specs.Prelude.{if◌then◌else◌}
+use Rattle.std.proofs.Common.{◌≡◌, ℕ, Bool, List, [], ◌∷◌, Option, Some, None, refl, arith}
 use Rattle.runs.specs.Stores.{Places, Arrays, places_with}
 use Rattle.runs.proofs.Words.{written-words}
 use Rattle.c_typed.specs.declared.tree.Destination.TheVariants.{Local}

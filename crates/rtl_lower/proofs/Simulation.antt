@@ -176,7 +176,6 @@ module _ (src : TypedProgram) (p : Program) (ok : IsCodeOfProgram src p) (well :
       let r = ok.globals a there.0 there.1 in
       rw (r.1, there.1) (ap (λ (w : Width). Some (kept w v)) r.2.width)
 
-
   -- the store of a word from one register at the index in another: what has its global in the source has it in RTL
   store_step : (w : Around src) (bs : List RBlock) (r : Places) (a i v y q : ℕ) (after : Code) (g : Arrays) → a < length src.globals
       → r y ≡ Some i → r q ≡ Some v → Src.elements_with src.globals w.globals a i v ≡ Some g

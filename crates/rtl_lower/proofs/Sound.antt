@@ -1,8 +1,9 @@
 -- What a well-formed program's statements name is there.
-use Rattle.std.proofs.Common.{◌≡◌, ℕ, suc, zero, ◌+◌, ◌*◌, ◌<◌, ◌≤◌, ◌^◌, List, [], ◌∷◌, ◌++◌, Option, Some, None, refl, sym, ◌∙◌, ap, subst}
-use Rattle.std.proofs.Common.{arith, length, get_or, Bool, true, false}
+use Rattle.std.proofs.Common.{◌≡◌, ℕ, suc, zero, ◌+◌, ◌*◌, ◌<◌, ◌≤◌, ◌^◌, List, [], ◌∷◌, ◌++◌, Option, Some, None, refl, sym, ◌∙◌, ap}
+use Rattle.std.proofs.Common.{arith, length, get_or}
 use Rattle.std.specs.Prelude.{All, slice_get, sum_by, map, nat_lt, if◌then◌else◌}
 use Rattle.std.specs.List.{AllByRecursion}
+use Rattle.std.proofs.lemmas.Bool.{cond_both}
 use Rattle.std.proofs.ByRecursion.{All-append as every_append}
 use Rattle.std.proofs.lemmas.List.Sums.{sum_by-cons}
 use Rattle.std.proofs.lemmas.Option.{slice_get_within}
@@ -23,7 +24,7 @@ use Rattle.rtl.specs.Names.{inst_names, optional, exit_names, insts_names, block
 use Rattle.rtl.specs.Meaning.{Code}
 use Rattle.rtl.specs.declared.limits.TheConstants.{MAX_REGISTERS}
 use Rattle.rtl.specs.declared.instruction.RInst.{RInst}
-use Rattle.rtl.specs.declared.instruction.RInst.TheVariants.{Const, Move, Bin, Load, Store}
+use Rattle.rtl.specs.declared.instruction.RInst.TheVariants.{Const}
 use Rattle.rtl.specs.declared.instruction.RExit.{RExit}
 use Rattle.rtl.specs.declared.instruction.RExit.TheVariants.{Goto, Call, Return}
 use Rattle.rtl.specs.declared.block.RBlock.{RBlock}
@@ -164,11 +165,8 @@ blocks_below s (b ∷ bs) a =
 
 bound_within : (n m : ℕ) (xs : List ℕ) → n ≤ m → AllByRecursion (λ x. x < m) xs → bound n xs ≤ m
 bound_within n m [] le a = le
-bound_within n m (x ∷ xs) le a = bound_within (if nat_lt x n then n else suc x) m xs (one (nat_lt x n)) a.1
-  where
-    one : (b : Bool) → (if b then n else suc x) ≤ m
-    one true = le
-    one false = omega (arith, a.0)
+bound_within n m (x ∷ xs) le a =
+    bound_within (if nat_lt x n then n else suc x) m xs (cond_both (nat_lt x n) n (suc x) (λ k. k ≤ m) (λ _. le) (λ _. a.0)) a.1
 
 -- what there is to name in a function
 abbrev scope_of : TypedFunction → (rs : List RFunc) (globals : ℕ) → RFunc → Scope

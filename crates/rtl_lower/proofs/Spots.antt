@@ -1,5 +1,5 @@
 -- Spots: where code is, and jumps from one to another.
-use Rattle.std.proofs.Common.{◌≡◌, ℕ, List, ◌⊎◌, inl, inr, refl, sym, subst}
+use Rattle.std.proofs.Common.{◌≡◌, ℕ, List, ◌⊎◌, inl, inr, refl}
 use Rattle.runs.specs.Stores.{Places}
 use Rattle.rtl.specs.Meaning.{Code, Surroundings, at}
 use Rattle.rtl.specs.declared.block.RBlock.{RBlock}

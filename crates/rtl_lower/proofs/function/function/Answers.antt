@@ -4,7 +4,6 @@ use Rattle.c_typed.specs.Shape.{function_of, statements_of}
 use Rattle.c_typed.specs.Trees.{TypedStatements}
 use Rattle.c_typed.specs.WellFormed.{FitsStatements}
 use Rattle.rtl.specs.declared.instruction.RExit.TheVariants as X
-use Rattle.rtl_emit.specs.Sound.{AreSound}
 use Rattle.rtl_emit.proofs.Sound.{sound_along, sound_exit, sound_line}
 use Rattle.rtl_emit.specs.Blocks.{insts_in, insts_of, spot}
 use Rattle.rtl_emit.proofs.Blocks.{line_insts, within}

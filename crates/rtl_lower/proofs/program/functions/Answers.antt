@@ -1,10 +1,9 @@
 use Rattle.std.proofs.Common.{◌≡◌, sym, subst, take_all, rules}
 use Rattle.c_typed.specs.Shape.{function_of, functions_of}
 use Rattle.rtl_emit.specs.declared.fault.LowerFault.TheVariants.{Limit}
-use Rattle.rtl_lower.specs.Coded.{AreCodesOf}
 use Rattle.rtl_lower.specs.Sizes.{IsPlain, HaveRoom}
 use Rattle.rtl_lower.proofs.Functions.{one_function}
-use Rattle.rtl_lower.proofs.Fitted.{Fitted, each_at, one_fitted, too_large}
+use Rattle.rtl_lower.proofs.Fitted.{each_at, one_fitted, too_large}
 use Rattle.rtl_lower.proofs.program.functions.Goals as goal
 
 pub loop-f-preserved : goal.loop-f-preserved

@@ -1,11 +1,6 @@
-use Rattle.std.proofs.Common.{◌∙◌, ap, refl, sym, subst}
-use Rattle.std.specs.Prelude.{All}
+use Rattle.std.proofs.Common.{◌∙◌, ap}
 use Rattle.c_types.specs.Shape.{program_of}
-use Rattle.c_typed.specs.Shape.{functions_of}
-use Rattle.rtl.specs.Programs as Programs
 use Rattle.rtl.specs.Programs.{Program}
-use Rattle.rtl_lower.specs.Coded.{AreGlobalsOf}
-use Rattle.rtl_lower.specs.Sizes.{IsPlain, HaveRoom}
 use Rattle.rtl_lower.proofs.Functions.{program_made}
 use Rattle.rtl_lower.proofs.Fitted.{plain_functions, room_of}
 use Rattle.rtl_lower.proofs.Sound.{parts_program, sizes_are}
