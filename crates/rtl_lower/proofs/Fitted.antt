@@ -1,5 +1,5 @@
 -- The sizes of programs, and what a well-formed one keeps.
-use Rattle.std.proofs.Common.{◌≡◌, ℕ, suc, ◌+◌, ◌<◌, ◌≤◌, Bool, true, false, List, [], ◌∷◌, ◌++◌, Option, Some, None, refl, sym, ◌∙◌, ap, subst}
+use Rattle.std.proofs.Common.{◌≡◌, ℕ, suc, ◌+◌, ◌<◌, ◌≤◌, Bool, true, false, List, [], ◌∷◌, ◌++◌, Option, Some, refl, sym, ◌∙◌, ap, subst}
 use Rattle.std.proofs.Common.{arith, length, get_or, take}
 use Rattle.std.specs.Prelude.{All, sum_by, is_some, map}
 use Rattle.std.proofs.lemmas.List.{get_or-map, length-map, map_push}
@@ -11,14 +11,14 @@ use Rattle.words.specs.Widths.{words_of_elements}
 use Rattle.words.specs.declared.width.Width.{Width}
 use Rattle.words.specs.declared.width.Width.TheVariants.{Word, Byte}
 use Rattle.c_typed.specs.declared.tree.Destination.{Destination}
-use Rattle.c_typed.specs.declared.tree.Destination.TheVariants.{Local, Global as Variable}
+use Rattle.c_typed.specs.declared.tree.Destination.TheVariants.{Global as Variable}
 use Rattle.c_typed.specs.declared.tree.Function.{Function}
 use Rattle.c_typed.specs.declared.tree.Global.{Global}
 use Rattle.c_typed.specs.Shape.{function_of, functions_of}
 use Rattle.c_typed.specs.Trees.{TypedExpression, TypedStatement, TypedStatements, TypedFunction, TypedProgram, global, element, unary, binary}
 use Rattle.c_typed.specs.Trees.{conditional, block, assign, store, call, output, if_else, loop, continue_loop, return_with}
 use Rattle.c_typed.specs.Trees.{no_statements, more_statements}
-use Rattle.c_typed.specs.WellFormed.{FitsExpression, FitsAll, FitsMaybe, FitsPlace, FitsTarget, FitsStatement, FitsStatements}
+use Rattle.c_typed.specs.WellFormed.{FitsExpression, FitsAll, FitsTarget, FitsStatement, FitsStatements}
 use Rattle.c_typed.specs.WellFormed.{FitsFunction, IsWellFormed, words_in}
 use Rattle.rtl.specs.declared.limits.TheConstants.{MAX_BLOCKS, MAX_REGISTERS}
 use Rattle.rtl.specs.Programs.{block_count}
@@ -105,23 +105,15 @@ pub list_numbers : (p : TypedProgram) (n : ℕ) (es : List TypedExpression) → 
 list_numbers p n [] f = omega arith
 list_numbers p n (e ∷ es) f = omega (arith, expression_numbers p n e f.0, list_numbers p n es f.1)
 
-place_number : (p : TypedProgram) (n : ℕ) (to : Destination) → FitsPlace p n to → target_number (Some to) ≤ length p.globals
-place_number p n (Local x) f = omega arith
-place_number p n (Variable g) f = omega (arith, f)
-
 target_numbers : (p : TypedProgram) (n : ℕ) (to : Option Destination) → FitsTarget p n to → target_number to ≤ length p.globals
-target_numbers p n None f = omega arith
-target_numbers p n (Some to) f = place_number p n to f
-
-maybe_numbers : (p : TypedProgram) (n : ℕ) (e : Option TypedExpression) → FitsMaybe p n e → numbers_named (return_with e) ≤ length p.globals
-maybe_numbers p n None f = omega arith
-maybe_numbers p n (Some e) f = expression_numbers p n e f
+target_numbers p n (Some (Variable g)) f = omega (arith, f)
+target_numbers p n _ f = omega arith
 
 mutual
   statement_numbers : (p : TypedProgram) (n : ℕ) (gives inside : Bool) (s : TypedStatement) → FitsStatement p n gives inside s
       → numbers_named s ≤ length p.globals + length p.functions
   statement_numbers p n gives inside (block all) f = statements_numbers p n gives inside all f
-  statement_numbers p n gives inside (assign to e) f = omega (arith, place_number p n to f.0, expression_numbers p n e f.1)
+  statement_numbers p n gives inside (assign to e) f = omega (arith, target_numbers p n (Some to) f.0, expression_numbers p n e f.1)
   statement_numbers p n gives inside (store x i e) f = omega (arith, f.0, expression_numbers p n i f.1.0, expression_numbers p n e f.1.1)
   statement_numbers p n gives inside (call to g es) f =
       omega (arith, target_numbers p n to f.0, list_numbers p n es f.1.1, slice_get_within p.functions g f.1.0.callee f.1.0.there)
@@ -130,7 +122,7 @@ mutual
       omega (arith, expression_numbers p n e f.0, statement_numbers p n gives inside a f.1.0, statement_numbers p n gives inside b f.1.1)
   statement_numbers p n gives inside (loop e last body) f =
       omega (arith, expression_numbers p n e f.0, statement_numbers p n gives false last f.1.0, statement_numbers p n gives true body f.1.1)
-  statement_numbers p n gives inside (return_with e) f = omega (arith, maybe_numbers p n e f.1)
+  statement_numbers p n gives inside (return_with (Some e)) f = omega (arith, expression_numbers p n e f.1)
   statement_numbers p n gives inside _ f = omega arith
 
   statements_numbers : (p : TypedProgram) (n : ℕ) (gives inside : Bool) (all : TypedStatements) → FitsStatements p n gives inside all

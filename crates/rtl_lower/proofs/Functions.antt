@@ -1,6 +1,5 @@
 -- From the blocks of functions to those of a program.
-use Rattle.std.proofs.Common.{◌≡◌, ◌≢◌, ℕ, zero, suc, ◌+◌, ◌<◌, ◌≤◌, List, [], ◌∷◌, ◌++◌, Some, None, refl, ◌∙◌, ap, subst, arith, length}
-use Rattle.std.proofs.Common.{get_or, take}
+use Rattle.std.proofs.Common.{◌≡◌, ◌≢◌, ℕ, zero, suc, ◌+◌, ◌≤◌, List, [], ◌∷◌, ◌++◌, Some, None, refl, ◌∙◌, ap, subst, arith, length}
 use Rattle.std.specs.Prelude.{All, slice_get, map, replicate}
 use Rattle.std.proofs.lemmas.List.{length-replicate}
 use Rattle.std.proofs.lemmas.List.Elements.{All-nil, All-cons, All-head, All-tail}
@@ -9,7 +8,7 @@ use Rattle.words.specs.Widths.{kept}
 use Rattle.words.specs.declared.width.Width.{Width}
 use Rattle.c_typed.specs.declared.tree.Function.{Function}
 use Rattle.c_typed.specs.declared.tree.Global.{Global}
-use Rattle.c_typed.specs.Shape.{function_of, functions_of}
+use Rattle.c_typed.specs.Shape.{functions_of}
 use Rattle.c_typed.specs.Trees.{TypedFunction, TypedProgram, TypedStatements}
 use Rattle.c_typed.specs.Meaning.{first_words}
 use Rattle.c_typed.specs.WellFormed.{IsWellFormed, FitsFunction}
@@ -26,8 +25,6 @@ use Rattle.rtl_lower.specs.Sizes.{statements_blocks, statements_insts, function_
 use Rattle.rtl_lower.specs.Sound.{Suits}
 use Rattle.rtl_lower.specs.Laws.{KeepsRuns}
 use Rattle.rtl_lower.specs.Coded.{IsCodeOf, IsGlobalOf, ArePairs, AreCodesOf, AreGlobalsOf}
-use Rattle.rtl_lower.proofs.Fitted.{functions_more}
-use Rattle.rtl_lower.proofs.Sizes.{take_one}
 use Rattle.rtl_lower.proofs.Statements.{MakesAll}
 use Rattle.rtl_lower.proofs.Simulation.{keeps_runs}
 
@@ -75,15 +72,10 @@ pairs_push IsPair [] [] x y m c = (c, tt)
 pairs_push IsPair (a ∷ xs) (b ∷ ys) x y m c = (m.0, pairs_push IsPair xs ys x y m.1 c)
 pairs_push IsPair _ _ x y m c = absurd m
 
-pub one_function : (all : List Function) (rs rs' : List RFunc) (i : ℕ) (f : Function) (r : RFunc) → rs' ≡ rs ++ r ∷ [] → i < length all → f ≡ get_or all i f
-    → IsCodeOf (function_of f) r → AreCodesOf (functions_of (take i all)) rs → AreCodesOf (functions_of (take (i + 1) all)) rs'
-one_function all rs rs' i f r e lt is c m =
-    rw (functions_more all i f lt is, e) (pairs_push IsCodeOf (functions_of (take i all)) rs (function_of f) r m c)
-
-pub one_global : (all : List Global) (rs rs' : List RGlobal) (i : ℕ) (g d : Global) (r : RGlobal) → rs' ≡ rs ++ r ∷ [] → i < length all → g ≡ get_or all i d
-    → IsGlobalOf g r → AreGlobalsOf (take i all) rs → AreGlobalsOf (take (i + 1) all) rs'
-one_global all rs rs' i g d r e lt is c m =
-    rw (take_one all i (i + 1) g d lt refl is, e) (pairs_push IsGlobalOf (take i all) rs g r m c)
+-- one more pair
+pub one_pair : {A B : Type 0} (IsPair : A → B → Type 0) (xs xs' : List A) (ys ys' : List B) (x : A) (y : B) → xs' ≡ xs ++ x ∷ [] → ys' ≡ ys ++ y ∷ []
+    → IsPair x y → ArePairs IsPair xs ys → ArePairs IsPair xs' ys'
+one_pair IsPair xs xs' ys ys' x y ex ey is pairs = rw (ex, ey) (pairs_push IsPair xs ys x y pairs is)
 
 pub pairs_at : {A B : Type 0} (IsPair : A → B → Type 0) (xs : List A) (ys : List B) → ArePairs IsPair xs ys → (i : ℕ) (x : A) → slice_get xs i ≡ Some x
     → (y : B) × (slice_get ys i ≡ Some y) × IsPair x y

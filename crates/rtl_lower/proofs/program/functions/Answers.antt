@@ -1,15 +1,16 @@
 use Rattle.std.proofs.Common.{◌≡◌, sym, subst, take_all, rules}
 use Rattle.c_typed.specs.Shape.{function_of, functions_of}
 use Rattle.rtl_emit.specs.declared.fault.LowerFault.TheVariants.{Limit}
+use Rattle.rtl_lower.specs.Coded.{IsCodeOf}
 use Rattle.rtl_lower.specs.Sizes.{IsPlain, HaveRoom}
-use Rattle.rtl_lower.proofs.Functions.{one_function}
-use Rattle.rtl_lower.proofs.Fitted.{each_at, one_fitted, too_large}
+use Rattle.rtl_lower.proofs.Functions.{one_pair}
+use Rattle.rtl_lower.proofs.Fitted.{each_at, functions_more, one_fitted, too_large}
 use Rattle.rtl_lower.proofs.program.functions.Goals as goal
 
 pub loop-f-preserved : goal.loop-f-preserved
 loop-f-preserved c = (
-  one_function c.args.all.now c.loop-f.lowered.items c.put.new.all.items c.loop-f.f-index c.f-item.result c.in_ok-next.next
-      c.in_ok-put.ensures c.loop-f-test.true c.f-item.is c.in_ok-next.ensures.code c.loop-f.invariant.0,
+  one_pair IsCodeOf _ _ _ _ _ _ (functions_more c.args.all.now c.loop-f.f-index c.f-item.result c.loop-f-test.true c.f-item.is)
+      c.in_ok-put.ensures c.in_ok-next.ensures.code c.loop-f.invariant.0,
   one_fitted c.args.all.now c.loop-f.lowered.items c.put.new.all.items c.loop-f.f-index c.f-item.result c.in_ok-next.next
       c.in_ok-put.ensures c.loop-f-test.true c.f-item.is c.in_ok-next.ensures.count c.in_ok-next.ensures.room c.loop-f.invariant.1,
 )
