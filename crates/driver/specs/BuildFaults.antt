@@ -14,12 +14,6 @@ use Rattle.driver.specs.declared.build_command.builds.BuildFault.TheVariants as 
 use Rattle.driver.specs.declared.build_command.builds.Limit.{Limit}
 use Rattle.driver.specs.declared.build_command.builds.Limit.TheVariants as limits
 
--- a program without faults whose RTL would have too many pseudo-registers in a function, or too many blocks
-pub record IsTooLongForRtl (text : List ℕ) : Type 0 where
-  pub program : TypedProgram
-  pub spelled : SpellsTyped text program
-  pub beyond : HaveRoom program.functions → ⊥
-
 -- the bytes of a frame, by the counts of the typed function: a word for each pseudo-register, and one for the link
 abbrev pub counted_frame : TypedFunction → ℕ
 counted_frame f = 4 * (function_registers f + 1)
@@ -40,30 +34,26 @@ abbrev pub blocks_counted : List TypedFunction → ℕ
 blocks_counted fs = 2 + functions_counted fs
 
 -- by these counts each frame is small enough, so many frames fit the stack, and there aren't too many blocks
-pub record FitSelection (fs : List TypedFunction) (depth : ℕ) : Type 0 where
+pub record FitSelection (depth : ℕ) (fs : List TypedFunction) : Type 0 where
   pub frames : largest_counted fs ≤ FRAME_BYTES
   pub stack : depth * largest_counted fs ≤ STACK_BYTES
   pub blocks : blocks_counted fs ≤ UNIT_BLOCKS
-
-pub record IsTooLongForSelection (text : List ℕ) (depth : ℕ) : Type 0 where
-  pub program : TypedProgram
-  pub spelled : SpellsTyped text program
-  pub beyond : FitSelection program.functions depth → ⊥
 
 -- by these counts no function has too many words, and so neither has the program: the order of a block has at most 2,052
 abbrev pub FitAssembly : List TypedFunction → Type 0
 FitAssembly fs = 2052 * blocks_counted fs ≤ FUNCTION_WORDS
 
-pub record IsTooLongForAssembly (text : List ℕ) : Type 0 where
+-- a program without faults whose functions don't fit so
+pub record IsTooLong (Fit : List TypedFunction → Type 0) (text : List ℕ) : Type 0 where
   pub program : TypedProgram
   pub spelled : SpellsTyped text program
-  pub beyond : FitAssembly program.functions → ⊥
+  pub beyond : Fit program.functions → ⊥
 
 -- the limit that is exceeded, by what is counted on a program so many of whose calls may be active at once
 abbrev pub Exceeds : List ℕ → (depth : ℕ) → Limit → Type 0
-Exceeds text depth limits.Lowering = IsTooLongForRtl text
-Exceeds text depth limits.Selection = IsTooLongForSelection text depth
-Exceeds text depth limits.Assembly = IsTooLongForAssembly text
+Exceeds text depth limits.Lowering = IsTooLong HaveRoom text
+Exceeds text depth limits.Selection = IsTooLong (FitSelection depth) text
+Exceeds text depth limits.Assembly = IsTooLong FitAssembly text
 
 -- the text's own fault, or one of the program that it spells; a limit and lack of memory come only where that has none
 abbrev pub IsBuildFault : List ℕ → (depth : ℕ) → BuildFault → Type 0

@@ -6,19 +6,22 @@ use Rattle.sched_phase.specs.Schedules.{ScheduledParts, IsScheduled, ArePlain, n
 use Rattle.mips_asm.specs.Assembled.{IsAssembled}
 use Rattle.driver.specs.declared.build_command.builds.Built.{Built}
 
--- image, report and number of blocks are those of one scheduled unit, which is as asked. Bytes are those of one image at most
--- (`one_image`), so this is the image that follows the program
-pub record IsScheduledBuild (Suits : ScheduledParts → Type 0) (b : Built) : Type 0 where
+-- image, report and number of blocks are those of this scheduled unit
+pub record IsBuildOf (scheduled : ScheduledParts) (b : Built) : Type 0 where
   pub image : ImageParts
   pub fits : IsImage image
   pub bytes : b.image.items ≡ image_bytes image
-  pub scheduled : ScheduledParts
   pub orders : IsScheduled scheduled
-  pub suits : Suits scheduled
   pub assembled : IsAssembled scheduled.unit scheduled.orders image
   pub counted : image.version ≡ Second scheduled.report
   pub report : counts_of b.report ≡ scheduled.report
   pub blocks : b.blocks ≡ length scheduled.unit.blocks
+
+-- they are those of one that is as asked. Bytes are those of one image at most (`one_image`), so this is the image that follows the program
+pub record IsScheduledBuild (Suits : ScheduledParts → Type 0) (b : Built) : Type 0 where
+  pub scheduled : ScheduledParts
+  pub suits : Suits scheduled
+  pub build : IsBuildOf scheduled b
 
 -- every block in its plain order, and none counted
 pub record IsPlain (s : ScheduledParts) : Type 0 where

@@ -1,11 +1,9 @@
 //! The command that shows what becomes of a program, stage by stage.
 
-ghost use Rattle.std.specs.Prelude.{◌≡◌, ◌⊎◌, ℕ, List, IfErr, IfOk, Some, ⊤};
+ghost use Rattle.std.specs.Prelude.{◌≡◌, ℕ, List, IfErr, IfOk, Some, ⊤};
 ghost use Rattle.host.specs.Requests.{TellsLine};
 ghost use Rattle.driver.specs.BuildFaults.{IsBuildFault};
 ghost use Rattle.driver.specs.SourceFaults.{IsFaultless};
-ghost use Rattle.mips_select.specs.Limits.{FramesFit};
-ghost use Rattle.mips_select.specs.Laws.{IsBeyond};
 ghost use Rattle.driver.specs.Program.{showing};
 ghost use Rattle.driver.specs.Stages.{IsRtlOf, IsStagesFault, stages_fault_text};
 
@@ -63,7 +61,7 @@ pub(crate) fn rtl_of(alloc: Global, text: &[u8]) -> Result<Rtl, BuildFault>
 
 /// Returns the numbered blocks of a program, of which one call is active at most: nothing is run.
 fn blocks_of(alloc: Global, rtl: &Rtl) -> Result<Numbered, BuildFault>
-    ensures { IfErr result (λ e. ((e ≡ BuildFault.Limit Limit.Selection) × (FramesFit rtl.now 1 → IsBeyond rtl.now)) ⊎ (e ≡ BuildFault.NoMemory)) }
+    ensures { IfErr result (λ fault. (text : List ℕ) → IsRtlOf text rtl.now → IsBuildFault text 1 fault) }
 {
     match select_numbered(alloc, rtl, 1) {
         Ok(numbered) => Ok(numbered),
@@ -243,7 +241,10 @@ impl FileCommand for ShowCommand<'_> {
         bytes: &[u8],
         out: &mut W,
     ) -> Result<(), Broken<StagesFault>> {
-        let page = stages(alloc, bytes, &self.asked).map_err(Broken::Faulty)?;
+        let page = match stages(alloc, bytes, &self.asked) {
+            Ok(page) => page,
+            Err(fault) => return Err(Broken::Faulty(fault)),
+        };
         print_page(out, page.bytes())?;
         Ok(())
     }

@@ -1,5 +1,5 @@
 -- The promises of the layers, one behind the other: each is a refinement, and they compose.
-use Rattle.std.proofs.Common.{◌≡◌, ℕ, ◌^◌, ◌<◌, ◌≤◌, All, List, None, [], sym, ap₂, subst}
+use Rattle.std.proofs.Common.{ℕ, ◌≤◌, None, []}
 use Rattle.runs.specs.Runs.{Outcome}
 use Rattle.mips_isa.specs.Flows.{quiet}
 use Rattle.mips_isa.specs.Starting.{start_state}
@@ -10,26 +10,18 @@ use Rattle.rtl.specs.Programs.{Program}
 use Rattle.rtl.specs.Meaning.{rtl_run}
 use Rattle.rtl_lower.specs.Laws.{KeepsRuns as Lowers}
 use Rattle.mips_select.specs.Laws.{KeepsRuns as Selects}
-use Rattle.mblock.specs.Parts.{OrderParts}
 use Rattle.mblock.specs.Units.{UnitParts}
-use Rattle.mblock.specs.UnitRuns.{unit_run, TellsApart}
-use Rattle.image.specs.Images.{ImageParts}
-use Rattle.mips_code.specs.Machines.{Machine, MachineOutcome, machine_run, words_code}
+use Rattle.mblock.specs.UnitRuns.{unit_run}
+use Rattle.mips_code.specs.Machines.{MachineOutcome, machine_run, words_code}
 use Rattle.mips_code.specs.Agreement.{Agrees}
-use Rattle.mips_machine.specs.ImageRuns.{start_machine}
 use Rattle.mips_asm.specs.Layout.{links_of, address_of_place}
 use Rattle.mips_asm.specs.LayoutRuns.{RunsAs}
-use Rattle.mips_asm.specs.Assembled.{IsAssembled}
-use Rattle.runs.specs.Refines.{Refines, Same, AtLeast, UpTo, Then}
-use Rattle.driver.specs.Follows.{Follows}
+use Rattle.sched_phase.specs.Schedules.{ScheduledParts}
+use Rattle.runs.specs.Refines.{Same, AtLeast, UpTo, Then}
 use Rattle.runs.proofs.Refines.{refinements_compose, in_pace, at_least_twice, at_least_up_to}
-
--- a unit that is what its program comes to, whatever words the calls have as links
-abbrev IsRefinedBy : (source : ℕ → Outcome) → UnitParts → Type 0
-IsRefinedBy source u = (links : ℕ → ℕ) → TellsApart links u.blocks → Refines AtLeast Same source (unit_run u.blocks links (start_state u.globals))
-
-selects : (r : Program) (u : UnitParts) (depth : ℕ) → Selects r depth u → IsRefinedBy (rtl_run r depth) u
-selects r u depth keeps links apart n right = keeps n right links apart
+use Rattle.driver.specs.declared.build_command.builds.Built.{Built}
+use Rattle.driver.specs.Follows.{Follows}
+use Rattle.driver.specs.Halves.{IsRefinedBy, IsWritten}
 
 -- from the source to the unit
 pub selected : (p : TypedProgram) (r : Program) (u : UnitParts) (depth : ℕ) → 1 ≤ depth → Lowers p r → Selects r depth u
@@ -38,26 +30,18 @@ selected p r u depth low lowers keeps links apart =
     let source = source_run p depth in
     let unit = unit_run u.blocks links (start_state u.globals) in
     in_pace (Then AtLeast AtLeast) AtLeast Same source unit at_least_twice
-    (refinements_compose Outcome AtLeast AtLeast Same source (rtl_run r depth) unit (lowers depth low) (selects r u depth keeps links apart))
-
--- the machine at the start of an assembled unit's image
-starts : (u : UnitParts) (orders : List OrderParts) (i : ImageParts) → IsAssembled u orders i
-    → record { flow = quiet (start_state u.globals); pc = address_of_place 0; target = None; output = [] } ≡ start_machine i
-starts u orders i h =
-    let at : List ℕ → ℕ → Machine = λ g e. record { flow = quiet (start_state g); pc = e; target = None; output = [] } in
-    ap₂ at (sym h.bytes) (sym h.entry)
+    (refinements_compose Outcome AtLeast AtLeast Same source (rtl_run r depth) unit (lowers depth low) (λ n right. keeps n right links apart))
 
 -- and on to the image
-pub followed : (p : TypedProgram) (u : UnitParts) (orders : List OrderParts) (i : ImageParts) (depth c : ℕ) → IsRefinedBy (source_run p depth) u
-    → All (λ b. b < 2 ^ 8) u.globals → IsAssembled u orders i → TellsApart (links_of orders) u.blocks → RunsAs c u.blocks orders i.code
-    → Follows i p depth c
-followed p u orders i depth c refined bytes assembled apart runs =
+pub followed : {s : ScheduledParts} {b : Built} (p : TypedProgram) (depth factor : ℕ) → IsRefinedBy (source_run p depth) s.unit
+    → (w : IsWritten s b) → RunsAs factor s.unit.blocks s.orders w.build.image.code → Follows w.build.image p depth factor
+followed {s} p depth factor refined w runs =
     let source = source_run p depth in
-    let unit = unit_run u.blocks (links_of orders) (start_state u.globals) in
-    let first : Machine = record { flow = quiet (start_state u.globals); pc = address_of_place 0; target = None; output = [] } in
-    let ran : Machine → ℕ → MachineOutcome = λ x m. machine_run (words_code i.code) m x in
-    let From : Machine → Type 0 = λ x. Refines (UpTo c) Agrees source (ran x) in
-    subst From (starts u orders i assembled)
-    (in_pace (Then AtLeast (UpTo c)) (UpTo c) Agrees source (ran first) (at_least_up_to c)
-    (refinements_compose MachineOutcome AtLeast (UpTo c) Agrees source unit (ran first) (refined (links_of orders) apart)
-    (runs (start_state u.globals) (start_words u.globals bytes))))
+    let start = start_state s.unit.globals in
+    let unit = unit_run s.unit.blocks (links_of s.orders) start in
+    let ran : ℕ → MachineOutcome =
+    λ m. machine_run (words_code w.build.image.code) m (record { flow = quiet start; pc = address_of_place 0; target = None; output = [] }) in
+    rw (w.build.assembled.bytes, w.build.assembled.entry)
+    (in_pace (Then AtLeast (UpTo factor)) (UpTo factor) Agrees source ran (at_least_up_to factor)
+    (refinements_compose MachineOutcome AtLeast (UpTo factor) Agrees source unit ran (refined (links_of s.orders) w.runs.apart)
+    (runs start (start_words s.unit.globals w.build.orders.unit.data_bytes))))

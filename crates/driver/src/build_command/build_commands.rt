@@ -9,14 +9,13 @@ ghost use Rattle.c_types.specs.Typed.{SpellsTyped};
 ghost use Rattle.text.specs.Shown.{IsTold};
 ghost use Rattle.driver.specs.BuildTexts.{build_fault_text};
 ghost use Rattle.driver.specs.BuildFaults.{IsBuildFault};
+ghost use Rattle.driver.specs.Halves.{IsUnitOf};
 ghost use Rattle.driver.specs.BuildCommand.{IsBuiltAs, apart_meaning, build_meaning, built_text};
 
-use crate::build_command::builds::{
-    BuildFault, Built, Limit, Orders, front_of, plain_of, unit_of_typed,
-};
+use crate::build_command::builds::{BuildFault, Built, Limit, front_of, unit_of_typed, write};
 use crate::build_command::largest::largest_line;
 use crate::build_command::places::source_place;
-use crate::build_command::scheduled_builds::{phase_of, scheduled_of, workers_for};
+use crate::build_command::scheduled_builds::{phase_of, workers_for};
 use crate::build_command::texts::BuiltLine;
 use crate::build_command::warnings::{tell_warnings, warning_lines};
 use c_types::Typed;
@@ -26,7 +25,9 @@ use host::{
     tell_unread, tell_unwritten, write_file,
 };
 use list_scheduler::{FilledOrder, ListOrder};
+use mblock::Unit;
 use messages::SourceFault;
+use sched_phase::{schedule_all, schedule_plain};
 use std::alloc::Global;
 use std::io;
 use std::mem::forget;
@@ -105,6 +106,34 @@ pub fn print_built<W: Output>(out: &mut W, plain: bool, built: &Built) -> io::Re
     out.send()
 }
 
+/// Returns the image of a unit, its blocks in the order that is asked for. The schedule stays to the end of the program, since to let go of
+/// each order takes longer than new memory does.
+fn ordered_as_asked<T: Threads + Wait + Sync>(
+    rt: &T,
+    alloc: Global,
+    unit: &Unit,
+    asked: &AskedBuild<'_>,
+) -> Result<Built, BuildFault>
+    ensures built { IfOk result (λ b. (text : List ℕ) → IsUnitOf text asked.now.depth unit.now → IsBuiltAs text asked.now.depth asked.now.plain b) }
+    ensures fault { IfErr result (λ f. (text : List ℕ) → IsUnitOf text asked.now.depth unit.now → IsBuildFault text asked.now.depth f) }
+{
+    if asked.plain {
+        let scheduled = schedule_plain(alloc, unit)?;
+        let built = write(alloc, &scheduled);
+        forget(scheduled);
+        built
+    } else {
+        let workers = workers_for(unit.blocks().len(), asked.workers);
+        let phase = phase_of(workers, asked.nodes, asked.heads);
+        let reorder = FilledOrder(ListOrder);
+        let scheduled = schedule_all(rt, alloc, unit, phase, &reorder, &Open)?;
+        let built = write(alloc, &scheduled);
+        forget(scheduled);
+        built
+    }
+}
+
+/// Returns the build of a typed program, as is asked.
 fn built_as_asked<T: Threads + Wait + Sync>(
     rt: &T,
     alloc: Global,
@@ -116,19 +145,10 @@ fn built_as_asked<T: Threads + Wait + Sync>(
     ensures fault { IfErr result (λ f. (text : List ℕ) → SpellsTyped text (program_of typed.now) → IsBuildFault text asked.now.depth f) }
 {
     let unit = unit_of_typed(alloc, typed, asked.depth)?;
+    let built = ordered_as_asked(rt, alloc, &unit, asked);
     // the program ends soon, and nothing would use the memory of the blocks
-    if asked.plain {
-        let built = plain_of(alloc, &unit, Orders::Left);
-        forget(unit);
-        built
-    } else {
-        let workers = workers_for(unit.blocks().len(), asked.workers);
-        let phase = phase_of(workers, asked.nodes, asked.heads);
-        let reorder = FilledOrder(ListOrder);
-        let built = scheduled_of(rt, alloc, &unit, phase, &reorder, &Open, Orders::Left);
-        forget(unit);
-        built
-    }
+    forget(unit);
+    built
 }
 
 /// Returns the build of a text, and the lines of its warnings.

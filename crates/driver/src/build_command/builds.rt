@@ -7,7 +7,7 @@ ghost use Rattle.driver.specs.Follows.{FollowsText};
 ghost use Rattle.driver.specs.BuildFaults.{IsBuildFault};
 ghost use Rattle.driver.specs.SourceFaults.{IsSourceFault};
 ghost use Rattle.driver.specs.Stages.{IsLowered};
-ghost use Rattle.driver.specs.Halves.{IsUnitOf, IsUnwritten, IsUnwrittenOf, IsWritten, IsWrittenOf};
+ghost use Rattle.driver.specs.Halves.{IsUnitOf, IsUnwritten, IsWritten};
 
 use c_front::read;
 use c_tree::Program;
@@ -21,7 +21,6 @@ use rtl::Rtl;
 use rtl_lower::{LowerFault, lower};
 use sched_phase::{Scheduled, schedule_plain};
 use std::alloc::{AllocError, Global};
-use std::mem::forget;
 
 /// Which limit a program exceeds that has no fault.
 #[derive(Clone, Copy, Debug, PartialEq, Eq)]
@@ -134,17 +133,8 @@ pub fn unit_of(alloc: Global, text: &[u8], depth: u32) -> Result<Unit, BuildFaul
     unit_of_typed(alloc, &typed, depth)
 }
 
-/// What becomes of a unit's orders once they are written.
-#[derive(Clone, Copy)]
-pub(crate) enum Orders {
-    /// Their memory is free again.
-    Freed,
-    /// They stay to the end of the program, since to let go of each takes longer than new memory does.
-    Left,
-}
-
 /// Writes the bytes of a scheduled unit's image, with its counts.
-fn written(alloc: Global, scheduled: &Scheduled<'_>) -> Result<Built, BuildFault>
+pub(crate) fn write(alloc: Global, scheduled: &Scheduled<'_>) -> Result<Built, BuildFault>
     ensures written { IfOk result (IsWritten scheduled.now) }
     ensures fault { IfErr result (IsUnwritten scheduled.now) }
 {
@@ -161,34 +151,6 @@ fn written(alloc: Global, scheduled: &Scheduled<'_>) -> Result<Built, BuildFault
     })
 }
 
-/// Writes the bytes of a scheduled unit's image, with its counts, unless memory was refused to the schedule.
-pub(crate) fn write(
-    alloc: Global,
-    scheduled: Result<Scheduled<'_>, AllocError>,
-    orders: Orders,
-) -> Result<Built, BuildFault>
-    ensures written { IfOk result (IsWrittenOf scheduled.entry) }
-    ensures fault { IfErr result (IsUnwrittenOf scheduled.entry) }
-{
-    let scheduled = scheduled?;
-    let built = written(alloc, &scheduled);
-    match orders {
-        Orders::Freed => drop(scheduled),
-        Orders::Left => forget(scheduled),
-    }
-    built
-}
-
-/// Returns the image of a unit, every block in its plain order.
-pub(crate) fn plain_of(alloc: Global, unit: &Unit, orders: Orders) -> Result<Built, BuildFault>
-    ensures follows { IfOk result (λ b. (text : List ℕ) (depth : ℕ) → IsUnitOf text depth unit.now → FollowsText text depth 1 b.image.items) }
-    ensures scheduled { IfOk result (IsScheduledBuild IsPlain) }
-    ensures fault { IfErr result (λ f. (text : List ℕ) (depth : ℕ) → IsUnitOf text depth unit.now → IsBuildFault text depth f) }
-{
-    let scheduled = schedule_plain(alloc, unit);
-    write(alloc, scheduled, orders)
-}
-
 /// Returns the image of the program that the text spells, every block in its plain order. It descends into the text: run it on a thread
 /// with a large stack where the text may be hostile.
 pub fn build_plain(alloc: Global, text: &[u8], depth: u32) -> Result<Built, BuildFault>
@@ -198,5 +160,6 @@ pub fn build_plain(alloc: Global, text: &[u8], depth: u32) -> Result<Built, Buil
     ensures fault { IfErr result (IsBuildFault text.now depth) }
 {
     let unit = unit_of(alloc, text, depth)?;
-    plain_of(alloc, &unit, Orders::Freed)
+    let scheduled = schedule_plain(alloc, &unit)?;
+    write(alloc, &scheduled)
 }

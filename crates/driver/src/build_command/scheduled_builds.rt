@@ -1,16 +1,14 @@
 //! Builds whose blocks are put in order by a scheduler that nobody trusts.
-ghost use Rattle.std.specs.Prelude.{◌≡◌, ◌+◌, ◌≤◌, ℕ, List, IfOk, IfErr};
+ghost use Rattle.std.specs.Prelude.{◌≡◌, ◌+◌, ◌≤◌, IfOk, IfErr};
 ghost use Rattle.mblock.specs.declared.limits.TheConstants.{BLOCK_INSTS};
 ghost use Rattle.sched_phase.specs.Phases.{IsPhase, IsWholePhase};
 ghost use Rattle.driver.specs.Builds.{IsScheduledBuild};
 ghost use Rattle.driver.specs.Follows.{FollowsText};
 ghost use Rattle.driver.specs.BuildFaults.{IsBuildFault};
-ghost use Rattle.driver.specs.Halves.{IsUnitOf};
 ghost use Rattle.term_table.specs.Passes.{InRange};
 
-use crate::build_command::builds::{BuildFault, Built, Orders, unit_of, write};
+use crate::build_command::builds::{BuildFault, Built, unit_of, write};
 use list_scheduler::Reorder;
-use mblock::Unit;
 use sched_phase::{PhaseOpts, schedule_all, schedule_one};
 use std::alloc::Global;
 use std::sync::Wait;
@@ -52,25 +50,6 @@ pub(crate) fn workers_for(blocks: usize, workers: u32) -> u32
     }
 }
 
-/// Returns the image of a unit, each block in the order that the scheduler proposes, where it means the block, else its own.
-pub(crate) fn scheduled_of<T: Threads + Wait + Sync, R: Reorder + Sync, G: Gate + Sync>(
-    rt: &T,
-    alloc: Global,
-    unit: &Unit,
-    phase: PhaseOpts,
-    reorder: &R,
-    gate: &G,
-    orders: Orders,
-) -> Result<Built, BuildFault>
-    ensures follows { IfOk result (λ b. (text : List ℕ) (depth : ℕ) → IsUnitOf text depth unit.now
-        → FollowsText text depth (BLOCK_INSTS + 1) b.image.items) }
-    ensures scheduled { IfOk result (IsScheduledBuild (IsPhase (R.proposes reorder.now))) }
-    ensures fault { IfErr result (λ f. (text : List ℕ) (depth : ℕ) → IsUnitOf text depth unit.now → IsBuildFault text depth f) }
-{
-    let scheduled = schedule_all(rt, alloc, unit, phase, reorder, gate);
-    write(alloc, scheduled, orders)
-}
-
 /// Returns the image of the program that the text spells. Each block has the order that the scheduler proposes, where it means the block,
 /// else its own. The phase's workers do the blocks at once, over one table, in whatever schedule of threads. The gate is told of each block
 /// before its work. Descends into the text as `build_plain` does.
@@ -88,15 +67,8 @@ pub fn build<T: Threads + Wait + Sync, R: Reorder + Sync, G: Gate + Sync>(
     ensures fault { IfErr result (IsBuildFault text.now options.now.depth) }
 {
     let unit = unit_of(alloc, text, options.depth)?;
-    scheduled_of(
-        rt,
-        alloc,
-        &unit,
-        options.phase,
-        reorder,
-        gate,
-        Orders::Freed,
-    )
+    let scheduled = schedule_all(rt, alloc, &unit, options.phase, reorder, gate)?;
+    write(alloc, &scheduled)
 }
 
 /// Returns the same by one worker without threads; no block is missed.
@@ -112,6 +84,6 @@ pub fn build_one<R: Reorder>(
     ensures fault { IfErr result (IsBuildFault text.now options.now.depth) }
 {
     let unit = unit_of(alloc, text, options.depth)?;
-    let scheduled = schedule_one(alloc, &unit, options.phase, reorder);
-    write(alloc, scheduled, Orders::Freed)
+    let scheduled = schedule_one(alloc, &unit, options.phase, reorder)?;
+    write(alloc, &scheduled)
 }

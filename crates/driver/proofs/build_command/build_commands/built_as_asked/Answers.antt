@@ -1,12 +1,18 @@
-use Rattle.std.proofs.Common.{rules}
+use Rattle.std.proofs.Common.{List, ℕ}
+use Rattle.std.proofs.lemmas.Result.{IfOk-weaker, IfErr-weaker}
 use Rattle.c_types.specs.Shape.{program_of}
-use Rattle.driver.proofs.build_command.Halves.{plain_as_asked, scheduled_as_asked}
+use Rattle.c_types.specs.Typed.{SpellsTyped}
+use Rattle.driver.specs.BuildCommand.{IsBuiltAs}
+use Rattle.driver.specs.BuildFaults.{IsBuildFault}
 use Rattle.driver.proofs.build_command.build_commands.built_as_asked.Goals as goal
 
-pub returns-then-asked-clause-built : goal.returns-then-asked-clause-built
-returns-then-asked-clause-built g c = plain_as_asked (program_of c.args.typed.now) c.args.asked.now.depth c.args.asked.now.plain c.in_ok-unit.unit
-    c.plain_of-built.result (search rules) c.in_ok-unit.ensures.unit c.plain_of-built.ensures.follows c.plain_of-built.ensures.scheduled
+pub returns-clause-built : goal.returns-clause-built
+returns-clause-built g c =
+    let asked = c.args.asked.now in
+    IfOk-weaker _ _ (λ b. (text : List ℕ) → SpellsTyped text (program_of c.args.typed.now) → IsBuiltAs text asked.depth asked.plain b)
+    (λ b of text spelled. of text (c.in_ok-unit.ensures.unit text spelled)) c.ordered_as_asked-built.ensures.built
 
-pub returns-else-asked-clause-built : goal.returns-else-asked-clause-built
-returns-else-asked-clause-built g c = scheduled_as_asked (program_of c.args.typed.now) c.args.asked.now.depth c.args.asked.now.plain c.in_ok-unit.unit
-    c.scheduled_of-built.result (search rules) c.in_ok-unit.ensures.unit c.scheduled_of-built.ensures.follows c.scheduled_of-built.ensures.scheduled
+pub returns-clause-fault : goal.returns-clause-fault
+returns-clause-fault g c =
+    IfErr-weaker _ _ (λ fault. (text : List ℕ) → SpellsTyped text (program_of c.args.typed.now) → IsBuildFault text c.args.asked.now.depth fault)
+    (λ fault of text spelled. of text (c.in_ok-unit.ensures.unit text spelled)) c.ordered_as_asked-built.ensures.fault
