@@ -2,4 +2,3 @@ pub mod Composed
 pub mod Counts
 pub mod Halves
 pub mod OneBuild
-pub mod TwoNames

@@ -1,10 +1,35 @@
-use Rattle.std.proofs.Common.{◌≡◌, ◌≢◌, [], ◌∷◌, refl, inr, rules, arith}
+use Rattle.std.proofs.Common.{◌≡◌, ◌≢◌, ℕ, [], ◌∷◌, refl, inl, inr, rules, arith}
 use Rattle.std.proofs.KnownBytes.{Appends-nil}
-use Rattle.driver.specs.BuildCommand.{one_name_text}
-use Rattle.driver.specs.BuildCommand.AnswersBuild.{one_name}
+use Rattle.command_line.specs.declared.command.AskedBuild.{AskedBuild}
+use Rattle.host.specs.Requests.{HostState, Ran, Relations}
 use Rattle.host.proofs.Asked.{on_host}
-use Rattle.driver.proofs.build_command.TwoNames.{apart_ran}
+use Rattle.driver.specs.BuildCommand.{apart_meaning, build_meaning, one_name_text}
+use Rattle.driver.specs.BuildCommand.AnswersBuild.{apart, one_name}
 use Rattle.driver.proofs.build_command.build_commands.build_file.Goals as goal
+
+-- a build whose image has a name of its own is a build of any two names
+apart_ran : {F W E : Type 0} {by : Relations F W E} {old new : HostState F W E} {status : ℕ} (b : AskedBuild) → b.source.now ≢ b.image.now
+    → status ≢ 2 → Ran by old new (apart_meaning b) status → Ran by old new (build_meaning b) status
+apart_ran b differ right ran = record {
+  answered = λ other.
+      let does = ran.answered other in
+      record {
+        requests = does.requests;
+        printed = does.printed;
+        asked = does.asked;
+        took = does.took;
+        means = apart differ does.means;
+      };
+  sent = ran.sent;
+  beside = λ other.
+      let beside = ran.beside other in
+      (beside.0, beside.1, inl (right, beside.2));
+  stopped = λ one. elim (ran.stopped one) [
+    | inl asks ↦
+        inl (record { requests = asks.requests; text = asks.text; asked = asks.asked; told = asks.told; means = (differ, asks.means) })
+    | inr midway ↦ absurd midway.begins
+  ];
+}
 
 pub returns-then-eq-clause-ran : goal.returns-then-eq-clause-ran
 returns-then-eq-clause-ran g c =
@@ -20,12 +45,10 @@ returns-then-eq-clause-ran g c =
       };
       sent = λ one two. absurd (two refl);
       beside = λ other. (one_name_text ∷ [], (_, c.text.ensures, refl), inr (refl, refl));
-      stopped = λ one. let no : ⊥ = omega (arith, one) in absurd no;
+      stopped = λ one. absurd (omega arith);
     })
 
 pub returns-clause-ran : goal.returns-clause-ran
 returns-clause-ran g c =
-    let most = c.build_apart.ensures.most in
-    let apart : c.args.asked.now.source.now ≢ c.args.asked.now.image.now = search rules in
     let ran = c.build_apart.ensures.ran in
-    record { ran = apart_ran _ _ _ c.args.asked.now _ apart (λ two. omega (arith, most, two)) ran.ran; same = ran.same }
+    record { ran = apart_ran c.args.asked.now (search rules) (λ two. omega (arith, c.build_apart.ensures.most)) ran.ran; same = ran.same }
