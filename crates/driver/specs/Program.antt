@@ -1,6 +1,6 @@
 -- What each command of the program asks of its files, prints, tells and ends by; the program does what that of its words does
 -- (command_line/specs/Programs.antt).
-use Rattle.std.specs.Prelude.{◌≡◌, ◌≢◌, ◌≤◌, ◌⊎◌, ℕ, List, [], ◌∷◌, ◌++◌, Bool, true, false, All, map}
+use Rattle.std.specs.Prelude.{◌≡◌, ◌≢◌, ◌≤◌, ◌⊎◌, ℕ, List, [], Bool, true, false, All, map}
 use Rattle.std.specs.declared.vec.Vec.{Vec}
 use Rattle.std.specs.declared.alloc.Global.{Global}
 use Rattle.std.specs.Borrow.{Bor}
@@ -17,7 +17,7 @@ use Rattle.driver.specs.Several.{BreaksOff, ChecksAll, ChecksEach, IsTotals}
 use Rattle.driver.specs.SourceFaults.{IsFaultless}
 use Rattle.driver.specs.BuildCommand.{build_meaning}
 use Rattle.host.specs.declared.numbers.WordForm.{WordForm}
-use Rattle.driver.specs.RunCommand.{IsRunRemark, running, words_in}
+use Rattle.driver.specs.RunCommand.{IsRunRemark, PrintsRun, running}
 use Rattle.driver.specs.declared.run_command.remarks.Counted.TheVariants.{Steps}
 use Rattle.command_line.specs.Commands.{IsCommand, mcc_app}
 use Rattle.command_line.specs.Programs.{EndsUntaken, HasMistake, IsAnswered, IsRemark, IsStopped}
@@ -39,16 +39,12 @@ use Rattle.driver.specs.Listings.{IsListing, IsOfImage}
 use Rattle.driver.specs.Stages.{IsStagesFault, stages_fault_text}
 use Rattle.driver.specs.declared.show_commands.StagesFault.{StagesFault}
 
--- what is printed of a run: its output, and how it ended
-abbrev pub PrintsRun : WordForm → Outcome → List ℕ → Type 0
-PrintsRun form o printed = printed ≡ words_in form o.output ++ (end_text o.end ++ 10 ∷ [])
-
 -- `mcc interp SOURCE`, which prints while it runs
 abbrev pub interpreting : (depth steps : ℕ) → WordForm → (counts : Bool) → FileMeaning Outcome InterpFault
 interpreting depth steps form counts = record {
   Answers = λ text o. IsRun text depth steps o;
   Faults = IsInterpFault;
-  Prints = PrintsRun form;
+  Prints = PrintsRun end_text form;
   status_of = λ o. end_status o.end;
   Remarks = IsRunRemark Steps steps counts;
   line = interp_fault_text;
@@ -61,7 +57,7 @@ abbrev pub interpreting_below : Below → AskedInterp → FileMeaning Outcome Bu
 interpreting_below below asked = record {
   Answers = λ text o. IsRunBelow below text asked.depth asked.steps o;
   Faults = IsFaultBelow below asked.depth;
-  Prints = PrintsRun asked.form;
+  Prints = PrintsRun end_text asked.form;
   status_of = λ o. end_status o.end;
   Remarks = IsRunRemark Steps asked.steps false;
   line = build_fault_text;

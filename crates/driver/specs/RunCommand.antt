@@ -1,10 +1,12 @@
 -- What the command `run` asks of its file, prints, tells and ends by.
-use Rattle.std.specs.Prelude.{◌≡◌, ℕ, ◌≤◌, List, [], ◌∷◌, ◌++◌, ◌==◌, decimal, All, Bool, Option, codes, nat_lt, if◌then◌else◌, true}
+use Rattle.std.specs.Prelude.{◌≡◌, ◌⊎◌, ℕ, ◌≤◌, List, [], ◌∷◌, ◌++◌, ◌==◌, decimal, All, Bool, Option, codes, nat_lt, if◌then◌else◌, true}
 use Rattle.std.specs.List.{flat_map}
 use Rattle.image.specs.Texts.{image_fault_text}
 use Rattle.image.specs.Images.{IsImageFault}
 use Rattle.image.specs.declared.fault.ImageFault.{ImageFault}
 use Rattle.mips_code.specs.Machines.{MachineOutcome}
+use Rattle.runs.specs.Runs.{RunOutcome}
+use Rattle.runs.specs.Portions.{behind}
 use Rattle.host.specs.Numbers.{word_text}
 use Rattle.host.specs.declared.numbers.WordForm.{WordForm}
 use Rattle.host.specs.OneFile.{FileMeaning, IsRefused, TookPrint}
@@ -20,9 +22,9 @@ use Rattle.driver.specs.declared.run_command.remarks.Counted.TheVariants.{Words,
 abbrev pub words_in : WordForm → List ℕ → List ℕ
 words_in form words = flat_map (λ w. word_text form w ++ 10 ∷ []) words
 
--- what is printed of an image's run: its output, and how it ended
-abbrev pub PrintsMachine : WordForm → MachineOutcome → List ℕ → Type 0
-PrintsMachine form o printed = printed ≡ words_in form o.output ++ (ending_text o.end ++ 10 ∷ [])
+-- what is printed of a run: its output, and how it ended
+abbrev pub PrintsRun : {E : Type 0} → (E → List ℕ) → WordForm → RunOutcome E → List ℕ → Type 0
+PrintsRun end_text form o printed = printed ≡ words_in form o.output ++ (end_text o.end ++ 10 ∷ [])
 
 -- the lines of the first words of an output
 pub record AreFirstLines (form : WordForm) (output printed : List ℕ) : Type 0 where
@@ -35,6 +37,11 @@ pub record AreFirstLines (form : WordForm) (output printed : List ℕ) : Type 0 
 abbrev pub CutsOff : WordForm → (output : List ℕ) → (old new : Option (List ℕ)) → (refused : Type 0) → Cut → Type 0
 CutsOff form output old new refused Unprinted = refused
 CutsOff form output old new refused NoMemory = TookPrint old new (AreFirstLines form output)
+
+-- a run ends so behind a portion that came to this end, if any: at once, and after all that are left
+abbrev pub IsLast : {S E : Type 0} → (S → ℕ → RunOutcome E) → S → Option E → (left : ℕ) → E → Type 0
+IsLast comes_to now end left last =
+    (n : ℕ) → (n ≡ 0) ⊎ (n ≡ left) → behind comes_to end now n ≡ record { end = last; output = (comes_to now 0).output }
 
 -- how many words or steps ran
 abbrev pub unit_text : Counted → List ℕ
@@ -68,7 +75,7 @@ abbrev pub running : (steps : ℕ) → WordForm → (counts : Bool) → FileMean
 running steps form counts = record {
   Answers = λ bytes o. IsImageRun bytes steps o;
   Faults = IsImageFault;
-  Prints = PrintsMachine form;
+  Prints = PrintsRun ending_text form;
   status_of = λ o. ending_status o.end;
   Remarks = IsRunRemark Words steps counts;
   line = image_fault_text;

@@ -1,39 +1,34 @@
 -- A run whose portions are printed one after another.
-use Rattle.std.proofs.Common.{◌≡◌, ℕ, ◌+◌, ◌-◌, ◌<◌, ◌≤◌, ◌++◌, List, [], ◌∷◌, Option, None, refl, sym, ap, subst, ◌∙◌, arith, inl, inr, ◌⊎◌, append_assoc}
+use Rattle.std.proofs.Common.{◌≡◌, ℕ, ◌+◌, ◌-◌, ◌<◌, ◌≤◌, ◌++◌, List, [], Option, None, refl, sym, ap, ◌∙◌, arith, inl, inr, ◌⊎◌, append_assoc}
 use Rattle.std.proofs.lemmas.Grind.{flat_map-append}
 use Rattle.std.proofs.KnownBytes.{Appends-nil, Appends-trans}
 use Rattle.std.specs.Io.KnownBytes.{Appends}
 use Rattle.runs.specs.Runs.{RunOutcome}
 use Rattle.runs.specs.Portions.{IsEnough, WentOn, after_output, behind}
 use Rattle.runs.specs.declared.ran.Advance.{Advance}
-use Rattle.host.specs.Numbers.{word_text}
 use Rattle.host.specs.declared.numbers.WordForm.{WordForm}
 use Rattle.host.specs.OneFile.{TookPrint}
-use Rattle.driver.specs.RunCommand.{AreFirstLines, words_in}
-
-words_append : (form : WordForm) (a b : List ℕ) → words_in form (a ++ b) ≡ words_in form a ++ words_in form b
-words_append form a b = flat_map-append (λ w. word_text form w ++ 10 ∷ []) a b
+use Rattle.driver.specs.RunCommand.{AreFirstLines, IsLast, words_in}
 
 -- the lines of the first words, of the others, and a last line
 pub lines_on : (form : WordForm) (output printed line : List ℕ) (f : AreFirstLines form output printed)
     → printed ++ (words_in form f.rest ++ line) ≡ words_in form output ++ line
-lines_on form output printed line f =
-    ap (λ p. p ++ (words_in form f.rest ++ line)) f.lines ∙ sym (append_assoc (words_in form f.first) (words_in form f.rest) line)
-    ∙ ap (λ t. t ++ line) (sym (words_append form f.first f.rest)) ∙ ap (λ o. words_in form o ++ line) (sym f.all)
+lines_on form output printed line f = rw (f.lines, f.all, flat_map-append, append_assoc)
 
 below_or : (k m r : ℕ) → k < m + r → (k < m) ⊎ ((m ≤ k) × (k - m < r))
 below_or k m r lt = grind arith
 
-module _ {S E : Type 0} (comes_to : S → ℕ → RunOutcome E) (more : E) (form : WordForm) (most : ℕ) (old : S) (start : Option (List ℕ)) where
-  -- some portions are printed, and so many words or steps are left
-  pub record Begun (left : ℕ) (now : S) (out : Option (List ℕ)) : Type 0 where
-    pub first : List ℕ
-    pub took : Appends start out (words_in form first)
-    pub within : left ≤ most
-    pub before : (k : ℕ) → k < most - left → (comes_to old k).end ≡ more
-    pub rest : (n : ℕ) → comes_to old (most - left + n) ≡ after_output first (comes_to now n)
+-- some portions are printed, and so many words or steps are left
+pub record Begun {S E : Type 0} (comes_to : S → ℕ → RunOutcome E) (more : E) (form : WordForm) (most : ℕ) (old : S) (start : Option (List ℕ))
+    (left : ℕ) (now : S) (out : Option (List ℕ)) : Type 0 where
+  pub first : List ℕ
+  pub took : Appends start out (words_in form first)
+  pub within : left ≤ most
+  pub before : (k : ℕ) → k < most - left → (comes_to old k).end ≡ more
+  pub rest : (n : ℕ) → comes_to old (most - left + n) ≡ after_output first (comes_to now n)
 
-  pub begun : Begun most old start
+module _ {S E : Type 0} {comes_to : S → ℕ → RunOutcome E} {more : E} {form : WordForm} {most : ℕ} {old : S} {start : Option (List ℕ)} where
+  pub begun : Begun comes_to more form most old start most old start
   begun = record {
     first = [];
     took = Appends-nil start;
@@ -42,22 +37,22 @@ module _ {S E : Type 0} (comes_to : S → ℕ → RunOutcome E) (more : E) (form
     rest = λ n. let none : most - most + n ≡ n = omega arith in ap (comes_to old) none;
   }
 
-  module _ (left : ℕ) (now : S) (out : Option (List ℕ)) (b : Begun left now out) where
+  module _ {left : ℕ} {now : S} {out : Option (List ℕ)} (b : Begun comes_to more form most old start left now out) where
     -- what is printed begins the output
     pub cut : TookPrint start out (AreFirstLines form (comes_to old most).output)
     cut =
-        let all : most - left + left ≡ most = let h = b.within in omega arith in (
+        let all : most ≡ most - left + left = let h = b.within in omega arith in (
           words_in form b.first,
           b.took,
           record {
             first = b.first;
             rest = (comes_to now left).output;
-            all = ap (λ n. (comes_to old n).output) (sym all) ∙ ap (λ (o : RunOutcome E). o.output) (b.rest left);
+            all = ap (λ n. (comes_to old n).output) all ∙ ap (λ (o : RunOutcome E). o.output) (b.rest left);
             lines = refl;
           },
         )
 
-    module _ (asked : ℕ) (next : S) (advance : Advance E) (le : asked ≤ left) (went : WentOn comes_to more asked now next advance) where
+    module _ {asked : ℕ} {next : S} {advance : Advance E} (le : asked ≤ left) (went : WentOn comes_to more asked now next advance) where
       abbrev left_behind : ℕ
       left_behind = left - advance.ran
 
@@ -68,15 +63,13 @@ module _ {S E : Type 0} (comes_to : S → ℕ → RunOutcome E) (more : E) (form
       ran_before k lt =
           let h = b.within in
           let w = went.within in
-          let in_all : k < most - left + advance.ran = omega arith in
-          by (below_or k (most - left) advance.ran in_all)
-        where
-          by : (k < most - left) ⊎ ((most - left ≤ k) × (k - (most - left) < advance.ran)) → (comes_to old k).end ≡ more
-          by (inl less) = b.before k less
-          by (inr (ge, less)) =
-              let is : k ≡ most - left + (k - (most - left)) = omega arith in
-              ap (λ i. (comes_to old i).end) is ∙ ap (λ (o : RunOutcome E). o.end) (b.rest (k - (most - left)))
-              ∙ went.before (k - (most - left)) less
+          elim (below_or k (most - left) advance.ran (omega arith)) [
+            | inl less ↦ b.before k less
+            | inr (ge, less) ↦
+                let is : k ≡ most - left + (k - (most - left)) = omega arith in
+                ap (λ i. (comes_to old i).end) is ∙ ap (λ (o : RunOutcome E). o.end) (b.rest (k - (most - left)))
+                ∙ went.before (k - (most - left)) less
+          ]
 
       ran_behind : (n : ℕ) → comes_to old (most - left_behind + n) ≡ after_output b.first (behind comes_to advance.end next n)
       ran_behind n =
@@ -86,31 +79,27 @@ module _ {S E : Type 0} (comes_to : S → ℕ → RunOutcome E) (more : E) (form
           ap (comes_to old) is ∙ b.rest (advance.ran + n) ∙ ap (after_output b.first) (went.behind n)
 
       -- a portion behind which the run would go on
-      pub portion : (clear : S) (out' : Option (List ℕ)) → advance.end ≡ None
+      pub portion : {clear : S} (out' : Option (List ℕ)) → advance.end ≡ None
           → ((n : ℕ) → comes_to next n ≡ after_output written (comes_to clear n)) → Appends out out' (words_in form written)
-          → Begun left_behind clear out'
-      portion clear out' goes cleared took = record {
+          → Begun comes_to more form most old start left_behind clear out'
+      portion {clear} out' goes cleared took = record {
         first = b.first ++ written;
-        took = subst (Appends start out') (sym (words_append form b.first written))
-            (Appends-trans start out out' (words_in form b.first) (words_in form written) b.took took);
+        took = rw flat_map-append (Appends-trans start out out' (words_in form b.first) (words_in form written) b.took took);
         within = let h = b.within in omega arith;
         before = ran_before;
-        rest = λ n. ran_behind n ∙ ap (λ end. after_output b.first (behind comes_to end next n)) goes ∙ ap (after_output b.first) (cleared n)
-            ∙ ap (λ out. record { end = (comes_to clear n).end; output = out }) (sym (append_assoc b.first written (comes_to clear n).output));
+        rest = λ n. ran_behind n ∙ rw (goes, cleared n, append_assoc);
       }
 
       -- the last one
-      module _ (last : E)
-          (at : (n : ℕ) → (n ≡ 0) ⊎ (n ≡ left_behind) → behind comes_to advance.end next n ≡ record { end = last; output = written }) where
+      module _ {last : E} (at : IsLast comes_to next advance.end left_behind last) where
         outcome_at : (n : ℕ) → (n ≡ 0) ⊎ (n ≡ left_behind)
             → comes_to old (most - left_behind + n) ≡ record { end = last; output = b.first ++ written }
         outcome_at n h = ran_behind n ∙ ap (after_output b.first) (at n h)
 
         whole : comes_to old most ≡ record { end = last; output = b.first ++ written }
         whole =
-            let h = b.within in
-            let is : most - left_behind + left_behind ≡ most = omega arith in
-            ap (comes_to old) (sym is) ∙ outcome_at left_behind (inr refl)
+            let is : most ≡ most - left_behind + left_behind = let h = b.within in omega arith in
+            ap (comes_to old) is ∙ outcome_at left_behind (inr refl)
 
         pub last_end : last ≡ (comes_to old most).end
         last_end = sym (ap (λ (o : RunOutcome E). o.end) whole)
@@ -127,16 +116,4 @@ module _ {S E : Type 0} (comes_to : S → ℕ → RunOutcome E) (more : E) (form
         pub all_printed : (out' : Option (List ℕ)) (line : List ℕ) → Appends out out' (words_in form written ++ line)
             → Appends start out' (words_in form (comes_to old most).output ++ line)
         all_printed out' line took =
-            let lines = words_in form written in
-            let is : words_in form (comes_to old most).output ++ line ≡ words_in form b.first ++ (lines ++ line)
-            = ap (λ (o : RunOutcome E). words_in form o.output ++ line) whole ∙ ap (λ t. t ++ line) (words_append form b.first written)
-            ∙ append_assoc (words_in form b.first) lines line in
-            subst (Appends start out') (sym is) (Appends-trans start out out' (words_in form b.first) (lines ++ line) b.took took)
-
--- the end of a run that would go on, once nothing is left
-pub at_more : {S E : Type 0} (comes_to : S → ℕ → RunOutcome E) (more e : E) (end : Option E) (left : ℕ) (s : S) → end ≡ None → left ≡ 0
-    → e ≡ more → (comes_to s 0).end ≡ more → (n : ℕ) → (n ≡ 0) ⊎ (n ≡ left)
-    → behind comes_to end s n ≡ record { end = e; output = (comes_to s 0).output }
-at_more {S} {E} comes_to more e end left s goes none is now n h =
-    ap (λ end. behind comes_to end s n) goes ∙ ap (comes_to s) (elim h [ inl zero ↦ zero | inr all ↦ all ∙ none ])
-    ∙ ap (λ (x : E). record { end = x; output = (comes_to s 0).output }) (now ∙ sym is)
+            rw (whole, flat_map-append, append_assoc) (Appends-trans start out out' (words_in form b.first) (words_in form written ++ line) b.took took)

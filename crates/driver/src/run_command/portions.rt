@@ -1,11 +1,11 @@
 //! A run in portions: what a portion wrote is printed and sent on before the next one begins.
 
-ghost use Rattle.std.specs.Prelude.{◌≡◌, ◌<◌, ◌≤◌, ℕ, List, [], ◌∷◌, ◌++◌, IfErr, IfOk, OnErr, OnOk};
+ghost use Rattle.std.specs.Prelude.{◌≡◌, ◌<◌, ◌≤◌, ℕ, List, [], ◌∷◌, ◌++◌, None, IfErr, IfOk, MatchOption, OnErr, OnOk};
 ghost use Rattle.std.specs.Io.KnownBytes.{Appends};
 ghost use Rattle.host.specs.Requests.{IsSent, WasRefused};
 ghost use Rattle.runs.specs.Runs.{RunOutcome};
 ghost use Rattle.runs.specs.Portions.{IsEnough, WentOn, after_output};
-ghost use Rattle.driver.specs.RunCommand.{CutsOff, words_in};
+ghost use Rattle.driver.specs.RunCommand.{CutsOff, IsLast, words_in};
 
 use host::{FormedWord, Output, WordForm};
 use runs::Advance;
@@ -120,6 +120,17 @@ fn portion_of(left: u64) -> u64
     if left < PORTION { left } else { PORTION }
 }
 
+/// Returns how a run ends behind a portion, if it does: as the portion says, or, where nothing is left, as one that would go on.
+fn end_of<R: Resumable>(run: &R, end: Option<R::End>, left: u64) -> Option<R::End>
+    ensures { MatchOption result ((end ≡ None) × (0 < left)) (IsLast R.comes_to run.now end left) }
+{
+    match end {
+        Some(end) => Some(end),
+        None if left == 0 => Some(run.more()),
+        None => None,
+    }
+}
+
 /// Runs for at most so many words or steps. The output of each portion is printed and sent on before the next one begins, and at last
 /// how the run ended. A portion takes at most a million words or steps, or writes 8192 words.
 pub fn stream<R: Resumable, W: Output>(
@@ -143,19 +154,12 @@ pub fn stream<R: Resumable, W: Output>(
             return Err(Cut::NoMemory);
         };
         left -= advance.ran;
-        if let Some(end) = advance.end {
+        if let Some(end) = end_of(run, advance.end, left) {
             return match put_last(run, out, form, end) {
                 Ok(()) => Ok(Finish {
                     end,
                     count: most - left,
                 }),
-                Err(_) => Err(Cut::Unprinted),
-            };
-        }
-        if left == 0 {
-            let end = run.more();
-            return match put_last(run, out, form, end) {
-                Ok(()) => Ok(Finish { end, count: most }),
                 Err(_) => Err(Cut::Unprinted),
             };
         }

@@ -1,9 +1,6 @@
-use Rattle.std.proofs.Common.{◌≡◌, ℕ, List, ◌++◌, ap, ◌∙◌}
+use Rattle.std.proofs.Common.{◌++◌}
 use Rattle.host.proofs.Told.{folds_on}
 use Rattle.driver.proofs.run_command.remarks.tell_run.Goals as goal
-
-joined : (a b c d rest : List (List ℕ)) → a ≡ c → b ≡ d → a ++ (b ++ rest) ≡ c ++ (d ++ rest)
-joined a b c d rest e f = ap (λ x. x ++ (b ++ rest)) e ∙ ap (λ y. c ++ (y ++ rest)) f
 
 pub returns : goal.returns
 returns g c =
@@ -17,7 +14,7 @@ returns g c =
         count = c.args.spent.count;
         within = c.requires;
         reason = reason.0;
-        all = joined _ _ _ _ reason.0 count.2 more.2;
+        all = rw (count.2, more.2);
         shown = reason.2.0;
         only = reason.2.1;
       },
