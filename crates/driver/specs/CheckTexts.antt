@@ -28,9 +28,7 @@ answer_text answers.Full = codes "full"
 -- the status with which the program ends
 abbrev pub exit_status : CheckAnswer → ℕ
 exit_status answers.Same = 0
-exit_status (answers.Unclean rule) = 3
-exit_status (answers.Differs place) = 3
-exit_status answers.Full = 3
+exit_status _ = 3
 
 -- a status with which a check may end: 1 for a fault, or that of an answer; never 2, as for wrong words
 abbrev pub IsCheckStatus : ℕ → Type 0

@@ -26,8 +26,7 @@ said_text (says.Host fault) = host_fault_text fault
 
 abbrev pub said_status : Said → ℕ
 said_status (says.Answer answer) = exit_status answer
-said_status (says.Text fault) = 1
-said_status (says.Host fault) = 1
+said_status _ = 1
 
 abbrev pub told_of : Said → List (List ℕ)
 told_of (says.Answer answer) = []
@@ -83,8 +82,7 @@ count_said one_more (says.Answer answers.Same) t = record t { same = one_more t.
 count_said one_more (says.Answer (answers.Unclean rule)) t = record t { unclean = one_more t.unclean }
 count_said one_more (says.Answer (answers.Differs place)) t = record t { differs = one_more t.differs }
 count_said one_more (says.Answer answers.Full) t = record t { full = one_more t.full }
-count_said one_more (says.Text fault) t = record t { faulty = one_more t.faulty }
-count_said one_more (says.Host fault) t = record t { faulty = one_more t.faulty }
+count_said one_more _ t = record t { faulty = one_more t.faulty }
 
 -- the totals with one more file
 abbrev pub totals_after : (one_more : ℕ → ℕ) → Totals → Said → Totals
