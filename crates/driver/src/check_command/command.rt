@@ -57,18 +57,16 @@ fn print<W: Output>(out: &mut W, answer: &CheckAnswer, more: &Page) -> io::Resul
     out.send()
 }
 
-/// Prints the answer to a text and what explains it, if that is asked for. The result is its status.
+/// Prints the answer to a text and what explains it, if that is asked for.
 fn print_answer<W: Output>(
     alloc: Global,
     explain: bool,
     text: &[u8],
     answer: &CheckAnswer,
     out: &mut W,
-) -> Result<u8, HostFault>
+) -> Result<(), HostFault>
     ensures took { OnOk result (TookPrint (W.contents out.old) (W.contents out.new) (PrintsAnswer explain answer.now)) }
     ensures sent { OnOk result (IsSent W.sends out.new) }
-    ensures status { IfOk result (λ s. s ≡ exit_status answer.now) }
-    ensures possible { IfOk result IsCheckStatus }
     ensures fault { IfErr result (IsUnprinted explain) }
     ensures left { IfErr result (λ e. LeavesOutput e (out.new ≡ out.old) (WasRefused W.refuses out.new)) }
 {
@@ -76,7 +74,7 @@ fn print_answer<W: Output>(
         return Err(HostFault::NoMemory);
     };
     match print(out, answer, &more) {
-        Ok(()) => Ok(status_of(answer)),
+        Ok(()) => Ok(()),
         Err(_) => Err(HostFault::CannotWrite),
     }
 }
@@ -155,7 +153,7 @@ impl FileCommand for CheckCommand {
             Err(fault) => return Err(Broken::Faulty(fault)),
         };
         match print_answer(alloc, self.explain, bytes, &answer, out) {
-            Ok(_) => Ok(answer),
+            Ok(()) => Ok(answer),
             Err(fault) => Err(Broken::Unprinted(fault)),
         }
     }
