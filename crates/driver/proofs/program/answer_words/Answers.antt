@@ -1,6 +1,5 @@
-use Rattle.std.proofs.Common.{[], refl, inl, map, subst, arith}
-use Rattle.command_line.specs.Commands.{IsCommand}
-use Rattle.command_line.specs.declared.command.Command.TheVariants.{Check, Interp, Build, Run, List as Listing, NoChoice, Show}
+use Rattle.std.proofs.Common.{[], refl, inl, arith}
+use Rattle.command_line.specs.declared.command.Command.TheVariants.{Build}
 use Rattle.host.proofs.Asked.{ran_stopped}
 use Rattle.driver.proofs.Lifted.{of_answer, of_command, of_error, of_files}
 use Rattle.driver.specs.Texts.{no_choice_text}
@@ -8,29 +7,24 @@ use Rattle.driver.proofs.program.answer_words.Goals as goal
 
 pub returns-in-Ok-Check-clause-ran : goal.returns-in-Ok-Check-clause-ran
 returns-in-Ok-Check-clause-ran g c =
-    let most = c.check_file.ensures.possible.0 in
-    of_answer _ _ _ _ _ (Check c.in-Ok-Check.file c.in-Ok-Check.explain)
-    (subst (IsCommand (map (λ s. s.now) c.args.args.now)) c.in-Ok-Check.field-0-is c.in-Ok-Check.ensures.command)
-    c.in-Ok-Check.ensures.kinds (omega (arith, most)) c.check_file.ensures.possible.1 c.check_file.ensures.ran.ran
+    of_answer c.in-Ok-Check.field-0-is c.in-Ok-Check.ensures.command c.in-Ok-Check.ensures.kinds
+    (omega (arith, c.check_file.ensures.possible.0)) c.check_file.ensures.possible.1 c.check_file.ensures.ran.ran
 
 pub returns-in-Ok-CheckEach-clause-ran : goal.returns-in-Ok-CheckEach-clause-ran
 returns-in-Ok-CheckEach-clause-ran g c =
-    let most = c.check_files.ensures.possible.0 in
-    of_files _ _ _ c.in-Ok-CheckEach.explain _ _ c.in-Ok-CheckEach.files _ c.as_slice.ensures.value
-    (subst (IsCommand (map (λ s. s.now) c.args.args.now)) c.in-Ok-CheckEach.field-0-is c.in-Ok-CheckEach.ensures.command)
-    c.in-Ok-CheckEach.ensures.kinds (omega (arith, most)) c.check_files.ensures.possible.1 c.check_files.ensures.each
+    of_files c.in-Ok-CheckEach.field-0-is c.in-Ok-CheckEach.ensures.command c.in-Ok-CheckEach.ensures.kinds
+    (omega (arith, c.check_files.ensures.possible.0)) c.check_files.ensures.possible.1
+    (rw c.as_slice.ensures.value at c.check_files.ensures.each)
 
 pub returns-in-Ok-Interp-clause-ran : goal.returns-in-Ok-Interp-clause-ran
 returns-in-Ok-Interp-clause-ran g c =
-    of_answer _ _ _ _ _ (Interp c.in-Ok-Interp.asked)
-    (subst (IsCommand (map (λ s. s.now) c.args.args.now)) c.in-Ok-Interp.field-0-is c.in-Ok-Interp.ensures.command)
-    c.in-Ok-Interp.ensures.kinds c.interp_at.ensures.most c.interp_at.ensures.not_wrong_words c.interp_at.ensures.ran.ran
+    of_answer c.in-Ok-Interp.field-0-is c.in-Ok-Interp.ensures.command c.in-Ok-Interp.ensures.kinds
+    c.interp_at.ensures.most c.interp_at.ensures.not_wrong_words c.interp_at.ensures.ran.ran
 
 pub returns-in-Ok-Build-clause-ran : goal.returns-in-Ok-Build-clause-ran
 returns-in-Ok-Build-clause-ran g c =
-    let most = c.build_file.ensures.most in
-    let entered = (subst (IsCommand (map (λ s. s.now) c.args.args.now)) c.in-Ok-Build.field-0-is c.in-Ok-Build.ensures.command) in
-    of_command _ _ _ _ _ (Build c.in-Ok-Build.asked) entered c.in-Ok-Build.ensures.kinds (omega (arith, most))
+    let entered = rw c.in-Ok-Build.field-0-is at c.in-Ok-Build.ensures.command in
+    of_command (Build c.in-Ok-Build.asked) entered c.in-Ok-Build.ensures.kinds (omega (arith, c.build_file.ensures.most))
     (λ two.
     let refused = c.build_file.ensures.refused two in
     (refused.1, refused.2, (c.in-Ok-Build.asked, entered, refused.0)))
@@ -38,33 +32,29 @@ returns-in-Ok-Build-clause-ran g c =
 
 pub returns-in-Ok-Run-clause-ran : goal.returns-in-Ok-Run-clause-ran
 returns-in-Ok-Run-clause-ran g c =
-    of_answer _ _ _ _ _ (Run c.in-Ok-Run.asked)
-    (subst (IsCommand (map (λ s. s.now) c.args.args.now)) c.in-Ok-Run.field-0-is c.in-Ok-Run.ensures.command)
-    c.in-Ok-Run.ensures.kinds c.run_file.ensures.most c.run_file.ensures.not_wrong_words c.run_file.ensures.ran.ran
+    of_answer c.in-Ok-Run.field-0-is c.in-Ok-Run.ensures.command c.in-Ok-Run.ensures.kinds
+    c.run_file.ensures.most c.run_file.ensures.not_wrong_words c.run_file.ensures.ran.ran
 
 pub returns-in-Ok-List-clause-ran : goal.returns-in-Ok-List-clause-ran
 returns-in-Ok-List-clause-ran g c =
-    let most = c.answer_file.ensures.most in
-    of_answer _ _ _ _ _ (Listing c.in-Ok-List.image c.in-Ok-List.asm)
-    (subst (IsCommand (map (λ s. s.now) c.args.args.now)) c.in-Ok-List.field-0-is c.in-Ok-List.ensures.command)
-    c.in-Ok-List.ensures.kinds (omega (arith, most)) c.answer_file.ensures.not_wrong_words c.answer_file.ensures.ran.ran
+    of_answer c.in-Ok-List.field-0-is c.in-Ok-List.ensures.command c.in-Ok-List.ensures.kinds
+    (omega (arith, c.answer_file.ensures.most)) c.answer_file.ensures.not_wrong_words c.answer_file.ensures.ran.ran
 
 pub returns-in-Ok-Show-clause-ran : goal.returns-in-Ok-Show-clause-ran
 returns-in-Ok-Show-clause-ran g c =
-    let most = c.answer_file-in-Ok-Show.ensures.most in
-    of_answer _ _ _ _ _ (Show c.in-Ok-Show.source c.in-Ok-Show.stage c.in-Ok-Show.function c.in-Ok-Show.block c.in-Ok-Show.dot)
-    (subst (IsCommand (map (λ s. s.now) c.args.args.now)) c.in-Ok-Show.field-0-is c.in-Ok-Show.ensures.command)
-    c.in-Ok-Show.ensures.kinds (omega (arith, most)) c.answer_file-in-Ok-Show.ensures.not_wrong_words c.answer_file-in-Ok-Show.ensures.ran.ran
+    let answer = c.answer_file-in-Ok-Show.ensures in
+    of_answer c.in-Ok-Show.field-0-is c.in-Ok-Show.ensures.command c.in-Ok-Show.ensures.kinds
+    (omega (arith, answer.most)) answer.not_wrong_words answer.ran.ran
 
 pub returns-in-Ok-NoChoice-clause-ran : goal.returns-in-Ok-NoChoice-clause-ran
 returns-in-Ok-NoChoice-clause-ran g c =
     let one = c.tell_choice.ensures.status in
-    of_answer _ _ _ _ _ (NoChoice c.in-Ok-NoChoice.choice c.in-Ok-NoChoice.value)
-    (subst (IsCommand (map (λ s. s.now) c.args.args.now)) c.in-Ok-NoChoice.field-0-is c.in-Ok-NoChoice.ensures.command)
-    c.in-Ok-NoChoice.ensures.kinds (omega (arith, one)) (λ two. omega (arith, one, two))
+    of_answer c.in-Ok-NoChoice.field-0-is c.in-Ok-NoChoice.ensures.command c.in-Ok-NoChoice.ensures.kinds
+    (omega arith) (λ two. omega arith)
     (ran_stopped _ _ _ _ _ one
     (inl (record { requests = []; text = no_choice_text; asked = refl; told = c.tell_choice.ensures.told; means = (refl, refl, refl) })))
 
 pub returns-in-Err-clause-ran : goal.returns-in-Err-clause-ran
-returns-in-Err-clause-ran g c = of_error _ _ _ _ _ c.in-Err.error c.in-Err.ensures.kinds c.in-Err.ensures.refused c.tell_words.ensures.most refl
-    c.tell_words.ensures.help c.tell_words.ensures.sent c.tell_words.ensures.wrong c.tell_words.ensures.refused c.tell_words.ensures.told
+returns-in-Err-clause-ran g c =
+    let told = c.tell_words.ensures in
+    of_error c.in-Err.error c.in-Err.ensures.kinds c.in-Err.ensures.refused told.most refl told.help told.sent told.wrong told.refused told.told
