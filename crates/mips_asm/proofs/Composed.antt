@@ -62,12 +62,6 @@ more out = record { end = More; output = out }
 abbrev pub said : List ℕ → def.MachineOutcome
 said out = record { end = endings.More; output = out }
 
-agrees_by : {o : Outcome} {x y : def.MachineOutcome} → x ≡ y → Agrees o x → Agrees o y
-agrees_by {o} e h = subst (λ z. Agrees o z) e h
-
-agrees_of : {o p : Outcome} {x : def.MachineOutcome} → o ≡ p → Agrees o x → Agrees p x
-agrees_of {o} {p} {x} e h = subst (λ z. Agrees z x) e h
-
 -- ---- the items of one block
 
 -- what doesn't go wrong is safe
@@ -253,7 +247,7 @@ module _ (blocks : List BlockParts) (orders : List OrderParts) (h : AreOrders bl
         go (Some b) ex fine =
             let f = next u b s out ex words fine in
             let a = l.by f.0 in
-            (a.0, measure.leaves n f.0 a.0 f.1 a.1, agrees_by (sym a.2) f.2)
+            (a.0, measure.leaves n f.0 a.0 f.1 a.1, rw a.2 f.2)
 
     left_at : (n : ℕ) → Entered n → (g : Departure) (m : Machine) (s : State) (out : List ℕ) → IsWords s
         → Arrives (layout orders) start m out g s → is_wrong (outcome_of_departure blocks links g (items blocks links n) s out) ≡ false
@@ -261,7 +255,7 @@ module _ (blocks : List BlockParts) (orders : List OrderParts) (h : AreOrders bl
     left_at n next (GoesTo u) m s out words l w = entered_at n next u m s out words l w
     left_at n next (CallsTo f u) m s out words l w = entered_at n next f m s out words l w
     left_at n next (PrintsTo word u) m s out words l w = entered_at n next u m s (out ++ word ∷ []) words l w
-    left_at n next (HaltsWith word) m s out words l w = let a = l n in (a.0, measure.halts n a.0 a.1, agrees_by (sym a.2) (record { end = refl; output = refl }))
+    left_at n next (HaltsWith word) m s out words l w = let a = l n in (a.0, measure.halts n a.0 a.1, rw a.2 (record { end = refl; output = refl }))
     left_at n next (GoesBack word) m s out words l w = go (return_block_of links word 0 blocks) refl w
       where
         go : (x : Option ℕ) → return_block_of links word 0 blocks ≡ x
@@ -291,7 +285,8 @@ module _ (blocks : List BlockParts) (orders : List OrderParts) (h : AreOrders bl
         (leave_words b.exit p.end (links t) (run_words (map action_of b.insts) s p.end words p.ran)
         (link_below t o.0 o.1)) arrives.2 fine in
         let a = arrives.1.by f.0 in
-        (a.0, measure.block t b o.0 eb o.1 n left_over f.0 a.0 en f.1 a.1, agrees_of (sym goes) (agrees_by (sym a.2) f.2))
+        let ran = machine_run (insts_code (layout orders)) a.0 (machine_at (start t) s out) in
+        (a.0, measure.block t b o.0 eb o.1 n left_over f.0 a.0 en f.1 a.1, subst (λ p. Agrees p ran) (sym goes) (rw a.2 f.2))
 
     follows : (fuel n : ℕ) → n < fuel → Entered n
     follows zero n le t b s out eb words w = absurd (omega arith)
@@ -314,8 +309,7 @@ module _ (blocks : List BlockParts) (orders : List OrderParts) (h : AreOrders bl
         go None ex fine = absurd (true≢false fine)
         go (Some b) ex fine =
             let f = follows (suc i) i (omega arith) 0 b s [] ex words fine in
-            let first = ap (λ p. machine_run (insts_code (layout orders)) f.0 (machine_at p s [])) (sym (place_none orders)) in
-            (f.0, f.1, agrees_by (sym (runs_same (layout orders) fit f.0 (machine_at 0 s []) ∙ first)) f.2)
+            (f.0, f.1, rw (runs_same (layout orders) fit) (rw (place_none orders) at f.2))
 
 pub each_layout_runs : EachLayoutRuns
 each_layout_runs blocks orders h room fit =
