@@ -3,7 +3,7 @@ use Rattle.std.proofs.lemmas.List.{map-append, drop_more}
 use Rattle.std.proofs.lemmas.Option.{slice_get_read}
 use Rattle.mips_code.specs.Words.{inst_word}
 use Rattle.std.proofs.Common.{◌≡◌, ℕ, zero, suc, ◌+◌, ◌<◌, List, [], ◌∷◌, ◌++◌, map, length, All, Option, Some, slice_get, refl, ap}
-use Rattle.std.proofs.Common.{ap₂, arith, get_or, ◌≤◌, subst, drop, append_assoc, sym, ◌∙◌}
+use Rattle.std.proofs.Common.{ap₂, arith, get_or, ◌≤◌, drop, append_assoc, sym, ◌∙◌}
 use Rattle.std.specs.Prelude.{slice_index}
 use Rattle.std.proofs.lemmas.List.Elements.{All-from_recursion}
 use Rattle.mips_isa.specs.declared.inst.Plain.{Plain}
@@ -70,19 +70,15 @@ near_exit owner os f fit k o e _ there own = tt
 pub all_near : (owner : ℕ → ℕ) (os : List OrderParts) → AreUnits owner os → FunctionsFit owner os → AllNear (start_of (places_from 0 os)) os
 all_near owner os u fit k o e = near_exit owner os u.functions fit k o e o.exit (u.there k o e) (u.own k o e)
 
-more_insts : (start : ℕ → ℕ) (os : List OrderParts) (here k : ℕ) (o : OrderParts) → k < length os → o ≡ get_or os k o
-    → insts_of start here (drop k os) ≡ order_insts start here o ++ insts_of start (here + size o) (drop (k + 1) os)
-more_insts start os here k o lt e = ap (insts_of start here) (drop_more os k o lt ∙ ap (λ y. y ∷ drop (k + 1) os) (sym e))
+module _ (start : ℕ → ℕ) (os : List OrderParts) (here k : ℕ) (o : OrderParts) (lt : k < length os) (is : o ≡ get_or os k o) where
+  more_insts : insts_of start here (drop k os) ≡ order_insts start here o ++ insts_of start (here + size o) (drop (k + 1) os)
+  more_insts = ap (insts_of start here) (drop_more os k o lt ∙ ap (λ y. y ∷ drop (k + 1) os) (sym is))
 
-pub words_on : (start : ℕ → ℕ) (os : List OrderParts) (here k : ℕ) (o : OrderParts) (code more total : List ℕ) → k < length os
-    → o ≡ get_or os k o → more ≡ code ++ map inst_word (order_insts start here o) → code ++ map inst_word (insts_of start here (drop k os)) ≡ total
-    → more ++ map inst_word (insts_of start (here + size o) (drop (k + 1) os)) ≡ total
-words_on start os here k o code more total lt e em so_far =
-    let rest = insts_of start (here + size o) (drop (k + 1) os) in
-    rw (em, append_assoc, sym (map-append inst_word (order_insts start here o) rest), sym (more_insts start os here k o lt e)) so_far
+  pub words_on : (code : List ℕ) {more total : List ℕ} → more ≡ code ++ map inst_word (order_insts start here o)
+      → code ++ map inst_word (insts_of start here (drop k os)) ≡ total
+      → more ++ map inst_word (insts_of start (here + size o) (drop (k + 1) os)) ≡ total
+  words_on code em so_far = rw (em, append_assoc, ← map-append, ← more_insts) so_far
 
-pub fit_on : (start : ℕ → ℕ) (os : List OrderParts) (here k : ℕ) (o : OrderParts) → k < length os → o ≡ get_or os k o
-    → Fit (order_insts start here o) → (Fit (insts_of start here (drop k os)) → Fit (insts_of start 0 os))
-    → Fit (insts_of start (here + size o) (drop (k + 1) os)) → Fit (insts_of start 0 os)
-fit_on start os here k o lt e one all rest =
-    all (subst Fit (sym (more_insts start os here k o lt e)) (all_both (order_insts start here o) (insts_of start (here + size o) (drop (k + 1) os)) one rest))
+  pub fit_on : Fit (order_insts start here o) → (Fit (insts_of start here (drop k os)) → Fit (insts_of start 0 os))
+      → Fit (insts_of start (here + size o) (drop (k + 1) os)) → Fit (insts_of start 0 os)
+  fit_on one all rest = all (rw more_insts (all_both (order_insts start here o) (insts_of start (here + size o) (drop (k + 1) os)) one rest))

@@ -1,6 +1,4 @@
-use Rattle.std.proofs.Common.{◌++◌, map, refl, sym, arith}
-use Rattle.mips_code.specs.Words.{inst_word}
-use Rattle.mips_asm.specs.Layout.{insts_of}
+use Rattle.std.proofs.Common.{refl, sym, arith}
 use Rattle.mips_asm.specs.Emitted.{start_of}
 use Rattle.mips_asm.proofs.Starts.{place_step, words_on, fit_on}
 use Rattle.mips_asm.proofs.Within.{place_none, place_room}
@@ -32,11 +30,8 @@ loop-order-preserved c =
     let here = c.loop-order.here in
     let k = c.loop-order.order-index in
     let o = c.order-item.result in
-    let v = c.size-here.ensures.value in
-    let step = place_step os k o c.loop-order-test.true c.order-item.is in
-    let at = c.loop-order.invariant.2 in
-    let words = words_on start os here k o c.loop-order.code.items c.put_order.new.code.items
-    (c.args.code.now.items ++ map inst_word (insts_of start 0 os)) c.loop-order-test.true c.order-item.is
-    c.in_ok-put_order.ensures.word c.loop-order.invariant.0 in
-    let fit = fit_on start os here k o c.loop-order-test.true c.order-item.is c.in_ok-put_order.ensures.fit c.loop-order.invariant.1 in
-    rw v (words, fit, omega (arith, step, at))
+    let lt = c.loop-order-test.true in
+    let is = c.order-item.is in
+    let words = words_on start os here k o lt is c.loop-order.code.items c.in_ok-put_order.ensures.word c.loop-order.invariant.0 in
+    let fit = fit_on start os here k o lt is c.in_ok-put_order.ensures.fit c.loop-order.invariant.1 in
+    rw c.size-here.ensures.value (words, fit, omega (arith, place_step os k o lt is, c.loop-order.invariant.2))
