@@ -3,9 +3,10 @@ use Rattle.std.proofs.Common.{◌≡◌, ◌≢◌, ℕ, pos, negsuc, ◌+◌, �
 use Rattle.std.proofs.Common.{◌++◌, map, length, length-append, Some, None, refl, sym, ap, ◌∙◌, arith, nat_eq, true≢false, eqb-true}
 use Rattle.std.proofs.Common.{ne_eqb, ⊎_elim, ℤ}
 use Rattle.std.specs.Prelude.{if◌then◌else◌, slice_get}
-use Rattle.std.proofs.lemmas.List.{append-nil}
+use Rattle.std.proofs.Math.Seq.{get_or-append_seam}
+use Rattle.std.proofs.lemmas.List.{append-nil, length_push}
 use Rattle.std.proofs.lemmas.Bool.{eqb-false, false_from_ne_true, cond_both}
-use Rattle.std.proofs.lemmas.Option.{none-some}
+use Rattle.std.proofs.lemmas.Option.{none-some, slice_get_read}
 use Rattle.words.specs.declared.operator.Operator.TheVariants.{Addu}
 use Rattle.words.specs.declared.width.Width.TheVariants.{Word}
 use Rattle.words.specs.Words.{wrap}
@@ -22,7 +23,7 @@ use Rattle.rtl.specs.declared.block.RGlobal.{RGlobal}
 use Rattle.mips_homes.specs.HomedRun.{Activation, is_in, is_callee_saved, registers_at_entry, registers_at_return}
 use Rattle.mips_homes.specs.declared.homed.Frame.{Frame}
 use Rattle.mips_homes.proofs.Located.{also_in}
-use Rattle.mips_homes.proofs.Choosing.{got_push, at_push}
+use Rattle.mips_homes.proofs.Choosing.{each_push}
 use Rattle.mips_homes.proofs.Chosen.{in_at}
 use Rattle.mips_emit.specs.declared.limits.TheConstants.{FRAME_BYTES}
 use Rattle.mips_emit.specs.Frames.{HaveNoCopies, link_words, IsFrame}
@@ -71,7 +72,14 @@ front_in (y ∷ xs) x q ne = rw (front_in xs x q ne) refl
 module _ {most : ℕ} {f : Frame} (ok : IsFrame most f) where
   kept_case : (leaf : Bool) (j r : ℕ) → slice_get (kept leaf f) j ≡ Some r → (slice_get f.saved.items j ≡ Some r) ⊎ ((j ≡ length f.saved.items) × (r ≡ 31))
   kept_case true j r there = inl there
-  kept_case false j r there = got_push f.saved.items 31 j r there
+  kept_case false j r there =
+      each_push (λ j r. (slice_get f.saved.items j ≡ Some r) ⊎ ((j ≡ length f.saved.items) × (r ≡ 31))) f.saved.items 31 (λ j r there. inl there)
+      (inr (refl, refl)) j r there
+
+  -- and the link stands behind them
+  link_place : slice_get (kept false f) (length f.saved.items) ≡ Some 31
+  link_place = slice_get_read (kept false f) (length f.saved.items + 1) (length f.saved.items) 31 (sym (length_push f.saved.items 31)) (omega arith)
+      (sym (get_or-append_seam f.saved.items 31 [] 31))
 
   kept_ok : (leaf : Bool) → AreKept (kept leaf f)
   kept_ok leaf j r there = ⊎_elim (λ e. omega (arith, ok.saved j r e)) (λ e. omega (arith, e)) (kept_case leaf j r there)
@@ -170,7 +178,7 @@ module _ {most total : ℕ} {gs : List RGlobal} {starts : ℕ → ℕ} (small : 
                   ∙ h.held q w (omega (arith, range)) (omega (arith, range)) at;
               link = λ calls.
                   let place : p + 4 * (f.slots + length f.saved.items) ≡ p + 4 * f.slots + 4 * length f.saved.items = omega arith in
-                  ap (word_at to) place ∙ saved.here (length f.saved.items) 31 (rw calls (at_push f.saved.items 31)) ∙ link_same;
+                  ap (word_at to) place ∙ saved.here (length f.saved.items) 31 (rw calls (link_place ok)) ∙ link_same;
               fits = fits;
               alone = alone;
             },
