@@ -21,4 +21,4 @@ mod text;
 
 pub use declaration::one_program;
 pub use fault::{FrontFault, FrontFaultKind};
-pub use text::{one_reading, read};
+pub use text::{fault_of, one_reading, read};

@@ -145,6 +145,17 @@ pub fn read(alloc: Global, text: &[u8]) -> Result<Program, FrontFault>
     }
 }
 
+/// Returns what is wrong with a text, as `read` reports it, and nothing if it spells a program. Its caller has no program to drop.
+pub fn fault_of(alloc: Global, text: &[u8]) -> Option<FrontFault>
+    ensures none { IfNone result ((p : List Declaration) × SpellsText text.now p) }
+    ensures some { IfSome result (λ f. IsTextFault text.now f.kind f.at) }
+{
+    match read(alloc, text) {
+        Ok(_) => None,
+        Err(fault) => Some(fault),
+    }
+}
+
 /// States that a text spells one program at most, and none if it has a fault other than lack of memory. Of these it has one at most, at one
 /// place. A law: it computes nothing.
 pub fn one_reading()

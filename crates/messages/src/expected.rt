@@ -5,7 +5,7 @@
 //! fault at the token.
 
 use crate::source::{Source, back, front};
-use c_front::{FrontFaultKind, read};
+use c_front::{FrontFaultKind, fault_of};
 use c_tokens::Mark;
 use std::alloc::{AllocError, Global};
 
@@ -71,10 +71,10 @@ fn can_stand(alloc: Global, piece: &[u8], token: &[u8]) -> Result<bool, AllocErr
     text.push(b' ')?;
     let at = text.len();
     text.extend_from_slice(token)?;
-    match read(alloc, text.as_slice()) {
-        Ok(_) => Ok(true),
-        Err(fault) if fault.kind == FrontFaultKind::NoMemory => Err(AllocError),
-        Err(fault) => Ok(fault.kind == FrontFaultKind::Syntax && at < fault.at),
+    match fault_of(alloc, text.as_slice()) {
+        None => Ok(true),
+        Some(fault) if fault.kind == FrontFaultKind::NoMemory => Err(AllocError),
+        Some(fault) => Ok(fault.kind == FrontFaultKind::Syntax && at < fault.at),
     }
 }
 
