@@ -9,16 +9,16 @@ use Rattle.c_tree.specs.Tree as Tree
 use Rattle.c_typed.specs.declared.tree.TypedExpression.{TypedExpression}
 use Rattle.c_statements.specs.declared.fault.TypeFaultKind.{TypeFaultKind}
 use Rattle.c_statements.specs.declared.fault.TypeStop.{TypeStop}
-use Rattle.c_statements.specs.declared.fault.TypeStop.TheVariants.{NoMemory}
-use Rattle.c_statements.specs.Faults.{Answers, StopsBoth}
+use Rattle.c_statements.specs.Faults.{Answers, both_of}
+use Rattle.c_statements.specs.Made.{HasLast, MadeOf, Stops}
 use Rattle.c_statements.specs.Names.{Environment}
 use Rattle.c_typed.specs.Shape.{typed_expression_of, typed_expressions_of}
 use Rattle.c_statements.specs.Statements.{FaultyAll}
 use Rattle.c_typed.specs.Trees as Trees
 use Rattle.c_statements.specs.Types.{Types, TypesAll, all_typed, more_typed}
 use Rattle.c_statements.specs.Uses.{Faulty}
-use Rattle.c_statements.proofs.Firsts.{Both, Same}
-use Rattle.c_statements.proofs.Joined.{one-more}
+use Rattle.c_statements.proofs.Firsts.{Both}
+use Rattle.c_statements.proofs.Joins.{Same, answers-both, answers-made, answers-same}
 
 pub expressions-append : (xs : List Expression) (e : Expression) → expressions_of (xs ++ e ∷ []) ≡ expressions_of xs ++ expression_of e ∷ []
 expressions-append [] e = refl
@@ -67,18 +67,11 @@ SoFar scope es r = Answers (λ (v : Vec TypedExpression Global). TypesAll scope 
 pub none-so-far : (scope : Environment) (v : Vec TypedExpression Global) → v.items ≡ [] → SoFar scope [] (Ok v)
 none-so-far scope v e = record { ok = rw e all_typed; none = λ k at h. h; err = tt }
 
-pub one-so-far : (scope : Environment) (all : List Expression) (i : ℕ) (e : Expression)
-    (typed r : Result (Vec TypedExpression Global) TypeStop) (one : Result TypedExpression TypeStop) → i < length all → e ≡ get_or all i e
-    → SoFar scope (take i all) typed
+pub one-so-far : {scope : Environment} (all : List Expression) (i : ℕ) (e : Expression) {typed r : Result (Vec TypedExpression Global) TypeStop}
+    {one : Result TypedExpression TypeStop} → i < length all → e ≡ get_or all i e → SoFar scope (take i all) typed
     → Answers (λ t. Types scope (expression_of e) (typed_expression_of t)) (Faulty scope (expression_of e)) one
-    → IfOk r (λ v. (xs : Vec TypedExpression Global) × (x : TypedExpression) × (typed ≡ Ok xs) × (one ≡ Ok x)
-    × (v.items ≡ xs.items ++ x ∷ [])) → IfErr r (λ s. (s ≡ NoMemory) ⊎ StopsBoth typed one s)
-    → SoFar scope (take (i + 1) all) r
-one-so-far scope all i e typed r one l is h a f g =
-    let next : take (i + 1) all ≡ take i all ++ e ∷ [] = take_more all i e l ∙ ap (λ (x : Expression). take i all ++ x ∷ []) (sym is) in
-    rw next
-    (one-more (λ ts. TypesAll scope (expressions_of (take i all)) (typed_expressions_of ts))
-    (λ ts. TypesAll scope (expressions_of (take i all ++ e ∷ [])) (typed_expressions_of ts)) (λ t. Types scope (expression_of e) (typed_expression_of t))
-    (FaultyAll scope (expressions_of (take i all))) (Faulty scope (expression_of e))
-    (FaultyAll scope (expressions_of (take i all ++ e ∷ []))) typed r one (same-faults scope (take i all) e)
-    (λ ts t p q. typed-more scope (take i all) e ts t p q) h a f g)
+    → IfOk r (MadeOf (both_of typed one) HasLast) → IfErr r (Stops (both_of typed one)) → SoFar scope (take (i + 1) all) r
+one-so-far {scope = scope} all i e l is h one made stops =
+    rw (take_more all i e l ∙ ap (λ (x : Expression). take i all ++ x ∷ []) (sym is))
+    (answers-same (same-faults scope (take i all) e) (answers-made HasLast (answers-both h one) made stops
+    (λ z v p q. rw q (typed-more scope (take i all) e z.0.items z.1 p.0 p.1))))

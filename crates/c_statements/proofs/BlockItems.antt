@@ -11,16 +11,16 @@ use Rattle.c_tree.specs.Tree.{Items, no_items, more_items, declare, statement}
 use Rattle.c_typed.specs.declared.tree.TypedStatement.{TypedStatement}
 use Rattle.c_statements.specs.declared.fault.TypeFaultKind.{TypeFaultKind}
 use Rattle.c_statements.specs.declared.fault.TypeStop.{TypeStop}
-use Rattle.c_statements.specs.declared.fault.TypeStop.TheVariants.{NoMemory}
-use Rattle.c_statements.specs.Faults.{Answers, StopsBoth}
-use Rattle.c_statements.specs.Names.{Scopes, with_local, behind, behind_item, behind_items, declared_in_all}
+use Rattle.c_statements.specs.Faults.{Answers, both_of}
+use Rattle.c_statements.specs.Made.{HasLast, MadeOf, Stops}
+use Rattle.c_statements.specs.Names.{Scopes, within, outside, with_local, behind, behind_item, behind_items, declared_in_all}
 use Rattle.c_typed.specs.Shape.{statement_of, statements_of}
 use Rattle.c_statements.specs.Statements.{FaultyItems}
 use Rattle.c_typed.specs.Trees as Trees
 use Rattle.c_typed.specs.Trees.{TypedStatements, no_statements, more_statements}
 use Rattle.c_statements.specs.Types.{TypesItems, no_items_typed, statement_typed, declare_typed}
-use Rattle.c_statements.proofs.Firsts.{Both, Same}
-use Rattle.c_statements.proofs.Joined.{one-more}
+use Rattle.c_statements.proofs.Firsts.{Both}
+use Rattle.c_statements.proofs.Joins.{Same, answers-both, answers-made, answers-same}
 
 abbrev pub with_item : Items → Tree.Item → Items
 with_item no_items i = more_items i no_items
@@ -117,21 +117,13 @@ typed-more : (text : List ℕ) (sc : Scopes) (xs : List Item) (i : Item) (ts : L
 typed-more text sc xs i ts t h l =
     rw (items-append xs i, statements-append ts t) (typed-append text sc (items_of xs) (statements_of ts) (item_of i) (statement_of t) h l)
 
-pub one-so-far : (text : List ℕ) (g b : Bool) (sc : Scopes) (all : List Item) (i : ℕ) (x : Item)
-    (typed r : Result (Vec TypedStatement Global) TypeStop) (one : Result TypedStatement TypeStop) → i < length all → x ≡ get_or all i x
-    → ItemsSoFar text g b sc (take i all) typed
+pub one-so-far : {text : List ℕ} (g b : Bool) {sc : Scopes} (all : List Item) (i : ℕ) (x : Item) {typed r : Result (Vec TypedStatement Global) TypeStop}
+    {one : Result TypedStatement TypeStop} → i < length all → x ≡ get_or all i x → ItemsSoFar text g b sc (take i all) typed
     → NextItem text g b (behind_items text sc (items_of (take i all))) x one
-    → IfOk r (λ v. (xs : Vec TypedStatement Global) × (y : TypedStatement) × (typed ≡ Ok xs) × (one ≡ Ok y)
-    × (v.items ≡ xs.items ++ y ∷ [])) → IfErr r (λ s. (s ≡ NoMemory) ⊎ StopsBoth typed one s)
-    → ItemsSoFar text g b sc (take (i + 1) all) r
-one-so-far text g b sc all i x typed r one l is h a f e =
-    let before : Items = items_of (take i all) in
-    rw (next-of all i x l is)
-    (one-more (λ ts. TypesItems text sc before (statements_of ts)) (λ ts. TypesItems text sc (items_of (take i all ++ x ∷ [])) (statements_of ts))
-    (λ t. TypesItems text (behind_items text sc before) (more_items (item_of x) no_items) (more_statements (statement_of t) no_statements))
-    (FaultyItems text g b sc before) (FaultyItems text g b (behind_items text sc before) (more_items (item_of x) no_items))
-    (FaultyItems text g b sc (items_of (take i all ++ x ∷ []))) typed r one
-    (same-faults text g b sc (take i all) x) (λ ts t p q. typed-more text sc (take i all) x ts t p q) h a f e)
+    → IfOk r (MadeOf (both_of typed one) HasLast) → IfErr r (Stops (both_of typed one)) → ItemsSoFar text g b sc (take (i + 1) all) r
+one-so-far {text = text} g b {sc = sc} all i x l is h one made stops =
+    rw (next-of all i x l is) (answers-same (same-faults text g b sc (take i all) x) (answers-made HasLast (answers-both h one) made stops
+    (λ z v p e. rw e (typed-more text sc (take i all) x z.0.items z.1 p.0 p.1))))
 
 -- the scopes behind a block are those around it, and the locals of its items
 pub behind-around : (text : List ℕ) (sc : Scopes) (xs : Items) → (behind_items text sc xs).around ≡ sc.around
@@ -143,3 +135,13 @@ pub behind-locals : (text : List ℕ) (sc : Scopes) (xs : Items) → (behind_ite
 behind-locals text sc no_items = omega arith
 behind-locals text sc (more_items (declare k x v) rest) = let h = behind-locals text (with_local text sc k x) rest in omega (arith, h)
 behind-locals text sc (more_items (statement s) rest) = let h = behind-locals text (behind sc s) rest in omega (arith, h)
+
+-- the scopes behind a block
+pub behind-block : (text : List ℕ) {sc a b d : Scopes} (all : Items) → a ≡ within sc → b ≡ behind_items text a all → d ≡ outside b
+    → d ≡ behind sc (Tree.block all)
+behind-block text {sc = sc} all e f g =
+    g ∙ ap outside (f ∙ ap (λ (s : Scopes). behind_items text s all) e)
+    ∙ around (behind_items text (within sc) all) (behind-around text (within sc) all) (behind-locals text (within sc) all)
+  where
+    around : (s : Scopes) → s.around ≡ sc.inner ∷ sc.around → s.locals ≡ sc.locals + declared_in_all all → outside s ≡ behind sc (Tree.block all)
+    around s e f = rw (e, f) refl

@@ -1,13 +1,14 @@
 -- The first fault of two parts together.
-use Rattle.std.proofs.Common.{◌≡◌, ◌≤◌, ◌⊎◌, ℕ, Bool, true, false, Result, Ok, Err, IfOk, IfErr, inl, inr, refl, sym, subst, arith}
+use Rattle.std.proofs.Common.{◌≡◌, ◌≤◌, ◌⊎◌, ℕ, Bool, true, false, inl, inr, refl, sym, arith}
 use Rattle.std.proofs.lemmas.Bool.{ltb-true, eqb-true}
 use Rattle.std.proofs.Common.{nat_lt, nat_eq, ◌&&◌, ◌||◌, if◌then◌else◌}
 use Rattle.c_statements.specs.declared.fault.TypeFaultKind.{TypeFaultKind}
 use Rattle.c_statements.specs.declared.fault.TypeFault.{TypeFault}
 use Rattle.c_statements.specs.declared.fault.TypeStop.{TypeStop}
 use Rattle.c_statements.specs.declared.fault.TypeStop.TheVariants.{Fault, NoMemory}
-use Rattle.c_statements.specs.Faults.{number_of, Faults, IsNoLater, IsFirstFault, StopsAtFirst, HasNone, is_later, first_of, StopsBoth}
+use Rattle.c_statements.specs.Faults.{number_of, Faults, IsNoLater, IsFirstFault, StopsAtFirst, HasNone, is_later, first_of}
 
+-- the faults of two parts together
 abbrev pub Both : Faults → Faults → Faults
 Both p q k at = p k at ⊎ q k at
 
@@ -15,7 +16,7 @@ pub left-alone : (p q : Faults) (s : TypeStop) → StopsAtFirst p s → HasNone 
 left-alone p q (Fault f) h n = record { has = inl h.has; first = λ j m b. elim b [ inl x ↦ h.first j m x | inr y ↦ absurd (n j m y) ] }
 left-alone p q NoMemory h n = tt
 
-right-alone : (p q : Faults) (s : TypeStop) → HasNone p → StopsAtFirst q s → StopsAtFirst (Both p q) s
+pub right-alone : (p q : Faults) (s : TypeStop) → HasNone p → StopsAtFirst q s → StopsAtFirst (Both p q) s
 right-alone p q (Fault f) n h = record { has = inr h.has; first = λ j m b. elim b [ inl x ↦ absurd (n j m x) | inr y ↦ h.first j m y ] }
 right-alone p q NoMemory n h = tt
 
@@ -52,49 +53,11 @@ chosen p q a b true e h l =
 chosen p q a b false e h l =
     record { has = inl h.has; first = λ j m y. elim y [ inl z ↦ h.first j m z | inr z ↦ no-later _ _ _ _ _ _ (earlier-by a b _ _ _ refl refl refl e) (l.first j m z) ] }
 
-first-both : (p q : Faults) (a b : TypeStop) → StopsAtFirst p a → StopsAtFirst q b → StopsAtFirst (Both p q) (first_of a b)
+pub first-both : (p q : Faults) (a b : TypeStop) → StopsAtFirst p a → StopsAtFirst q b → StopsAtFirst (Both p q) (first_of a b)
 first-both p q (Fault a) (Fault b) h l = chosen p q a b (is_later a b) refl h l
 first-both p q (Fault a) NoMemory h l = tt
 first-both p q NoMemory b h l = tt
 
--- why two parts together have no answer, by each part's faults
-pub both-stop : {A B : Type 0} (p q : Faults) (a : Result A TypeStop) (b : Result B TypeStop) (s : TypeStop) → IfOk a (λ x. HasNone p)
-    → IfErr a (StopsAtFirst p) → IfOk b (λ x. HasNone q) → IfErr b (StopsAtFirst q)
-    → StopsBoth a b s → StopsAtFirst (Both p q) s
-both-stop p q (Ok x) (Ok y) s n h m l e = absurd e
-both-stop p q (Ok x) (Err b) s n h m l e = subst (StopsAtFirst (Both p q)) (sym e) (right-alone p q b n l)
-both-stop p q (Err a) (Ok y) s n h m l e = subst (StopsAtFirst (Both p q)) (sym e) (left-alone p q a h m)
-both-stop p q (Err a) (Err b) s n h m l e = subst (StopsAtFirst (Both p q)) (sym e) (first-both p q a b h l)
-
 -- two parts have no fault together if neither has one
 pub both-none : (p q : Faults) → HasNone p → HasNone q → HasNone (Both p q)
 both-none p q h l k at b = elim b [ inl x ↦ h k at x | inr y ↦ l k at y ]
-
-pub ok-at : {A : Type 0} (P : A → Type 0) (r : Result A TypeStop) (x : A) → r ≡ Ok x → IfOk r P → P x
-ok-at P r x e h = rw e at h
-
--- two sets with the same members
-pub record Same (p q : Faults) : Type 0 where
-  pub to : (k : TypeFaultKind) (at : ℕ) → p k at → q k at
-  pub from : (k : TypeFaultKind) (at : ℕ) → q k at → p k at
-
-pub same-none : (p q : Faults) → Same p q → HasNone p → HasNone q
-same-none p q s h k at x = h k at (s.from k at x)
-
-pub same-stop : (p q : Faults) (s : TypeStop) → Same p q → StopsAtFirst p s → StopsAtFirst q s
-same-stop p q (Fault f) s h = record { has = s.to _ _ h.has; first = λ j n x. h.first j n (s.from j n x) }
-same-stop p q NoMemory s h = tt
-
--- an answer whose faults are those of a set
-abbrev pub Tells : {A : Type 0} → Faults → Result A TypeStop → Type 0
-Tells faults r = IfOk r (λ x. HasNone faults) × IfErr r (StopsAtFirst faults)
-
-pub tells-same : {A : Type 0} (p q : Faults) (r : Result A TypeStop) → Same p q → Tells p r → Tells q r
-tells-same p q (Ok x) s h = (same-none p q s h.0, tt)
-tells-same p q (Err t) s h = (tt, same-stop p q t s h.1)
-
--- two parts and what they come to together
-pub tells-both : {A B C : Type 0} (p q : Faults) (a : Result A TypeStop) (b : Result B TypeStop) (c : Result C TypeStop) → Tells p a
-    → Tells q b → IfOk c (λ r. (x : A) × (y : B) × (a ≡ Ok x) × (b ≡ Ok y)) → IfErr c (StopsBoth a b) → Tells (Both p q) c
-tells-both p q a b (Ok r) h l o e = (both-none p q (ok-at (λ x. HasNone p) a o.0 o.2 h.0) (ok-at (λ x. HasNone q) b o.1 o.3 l.0), tt)
-tells-both p q a b (Err s) h l o e = (tt, both-stop p q a b s h.0 h.1 l.0 l.1 e)

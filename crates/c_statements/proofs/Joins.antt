@@ -1,39 +1,11 @@
--- Statements put together from their parts.
-use Rattle.std.proofs.Common.{◌≡◌, ◌+◌, ℕ, List, [], ◌∷◌, ◌++◌, Result, Ok, Err, IfOk, IfErr, inl, inr, refl, sym, subst, ap, ◌∙◌}
-use Rattle.std.specs.declared.vec.Vec.{Vec}
-use Rattle.std.specs.declared.alloc.Global.{Global}
-use Rattle.c_tree.specs.Tree as Tree
-use Rattle.c_tree.specs.Tree.{Items}
+-- What is told of parts, put together.
+use Rattle.std.proofs.Common.{◌≡◌, ℕ, Result, Ok, Err, IfOk, IfErr, inl, inr, refl}
+use Rattle.c_statements.specs.declared.fault.TypeFaultKind.{TypeFaultKind}
 use Rattle.c_statements.specs.declared.fault.TypeStop.{TypeStop}
-use Rattle.c_typed.specs.declared.tree.TypedStatement.{TypedStatement, Block}
-use Rattle.c_statements.specs.Faults.{Answers, Faults, StopsAtFirst, HasNone, StopsBoth, StopsTwo, both_of, first_of}
-use Rattle.c_statements.specs.Made.{MadeOfTwo, MadeOfThree}
-use Rattle.c_statements.specs.Names.{Scopes, within, outside, behind, behind_items, declared_in_all}
-use Rattle.c_typed.specs.Shape.{statement_of, statements_of}
-use Rattle.c_typed.specs.Trees.{block, more_statements, no_statements}
-use Rattle.c_statements.proofs.Firsts.{Both, Tells, both-stop, both-none, left-alone, ok-at}
-use Rattle.c_statements.proofs.BlockItems.{behind-around, behind-locals}
-use Rattle.c_typed.proofs.Shapes.{block-is}
-
--- the scopes behind a block
-pub behind-block : (text : List ℕ) (sc a b d : Scopes) (all : Items) → a ≡ within sc → b ≡ behind_items text a all → d ≡ outside b
-    → d ≡ behind sc (Tree.block all)
-behind-block text sc a b d all e f g =
-    g ∙ ap outside (f ∙ ap (λ (s : Scopes). behind_items text s all) e)
-    ∙ around (behind_items text (within sc) all) (behind-around text (within sc) all) (behind-locals text (within sc) all)
-  where
-    around : (s : Scopes) → s.around ≡ sc.inner ∷ sc.around → s.locals ≡ sc.locals + declared_in_all all → outside s ≡ behind sc (Tree.block all)
-    around s e f = rw (e, f) refl
-
-pub if-ok : {A : Type 0} (P Q : A → Type 0) (r : Result A TypeStop) → ((x : A) → P x → Q x) → IfOk r P → IfOk r Q
-if-ok P Q (Ok x) f h = f x h
-if-ok P Q (Err s) f h = tt
-
-pub tells : {A : Type 0} {P : A → Type 0} {p : Faults} {r : Result A TypeStop} → Answers P p r → Tells p r
-tells h = (h.none, h.err)
-
-pub answers : {A : Type 0} {P : A → Type 0} {p : Faults} {r : Result A TypeStop} → IfOk r P → Tells p r → Answers P p r
-answers h l = record { ok = h; none = l.0; err = l.1 }
+use Rattle.c_statements.specs.declared.fault.TypeStop.TheVariants.{Fault, NoMemory}
+use Rattle.c_statements.specs.Faults.{Answers, Faults, StopsAtFirst, HasNone, both_of}
+use Rattle.c_statements.specs.Made.{MadeOf, Stops}
+use Rattle.c_statements.proofs.Firsts.{Both, left-alone, right-alone, first-both, both-none}
 
 -- what is told of a part that has an answer
 pub answers-ok : {A : Type 0} {IsRight : A → Type 0} {faults : Faults} {x : A} → IsRight x → HasNone faults → Answers IsRight faults (Ok x)
@@ -42,69 +14,75 @@ answers-ok right none = record { ok = right; none = none; err = tt }
 -- what is told of a part that has none
 pub answers-err : {A : Type 0} {IsRight : A → Type 0} {faults : Faults} {r : Result A TypeStop} (s : TypeStop) → r ≡ Err s → StopsAtFirst faults s
     → Answers IsRight faults r
-answers-err {IsRight = IsRight} {faults = faults} s e first = subst (Answers IsRight faults) (sym e) (record { ok = tt; none = tt; err = first })
+answers-err s e first = rw e (record { ok = tt; none = tt; err = first })
+
+-- what is told of a part of which no more is known
+pub answers-of : {A : Type 0} {faults : Faults} {r : Result A TypeStop} → IfOk r (λ _. HasNone faults) → IfErr r (StopsAtFirst faults)
+    → Answers (λ _. Unit {0}) faults r
+answers-of {r = Ok x} none first = answers-ok tt none
+answers-of {r = Err s} none first = record { ok = tt; none = tt; err = first }
 
 -- what is known of an answer may be said in another way
 pub answers-as : {A : Type 0} {P Q : A → Type 0} {p : Faults} {r : Result A TypeStop} → ((x : A) → P x → Q x) → Answers P p r → Answers Q p r
 answers-as {r = Ok x} f h = record { ok = f x h.ok; none = h.none; err = tt }
 answers-as {r = Err s} f h = record { ok = tt; none = tt; err = h.err }
 
--- two answers together, and one of them beside an answer without faults
-pub tells-both-of : {A B : Type 0} (p q : Faults) (a : Result A TypeStop) (b : Result B TypeStop) → Tells p a → Tells q b → Tells (Both p q) (both_of a b)
-tells-both-of {A} {B} p q (Ok x) (Ok y) h l = (both-none p q h.0 l.0, tt)
-tells-both-of {A} {B} p q (Ok x) (Err t) h l = (tt, both-stop {A = A} {B = B} p q (Ok x) (Err t) t h.0 h.1 l.0 l.1 refl)
-tells-both-of {A} {B} p q (Err s) (Ok y) h l = (tt, both-stop {A = A} {B = B} p q (Err s) (Ok y) s h.0 h.1 l.0 l.1 refl)
-tells-both-of {A} {B} p q (Err s) (Err t) h l = (tt, both-stop {A = A} {B = B} p q (Err s) (Err t) (first_of s t) h.0 h.1 l.0 l.1 refl)
+-- and it is known which answer it is
+pub answers-is : {A : Type 0} {P : A → Type 0} {p : Faults} {r : Result A TypeStop} → Answers P p r → Answers (λ x. P x × (r ≡ Ok x)) p r
+answers-is {r = Ok x} h = record { ok = (h.ok, refl); none = h.none; err = tt }
+answers-is {r = Err s} h = record { ok = tt; none = tt; err = h.err }
 
-pub tells-left : {A B : Type 0} (p : Faults) (a : Result A TypeStop) (y : B) → Tells p a → Tells p (both_of a (Ok y))
-tells-left p (Ok x) y h = h
-tells-left p (Err s) y h = h
+-- two sets with the same members
+pub record Same (p q : Faults) : Type 0 where
+  pub to : (k : TypeFaultKind) (at : ℕ) → p k at → q k at
+  pub from : (k : TypeFaultKind) (at : ℕ) → q k at → p k at
 
-pub tells-right : {A B : Type 0} (p : Faults) (x : A) (b : Result B TypeStop) → Tells p b → Tells p (both_of (Ok x) b)
-tells-right p x (Ok y) h = h
-tells-right p x (Err s) h = h
+pub answers-same : {A : Type 0} {P : A → Type 0} {p q : Faults} {r : Result A TypeStop} → Same p q → Answers P p r → Answers P q r
+answers-same {r = Ok x} s h = record { ok = h.ok; none = λ k at w. h.none k at (s.from k at w); err = tt }
+answers-same {r = Err (Fault f)} s h =
+    record { ok = tt; none = tt; err = record { has = s.to _ _ h.err.has; first = λ j n w. h.err.first j n (s.from j n w) } }
+answers-same {r = Err NoMemory} s h = record { ok = tt; none = tt; err = tt }
 
 -- faults beside none are those faults
-pub tells-alone : {A : Type 0} (p : Faults) (r : Result A TypeStop) → Tells p r → Tells (Both p (λ k at. ⊥)) r
-tells-alone p (Ok x) h = (both-none p (λ k at. ⊥) h.0 (λ k at n. n), tt)
-tells-alone p (Err s) h = (tt, left-alone p (λ k at. ⊥) s h.1 (λ k at n. n))
+pub answers-alone : {A : Type 0} {P : A → Type 0} {p : Faults} {r : Result A TypeStop} → Answers P p r → Answers P (Both p (λ k at. ⊥)) r
+answers-alone h = answers-same (record { to = λ k at w. inl w; from = λ k at w. elim w [ inl x ↦ x | inr y ↦ absurd y ] }) h
 
-stops-two : {A B : Type 0} (p q : Faults) (a : Result A TypeStop) (b : Result B TypeStop) (s : TypeStop) → Tells p a → Tells q b
-    → StopsTwo a b s → StopsAtFirst (Both p q) s
-stops-two p q a b s h l (inl e) = subst (StopsAtFirst (Both p q)) (sym e) tt
-stops-two p q a b s h l (inr e) = both-stop p q a b s h.0 h.1 l.0 l.1 e
+-- two parts together, where the second is known unless memory was refused for the first
+pub answers-next : {A B : Type 0} {P : A → Type 0} {Q : B → Type 0} {p q : Faults} {a : Result A TypeStop} {b : Result B TypeStop}
+    → Answers P p a → ((a ≡ Err NoMemory → ⊥) → Answers Q q b) → Answers (λ z. P z.0 × Q z.1) (Both p q) (both_of a b)
+answers-next {p = p} {q = q} {a = Ok x} {b = Ok y} h l =
+    let m = l (λ e. cc) in record { ok = (h.ok, m.ok); none = both-none p q h.none m.none; err = tt }
+answers-next {p = p} {q = q} {a = Ok x} {b = Err t} h l = record { ok = tt; none = tt; err = right-alone p q t h.none (l (λ e. cc)).err }
+answers-next {a = Err NoMemory} {b = Ok y} h l = record { ok = tt; none = tt; err = tt }
+answers-next {a = Err NoMemory} {b = Err t} h l = record { ok = tt; none = tt; err = tt }
+answers-next {p = p} {q = q} {a = Err (Fault f)} {b = Ok y} h l =
+    record { ok = tt; none = tt; err = left-alone p q (Fault f) h.err (l (λ e. cc)).none }
+answers-next {p = p} {q = q} {a = Err (Fault f)} {b = Err t} h l =
+    record { ok = tt; none = tt; err = first-both p q (Fault f) t h.err (l (λ e. cc)).err }
 
--- what is made of answers has the faults of their parts
-pub tells-two : {A B D : Type 0} (p q : Faults) (a : Result A TypeStop) (b : Result B TypeStop) (E : A → B → D → Type 0)
-    (r : Result D TypeStop) → Tells p a → Tells q b
-    → IfOk r (MadeOfTwo a b E) → IfErr r (StopsTwo a b) → Tells (Both p q) r
-tells-two p q a b E (Ok d) h l o e = (both-none p q (ok-at (λ x. HasNone p) a o.0 o.2 h.0) (ok-at (λ x. HasNone q) b o.1 o.3 l.0), tt)
-tells-two p q a b E (Err s) h l o e = (tt, stops-two p q a b s h l e)
+pub answers-both : {A B : Type 0} {P : A → Type 0} {Q : B → Type 0} {p q : Faults} {a : Result A TypeStop} {b : Result B TypeStop}
+    → Answers P p a → Answers Q q b → Answers (λ z. P z.0 × Q z.1) (Both p q) (both_of a b)
+answers-both h l = answers-next h (λ _. l)
 
-pub tells-three : {A B C D : Type 0} (p q : Faults) (a : Result A TypeStop) (b : Result B TypeStop) (c : Result C TypeStop)
-    (E : A → B → C → D → Type 0) (r : Result D TypeStop)
-    → Tells p a → Tells q (both_of b c) → IfOk r (MadeOfThree a b c E) → IfErr r (StopsTwo a (both_of b c)) → Tells (Both p q) r
-tells-three p q a b c E (Ok d) h l o e =
-    (both-none p q (ok-at (λ x. HasNone p) a o.0 o.3 h.0) (ok-at (λ x. HasNone q) (both_of b c) (o.1, o.2) (rw (o.4, o.5) refl) l.0), tt)
-tells-three p q a b c E (Err s) h l o e = (tt, stops-two p q a (both_of b c) s h l e)
+-- a part beside an answer without faults
+pub answers-left : {A B : Type 0} {P : A → Type 0} {p : Faults} {a : Result A TypeStop} {y : B} → Answers P p a
+    → Answers (λ z. P z.0 × (z.1 ≡ y)) p (both_of a (Ok y))
+answers-left {a = Ok x} h = record { ok = (h.ok, refl); none = h.none; err = tt }
+answers-left {a = Err s} h = record { ok = tt; none = tt; err = h.err }
 
--- the second of two parts
-pub second-ok : {A B : Type 0} (P : B → Type 0) (a : Result A TypeStop) (b r : Result B TypeStop) → IfOk b P
-    → IfOk r (λ y. (x : A) × (a ≡ Ok x) × (b ≡ Ok y)) → IfOk r P
-second-ok P a b (Ok y) h o = ok-at P b y o.2 h
-second-ok P a b (Err s) h o = tt
+pub answers-right : {A B : Type 0} {Q : B → Type 0} {q : Faults} {x : A} {b : Result B TypeStop} → Answers Q q b
+    → Answers (λ z. (z.0 ≡ x) × Q z.1) q (both_of (Ok x) b)
+answers-right {b = Ok y} h = record { ok = (refl, h.ok); none = h.none; err = tt }
+answers-right {b = Err s} h = record { ok = tt; none = tt; err = h.err }
 
-pub tells-second : {A B : Type 0} (p q : Faults) (a : Result A TypeStop) (b r : Result B TypeStop) → Tells p a → Tells q b
-    → IfOk r (λ y. (x : A) × (a ≡ Ok x) × (b ≡ Ok y)) → IfErr r (StopsBoth a b) → Tells (Both p q) r
-tells-second p q a b (Ok y) h l o e = (both-none p q (ok-at (λ x. HasNone p) a o.0 o.1 h.0) (ok-at (λ x. HasNone q) b y o.2 l.0), tt)
-tells-second p q a b (Err s) h l o e = (tt, both-stop p q a b s h.0 h.1 l.0 l.1 e)
+-- what is made of parts has their faults
+pub answers-kept : {A D : Type 0} {P : A → Type 0} {p : Faults} {parts : Result A TypeStop} {r : Result D TypeStop} (IsMade : A → D → Type 0)
+    → Answers P p parts → IfOk r (MadeOf parts IsMade) → IfErr r (Stops parts) → Answers (λ d. (x : A) × P x × IsMade x d) p r
+answers-kept {r = Ok d} IsMade h made stops = let l = rw made.1 at h in record { ok = (made.0, l.ok, made.2); none = l.none; err = tt }
+answers-kept {r = Err s} IsMade h made (inl e) = record { ok = tt; none = tt; err = rw e tt }
+answers-kept {r = Err s} IsMade h made (inr e) = let l = rw e at h in record { ok = tt; none = tt; err = l.err }
 
--- a block of two statements
-pub block-of-two : (v : Vec TypedStatement Global) (first second : TypedStatement) → v.items ≡ first ∷ second ∷ []
-    → statement_of (Block v) ≡ block (more_statements (statement_of first) (more_statements (statement_of second) no_statements))
-block-of-two v first second whole = block-is v ∙ ap (λ (xs : List TypedStatement). block (statements_of xs)) whole
-
--- a list of two, one after the other
-pub one-then-another : {T : Type 0} {none one all : List T} {x y : T} → none ≡ [] → one ≡ none ++ x ∷ [] → all ≡ one ++ y ∷ []
-    → all ≡ x ∷ y ∷ []
-one-then-another {x = x} {y = y} e f g = g ∙ ap (λ l. l ++ y ∷ []) (f ∙ ap (λ l. l ++ x ∷ []) e)
+pub answers-made : {A D : Type 0} {P : A → Type 0} {Q : D → Type 0} {p : Faults} {parts : Result A TypeStop} {r : Result D TypeStop}
+    (IsMade : A → D → Type 0) → Answers P p parts → IfOk r (MadeOf parts IsMade) → IfErr r (Stops parts)
+    → ((x : A) (d : D) → P x → IsMade x d → Q d) → Answers Q p r
+answers-made IsMade h made stops f = answers-as (λ d k. f k.0 d k.1 k.2) (answers-kept IsMade h made stops)

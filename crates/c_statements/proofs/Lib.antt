@@ -2,13 +2,10 @@ pub mod Firsts
 pub mod Uses
 pub mod Once
 pub mod Calls
-pub mod Joined
 pub mod Arguments
 pub mod CallsTyped
 pub mod Declarators
 pub mod BlockItems
 pub mod Weights
 pub mod Joins
-pub mod WholeExpressions
-pub mod WholeStatements
 pub mod OnceStatements

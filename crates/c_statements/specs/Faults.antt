@@ -72,17 +72,6 @@ both_of (Ok x) (Err b) = Err b
 both_of (Err a) (Ok y) = Err a
 both_of (Err a) (Err b) = Err (first_of a b)
 
--- why two parts together have no answer
-abbrev pub StopsBoth : {A B : Type 0} → Result A TypeStop → Result B TypeStop → TypeStop → Type 0
-StopsBoth (Ok x) (Ok y) s = ⊥
-StopsBoth (Ok x) (Err b) s = s ≡ b
-StopsBoth (Err a) (Ok y) s = s ≡ a
-StopsBoth (Err a) (Err b) s = s ≡ first_of a b
-
 -- the fault that is told of a text: the first of the set, or lack of memory at the text's length
 abbrev pub IsTypeFault : List ℕ → Faults → TypeFault → Type 0
 IsTypeFault text faults f = ((f.kind ≡ WantOfMemory) × (f.at ≡ length text)) ⊎ IsFirstFault faults f.kind f.at
-
--- why nothing is made of two answers: lack of memory, or the first of their faults
-abbrev pub StopsTwo : {A B : Type 0} → Result A TypeStop → Result B TypeStop → TypeStop → Type 0
-StopsTwo a b s = (s ≡ NoMemory) ⊎ StopsBoth a b s

@@ -1,14 +1,10 @@
 //! Typed statements from what the typing of their parts answered.
 
-ghost use Rattle.std.specs.Prelude.{◌≡◌, ◌⊎◌, IfOk, IfErr, Ok, Err, box_value};
-ghost use Rattle.c_statements.specs.declared.fault.TypeStop.TheVariants.{NoMemory};
-ghost use Rattle.c_statements.specs.Faults.{StopsBoth, StopsTwo, both_of};
-ghost use Rattle.c_statements.specs.Made.{IsIf, IsLoop, IsSequence, MadeOfThree, MadeOfTwo};
-ghost use Rattle.c_typed.specs.Shape.{statement_of, typed_expression_of};
-ghost use Rattle.c_typed.specs.Trees.{store};
+ghost use Rattle.std.specs.Prelude.{◌≡◌, IfOk, IfErr, Err, box_value};
+ghost use Rattle.c_statements.specs.Faults.{both_of};
+ghost use Rattle.c_statements.specs.Made.{IsIf, IsLoop, IsSecond, IsSequence, IsStore, MadeOf, Stops};
 
 use crate::fault::{TypeStop, both};
-use crate::simple::with_one;
 use c_tokens::IntegerType;
 use c_typed::{TypedExpression, TypedStatement};
 use std::alloc::{AllocError, AllocFailed, Global};
@@ -18,8 +14,8 @@ pub fn second<A: Drop, B: Drop>(
     a: Result<A, TypeStop>,
     b: Result<B, TypeStop>,
 ) -> Result<B, TypeStop>
-    ensures ok { IfOk result (λ y. (x : _) × (a ≡ Ok x) × (b ≡ Ok y)) }
-    ensures err { IfErr result (StopsBoth a b) }
+    ensures ok { IfOk result (MadeOf (both_of a b) IsSecond) }
+    ensures err { IfErr result (λ s. both_of a b ≡ Err s) }
 {
     let (_, part) = both(a, b)?;
     Ok(part)
@@ -31,24 +27,18 @@ pub fn store(
     index: Result<TypedExpression, TypeStop>,
     value: Result<TypedExpression, TypeStop>,
 ) -> Result<TypedStatement, TypeStop>
-    ensures ok { IfOk result (MadeOfThree array index value (λ a i v t. statement_of t
-        ≡ store a.0 (typed_expression_of i) (typed_expression_of v))) }
-    ensures err { IfErr result (StopsBoth array (both_of index value)) }
+    ensures ok { IfOk result (MadeOf (both_of array (both_of index value)) IsStore) }
+    ensures err { IfErr result (λ s. both_of array (both_of index value) ≡ Err s) }
 {
     let ((number, _), (index, value)) = both(array, both(index, value))?;
     Ok(TypedStatement::Store(number, index, value))
 }
 
 /// Returns two parts in boxes.
-pub fn boxes<T: Drop>(
-    alloc: Global,
-    first: Result<T, TypeStop>,
-    second: Result<T, TypeStop>,
-) -> Result<(Box<T>, Box<T>), TypeStop>
-    ensures ok { IfOk result (λ r. both_of first second ≡ Ok (box_value r.0, box_value r.1)) }
-    ensures err { IfErr result (λ s. (s ≡ NoMemory) ⊎ (both_of first second ≡ Err s)) }
+fn boxes<T: Drop>(alloc: Global, parts: (T, T)) -> Result<(Box<T>, Box<T>), AllocError>
+    ensures { IfOk result (λ r. parts ≡ (box_value r.0, box_value r.1)) }
 {
-    let (first, second) = both(first, second)?;
+    let (first, second) = parts;
     Ok((Box::new(alloc, first)?, Box::new(alloc, second)?))
 }
 
@@ -59,10 +49,11 @@ pub fn if_else(
     first: Result<TypedStatement, TypeStop>,
     second: Result<TypedStatement, TypeStop>,
 ) -> Result<TypedStatement, TypeStop>
-    ensures ok { IfOk result (MadeOfThree condition first second IsIf) }
-    ensures err { IfErr result (StopsTwo condition (both_of first second)) }
+    ensures ok { IfOk result (MadeOf (both_of condition (both_of first second)) IsIf) }
+    ensures err { IfErr result (Stops (both_of condition (both_of first second))) }
 {
-    let (condition, (first, second)) = both(condition, boxes(alloc, first, second))?;
+    let (condition, parts) = both(condition, both(first, second))?;
+    let (first, second) = boxes(alloc, parts)?;
     Ok(TypedStatement::If(condition, first, second))
 }
 
@@ -73,10 +64,11 @@ pub fn loop_of(
     last: Result<TypedStatement, TypeStop>,
     body: Result<TypedStatement, TypeStop>,
 ) -> Result<TypedStatement, TypeStop>
-    ensures ok { IfOk result (MadeOfThree condition last body IsLoop) }
-    ensures err { IfErr result (StopsTwo condition (both_of last body)) }
+    ensures ok { IfOk result (MadeOf (both_of condition (both_of last body)) IsLoop) }
+    ensures err { IfErr result (Stops (both_of condition (both_of last body))) }
 {
-    let (condition, (last, body)) = both(condition, boxes(alloc, last, body))?;
+    let (condition, parts) = both(condition, both(last, body))?;
+    let (last, body) = boxes(alloc, parts)?;
     Ok(TypedStatement::Loop(condition, last, body))
 }
 
@@ -86,9 +78,12 @@ pub fn sequence(
     first: Result<TypedStatement, TypeStop>,
     second: Result<TypedStatement, TypeStop>,
 ) -> Result<TypedStatement, TypeStop>
-    ensures ok { IfOk result (MadeOfTwo first second IsSequence) }
-    ensures err { IfErr result (StopsTwo first second) }
+    ensures ok { IfOk result (MadeOf (both_of first second) IsSequence) }
+    ensures err { IfErr result (Stops (both_of first second)) }
 {
-    let all = with_one(with_one(Ok(Vec::new(alloc)), first), second)?;
+    let (first, second) = both(first, second)?;
+    let mut all = Vec::with_capacity(alloc, 2)?;
+    all.push(first)?;
+    all.push(second)?;
     Ok(TypedStatement::Block(all))
 }

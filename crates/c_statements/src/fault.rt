@@ -1,6 +1,7 @@
 //! The faults that types find, with their places.
-ghost use Rattle.std.specs.Prelude.{◌≡◌, ◌≢◌, IfOk, IfErr, Ok, Err, Some};
-ghost use Rattle.c_statements.specs.Faults.{number_of, kind_name, fault_text, is_later, first_of, both_of, StopsBoth};
+ghost use Rattle.std.specs.Prelude.{◌≡◌, ◌≢◌, IfOk, IfErr, Err, Some, ⊤};
+ghost use Rattle.c_statements.specs.Faults.{number_of, kind_name, fault_text, is_later, first_of, both_of};
+ghost use Rattle.c_statements.specs.Made.{MadeOf};
 ghost use Rattle.c_statements.specs.declared.fault.TypeStop.TheVariants.{NoMemory};
 
 use std::alloc::{AllocError, AllocFailed};
@@ -122,9 +123,7 @@ pub fn both<A: Drop, B: Drop>(
     a: Result<A, TypeStop>,
     b: Result<B, TypeStop>,
 ) -> Result<(A, B), TypeStop>
-    ensures ok { IfOk result (λ r. (a ≡ Ok r.0) × (b ≡ Ok r.1)) }
-    ensures err { IfErr result (StopsBoth a b) }
-    ensures is { result ≡ both_of a b }
+    ensures { result ≡ both_of a b }
 {
     match (a, b) {
         (Ok(left), Ok(right)) => Ok((left, right)),
@@ -136,8 +135,8 @@ pub fn both<A: Drop, B: Drop>(
 
 /// Returns the faults of two parts that have no answer.
 pub fn either(a: Result<(), TypeStop>, b: Result<(), TypeStop>) -> Result<(), TypeStop>
-    ensures ok { IfOk result (λ r. (a ≡ Ok tt) × (b ≡ Ok tt)) }
-    ensures err { IfErr result (StopsBoth a b) }
+    ensures ok { IfOk result (MadeOf (both_of a b) (λ _ _. ⊤)) }
+    ensures err { IfErr result (λ s. both_of a b ≡ Err s) }
 {
     both(a, b)?;
     Ok(())

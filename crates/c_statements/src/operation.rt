@@ -1,9 +1,8 @@
 //! Typed expressions from what the typing of their operands answered.
 
-ghost use Rattle.std.specs.Prelude.{◌≡◌, ◌⊎◌, IfOk, IfErr, Err};
-ghost use Rattle.c_statements.specs.declared.fault.TypeStop.TheVariants.{NoMemory};
-ghost use Rattle.c_statements.specs.Faults.{StopsTwo, both_of};
-ghost use Rattle.c_statements.specs.Made.{IsBinary, IsConditional, IsElement, IsUnary, MadeOfThree, MadeOfTwo};
+ghost use Rattle.std.specs.Prelude.{◌≡◌, IfOk, IfErr};
+ghost use Rattle.c_statements.specs.Faults.{both_of};
+ghost use Rattle.c_statements.specs.Made.{IsBinary, IsConditional, IsElement, IsUnary, MadeOf, Stops};
 ghost use Rattle.c_typed.specs.Trees.{common_type, operation_type, prefix_type};
 
 use crate::fault::{TypeStop, both};
@@ -50,8 +49,8 @@ pub fn element(
     array: Result<(usize, IntegerType), TypeStop>,
     index: Result<TypedExpression, TypeStop>,
 ) -> Result<TypedExpression, TypeStop>
-    ensures ok { IfOk result (MadeOfTwo array index IsElement) }
-    ensures err { IfErr result (StopsTwo array index) }
+    ensures ok { IfOk result (MadeOf (both_of array index) IsElement) }
+    ensures err { IfErr result (Stops (both_of array index)) }
 {
     let ((number, integer_type), index) = both(array, index)?;
     Ok(TypedExpression::Element(integer_type, Box::new(alloc, (number, index))?))
@@ -63,8 +62,8 @@ pub fn unary(
     operator: UnaryOp,
     operand: Result<TypedExpression, TypeStop>,
 ) -> Result<TypedExpression, TypeStop>
-    ensures ok { IfOk result (IsUnary operator operand) }
-    ensures err { IfErr result (λ s. (s ≡ NoMemory) ⊎ (operand ≡ Err s)) }
+    ensures ok { IfOk result (MadeOf operand (IsUnary operator)) }
+    ensures err { IfErr result (Stops operand) }
 {
     let operand = operand?;
     let integer_type = prefix(operator, operand.integer_type());
@@ -78,8 +77,8 @@ pub fn binary(
     left: Result<TypedExpression, TypeStop>,
     right: Result<TypedExpression, TypeStop>,
 ) -> Result<TypedExpression, TypeStop>
-    ensures ok { IfOk result (MadeOfTwo left right (IsBinary operator)) }
-    ensures err { IfErr result (StopsTwo left right) }
+    ensures ok { IfOk result (MadeOf (both_of left right) (IsBinary operator)) }
+    ensures err { IfErr result (Stops (both_of left right)) }
 {
     let operands = Box::new(alloc, both(left, right)?)?;
     let (left, right) = &*operands;
@@ -94,8 +93,8 @@ pub fn conditional(
     yes: Result<TypedExpression, TypeStop>,
     no: Result<TypedExpression, TypeStop>,
 ) -> Result<TypedExpression, TypeStop>
-    ensures ok { IfOk result (MadeOfThree test yes no IsConditional) }
-    ensures err { IfErr result (StopsTwo test (both_of yes no)) }
+    ensures ok { IfOk result (MadeOf (both_of test (both_of yes no)) IsConditional) }
+    ensures err { IfErr result (Stops (both_of test (both_of yes no))) }
 {
     let (test, (yes, no)) = both(test, both(yes, no))?;
     let integer_type = common(yes.integer_type(), no.integer_type());

@@ -1,9 +1,9 @@
 //! Types of simple statements: assignments and calls.
-ghost use Rattle.std.specs.Prelude.{◌≡◌, ◌++◌, ◌∷◌, [], ◌⊎◌, IfOk, IfErr, Ok, is_some};
+ghost use Rattle.std.specs.Prelude.{IfOk, IfErr, is_some};
 ghost use Rattle.c_tree.specs.Shape.{expressions_of, maybe_expression_of, call_of, value_tree, maybe_value_tree, simple_of};
 ghost use Rattle.c_tree.specs.Shape.{maybe_simple_of};
-ghost use Rattle.c_statements.specs.declared.fault.TypeStop.TheVariants.{NoMemory};
-ghost use Rattle.c_statements.specs.Faults.{Answers, StopsBoth};
+ghost use Rattle.c_statements.specs.Faults.{Answers, both_of};
+ghost use Rattle.c_statements.specs.Made.{HasLast, MadeOf, Stops};
 ghost use Rattle.c_statements.specs.Shape.{environment_of};
 ghost use Rattle.c_typed.specs.Shape.{typed_expression_of, typed_expressions_of, statement_of};
 ghost use Rattle.c_statements.specs.Statements.{FaultyAll, FaultyMaybe, FaultyCall, FaultyValue, FaultyFirst, FaultySimple, FaultyPart};
@@ -27,8 +27,8 @@ pub fn with_one<T: Drop>(
     all: Result<Vec<T>, TypeStop>,
     one: Result<T, TypeStop>,
 ) -> Result<Vec<T>, TypeStop>
-    ensures ok { IfOk result (λ v. (xs : _) × (x : _) × (all ≡ Ok xs) × (one ≡ Ok x) × (v.items ≡ xs.items ++ x ∷ [])) }
-    ensures err { IfErr result (λ s. (s ≡ NoMemory) ⊎ StopsBoth all one s) }
+    ensures ok { IfOk result (MadeOf (both_of all one) HasLast) }
+    ensures err { IfErr result (Stops (both_of all one)) }
 {
     let (mut all, last) = both(all, one)?;
     all.push(last)?;

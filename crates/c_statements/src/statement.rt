@@ -38,9 +38,7 @@ pub struct Context<'a> {
 
 /// Returns a jump, if it stands in a loop; if not it is a fault, at its keyword.
 fn jump<T: Drop>(in_loop: bool, at: usize, typed: T) -> Result<T, TypeStop>
-    ensures ok { IfOk result (λ t. t ≡ typed) }
-    ensures none { IfOk result (λ _. HasNone (FaultyJump in_loop at)) }
-    ensures err { IfErr result (StopsAtFirst (FaultyJump in_loop at)) }
+    ensures { Answers (λ t. t ≡ typed) (FaultyJump in_loop at) result }
 {
     if in_loop {
         return Ok(typed);

@@ -1,5 +1,5 @@
 -- Declarations at file scope with one more at the end.
-use Rattle.std.proofs.Common.{◌≡◌, ◌⊎◌, ◌+◌, ◌<◌, ◌≤◌, arith, ℕ, List, [], ◌∷◌, ◌++◌, length, get_or, take, Result, Ok, Err, IfOk, IfErr}
+use Rattle.std.proofs.Common.{◌≡◌, ◌⊎◌, ◌+◌, ◌<◌, ◌≤◌, arith, ℕ, List, [], ◌∷◌, ◌++◌, length, get_or, take, Result, Ok, IfOk, IfErr}
 use Rattle.std.proofs.Common.{inl, inr, refl, sym, ap, ◌∙◌, append-nil}
 use Rattle.std.proofs.lemmas.List.{take_more}
 use Rattle.c_tree.specs.declared.tree.Declaration.{Declaration}
@@ -10,19 +10,19 @@ use Rattle.c_tree.specs.Tree as Tree
 use Rattle.c_tokens.specs.declared.token.Identifier.{Identifier}
 use Rattle.c_statements.specs.declared.fault.TypeFaultKind.{TypeFaultKind}
 use Rattle.c_statements.specs.declared.fault.TypeStop.{TypeStop}
-use Rattle.c_statements.specs.declared.fault.TypeStop.TheVariants.{NoMemory}
 use Rattle.c_statements.specs.declared.names.Named.{Named}
 use Rattle.c_typed.specs.declared.tree.Function as OneFunction
 use Rattle.c_typed.specs.declared.tree.Global as OneGlobal
-use Rattle.c_statements.specs.Faults.{Answers, Faults, HasNone, StopsAtFirst, StopsBoth}
+use Rattle.c_statements.specs.Faults.{Answers, both_of}
+use Rattle.c_statements.specs.Made.{MadeOf, Stops}
 use Rattle.c_statements.specs.Names.{Bindings, Scopes, with_declared}
 use Rattle.c_typed.specs.Shape.{function_of, functions_of}
 use Rattle.c_typed.specs.Trees.{TypedFunction}
-use Rattle.c_statements.proofs.Firsts.{Both, both-none, both-stop, ok-at, same-stop}
+use Rattle.c_statements.proofs.Joins.{answers-both, answers-made, answers-same}
 use Rattle.c_types.specs.declared.program.Declared.{Declared}
-use Rattle.c_types.specs.declared.program.Declared.TheVariants.{Variable, Function}
+use Rattle.c_types.specs.declared.program.Declared.TheVariants.{Function}
 use Rattle.c_types.specs.declared.program.Parts.{Parts}
-use Rattle.c_types.specs.Files.{AreParts, AreTyped, IsFunction, IsWith, declared_of}
+use Rattle.c_types.specs.Files.{AreParts, AreTyped, HasDeclared, IsFunction, declared_of}
 use Rattle.c_types.specs.Programs.{Counts, File, FaultyBody, FaultyDeclaration, FaultyDeclarations, FaultyName, TypedDeclaration}
 use Rattle.c_types.specs.Programs.{TypesDeclaration, TypesDeclarations, a_function, a_global, after, after_all, all_declared}
 use Rattle.c_types.specs.Programs.{function_typed, functions_in, globals_in, more_declared, name_of, named_by, counts_after}
@@ -34,14 +34,12 @@ pub function-typed : (text : List ℕ) (f : File) (names : Bindings) (d : Functi
 function-typed text f names d t e h = let l = rw (← e) at h in rw l.is (function_typed l.types)
 
 -- the name of a declaration and what follows it together
-pub declaration-stop : {A B : Type 0} (text : List ℕ) (f : File) (d : Tree.Declaration) (x : Identifier) (m : Named) (old new : Scopes)
-    (a : Result A TypeStop) (b : Result B TypeStop) (s : TypeStop) → old.inner ≡ f.names → new ≡ with_declared text old x m
-    → x ≡ name_of d → m ≡ named_by f.counts d → IfOk a (λ y. HasNone (FaultyName text f d)) → IfErr a (StopsAtFirst (FaultyName text f d))
-    → IfOk b (λ y. HasNone (FaultyBody text new.inner d))
-    → IfErr b (StopsAtFirst (FaultyBody text new.inner d)) → StopsBoth a b s → StopsAtFirst (FaultyDeclaration text f d) s
-declaration-stop text f d x m old new a b s o e i j n h k l t =
-    let there : new.inner ≡ (after text f d).names = rw (e, i, j, o) in
-    rw there at (both-stop (FaultyName text f d) (FaultyBody text new.inner d) a b s n h k l t)
+pub declaration-told : {A B : Type 0} {P : A → Type 0} {Q : B → Type 0} {text : List ℕ} {f : File} {d : Tree.Declaration} {x : Identifier} {m : Named}
+    {old new : Scopes} {a : Result A TypeStop} {b : Result B TypeStop} → old.inner ≡ f.names → new ≡ with_declared text old x m → x ≡ name_of d
+    → m ≡ named_by f.counts d → Answers P (FaultyName text f d) a → Answers Q (FaultyBody text new.inner d) b
+    → Answers (λ z. P z.0 × Q z.1) (FaultyDeclaration text f d) (both_of a b)
+declaration-told {text = text} {f = f} {d = d} {new = new} o e i j h l =
+    let there : new.inner ≡ (after text f d).names = rw (e, i, j, o) in answers-both h (rw there at l)
 
 functions-append : (xs : List OneFunction.Function) (f : OneFunction.Function) → functions_of (xs ++ f ∷ []) ≡ functions_of xs ++ function_of f ∷ []
 functions-append [] f = refl
@@ -57,34 +55,20 @@ globals-in [] t = refl
 globals-in (a_global g ∷ xs) t = ap (λ ys. g ∷ ys) (globals-in xs t)
 globals-in (a_function f ∷ xs) t = globals-in xs t
 
-with-global : (old new : Parts) (g : OneGlobal.Global) (all : List TypedDeclaration) → new.functions ≡ old.functions
+pub with-global : (old new : Parts) (g : OneGlobal.Global) (all : List TypedDeclaration) → new.functions ≡ old.functions
     → new.globals.items ≡ old.globals.items ++ g ∷ [] → AreParts old all → AreParts new (all ++ a_global g ∷ [])
 with-global old new g all e i h = record {
   functions = ap (λ v. functions_of v.items) e ∙ h.functions ∙ sym (append-nil (functions_in all)) ∙ sym (functions-in all (a_global g));
   globals = i ∙ ap (λ ys. ys ++ g ∷ []) h.globals ∙ sym (globals-in all (a_global g));
 }
 
-with-function : (old new : Parts) (f : OneFunction.Function) (all : List TypedDeclaration) → new.globals ≡ old.globals
+pub with-function : (old new : Parts) (f : OneFunction.Function) (all : List TypedDeclaration) → new.globals ≡ old.globals
     → new.functions.items ≡ old.functions.items ++ f ∷ [] → AreParts old all → AreParts new (all ++ a_function (function_of f) ∷ [])
 with-function old new f all e i h = record {
   functions = ap functions_of i ∙ functions-append old.functions.items f ∙ ap (λ ys. ys ++ function_of f ∷ []) h.functions
       ∙ sym (functions-in all (a_function (function_of f)));
   globals = ap (λ v. v.items) e ∙ h.globals ∙ sym (append-nil (globals_in all)) ∙ sym (globals-in all (a_function (function_of f)));
 }
-
--- the parts with the declaration that comes next
-module _ {parts : Result Parts TypeStop} {next : Result Declared TypeStop} (old new : Parts) (more : Declared) (before : parts ≡ Ok old)
-    (last : next ≡ Ok more) where
-  with-next : ((all : List TypedDeclaration) → AreParts old all → AreParts new (all ++ declared_of more ∷ [])) → IsWith parts next new
-  with-next is = record { old = old; more = more; before = before; last = last; is = is }
-
-  pub with-next-global : (g : OneGlobal.Global) → more ≡ Variable g → new.functions ≡ old.functions
-      → new.globals.items ≡ old.globals.items ++ g ∷ [] → IsWith parts next new
-  with-next-global g is e i = with-next (λ all h. rw is (with-global old new g all e i h))
-
-  pub with-next-function : (f : OneFunction.Function) → more ≡ Function f → new.globals ≡ old.globals
-      → new.functions.items ≡ old.functions.items ++ f ∷ [] → IsWith parts next new
-  with-next-function f is e i = with-next (λ all h. rw is (with-function old new f all e i h))
 
 declarations-append : (xs : List Declaration) (d : Declaration) → declarations_of (xs ++ d ∷ []) ≡ declarations_of xs ++ declaration_of d ∷ []
 declarations-append [] d = refl
@@ -120,46 +104,24 @@ typed-append (more_declared l rest) h = more_declared l (typed-append rest h)
 abbrev pub SoFar : List ℕ → List Declaration → Result Parts TypeStop → Type 0
 SoFar text ds r = Answers (AreTyped text (declarations_of ds)) (FaultyDeclarations text no_declarations (declarations_of ds)) r
 
-joined : (text : List ℕ) (xs : List Tree.Declaration) (d : Tree.Declaration) (all r : Result Parts TypeStop)
-    (one : Result Declared TypeStop) → Answers (AreTyped text xs) (FaultyDeclarations text no_declarations xs) all
-    → Answers (λ t. TypesDeclaration text (after_all text no_declarations xs) d (declared_of t))
-    (FaultyDeclaration text (after_all text no_declarations xs) d) one → IfOk r (IsWith all one) → IfErr r (λ s. (s ≡ NoMemory) ⊎ StopsBoth all one s)
-    → Answers (AreTyped text (xs ++ d ∷ [])) (FaultyDeclarations text no_declarations (xs ++ d ∷ [])) r
-joined text xs d all (Ok v) one h l e f =
-    let a = ok-at (AreTyped text xs) all e.old e.before h.ok in
-    let b = ok-at (λ t. TypesDeclaration text (after_all text no_declarations xs) d (declared_of t)) one e.more e.last l.ok in
-    record {
-      ok = record { declarations = a.declarations ++ declared_of e.more ∷ []; typed = typed-append a.typed b; parts = e.is a.declarations a.parts };
-      none = λ k at w. both-none (FaultyDeclarations text no_declarations xs) (FaultyDeclaration text (after_all text no_declarations xs) d)
-          (ok-at (λ y. HasNone (FaultyDeclarations text no_declarations xs)) all e.old e.before h.none)
-          (ok-at (λ y. HasNone (FaultyDeclaration text (after_all text no_declarations xs) d)) one e.more e.last l.none) k at
-          (faulty-from text no_declarations xs d k at w);
-      err = tt;
-    }
-joined text xs d all (Err t) one h l e f = record { ok = tt; none = tt; err = stopped f }
-  where
-    both : Faults
-    both = Both (FaultyDeclarations text no_declarations xs) (FaultyDeclaration text (after_all text no_declarations xs) d)
-
-    stopped : (t ≡ NoMemory) ⊎ StopsBoth all one t → StopsAtFirst (FaultyDeclarations text no_declarations (xs ++ d ∷ [])) t
-    stopped (inl g) = rw g tt
-    stopped (inr g) =
-        same-stop both (FaultyDeclarations text no_declarations (xs ++ d ∷ [])) t
-        (record { to = faulty-to text no_declarations xs d; from = faulty-from text no_declarations xs d })
-        (both-stop (FaultyDeclarations text no_declarations xs)
-        (FaultyDeclaration text (after_all text no_declarations xs) d) all one t h.none h.err l.none l.err g)
-
 next-of : (all : List Declaration) (i : ℕ) (x : Declaration) → i < length all → x ≡ get_or all i x
     → declarations_of (take (i + 1) all) ≡ declarations_of (take i all) ++ declaration_of x ∷ []
 next-of all i x l is = ap declarations_of (take_more all i x l ∙ ap (λ (y : Declaration). take i all ++ y ∷ []) (sym is)) ∙ declarations-append (take i all) x
 
-pub one-so-far : (text : List ℕ) (all : List Declaration) (i : ℕ) (x : Declaration) (typed r : Result Parts TypeStop)
-    (one : Result Declared TypeStop) → i < length all → x ≡ get_or all i x → SoFar text (take i all) typed
+pub one-so-far : (text : List ℕ) (all : List Declaration) (i : ℕ) (x : Declaration) {typed r : Result Parts TypeStop} {one : Result Declared TypeStop}
+    → i < length all → x ≡ get_or all i x → SoFar text (take i all) typed
     → Answers (λ t. TypesDeclaration text (after_all text no_declarations (declarations_of (take i all))) (declaration_of x)
     (declared_of t)) (FaultyDeclaration text (after_all text no_declarations (declarations_of (take i all))) (declaration_of x)) one
-    → IfOk r (IsWith typed one) → IfErr r (λ s. (s ≡ NoMemory) ⊎ StopsBoth typed one s) → SoFar text (take (i + 1) all) r
-one-so-far text all i x typed r one l is h a f g =
-    rw (next-of all i x l is) (joined text (declarations_of (take i all)) (declaration_of x) typed r one h a f g)
+    → IfOk r (MadeOf (both_of typed one) HasDeclared) → IfErr r (Stops (both_of typed one)) → SoFar text (take (i + 1) all) r
+one-so-far text all i x l is h one made stops =
+    let before = declarations_of (take i all) in
+    let d = declaration_of x in
+    rw (next-of all i x l is) (answers-same (record { to = faulty-to text no_declarations before d; from = faulty-from text no_declarations before d })
+    (answers-made HasDeclared (answers-both h one) made stops (λ z r p e. record {
+      declarations = p.0.declarations ++ declared_of z.1 ∷ [];
+      typed = typed-append p.0.typed p.1;
+      parts = e p.0.declarations p.0.parts;
+    })))
 
 pub after-more : (text : List ℕ) (all : List Declaration) (i : ℕ) (x : Declaration) → i < length all → x ≡ get_or all i x
     → after text (after_all text no_declarations (declarations_of (take i all))) (declaration_of x) ≡ after_all text no_declarations

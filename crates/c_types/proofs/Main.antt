@@ -1,6 +1,6 @@
 -- The meaning of `main` in a program without faults.
-use Rattle.std.proofs.Common.{◌≡◌, ◌⊎◌, ℕ, List, [], ◌∷◌, length, Bool, true, false, Option, Some, None, inl, inr, refl, sym, subst}
-use Rattle.std.proofs.Common.{ap, ◌∙◌, arith, Result, Ok, IfOk, IfErr}
+use Rattle.std.proofs.Common.{◌≡◌, ◌⊎◌, ℕ, List, [], ◌∷◌, length, Bool, true, false, Option, Some, None, inl, inr, refl, sym}
+use Rattle.std.proofs.Common.{ap, ◌∙◌, arith, Result}
 use Rattle.std.specs.Prelude.{bytes_eq, if◌then◌else◌}
 use Rattle.std.proofs.lemmas.Option.{none-some}
 use Rattle.c_tree.specs.Tree as Tree
@@ -9,10 +9,10 @@ use Rattle.c_statements.specs.declared.fault.TypeFaultKind.TheVariants.{NoMain}
 use Rattle.c_statements.specs.declared.names.Named.{Named}
 use Rattle.c_statements.specs.declared.names.Named.TheVariants.{Function}
 use Rattle.c_statements.specs.declared.fault.TypeStop.{TypeStop}
-use Rattle.c_statements.specs.Faults.{HasNone, IsFirstFault, IsNoLater, StopsAtFirst, StopsBoth}
+use Rattle.c_statements.specs.Faults.{Answers, HasNone, IsFirstFault, IsNoLater, both_of}
 use Rattle.c_typed.specs.Shape.{functions_of}
 use Rattle.c_statements.specs.Names.{Bindings, spelling_in}
-use Rattle.c_statements.proofs.Firsts.{both-stop, ok-at}
+use Rattle.c_statements.proofs.Joins.{answers-both}
 use Rattle.c_types.specs.declared.program.Parts.{Parts}
 use Rattle.c_types.specs.Files.{AreTyped}
 use Rattle.c_types.specs.Programs.{File, FaultyDeclarations, FaultyName, FaultyProgram, IsNotMain, LacksMain, TypesProgram, after}
@@ -43,11 +43,10 @@ all : (text : List ℕ) (f : File) (ds : List Tree.Declaration) → IsMainOr f.n
 all text f [] h n = h
 all text f (d ∷ rest) h n = all text (after text f d) rest (step text f d h (λ k at w. n k at (inl (inl w)))) (λ k at w. n k at (inr w))
 
-pub main-is : (text : List ℕ) (ds : List Tree.Declaration) (names : Bindings) → names ≡ (after_all text no_declarations ds).names
-    → HasNone (FaultyDeclarations text no_declarations ds) → HasNone (LacksMain text names)
-    → (n : ℕ) × (names main_name ≡ Some (Function n 0 true))
-main-is text ds names e h l =
-    elim (subst IsMainOr (sym e) (all text no_declarations ds (inl refl) h)) [ inl x ↦ absurd (l _ _ (no_main x)) | inr y ↦ y ]
+pub main-is : (text : List ℕ) (ds : List Tree.Declaration) {names : Bindings} → names ≡ (after_all text no_declarations ds).names
+    → HasNone (FaultyProgram text ds) → (n : ℕ) × (names main_name ≡ Some (Function n 0 true))
+main-is text ds e none = rw e
+    (elim (all text no_declarations ds (inl refl) (λ k at w. none k at (inl w))) [ inl x ↦ absurd (none _ _ (inr (no_main x))) | inr y ↦ y ])
 
 pub no-main-first : (text : List ℕ) (names : Bindings) (at : ℕ) → at ≡ length text → names main_name ≡ None → IsFirstFault (LacksMain text names) NoMain at
 no-main-first text names at e h = rw e (record { has = no_main h; first = λ j n w. least w })
@@ -56,22 +55,11 @@ no-main-first text names at e h = rw e (record { has = no_main h; first = λ j n
     least (no_main x) = inr (refl, omega arith)
 
 -- the declarations and `main` together
-pub program-stop : {A B : Type 0} (text : List ℕ) (ds : List Tree.Declaration) (names : Bindings) (a : Result A TypeStop)
-    (b : Result B TypeStop) (s : TypeStop) → names ≡ (after_all text no_declarations ds).names
-    → IfOk a (λ y. HasNone (FaultyDeclarations text no_declarations ds))
-    → IfErr a (StopsAtFirst (FaultyDeclarations text no_declarations ds)) → IfOk b (λ y. HasNone (LacksMain text names))
-    → IfErr b (StopsAtFirst (LacksMain text names))
-    → StopsBoth a b s → StopsAtFirst (FaultyProgram text ds) s
-program-stop text ds names a b s e n h m l t =
-    rw e at (both-stop (FaultyDeclarations text no_declarations ds) (LacksMain text names) a b s n h m l t)
-
-pub main-found : {A B : Type 0} (text : List ℕ) (ds : List Tree.Declaration) (names : Bindings) (a : Result A TypeStop)
-    (b : Result B TypeStop) (x : A) (y : B) (found : Option Named) → names ≡ (after_all text no_declarations ds).names
-    → IfOk a (λ z. HasNone (FaultyDeclarations text no_declarations ds)) → IfOk b (λ z. HasNone (LacksMain text names)) → a ≡ Ok x
-    → b ≡ Ok y → found ≡ names main_name → (n : ℕ) × (found ≡ Some (Function n 0 true))
-main-found text ds names a b x y found e n m i j f =
-    let w = main-is text ds names e (ok-at (λ z. HasNone (FaultyDeclarations text no_declarations ds)) a x i n) (ok-at (λ z. HasNone (LacksMain text names)) b y j m) in
-    (w.0, f ∙ w.1)
+pub program-told : {A B : Type 0} {P : A → Type 0} {Q : B → Type 0} (text : List ℕ) (ds : List Tree.Declaration) {names : Bindings}
+    {a : Result A TypeStop} {b : Result B TypeStop} → names ≡ (after_all text no_declarations ds).names
+    → Answers P (FaultyDeclarations text no_declarations ds) a → Answers Q (LacksMain text names) b
+    → Answers (λ z. P z.0 × Q z.1) (FaultyProgram text ds) (both_of a b)
+program-told text ds e h l = answers-both h (rw e at l)
 
 pub typed-program : (text : List ℕ) (ds : List Tree.Declaration) (names : Bindings) (p : Parts) (m : ℕ) (found : Option Named)
     → AreTyped text ds p → names ≡ (after_all text no_declarations ds).names → found ≡ names main_name

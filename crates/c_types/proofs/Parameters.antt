@@ -1,17 +1,19 @@
 -- The faults of the names of parameters.
-use Rattle.std.proofs.Common.{◌≡◌, ℕ, List, inl, inr, refl, sym, ap, arith, [], ◌∷◌, ◌++◌, Result, Ok, IfOk, IfErr}
+use Rattle.std.proofs.Common.{◌≡◌, ℕ, List, [], ◌∷◌, ◌++◌, Result, Err, IfOk, IfErr, inl, inr, refl, sym, ap, arith}
+use Rattle.std.proofs.lemmas.Result.{IfErr-weaker}
 use Rattle.c_tokens.specs.declared.token.Identifier.{Identifier}
 use Rattle.c_statements.specs.declared.fault.TypeFaultKind.{TypeFaultKind}
 use Rattle.c_statements.specs.declared.fault.TypeFaultKind.TheVariants.{Count}
 use Rattle.c_statements.specs.declared.fault.TypeStop.{TypeStop}
 use Rattle.c_statements.specs.declared.fault.TypeStop.TheVariants.{Fault}
 use Rattle.c_tree.specs.declared.tree.Parameter.{Parameter}
-use Rattle.c_statements.specs.Faults.{number_of, Faults, HasNone, StopsAtFirst, StopsBoth}
+use Rattle.c_statements.specs.Faults.{Answers, number_of, Faults, StopsAtFirst, both_of}
+use Rattle.c_statements.specs.Made.{MadeOf}
 use Rattle.c_typed.specs.declared.limits.TheConstants.{MAX_PARAMETERS}
 use Rattle.c_statements.specs.Names.{Scopes, with_local}
 use Rattle.c_statements.specs.Statements.{FaultyDeclarator}
-use Rattle.c_statements.proofs.Firsts.{Both, Tells, tells-same, tells-both}
-use Rattle.c_statements.proofs.Joins.{if-ok}
+use Rattle.c_statements.proofs.Firsts.{Both}
+use Rattle.c_statements.proofs.Joins.{answers-both, answers-made, answers-same}
 use Rattle.c_types.specs.Programs.{IsFifth, FaultyParameter, FaultyParameters, behind_parameters, faulty_declarator, fifth_parameter}
 
 pub fifth-stops : (sc : Scopes) (x : Identifier) (s : TypeStop) → sc.locals ≡ MAX_PARAMETERS → s ≡ Fault (record { kind = Count; at = x.at })
@@ -19,23 +21,24 @@ pub fifth-stops : (sc : Scopes) (x : Identifier) (s : TypeStop) → sc.locals �
 fifth-stops sc x s l q =
     rw q (record { has = (l, (refl, refl)); first = λ j n w. inr (sym w.1.1, omega (arith, ap number_of w.1.0)) })
 
--- what is told of two parts of which neither has a value
-tells-either : (p q : Faults) (a b c : Result Unit TypeStop) → Tells p a → Tells q b → IfOk c (λ x. (a ≡ Ok tt) × (b ≡ Ok tt)) → IfErr c (StopsBoth a b)
-    → Tells (Both p q) c
-tells-either p q a b c h l o t =
-    tells-both p q a b c h l (if-ok (λ x. (a ≡ Ok tt) × (b ≡ Ok tt)) (λ r. (x : Unit) × (y : Unit) × (a ≡ Ok x) × (b ≡ Ok y)) c (λ x w. (tt, tt, w.0, w.1)) o) t
-
 fault-from : (text : List ℕ) (sc : Scopes) (x : Identifier) (k : TypeFaultKind) (at : ℕ) → FaultyParameter text sc x k at
     → Both (IsFifth sc x) (FaultyDeclarator text sc x) k at
 fault-from text sc x k at (fifth_parameter h) = inl h
 fault-from text sc x k at (faulty_declarator h) = inr h
 
+-- what is told of two parts of which neither has a value
+told-either : {p q : Faults} {a b c : Result Unit TypeStop} → Answers (λ _. Unit {0}) p a → Answers (λ _. Unit {0}) q b
+    → IfOk c (MadeOf (both_of a b) (λ _ _. Unit {0})) → IfErr c (λ s. both_of a b ≡ Err s) → Answers (λ _. Unit {0}) (Both p q) c
+told-either {c = c} h l made stops =
+    answers-made (λ _ _. Unit {0}) (answers-both h l) made (IfErr-weaker c _ _ (λ s e. inr e) stops) (λ x d k e. tt)
+
 -- the one fault of a parameter's name
-pub one-name : (text : List ℕ) (sc : Scopes) (x : Identifier) (a b c : Result Unit TypeStop) → Tells (IsFifth sc x) a
-    → Tells (FaultyDeclarator text sc x) b → IfOk c (λ x. (a ≡ Ok tt) × (b ≡ Ok tt)) → IfErr c (StopsBoth a b) → Tells (FaultyParameter text sc x) c
-one-name text sc x a b c h l o t =
-    tells-same (Both (IsFifth sc x) (FaultyDeclarator text sc x)) (FaultyParameter text sc x) c
-    (record { to = λ k at h. elim h [ inl w ↦ fifth_parameter w | inr w ↦ faulty_declarator w ]; from = fault-from text sc x }) (tells-either (IsFifth sc x) (FaultyDeclarator text sc x) a b c h l o t)
+pub one-name : {text : List ℕ} {sc : Scopes} {x : Identifier} {a b c : Result Unit TypeStop} → Answers (λ _. Unit {0}) (IsFifth sc x) a
+    → Answers (λ _. Unit {0}) (FaultyDeclarator text sc x) b → IfOk c (MadeOf (both_of a b) (λ _ _. Unit {0}))
+    → IfErr c (λ s. both_of a b ≡ Err s) → Answers (λ _. Unit {0}) (FaultyParameter text sc x) c
+one-name {text = text} {sc = sc} {x = x} h l made stops =
+    answers-same (record { to = λ k at h. elim h [ inl w ↦ fifth_parameter w | inr w ↦ faulty_declarator w ]; from = fault-from text sc x })
+    (told-either h l made stops)
 
 faults-to : (text : List ℕ) (sc : Scopes) (done : List Parameter) (p : Parameter) (k : TypeFaultKind) (at : ℕ)
     → Both (FaultyParameters text sc done) (FaultyParameter text (behind_parameters text sc done) p.name) k at
@@ -61,14 +64,9 @@ behind-more text sc [] p = refl
 behind-more text sc (q ∷ done) p = behind-more text (with_local text sc q.integer_type q.name) done p
 
 -- one parameter more
-pub one-more : (text : List ℕ) (sc now : Scopes) (done : List Parameter) (p : Parameter) (a b c : Result Unit TypeStop)
-    → now ≡ behind_parameters text sc done → Tells (FaultyParameters text sc done) a
-    → IfOk b (λ x. HasNone (FaultyParameter text now p.name)) → IfErr b (StopsAtFirst (FaultyParameter text now p.name))
-    → IfOk c (λ x. (a ≡ Ok tt) × (b ≡ Ok tt)) → IfErr c (StopsBoth a b)
-    → Tells (FaultyParameters text sc (done ++ p ∷ [])) c
-one-more text sc now done p a b c e h n s o t =
-    let q : Faults = FaultyParameter text (behind_parameters text sc done) p.name in
-    let l : Tells q b = rw (sym e) (n, s) in
-    tells-same (Both (FaultyParameters text sc done) q) (FaultyParameters text sc (done ++ p ∷ [])) c
-    (record { to = faults-to text sc done p; from = faults-from text sc done p })
-    (tells-either (FaultyParameters text sc done) q a b c h l o t)
+pub one-more : {text : List ℕ} (sc : Scopes) {now : Scopes} (done : List Parameter) (p : Parameter) {a b c : Result Unit TypeStop}
+    → now ≡ behind_parameters text sc done → Answers (λ _. Unit {0}) (FaultyParameters text sc done) a
+    → Answers (λ _. Unit {0}) (FaultyParameter text now p.name) b → IfOk c (MadeOf (both_of a b) (λ _ _. Unit {0}))
+    → IfErr c (λ s. both_of a b ≡ Err s) → Answers (λ _. Unit {0}) (FaultyParameters text sc (done ++ p ∷ [])) c
+one-more {text = text} sc done p e h l made stops =
+    answers-same (record { to = faults-to text sc done p; from = faults-from text sc done p }) (told-either h (rw e at l) made stops)

@@ -1,5 +1,5 @@
 -- What the walk over the declarations keeps.
-use Rattle.std.specs.Prelude.{length, [], ◌∷◌, ◌++◌, Result, Ok, ◌≡◌, ◌+◌, ◌<◌, ◌≤◌, ◌⊎◌, ℕ, List, Bool, true, false, nat_eq}
+use Rattle.std.specs.Prelude.{length, [], ◌∷◌, ◌++◌, ◌≡◌, ◌+◌, ◌<◌, ◌≤◌, ◌⊎◌, ℕ, List, Bool, true, false, nat_eq}
 use Rattle.std.specs.Prelude.{bytes_eq}
 use Rattle.c_tree.specs.Tree.{Declaration, variable, array, function}
 use Rattle.c_tree.specs.Shape.{items_of}
@@ -12,7 +12,6 @@ use Rattle.c_tree.specs.declared.tree.FunctionDefinition.{FunctionDefinition}
 use Rattle.c_statements.specs.Names as Names
 use Rattle.c_statements.specs.Names.{Bindings, spelling_in, behind_items}
 use Rattle.c_typed.specs.Shape.{function_of, functions_of}
-use Rattle.c_statements.specs.declared.fault.TypeStop.{TypeStop}
 use Rattle.c_typed.specs.Trees.{TypedFunction, TypedStatements}
 use Rattle.c_statements.specs.Types.{TypesItems}
 use Rattle.c_types.specs.Programs.{Counts, File, IsNotMain, main_name, name_of, scopes_at, behind_parameters, closing, with_last}
@@ -66,13 +65,9 @@ pub record AreParts (p : Parts) (all : List TypedDeclaration) : Type 0 where
   pub functions : functions_of p.functions.items ≡ functions_in all
   pub globals : p.globals.items ≡ globals_in all
 
--- one declaration more
-pub record IsWith (parts : Result Parts TypeStop) (next : Result Declared TypeStop) (r : Parts) : Type 0 where
-  pub old : Parts
-  pub more : Declared
-  pub before : parts ≡ Ok old
-  pub last : next ≡ Ok more
-  pub is : (all : List TypedDeclaration) → AreParts old all → AreParts r (all ++ declared_of more ∷ [])
+-- parts with one declaration more
+abbrev pub HasDeclared : Parts × Declared → Parts → Type 0
+HasDeclared (old, more) r = (all : List TypedDeclaration) → AreParts old all → AreParts r (all ++ declared_of more ∷ [])
 
 -- what these declarations come to
 pub record AreTyped (text : List ℕ) (all : List Declaration) (p : Parts) : Type 0 where

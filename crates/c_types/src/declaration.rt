@@ -1,7 +1,7 @@
 //! What declarations at file scope count, and which of them are faults.
-ghost use Rattle.std.specs.Prelude.{◌≡◌, ◌<◌, ◌≤◌, ◌+◌, ◌^◌, IfOk, IfErr, true, false, bytes_eq};
+ghost use Rattle.std.specs.Prelude.{◌≡◌, ◌<◌, ◌≤◌, ◌+◌, ◌^◌, IfOk, IfErr, true, false, bytes_eq, ⊤};
 ghost use Rattle.c_tree.specs.Shape.{declaration_of};
-ghost use Rattle.c_statements.specs.Faults.{HasNone, StopsAtFirst};
+ghost use Rattle.c_statements.specs.Faults.{Answers, HasNone, StopsAtFirst};
 ghost use Rattle.c_statements.specs.Shape.{scopes_of};
 ghost use Rattle.c_statements.specs.Names.{spelling_in};
 ghost use Rattle.c_types.specs.Files.{counts_of, file_of, Exceeds, IsOtherKind, is_array_of_nothing};
@@ -191,8 +191,7 @@ fn fifth_parameter(scopes: &Scopes, name: Identifier) -> Result<(), TypeStop>
 
 /// Returns what is wrong with the name of a parameter.
 fn parameter_fault(program: &Program, scopes: &Scopes, name: Identifier) -> Result<(), TypeStop>
-    ensures none { IfOk result (λ _. HasNone (FaultyParameter program.now.text.items (scopes_of scopes.now) name)) }
-    ensures err { IfErr result (StopsAtFirst (FaultyParameter program.now.text.items (scopes_of scopes.now) name)) }
+    ensures { Answers (λ _. ⊤) (FaultyParameter program.now.text.items (scopes_of scopes.now) name) result }
 {
     either(
         fifth_parameter(scopes, name),
@@ -206,8 +205,7 @@ pub fn parameters<'a>(
     scopes: &mut Scopes<'a>,
     all: &[Parameter],
 ) -> Result<Result<(), TypeStop>, AllocError>
-    ensures none { IfOk result (λ r. IfOk r (λ _. HasNone (FaultyParameters program.now.text.items (scopes_of scopes.old) all.now))) }
-    ensures err { IfOk result (λ r. IfErr r (StopsAtFirst (FaultyParameters program.now.text.items (scopes_of scopes.old) all.now))) }
+    ensures faults { IfOk result (Answers (λ _. ⊤) (FaultyParameters program.now.text.items (scopes_of scopes.old) all.now)) }
     ensures scopes { IfOk result (λ r. scopes_of scopes.new ≡ behind_parameters program.now.text.items (scopes_of scopes.old) all.now) }
 {
     let mut fault = Ok(());

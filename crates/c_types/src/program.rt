@@ -1,14 +1,15 @@
 //! Types of a whole program (C99 6.9).
-ghost use Rattle.std.specs.Prelude.{◌≡◌, ◌⊎◌, ℕ, List, Some, true, IfOk, IfErr, OnOk, Err};
+ghost use Rattle.std.specs.Prelude.{◌≡◌, ℕ, List, Some, true, IfOk, IfErr, OnOk, Err};
 ghost use Rattle.c_tree.specs.Shape.{declaration_of, declarations_of, items_of};
 ghost use Rattle.c_tree.specs.Tree.{function, Declaration as DeclarationTree};
 ghost use Rattle.c_statements.specs.declared.fault.TypeStop.TheVariants.{NoMemory};
 ghost use Rattle.c_statements.specs.declared.names.Named.TheVariants.{Function as NamedFunction};
-ghost use Rattle.c_statements.specs.Faults.{Answers, HasNone, IsTypeFault, StopsAtFirst, StopsBoth};
+ghost use Rattle.c_statements.specs.Faults.{Answers, HasNone, IsTypeFault, StopsAtFirst, both_of};
+ghost use Rattle.c_statements.specs.Made.{MadeOf, Stops};
 ghost use Rattle.c_statements.specs.Shape.{scopes_of};
 ghost use Rattle.c_typed.specs.Shape.{function_of, statements_of};
 ghost use Rattle.c_typed.specs.Trees.{TypedProgram};
-ghost use Rattle.c_types.specs.Files.{AreTyped, IsFunction, IsWith, declared_of, file_of, file_scopes};
+ghost use Rattle.c_types.specs.Files.{AreTyped, HasDeclared, IsFunction, declared_of, file_of, file_scopes};
 ghost use Rattle.c_types.specs.Programs.{File, FaultyBody, FaultyDeclaration, FaultyDeclarations, FaultyProgram, LacksMain};
 ghost use Rattle.c_types.specs.Programs.{TypesDeclaration};
 ghost use Rattle.c_types.specs.Programs.{TypesProgram, after, after_all, closing, no_declarations, with_last};
@@ -158,8 +159,8 @@ fn with_declared(
     parts: Result<Parts, TypeStop>,
     next: Result<Declared, TypeStop>,
 ) -> Result<Parts, TypeStop>
-    ensures ok { IfOk result (λ r. IsWith parts next r) }
-    ensures err { IfErr result (λ s. (s ≡ NoMemory) ⊎ StopsBoth parts next s) }
+    ensures ok { IfOk result (MadeOf (both_of parts next) HasDeclared) }
+    ensures err { IfErr result (Stops (both_of parts next)) }
 {
     let (mut parts, next) = both(parts, next)?;
     match next {

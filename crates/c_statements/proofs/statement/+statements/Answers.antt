@@ -1,26 +1,19 @@
 use Rattle.std.proofs.Common.{◌≡◌, ◌+◌, List, true, Result, Err, rules, refl, sym, ap, arith, ◌∙◌}
 use Rattle.c_tree.specs.declared.tree.Item.{Item}
-use Rattle.c_tree.specs.Shape.{expression_of, maybe_expression_of, maybe_value_tree, maybe_simple_of, statement_of, item_of, items_of}
-use Rattle.c_tree.specs.Tree.{block, break_at, continue_at, statement, declare, more_items, no_items}
+use Rattle.c_tree.specs.Shape.{statement_of, item_of, items_of}
+use Rattle.c_tree.specs.Tree.{block, statement, declare}
 use Rattle.c_tree.proofs.Shapes.{block-is as read-block-is}
 use Rattle.c_typed.specs.declared.tree.TypedStatement.{TypedStatement as Typed, Break, Continue}
 use Rattle.c_statements.specs.declared.fault.TypeStop.{TypeStop}
 use Rattle.c_statements.specs.declared.fault.TypeStop.TheVariants.{NoMemory}
 use Rattle.c_statements.specs.Shape.{scopes_of}
-use Rattle.c_statements.specs.Names.{Scopes, environment_in, with_local, behind, behind_item}
-use Rattle.c_typed.specs.Shape.{statement_of as typed_of}
-use Rattle.c_statements.specs.Statements.{FaultyMaybe, FaultyPart, FaultyLocal, FaultyStatement}
-use Rattle.c_typed.specs.Trees.{more_statements, no_statements}
-use Rattle.c_statements.specs.Types.{TypesFirst, TypesStatement, TypesItems, empty_typed, block_typed, break_typed, continue_typed}
+use Rattle.c_statements.specs.Names.{Scopes, behind_item}
+use Rattle.c_statements.specs.Types.{empty_typed, block_typed, break_typed, continue_typed, if_then_typed, if_then_else_typed, while_loop_typed, for_loop_typed}
 use Rattle.c_statements.specs.Types.{simply_typed, no_items_typed, statement_typed, declare_typed}
-use Rattle.c_statements.specs.Uses.{Faulty}
-use Rattle.c_statements.proofs.Firsts.{Both}
-use Rattle.c_statements.proofs.BlockItems.{none-so-far, one-so-far, behind-so-far}
+use Rattle.c_statements.proofs.BlockItems.{none-so-far, one-so-far, behind-so-far, behind-block}
 use Rattle.c_typed.proofs.Shapes.{block-is}
-use Rattle.c_statements.proofs.Joins.{answers, answers-as, tells, behind-block, if-ok, tells-both-of}
-use Rattle.c_statements.proofs.Joins.{tells-alone, tells-two, tells-three}
 use Rattle.c_statements.specs.Made.{IsIf, IsLoop, IsSequence}
-use Rattle.c_statements.proofs.WholeStatements.{if-then-answers, if-then-else-ok, while-answers, for-ok, tells-behind}
+use Rattle.c_statements.proofs.Joins.{answers-alone, answers-as, answers-both, answers-kept, answers-left, answers-made, answers-next, answers-right}
 use Rattle.c_statements.proofs.Weights.{weight, weight_of, weight_all, weight-within, inside-weighs-less}
 use Rattle.c_statements.proofs.statement.+statements.Goals as goal
 
@@ -29,9 +22,7 @@ block-returns-in_err-typed t c = record {
   typed = search rules;
   scopes = let refused : Result Typed TypeStop = Err NoMemory in
       let lasts : c.items-typed.result ≡ Err NoMemory → c.from_residual-in_err-typed.result ≡ refused = search rules in
-      λ n. behind-block c.args.context.now.program.now.text.items (scopes_of c.args.scopes.now) (scopes_of c.enter.new.self)
-      (scopes_of c.items-typed.new.scopes) (scopes_of c.leave.new.self) (items_of c.args.all.now) c.in_ok-enter.ensures.scopes
-      (c.items-typed.ensures.scopes (λ e. n (lasts e))) c.leave.ensures;
+      λ n. behind-block _ _ c.in_ok-enter.ensures.scopes (c.items-typed.ensures.scopes (λ e. n (lasts e))) c.leave.ensures;
 }
 
 pub block-returns : goal.block-returns
@@ -41,51 +32,37 @@ block-returns t c = record {
     none = search rules;
     err = tt;
   };
-  scopes = λ n. behind-block c.args.context.now.program.now.text.items (scopes_of c.args.scopes.now) (scopes_of c.enter.new.self)
-      (scopes_of c.items-typed.new.scopes) (scopes_of c.leave.new.self) (items_of c.args.all.now) c.in_ok-enter.ensures.scopes
-      (c.items-typed.ensures.scopes (λ e. let f = sym c.in_ok-typed.was ∙ e in cc)) c.leave.ensures;
+  scopes = λ n. behind-block _ _ c.in_ok-enter.ensures.scopes (c.items-typed.ensures.scopes (λ e. let f = sym c.in_ok-typed.was ∙ e in cc)) c.leave.ensures;
 }
 
 pub block-items-typed-requires : goal.block-items-typed-requires
 block-items-typed-requires t c = (omega arith, tt)
 
 pub if_then-returns : goal.if_then-returns
-if_then-returns t c =
-    let typed = if-then-answers c.args.context.now.program.now.text.items c.args.context.now.gives (scopes_of c.args.scopes.now) _ _ _ _ _
-    c.args.context.now.in_loop c.expression-condition.ensures c.statement-first.ensures.typed c.if_else.ensures.ok c.if_else.ensures.err in
-    record { typed = typed; scopes = search rules }
+if_then-returns t c = record {
+  typed = answers-made IsIf (answers-both c.expression-condition.ensures (answers-left c.statement-first.ensures.typed)) c.if_else.ensures.ok
+      c.if_else.ensures.err (λ x d p e. rw (e, p.1.1) (if_then_typed p.0 p.1.0));
+  scopes = search rules;
+}
 
 pub if_then-statement-first-requires : goal.if_then-statement-first-requires
 if_then-statement-first-requires t c = (omega arith, tt)
 
 pub while_loop-returns : goal.while_loop-returns
-while_loop-returns t c =
-    let typed = while-answers c.args.context.now.program.now.text.items c.args.context.now.gives (scopes_of c.args.scopes.now) _ _ _ _ _
-    c.expression-condition.ensures c.statement-body.ensures.typed c.loop_of.ensures.ok c.loop_of.ensures.err in
-    record { typed = typed; scopes = search rules }
+while_loop-returns t c = record {
+  typed = answers-made IsLoop (answers-both c.expression-condition.ensures (answers-right c.statement-body.ensures.typed)) c.loop_of.ensures.ok
+      c.loop_of.ensures.err (λ x d p e. rw (e, p.1.0) (while_loop_typed p.0 p.1.1));
+  scopes = search rules;
+}
 
 pub while_loop-statement-body-requires : goal.while_loop-statement-body-requires
 while_loop-statement-body-requires t c = (omega arith, tt)
 
 pub if_then_else-returns : goal.if_then_else-returns
 if_then_else-returns t c = record {
-  typed = let text = c.args.context.now.program.now.text.items in
-      let sc = scopes_of c.args.scopes.now in
-      let first = FaultyStatement text c.args.context.now.gives c.args.context.now.in_loop sc (statement_of c.args.first.now) in
-      let second = FaultyStatement text c.args.context.now.gives c.args.context.now.in_loop (behind sc (statement_of c.args.first.now))
-      (statement_of c.args.second.now) in
-      let both = tells-behind text c.args.context.now.gives c.args.context.now.in_loop sc (scopes_of c.statement-first.new.scopes)
-      (statement_of c.args.first.now) (statement_of c.args.second.now) c.statement-first.result c.statement-second.result
-      (tells c.statement-first.ensures.typed) c.statement-first.ensures.scopes (tells c.statement-second.ensures.typed) in
-      answers
-      (if-then-else-ok c.args.context.now.program.now.text.items (scopes_of c.args.scopes.now) (scopes_of c.statement-first.new.scopes)
-      (expression_of c.args.condition.now) (statement_of c.args.first.now) (statement_of c.args.second.now)
-      c.expression-condition.result c.statement-first.result c.statement-second.result c.if_else.result
-      c.expression-condition.ensures.ok c.statement-first.ensures.typed.ok c.statement-first.ensures.scopes
-      c.statement-second.ensures.typed.ok c.if_else.ensures.ok)
-      (tells-three (Faulty (environment_in text sc) (expression_of c.args.condition.now))
-      (Both first second) c.expression-condition.result c.statement-first.result c.statement-second.result IsIf c.if_else.result
-      (tells c.expression-condition.ensures) both c.if_else.ensures.ok c.if_else.ensures.err);
+  typed = let second = answers-next c.statement-first.ensures.typed (λ n. rw (c.statement-first.ensures.scopes n) at c.statement-second.ensures.typed) in
+      answers-made IsIf (answers-both c.expression-condition.ensures second) c.if_else.ensures.ok c.if_else.ensures.err
+      (λ x d p e. rw e (if_then_else_typed p.0 p.1.0 p.1.1));
   scopes = search rules;
 }
 
@@ -97,23 +74,10 @@ if_then_else-statement-second-requires t c = (omega arith, tt)
 
 pub for_loop-returns : goal.for_loop-returns
 for_loop-returns t c = record {
-  typed = let text = c.args.context.now.program.now.text.items in
-      let scope = environment_in text (scopes_of c.args.scopes.now) in
-      let test = FaultyMaybe scope (maybe_expression_of c.args.parts.now.test) in
-      let last = FaultyPart scope (maybe_simple_of c.args.parts.now.last) in
-      let body = FaultyStatement text c.args.context.now.gives true (scopes_of c.args.scopes.now) (statement_of c.args.body.now) in
-      let turns = tells-three test (Both last body) c.test-condition.result c.part-last.result c.statement-body.result IsLoop c.loop_of.result
-      (tells c.test-condition.ensures)
-      (tells-both-of last body c.part-last.result c.statement-body.result (tells c.part-last.ensures) (tells c.statement-body.ensures.typed))
-      c.loop_of.ensures.ok c.loop_of.ensures.err in
-      answers
-      (for-ok c.args.context.now.program.now.text.items (scopes_of c.args.scopes.now) (maybe_simple_of c.args.parts.now.first)
-      (maybe_simple_of c.args.parts.now.last) (maybe_expression_of c.args.parts.now.test) (statement_of c.args.body.now)
-      c.part-first.result c.part-last.result c.statement-body.result c.loop_of.result c.sequence.result c.test-condition.result
-      c.part-first.ensures.ok c.test-condition.ensures.ok c.part-last.ensures.ok c.statement-body.ensures.typed.ok c.loop_of.ensures.ok c.sequence.ensures.ok)
-      (tells-two (FaultyPart scope (maybe_simple_of c.args.parts.now.first))
-      (Both test (Both last body)) c.part-first.result c.loop_of.result IsSequence c.sequence.result (tells c.part-first.ensures) turns
-      c.sequence.ensures.ok c.sequence.ensures.err);
+  typed = let parts = answers-both c.test-condition.ensures (answers-both c.part-last.ensures c.statement-body.ensures.typed) in
+      let turns = answers-kept IsLoop parts c.loop_of.ensures.ok c.loop_of.ensures.err in
+      answers-made IsSequence (answers-both c.part-first.ensures turns) c.sequence.ensures.ok c.sequence.ensures.err
+      (λ x d p e. let l = p.1 in rw (e, l.2) (for_loop_typed p.0 l.1.0 l.1.1.0 l.1.1.1));
   scopes = search rules;
 }
 
@@ -122,25 +86,11 @@ for_loop-statement-body-requires t c = (omega arith, tt)
 
 pub item-returns-in-Declare-clause-typed : goal.item-returns-in-Declare-clause-typed
 item-returns-in-Declare-clause-typed t c =
-    let text = c.args.context.now.program.now.text.items in
-    let sc = scopes_of c.args.scopes.now in
-    let faults = FaultyLocal text sc c.in-Declare.integer_type c.in-Declare.name (maybe_value_tree c.in-Declare.given) in
-    let given = maybe_value_tree c.in-Declare.given in
-    rw c.in-Declare.is
-    (answers (if-ok (λ u. TypesFirst (environment_in text (with_local text sc c.in-Declare.integer_type c.in-Declare.name)) sc.locals given (typed_of u))
-    (λ u. TypesItems text sc (more_items (declare c.in-Declare.integer_type c.in-Declare.name given) no_items)
-    (more_statements (typed_of u) no_statements)) c.declare.result (λ u h. declare_typed h no_items_typed) c.declare.ensures.typed.ok)
-    (tells-alone faults c.declare.result (tells c.declare.ensures.typed)))
+    rw c.in-Declare.is (answers-alone (answers-as (λ u h. declare_typed h no_items_typed) c.declare.ensures.typed))
 
 pub item-returns-in-Statement-clause-typed : goal.item-returns-in-Statement-clause-typed
 item-returns-in-Statement-clause-typed t c =
-    let text = c.args.context.now.program.now.text.items in
-    let sc = scopes_of c.args.scopes.now in
-    let faults = FaultyStatement text c.args.context.now.gives c.args.context.now.in_loop sc (statement_of c.in-Statement.s) in
-    rw c.in-Statement.is (answers (if-ok (λ u. TypesStatement text sc (statement_of c.in-Statement.s) (typed_of u))
-    (λ u. TypesItems text sc (more_items (statement (statement_of c.in-Statement.s)) no_items) (more_statements (typed_of u) no_statements))
-    c.statement.result (λ u h. statement_typed h no_items_typed) c.statement.ensures.typed.ok)
-    (tells-alone faults c.statement.result (tells c.statement.ensures.typed)))
+    rw c.in-Statement.is (answers-alone (answers-as (λ u h. statement_typed h no_items_typed) c.statement.ensures.typed))
 
 pub item-statement-requires : goal.item-statement-requires
 item-statement-requires t c =
@@ -155,9 +105,7 @@ pub items-loop-one-preserved : goal.items-loop-one-preserved
 items-loop-one-preserved t c =
     let next = rw (← c.in_ok-next.ensures.ok.0, c.loop-one.invariant.scopes) at c.item.ensures.typed in
     record {
-      so_far = one-so-far c.args.context.now.program.now.text.items c.args.context.now.gives c.args.context.now.in_loop
-          (scopes_of c.args.scopes.now) c.args.all.now c.loop-one.one-index c.one-item.result c.loop-one.typed c.with_one-typed.result
-          c.in_ok-next.next c.loop-one-test.true c.one-item.is c.loop-one.invariant.so_far next c.with_one-typed.ensures.ok c.with_one-typed.ensures.err;
+      so_far = one-so-far _ _ _ _ _ c.loop-one-test.true c.one-item.is c.loop-one.invariant.so_far next c.with_one-typed.ensures.ok c.with_one-typed.ensures.err;
       scopes = behind-so-far c.args.context.now.program.now.text.items (scopes_of c.args.scopes.now)
           (scopes_of c.item.new.scopes) c.args.all.now c.loop-one.one-index c.one-item.result c.loop-one-test.true c.one-item.is
           (c.item.ensures.scopes c.in_ok-next.ensures.ok.1
@@ -186,20 +134,13 @@ statement-returns-in-Empty t c = record { typed = rw c.in-Empty.is record { ok =
 
 pub statement-returns-in-Break : goal.statement-returns-in-Break
 statement-returns-in-Break t c = record {
-  typed = let text = c.args.context.now.program.now.text.items in
-      rw c.in-Break.is (answers
-      (if-ok (λ u. u ≡ Break) (λ u. TypesStatement text (scopes_of c.args.scopes.now) (break_at c.in-Break.at) (typed_of u)) c.jump.result
-      (λ u e. rw e break_typed) c.jump.ensures.ok) (c.jump.ensures.none, c.jump.ensures.err));
+  typed = rw c.in-Break.is (answers-as {P = λ u. u ≡ Break} (λ u e. rw e break_typed) c.jump.ensures);
   scopes = search rules;
 }
 
 pub statement-returns-in-Continue : goal.statement-returns-in-Continue
 statement-returns-in-Continue t c = record {
-  typed = let text = c.args.context.now.program.now.text.items in
-      rw c.in-Continue.is (answers
-      (if-ok (λ u. u ≡ Continue) (λ u. TypesStatement text (scopes_of c.args.scopes.now) (continue_at c.in-Continue.at) (typed_of u))
-      c.jump-in-Continue.result (λ u e. rw e continue_typed) c.jump-in-Continue.ensures.ok)
-      (c.jump-in-Continue.ensures.none, c.jump-in-Continue.ensures.err));
+  typed = rw c.in-Continue.is (answers-as {P = λ u. u ≡ Continue} (λ u e. rw e continue_typed) c.jump-in-Continue.ensures);
   scopes = search rules;
 }
 

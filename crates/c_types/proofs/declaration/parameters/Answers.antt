@@ -4,8 +4,6 @@ use Rattle.c_tree.specs.declared.tree.Parameter.{Parameter}
 use Rattle.c_tokens.specs.declared.token.IntegerType.TheVariants.{SignedInt}
 use Rattle.c_statements.specs.Shape.{scopes_of}
 use Rattle.c_statements.specs.Names.{Scopes, with_local}
-use Rattle.c_statements.proofs.Firsts.{Tells}
-use Rattle.c_types.specs.Programs.{FaultyParameters}
 use Rattle.c_types.proofs.Parameters.{one-more, behind-more}
 use Rattle.c_types.proofs.declaration.parameters.Goals as goal
 
@@ -16,15 +14,8 @@ loop-parameter-preserved c =
     rw (take_more c.args.all.now c.loop-parameter.parameter-index d c.loop-parameter-test.true) (
       c.in_ok-declare_local.ensures.scopes ∙ ap (λ (s : Scopes). with_local c.args.program.now.text.items s p.integer_type p.name) c.loop-parameter.invariant.0
           ∙ sym (behind-more c.args.program.now.text.items (scopes_of c.args.scopes.now) (take c.loop-parameter.parameter-index c.args.all.now) p),
-      one-more c.args.program.now.text.items (scopes_of c.args.scopes.now) (scopes_of c.loop-parameter.scopes)
-          (take c.loop-parameter.parameter-index c.args.all.now) p c.loop-parameter.fault c.parameter_fault.result c.either-fault.result
-          c.loop-parameter.invariant.0 c.loop-parameter.invariant.1 c.parameter_fault.ensures.none c.parameter_fault.ensures.err
-          c.either-fault.ensures.ok c.either-fault.ensures.err,
+      one-more _ _ _ c.loop-parameter.invariant.0 c.loop-parameter.invariant.1 c.parameter_fault.ensures c.either-fault.ensures.ok c.either-fault.ensures.err,
     )
 
-pub returns-clause-err : goal.returns-clause-err
-returns-clause-err c =
-    let h : Tells (FaultyParameters c.args.program.now.text.items (scopes_of c.args.scopes.now) c.args.all.now) c.loop-parameter.fault =
-    rw (take_all c.loop-parameter.parameter-index c.args.all.now c.loop-parameter-test.false) at c.loop-parameter.invariant.1
-    in
-    h.1
+pub returns-clause-faults : goal.returns-clause-faults
+returns-clause-faults c = rw (take_all c.loop-parameter.parameter-index c.args.all.now c.loop-parameter-test.false) at c.loop-parameter.invariant.1

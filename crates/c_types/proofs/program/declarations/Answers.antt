@@ -31,9 +31,8 @@ loop-one-preserved c =
     let i = c.loop-one.invariant.globals in
     let j = c.loop-one.invariant.functions in
     record {
-      so_far = one-so-far text c.args.all.now c.loop-one.one-index c.one-item.result c.loop-one.parts
-          c.with_declared-parts.result c.in_ok-next.next c.loop-one-test.true c.one-item.is c.loop-one.invariant.so_far moved
-          c.with_declared-parts.ensures.ok c.with_declared-parts.ensures.err;
+      so_far = one-so-far text _ _ _ c.loop-one-test.true c.one-item.is c.loop-one.invariant.so_far moved c.with_declared-parts.ensures.ok
+          c.with_declared-parts.ensures.err;
       file = ap (λ (s : Scopes). as_file s (counts_of c.after-tally.result)) there ∙ ap (as_file (file_scopes now.names)) c.after-tally.ensures.value
           ∙ ap (λ (f : File). after text f (declaration_of c.one-item.result)) c.loop-one.invariant.file
           ∙ after-more text c.args.all.now c.loop-one.one-index c.one-item.result c.loop-one-test.true c.one-item.is;

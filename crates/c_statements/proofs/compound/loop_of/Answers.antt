@@ -1,0 +1,5 @@
+use Rattle.std.proofs.Common.{refl, sym, ◌∙◌}
+use Rattle.c_statements.proofs.compound.loop_of.Goals as goal
+
+pub returns-clause-ok : goal.returns-clause-ok
+returns-clause-ok c = (_, rw (c.both.ensures, c.in_ok-last.ensures) at (sym c.both-2.ensures ∙ c.in_ok-condition.was), refl)
