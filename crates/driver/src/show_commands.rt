@@ -59,17 +59,6 @@ pub(crate) fn rtl_of(alloc: Global, text: &[u8]) -> Result<Rtl, BuildFault>
     rtl_of_typed(alloc, &typed)
 }
 
-/// Returns the numbered blocks of a program, of which one call is active at most: nothing is run.
-fn blocks_of(alloc: Global, rtl: &Rtl) -> Result<Numbered, BuildFault>
-    ensures { IfErr result (λ fault. (text : List ℕ) → IsRtlOf text rtl.now → IsBuildFault text 1 fault) }
-{
-    match select_numbered(alloc, rtl, 1) {
-        Ok(numbered) => Ok(numbered),
-        Err(SelectFault::Limit) => Err(BuildFault::Limit(Limit::Selection)),
-        Err(SelectFault::NoMemory) => Err(BuildFault::NoMemory),
-    }
-}
-
 /// Returns what is asked for of a program at its stages.
 fn shown_of(
     alloc: Global,
@@ -108,9 +97,11 @@ pub fn stages(alloc: Global, text: &[u8], asked: &Asked<'_>) -> Result<Page, Sta
         Ok(rtl) => rtl,
         Err(fault) => return Err(StagesFault::Build(fault)),
     };
-    match blocks_of(alloc, &rtl) {
+    // (one call is active at most: nothing is run)
+    match select_numbered(alloc, &rtl, 1) {
         Ok(numbered) => shown_of(alloc, text, &rtl, &numbered, asked),
-        Err(fault) => Err(StagesFault::Build(fault)),
+        Err(SelectFault::Limit) => Err(StagesFault::Build(BuildFault::Limit(Limit::Selection))),
+        Err(SelectFault::NoMemory) => Err(StagesFault::Build(BuildFault::NoMemory)),
     }
 }
 
