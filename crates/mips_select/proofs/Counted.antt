@@ -25,7 +25,7 @@ use Rattle.mips_select.specs.Laws.{EachUnitIsCounted, EachUnitIsCountedByExits}
 use Rattle.mips_select.specs.Limits.{insts_in, exit_blocks, exits_blocks, most_blocks_for, most_by_exits_for}
 use Rattle.mips_select.specs.Whole.{behind, next_of, blocks_from, blocks_in, lead_blocks, planning_in, function_size, functions_blocks, linking_for, program_blocks}
 use Rattle.mips_select.proofs.CodeSizes.{insts_few, prologue_most, prologue_few, exit_most, exit_few, behind_most, result_few}
-use Rattle.mips_select.proofs.FrameSizes.{placed_eight, are_alone}
+use Rattle.mips_select.proofs.FrameSizes.{placed_eight, placed_alone}
 use Rattle.mips_select.proofs.Lists.{all_at}
 use Rattle.mips_select.proofs.Selecting.{functions_emittable}
 use Rattle.rtl.specs.Programs.{IsFunction}
@@ -157,9 +157,9 @@ each_counted_by_exits h ok places =
     let p = h.rtl.now in
     let emittable = functions_emittable p p.functions (length p.globals) ok refl refl in
     let few = functions_few (linking_for p) 2 p.functions h.frames.items (λ i func f there at. record {
-      eight = placed_eight func f (places.by i func f there at);
+      eight = placed_eight (places.by i func f there at);
       four = (emittable.by i func there).parameters;
-      alone = are_alone h places i func f there at;
+      alone = placed_alone (places.by i func f there at);
       some = (all_at (IsFunction p.functions (length p.globals)) p.functions i func ok.functions there).entry;
       few = λ b block e. ((emittable.by i func there).blocks.by b block e).exit;
     }) in

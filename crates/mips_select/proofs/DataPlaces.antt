@@ -20,7 +20,7 @@ use Rattle.rtl.specs.Programs.{IsGlobal, word_count}
 use Rattle.rtl.specs.Meaning.{first_values}
 use Rattle.mips_isa.specs.States.{State, put}
 use Rattle.mips_isa.specs.Starting.{data_base, stack_base, stack_end, first_bytes, words_mapped, start_state}
-use Rattle.mips_emit.specs.Elements.{width_bytes, width_of, element_place}
+use Rattle.mips_emit.specs.Elements.{width_bytes, width_of, element_place, place_in, place_behind}
 use Rattle.mips_select.specs.Emittable.{AreInside}
 use Rattle.mips_select.proofs.Lists.{all_at, get_behind, get_before}
 use Rattle.mips_select.specs.Data.{element_bytes, elements_bytes, gap_behind, zeros, global_bytes, padded_bytes, bare_bytes, data_bytes, starts_from}
@@ -85,22 +85,18 @@ global_inside x i v same at =
 
 -- ---- all globals
 
-later : (x : RGlobal) (gs : List RGlobal) → HaveValues (x ∷ gs) → HaveValues gs
-later x gs ok a y there = ok (suc a) y there
-
 -- from its start on, an element is inside the data
 pub element_within : (n : ℕ) (gs : List RGlobal) → HaveValues gs → (a i v : ℕ) → element_at (map first_values gs) a i ≡ Some v
-    → (n ≤ slice_index (starts_from n gs) a) × (element_place (width_of gs a) (slice_index (starts_from n gs) a) i + width_bytes (width_of gs a) ≤ n + length
-    (padded_bytes gs))
+    → (n ≤ slice_index (starts_from n gs) a) × (place_behind gs (slice_index (starts_from n gs)) a i ≤ n + length (padded_bytes gs))
 element_within n [] ok a i v e = absurd (none-some v e)
 element_within n (x ∷ gs) ok zero i v e =
     omega (arith, global_inside x i v (ok 0 x refl) e, global_length x (ok 0 x refl), length-append {A = ℕ})
 element_within n (x ∷ gs) ok (suc a) i v e =
-    omega (arith, element_within (n + 4 * word_count x) gs (later x gs ok) a i v e, global_length x (ok 0 x refl), length-append {A = ℕ})
+    omega (arith, element_within (n + 4 * word_count x) gs (λ a. ok (suc a)) a i v e, global_length x (ok 0 x refl), length-append {A = ℕ})
 
 pub element_byte : (n : ℕ) (gs : List RGlobal) → HaveValues gs → (a i v k b p : ℕ) → element_at (map first_values gs) a i ≡ Some v
     → slice_get (element_bytes (width_of gs a) v) k ≡ Some b
-    → element_place (width_of gs a) (slice_index (starts_from n gs) a) i + k ≡ n + p → slice_get (padded_bytes gs) p ≡ Some b
+    → place_in gs (slice_index (starts_from n gs)) a i + k ≡ n + p → slice_get (padded_bytes gs) p ≡ Some b
 element_byte n [] ok a i v k b p e at place = absurd (none-some v e)
 element_byte n (x ∷ gs) ok zero i v k b p e at place =
     let here : p ≡ width_bytes x.width * i + k = omega (arith, place) in
@@ -108,13 +104,13 @@ element_byte n (x ∷ gs) ok zero i v k b p e at place =
     (get_before (elements_bytes x.width (first_values x)) (zeros (gap_behind x.width x.length)) (width_bytes x.width * i + k) b
     (elements_byte x.width (first_values x) i v k b e at)))
 element_byte n (x ∷ gs) ok (suc a) i v k b p e at place =
-    let low = (element_within (n + 4 * word_count x) gs (later x gs ok) a i v e).0 in
+    let low = (element_within (n + 4 * word_count x) gs (λ a. ok (suc a)) a i v e).0 in
     let long = global_length x (ok 0 x refl) in
     let q = p - 4 * word_count x in
     let here : p ≡ length (global_bytes x) + (p - 4 * word_count x) = omega (arith, long, place, low) in
     ap (slice_get (padded_bytes (x ∷ gs))) here
     ∙ get_behind (global_bytes x) (padded_bytes gs) q
-    ∙ element_byte (n + 4 * word_count x) gs (later x gs ok) a i v k b q e at (omega (arith, place, low))
+    ∙ element_byte (n + 4 * word_count x) gs (λ a. ok (suc a)) a i v k b q e at (omega (arith, place, low))
 
 pub start_even : (n : ℕ) (gs : List RGlobal) → n % 4 ≡ 0 → (a : ℕ) → slice_index (starts_from n gs) a % 4 ≡ 0
 start_even n [] even a = omega arith
@@ -128,18 +124,16 @@ element_before Byte start i j lt = omega (arith, lt)
 
 pub elements_apart : (n : ℕ) (gs : List RGlobal) → HaveValues gs → (a i b j v w : ℕ) → element_at (map first_values gs) a i ≡ Some v
     → element_at (map first_values gs) b j ≡ Some w → (a ≡ b → i ≡ j → ⊥)
-    → (element_place (width_of gs a) (slice_index (starts_from n gs) a) i + width_bytes (width_of gs a) ≤ element_place (width_of gs b)
-    (slice_index (starts_from n gs) b) j)
-    ⊎ (element_place (width_of gs b) (slice_index (starts_from n gs) b) j + width_bytes (width_of gs b) ≤ element_place (width_of gs a)
-    (slice_index (starts_from n gs) a) i)
+    → (place_behind gs (slice_index (starts_from n gs)) a i ≤ place_in gs (slice_index (starts_from n gs)) b j)
+    ⊎ (place_behind gs (slice_index (starts_from n gs)) b j ≤ place_in gs (slice_index (starts_from n gs)) a i)
 elements_apart n [] ok a i b j v w e f ne = absurd (none-some v e)
 elements_apart n (x ∷ gs) ok zero i zero j v w e f ne = ⊎_elim (λ lt. inl (element_before x.width n i j lt))
     (λ le. (let apart : i ≢ j = ne refl in inr (element_before x.width n j i (omega (arith, le, apart))))) (cases_lt i j)
 elements_apart n (x ∷ gs) ok zero i (suc b) j v w e f ne =
-    inl (omega (arith, global_inside x i v (ok 0 x refl) e, element_within (n + 4 * word_count x) gs (later x gs ok) b j w f))
+    inl (omega (arith, global_inside x i v (ok 0 x refl) e, element_within (n + 4 * word_count x) gs (λ a. ok (suc a)) b j w f))
 elements_apart n (x ∷ gs) ok (suc a) i zero j v w e f ne =
-    inr (omega (arith, global_inside x j w (ok 0 x refl) f, element_within (n + 4 * word_count x) gs (later x gs ok) a i v e))
-elements_apart n (x ∷ gs) ok (suc a) i (suc b) j v w e f ne = elements_apart (n + 4 * word_count x) gs (later x gs ok) a i b j v w e f
+    inr (omega (arith, global_inside x j w (ok 0 x refl) f, element_within (n + 4 * word_count x) gs (λ a. ok (suc a)) a i v e))
+elements_apart n (x ∷ gs) ok (suc a) i (suc b) j v w e f ne = elements_apart (n + 4 * word_count x) gs (λ a. ok (suc a)) a i b j v w e f
     (λ same. ne (ap suc same))
 
 -- ---- bytes and words
@@ -184,7 +178,7 @@ have_values gs all a x there = (all_at IsGlobal gs a x all there).first
 pub data_length : (gs : List RGlobal) → HaveValues gs → length (padded_bytes gs) ≡ 4 * sum_by word_count gs
 data_length [] ok = refl
 data_length (x ∷ gs) ok =
-    omega (arith, global_length x (ok 0 x refl), data_length gs (later x gs ok), length-append (global_bytes x) (padded_bytes gs), sum_by-cons word_count x gs)
+    omega (arith, global_length x (ok 0 x refl), data_length gs (λ a. ok (suc a)), length-append (global_bytes x) (padded_bytes gs), sum_by-cons word_count x gs)
 
 pub data_fits : (gs : List RGlobal) → HaveValues gs → sum_by word_count gs ≤ MAX_GLOBAL_WORDS → length (padded_bytes gs) ≤ UNIT_BYTES
 data_fits gs ok le = omega (arith, data_length gs ok, le)

@@ -1,6 +1,6 @@
 -- Frames of chosen homes are within reach: copies are in registers of their own, and no frame is larger than its function says.
-use Rattle.std.proofs.Common.{◌≡◌, ℕ, zero, suc, ◌<◌, ◌≤◌, false, List, [], ◌∷◌, Some, refl, sym, ap, ◌∙◌, arith, true≢false, ◌+◌, ◌-◌, ◌⊎◌}
-use Rattle.std.proofs.Common.{inl, inr, true, length, Option, None, subst, nat_eq}
+use Rattle.std.proofs.Common.{◌≡◌, ℕ, zero, suc, ◌<◌, ◌≤◌, false, List, [], ◌∷◌, Some, refl, sym, ap, ◌∙◌, arith, true≢false, ◌-◌, ◌⊎◌}
+use Rattle.std.proofs.Common.{inl, inr, true, length, Option, None, nat_eq}
 use Rattle.std.specs.Prelude.{slice_get, if◌then◌else◌, slice_index}
 use Rattle.std.proofs.lemmas.Option.{same_Some, none-some, slice_get_within, slice_get-get_or}
 use Rattle.std.proofs.lemmas.Bool.{cond_both}
@@ -11,16 +11,15 @@ use Rattle.mips_homes.specs.Homes.{cell}
 use Rattle.mips_homes.specs.Convention.{temporaries}
 use Rattle.mips_homes.specs.Copies.{lives_in, is_leaf, unused, copied_onto, copied, is_slot}
 use Rattle.mips_homes.proofs.Copying.{onto_get}
-use Rattle.mips_homes.proofs.Located.{IsTemporary, unused_temporary, lives, GetsTemporaryIn, uncopied, is_plain, within, seated, case_of}
+use Rattle.mips_homes.proofs.Located.{IsTemporary, unused_temporary, lives, GetsTemporaryIn, uncopied, is_plain, within, case_of}
 use Rattle.mips_homes.proofs.Located.{places_long_as, placed_apart, still_was, still_few, has_slot}
-use Rattle.mips_emit.specs.Frames.{AreCopies, HaveNoCopies, IsHome, frame_size, IsFrame}
+use Rattle.mips_emit.specs.Frames.{AreCopies, HaveNoCopies, IsHome, IsFrame}
 use Rattle.std.proofs.lemmas.Bool.Decides.{nat_tests}
 use Rattle.rtl.specs.declared.block.RFunc.{RFunc}
 use Rattle.rtl.specs.Names.{how_many}
 use Rattle.mips_homes.specs.declared.homed.Frame.{Frame}
 use Rattle.mips_homes.specs.declared.homed.Homed.{Homed}
 use Rattle.mips_homes.specs.Choice.{IsChoice}
-use Rattle.mips_homes.specs.Preferences.{blocks_reach}
 use Rattle.mips_homes.specs.Places.{IsPlacedFor, ArePlaced}
 use Rattle.mips_select.proofs.Places.{block_there}
 use Rattle.mips_select.specs.Emittable.{AreReachable}
@@ -131,12 +130,6 @@ few (suc m) (suc n) f below apart =
     let second = apart i n (omega (arith, li)) (omega arith) in grind (arith, nat_tests, both, first, second)) in
     omega (arith, rest)
 
--- the frame of a choice is within reach
-record IsFitting (most : ℕ) (f : Frame) : Type 0 where
-  by : (x : ℕ) (h : Home) → slice_get f.homes.items x ≡ Some h → IsHome f.slots h
-  saved : (j r : ℕ) → slice_get f.saved.items j ≡ Some r → (16 ≤ r) × (r < 24)
-  fits : frame_size f ≤ most
-
 module _ {func : RFunc} {f : Frame} (ok : IsChoice func f) where
   saved_at : (j : ℕ) → j < length f.saved.items → slice_get f.saved.items j ≡ Some (slice_index f.saved.items j)
   saved_at j lt = slice_get-get_or f.saved.items j 0 lt
@@ -175,59 +168,45 @@ module _ {func : RFunc} {f : Frame} (ok : IsChoice func f) where
       home : (j : ℕ) → j < length f.saved.items → slice_get f.homes.items (chosen j (slice_get f.saved.items j) refl) ≡ Some (Reg (slice_index f.saved.items j))
       home j lt = chosen_home j (slice_get f.saved.items j) refl (slice_index f.saved.items j) (saved_at j lt)
 
-  is_frame : (most : ℕ) → frame_bytes_of func ≤ most → IsFitting most f
-  is_frame most le = record {
-    by = λ x h there. home x h there;
-    saved = saved_range;
-    fits = omega (arith, saved_eight, saved_few, ok.slots, le);
-  }
-    where
-      home : (x : ℕ) (h : Home) → slice_get f.homes.items x ≡ Some h → IsHome f.slots h
-      home x (Reg r) there = omega (arith, (ok.registers x r there).0)
-      home x (Slot k) there = ok.in_slots x k there
-      home x (Copied r k) there = absurd (ok.uncopied x r k there)
-
--- eight at most are saved then too
-pub placed_eight : (func : RFunc) (f : Frame) → IsPlacedFor func f → length f.saved.items ≤ 8
-placed_eight func f q = omega (arith, saved_eight q.is, still_few f.homes.items (q.choice).saved.items, ap length (q.placed).saved)
-
 -- with local pseudo-registers in caller-saved registers
-placed_is_frame : (func : RFunc) (f : Frame) → IsPlacedFor func f → (most : ℕ) → frame_bytes_of func ≤ most → IsFrame most f
-placed_is_frame func f q most le = record {
-  homes = record {
-    copied = rw (q.placed).homes (copies_are func.blocks.items (uncopied func q.choice f q.is q.placed) (is_plain func q.choice f q.is q.placed));
-    by = λ x h there. home x h there (case_of func q.choice f q.is q.placed x h there);
-    apart = placed_apart func q.choice f q.is q.placed;
-  };
-  saved = λ j r there. let w = still_was f.homes.items (q.choice).saved.items j r (rw (q.placed).saved at there) in was.saved w.0 r w.1;
-  fits = omega (arith, was.fits, still_few f.homes.items (q.choice).saved.items, ap length (q.placed).saved, slots_few);
-}
-  where
-    was : IsFitting most q.choice
-    was = is_frame q.is most le
+module _ {func : RFunc} {f : Frame} (q : IsPlacedFor func f) where
+  abbrev before : List Home
+  before = uncopied func q.choice f q.is q.placed
 
-    slots_few : f.slots ≤ (q.choice).slots
-    slots_few = grind (arith, (q.placed).slots)
+  plain : ArePlain before
+  plain = is_plain func q.choice f q.is q.placed
 
-    in_slot : (x : ℕ) (h : Home) (k : ℕ) → slice_get f.homes.items x ≡ Some h → is_slot h ≡ true → slice_get (q.choice).homes.items x ≡ Some (Slot k) → k < f.slots
-    in_slot x h k there slot e = omega (arith, was.by x (Slot k) e, rw (has_slot f.homes.items x h there slot) at (q.placed).slots)
+  -- eight at most are saved then too
+  pub placed_eight : length f.saved.items ≤ 8
+  placed_eight = omega (arith, saved_eight q.is, still_few f.homes.items (q.choice).saved.items, ap length (q.placed).saved)
 
-    home : (x : ℕ) (h : Home) → slice_get f.homes.items x ≡ Some h → (slice_get (q.choice).homes.items x ≡ Some (cell h)) ⊎ GetsTemporaryIn func q.choice f q.is q.placed x (cell h)
-        → IsHome f.slots h
-    home x (Reg r) there e = within func q.choice f q.is q.placed x r there
-    home x (Slot k) there (inl e) = in_slot x (Slot k) k there refl e
-    home x (Slot k) there (inr p) = let no : Slot k ≡ Reg p.r = p.is in cc
-    home x (Copied r k) there (inl e) = in_slot x (Copied r k) k there refl e
-    home x (Copied r k) there (inr p) = let no : Slot k ≡ Reg p.r = p.is in cc
+  -- a function with calls has no copies
+  pub placed_alone : is_leaf func.blocks.items ≡ false → HaveNoCopies f.homes.items
+  placed_alone calls = rw ((q.placed).homes, calls) (no_copies before plain)
 
--- a function with calls has no copies
-pub are_alone : (h : Homed) → ArePlaced h → (g : ℕ) (func : RFunc) (f : Frame) → slice_get (h.rtl.now).functions g ≡ Some func
-    → slice_get h.frames.items g ≡ Some f → is_leaf func.blocks.items ≡ false → HaveNoCopies f.homes.items
-are_alone h ok g func f there at calls =
-    let q = ok.by g func f there at in
-    let before = uncopied func q.choice f q.is q.placed in
-    let same : f.homes.items ≡ before = (q.placed).homes ∙ ap (λ b. if b then copied_onto (unused before temporaries) before else before) calls in
-    subst HaveNoCopies (sym same) (no_copies before (is_plain func q.choice f q.is q.placed))
+  in_slot : (x : ℕ) (h : Home) (k : ℕ) → slice_get f.homes.items x ≡ Some h → is_slot h ≡ true → slice_get (q.choice).homes.items x ≡ Some (Slot k) → k < f.slots
+  in_slot x h k there slot e = omega (arith, (q.is).in_slots x k e, rw (has_slot f.homes.items x h there slot) at (q.placed).slots)
+
+  placed_home : (x : ℕ) (h : Home) → slice_get f.homes.items x ≡ Some h
+      → (slice_get (q.choice).homes.items x ≡ Some (cell h)) ⊎ GetsTemporaryIn func q.choice f q.is q.placed x (cell h) → IsHome f.slots h
+  placed_home x (Reg r) there e = within func q.choice f q.is q.placed x r there
+  placed_home x (Slot k) there (inl e) = in_slot x (Slot k) k there refl e
+  placed_home x (Slot k) there (inr p) = let no : Slot k ≡ Reg p.r = p.is in cc
+  placed_home x (Copied r k) there (inl e) = in_slot x (Copied r k) k there refl e
+  placed_home x (Copied r k) there (inr p) = let no : Slot k ≡ Reg p.r = p.is in cc
+
+  pub placed_is_frame : (most : ℕ) → frame_bytes_of func ≤ most → IsFrame most f
+  placed_is_frame most le = record {
+    homes = record {
+      copied = rw (q.placed).homes (copies_are func.blocks.items before plain);
+      by = λ x h there. placed_home x h there (case_of func q.choice f q.is q.placed x h there);
+      apart = placed_apart func q.choice f q.is q.placed;
+    };
+    saved = λ j r there. let w = still_was f.homes.items (q.choice).saved.items j r (rw (q.placed).saved at there) in saved_range q.is w.0 r w.1;
+    fits =
+        let slots_few : f.slots ≤ (q.choice).slots = grind (arith, (q.placed).slots) in
+        omega (arith, saved_eight q.is, saved_few q.is, (q.is).slots, le, still_few f.homes.items (q.choice).saved.items, ap length (q.placed).saved, slots_few);
+  }
 
 -- ---- the largest one
 
@@ -240,13 +219,7 @@ pub are_frames : (h : Homed) → ArePlaced h → (g : ℕ) (f : Frame) → slice
 are_frames h ok g f there =
     let within = slice_get_within h.frames.items g f there in
     let func = block_there (h.rtl.now).functions g (omega (arith, within, ok.long)) in
-    placed_is_frame func.0 f (ok.by g func.0 f func.1 there) (largest_frame (h.rtl.now).functions) (largest_bounds (h.rtl.now).functions g func.0 func.1)
-
--- a register below 8 is one in which no argument is passed behind it, and the one in which a parameter comes
-pub are_seated : (h : Homed) → ArePlaced h → (g : ℕ) (func : RFunc) (f : Frame) → slice_get (h.rtl.now).functions g ≡ Some func
-    → slice_get h.frames.items g ≡ Some f → (x r : ℕ) → slice_get f.homes.items x ≡ Some (Reg r)
-    → (8 ≤ r) ⊎ ((blocks_reach func.blocks.items x + 3 ≤ r) × (x < func.parameters → r ≡ 4 + x))
-are_seated h ok g func f got there = (let q = ok.by g func f got there in seated func q.choice f q.is q.placed)
+    placed_is_frame (ok.by g func.0 f func.1 there) (largest_frame (h.rtl.now).functions) (largest_bounds (h.rtl.now).functions g func.0 func.1)
 
 -- homes are as many as pseudo-registers
 homes_many : (funcs : List RFunc) (fs : List Frame) → length fs ≡ length funcs → ((i : ℕ) (func : RFunc) (f : Frame) → slice_get funcs i ≡ Some func

@@ -70,6 +70,11 @@ entries_below k [] g lt = absurd (omega (arith, lt))
 entries_below k (func ∷ funcs) zero lt = omega (arith, function_some func.blocks.items)
 entries_below k (func ∷ funcs) (suc g) lt = omega (arith, entries_below (k + function_size func) funcs g (omega (arith, lt)))
 
+-- those of each function
+abbrev pub each_function : Linking → ℕ → List RFunc → List Frame → List (List BlockParts)
+each_function l k (func ∷ funcs) (f ∷ fs) = function_blocks l k func f ∷ each_function l (k + function_size func) funcs fs
+each_function l k _ _ = []
+
 module _ (l : Linking) (functions : List RFunc) (bound : ℕ) (entry_below : (g : ℕ) → g < length functions → l.entry g < bound) where
   module _ (start size blocks : ℕ) (fits : start + size ≤ bound) (p : Planning) (place_from : (t : ℕ)
       → t < blocks → IsFrom start size (p.place t)) where
@@ -143,81 +148,53 @@ module _ (l : Linking) (functions : List RFunc) (bound : ℕ) (entry_below : (g 
         by = λ i b there. rw (function_length l k func f) (all_at (Goes k size (length bs) le p from_next) (function_blocks l k func f) i b all there);
       }
 
-  -- those of each function
-  abbrev pub each_function : ℕ → List RFunc → List Frame → List (List BlockParts)
-  each_function k (func ∷ funcs) (f ∷ fs) = function_blocks l k func f ∷ each_function (k + function_size func) funcs fs
-  each_function k _ _ = []
-
   functions_go : (k : ℕ) (funcs : List RFunc) (fs : List Frame) → All GivenFunction funcs → k + functions_size funcs ≤ bound
-      → AreFunctions bound k (each_function k funcs fs)
+      → AreFunctions bound k (each_function l k funcs fs)
   functions_go k (func ∷ funcs) (f ∷ fs) has le = (
     function_goes k func f (All-head GivenFunction func funcs has) (omega (arith, le)),
     rw (function_length l k func f) (functions_go (k + function_size func) funcs fs (All-tail GivenFunction func funcs has) (omega (arith, le))),
   )
   functions_go k _ _ has le = tt
 
-  functions_joined : (k : ℕ) (funcs : List RFunc) (fs : List Frame) → blocks_of (each_function k funcs fs) ≡ functions_blocks l k funcs fs
-  functions_joined k (func ∷ funcs) (f ∷ fs) = ap (λ rest. function_blocks l k func f ++ rest) (functions_joined (k + function_size func) funcs fs)
-  functions_joined k _ _ = refl
+functions_joined : (l : Linking) (k : ℕ) (funcs : List RFunc) (fs : List Frame) → blocks_of (each_function l k funcs fs) ≡ functions_blocks l k funcs fs
+functions_joined l k (func ∷ funcs) (f ∷ fs) = ap (λ rest. function_blocks l k func f ++ rest) (functions_joined l (k + function_size func) funcs fs)
+functions_joined l k _ _ = refl
 
-  functions_length : (k : ℕ) (funcs : List RFunc) (fs : List Frame) → length fs ≡ length funcs
-      → length (blocks_of (each_function k funcs fs)) ≡ functions_size funcs
-  functions_length k [] fs same = refl
-  functions_length k (func ∷ funcs) [] same = absurd (omega (arith, same))
-  functions_length k (func ∷ funcs) (f ∷ fs) same =
-      omega (arith, function_length, functions_length (k + function_size func) funcs fs (omega (arith, same)), length-append {A = BlockParts})
+functions_length : (l : Linking) (k : ℕ) (funcs : List RFunc) (fs : List Frame) → length fs ≡ length funcs
+    → length (functions_blocks l k funcs fs) ≡ functions_size funcs
+functions_length l k [] fs same = refl
+functions_length l k (func ∷ funcs) [] same = absurd (omega (arith, same))
+functions_length l k (func ∷ funcs) (f ∷ fs) same =
+    omega (arith, function_length, functions_length l (k + function_size func) funcs fs (omega (arith, same)), length-append {A = BlockParts})
 
-  functions_owners : (k : ℕ) (funcs : List RFunc) (fs : List Frame) → length fs ≡ length funcs → owners_of k (each_function k funcs fs) ≡ owners_from k funcs
-  functions_owners k [] fs same = refl
-  functions_owners k (func ∷ funcs) [] same = absurd (omega (arith, same))
-  functions_owners k (func ∷ funcs) (f ∷ fs) same =
-      cc (function_length l k func f, functions_owners (k + function_size func) funcs fs (omega (arith, same)))
+functions_owners : (l : Linking) (k : ℕ) (funcs : List RFunc) (fs : List Frame) → length fs ≡ length funcs
+    → owners_of k (each_function l k funcs fs) ≡ owners_from k funcs
+functions_owners l k [] fs same = refl
+functions_owners l k (func ∷ funcs) [] same = absurd (omega (arith, same))
+functions_owners l k (func ∷ funcs) (f ∷ fs) same =
+    cc (function_length l k func f, functions_owners l (k + function_size func) funcs fs (omega (arith, same)))
 
 -- as many as the functions take, and two
 pub program_length : (h : Homed) → length h.frames.items ≡ length (h.rtl.now).functions → length (program_blocks h) ≡ 2 + functions_size (h.rtl.now).functions
-program_length h same =
-    let p = h.rtl.now in
-    let bound = 2 + functions_size p.functions in
-    let joined = functions_joined (linking_for p) p.functions bound (λ g lt. entries_below 2 p.functions g lt) 2 p.functions h.frames.items in
-    let long = functions_length (linking_for p) p.functions bound (λ g lt. entries_below 2 p.functions g lt) 2 p.functions h.frames.items same in
-    omega (arith, ap length joined, long)
+program_length h same = omega (arith, functions_length (linking_for h.rtl.now) 2 (h.rtl.now).functions h.frames.items same)
+
+starts_go : (bound main : ℕ) → main < bound → 1 < bound → (i : ℕ) (b : BlockParts) → slice_get (start_block main ∷ end_block ∷ []) i ≡ Some b
+    → GoesWithin bound 0 2 b.exit
+starts_go bound main lt low zero b there = rw (← same_Some _ b there) (lt, low)
+starts_go bound main lt low (suc zero) b there = rw (← same_Some _ b there) tt
+starts_go bound main lt low (suc (suc i)) b there = absurd (none-some b there)
 
 -- every block that an exit names exists, and branches stay in their functions
 pub program_well : (h : Homed) → IsProgram h.rtl.now → length h.frames.items ≡ length (h.rtl.now).functions
     → AreLinked (program_blocks h) × AreOwners (program_blocks h) (owners_for (h.rtl.now).functions)
 program_well h ok same =
-    rw (functions_joined l funcs bound below 2 funcs fs, functions_owners l funcs bound below 2 funcs fs same) at (functions_owned all functions)
-  where
-    l : Linking
-    l = linking_for h.rtl.now
-
-    funcs : List RFunc
-    funcs = (h.rtl.now).functions
-
-    fs : List Frame
-    fs = h.frames.items
-
-    bound : ℕ
-    bound = 2 + functions_size (h.rtl.now).functions
-
-    below : (g : ℕ) → g < length (h.rtl.now).functions → entry_of (h.rtl.now).functions g < bound
-    below g lt = entries_below 2 (h.rtl.now).functions g lt
-
-    first : List BlockParts
-    first = start_block (entry_of funcs (h.rtl.now).main) ∷ end_block ∷ []
-
-    all : List (List BlockParts)
-    all = first ∷ each_function l funcs bound below 2 funcs fs
-
-    size : length (blocks_of all) ≡ bound
-    size = omega (arith, functions_length l funcs bound below 2 funcs fs same)
-
-    starts_go : (i : ℕ) (b : BlockParts) → slice_get first i ≡ Some b → GoesWithin bound 0 2 b.exit
-    starts_go zero b there = rw (← same_Some _ b there)
-        (below (h.rtl.now).main (slice_get_within funcs (h.rtl.now).main (ok.main).callee (ok.main).there), omega arith)
-    starts_go (suc zero) b there = rw (← same_Some _ b there) tt
-    starts_go (suc (suc i)) b there = absurd (none-some b there)
-
-    functions : AreFunctions (length (blocks_of all)) 0 all
-    functions = subst (λ n. AreFunctions n 0 all) (sym size)
-        (record { by = starts_go }, functions_go l funcs bound below 2 funcs fs ok.functions (omega arith))
+    let l = linking_for h.rtl.now in
+    let funcs = (h.rtl.now).functions in
+    let fs = h.frames.items in
+    let bound = 2 + functions_size funcs in
+    let below = λ (g : ℕ) (lt : g < length funcs). entries_below 2 funcs g lt in
+    let main = below (h.rtl.now).main (slice_get_within funcs (h.rtl.now).main (ok.main).callee (ok.main).there) in
+    let all = (start_block (entry_of funcs (h.rtl.now).main) ∷ end_block ∷ []) ∷ each_function l 2 funcs fs in
+    let size : length (blocks_of all) ≡ bound = omega (arith, ap length (functions_joined l 2 funcs fs), functions_length l 2 funcs fs same) in
+    rw (functions_joined l 2 funcs fs, functions_owners l 2 funcs fs same) at (functions_owned all (subst (λ n. AreFunctions n 0 all) (sym size)
+    (record { by = starts_go bound _ main (omega arith) }, functions_go l funcs bound below 2 funcs fs ok.functions (omega arith))))

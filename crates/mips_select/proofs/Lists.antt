@@ -1,5 +1,5 @@
 -- Elements of lists.
-use Rattle.std.proofs.Common.{◌≡◌, ℕ, zero, suc, ◌+◌, ◌<◌, ◌≤◌, List, [], ◌∷◌, ◌++◌, length, drop, get_or, Some, ap, subst, ◌∙◌, arith}
+use Rattle.std.proofs.Common.{◌≡◌, ℕ, zero, suc, ◌+◌, ◌<◌, ◌≤◌, List, [], ◌∷◌, ◌++◌, length, drop, get_or, Some, sym, ap, subst, ◌∙◌, arith}
 use Rattle.std.specs.Prelude.{All, slice_get}
 use Rattle.std.proofs.lemmas.List.{append_assoc, append-nil, at_drop_more, at_drop_all}
 use Rattle.std.proofs.lemmas.Option.{none-some, slice_get_within, get_or_from_slice_get}
@@ -16,11 +16,16 @@ get_before [] b i x e = absurd (none-some x e)
 get_before (y ∷ a) b zero x e = e
 get_before (y ∷ a) b (suc i) x e = get_before a b i x e
 
+-- a loop over a list at its next element
+pub drop_item : {A B : Type 0} (f : List A → B) (xs : List A) (i : ℕ) {x : A} → i < length xs → x ≡ get_or xs i x → f (drop i xs) ≡ f (x ∷ drop (i + 1) xs)
+drop_item f xs i {x} within is = at_drop_more f xs i x within ∙ ap (λ y. f (y ∷ drop (i + 1) xs)) (sym is)
+
 -- what is made element by element: behind what one element gives comes what the rest gives
-pub made_more : {A B : Type 0} (f : List A → List B) (xs : List A) (i : ℕ) (x : A) (out out' own rest all : List B) → i < length xs → x ≡ get_or xs i x
-    → f (x ∷ drop (i + 1) xs) ≡ own ++ rest → out' ≡ out ++ own → out ++ f (drop i xs) ≡ all → out' ++ rest ≡ all
-made_more f xs i x out out' own rest all within is step made before = cc (append_assoc out own rest, at_drop_more f xs i x within)
+pub made_more : {A B : Type 0} (f : List A → List B) (xs : List A) (i : ℕ) {x : A} (out own rest : List B) {all : List B} → i < length xs → x ≡ get_or xs i x
+    → f (x ∷ drop (i + 1) xs) ≡ own ++ rest → out ++ f (drop i xs) ≡ all → (out ++ own) ++ rest ≡ all
+made_more f xs i out own rest within is step before =
+    append_assoc out own rest ∙ ap (λ l. out ++ l) (sym (drop_item f xs i within is ∙ step)) ∙ before
 
 -- behind the last element nothing is left
-pub all_made : {A B : Type 0} (f : List A → List B) (xs : List A) (i : ℕ) (out all : List B) → length xs ≤ i → f [] ≡ [] → out ++ f (drop i xs) ≡ all → out ≡ all
-all_made f xs i out all past none before = cc (at_drop_all f xs i past, append-nil out)
+pub all_made : {A B : Type 0} (f : List A → List B) (xs : List A) (i : ℕ) {out all : List B} → length xs ≤ i → f [] ≡ [] → out ++ f (drop i xs) ≡ all → out ≡ all
+all_made f xs i {out} past none before = sym (append-nil out) ∙ ap (λ l. out ++ l) (sym (at_drop_all f xs i past ∙ none)) ∙ before

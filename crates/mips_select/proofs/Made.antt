@@ -1,13 +1,13 @@
 -- Pieces that are being made.
-use Rattle.std.proofs.Common.{◌≡◌, ℕ, suc, ◌+◌, ◌-◌, ◌/◌, ◌<◌, ◌≤◌, List, [], ◌∷◌, ◌++◌, length, length-append, get_or, ap}
+use Rattle.std.proofs.Common.{◌≡◌, ℕ, suc, ◌+◌, ◌-◌, ◌/◌, ◌<◌, ◌≤◌, List, [], ◌∷◌, ◌++◌, length, length-append, ap}
 use Rattle.std.proofs.Common.{arith, take, drop}
-use Rattle.std.specs.Prelude.{All, ◌^◌, slice_index, replicate}
-use Rattle.std.proofs.lemmas.List.{append_assoc, at_drop_more}
+use Rattle.std.specs.Prelude.{All, ◌^◌, slice_index}
+use Rattle.std.proofs.lemmas.List.{append_assoc}
 use Rattle.mips_isa.specs.declared.inst.Plain.{Plain}
 use Rattle.mblock.specs.declared.exit.Exit.{Exit}
 use Rattle.mblock.specs.declared.exit.Exit.TheVariants.{Goto}
 use Rattle.mblock.specs.Parts.{BlockParts}
-use Rattle.mips_select.specs.Split.{renumbered_exit, more_pieces, piece, pieces, count_of, total, firsts, split_from, first_piece_of, owners_from, split_blocks}
+use Rattle.mips_select.specs.Split.{renumbered_exit, more_pieces, piece, pieces, count_of, total, firsts, split_from, first_piece_of, owners_from}
 use Rattle.mblock.specs.Units.{AreLinked, AreOwners, IsUnit, unit_parts}
 use Rattle.mips_select.proofs.Places.{length-pieces, length-split_from, total_above}
 use Rattle.mips_select.proofs.Well.{pieces_linked, pieces_owned}
@@ -38,23 +38,6 @@ block_step place b bs bs' out out' all count exit old left exit_is old_is made c
     cc (length-append out own, length-pieces 512 (renumbered_exit place b.exit) (more_pieces 512 b) (length out) b.insts) in
     let counts : total 512 bs ≡ count_of 512 b + total 512 bs' = ap (total 512) left in
     (omega (arith, counted, counts, longer), cc (append_assoc out own (split_from 512 place (length out + count_of 512 b) bs')))
-
--- the owner of one more block's pieces
-pub owner_step : (place : ℕ → ℕ) (i o first more : ℕ) (long : List BlockParts) (owner : List ℕ) (b : BlockParts) (out out' all : List ℕ)
-    → i < length long → length owner ≡ length long → b ≡ get_or long i b → o ≡ get_or owner i o
-    → first ≡ place o → more ≡ more_pieces 512 b → out' ≡ out ++ replicate (1 + more) first → out ++ owners_from 512 place (drop i long) (drop i owner) ≡ all
-    → out' ++ owners_from 512 place (drop (i + 1) long) (drop (i + 1) owner) ≡ all
-owner_step place i o first more long owner b out out' all within same b_is o_is first_is more_is made before =
-    let bs = drop (i + 1) long in
-    let os = drop (i + 1) owner in
-    let own = replicate (count_of 512 b) (place o) in
-    let count : 1 + more ≡ count_of 512 b = omega (arith, more_is) in
-    cc (append_assoc out own (owners_from 512 place bs os), at_drop_more (λ l. l) long i b within, at_drop_more (λ l. l) owner i o (omega (arith, within, same)))
-
--- pieces by a table of the numbers of first pieces
-pub pieces_are : (long : List BlockParts) {numbers table : List ℕ} {blocks : List BlockParts} → numbers ≡ firsts 512 0 long → table ≡ numbers
-    → blocks ≡ split_from 512 (λ n. slice_index table n) 0 long → blocks ≡ split_blocks long
-pieces_are long numbers_is table_is blocks_is = rw (blocks_is, table_is, numbers_is)
 
 -- pieces with their owners are a unit
 pub unit_made : {long : List BlockParts} {owner globals numbers table table2 : List ℕ} {blocks : List BlockParts} {owners : List ℕ} → AreLinked long

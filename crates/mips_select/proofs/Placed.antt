@@ -1,5 +1,5 @@
 -- The blocks for a program stand for it.
-use Rattle.std.proofs.Common.{◌≡◌, ℕ, zero, suc, ◌+◌, ◌*◌, ◌<◌, ◌≤◌, ◌⊎◌, inl, inr, Bool, false, List, [], ◌∷◌, ◌++◌, length}
+use Rattle.std.proofs.Common.{◌≡◌, ℕ, zero, suc, ◌+◌, ◌<◌, ◌≤◌, ◌⊎◌, inl, inr, Bool, false, List, [], ◌∷◌, ◌++◌, length}
 use Rattle.std.proofs.Common.{⊎_elim, Option, Some, None, refl, sym, ap, ◌∙◌, arith}
 use Rattle.std.specs.Prelude.{All, if◌then◌else◌, slice_get, slice_index}
 use Rattle.std.proofs.lemmas.Option.{same_Some, none-some, slice_get_within}
@@ -13,20 +13,19 @@ use Rattle.rtl.specs.declared.block.RFunc.{RFunc}
 use Rattle.rtl.specs.Programs as programs
 use Rattle.rtl.specs.Programs.{IsProgram}
 use Rattle.mips_homes.specs.Preferences.{exit_reach, blocks_reach}
-use Rattle.mips_homes.proofs.Located.{reach_covers, blocks_cover}
+use Rattle.mips_homes.proofs.Located.{reach_covers, blocks_cover, seated as placed_seated}
+use Rattle.mips_homes.specs.Places.{ArePlaced}
 use Rattle.mips_homes.specs.declared.homed.Home.{Home}
 use Rattle.mips_homes.specs.declared.homed.Home.TheVariants.{Reg, Copied}
 use Rattle.mips_homes.specs.declared.homed.Frame.{Frame}
 use Rattle.mips_homes.specs.declared.homed.Homed.{Homed}
-use Rattle.mips_emit.specs.declared.limits.TheConstants.{FRAME_BYTES}
-use Rattle.mips_emit.specs.Frames.{HaveNoCopies, IsFrame}
 use Rattle.mips_emit.specs.Locations.{locations}
 use Rattle.mips_select.proofs.Places.{HasAt, has_head, has_tail, has_front, has_back}
 use Rattle.mips_select.specs.declared.heads.Naming.{Naming}
 use Rattle.mips_select.specs.declared.heads.Naming.TheVariants.{Called}
 use Rattle.mips_select.specs.declared.heads.Head.{Head}
 use Rattle.mips_select.specs.declared.heads.Head.TheVariants.{Bare, Enters, Takes}
-use Rattle.mips_select.specs.declared.limits.TheConstants.{STACK_BYTES}
+use Rattle.mips_select.specs.Limits.{largest_frame, FramesFit}
 use Rattle.mips_select.specs.Heads.{calls_none, is_leaf, namings, unnamed, head_at, heads_of, resumes, count, lead_of, lead_in}
 use Rattle.mips_select.specs.Plans.{Linking, Planning}
 use Rattle.mips_select.specs.Code.{prologue, result_code, head_code, own_block, after_block, prologue_block}
@@ -35,6 +34,7 @@ use Rattle.mips_select.specs.Whole.{entry_of, functions_blocks, linking_for, pro
 use Rattle.mips_select.specs.Selected.{IsBehind, AreInOrder, IsClear, AreClear, GoesOn, StandsAt, IsSelected}
 use Rattle.mips_select.proofs.Lists.{all_at}
 use Rattle.mips_select.proofs.Linked.{behind_length, lead_length, function_length}
+use Rattle.mips_select.proofs.FrameSizes.{placed_alone, are_frames}
 use Rattle.mips_select.proofs.Named.{NamedCall, Named, named}
 
 -- a home below 8 is in a register in which no argument is passed behind it, and where a parameter comes
@@ -131,18 +131,13 @@ module _ (whole : List BlockParts) (l : Linking) where
       (λ b. ok (suc b)) i b block there at (omega (arith, is))
 
   -- the prologue stands in a block of its own, or at the head of block 0
-  begins : (p : Planning) (k : ℕ) (rest : List BlockParts) → HasAt whole k (lead_blocks p (p.heads 0) ++ rest)
-      → (p.heads 0 ≡ Enters → p.place 0 ≡ k) → ((d : ℕ) → p.heads 0 ≡ Takes d → ⊥)
+  begins : (p : Planning) (k : ℕ) (rest : List BlockParts) (x : Head) → p.heads 0 ≡ x → HasAt whole k (lead_blocks p x ++ rest)
+      → (x ≡ Enters → p.place 0 ≡ k) → ((d : ℕ) → x ≡ Takes d → ⊥)
       → ((slice_get whole k ≡ Some (prologue_block p.leaf p.frame p.parameters (p.place 0))) × (heads_code p 0 ≡ []))
       ⊎ ((k ≡ p.place 0) × (heads_code p 0 ≡ prologue p.leaf p.frame p.parameters))
-  begins p k rest has same none = go (p.heads 0) refl has
-    where
-      go : (x : Head) → p.heads 0 ≡ x → HasAt whole k (lead_blocks p x ++ rest)
-          → ((slice_get whole k ≡ Some (prologue_block p.leaf p.frame p.parameters (p.place 0))) × (heads_code p 0 ≡ []))
-          ⊎ ((k ≡ p.place 0) × (heads_code p 0 ≡ prologue p.leaf p.frame p.parameters))
-      go Bare e has = inl (has_head has, ap (head_code p) e)
-      go Enters e has = inr (sym (same e), ap (head_code p) e)
-      go (Takes d) e has = absurd (none d e)
+  begins p k rest Bare e has same none = inl (has_head has, ap (head_code p) e)
+  begins p k rest Enters e has same none = inr (sym (same refl), ap (head_code p) e)
+  begins p k rest (Takes d) e has same none = absurd (none d refl)
 
   found : (k : ℕ) (funcs : List RFunc) (fs : List Frame) → HasAt whole k (functions_blocks l k funcs fs)
       → (g : ℕ) (func : RFunc) (f : Frame) → slice_get funcs g ≡ Some func → slice_get fs g ≡ Some f
@@ -165,14 +160,10 @@ no_take bs d e = go (slice_get (namings bs (unnamed bs)) 0) e
     go (Some (Called None)) e = cc
     go _ e = cc
 
-pub program_selected : (h : Homed) (depth most : ℕ) → IsProgram h.rtl.now → ((g : ℕ) (f : Frame) → slice_get h.frames.items g ≡ Some f → IsFrame most f)
-    → ((g : ℕ) (func : RFunc) (f : Frame) → slice_get (h.rtl.now).functions g ≡ Some func → slice_get h.frames.items g ≡ Some f → AreSeated func f)
-    → ((g : ℕ) (func : RFunc) (f : Frame) → slice_get (h.rtl.now).functions g ≡ Some func → slice_get h.frames.items g ≡ Some f
-    → is_leaf func.blocks.items ≡ false → HaveNoCopies f.homes.items)
-    → most ≤ FRAME_BYTES → depth * most ≤ STACK_BYTES → IsSelected h depth (program_blocks h)
-program_selected h depth most ok frames seated alone small room = record {
+pub program_selected : (h : Homed) (depth : ℕ) → IsProgram h.rtl.now → ArePlaced h → FramesFit h.rtl.now depth → IsSelected h depth (program_blocks h)
+program_selected h depth ok choices fit = record {
   entry = entry_of (h.rtl.now).functions;
-  most = most;
+  most = largest_frame (h.rtl.now).functions;
   program = ok;
   start = refl;
   end = refl;
@@ -187,9 +178,10 @@ program_selected h depth most ok frames seated alone small room = record {
       let heads = heads_of bs in
       let first = k + lead_in heads in
       let is = all_at (programs.IsFunction program.functions (length program.globals)) program.functions g func ok.functions there_f in
-      let frame = frames g f f_there in
+      let q = choices.by g func f there_f f_there in
+      let frame = are_frames h choices g f f_there in
       let range = ((frame.homes).copied).range in
-      let seats = seated g func f there_f f_there in
+      let seats = placed_seated func q.choice f q.is q.placed in
       let allows : (b : ℕ) (block : RBlock) → slice_get bs b ≡ Some block → Allows p block.exit = λ b block at. (
         named bs (unnamed bs) b block at,
         leaf_fine bs b block at,
@@ -201,15 +193,15 @@ program_selected h depth most ok frames seated alone small room = record {
         leaf = is_leaf bs;
         place = place_in k bs;
         head = heads_code p;
-        first = begins whole l p k (blocks_from l p first 0 bs) has (first_place k bs) (no_take bs);
+        first = begins whole l p k (blocks_from l p first 0 bs) (heads 0) refl has (first_place k bs) (no_take bs);
         placed = record { by = λ b block there. placed whole l p first 0 bs has' allows b b block there refl (omega arith) };
         frame = frame;
         parameters = is.parameters;
         clear = are_clear func f range seats 4 0 func.parameters refl (omega arith);
-        alone = alone g func f there_f f_there;
+        alone = placed_alone q;
       };
-  small = small;
-  room = room;
+  small = fit.frames;
+  room = fit.stack;
 }
   where
     rest : HasAt (program_blocks h) 2 (functions_blocks (linking_for h.rtl.now) 2 (h.rtl.now).functions h.frames.items)

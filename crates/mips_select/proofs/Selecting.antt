@@ -1,14 +1,12 @@
 -- The parts of a program's unit, put together.
 use Rattle.std.proofs.Common.{◌≡◌, ℕ, ◌+◌, ◌<◌, ◌≤◌, List, length, length-append, Some, refl, ap}
 use Rattle.std.proofs.Common.{◌∙◌, arith, Result, IfErr}
-use Rattle.std.specs.Prelude.{All, map, slice_get, slice_index}
+use Rattle.std.specs.Prelude.{All, slice_get}
 use Rattle.std.proofs.lemmas.List.Sums.{get_or-le-sum_by}
 use Rattle.std.proofs.lemmas.Option.{get_or_from_slice_get, slice_get_within}
 use Rattle.std.proofs.lemmas.Result.{err_from_is_err_and}
 use Rattle.std.specs.Result.{IsErrAnd}
 use Rattle.mblock.specs.declared.limits.TheConstants.{UNIT_BLOCKS, UNIT_BYTES, BLOCK_INSTS}
-use Rattle.mblock.specs.Parts.{BlockParts}
-use Rattle.mblock.specs.Units.{UnitParts, unit_parts}
 use Rattle.rtl.specs.declared.instruction.RExit.{RExit}
 use Rattle.rtl.specs.declared.instruction.RExit.TheVariants.{Call}
 use Rattle.rtl.specs.declared.block.RFunc.{RFunc}
@@ -19,13 +17,13 @@ use Rattle.mips_homes.specs.declared.homed.Homed.{Homed}
 use Rattle.mips_homes.specs.Places.{ArePlaced}
 use Rattle.mips_select.specs.declared.fault.SelectFault.{SelectFault}
 use Rattle.mips_select.specs.declared.fault.SelectFault.TheVariants.{Limit}
-use Rattle.mips_select.specs.Split.{split_blocks, split_owners, first_piece_of, firsts}
+use Rattle.mips_select.specs.Split.{first_piece_of}
 use Rattle.mips_select.proofs.Places.{total_above, length-split_from}
 use Rattle.mips_select.specs.Data.{zeros, data_bytes}
 use Rattle.mips_select.specs.Emittable.{HasFewArguments, AreFunctionsEmittable}
 use Rattle.mips_select.specs.Limits.{FramesFit}
-use Rattle.mips_select.specs.Whole.{functions_size, numbers_from, owners_for, program_blocks, unit_for}
-use Rattle.mips_select.specs.Laws.{IsSelected, IsNumbered, IsBeyond}
+use Rattle.mips_select.specs.Whole.{functions_size, program_blocks, unit_for}
+use Rattle.mips_select.specs.Laws.{IsBeyond}
 use Rattle.mips_select.proofs.Lists.{all_at}
 use Rattle.mips_select.proofs.DataPlaces.{have_values, data_fits, data_ends}
 use Rattle.mips_select.proofs.Linked.{program_length}
@@ -71,40 +69,12 @@ many_pieces h ok =
     let pieces = length-split_from BLOCK_INSTS (first_piece_of BLOCK_INSTS (program_blocks h)) 0 (program_blocks h) in
     omega (arith, program_length h ok.long, total_above BLOCK_INSTS (program_blocks h), pieces)
 
-pub beyond : (h : Homed) (p : Program) → h.rtl.now ≡ p → ArePlaced h → UNIT_BLOCKS < length (unit_for h).blocks → IsBeyond p
-beyond h p lent ok many = record { homed = h; lent = lent; choices = ok; many = many }
-
 -- a pass behind the homes that tells of a limit
 pub told_beyond : {T : Type 0} {h : Homed} {p : Program} {fault : SelectFault} (depth : ℕ) (r : Result T SelectFault) → IsErrAnd r (λ e. e ≡ fault)
     → h.rtl.now ≡ p → ArePlaced h → (fault ≡ Limit → UNIT_BLOCKS < length (unit_for h).blocks) → IfErr r (λ e. e ≡ Limit → FramesFit p depth → IsBeyond p)
 told_beyond {T} {h} {p} {fault} depth r told lent ok many =
     let q = err_from_is_err_and r told in
-    rw (q.1, q.2) (λ e fit. beyond h p lent ok (many e))
-
-pub selected : (h : Homed) (p : Program) (u : UnitParts) → h.rtl.now ≡ p → ArePlaced h → u ≡ unit_for h → IsSelected p u
-selected h p u lent ok is = record { homed = h; lent = lent; places = ok; unit = is }
-
--- what is put together is the unit of the program over its homes
-pub unit_made : (h : Homed) {u : UnitParts} {blocks : List BlockParts} {owners owners' bytes : List ℕ} {globals : List RGlobal}
-    → blocks ≡ program_blocks h → owners ≡ owners_for (h.rtl.now).functions → owners' ≡ owners → globals ≡ (h.rtl.now).globals
-    → bytes ≡ data_bytes globals → u ≡ unit_parts (split_blocks blocks) (split_owners blocks owners') bytes → u ≡ unit_for h
-unit_made h is o_is o_is' g_is b_is u_is = cc
-
--- ---- the numbers of its blocks
-
-pub numbers_found : (long : List BlockParts) (funcs : List RFunc) {long' : List BlockParts} {pieces table numbers numbers' found : List ℕ} → long' ≡ long
-    → pieces ≡ firsts BLOCK_INSTS 0 long' → table ≡ pieces → numbers ≡ numbers_from 2 funcs → numbers' ≡ numbers → found ≡ map (slice_index table) numbers'
-    → found ≡ map (first_piece_of BLOCK_INSTS long) (numbers_from 2 funcs)
-numbers_found long funcs l_is p_is t_is n_is n_is' is = cc
-
-pub numbered : (h : Homed) (p : Program) (u : UnitParts) {blocks : List BlockParts} {funcs : List RFunc} {numbers : List ℕ} → h.rtl.now ≡ p
-    → ArePlaced h → u ≡ unit_for h → blocks ≡ program_blocks h → funcs ≡ (h.rtl.now).functions
-    → numbers ≡ map (first_piece_of BLOCK_INSTS blocks) (numbers_from 2 funcs) → IsNumbered p u numbers
-unfolding selected
-numbered h p u lent ok u_is is f_is n_is = record {
-  selected = selected h p u lent ok u_is;
-  begin = rw (is, f_is) at n_is;
-}
+    rw (q.1, q.2) (λ e fit. record { homed = h; lent = lent; choices = ok; many = many e })
 
 pub bytes_fit : (p : Program) (bytes : List ℕ) (globals : List RGlobal) → IsProgram p → globals ≡ p.globals → bytes ≡ data_bytes globals
     → length bytes ≤ UNIT_BYTES

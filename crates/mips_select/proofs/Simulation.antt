@@ -5,7 +5,7 @@ use Rattle.std.specs.Prelude.{if◌then◌else◌, not, slice_get}
 use Rattle.std.proofs.lemmas.List.{append-nil, append_assoc}
 use Rattle.std.proofs.lemmas.Option.{same_Some, none-some, slice_get_within}
 use Rattle.std.proofs.Math.Nat.{mul-le-mul_right}
-use Rattle.std.proofs.lemmas.Bool.{and_parts}
+use Rattle.std.proofs.lemmas.Bool.{and_parts, cond_both}
 use Rattle.runs.specs.Stores.{Places, places_with, unset_places, Arrays}
 use Rattle.mips_isa.specs.declared.inst.Plain.{Plain}
 use Rattle.mips_isa.specs.States.{State}
@@ -37,7 +37,7 @@ use Rattle.mips_emit.specs.Code.{inst_code, carry}
 use Rattle.mips_emit.specs.Comparisons.{comparison_code, comparison_of, asked_last, next_code, last_with, no_last, last_after}
 use Rattle.mips_emit.specs.Comparisons.{tested, branch_code, branch_exit, is_result, returned, return_code}
 use Rattle.mips_emit.specs.Frames.{IsFrame}
-use Rattle.mips_emit.proofs.Runs.{RunsTo, if_some, runs_none, runs_then, Point, At, Stopped, from, Leads, leads_nowhere, leads_then, leads_run, leads_exit}
+use Rattle.mips_emit.proofs.Runs.{RunsTo, if_some, runs_none, runs_then, Point, At, Stopped, from, Leads, leads_then, leads_run, leads_exit}
 use Rattle.mips_emit.proofs.View.{word_at, set, set_words, put_here, put_other, moves}
 use Rattle.mips_emit.proofs.Stands.{Stored, stack_room, Stands}
 use Rattle.mips_emit.proofs.Operands.{passes, Denotes, hide, AreDeferred, none_deferred, AreBases, no_bases, IsLast, none_last, frame_homes, IsKnown, nothing_known}
@@ -184,11 +184,6 @@ module _ {h : Homed} {depth : ℕ} {blocks : List BlockParts} (ok : IsSelected h
       → slice_get blocks t ≡ Some target → Lead 1 (At k [] s out) (At t target.insts s out)
   jump there is at = departs there is (λ n. rw at)
 
-  -- a block without head
-  no_head : {d : ℕ} {p : Point} {k : ℕ} {first code : List Plain} {s : State} {out : List ℕ} → first ≡ [] → Lead d p (At k (first ++ code) s out)
-      → Lead d p (At k code s out)
-  no_head none lead = rw none at lead
-
   -- one or more items lead there
   abbrev LeadOn : Point → Point → Type 0
   LeadOn p q = (d : ℕ) × (1 ≤ d) × Lead d p q
@@ -201,36 +196,46 @@ module _ {h : Homed} {depth : ℕ} {blocks : List BlockParts} (ok : IsSelected h
       → target.insts ≡ head ++ rest → LeadOn p (At t rest s' out)
   through {k} {t} {target} {code} {s' = s'} {out} there runs enter (inl at) is =
       let last : Lead 1 (At k [] s' out) (At t target.insts s' out) = jump at.0 refl there in
-      (1 + (length code + 1), omega arith, leads_then (enter _ at.0) (leads_then (code_leads k out runs) (no_head at.1 (rw is at last))))
+      (1 + (length code + 1), omega arith, leads_then (enter _ at.0) (leads_then (code_leads k out runs) (rw (is, at.1) at last)))
   through {p} {k} {target} {code} {rest} {s} {out} there runs enter (inr at) is =
       let first : Lead 1 p (At k (code ++ rest) s out) = rw (← at.1, ← is) (enter target (rw at.0 there)) in
       (1 + length code, omega arith, rw at.0 at (leads_then first (leads_run k rest out runs)))
+
+  -- where some code of an activation is left
+  match_at : {r slots : Places} (a : Activation) {ws : List Activation} {g : Arrays} (out : List ℕ) (l : Lives a.frame a.blocks a.result_to ws) {k : ℕ}
+      (c : Code) (facts : Facts) (last : Last) {s : State} → CodeBefore (placing_of l.leaf a.frame l.place) l.head facts last k c
+      → IsKnown (known_in facts) a.frame.homes.items r slots → AreDeferred facts.deferred r → AreBases gs starts facts s.regs
+      → IsLast last a.frame.homes.items r slots s → Stand (hide facts.deferred r) g (stored_frame l.leaf a.frame slots a.aside l.link ∷ frames_of ws l.below) s
+      → Match r (at_code a slots c) ws g out (At k (code_insts linking (placing_of l.leaf a.frame l.place) facts last c) s out)
+  match_at a out l {k} c facts last {s} code known deferred bases is_last stands = record {
+    state = s;
+    number = k;
+    lives = l;
+    facts = facts;
+    last = last;
+    point = refl;
+    code = code;
+    is_known = known;
+    are_deferred = deferred;
+    are_bases = bases;
+    is_last = is_last;
+    stands = stands;
+  }
 
   -- at the start of a block nothing is known
   starts_block : {r slots : Places} (a : Activation) {ws : List Activation} {g : Arrays} (out : List ℕ) (l : Lives a.frame a.blocks a.result_to ws)
       {b : ℕ} {block : RBlock} {s : State} → Stood l.leaf a.frame l.place l.head b block
       → Stand r g (stored_frame l.leaf a.frame slots a.aside l.link ∷ frames_of ws l.below) s
       → Match r (at_code a slots (code_of block)) ws g out (At (l.place b) (block_code l.leaf a.frame l.place block) s out)
-  starts_block {r} {slots} a out l {b} {block} {s} at st = record {
-    state = s;
-    number = l.place b;
-    lives = l;
-    facts = no_facts;
-    last = no_last;
-    point = refl;
-    code = record {
-      form = own_block linking (placing_of l.leaf a.frame l.place) (l.head b) at.next block;
-      next = at.next;
-      there = at.there;
-      exit = refl;
-      leads_on = at.leads_on;
-    };
-    is_known = nothing_known a.frame.homes.items r slots;
-    are_deferred = none_deferred r;
-    are_bases = no_bases gs starts s.regs;
-    is_last = none_last a.frame.homes.items r slots s;
-    stands = st;
-  }
+  starts_block {r} {slots} a out l {b} {block} {s} at st = match_at a out l (code_of block) no_facts no_last
+      (record {
+        form = own_block linking (placing_of l.leaf a.frame l.place) (l.head b) at.next block;
+        next = at.next;
+        there = at.there;
+        exit = refl;
+        leads_on = at.leads_on;
+      })
+      (nothing_known a.frame.homes.items r slots) (none_deferred r) (no_bases gs starts s.regs) (none_last a.frame.homes.items r slots s) st
 
   -- a jump over homes
   jumps : (p : Point) (a : Activation) (ws : List Activation) (l : Lives a.frame a.blocks a.result_to ws) (b : ℕ) {r slots : Places}
@@ -399,7 +404,7 @@ module _ {h : Homed} {depth : ℕ} {blocks : List BlockParts} (ok : IsSelected h
         → ((target : BlockParts) → slice_get blocks (m.place b) ≡ Some target → Lead 1 (At k [] s1 out) (At (m.place b) target.insts s2 out'))
         → From code (state_at_block b a a.slots (around (callee_saved r) ws g out'))
     goes_on {code} b out' runs st none leave = jumps (At k code s out) a ws m.lives b out' st (λ block stood.
-        (length code + 1, omega arith, leads_then (code_leads k out runs) (no_head none (leave _ stood.there))))
+        (length code + 1, omega arith, leads_then (code_leads k out runs) (rw none at (leave _ stood.there))))
 
     -- back to the activation below, behind some code
     goes_back : (x : Option ℕ) → Leaving (Return x) → {code : List Plain} (o : Option ℕ) {s1 : State} → RunsTo code s s1
@@ -468,11 +473,12 @@ module _ {h : Homed} {depth : ℕ} {blocks : List BlockParts} (ok : IsSelected h
         value_or_failed (From start) (slice_get a.blocks next) out _ tt (λ block next_there.
         value_or_failed (From start) (slice_get (h.rtl.now).functions f) out _ tt (λ func func_there.
         value_or_failed (From start) (slice_get h.frames.items f) out _ tt (λ callee frame_there.
-        deep_enough (nat_lt (length (waiting block ∷ ws)) depth) (length vs == func.parameters) _ (λ deep as_many.
+        cond_both (nat_lt (length (waiting block ∷ ws)) depth && length vs == func.parameters) _ (Failed out) (From start) (λ fits.
+        let both = and_parts (nat_lt (length (waiting block ∷ ws)) depth) (length vs == func.parameters) fits in
         let is = ok.functions f func callee func_there frame_there in
         let few = is.parameters in
         let asked = read_length homes r a.slots xs.items vs read_vs in
-        let count : length vs ≡ func.parameters = eqb-true (length vs) func.parameters as_many in
+        let count : length vs ≡ func.parameters = eqb-true (length vs) func.parameters both.1 in
         let st = rw no_leaf at m.stands in
         let denote = all_denote m.facts st (frame_homes ok.most a.frame m.frame) m.is_known m.are_deferred xs.items vs read_vs in
         let args = arguments m.facts (above_arguments r) 4 xs.items vs (settled m.are_deferred st) (omega arith) (omega (arith, asked, count, few))
@@ -498,7 +504,7 @@ module _ {h : Homed} {depth : ℕ} {blocks : List BlockParts} (ok : IsSelected h
         st2 (λ q passes. ap (λ b. if b then r q else None) passes) (put_here s1.regs 31 (links k) (omega arith))
         (λ j v there. (let low = slice_get_within vs j v there in put_other s1.regs 31 (links k) (4 + j) (omega (arith, low, count, few)))
         ∙ args.here j v there)
-        count (room_for (suc (length ws)) (ltb-true (length (waiting block ∷ ws)) depth deep)) (resumes, m.waits)))))))
+        count (room_for (suc (length ws)) (ltb-true (length (waiting block ∷ ws)) depth both.0)) (resumes, m.waits))) (λ _. tt)))))
       where
         start : List Plain
         start = exit_code m.leaf a.frame m.facts m.last (Call f xs result_to next)
@@ -509,36 +515,12 @@ module _ {h : Homed} {depth : ℕ} {blocks : List BlockParts} (ok : IsSelected h
         waiting : RBlock → Activation
         waiting block = at_code a a.slots (code_of block)
 
-        deep_enough : (b c : Bool) (run : Run) → (b ≡ true → c ≡ true → From start run) → From start (if b && c then run else Failed out)
-        deep_enough true true run f = f refl refl
-        deep_enough _ _ run f = tt
-
-    -- the code where some instructions are left, and the match there
+    -- the code where some instructions are left
     abbrev left : List RInst → Code
     left is = record { insts = is; exit = a.code.exit }
 
     abbrev behind : List RInst → Facts → Last → List Plain
     behind is facts last = code_insts linking placing facts last (left is)
-
-    matched : (is : List RInst) (facts : Facts) (last : Last) {r' slots' : Places} {g' : Arrays} {s' : State}
-        → CodeBefore placing m.head facts last k (left is)
-        → IsKnown (known_in facts) homes r' slots' → AreDeferred facts.deferred r' → AreBases gs starts facts s'.regs
-        → IsLast last homes r' slots' s' → Stand (hide facts.deferred r') g' (stored_frame m.leaf a.frame slots' a.aside m.link ∷ fs) s'
-        → Match r' (at_code a slots' (left is)) ws g' out (At k (behind is facts last) s' out)
-    matched is facts last {s' = s'} code known deferred bases fresh stands = record {
-      state = s';
-      number = k;
-      lives = m.lives;
-      facts = facts;
-      last = last;
-      point = refl;
-      code = code;
-      is_known = known;
-      are_deferred = deferred;
-      are_bases = bases;
-      is_last = fresh;
-      stands = stands;
-    }
 
     -- the next instruction, with the comparison that is one with the branch if it is such
     next : (i : RInst) (is : List RInst) (o : Option Comparison)
@@ -558,7 +540,7 @@ module _ {h : Homed} {depth : ℕ} {blocks : List BlockParts} (ok : IsSelected h
           count = length code;
           enough = some;
           leads = leads_run k (behind is now last) out e;
-          match = matched is now last c kn lz kp new st;
+          match = match_at a out m.lives (left is) now last c kn lz kp new st;
         })
     next i (j ∷ js) (Some n) is c = absurd (none_asked (locations a.frame) m.facts i n is)
     next i [] (Some n) is c =
@@ -573,7 +555,7 @@ module _ {h : Homed} {depth : ℕ} {blocks : List BlockParts} (ok : IsSelected h
           enough = some;
           leads = subst (λ l. Lead (length code) (At k (code ++ rest) s out) (At k l s' out))
               (same_code m.leaf a.frame m.facts now (waiting m.facts q u) i n a.code.exit is) (leads_run k rest out e);
-          match = matched [] (waiting m.facts q u) (last_with (Some n) None)
+          match = match_at a out m.lives (left []) (waiting m.facts q u) (last_with (Some n) None)
               (record {
                 form = c.form;
                 next = c.next;
@@ -602,25 +584,11 @@ module _ {h : Homed} {depth : ℕ} {blocks : List BlockParts} (ok : IsSelected h
   advances (Running r [] g out) p m = absurd m
   advances (Running r (a ∷ ws) g out) p m = rw m.point (step m a.code.insts m.code)
 
-  failed_steps : (n : ℕ) (out : List ℕ) → homed_steps h depth n (Failed out) ≡ Failed out
-  failed_steps zero out = refl
-  failed_steps (suc n) out = failed_steps n out
-
-  stays : (run : Run) (p : Point) → MatchRun run p → Reach 0 p run
-  stays (Running r [] g out) p m = absurd m
-  stays (Failed out) p m = tt
-  stays _ p m = record { to = p; count = 0; enough = omega arith; leads = leads_nowhere p; match = m }
-
-  -- one step, and then more
-  after_one : (n : ℕ) (p : Point) (run : Run) → Reach 1 p run → ((run : Run) (q : Point) → MatchRun run q → Reach n q (homed_steps h depth n run))
-      → Reach (suc n) p (homed_steps h depth n run)
-  after_one n p (Failed out) a f = rw (failed_steps n out) tt
-  after_one n p run a f = reach_after (suc n) n _ (omega (arith, a.enough)) a.leads (f run a.to a.match)
+  further : (n : ℕ) (p : Point) (run : Run) → Reach n p run → Reach (suc n) p (homed_step h depth run)
+  further n p (Failed out) x = tt
+  further n p run x = reach_after (suc n) 1 (homed_step h depth run) (omega (arith, x.enough)) x.leads (advances run x.to x.match)
 
   -- as many items as steps, at least
-  runs : (n : ℕ) (run : Run) (p : Point) → MatchRun run p → Reach n p (homed_steps h depth n run)
-  runs zero run p m = stays run p m
-  runs (suc n) run p m = after_one n p (homed_step h depth run) (advances run p m) (λ run q m. runs n run q m)
-
-  pub then_runs : (n : ℕ) (p : Point) (run : Run) → Reach 1 p run → Reach n p (homed_steps h depth n run)
-  then_runs n p run a = reach_after n (suc n) _ (omega arith) (leads_nowhere p) (after_one n p run a (λ run q m. runs n run q m))
+  pub runs : (n m t : ℕ) (p : Point) (run : Run) → m + n ≡ t → Reach m p run → Reach t p (homed_steps h depth n run)
+  runs zero m t p run e x = (let same : m ≡ t = omega (arith, e) in rw same at x)
+  runs (suc n) m t p run e x = runs n (suc m) t p (homed_step h depth run) (omega (arith, e)) (further m p run x)

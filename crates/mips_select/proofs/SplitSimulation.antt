@@ -1,6 +1,6 @@
 -- The pieces of a unit do what the unit does.
 use Rattle.std.proofs.Common.{◌≡◌, ℕ, zero, suc, ◌+◌, ◌<◌, ◌≤◌, ◌==◌, Bool, true, false, List, [], ◌∷◌, ◌++◌, length, Option, Some, None, refl}
-use Rattle.std.proofs.Common.{sym, ap, ◌∙◌, subst, arith, take, drop}
+use Rattle.std.proofs.Common.{sym, ap, ◌∙◌, subst, arith, drop}
 use Rattle.std.specs.Prelude.{if◌then◌else◌, slice_get, slice_index, option_map}
 use Rattle.std.proofs.lemmas.List.{append-nil, take-append-drop}
 use Rattle.std.proofs.lemmas.Option.{same_Some, none-some}
@@ -13,7 +13,7 @@ use Rattle.mblock.specs.declared.exit.Exit.{Exit}
 use Rattle.mblock.specs.declared.exit.Exit.TheVariants.{Goto, BranchPair, BranchZero, Call, Return, Out, Halt}
 use Rattle.mblock.specs.Parts.{BlockParts}
 use Rattle.mblock.specs.BlockMeaning.{exit_effect}
-use Rattle.mblock.specs.UnitRuns.{wrong, call_return_of, return_block_of, outcome_at_block, outcome_at_return, exit_item, items, unit_run}
+use Rattle.mblock.specs.UnitRuns.{wrong, call_return_of, return_block_of, outcome_at_block, outcome_at_return, exit_item, items, unit_run, Next}
 use Rattle.mblock.specs.Units.{GoesBelow, AreLinked}
 use Rattle.mips_select.specs.Split.{renumbered_exit, more_pieces, piece, pieces, count_of, lasts, split_from, first_piece_of, last_of, split_at_most}
 use Rattle.mips_select.proofs.Places.{HasAt, has_head, has_tail, has_whole, has_pieces, last_piece, block_there}
@@ -69,29 +69,23 @@ return_below links word bound k (b ∷ bs) below t e =
 
 -- ---- each item of a long unit is one or more items of its pieces
 module _ (whole : List BlockParts) (links : ℕ → ℕ) where
+  -- what goes on for i items or more comes to the same
+  abbrev Comes : ℕ → (Next → Outcome) → Outcome → Type 0
+  Comes i from end = (j : ℕ) × (i ≤ j) × (from (items whole links j) ≡ end)
+
   -- after i items or more, a run from there ends so
-  pub record Reached (i k : ℕ) (part : List Plain) (s : State) (out : List ℕ) (end : Outcome) : Type 0 where
-    pub count : ℕ
-    pub enough : i ≤ count
-    pub ends : items whole links count k part s out ≡ end
+  abbrev Reached : (i k : ℕ) → List Plain → State → List ℕ → Outcome → Type 0
+  Reached i k part s out end = Comes i (λ go. go k part s out) end
 
   -- an exit that enters a block
-  entered : (i k : ℕ) (p q : BlockParts) (t : ℕ) (s : State) (out : List ℕ) (end : Outcome) → slice_get whole k ≡ Some p → p.exit ≡ Goto t
+  entered : (i k : ℕ) {p q : BlockParts} {t : ℕ} (s : State) (out : List ℕ) (end : Outcome) → slice_get whole k ≡ Some p → p.exit ≡ Goto t
       → slice_get whole t ≡ Some q → Reached i t q.insts s out end → Reached i k [] s out end
-  entered i k p q t s out end there is at r = record {
-    count = suc r.count;
-    enough = omega (arith, r.enough);
-    ends = rw (there, is, at) r.ends;
-  }
+  entered i k s out end there is at r = (suc r.0, omega (arith, r.1), rw (there, is, at) r.2)
 
   -- one instruction
   one_step : (k : ℕ) (x a : Plain) (part : List Plain) (i : ℕ) (s : State) (out : List ℕ) (end : Outcome) → x ≡ a
       → Reached i k part (state_after (action_of a) s) out end → Reached (suc i) k (x ∷ part) s out (if is_safe (action_of a) s then end else wrong out)
-  one_step k x a part i s out end e r = record {
-    count = suc r.count;
-    enough = omega (arith, r.enough);
-    ends = cc (r.ends);
-  }
+  one_step k x a part i s out end e r = (suc r.0, omega (arith, r.1), cc (r.2))
 
   module _ (most : ℕ) (exit : Exit) (last : ℕ) where
     -- a piece is left for the next one, and the last one as the block is
@@ -108,32 +102,23 @@ module _ (whole : List BlockParts) (links : ℕ → ℕ) where
       there : slice_get whole k ≡ Some block
       leaves : Leaves more k behind block.exit
 
-    record Entry (more k : ℕ) (insts : List Plain) : Type 0 where
-      block : BlockParts
-      there : slice_get whole k ≡ Some block
-      inside : Inside more k block.insts insts
-
     -- the first of several pieces
-    enters : (more k : ℕ) (insts : List Plain) → HasAt whole k (pieces most exit more k insts) → k + more ≡ last → Entry more k insts
+    enters : (more k : ℕ) (insts : List Plain) → HasAt whole k (pieces most exit more k insts) → k + more ≡ last
+        → (b : BlockParts) × (slice_get whole k ≡ Some b) × Inside more k b.insts insts
     enters zero k insts has is =
-        let first = piece insts exit in
-        let at = has_head has in record {
-          block = first;
-          there = at;
-          inside = record { behind = []; same = sym (append-nil insts); is_last = is; block = first; there = at; leaves = (refl, refl) };
-        }
-    enters (suc more) k insts has is =
-        let first = piece (take most insts) (Goto (suc k)) in
         let at = has_head has in
-        let same = sym (take-append-drop most insts) in record {
-          block = first;
-          there = at;
-          inside = record { behind = drop most insts; same = same; is_last = is; block = first; there = at; leaves = (refl, has_tail has) };
-        }
+        (_, at, record { behind = []; same = sym (append-nil insts); is_last = is; block = _; there = at; leaves = (refl, refl) })
+    enters (suc more) k insts has is =
+        let at = has_head has in
+        let same = sym (take-append-drop most insts) in
+        (_, at, record { behind = drop most insts; same = same; is_last = is; block = _; there = at; leaves = (refl, has_tail has) })
 
-    -- the next piece
-    next : {more k : ℕ} {rest : List Plain} → (at : Inside (suc more) k [] rest) → Entry more (suc k) rest
-    next {more} {k} at = rw at.same (enters more (suc k) at.behind at.leaves.1 (omega (arith, at.is_last)))
+    -- at the end of a piece the next one is entered
+    next : (more i k : ℕ) {rest : List Plain} (s : State) (out : List ℕ) (end : Outcome) → Inside (suc more) k [] rest
+        → ((part : List Plain) → Inside more (suc k) part rest → Reached i (suc k) part s out end) → Reached i k [] s out end
+    next more i k s out end at f =
+        let e = rw (← at.same) at (enters more (suc k) at.behind at.leaves.1 (omega (arith, at.is_last))) in
+        entered i k s out end at.there at.leaves.0 e.1 (f e.0.insts e.2)
 
     -- an instruction of the block
     steps : (more k : ℕ) (part : List Plain) (a : Plain) (rest : List Plain) (i : ℕ) (s : State) (out : List ℕ) (end : Outcome)
@@ -151,21 +136,16 @@ module _ (whole : List BlockParts) (links : ℕ → ℕ) where
           leaves = at.leaves;
         }))
     steps zero k [] a rest i s out end at f = let none : a ∷ rest ≡ [] = at.same ∙ at.leaves.0 in cc
-    steps (suc more) k [] a rest i s out end at f =
-        let e = next at in
-        entered (suc i) k at.block e.block (suc k) s out (if is_safe (action_of a) s then end else wrong out) at.there at.leaves.0 e.there
-        (steps more (suc k) e.block.insts a rest i s out end e.inside f)
+    steps (suc more) k [] a rest i s out end at f = next more (suc i) k s out _ at (λ part e. steps more (suc k) part a rest i s out end e f)
 
     -- the exit of the block
     leaves_last : (more k : ℕ) (part : List Plain) (i : ℕ) (s : State) (out : List ℕ) (end : Outcome) → Inside more k part []
-        → ((n : ℕ) × (i ≤ n) × (exit_item whole links last (Some (piece [] exit)) (items whole links n) s out ≡ end)) → Reached (suc i) k part s out end
+        → Comes i (λ go. exit_item whole links last (Some (piece [] exit)) go s out) end → Reached (suc i) k part s out end
     leaves_last more k (x ∷ part) i s out end at r = let none : [] ≡ x ∷ (part ++ at.behind) = at.same in cc
     leaves_last zero k [] i s out end at r =
         let here : k ≡ last = omega (arith, at.is_last) in
-        record { count = suc r.0; enough = omega (arith, r.1); ends = cc (at.there, at.leaves.1, r.2) }
-    leaves_last (suc more) k [] i s out end at r =
-        let e = next at in
-        entered (suc i) k at.block e.block (suc k) s out end at.there at.leaves.0 e.there (leaves_last more (suc k) e.block.insts i s out end e.inside r)
+        (suc r.0, omega (arith, r.1), cc (at.there, at.leaves.1, r.2))
+    leaves_last (suc more) k [] i s out end at r = next more (suc i) k s out end at (λ part e. leaves_last more (suc k) part i s out end e r)
 
 -- ---- whole runs
 
@@ -189,55 +169,54 @@ module _ (most : ℕ) (blocks : List BlockParts) (linked : AreLinked blocks) (li
       → Inside whole links most (renumbered_exit place b.exit) (last n) more k part rest
       → Reached whole links i k part s out (items blocks long i n rest s out)
 
-  -- what goes on for i items or more comes to the same
-  abbrev Comes : ℕ → ((ℕ → List Plain → State → List ℕ → Outcome) → Outcome) → Outcome → Type 0
-  Comes i from end = (j : ℕ) × (i ≤ j) × (from (items whole links j) ≡ end)
+  module _ (i : ℕ) (runs : Runs i) where
+    abbrev Become : (Next → Outcome) → (Next → Outcome) → Type 0
+    Become from to = Comes whole links i from (to (items blocks long i))
 
-  -- a block is entered
-  enter : (i : ℕ) → Runs i → (t : ℕ) → t < length blocks → (s : State) (out : List ℕ)
-      → Comes i (λ go. outcome_at_block (place t) (slice_get whole (place t)) go s out) (outcome_at_block t (slice_get blocks t) (items blocks long i) s out)
-  enter i runs t lt s out =
-      let found = block_there blocks t lt in
-      let b = found.0 in
-      let e = enters whole links most (renumbered_exit place b.exit) (last t) (more_pieces most b) (place t) b.insts
-      (has_pieces most place whole 0 blocks (has_whole whole) t b found.1) (last_piece most 0 blocks t b found.1) in
-      let r = runs t b found.1 b.insts s out (more_pieces most b) (place t) e.block.insts e.inside in
-      (r.count, r.enough, cc (e.there, r.ends, found.1))
+    -- a block is entered
+    enter : (t : ℕ) → t < length blocks → (s : State) (out : List ℕ)
+        → Become (λ go. outcome_at_block (place t) (slice_get whole (place t)) go s out) (λ go. outcome_at_block t (slice_get blocks t) go s out)
+    enter t lt s out =
+        let found = block_there blocks t lt in
+        let b = found.0 in
+        let e = enters whole links most (renumbered_exit place b.exit) (last t) (more_pieces most b) (place t) b.insts
+        (has_pieces most place whole 0 blocks (has_whole whole) t b found.1) (last_piece most 0 blocks t b found.1) in
+        let r = runs t b found.1 b.insts s out (more_pieces most b) (place t) e.0.insts e.2 in
+        (r.0, r.1, cc (e.1, r.2, found.1))
 
-  -- a return
-  enter_back : (i : ℕ) → Runs i → (word : ℕ) (s : State) (out : List ℕ)
-      → Comes i (λ go. outcome_at_return whole (return_block_of links word 0 whole) go s out)
-      (outcome_at_return blocks (return_block_of long word 0 blocks) (items blocks long i) s out)
-  enter_back i runs word s out =
-      rw (return_renumbered most place links word long 0 0 blocks (λ j. (let here : 0 + j ≡ j = omega arith in ap long here)))
-      (go (return_block_of long word 0 blocks) refl)
-    where
-      go : (o : Option ℕ) → return_block_of long word 0 blocks ≡ o
-          → Comes i (λ go. outcome_at_return whole (option_map place o) go s out) (outcome_at_return blocks o (items blocks long i) s out)
-      go None e = (i, omega arith, refl)
-      go (Some t) e = enter i runs t (return_below long word (length blocks) 0 blocks linked.by t e) s out
+    -- a return
+    enter_back : (word : ℕ) (s : State) (out : List ℕ) → Become (λ go. outcome_at_return whole (return_block_of links word 0 whole) go s out)
+        (λ go. outcome_at_return blocks (return_block_of long word 0 blocks) go s out)
+    enter_back word s out =
+        rw (return_renumbered most place links word long 0 0 blocks (λ j. (let here : 0 + j ≡ j = omega arith in ap long here)))
+        (go (return_block_of long word 0 blocks) refl)
+      where
+        go : (o : Option ℕ) → return_block_of long word 0 blocks ≡ o
+            → Become (λ go. outcome_at_return whole (option_map place o) go s out) (λ go. outcome_at_return blocks o go s out)
+        go None e = (i, omega arith, refl)
+        go (Some t) e = enter t (return_below long word (length blocks) 0 blocks linked.by t e) s out
 
-  -- a branch
-  choose : (i : ℕ) → Runs i → (passes : Bool) (t e : ℕ) → t < length blocks → e < length blocks → (s : State) (out : List ℕ)
-      → Comes i (λ go. outcome_at_block (if passes then place t else place e) (slice_get whole (if passes then place t else place e)) go s out)
-      (outcome_at_block (if passes then t else e) (slice_get blocks (if passes then t else e)) (items blocks long i) s out)
-  choose i runs true t e t_lt e_lt s out = enter i runs t t_lt s out
-  choose i runs false t e t_lt e_lt s out = enter i runs e e_lt s out
+    -- a branch
+    choose : (passes : Bool) (t e : ℕ) → t < length blocks → e < length blocks → (s : State) (out : List ℕ)
+        → Become (λ go. outcome_at_block (if passes then place t else place e) (slice_get whole (if passes then place t else place e)) go s out)
+        (λ go. outcome_at_block (if passes then t else e) (slice_get blocks (if passes then t else e)) go s out)
+    choose true t e t_lt e_lt = enter t t_lt
+    choose false t e t_lt e_lt = enter e e_lt
 
-  -- an exit
-  departs : (i : ℕ) → Runs i → (n : ℕ) (exit : Exit) → GoesBelow (length blocks) exit → (s : State) (out : List ℕ)
-      → Comes i (λ go. exit_item whole links (last n) (Some (piece [] (renumbered_exit place exit))) go s out)
-      (exit_item blocks long n (Some (piece [] exit)) (items blocks long i) s out)
-  departs i runs n (Goto t) low s out = enter i runs t low s out
-  departs i runs n (BranchPair test a b t e) low s out = choose i runs (pair_passes test (read 0 s.regs a) (read 0 s.regs b)) t e low.0 low.1 s out
-  departs i runs n (BranchZero test a t e) low s out = choose i runs (zero_passes test (read 0 s.regs a)) t e low.0 low.1 s out
-  departs i runs n (Call f next) low s out = enter i runs f low.0 (exit_effect (Call f next) s (long n)).state out
-  departs i runs n Return low s out = enter_back i runs (read 0 s.regs 31) s out
-  departs i runs n (Out next) low s out = enter i runs next low (exit_effect (Out next) s (long n)).state (out ++ read 0 s.regs 4 ∷ [])
-  departs i runs n Halt low s out = (i, omega arith, refl)
+    -- an exit
+    departs : (n : ℕ) (exit : Exit) → GoesBelow (length blocks) exit → (s : State) (out : List ℕ)
+        → Become (λ go. exit_item whole links (last n) (Some (piece [] (renumbered_exit place exit))) go s out)
+        (λ go. exit_item blocks long n (Some (piece [] exit)) go s out)
+    departs n (Goto t) low s out = enter t low s out
+    departs n (BranchPair test a b t e) low s out = choose (pair_passes test (read 0 s.regs a) (read 0 s.regs b)) t e low.0 low.1 s out
+    departs n (BranchZero test a t e) low s out = choose (zero_passes test (read 0 s.regs a)) t e low.0 low.1 s out
+    departs n (Call f next) low s out = enter f low.0 (exit_effect (Call f next) s (long n)).state out
+    departs n Return low s out = enter_back (read 0 s.regs 31) s out
+    departs n (Out next) low s out = enter next low (exit_effect (Out next) s (long n)).state (out ++ read 0 s.regs 4 ∷ [])
+    departs n Halt low s out = (i, omega arith, refl)
 
   runs : (i : ℕ) → Runs i
-  runs zero n b there rest s out more k part at = record { count = 0; enough = omega arith; ends = refl }
+  runs zero n b there rest s out more k part at = (0, omega arith, refl)
   runs (suc i) n b there (a ∷ rest) s out more k part at =
       steps whole links most (renumbered_exit place b.exit) (last n) more k part a rest i s out
       (items blocks long i n rest (state_after (action_of a) s) out) at

@@ -35,16 +35,14 @@ use Rattle.mips_emit.proofs.Insts.{value_or_failed}
 use Rattle.mips_select.specs.Data.{element_bytes, padded_bytes, start_of}
 use Rattle.mips_select.specs.Code.{start_block}
 use Rattle.mips_select.specs.Selected.{IsSelected, KeepHomedRuns}
-use Rattle.mips_select.specs.Limits.{largest_frame}
 use Rattle.mips_select.specs.Whole.{program_blocks}
 use Rattle.mips_select.specs.Laws.{EachUnitKeepsRuns}
 use Rattle.mips_select.proofs.DataPlaces.{HaveValues, have_values, data_fits, element_within, element_byte, start_even, elements_apart, data_below}
 use Rattle.mips_select.proofs.DataPlaces.{values_below, data_starts_same}
 use Rattle.mips_select.proofs.Departures.{return_found}
-use Rattle.mips_select.proofs.Simulation.{Lead, Reach, code_leads, departs, reach_after, entered, then_runs}
+use Rattle.mips_select.proofs.Simulation.{Lead, Reach, code_leads, departs, reach_after, entered, runs}
 use Rattle.mips_select.proofs.Linked.{program_well}
 use Rattle.mips_select.proofs.Placed.{program_selected}
-use Rattle.mips_select.proofs.FrameSizes.{are_frames, are_seated, are_alone}
 use Rattle.mips_select.proofs.Apart.{comes_to}
 
 -- what a function saves is unset at the start as it is
@@ -83,10 +81,8 @@ module _ (l : List ℕ) (few : length l ≤ UNIT_BYTES) where
       let here : slice_get l p ≡ Some (byte_of v 0) = ap (slice_get l) (sym zero_k) ∙ there 0 (byte_of v 0) refl in
       let ok = open_data Word (length l) p (element_aligned Word start i even) (slice_get_within l p (byte_of v 0) here) in
       let b0 : s.memory a ≡ byte_of v 0 = data_byte l p (byte_of v 0) few here in
-      let b1 : s.memory (a + 1) ≡ byte_of v 1 = next 1 (byte_of v 1) (there 1 (byte_of v 1) refl) in
-      let b2 : s.memory (a + 2) ≡ byte_of v 2 = next 2 (byte_of v 2) (there 2 (byte_of v 2) refl) in
-      let b3 : s.memory (a + 3) ≡ byte_of v 3 = next 3 (byte_of v 3) (there 3 (byte_of v 3) refl) in
-      rw (ok, b0, b1, b2, b3) (four_bytes v lt)
+      let b = λ (k : ℕ) (e : slice_get (element_bytes Word v) k ≡ Some (byte_of v k)). next k (byte_of v k) (there k (byte_of v k) e) in
+      rw (ok, b0, b 1 refl, b 2 refl, b 3 refl) (four_bytes v lt)
     where
       next : (k b : ℕ) → slice_get l (element_place Word start i + k) ≡ Some b → (start_state l).memory (data_base + element_place Word start i + k) ≡ b
       next k b at =
@@ -134,10 +130,10 @@ module _ {h : Homed} {depth : ℕ} {blocks : List BlockParts} (ok : IsSelected h
   abbrev Comes : ℕ → Point → Run → Type 0
   Comes n p run = Reach ok tells n p run
 
-  starts_reach : Comes 1 start (homed_start h)
+  starts_reach : Comes 0 start (homed_start h)
   starts_reach =
-      value_or_failed (λ run. Comes 1 start run) (slice_get (h.rtl.now).functions main) [] _ tt (λ func func_there.
-      value_or_failed (λ run. Comes 1 start run) (slice_get h.frames.items main) [] _ tt (λ frame frame_there.
+      value_or_failed (λ run. Comes 0 start run) (slice_get (h.rtl.now).functions main) [] _ tt (λ func func_there.
+      value_or_failed (λ run. Comes 0 start run) (slice_get h.frames.items main) [] _ tt (λ frame frame_there.
       let is = ok.functions main func frame func_there frame_there in
       let callee = (ok.program).main in
       let none : func.parameters ≡ 0 = ap (λ (f : RFunc). f.parameters) (same_Some func callee.callee (sym func_there ∙ callee.there)) ∙ callee.takes in
@@ -149,7 +145,7 @@ module _ {h : Homed} {depth : ℕ} {blocks : List BlockParts} (ok : IsSelected h
       (start_words (padded_bytes globals) (data_below globals)) (c.runs).ends) (c.others 29 (omega arith)) c.here in
       let s1 = set s0 31 (links 0) in
       let st1 = call_kept st0 (set_words s0 31 (links 0) st0.words (tells.words 0)) tt (λ q low high. put_other s0.regs 31 (links 0) q (omega (arith, high))) in
-      reach_after ok tells 1 1 _ (omega arith) (code_leads ok tells 0 [] c.runs)
+      reach_after ok tells 0 1 _ (omega arith) (code_leads ok tells 0 [] c.runs)
       (rw (entry_unset frame.saved.items) at (entered ok tells (At 0 [] s0 []) main func frame is unset_places
       (map first_values globals) [] (links 0) None [] [] s1 [] (λ form there. departs ok tells ok.start refl (λ n. rw there)) st1 (λ q passes. refl)
       (put_here s0.regs 31 (links 0) (omega arith)) (λ j v at. absurd (none-some v at)) (sym none)
@@ -169,15 +165,14 @@ module _ {h : Homed} {depth : ℕ} {blocks : List BlockParts} (ok : IsSelected h
 
 pub keep_homed_runs : (h : Homed) (depth : ℕ) (blocks : List BlockParts) → IsSelected h depth blocks → KeepHomedRuns h depth blocks
 keep_homed_runs h depth blocks ok n ne links tells =
-    same_end ok tells n (homed_steps h depth n (homed_start h)) (then_runs ok tells n (start ok tells) (homed_start h) (starts_reach ok tells)) ne
+    same_end ok tells n (homed_steps h depth n (homed_start h)) (runs ok tells n 0 n (start ok tells) (homed_start h) (omega arith) (starts_reach ok tells)) ne
 
 -- so does the unit, in which long blocks are cut
 pub each_unit : EachUnitKeepsRuns
 each_unit h depth ok choices fit r right =
     let globals = (h.rtl.now).globals in
     let same : homed_run h depth r ≡ rtl_run h.rtl.now depth r = places_keep_runs h choices depth r in
-    let selected = program_selected h depth (largest_frame (h.rtl.now).functions) ok (are_frames h choices) (are_seated h choices)
-    (are_alone h choices) fit.frames fit.stack in
+    let selected = program_selected h depth ok choices fit in
     let blocks_come_to = rw same at (keep_homed_runs h depth (program_blocks h) selected r (rw same right)) in
     rw (← data_starts_same globals (have_values globals ok.globals))
     (comes_to BLOCK_INSTS (program_blocks h) (program_well h ok choices.long).0 (start_state (padded_bytes globals)) r (rtl_run h.rtl.now depth r) blocks_come_to)

@@ -2,9 +2,9 @@
 use Rattle.std.proofs.Common.{◌≡◌, ◌≢◌, ℕ, zero, suc, ◌+◌, ◌<◌, ◌≤◌, List, [], ◌∷◌, length, ⊎_elim}
 use Rattle.std.proofs.Common.{length-append, Some, refl, sym, ap, ◌∙◌, arith}
 use Rattle.std.specs.Prelude.{slice_get, slice_index, replicate}
-use Rattle.std.proofs.lemmas.List.{length-replicate}
+use Rattle.std.proofs.lemmas.List.{length-replicate, get_or-replicate}
 use Rattle.std.proofs.lemmas.Bool.{cases_eq}
-use Rattle.std.proofs.lemmas.Option.{same_Some, none-some, slice_get_within}
+use Rattle.std.proofs.lemmas.Option.{same_Some, none-some, slice_get_within, slice_get-get_or}
 use Rattle.mblock.specs.declared.exit.Exit.{Exit}
 use Rattle.mblock.specs.declared.exit.Exit.TheVariants.{Goto, BranchPair, BranchZero, Call, Out}
 use Rattle.mblock.specs.Parts.{BlockParts}
@@ -14,9 +14,7 @@ use Rattle.mips_select.proofs.Places.{HasAt, has_whole, has_front, has_back, has
 use Rattle.mips_select.proofs.Places.{length-split_from, Located, located, first_next, pieces_enough, IsPieceAt, piece_at}
 
 pub get_replicate : {A : Type 0} (n : ℕ) (x : A) (j : ℕ) → j < n → slice_get (replicate n x) j ≡ Some x
-get_replicate zero x j lt = absurd (omega (arith, lt))
-get_replicate (suc n) x zero lt = refl
-get_replicate (suc n) x (suc j) lt = get_replicate n x j (omega (arith, lt))
+get_replicate n x j lt = slice_get-get_or (replicate n x) j x (rw (length-replicate n x) lt) ∙ ap Some (get_or-replicate n j x x lt)
 
 length-owners_from : (most : ℕ) (place : ℕ → ℕ) (bs : List BlockParts) (os : List ℕ) → length os ≡ length bs
     → length (owners_from most place bs os) ≡ total most bs

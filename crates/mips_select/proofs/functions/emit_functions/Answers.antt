@@ -8,7 +8,7 @@ use Rattle.mips_select.proofs.functions.emit_functions.Goals as goal
 
 pub emit_function-requires-clause-number : goal.emit_function-requires-clause-number
 emit_function-requires-clause-number c =
-    let room = functions_room _ c.loop-i.i _ c.args.functions.now c.index-functions-i.result c.loop-i-test.true c.index-functions-i.is c.loop-i.invariant.0
+    let room = functions_room _ c.loop-i.i _ c.args.functions.now c.loop-i-test.true c.index-functions-i.is c.loop-i.invariant.0
     c.requires.number in
     omega (arith, room, c.len-k.ensures)
 
@@ -37,4 +37,4 @@ loop-i-preserved c =
 pub returns : goal.returns
 returns c =
     all_made (λ fs. functions_blocks (linking_of c.args.linkage.now) (length c.loop-i.emitter.blocks.items) fs (drop c.loop-i.i c.args.frames.now))
-    c.args.functions.now c.loop-i.i _ _ c.loop-i-test.false refl c.loop-i.invariant.1
+    c.args.functions.now c.loop-i.i c.loop-i-test.false refl c.loop-i.invariant.1

@@ -1,4 +1,4 @@
-use Rattle.std.proofs.Common.{◌∷◌, [], ◌+◌, ◌*◌, drop, refl, sym, ap, arith}
+use Rattle.std.proofs.Common.{refl, ap, arith}
 use Rattle.std.proofs.lemmas.List.Sums.{sum_by-drop_more}
 use Rattle.rtl.specs.Programs.{word_count}
 use Rattle.mips_select.specs.Data.{starts_from}
@@ -9,15 +9,13 @@ pub loop-global-preserved : goal.loop-global-preserved
 loop-global-preserved c =
     let n = c.loop-global.n in
     let i = c.loop-global.global-index in
-    let rest = drop (i + 1) c.args.globals.now in
     let words = c.words_of.ensures in
     let sizes = sum_by-drop_more word_count c.args.globals.now i c.global-item.result c.loop-global-test.true in
     let one = ap word_count c.global-item.is in (
       omega (arith, c.loop-global.invariant.0, words, sizes, one),
-      made_more (starts_from n) c.args.globals.now i c.global-item.result _ _ (n ∷ []) (starts_from (n + 4 * c.words_of.result) rest) _
-          c.loop-global-test.true c.global-item.is (ap (λ w. n ∷ starts_from (n + 4 * w) rest) (sym words)) c.in_ok-push.ensures
-          c.loop-global.invariant.1,
+      rw (c.in_ok-push.ensures, words)
+          (made_more (starts_from n) c.args.globals.now i _ _ _ c.loop-global-test.true c.global-item.is refl c.loop-global.invariant.1),
     )
 
 pub returns : goal.returns
-returns c = all_made (starts_from c.loop-global.n) c.args.globals.now c.loop-global.global-index _ _ c.loop-global-test.false refl c.loop-global.invariant.1
+returns c = all_made (starts_from c.loop-global.n) c.args.globals.now c.loop-global.global-index c.loop-global-test.false refl c.loop-global.invariant.1

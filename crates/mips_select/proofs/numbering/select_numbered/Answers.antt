@@ -3,7 +3,7 @@ use Rattle.mblock.specs.declared.limits.TheConstants.{BLOCK_INSTS}
 use Rattle.mips_select.specs.Split.{first_piece_of, total}
 use Rattle.mips_select.specs.Whole.{functions_size, program_blocks}
 use Rattle.mips_select.proofs.Places.{length-split_from}
-use Rattle.mips_select.proofs.Selecting.{function_blocks_few, told_beyond, numbered}
+use Rattle.mips_select.proofs.Selecting.{function_blocks_few, told_beyond}
 use Rattle.mips_select.proofs.numbering.select_numbered.Goals as goal
 
 pub block_numbers-requires-clause-small : goal.block_numbers-requires-clause-small
@@ -30,5 +30,12 @@ returns-in_err-numbers-clause-limit c = told_beyond _ _ c.from_residual-in_err-n
     ))
 
 pub returns-clause-numbered : goal.returns-clause-numbered
-returns-clause-numbered c = numbered c.in_ok-homed.homed c.args.rtl.now _ c.in_ok-homed.ensures.lent c.in_ok-homed.ensures.places
-    c.in_ok-unit.ensures.unit c.in_ok-long.ensures.blocks c.functions.ensures.value c.in_ok-numbers.ensures.numbers
+returns-clause-numbered c = record {
+  selected = record {
+    homed = c.in_ok-homed.homed;
+    lent = c.in_ok-homed.ensures.lent;
+    places = c.in_ok-homed.ensures.places;
+    unit = c.in_ok-unit.ensures.unit;
+  };
+  begin = rw (c.in_ok-long.ensures.blocks, c.functions.ensures.value) at c.in_ok-numbers.ensures.numbers;
+}

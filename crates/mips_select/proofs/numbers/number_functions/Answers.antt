@@ -1,15 +1,13 @@
-use Rattle.std.proofs.Common.{List, [], ◌∷◌, ◌++◌, ◌+◌, drop, map, refl, sym, ap, arith, ◌∙◌}
-use Rattle.std.specs.Prelude.{replicate}
-use Rattle.std.proofs.lemmas.List.{at_drop_more, at_drop_all, map_push}
+use Rattle.std.proofs.Common.{List, ◌++◌, map, refl, ap, arith}
+use Rattle.std.proofs.lemmas.List.{at_drop_all, map_push}
 use Rattle.std.specs.declared.alloc.Global.{Global}
 use Rattle.std.specs.declared.vec.Vec.{Vec}
-use Rattle.rtl.specs.declared.block.RFunc.{RFunc}
 use Rattle.mips_select.specs.declared.heads.Naming.{Naming}
-use Rattle.mips_select.specs.Heads.{namings, namings_of, unnamed}
-use Rattle.mips_select.specs.Whole.{entries_from, function_size, functions_size, owners_from}
+use Rattle.mips_select.specs.Heads.{namings, namings_of}
+use Rattle.mips_select.specs.Whole.{entries_from, functions_size, owners_from}
 use Rattle.std.proofs.lemmas.Option.{slice_get_read}
 use Rattle.mips_select.proofs.Linked.{function_some}
-use Rattle.mips_select.proofs.Lists.{made_more, all_made}
+use Rattle.mips_select.proofs.Lists.{drop_item, made_more, all_made}
 use Rattle.mips_select.proofs.numbers.number_functions.Goals as goal
 
 pub loop-func-init : goal.loop-func-init
@@ -33,9 +31,8 @@ number-requires c =
 
 pub returns-then-size-k-clause-limit : goal.returns-then-size-k-clause-limit
 returns-then-size-k-clause-limit c = λ _.
-    let sizes = at_drop_more functions_size c.args.functions.now c.loop-func.func-index c.func-item.result c.loop-func-test.true in
-    let one = ap (λ (f : RFunc). function_size f) c.func-item.is in
-    omega (arith, sizes, one, c.count_function-size.ensures.value, c.loop-func.invariant.1, c.if-size-k.true)
+    let sizes = drop_item functions_size c.args.functions.now c.loop-func.func-index c.loop-func-test.true c.func-item.is in
+    omega (arith, sizes, c.count_function-size.ensures.value, c.loop-func.invariant.1, c.if-size-k.true)
 
 pub loop-func-preserved : goal.loop-func-preserved
 loop-func-preserved c =
@@ -43,37 +40,28 @@ loop-func-preserved c =
     let k = c.loop-func.k in
     let funcs = c.args.functions.now in
     let i = c.loop-func.func-index in
-    let func = c.func-item.result in
     let lt = c.loop-func-test.true in
-    let size = c.count_function-size.result in
-    let size_is = c.count_function-size.ensures.value in
-    let rest = drop (i + 1) funcs in
-    let sizes = at_drop_more functions_size funcs i func lt in
-    let one = ap (λ (f : RFunc). function_size f) c.func-item.is in
-    let named = c.in_ok-table.ensures ∙ ap (λ bs. namings bs (unnamed bs)) c.as_slice.ensures.value in
+    let size = c.count_function-size.ensures.value in
     let old = c.loop-func.numbers in (
       omega (arith, c.if-size-k.false),
-      omega (arith, sizes, one, size_is, c.loop-func.invariant.1),
-      made_more (map namings_of) funcs i func (map items old.namings.items) _ (namings_of func ∷ []) (map namings_of rest) _ lt c.func-item.is refl
-          (ap (map items) c.in_ok-push_function.ensures.namings ∙ map_push items old.namings.items c.in_ok-table.table
-          ∙ ap (λ l. map items old.namings.items ++ l ∷ []) named) c.loop-func.invariant.2,
-      made_more (entries_from k) funcs i func _ _ (k ∷ []) (entries_from (k + size) rest) _ lt c.func-item.is
-          (ap (λ n. k ∷ entries_from (k + n) rest) (sym size_is))
-          (c.in_ok-push_function.ensures.entries ∙ ap (λ n. old.entries.items ++ n ∷ []) c.number.ensures) c.loop-func.invariant.3,
-      made_more (owners_from k) funcs i func _ _ (replicate size k) (owners_from (k + size) rest) _ lt c.func-item.is
-          (ap (λ n. replicate n k ++ owners_from (k + n) rest) (sym size_is))
-          (c.in_ok-push_function.ensures.owners ∙ ap (λ n. old.owners.items ++ replicate size n) c.number.ensures) c.loop-func.invariant.4,
+      omega (arith, drop_item functions_size funcs i lt c.func-item.is, size, c.loop-func.invariant.1),
+      rw (c.in_ok-push_function.ensures.namings, map_push items old.namings.items c.in_ok-table.table, c.in_ok-table.ensures, c.as_slice.ensures.value)
+          (made_more (map namings_of) funcs i _ _ _ lt c.func-item.is refl c.loop-func.invariant.2),
+      rw (c.in_ok-push_function.ensures.entries, c.number.ensures, size)
+          (made_more (entries_from k) funcs i _ _ _ lt c.func-item.is refl c.loop-func.invariant.3),
+      rw (c.in_ok-push_function.ensures.owners, c.number.ensures, size)
+          (made_more (owners_from k) funcs i _ _ _ lt c.func-item.is refl c.loop-func.invariant.4),
     )
 
 pub returns-clause-namings : goal.returns-clause-namings
-returns-clause-namings c = all_made (map namings_of) c.args.functions.now c.loop-func.func-index _ _ c.loop-func-test.false refl c.loop-func.invariant.2
+returns-clause-namings c = all_made (map namings_of) c.args.functions.now c.loop-func.func-index c.loop-func-test.false refl c.loop-func.invariant.2
 
 pub returns-clause-entries : goal.returns-clause-entries
-returns-clause-entries c = all_made (entries_from c.loop-func.k) c.args.functions.now c.loop-func.func-index _ _ c.loop-func-test.false refl
+returns-clause-entries c = all_made (entries_from c.loop-func.k) c.args.functions.now c.loop-func.func-index c.loop-func-test.false refl
     c.loop-func.invariant.3
 
 pub returns-clause-owners : goal.returns-clause-owners
-returns-clause-owners c = all_made (owners_from c.loop-func.k) c.args.functions.now c.loop-func.func-index _ _ c.loop-func-test.false refl
+returns-clause-owners c = all_made (owners_from c.loop-func.k) c.args.functions.now c.loop-func.func-index c.loop-func-test.false refl
     c.loop-func.invariant.4
 
 pub returns-clause-few : goal.returns-clause-few

@@ -1,6 +1,5 @@
-use Rattle.mips_select.proofs.Blocks.{function_room}
+use Rattle.std.proofs.Common.{arith}
 use Rattle.mips_select.proofs.numbers.push_numbers.Goals as goal
 
 pub number_blocks-requires : goal.number_blocks-requires
-number_blocks-requires c = function_room c.args.k _ _ c.args.func.now _ _ c.as_slice.ensures.value c.requires.named c.lead_in.ensures.value
-    c.requires.number
+number_blocks-requires c = rw (c.lead_in.ensures.value, c.requires.named, c.as_slice.ensures.value) (omega (arith, c.requires.number))

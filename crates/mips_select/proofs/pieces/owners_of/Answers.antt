@@ -1,10 +1,18 @@
-use Rattle.std.proofs.Common.{ap, ◌∙◌}
+use Rattle.std.proofs.Common.{◌≡◌, ℕ, ◌+◌, ◌∷◌, drop, arith}
 use Rattle.std.specs.Prelude.{slice_index}
-use Rattle.mips_select.proofs.Made.{owner_step}
+use Rattle.mips_select.specs.Split.{more_pieces, count_of, owners_from}
+use Rattle.mips_select.proofs.Lists.{drop_item, made_more}
 use Rattle.mips_select.proofs.pieces.owners_of.Goals as goal
 
 pub loop-i-preserved : goal.loop-i-preserved
 loop-i-preserved c =
-    owner_step _ c.loop-i.i c.index-owner-i.result _ _ c.args.long.now c.args.owner.now c.index-long-i.result _ _ _ c.loop-i-test.true
-    c.requires c.index-long-i.is c.index-owner-i.is (c.number_at-first.ensures ∙ ap (slice_index c.args.numbers.now) c.number.ensures.value)
-    c.count_more.ensures.value c.in_ok-push_copies.ensures c.loop-i.invariant
+    let long = c.args.long.now in
+    let owner = c.args.owner.now in
+    let i = c.loop-i.i in
+    let lt = c.loop-i-test.true in
+    let b = c.index-long-i.result in
+    let place = λ (n : ℕ). slice_index c.args.numbers.now n in
+    let count : 1 + more_pieces 512 b ≡ count_of 512 b = omega arith in
+    rw (c.in_ok-push_copies.ensures, c.number_at-first.ensures, c.number.ensures.value, c.count_more.ensures.value, count)
+    (made_more (λ bs. owners_from 512 place bs (drop i owner)) long i _ _ _ lt c.index-long-i.is
+    (drop_item (owners_from 512 place (b ∷ drop (i + 1) long)) owner i (omega (arith, lt, c.requires)) c.index-owner-i.is) c.loop-i.invariant)

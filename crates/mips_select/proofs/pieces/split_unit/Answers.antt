@@ -1,10 +1,9 @@
 use Rattle.std.specs.Prelude.{All, ◌^◌}
-use Rattle.std.proofs.Common.{rules, ◌<◌, arith, ap, ◌∙◌}
+use Rattle.std.proofs.Common.{rules, ◌<◌, arith}
 use Rattle.std.proofs.lemmas.Result.{err_from_is_err_and}
 use Rattle.mips_select.specs.Split.{first_piece_of}
-use Rattle.mblock.specs.Units.{UnitParts}
 use Rattle.mips_select.proofs.Places.{length-split_from}
-use Rattle.mips_select.proofs.Made.{unit_made, pieces_are}
+use Rattle.mips_select.proofs.Made.{unit_made}
 use Rattle.mips_select.proofs.Apart.{comes_to}
 use Rattle.mips_select.proofs.pieces.split_unit.Goals as goal
 
@@ -23,5 +22,5 @@ of-requires c =
 
 pub returns-clause-runs : goal.returns-clause-runs
 returns-clause-runs c = λ s r end comes.
-    let made = pieces_are c.args.long.items (rw c.as_slice.ensures.value at c.in_ok-numbers.ensures.numbers) c.as_slice-4.ensures.value c.in_ok-blocks.ensures in
-    rw (ap (λ (u : UnitParts). u.blocks) c.of.ensures ∙ made) (comes_to 512 c.args.long.items c.requires.linked s r end comes)
+    let numbers = rw c.as_slice.ensures.value at c.in_ok-numbers.ensures.numbers in
+    rw (c.of.ensures, c.in_ok-blocks.ensures, c.as_slice-4.ensures.value, numbers) (comes_to 512 c.args.long.items c.requires.linked s r end comes)

@@ -1,5 +1,5 @@
 use Rattle.std.proofs.lemmas.Result.{IfOk-weaker, IfErr-weaker}
-use Rattle.mips_select.proofs.Selecting.{beyond, told_beyond, selected}
+use Rattle.mips_select.proofs.Selecting.{told_beyond}
 use Rattle.mips_select.proofs.program.select.Goals as goal
 
 pub returns-in_err-long-clause-limit : goal.returns-in_err-long-clause-limit
@@ -8,7 +8,7 @@ returns-in_err-long-clause-limit c = told_beyond _ _ c.from_residual-in_err-long
 
 pub returns-clause-limit : goal.returns-clause-limit
 returns-clause-limit c = IfErr-weaker c.unit_of.result _ _
-    (λ e many is fit. beyond c.in_ok-homed.homed c.args.rtl.now c.in_ok-homed.ensures.lent c.in_ok-homed.ensures.places (many is))
+    (λ e many is fit. record { homed = c.in_ok-homed.homed; lent = c.in_ok-homed.ensures.lent; choices = c.in_ok-homed.ensures.places; many = many is })
     c.unit_of.ensures.limit
 
 pub returns-clause-runs : goal.returns-clause-runs
@@ -17,7 +17,7 @@ returns-clause-runs c = IfOk-weaker c.unit_of.result _ _
 
 pub returns-clause-unit : goal.returns-clause-unit
 returns-clause-unit c = IfOk-weaker c.unit_of.result _ _
-    (λ u h. selected c.in_ok-homed.homed c.args.rtl.now u c.in_ok-homed.ensures.lent c.in_ok-homed.ensures.places h) c.unit_of.ensures.unit
+    (λ u h. record { homed = c.in_ok-homed.homed; lent = c.in_ok-homed.ensures.lent; places = c.in_ok-homed.ensures.places; unit = h }) c.unit_of.ensures.unit
 
 pub returns-clause-data : goal.returns-clause-data
 returns-clause-data c = IfOk-weaker c.unit_of.result _ _ (λ u h. cc (c.in_ok-homed.ensures.lent)) c.unit_of.ensures.unit

@@ -1,6 +1,6 @@
-use Rattle.std.proofs.Common.{◌∷◌, [], ◌++◌, ◌+◌, drop, get_or, refl, ap, arith, ◌∙◌}
+use Rattle.std.proofs.Common.{get_or, refl, arith}
 use Rattle.std.proofs.lemmas.List.{get_or_default}
-use Rattle.mips_select.specs.Code.{frame_word, frame_words}
+use Rattle.mips_select.specs.Code.{frame_words}
 use Rattle.std.proofs.lemmas.Option.{slice_get-get_or}
 use Rattle.mips_select.proofs.Lists.{made_more, all_made}
 use Rattle.mips_select.proofs.prologue.emit_words.Goals as goal
@@ -17,15 +17,11 @@ pub loop-r-preserved : goal.loop-r-preserved
 loop-r-preserved c =
     let rs = c.args.registers.now in
     let i = c.loop-r.r-index in
-    let r = get_or rs i 0 in
-    let at = c.loop-r.place in
-    let direction = c.args.direction in
     let place = c.loop-r.invariant.0 in (
       omega (arith, place),
-      made_more (frame_words direction at) rs i r _ _ (frame_word direction r at ∷ []) (frame_words direction (at + 4) (drop (i + 1) rs)) _ c.loop-r-test.true
-          (get_or_default rs i 0 r c.loop-r-test.true) refl
-          (c.in_ok-emit_word.ensures ∙ ap (λ r. c.loop-r.code.items ++ frame_word direction r at ∷ []) c.register.ensures) c.loop-r.invariant.1,
+      rw (c.in_ok-emit_word.ensures, c.register.ensures) (made_more (frame_words c.args.direction c.loop-r.place) rs i _ _ _ c.loop-r-test.true
+          (get_or_default rs i 0 (get_or rs i 0) c.loop-r-test.true) refl c.loop-r.invariant.1),
     )
 
 pub returns : goal.returns
-returns c = all_made (frame_words c.args.direction c.loop-r.place) c.args.registers.now c.loop-r.r-index _ _ c.loop-r-test.false refl c.loop-r.invariant.1
+returns c = all_made (frame_words c.args.direction c.loop-r.place) c.args.registers.now c.loop-r.r-index c.loop-r-test.false refl c.loop-r.invariant.1
