@@ -18,7 +18,6 @@ use Rattle.mips_select.specs.Whole.{functions_size, functions_blocks}
 use Rattle.mips_select.proofs.Places.{block_there}
 use Rattle.mips_select.proofs.Lists.{drop_item, made_more}
 use Rattle.mips_select.proofs.Linked.{function_length}
-use Rattle.mips_isa.specs.declared.inst.Plain.{Plain}
 use Rattle.mips_emit.specs.Locations.{Locations}
 use Rattle.mips_emit.specs.Code.{arrive}
 use Rattle.mips_select.specs.Code.{parameters_code}
@@ -65,19 +64,12 @@ functions_step l i funcs fs func f out {out'} within same func_is f_is k_is e be
     )
 
 -- one more parameter
-parameters_more : (at : Locations) (t x n : ℕ) → parameters_code at t x (suc n) ≡ parameters_code at t x n ++ arrive (at (x + n)) (t + n)
-parameters_more at t x zero =
-    let et : t ≡ t + 0 = omega arith in
-    let ex : x ≡ x + 0 = omega arith in
+pub parameters_more : (at : Locations) (t x n y u : ℕ) → y ≡ x + n → u ≡ t + n
+    → parameters_code at t x (suc n) ≡ parameters_code at t x n ++ arrive (at y) u
+parameters_more at t x zero y u y_is u_is =
+    let ey : y ≡ x = omega (arith, y_is) in
+    let eu : u ≡ t = omega (arith, u_is) in
     cc (append-nil (arrive (at x) t))
-parameters_more at t x (suc n) =
-    let et : suc t + n ≡ t + suc n = omega arith in
-    let ex : suc x + n ≡ x + suc n = omega arith in
-    cc (parameters_more at (suc t) (suc x) n, append_assoc (arrive (at x) t) (parameters_code at (suc t) (suc x) n) (arrive (at (x + suc n)) (t + suc n)))
-
-pub parameters_step : (at : Locations) (x : ℕ) (start : List Plain) {t : ℕ} {code code' : List Plain} → code ≡ start ++ parameters_code at 4 0 x
-    → code' ≡ code ++ arrive (at x) t → t ≡ 4 + x → code' ≡ start ++ parameters_code at 4 0 (x + 1)
-parameters_step at x start {t} e f t_is =
-    let next : suc x ≡ x + 1 = omega arith in
-    let zero_x : 0 + x ≡ x = omega arith in
-    cc (append_assoc start (parameters_code at 4 0 x) (arrive (at x) t), parameters_more at 4 0 x)
+parameters_more at t x (suc n) y u y_is u_is =
+    rw (parameters_more at (suc t) (suc x) n y u (omega (arith, y_is)) (omega (arith, u_is)))
+    (sym (append_assoc (arrive (at x) t) (parameters_code at (suc t) (suc x) n) (arrive (at y) u)))

@@ -1,8 +1,8 @@
 -- How blocks are left, apart from what the unit does then: branches and comparisons, what is known there, and where a call goes on.
-use Rattle.std.proofs.Common.{◌≡◌, ℕ, zero, suc, ◌+◌, ◌<◌, ◌≤◌, ◌==◌, Bool, true, false, ◌&&◌, List, [], ◌∷◌, length, Some, None, refl, sym, ap, ◌∙◌}
-use Rattle.std.proofs.Common.{arith, nat_lt, ltb-true, eq-eqb, eqb-true}
+use Rattle.std.proofs.Common.{◌≡◌, ℕ, suc, ◌+◌, ◌<◌, ◌≤◌, ◌==◌, Bool, true, false, ◌&&◌, List, [], ◌∷◌, length, Some, None, refl, sym, ap, ◌∙◌}
+use Rattle.std.proofs.Common.{arith, nat_lt, ltb-true, eq-eqb, eqb-true, ⊎_elim}
 use Rattle.std.specs.Prelude.{if◌then◌else◌, not, slice_get}
-use Rattle.std.proofs.lemmas.Option.{same_Some, none-some}
+use Rattle.std.proofs.lemmas.Option.{same_Some, slice_get_within}
 use Rattle.runs.specs.Stores.{Places, chain}
 use Rattle.mips_isa.specs.declared.inst.Plain.{Plain}
 use Rattle.mips_isa.specs.States.{State}
@@ -24,7 +24,8 @@ use Rattle.mips_emit.specs.declared.comparison.Comparison.{Comparison}
 use Rattle.mips_emit.specs.declared.location.Source.{Source}
 use Rattle.mips_emit.specs.Locations.{Locations, Facts, locations}
 use Rattle.mips_emit.specs.Comparisons.{exit_by_form, comparison_of, last_with, tested}
-use Rattle.std.proofs.lemmas.Bool.{and_parts}
+use Rattle.std.proofs.lemmas.Bool.{and_parts, cases_eq}
+use Rattle.mips_select.proofs.Places.{HasAt, has_whole, has_head, has_tail}
 use Rattle.runs.proofs.Words.{chain-some}
 use Rattle.mips_emit.proofs.Runs.{if_some}
 use Rattle.mips_emit.proofs.Operands.{passes}
@@ -93,27 +94,18 @@ passed_by (E.Call g m) true n no_call = absurd (no_call refl refl)
 passed_by (E.Call g m) false n no_call = refl
 passed_by _ t n no_call = refl
 
-found_from : (links : ℕ → ℕ) (word base : ℕ) (bs : List BlockParts) (k f n : ℕ) (b : BlockParts) → slice_get bs k ≡ Some b → b.exit ≡ E.Call f n
-    → links (base + k) ≡ word
-    → ((j : ℕ) (c : BlockParts) → j < k → slice_get bs j ≡ Some c → is_call c.exit ≡ true → links (base + j) ≡ word → ⊥)
-    → return_block_of links word base bs ≡ Some n
-found_from links word base [] k f n b there is here others = absurd (none-some b there)
-found_from links word base (x ∷ bs) zero f n b there is here others =
-    let zero_base : base + 0 ≡ base = omega arith in
-    let found : links base ≡ word = sym (ap links zero_base) ∙ here in
-    cc (eq-eqb (links base) word found, same_Some x b there)
-found_from links word base (x ∷ bs) (suc k) f n b there is here others =
-    let zero_base : base + 0 ≡ base = omega arith in
-    let next : (j : ℕ) → base + suc j ≡ suc base + j = λ j. omega arith in
-    let rest = found_from links word (suc base) bs k f n b there is (sym (ap links (next k)) ∙ here) (λ j c lt has call same.
-    others (suc j) c (omega (arith, lt)) has call (ap links (next j) ∙ same)) in
-    rw rest (passed_by x.exit (links base == word) n (λ call same.
-    others 0 x (omega arith) refl call (ap links zero_base ∙ eqb-true (links base) word same)))
+-- the call of block k goes on where its link leads back
+module _ (links : ℕ → ℕ) (blocks : List BlockParts) (k f n : ℕ) (b : BlockParts) (tells : TellsApart links blocks) (there : slice_get blocks k ≡ Some b)
+    (is : b.exit ≡ E.Call f n) where
+  found_from : (base : ℕ) (bs : List BlockParts) → HasAt blocks base bs → base ≤ k → k < base + length bs
+      → return_block_of links (links k) base bs ≡ Some n
+  found_from base [] has low high = absurd (omega (arith, low, high))
+  found_from base (x ∷ bs) has low high = ⊎_elim
+      (λ here. let same : Some b ≡ Some x = sym there ∙ ap (slice_get blocks) (sym here) ∙ has_head has in
+      cc (same_Some b x same, eq-eqb (links base) (links k) (ap links here)))
+      (λ other. rw (found_from (suc base) bs (has_tail has) (omega (arith, low, other)) (omega (arith, high))) (passed_by x.exit (links base == links k) n
+      (λ call same. other (tells.apart base k x b (has_head has) there call (ap is_call is) (eqb-true (links base) (links k) same)))))
+      (cases_eq base k)
 
-pub return_found : (links : ℕ → ℕ) (blocks : List BlockParts) (k f n : ℕ) (b : BlockParts) → TellsApart links blocks → slice_get blocks k ≡ Some b
-    → b.exit ≡ E.Call f n → return_block_of links (links k) 0 blocks ≡ Some n
-return_found links blocks k f n b tells there is =
-    let plain : (j : ℕ) → 0 + j ≡ j = λ j. omega arith in
-    found_from links (links k) 0 blocks k f n b there is (ap links (plain k)) (λ j c lt has call same.
-    let same_k : j ≡ k = tells.apart j k c b has there call (ap is_call is) (sym (ap links (plain j)) ∙ same) in
-    absurd (omega (arith, lt, same_k)))
+  pub return_found : return_block_of links (links k) 0 blocks ≡ Some n
+  return_found = found_from 0 blocks (has_whole blocks) (omega arith) (omega (arith, slice_get_within blocks k b there))

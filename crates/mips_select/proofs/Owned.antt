@@ -9,7 +9,7 @@ use Rattle.mblock.specs.declared.exit.Exit.TheVariants.{BranchPair, BranchZero}
 use Rattle.mblock.specs.Parts.{BlockParts}
 use Rattle.mblock.specs.Units.{GoesBelow, BranchesWithin, Continues, AreLinked, AreOwners}
 use Rattle.mips_select.specs.Functions.{blocks_of, owners_of, IsFrom, GoesWithin, IsFunctionAt, AreFunctions}
-use Rattle.mips_select.proofs.Places.{HasAt, has_whole, has_front, has_back, block_there, apart_from}
+use Rattle.mips_select.proofs.Places.{HasAt, has_whole, has_front, has_back, has_get, apart_from}
 use Rattle.mips_select.proofs.Well.{get_replicate}
 
 length-owners_of : (k : ℕ) (fs : List (List BlockParts)) → length (owners_of k fs) ≡ length (blocks_of fs)
@@ -79,10 +79,7 @@ module _ (fs : List (List BlockParts)) (are : AreFunctions (length (blocks_of fs
 
   -- the exit of a block keeps to its function
   exit_within : (i : ℕ) (b : BlockParts) (at : InFunction i) → slice_get blocks i ≡ Some b → GoesWithin bound at.start (length at.code) b.exit
-  exit_within i b at there =
-      let c = block_there at.code at.behind at.within in
-      let same : c.0 ≡ b = same_Some c.0 b (sym (at.blocks_at.by at.behind c.0 c.1) ∙ sym (ap (slice_get blocks) at.is) ∙ there) in
-      at.function.by at.behind b (c.1 ∙ ap Some same)
+  exit_within i b at there = at.function.by at.behind b (has_get at.blocks_at at.behind at.within (rw at.is at there))
 
   same_owner : (i o : ℕ) (at : InFunction i) → slice_get owner i ≡ Some o → at.start ≡ o
   same_owner i o at here = same_Some at.start o (sym (owned_from (length at.code) at.owned i (omega (arith, at.is, at.within))) ∙ here)

@@ -35,6 +35,10 @@ has_back {whole} {k} {m} a b h is = record {
       ∙ h.by (length a + i) x (get_behind a b i ∙ e);
 }
 
+pub has_get : {A : Type 0} {whole : List A} {k : ℕ} {part : List A} → HasAt whole k part → (j : ℕ) {x : A} → j < length part
+    → slice_get whole (k + j) ≡ Some x → slice_get part j ≡ Some x
+has_get {part} h j lt e = let p = block_there part j lt in p.1 ∙ sym (h.by j p.0 p.1) ∙ e
+
 pub length-pieces : (most : ℕ) (exit : Exit) (more k : ℕ) (insts : List Plain) → length (pieces most exit more k insts) ≡ suc more
 length-pieces most exit zero k insts = refl
 length-pieces most exit (suc more) k insts = ap suc (length-pieces most exit more (suc k) (drop most insts))

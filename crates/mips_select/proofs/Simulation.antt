@@ -9,7 +9,6 @@ use Rattle.std.proofs.lemmas.Bool.{and_parts, cond_both}
 use Rattle.runs.specs.Stores.{Places, places_with, unset_places, Arrays}
 use Rattle.mips_isa.specs.declared.inst.Plain.{Plain}
 use Rattle.mips_isa.specs.States.{State}
-use Rattle.mips_isa.specs.Starting.{stack_base, stack_end}
 use Rattle.mips_isa.proofs.Registers.{cond-ap}
 use Rattle.mblock.specs.declared.exit.Exit.{Exit}
 use Rattle.mblock.specs.declared.exit.Exit.TheVariants as E
@@ -263,9 +262,9 @@ module _ {h : Homed} {depth : ℕ} {blocks : List BlockParts} (ok : IsSelected h
       → Reach 1 p (write_homes (cells frame.homes.items (registers_at_entry frame.saved.items r) unset_places) 0 vs out (λ r' s'.
       state_at_block 0 (new_activation func.blocks.items frame s' r result_to) s' (around r' ws arrays out)))
   entered p f func frame is r arrays ws link result_to below vs s out enter st passing is_link here count deep waits =
-      let room : stack_base + ok.most ≤ s.regs 29 = enough_room (s.regs 29) (length ws)
-      (stack_room ok.most (word_at s) (s.regs 29) (frames_of ws below) st.stack) (as_deep link result_to ws below waits) in
-      let e = enters ok.small is.leaf is.frame st link is_link is.alone passing room in
+      let one : suc (length ws) * ok.most ≡ ok.most + length ws * ok.most = omega arith in
+      let low = rw (as_deep link result_to ws below waits) at (stack_room ok.most (word_at s) (s.regs 29) (frames_of ws below) st.stack) in
+      let e = enters ok.small is.leaf is.frame st link is_link is.alone passing (omega (arith, one, deep, low)) in
       parameters (λ run. Reach 1 p run) out tt e.stands (frame_homes ok.most frame is.frame) vs 4 0
       (λ r' s'. state_at_block 0 (new_activation func.blocks.items frame s' r result_to) s' (around r' ws arrays out))
       (omega arith) (omega (arith, count, is.parameters)) (rw count is.clear)
@@ -281,11 +280,6 @@ module _ {h : Homed} {depth : ℕ} {blocks : List BlockParts} (ok : IsSelected h
         homes = record { place = is.place; head = is.head; placed = is.placed; frame = is.frame };
         waits = waits;
       }
-
-      enough_room : (p n : ℕ) → stack_end ≤ p + length (frames_of ws below) * ok.most → length (frames_of ws below) ≡ length ws → stack_base + ok.most ≤ p
-      enough_room p n low same =
-          let one : suc (length ws) * ok.most ≡ ok.most + length ws * ok.most = omega arith in
-          omega (arith, one, deep, rw same at low)
 
   -- so many frames fit the stack
   room_for : (n : ℕ) → n < depth → suc n * ok.most ≤ STACK_BYTES

@@ -10,7 +10,7 @@ use Rattle.mblock.specs.declared.exit.Exit.TheVariants.{Goto, BranchPair, Branch
 use Rattle.mblock.specs.Parts.{BlockParts}
 use Rattle.mblock.specs.Units.{GoesBelow, BranchesWithin, Continues, AreLinked, AreOwners}
 use Rattle.mips_select.specs.Split.{renumbered_exit, more_pieces, pieces, count_of, firsts, first_piece_of, split_at_most, owners_from, total}
-use Rattle.mips_select.proofs.Places.{HasAt, has_whole, has_front, has_back, has_pieces, block_there, length-pieces}
+use Rattle.mips_select.proofs.Places.{HasAt, has_whole, has_front, has_back, has_pieces, has_get, block_there, length-pieces}
 use Rattle.mips_select.proofs.Places.{length-split_from, Located, located, first_next, pieces_enough, IsPieceAt, piece_at}
 
 pub get_replicate : {A : Type 0} (n : ℕ) (x : A) (j : ℕ) → j < n → slice_get (replicate n x) j ≡ Some x
@@ -71,15 +71,13 @@ module _ (most : ℕ) (some : 0 < most) (blocks : List BlockParts) where
   piece_of i p there =
       let at = located most 0 blocks i (omega (arith, slice_get_within whole i p there, length-split_from most place 0 blocks)) in
       let exit = renumbered_exit place at.block.exit in
-      let parts = pieces most exit (more_pieces most at.block) (place at.number) at.block.insts in
       let is : i ≡ place at.number + at.behind = omega (arith, at.is) in
       let many = length-pieces most exit (more_pieces most at.block) (place at.number) at.block.insts in
-      let q = block_there parts at.behind (omega (arith, at.within, many)) in
-      let same : q.0 ≡ p = same_Some q.0 p (sym ((at_block at.number at.block at.there).by at.behind q.0 q.1) ∙ sym (ap (slice_get whole) is) ∙ there) in
       record {
         at = at;
         looks = piece_at most exit (more_pieces most at.block) (place at.number) at.block.insts
-            (pieces_enough most (length at.block.insts) some) at.behind p (q.1 ∙ ap Some same);
+            (pieces_enough most (length at.block.insts) some) at.behind p
+            (has_get (at_block at.number at.block at.there) at.behind (omega (arith, at.within, many)) (rw is at there));
       }
 
   pub pieces_short : (i : ℕ) (p : BlockParts) → slice_get whole i ≡ Some p → length p.insts ≤ most

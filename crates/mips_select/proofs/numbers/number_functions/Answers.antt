@@ -3,7 +3,7 @@ use Rattle.std.proofs.lemmas.List.{at_drop_all, map_push}
 use Rattle.std.specs.declared.alloc.Global.{Global}
 use Rattle.std.specs.declared.vec.Vec.{Vec}
 use Rattle.mips_select.specs.declared.heads.Naming.{Naming}
-use Rattle.mips_select.specs.Heads.{namings, namings_of}
+use Rattle.mips_select.specs.Heads.{namings_of}
 use Rattle.mips_select.specs.Whole.{entries_from, functions_size, owners_from}
 use Rattle.std.proofs.lemmas.Option.{slice_get_read}
 use Rattle.mips_select.proofs.Linked.{function_some}
