@@ -170,6 +170,9 @@ module _ {h : Homed} {depth : ℕ} {blocks : List BlockParts} (ok : IsSelected h
   reach_after m n {d} _ le lead r =
       record { to = r.to; count = d + r.count; enough = omega (arith, le, r.enough); leads = leads_then lead r.leads; match = r.match }
 
+  leads_to : {n d : ℕ} {p q : Point} {run : Run} → Lead d p q → n ≤ d → MatchRun run q → Reached n p run
+  leads_to {d = d} {q = q} lead le match = record { to = q; count = d; enough = le; leads = lead; match = match }
+
   -- instructions up to the exit
   pub code_leads : (k : ℕ) {is : List Plain} {s t : State} (out : List ℕ) → RunsTo is s t → Lead (length is) (At k is s out) (At k [] t out)
   code_leads k {is} {s} {t} out e = subst (λ l. Lead (length is) (At k l s out) (At k [] t out)) (append-nil is) (leads_run k [] out e)
@@ -244,13 +247,7 @@ module _ {h : Homed} {depth : ℕ} {blocks : List BlockParts} (ok : IsSelected h
   jumps p a ws l b out {s} st f = value_or_failed (λ run. Reach 1 p run) (slice_get a.blocks b) out _ tt (λ block there.
       let at = l.placed.by b block there in
       let lead = f block at in
-      record {
-        to = At (l.place b) (block_code l.leaf a.frame l.place block) s out;
-        count = lead.0;
-        enough = lead.1;
-        leads = lead.2;
-        match = starts_block a out l at st;
-      })
+      leads_to lead.2 lead.1 (starts_block a out l at st))
 
   -- a function is entered, from a point that leads to its first block
   pub entered : (p : Point) (f : ℕ) (func : RFunc) (frame : Frame) → IsFunction blocks linking ok.most f func frame
@@ -265,21 +262,14 @@ module _ {h : Homed} {depth : ℕ} {blocks : List BlockParts} (ok : IsSelected h
       let one : suc (length ws) * ok.most ≡ ok.most + length ws * ok.most = omega arith in
       let low = rw (as_deep link result_to ws below waits) at (stack_room ok.most (word_at s) (s.regs 29) (frames_of ws below) st.stack) in
       let e = enters ok.small is.leaf is.frame st link is_link is.alone passing (omega (arith, one, deep, low)) in
+      let lives : Lives frame func.blocks.items result_to ws =
+      record { link = link; below = below; leaf = is.leaf; homes = record { place = is.place; head = is.head; placed = is.placed; frame = is.frame }; waits = waits } in
       parameters (λ run. Reach 1 p run) out tt e.stands (frame_homes ok.most frame is.frame) vs 4 0
       (λ r' s'. state_at_block 0 (new_activation func.blocks.items frame s' r result_to) s' (around r' ws arrays out))
       (omega arith) (omega (arith, count, is.parameters)) (rw count is.clear)
       (λ j v at. (let low = slice_get_within vs j v at in e.same (4 + j) (omega (arith, low, count, is.parameters))) ∙ here j v at)
       (λ r' slots' s2 e2 st2. jumps p (new_activation func.blocks.items frame slots' r result_to) ws lives 0 out st2 (λ block stood.
       through stood.there (rw (count, append_assoc) at (runs_then e.runs e2)) enter is.first refl))
-    where
-      lives : Lives frame func.blocks.items result_to ws
-      lives = record {
-        link = link;
-        below = below;
-        leaf = is.leaf;
-        homes = record { place = is.place; head = is.head; placed = is.placed; frame = is.frame };
-        waits = waits;
-      }
 
   -- so many frames fit the stack
   room_for : (n : ℕ) → n < depth → suc n * ok.most ≤ STACK_BYTES
@@ -302,13 +292,7 @@ module _ {h : Homed} {depth : ℕ} {blocks : List BlockParts} (ok : IsSelected h
       let s1 = set s 4 (s.regs 2) in
       let value : s1.regs 4 ≡ v = put_here s.regs 4 (s.regs 2) (omega arith) ∙ result v o_v in
       let end : Lead 1 (At 1 [] s1 out) (Stopped v out) = departs ok.end refl (λ n. rw value) in
-      record {
-        to = Stopped v out;
-        count = d + (1 + (1 + 1));
-        enough = omega arith;
-        leads = leads_then lead (leads_then (back there is at found ok.end) (leads_then (code_leads 1 out (moves s 4 2 st.words)) end));
-        match = refl;
-      })
+      leads_to (leads_then lead (leads_then (back there is at found ok.end) (leads_then (code_leads 1 out (moves s 4 2 st.words)) end))) (omega arith) refl)
   returns lead there is a (w ∷ ws) [] o r at result st waits = absurd waits
   returns {p} {d} {k} {out} {s} lead there is a (w ∷ ws) (l ∷ ls) o r {g} {link} at result st waits = put a.result_to resumed
     where
@@ -327,13 +311,8 @@ module _ {h : Homed} {depth : ℕ} {blocks : List BlockParts} (ok : IsSelected h
       resumed r' slots' s' e st' =
           let to = At (m.place m.next) (block_code false w.frame m.place m.block) s' out in
           let on : LeadOn (At k [] s out) to = through (m.at).there e (λ target found. back there is at m.found found) m.after refl in
-          record {
-            to = to;
-            count = d + on.0;
-            enough = omega (arith, on.1);
-            leads = leads_then lead on.2;
-            match = subst (λ code. Match r' (at_code w slots' code) ws g out to) (sym m.code) (starts_block w out lives m.at st');
-          }
+          leads_to (leads_then lead on.2) (omega (arith, on.1))
+          (subst (λ code. Match r' (at_code w slots' code) ws g out to) (sym m.code) (starts_block w out lives m.at st'))
 
       put : (result_to : Option ℕ) → ((r' slots' : Places) (s' : State) → RunsTo (result_code (locations w.frame) result_to) s s'
           → Stand r' g (stored_frame false w.frame slots' w.aside l ∷ frames_of ws ls) s' → Reach 1 p (again r' slots'))
@@ -529,13 +508,8 @@ module _ {h : Homed} {depth : ℕ} {blocks : List BlockParts} (ok : IsSelected h
         let last = last_with None (fresh_of (locations a.frame) i) in
         performs g fs (From (code ++ behind is now last)) out tt i m.facts r stored s
         (λ r' s' g'. Running r' (at_code a s' (left is) ∷ ws) g' out) (frame_homes ok.most a.frame m.frame) m.is_known m.are_deferred m.are_bases m.stands
-        (λ r' slots' g' s' some e st lz kp kn new. record {
-          to = At k (behind is now last) s' out;
-          count = length code;
-          enough = some;
-          leads = leads_run k (behind is now last) out e;
-          match = match_at a out m.lives (left is) now last c kn lz kp new st;
-        })
+        (λ r' slots' g' s' some e st lz kp kn new.
+        leads_to (leads_run k (behind is now last) out e) some (match_at a out m.lives (left is) now last c kn lz kp new st))
     next i (j ∷ js) (Some n) is c = absurd (none_asked (locations a.frame) m.facts i n is)
     next i [] (Some n) is c =
         let code = comparison_code n in
@@ -543,22 +517,18 @@ module _ {h : Homed} {depth : ℕ} {blocks : List BlockParts} (ok : IsSelected h
         let rest = exit_code m.leaf a.frame now (last_with (Some n) None) a.code.exit in
         compares ok.most total gs starts g fs (From (code ++ rest)) out tt i m.facts (asked_of a.code.exit) n r stored s
         (λ r' s' g'. Running r' (at_code a s' (left []) ∷ ws) g' out) is (frame_homes ok.most a.frame m.frame) m.is_known m.are_deferred m.stands
-        (λ q u s' some e st lz new. record {
-          to = At k (exit_code m.leaf a.frame (waiting m.facts q u) (last_with (Some n) None) a.code.exit) s' out;
-          count = length code;
-          enough = some;
-          leads = subst (λ l. Lead (length code) (At k (code ++ rest) s out) (At k l s' out))
-              (same_code m.leaf a.frame m.facts now (waiting m.facts q u) i n a.code.exit is) (leads_run k rest out e);
-          match = match_at a out m.lives (left []) (waiting m.facts q u) (last_with (Some n) None)
-              (record {
-                form = c.form;
-                next = c.next;
-                there = c.there;
-                exit = c.exit ∙ same_exit linking placing m.facts now (waiting m.facts q u) i n c.next a.code.exit is;
-                leads_on = c.leads_on;
-              })
-              (nothing_known homes (places_with r q (Some u)) a.slots) lz (no_bases gs starts s'.regs) new st;
+        (λ q u s' some e st lz new. leads_to
+        (subst (λ l. Lead (length code) (At k (code ++ rest) s out) (At k l s' out))
+        (same_code m.leaf a.frame m.facts now (waiting m.facts q u) i n a.code.exit is) (leads_run k rest out e)) some
+        (match_at a out m.lives (left []) (waiting m.facts q u) (last_with (Some n) None)
+        (record {
+          form = c.form;
+          next = c.next;
+          there = c.there;
+          exit = c.exit ∙ same_exit linking placing m.facts now (waiting m.facts q u) i n c.next a.code.exit is;
+          leads_on = c.leads_on;
         })
+        (nothing_known homes (places_with r q (Some u)) a.slots) lz (no_bases gs starts s'.regs) new st))
 
     step : (is : List RInst) → CodeBefore placing m.head m.facts m.last k (left is)
         → From (behind is m.facts m.last) (step_at h depth is a.code.exit a (around r ws g out))
@@ -568,13 +538,7 @@ module _ {h : Homed} {depth : ℕ} {blocks : List BlockParts} (ok : IsSelected h
   -- a step
   advances : (run : Run) (p : Point) → MatchRun run p → Reach 1 p (homed_step h depth run)
   advances (Failed out) p m = tt
-  advances (Ended v out) p m = record {
-    to = Stopped v out;
-    count = 1;
-    enough = omega arith;
-    leads = rw m (record { by = λ n. refl });
-    match = refl;
-  }
+  advances (Ended v out) p m = leads_to {d = 1} {q = Stopped v out} (rw m (record { by = λ n. refl })) (omega arith) refl
   advances (Running r [] g out) p m = absurd m
   advances (Running r (a ∷ ws) g out) p m = rw m.point (step m a.code.insts m.code)
 
