@@ -18,22 +18,15 @@ call_stays place (Goto t) = refl
 call_stays place _ = refl
 
 module _ (most : ℕ) (blocks : List BlockParts) where
-  record Last (n : ℕ) (b : BlockParts) : Type 0 where
-    piece : BlockParts
-    there : slice_get (split_at_most most blocks) (last_of most blocks n) ≡ Some piece
-    calls : is_call piece.exit ≡ is_call b.exit
-
-  last_of_block : (n : ℕ) (b : BlockParts) → slice_get blocks n ≡ Some b → Last n b
+  -- the last piece of a block is a call where the block is
+  last_of_block : (n : ℕ) (b : BlockParts) → slice_get blocks n ≡ Some b
+      → (p : BlockParts) × (slice_get (split_at_most most blocks) (last_of most blocks n) ≡ Some p) × (is_call p.exit ≡ is_call b.exit)
   last_of_block n b there =
       let whole = split_at_most most blocks in
       let place = first_piece_of most blocks in
       let p = last_there most (renumbered_exit place b.exit) whole (more_pieces most b) (place n) b.insts
       (has_pieces most place whole 0 blocks (has_whole whole) n b there) in
-      record {
-        piece = p.0;
-        there = sym (ap (slice_get whole) (last_piece most 0 blocks n b there)) ∙ p.1;
-        calls = ap is_call p.2 ∙ call_stays place b.exit;
-      }
+      (p.0, sym (ap (slice_get whole) (last_piece most 0 blocks n b there)) ∙ p.1, ap is_call p.2 ∙ call_stays place b.exit)
 
   pub told_apart : (links : ℕ → ℕ) → TellsApart links (split_at_most most blocks) → TellsApart (λ n. links (last_of most blocks n)) blocks
   told_apart links tells = record {
@@ -42,7 +35,7 @@ module _ (most : ℕ) (blocks : List BlockParts) where
         let p = last_of_block i a i_there in
         let q = last_of_block j b j_there in
         last_apart most 0 blocks i j (slice_get_within blocks i a i_there) (slice_get_within blocks j b j_there)
-        (tells.apart (last_of most blocks i) (last_of most blocks j) p.piece q.piece p.there q.there (p.calls ∙ a_call) (q.calls ∙ b_call) same);
+        (tells.apart (last_of most blocks i) (last_of most blocks j) p.0 q.0 p.1 q.1 (p.2 ∙ a_call) (q.2 ∙ b_call) same);
   }
 
 -- what the long unit comes to, its pieces come to

@@ -169,13 +169,11 @@ link_length : (direction : Direction) (leaf : Bool) (f : Frame) → length (fram
 link_length direction true f = refl
 link_length direction false f = refl
 
-parameters_few : (at : Locations) (t x n : ℕ) → length (parameters_code at t x n) ≤ 2 * n
-parameters_few at t x zero = omega arith
-parameters_few at t x (suc n) = omega (arith, length-append {A = Plain}, arrive_few (at x) t, parameters_few at (suc t) (suc x) n)
-
-parameters_one : (hs : List Home) (t x n : ℕ) → HaveNoCopies hs → length (parameters_code (slice_get hs) t x n) ≤ n
-parameters_one hs t x zero none = omega arith
-parameters_one hs t x (suc n) none = omega (arith, length-append {A = Plain}, arrive_one hs x t none, parameters_one hs (suc t) (suc x) n none)
+parameters_few : (most : ℕ) (at : Locations) (t x n : ℕ) → ((y u : ℕ) → length (arrive (at y) u) ≤ most) → length (parameters_code at t x n) ≤ most * n
+parameters_few most at t x zero each = omega arith
+parameters_few most at t x (suc n) each =
+    let one : most * suc n ≡ most + most * n = omega arith in
+    omega (arith, length-append {A = Plain}, each x t, parameters_few most at (suc t) (suc x) n each, one)
 
 -- a leaf has no link, but it may have copies of its parameters; what it has more at its beginning it has less at a return
 abbrev pub prologue_most : Bool → ℕ
@@ -188,9 +186,9 @@ exit_most leaf = 11 + link_words leaf
 pub prologue_few : (leaf : Bool) (f : Frame) (n : ℕ) → length f.saved.items ≤ 8 → n ≤ 4 → (leaf ≡ false → HaveNoCopies f.homes.items)
     → length (prologue leaf f n) ≤ prologue_most leaf
 prologue_few true f n eight four alone =
-    omega (arith, length-append {A = Plain}, words_many, step_few, eight, four, parameters_few (locations f) 4 0 n)
+    omega (arith, length-append {A = Plain}, words_many, step_few, eight, four, parameters_few 2 (locations f) 4 0 n (λ y u. arrive_few (locations f y) u))
 prologue_few false f n eight four alone =
-    omega (arith, length-append {A = Plain}, words_many, step_few, eight, four, parameters_one f.homes.items 4 0 n (alone refl))
+    omega (arith, length-append {A = Plain}, words_many, step_few, eight, four, parameters_few 1 (locations f) 4 0 n (λ y u. arrive_one f.homes.items y u (alone refl)))
 
 -- an epilogue, and two instructions for what is returned
 epilogue_few : (leaf : Bool) (f : Frame) → length f.saved.items ≤ 8 → length (epilogue leaf f) + 2 ≤ exit_most leaf

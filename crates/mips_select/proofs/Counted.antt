@@ -119,35 +119,34 @@ later_head p names j = by (slice_get names (suc j))
     by (Some (Called (Some d))) = grind (arith, nat_tests, result_few (locations p.frame) (Some d))
     by _ = omega arith
 
-record IsFew (func : RFunc) (f : Frame) : Type 0 where
+-- a function of n parameters
+record IsFew (n : ℕ) (bs : List RBlock) (f : Frame) : Type 0 where
   eight : length f.saved.items ≤ 8
-  four : func.parameters ≤ 4
-  alone : is_leaf func.blocks.items ≡ false → HaveNoCopies f.homes.items
-  some : 0 < length func.blocks.items
-  few : (i : ℕ) (b : RBlock) → slice_get func.blocks.items i ≡ Some b → HasFewArguments b.exit
+  four : n ≤ 4
+  alone : is_leaf bs ≡ false → HaveNoCopies f.homes.items
+  some : 0 < length bs
+  few : (i : ℕ) (b : RBlock) → slice_get bs i ≡ Some b → HasFewArguments b.exit
 
-function_few : (l : Linking) (n k : ℕ) (bs : List RBlock) (f : Frame) → length f.saved.items ≤ 8 → n ≤ 4
-    → (is_leaf bs ≡ false → HaveNoCopies f.homes.items) → 0 < length bs → ((i : ℕ) (b : RBlock) → slice_get bs i ≡ Some b → HasFewArguments b.exit)
+function_few : (l : Linking) (n k : ℕ) (bs : List RBlock) (f : Frame) → IsFew n bs f
     → Few (blocks_in l n k bs f) (1 + exits_blocks bs) (14 + 14 * length bs + 8 * insts_in bs)
-function_few l n k [] f eight four alone some few = absurd (omega (arith, some))
-function_few l n k (b ∷ bs) f eight four alone some few =
+function_few l n k [] f is = absurd (omega (arith, is.some))
+function_few l n k (b ∷ bs) f is =
     let all = b ∷ bs in
     let heads = heads_of all in
     let p = planning_in n k all f in
-    let lead = lead_few l p eight four alone (slice_get (namings all (unnamed all)) 0) in
-    let fits = (most l p eight four alone (is_leaf all)).1 in
-    let rest = rest_few l p eight four alone (later_head p (namings all (unnamed all))) (k + lead_in heads + count heads b.exit) 0 bs (λ i c e. few (suc i) c e) in
-    let first = one_few l p eight four alone (k + lead_in heads) 0 b bs (few 0 b refl) rest in
+    let lead = lead_few l p is.eight is.four is.alone (slice_get (namings all (unnamed all)) 0) in
+    let fits = (most l p is.eight is.four is.alone (is_leaf all)).1 in
+    let rest = rest_few l p is.eight is.four is.alone (later_head p (namings all (unnamed all))) (k + lead_in heads + count heads b.exit) 0 bs (λ i c e. is.few (suc i) c e) in
+    let first = one_few l p is.eight is.four is.alone (k + lead_in heads) 0 b bs (is.few 0 b refl) rest in
     omega (arith, lead, fits, first, length-append {A = BlockParts}, words_append)
 
 -- ---- the program
 
 functions_few : (l : Linking) (k : ℕ) (funcs : List RFunc) (fs : List Frame)
-    → ((i : ℕ) (func : RFunc) (f : Frame) → slice_get funcs i ≡ Some func → slice_get fs i ≡ Some f → IsFew func f)
+    → ((i : ℕ) (func : RFunc) (f : Frame) → slice_get funcs i ≡ Some func → slice_get fs i ≡ Some f → IsFew func.parameters func.blocks.items f)
     → total 512 (functions_blocks l k funcs fs) ≤ most_by_exits_for funcs
 functions_few l k (func ∷ funcs) (f ∷ fs) each =
-    let is = each 0 func f refl refl in
-    let one = function_few l func.parameters k func.blocks.items f is.eight is.four is.alone is.some is.few in
+    let one = function_few l func.parameters k func.blocks.items f (each 0 func f refl refl) in
     let rest = functions_few l (k + function_size func) funcs fs (λ i g h eg eh. each (suc i) g h eg eh) in
     omega (arith, one.blocks_few, one.words_few, total_few, rest, total_append)
 functions_few l k _ _ each = omega arith

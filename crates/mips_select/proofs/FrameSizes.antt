@@ -55,14 +55,11 @@ ArePlain hs = (x : ℕ) (h : Home) → slice_get hs x ≡ Some h → cell h ≡ 
 pub no_copies : (hs : List Home) → ArePlain hs → HaveNoCopies hs
 no_copies hs plain x r k e = let other : Slot k ≡ Copied r k = plain x (Copied r k) e in cc
 
-no_copy : (h : Home) (hs : List Home) (q i : ℕ) → ArePlain (h ∷ hs) → h ≡ Copied q i → ⊥
-no_copy h hs q i plain e = no_copies (h ∷ hs) plain 0 q i (ap Some e)
-
 -- each copy is in one of the registers
 register_of : (free : List ℕ) (hs : List Home) (x r k : ℕ) → ArePlain hs → slice_get (copied_onto free hs) x ≡ Some (Copied r k)
     → (j : ℕ) × (slice_get free j ≡ Some r)
 register_of free [] x r k plain e = absurd (none-some (Copied r k) e)
-register_of free (Copied q i ∷ hs) x r k plain e = absurd (no_copy (Copied q i) hs q i plain refl)
+register_of free (Copied q i ∷ hs) x r k plain e = absurd (no_copies (Copied q i ∷ hs) plain 0 q i refl)
 register_of free (Reg q ∷ hs) zero r k plain e = (let same = same_Some (Reg q) (Copied r k) e in absurd cc)
 register_of free (Reg q ∷ hs) (suc x) r k plain e = register_of free hs x r k (λ x. plain (suc x)) e
 register_of [] (Slot i ∷ hs) zero r k plain e = (let same = same_Some (Slot i) (Copied r k) e in absurd cc)
@@ -81,7 +78,7 @@ later q free hs y r i j k plain up same f =
 once : (low : ℕ) (free : List ℕ) (hs : List Home) (x y r j k : ℕ) → ArePlain hs → Rising low free → slice_get (copied_onto free hs) x ≡ Some (Copied r j)
     → slice_get (copied_onto free hs) y ≡ Some (Copied r k) → x ≡ y
 once low free [] x y r j k plain up e f = absurd (none-some (Copied r j) e)
-once low free (Copied q i ∷ hs) x y r j k plain up e f = absurd (no_copy (Copied q i) hs q i plain refl)
+once low free (Copied q i ∷ hs) x y r j k plain up e f = absurd (no_copies (Copied q i ∷ hs) plain 0 q i refl)
 once low free (Reg q ∷ hs) zero y r j k plain up e f = (let same = same_Some (Reg q) (Copied r j) e in absurd cc)
 once low free (Reg q ∷ hs) (suc x) zero r j k plain up e f = (let same = same_Some (Reg q) (Copied r k) f in absurd cc)
 once low free (Reg q ∷ hs) (suc x) (suc y) r j k plain up e f = ap suc (once low free hs x y r j k (λ x. plain (suc x)) up e f)

@@ -63,25 +63,20 @@ module _ (most : ℕ) (some : 0 < most) (blocks : List BlockParts) where
       let b = block_there blocks t lt in omega (arith, piece_there t b.0 b.1 0 (omega arith))
 
   -- piece i of the unit
-  record Piece (i : ℕ) (p : BlockParts) : Type 0 where
-    at : Located most 0 blocks i
-    looks : IsPieceAt most (renumbered_exit place at.block.exit) (more_pieces most at.block) (place at.number) at.behind p
-
-  piece_of : (i : ℕ) (p : BlockParts) → slice_get whole i ≡ Some p → Piece i p
+  piece_of : (i : ℕ) (p : BlockParts) → slice_get whole i ≡ Some p → (at : Located most 0 blocks i)
+      × IsPieceAt most (renumbered_exit place at.block.exit) (more_pieces most at.block) (place at.number) at.behind p
   piece_of i p there =
       let at = located most 0 blocks i (omega (arith, slice_get_within whole i p there, length-split_from most place 0 blocks)) in
       let exit = renumbered_exit place at.block.exit in
       let is : i ≡ place at.number + at.behind = omega (arith, at.is) in
-      let many = length-pieces most exit (more_pieces most at.block) (place at.number) at.block.insts in
-      record {
-        at = at;
-        looks = piece_at most exit (more_pieces most at.block) (place at.number) at.block.insts
-            (pieces_enough most (length at.block.insts) some) at.behind p
-            (has_get (at_block at.number at.block at.there) at.behind (omega (arith, at.within, many)) (rw is at there));
-      }
+      let many = length-pieces most exit (more_pieces most at.block) (place at.number) at.block.insts in (
+        at,
+        piece_at most exit (more_pieces most at.block) (place at.number) at.block.insts (pieces_enough most (length at.block.insts) some) at.behind p
+            (has_get (at_block at.number at.block at.there) at.behind (omega (arith, at.within, many)) (rw is at there)),
+      )
 
   pub pieces_short : (i : ℕ) (p : BlockParts) → slice_get whole i ≡ Some p → length p.insts ≤ most
-  pieces_short i p there = (piece_of i p there).looks.short
+  pieces_short i p there = (piece_of i p there).1.short
 
   goes_below : (exit : Exit) → GoesBelow (length blocks) exit → GoesBelow (length whole) (renumbered_exit place exit)
   goes_below (Goto t) low = place_below t low
@@ -94,8 +89,8 @@ module _ (most : ℕ) (some : 0 < most) (blocks : List BlockParts) where
   pub pieces_linked : AreLinked blocks → AreLinked whole
   pieces_linked linked = record {
     by = λ i p there. let q = piece_of i p there in ⊎_elim
-        (λ last. rw last.1 (goes_below q.at.block.exit (linked.by q.at.number q.at.block q.at.there)))
-        (λ other. rw other.1 (omega (arith, piece_there q.at.number q.at.block q.at.there (suc q.at.behind) (omega (arith, other.0))))) q.looks.leaves;
+        (λ last. rw last.1 (goes_below q.0.block.exit (linked.by q.0.number q.0.block q.0.there)))
+        (λ other. rw other.1 (omega (arith, piece_there q.0.number q.0.block q.0.there (suc q.0.behind) (omega (arith, other.0))))) q.1.leaves;
   }
 
   module _ (owner : List ℕ) (owners : AreOwners blocks owner) where
@@ -132,9 +127,9 @@ module _ (most : ℕ) (some : 0 < most) (blocks : List BlockParts) where
     pieces_within : (i o : ℕ) (p : BlockParts) → slice_get whole i ≡ Some p → slice_get owned i ≡ Some o → BranchesWithin owned o p.exit
     pieces_within i o p there is =
         let q = piece_of i p there in
-        let w = owner_at i o q.at is in
-        ⊎_elim (λ last. rw (last.1, ← w.2) (stays_within w.0 q.at.block.exit (owners.within q.at.number w.0 q.at.block q.at.there w.1)))
-        (λ other. rw other.1 tt) q.looks.leaves
+        let w = owner_at i o q.0 is in
+        ⊎_elim (λ last. rw (last.1, ← w.2) (stays_within w.0 q.0.block.exit (owners.within q.0.number w.0 q.0.block q.0.there w.1)))
+        (λ other. rw other.1 tt) q.1.leaves
 
     starts_first : (w n j : ℕ) → slice_get owner n ≡ Some w → 0 ≡ place n + j → place w ≡ 0
     starts_first w zero j is e = ap place (owners.continues 0 w is) ∙ omega (arith, e)
