@@ -1,5 +1,5 @@
 -- At most how many blocks the unit of a program has.
-use Rattle.std.proofs.Common.{◌≡◌, ℕ, suc, ◌+◌, ◌-◌, ◌*◌, ◌<◌, ◌≤◌, Bool, true, false, List, [], ◌∷◌, ◌++◌, length, length-append, Option, Some, None}
+use Rattle.std.proofs.Common.{◌≡◌, ℕ, suc, ◌+◌, ◌*◌, ◌<◌, ◌≤◌, Bool, true, false, List, [], ◌∷◌, ◌++◌, length, length-append, Option, Some, None}
 use Rattle.std.proofs.Common.{refl, arith}
 use Rattle.std.specs.Prelude.{slice_get}
 use Rattle.std.proofs.lemmas.Bool.{cond_both}
@@ -54,16 +54,13 @@ record Few (bs : List BlockParts) (blocks words : ℕ) : Type 0 where
   blocks_few : length bs ≤ blocks
   words_few : words_in bs ≤ words
 
-both : (xs ys : List BlockParts) {a b c d : ℕ} → Few xs a b → Few ys c d → Few (xs ++ ys) (a + c) (b + d)
-both xs ys x y = omega (arith, length-append xs ys, words_append xs ys)
-
 -- ---- one function
 
 module _ (l : Linking) (p : Planning) (eight : length p.frame.saved.items ≤ 8) (four : p.parameters ≤ 4)
     (alone : p.leaf ≡ false → HaveNoCopies p.frame.homes.items) where
-  behind_few : (x : RExit) → Few (behind p x) (exit_blocks x - 1) (behind_most x)
-  behind_few (Call g xs d next) = cond_both (resumes d (p.heads next)) [] (after_block p.frame d (p.place next) ∷ []) (λ bs. Few bs 1 2)
-      (λ _. omega arith) (λ _. omega (arith, result_few (locations p.frame) d))
+  behind_few : (x : RExit) → (suc (length (behind p x)) ≤ exit_blocks x) × (words_in (behind p x) ≤ behind_most x)
+  behind_few (Call g xs d next) = cond_both (resumes d (p.heads next)) [] (after_block p.frame d (p.place next) ∷ [])
+      (λ bs. (suc (length bs) ≤ 2) × (words_in bs ≤ 2)) (λ _. omega arith) (λ _. omega (arith, result_few (locations p.frame) d))
   behind_few _ = omega arith
 
   own_few : (j m : ℕ) (b : RBlock) → HasFewArguments b.exit
@@ -77,19 +74,14 @@ module _ (l : Linking) (p : Planning) (eight : length p.frame.saved.items ≤ 8)
       let code = insts_few (context_in l p.placing) (asked_of b.exit) no_facts b.insts.items (exit_code p.leaf p.frame facts last b.exit) in
       omega (arith, exit, code, length-append {A = Plain})
 
-  one_or_more : (x : RExit) → 1 ≤ exit_blocks x
-  one_or_more (Call g xs d next) = omega arith
-  one_or_more _ = omega arith
-
   -- a block, and what is behind it
   one_few : (k j : ℕ) (b : RBlock) (bs : List RBlock) {blocks words : ℕ} → HasFewArguments b.exit
       → Few (blocks_from l p (k + count p.heads b.exit) (suc j) bs) blocks words
       → Few (blocks_from l p k j (b ∷ bs)) (exit_blocks b.exit + blocks)
       (length (head_code p (p.heads j)) + (exit_most p.leaf + 8 * length b.insts.items) + words)
   one_few k j b bs few rest =
-      let own = own_few j (next_of p k b.exit) b few in
-      let more = both (behind p b.exit) (blocks_from l p (k + count p.heads b.exit) (suc j) bs) (behind_few b.exit) rest in
-      omega (arith, one_or_more b.exit, own, more)
+      let more = blocks_from l p (k + count p.heads b.exit) (suc j) bs in
+      omega (arith, own_few j (next_of p k b.exit) b few, behind_few b.exit, rest, length-append (behind p b.exit) more, words_append (behind p b.exit) more)
 
   -- what an exit has at most, and a prologue with it
   most : (leaf : Bool) → (exit_most leaf ≤ 12) × (prologue_most leaf + exit_most leaf ≤ 28)

@@ -231,15 +231,11 @@ data_ends gs =
       cc (take-append-drop m gs, padded_append front back, one.2, append_assoc (padded_bytes front) (bare_bytes back) (zeros one.0)),
     )
 
-zeros_are_none : (k i : ℕ) → slice_index (zeros k) i ≡ 0
-zeros_are_none zero i = refl
-zeros_are_none (suc k) zero = refl
-zeros_are_none (suc k) (suc i) = zeros_are_none k i
-
 none_beyond : (xs : List ℕ) (k i : ℕ) → slice_index (xs ++ zeros k) i ≡ slice_index xs i
-none_beyond [] k i = zeros_are_none k i
-none_beyond (x ∷ xs) k zero = refl
+none_beyond [] (suc k) (suc i) = none_beyond [] k i
 none_beyond (x ∷ xs) k (suc i) = none_beyond xs k i
+none_beyond [] zero i = refl
+none_beyond _ _ zero = refl
 
 starts_same : (xs ys : List ℕ) (k n : ℕ) → k < 4 → ys ≡ xs ++ zeros k → length ys ≡ 4 * n → start_state ys ≡ start_state xs
 starts_same xs ys k n low e long =

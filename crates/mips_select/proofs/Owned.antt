@@ -100,12 +100,9 @@ module _ (fs : List (List BlockParts)) (are : AreFunctions (length (blocks_of fs
           below at.start (length at.code) at.fits b.exit (exit_within i b at there);
     },
     record {
-      lengths = same;
-      continues = λ i o here. goes_on_from i o (place i (omega (arith, slice_get_within owner i o here, same))) here;
+      lengths = length-owners_of 0 fs;
+      continues = λ i o here. goes_on_from i o (place i (omega (arith, slice_get_within owner i o here, length-owners_of 0 fs))) here;
       within = λ i o b there here. let at = place i (slice_get_within blocks i b there) in
           rw (← same_owner i o at here) (inside at.start (length at.code) at.owned b.exit (exit_within i b at there));
     },
   )
-    where
-      same : length (owners_of 0 fs) ≡ length (blocks_of fs)
-      same = length-owners_of 0 fs

@@ -20,7 +20,7 @@ use Rattle.mips_homes.specs.declared.homed.Home.TheVariants.{Reg, Copied}
 use Rattle.mips_homes.specs.declared.homed.Frame.{Frame}
 use Rattle.mips_homes.specs.declared.homed.Homed.{Homed}
 use Rattle.mips_emit.specs.Locations.{locations}
-use Rattle.mips_select.proofs.Places.{HasAt, has_head, has_tail, has_front, has_back}
+use Rattle.mips_select.proofs.Places.{HasAt, has_whole, has_head, has_tail, has_front, has_back}
 use Rattle.mips_select.specs.declared.heads.Naming.{Naming}
 use Rattle.mips_select.specs.declared.heads.Naming.TheVariants.{Called}
 use Rattle.mips_select.specs.declared.heads.Head.{Head}
@@ -174,7 +174,7 @@ program_selected h depth ok choices fit = record {
       let k = entry_of program.functions g in
       let bs = func.blocks.items in
       let p = planning_in func.parameters k bs f in
-      let has = found whole l 2 program.functions h.frames.items rest g func f there_f f_there in
+      let has = found whole l 2 program.functions h.frames.items (has_tail (has_tail (has_whole whole))) g func f there_f f_there in
       let heads = heads_of bs in
       let first = k + lead_in heads in
       let is = all_at (programs.IsFunction program.functions (length program.globals)) program.functions g func ok.functions there_f in
@@ -203,6 +203,3 @@ program_selected h depth ok choices fit = record {
   small = fit.frames;
   room = fit.stack;
 }
-  where
-    rest : HasAt (program_blocks h) 2 (functions_blocks (linking_for h.rtl.now) 2 (h.rtl.now).functions h.frames.items)
-    rest = record { by = λ i x e. (let two : 2 + i ≡ suc (suc i) = omega arith in ap (slice_get (program_blocks h)) two) ∙ e }
