@@ -3,7 +3,7 @@ use Rattle.std.proofs.Common.{◌≡◌, ℕ, suc, ◌+◌, ◌<◌, ◌≤◌, 
 use Rattle.std.proofs.Common.{arith, nat_lt, ltb-true, eq-eqb, eqb-true, ⊎_elim}
 use Rattle.std.specs.Prelude.{if◌then◌else◌, not, slice_get}
 use Rattle.std.proofs.lemmas.Option.{same_Some, slice_get_within}
-use Rattle.runs.specs.Stores.{Places, chain}
+use Rattle.runs.specs.Stores.{Places}
 use Rattle.mips_isa.specs.declared.inst.Plain.{Plain}
 use Rattle.mips_isa.specs.States.{State}
 use Rattle.mblock.specs.declared.exit.Exit.{Exit}
@@ -14,9 +14,8 @@ use Rattle.mblock.specs.UnitRuns.{items, outcome_at_block, outcome_of_departure,
 use Rattle.rtl.specs.declared.instruction.RInst.{RInst}
 use Rattle.rtl.specs.declared.instruction.RExit.{RExit}
 use Rattle.rtl.specs.declared.instruction.RExit.TheVariants.{Branch, Return}
-use Rattle.mips_homes.specs.HomedRun.{read_home, read_homes, callee_saved}
+use Rattle.mips_homes.specs.HomedRun.{callee_saved}
 use Rattle.mips_homes.specs.declared.homed.Frame.{Frame}
-use Rattle.mips_homes.specs.declared.homed.Home.{Home}
 use Rattle.mips_emit.specs.declared.comparison.Form.{Form}
 use Rattle.mips_emit.specs.declared.comparison.Form.TheVariants.{Known}
 use Rattle.mips_emit.specs.declared.comparison.Asked.TheVariants.{Branched}
@@ -26,20 +25,11 @@ use Rattle.mips_emit.specs.Locations.{Locations, Facts, locations}
 use Rattle.mips_emit.specs.Comparisons.{exit_by_form, comparison_of, last_with, tested}
 use Rattle.std.proofs.lemmas.Bool.{and_parts, cases_eq}
 use Rattle.mips_select.proofs.Places.{HasAt, has_whole, has_head, has_tail}
-use Rattle.runs.proofs.Words.{chain-some}
 use Rattle.mips_emit.proofs.Runs.{if_some}
 use Rattle.mips_emit.proofs.Operands.{passes}
 use Rattle.mips_emit.proofs.Comparing.{none_asked, asked_result, returned_result}
 use Rattle.mips_select.specs.Plans.{Linking, Placing}
 use Rattle.mips_select.specs.Code.{asked_of, exit_code, exit_of}
-
--- as many words as are read
-pub read_length : (homes : List Home) (r slots : Places) (xs vs : List ℕ) → read_homes homes r slots xs ≡ Some vs → length vs ≡ length xs
-read_length homes r slots [] vs e = sym (ap length (same_Some [] vs e))
-read_length homes r slots (x ∷ xs) vs e =
-    let v = chain-some (read_home homes r slots x) (λ v. chain (read_homes homes r slots xs) (λ vs. Some (v ∷ vs))) vs e in
-    let ws = chain-some (read_homes homes r slots xs) (λ (vs : List ℕ). Some (v.0 ∷ vs)) vs v.2 in
-    rw (← same_Some _ vs ws.2) (ap suc (read_length homes r slots xs ws.0 ws.1))
 
 pub branch_words : (place : ℕ → ℕ) (x y : ℕ) (b : Bool) → (if not b then place y else place x) ≡ place (if b then x else y)
 branch_words place x y true = refl

@@ -201,7 +201,7 @@ module _ {most total : ℕ} {gs : List RGlobal} {starts : ℕ → ℕ} {g : Arra
         pub stands : Stands most total gs starts registers g (top ∷ fs) (record s { regs = regs })
 
     pub arguments : ((q w : ℕ) → registers q ≡ Some w → 8 ≤ q) → (t : ℕ) (xs vs : List ℕ) {s : State} (h : Stands most total gs starts registers g (top ∷ fs) s)
-        → 0 < t → t + length xs ≤ 8 → AreInOrder (slice_get top.homes) t xs → AllDenote top.count s top.homes facts xs vs → Arguments h t xs vs
+        → 0 < t → t + length vs ≤ 8 → AreInOrder (slice_get top.homes) t xs → AllDenote top.count s top.homes facts xs vs → Arguments h t xs vs
     arguments above t [] [] {s} h low high order d = record {
       regs = s.regs;
       runs = runs_none s;

@@ -1,5 +1,5 @@
 -- Each step over homes is one or more items of the unit.
-use Rattle.std.proofs.Common.{◌≡◌, ℕ, zero, suc, ◌+◌, ◌*◌, ◌<◌, ◌≤◌, ◌==◌, ◌⊎◌, inl, inr, Bool, true, false, eqb-true, ◌&&◌, List, []}
+use Rattle.std.proofs.Common.{◌≡◌, ℕ, zero, suc, ◌+◌, ◌*◌, ◌≤◌, ◌==◌, ◌⊎◌, inl, inr, Bool, true, false, eqb-true, ◌&&◌, List, []}
 use Rattle.std.proofs.Common.{◌∷◌, ◌++◌, length, Option, Some, None, refl, sym, ap, ◌∙◌, subst, arith, nat_eq, nat_lt, true≢false, ltb-true}
 use Rattle.std.specs.Prelude.{if◌then◌else◌, not, slice_get}
 use Rattle.std.proofs.lemmas.List.{append-nil, append_assoc}
@@ -49,7 +49,7 @@ use Rattle.mips_select.specs.Plans.{Linking, Placing, placing_of}
 use Rattle.mips_select.specs.Code.{epilogue, asked_of, exit_code, exit_of, code_insts}
 use Rattle.mips_select.specs.Code.{context_in, own_block, result_code, after_block}
 use Rattle.mips_select.specs.Selected.{GoesOn, StandsAt, IsPlaced, IsFunction, IsSelected}
-use Rattle.mips_select.proofs.Departures.{read_length, branch_words, either, above_arguments, goes_by, same_exit, same_code, return_found}
+use Rattle.mips_select.proofs.Departures.{branch_words, either, above_arguments, goes_by, same_exit, same_code, return_found}
 use Rattle.mips_select.proofs.Frames.{all_denote, arguments, parameters}
 use Rattle.mips_select.proofs.Calls.{stored_frame, frames_of, linked_frames, enters, leaves_frame}
 
@@ -271,12 +271,6 @@ module _ {h : Homed} {depth : ℕ} {blocks : List BlockParts} (ok : IsSelected h
       (λ r' slots' s2 e2 st2. jumps p (new_activation func.blocks.items frame slots' r result_to) ws lives 0 out st2 (λ block stood.
       through stood.there (rw (count, append_assoc) at (runs_then e.runs e2)) enter is.first refl))
 
-  -- so many frames fit the stack
-  room_for : (n : ℕ) → n < depth → suc n * ok.most ≤ STACK_BYTES
-  room_for n lt =
-      let some : suc n * ok.most ≤ depth * ok.most = mul-le-mul_right ok.most lt in
-      omega (arith, some, ok.room)
-
   -- the link leads back to a block
   back : {k : ℕ} {form : BlockParts} {s : State} {out : List ℕ} {link n : ℕ} {target : BlockParts} → slice_get blocks k ≡ Some form → form.exit ≡ E.Return
       → s.regs 31 ≡ link → return_block_of links link 0 blocks ≡ Some n → slice_get blocks n ≡ Some target → Lead 1 (At k [] s out) (At n target.insts s out)
@@ -448,13 +442,14 @@ module _ {h : Homed} {depth : ℕ} {blocks : List BlockParts} (ok : IsSelected h
         value_or_failed (From start) (slice_get h.frames.items f) out _ tt (λ callee frame_there.
         cond_both (nat_lt (length (waiting block ∷ ws)) depth && length vs == func.parameters) _ (Failed out) (From start) (λ fits.
         let both = and_parts (nat_lt (length (waiting block ∷ ws)) depth) (length vs == func.parameters) fits in
+        let deep : suc (length (waiting block ∷ ws)) * ok.most ≤ depth * ok.most =
+        mul-le-mul_right ok.most (ltb-true (length (waiting block ∷ ws)) depth both.0) in
         let is = ok.functions f func callee func_there frame_there in
         let few = is.parameters in
-        let asked = read_length homes r a.slots xs.items vs read_vs in
         let count : length vs ≡ func.parameters = eqb-true (length vs) func.parameters both.1 in
         let st = rw no_leaf at m.stands in
         let denote = all_denote m.facts st (frame_homes ok.most a.frame m.frame) m.is_known m.are_deferred xs.items vs read_vs in
-        let args = arguments m.facts (above_arguments r) 4 xs.items vs (settled m.are_deferred st) (omega arith) (omega (arith, asked, count, few))
+        let args = arguments m.facts (above_arguments r) 4 xs.items vs (settled m.are_deferred st) (omega arith) (omega (arith, count, few))
         ((c.leads_on).0).1 denote in
         let s1 : State = record s { regs = args.regs } in
         let s2 = set s1 31 (links k) in
@@ -477,7 +472,7 @@ module _ {h : Homed} {depth : ℕ} {blocks : List BlockParts} (ok : IsSelected h
         st2 (λ q passes. ap (λ b. if b then r q else None) passes) (put_here s1.regs 31 (links k) (omega arith))
         (λ j v there. (let low = slice_get_within vs j v there in put_other s1.regs 31 (links k) (4 + j) (omega (arith, low, count, few)))
         ∙ args.here j v there)
-        count (room_for (suc (length ws)) (ltb-true (length (waiting block ∷ ws)) depth both.0)) (resumes, m.waits))) (λ _. tt)))))
+        count (omega (arith, deep, ok.room)) (resumes, m.waits))) (λ _. tt)))))
       where
         start : List Plain
         start = exit_code m.leaf a.frame m.facts m.last (Call f xs result_to next)
