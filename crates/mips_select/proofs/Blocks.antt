@@ -1,6 +1,5 @@
--- Blocks and their code that are being made.
-use Rattle.std.proofs.Common.{◌≡◌, ℕ, ◌+◌, ◌<◌, ◌≤◌, List, [], ◌∷◌, ◌++◌, drop, get_or, length, length-append, sym, ap, ◌∙◌, arith}
-use Rattle.std.proofs.Common.{zero, suc}
+-- Blocks, their code and their pieces that are being made.
+use Rattle.std.proofs.Common.{◌≡◌, ℕ, ◌+◌, ◌<◌, ◌≤◌, List, [], ◌∷◌, ◌++◌, drop, get_or, length, length-append, sym, ap, ◌∙◌, arith, zero, suc, ◌-◌, ◌/◌, take}
 use Rattle.std.proofs.lemmas.List.{append_assoc, at_drop_more, length-map, get_or-map, append-nil}
 use Rattle.std.specs.declared.alloc.Global.{Global}
 use Rattle.std.specs.declared.vec.Vec.{Vec}
@@ -13,14 +12,17 @@ use Rattle.mips_select.specs.declared.heads.Naming.TheVariants.{Unnamed}
 use Rattle.mips_select.specs.declared.heads.Head.{Head}
 use Rattle.mips_select.specs.Heads.{unnamed, namings_of, AreNamed, count}
 use Rattle.mips_select.specs.Plans.{Linking}
-use Rattle.mips_select.specs.Whole.{size_of_blocks, function_blocks, function_size}
-use Rattle.mips_select.specs.Whole.{functions_size, functions_blocks}
-use Rattle.mips_select.proofs.Places.{block_there}
+use Rattle.mips_select.specs.Whole.{size_of_blocks, function_blocks, function_size, functions_size, functions_blocks}
+use Rattle.mips_select.proofs.Places.{block_there, length-pieces}
 use Rattle.mips_select.proofs.Lists.{drop_item, made_more}
 use Rattle.mips_select.proofs.Linked.{function_length}
 use Rattle.mips_emit.specs.Locations.{Locations}
 use Rattle.mips_emit.specs.Code.{arrive}
 use Rattle.mips_select.specs.Code.{parameters_code}
+use Rattle.mips_isa.specs.declared.inst.Plain.{Plain}
+use Rattle.mblock.specs.declared.exit.Exit.{Exit}
+use Rattle.mblock.specs.declared.exit.Exit.TheVariants.{Goto}
+use Rattle.mips_select.specs.Split.{renumbered_exit, more_pieces, piece, pieces, count_of, total, split_from}
 
 -- one more block that nothing names
 pub unnamed_more : (blocks : List RBlock) (i : ℕ) (table : List Naming) {table' all : List Naming} → i < length blocks → table' ≡ table ++ Unnamed ∷ []
@@ -73,3 +75,32 @@ parameters_more at t x zero y u y_is u_is =
 parameters_more at t x (suc n) y u y_is u_is =
     rw (parameters_more at (suc t) (suc x) n y u (omega (arith, y_is)) (omega (arith, u_is)))
     (sym (append_assoc (arrive (at x) t) (parameters_code at (suc t) (suc x) n) (arrive (at y) u)))
+
+-- ---- pieces
+
+-- one more piece of a block
+pub piece_step : (exit : Exit) (out out' all : List BlockParts) (insts front back : List Plain) (next : ℕ) → 512 < length insts
+    → length back + 512 ≡ length insts → front ≡ take 512 insts → back ≡ drop 512 insts → next ≡ length out + 1
+    → out' ≡ out ++ piece front (Goto next) ∷ [] → length out + (length insts - 1) / 512 < 1048576
+    → out ++ pieces 512 exit ((length insts - 1) / 512) (length out) insts ≡ all
+    → (length out' + (length back - 1) / 512 < 1048576) × (out' ++ pieces 512 exit ((length back - 1) / 512) (length out') back ≡ all)
+piece_step exit out out' all insts front back next many long front_is back_is next_is made few before =
+    let more = (length back - 1) / 512 in
+    let own = piece front (Goto next) ∷ [] in
+    let count : (length insts - 1) / 512 ≡ suc more = omega (arith, many, long) in
+    let next_suc : next ≡ suc (length out) = omega (arith, next_is) in
+    let longer : length out' ≡ suc (length out) = omega (arith, ap length made, length-append out own) in
+    (omega (arith, few, count, longer), cc (append_assoc out own (pieces 512 exit more (length out') back)))
+
+-- one more block, of those that are left
+pub block_step : (place : ℕ → ℕ) (b : BlockParts) (bs bs' out out' all : List BlockParts) (count : ℕ) (exit old : Exit) → bs ≡ b ∷ bs'
+    → exit ≡ renumbered_exit place old → old ≡ b.exit → out' ≡ out ++ pieces 512 exit (more_pieces 512 b) (length out) b.insts
+    → length out + total 512 bs ≡ count → out ++ split_from 512 place (length out) bs ≡ all
+    → (length out' + total 512 bs' ≡ count) × (out' ++ split_from 512 place (length out') bs' ≡ all)
+block_step place b bs bs' out out' all count exit old left exit_is old_is made counted before =
+    let own = pieces 512 (renumbered_exit place b.exit) (more_pieces 512 b) (length out) b.insts in
+    let here : out' ≡ out ++ own = cc in
+    let longer : length out' ≡ length out + count_of 512 b =
+    cc (length-append out own, length-pieces 512 (renumbered_exit place b.exit) (more_pieces 512 b) (length out) b.insts) in
+    let counts : total 512 bs ≡ count_of 512 b + total 512 bs' = ap (total 512) left in
+    (omega (arith, counted, counts, longer), cc (append_assoc out own (split_from 512 place (length out + count_of 512 b) bs')))

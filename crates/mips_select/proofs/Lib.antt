@@ -1,8 +1,6 @@
 pub mod Places
 pub mod SplitSimulation
-pub mod Apart
 pub mod Well
-pub mod Made
 pub mod Owned
 mod Named
 mod Blocks

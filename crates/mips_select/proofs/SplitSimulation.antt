@@ -1,9 +1,9 @@
--- The pieces of a unit do what the unit does.
-use Rattle.std.proofs.Common.{◌≡◌, ℕ, zero, suc, ◌+◌, ◌<◌, ◌≤◌, ◌==◌, Bool, true, false, List, [], ◌∷◌, ◌++◌, length, Option, Some, None, refl}
-use Rattle.std.proofs.Common.{sym, ap, ◌∙◌, subst, arith, drop}
+-- The pieces of a unit do what the unit does, whatever the links.
+use Rattle.std.proofs.Common.{◌≡◌, ℕ, zero, suc, ◌+◌, ◌<◌, ◌≤◌, ◌==◌, Bool, true, false, List, [], ◌∷◌, ◌++◌, length, Option, Some, None, refl, sym, ap, ◌∙◌}
+use Rattle.std.proofs.Common.{subst, arith, drop}
 use Rattle.std.specs.Prelude.{if◌then◌else◌, slice_get, slice_index, option_map}
 use Rattle.std.proofs.lemmas.List.{append-nil, take-append-drop}
-use Rattle.std.proofs.lemmas.Option.{same_Some, none-some}
+use Rattle.std.proofs.lemmas.Option.{same_Some, none-some, slice_get_within}
 use Rattle.runs.specs.Runs.{Outcome}
 use Rattle.mips_isa.specs.declared.inst.Plain.{Plain}
 use Rattle.mips_isa.specs.States.{State, read}
@@ -13,10 +13,11 @@ use Rattle.mblock.specs.declared.exit.Exit.{Exit}
 use Rattle.mblock.specs.declared.exit.Exit.TheVariants.{Goto, BranchPair, BranchZero, Call, Return, Out, Halt}
 use Rattle.mblock.specs.Parts.{BlockParts}
 use Rattle.mblock.specs.BlockMeaning.{exit_effect}
-use Rattle.mblock.specs.UnitRuns.{wrong, call_return_of, return_block_of, outcome_at_block, outcome_at_return, exit_item, items, unit_run, Next}
+use Rattle.mblock.specs.UnitRuns.{wrong, call_return_of, return_block_of, outcome_at_block, outcome_at_return, exit_item, items, unit_run, Next, is_call}
+use Rattle.mblock.specs.UnitRuns.{TellsApart, ComesTo}
 use Rattle.mblock.specs.Units.{GoesBelow, AreLinked}
 use Rattle.mips_select.specs.Split.{renumbered_exit, more_pieces, piece, pieces, count_of, lasts, split_from, first_piece_of, last_of, split_at_most}
-use Rattle.mips_select.proofs.Places.{HasAt, has_head, has_tail, has_whole, has_pieces, last_piece, block_there}
+use Rattle.mips_select.proofs.Places.{HasAt, has_head, has_tail, has_whole, has_pieces, last_piece, block_there, last_there, last_apart}
 
 -- ---- where a call of the pieces goes on
 
@@ -231,3 +232,38 @@ pub unit_runs : (most : ℕ) (blocks : List BlockParts) → AreLinked blocks →
     → (j : ℕ) × (i ≤ j) × (unit_run (split_at_most most blocks) links s j ≡ unit_run blocks (λ n. links (last_of most blocks n)) s i)
 unit_runs most [] linked links s i = (i, omega arith, refl)
 unit_runs most (b ∷ bs) linked links s i = enter most (b ∷ bs) linked links i (runs most (b ∷ bs) linked links i) 0 (omega arith) s []
+
+-- ---- links that tell the pieces' calls apart tell the calls of the long unit apart
+
+call_stays : (place : ℕ → ℕ) (exit : Exit) → is_call (renumbered_exit place exit) ≡ is_call exit
+call_stays place (Goto t) = refl
+call_stays place _ = refl
+
+module _ (most : ℕ) (blocks : List BlockParts) where
+  -- the last piece of a block is a call where the block is
+  last_of_block : (n : ℕ) (b : BlockParts) → slice_get blocks n ≡ Some b
+      → (p : BlockParts) × (slice_get (split_at_most most blocks) (last_of most blocks n) ≡ Some p) × (is_call p.exit ≡ is_call b.exit)
+  last_of_block n b there =
+      let whole = split_at_most most blocks in
+      let place = first_piece_of most blocks in
+      let p = last_there most (renumbered_exit place b.exit) whole (more_pieces most b) (place n) b.insts
+      (has_pieces most place whole 0 blocks (has_whole whole) n b there) in
+      (p.0, sym (ap (slice_get whole) (last_piece most 0 blocks n b there)) ∙ p.1, ap is_call p.2 ∙ call_stays place b.exit)
+
+  pub told_apart : (links : ℕ → ℕ) → TellsApart links (split_at_most most blocks) → TellsApart (λ n. links (last_of most blocks n)) blocks
+  told_apart links tells = record {
+    words = λ n. tells.words (last_of most blocks n);
+    apart = λ i j a b i_there j_there a_call b_call same.
+        let p = last_of_block i a i_there in
+        let q = last_of_block j b j_there in
+        last_apart most 0 blocks i j (slice_get_within blocks i a i_there) (slice_get_within blocks j b j_there)
+        (tells.apart (last_of most blocks i) (last_of most blocks j) p.0 q.0 p.1 q.1 (p.2 ∙ a_call) (q.2 ∙ b_call) same);
+  }
+
+-- what the long unit comes to, its pieces come to
+pub comes_to : (most : ℕ) (blocks : List BlockParts) → AreLinked blocks → (s : State) (r : ℕ) (end : Outcome) → ComesTo blocks s r end
+    → ComesTo (split_at_most most blocks) s r end
+comes_to most blocks linked s r end comes links tells =
+    let long = comes (λ n. links (last_of most blocks n)) (told_apart most blocks links tells) in
+    let short = unit_runs most blocks linked links s long.0 in
+    (short.0, omega (arith, long.1, short.1), short.2 ∙ long.2)

@@ -43,7 +43,7 @@ use Rattle.mips_select.proofs.Departures.{return_found}
 use Rattle.mips_select.proofs.Simulation.{Lead, Reach, code_leads, departs, reach_after, entered, runs}
 use Rattle.mips_select.proofs.Linked.{program_well}
 use Rattle.mips_select.proofs.Placed.{program_selected}
-use Rattle.mips_select.proofs.Apart.{comes_to}
+use Rattle.mips_select.proofs.SplitSimulation.{comes_to}
 
 -- what a function saves is unset at the start as it is
 entry_unset : (saved : List ℕ) → registers_at_entry saved unset_places ≡ unset_places

@@ -1,4 +1,4 @@
-use Rattle.mips_select.proofs.Made.{block_step}
+use Rattle.mips_select.proofs.Blocks.{block_step}
 use Rattle.mips_select.proofs.pieces.pieces_of.Goals as goal
 
 pub loop-block-preserved : goal.loop-block-preserved

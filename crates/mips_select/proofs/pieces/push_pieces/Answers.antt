@@ -1,5 +1,5 @@
 use Rattle.std.proofs.Common.{arith}
-use Rattle.mips_select.proofs.Made.{piece_step}
+use Rattle.mips_select.proofs.Blocks.{piece_step}
 use Rattle.mips_select.proofs.pieces.push_pieces.Goals as goal
 
 pub loop-rest-preserved : goal.loop-rest-preserved

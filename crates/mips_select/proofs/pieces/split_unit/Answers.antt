@@ -2,9 +2,9 @@ use Rattle.std.specs.Prelude.{All, ◌^◌}
 use Rattle.std.proofs.Common.{rules, ◌<◌, arith}
 use Rattle.std.proofs.lemmas.Result.{err_from_is_err_and}
 use Rattle.mips_select.specs.Split.{first_piece_of}
-use Rattle.mips_select.proofs.Places.{length-split_from}
-use Rattle.mips_select.proofs.Made.{unit_made}
-use Rattle.mips_select.proofs.Apart.{comes_to}
+use Rattle.mips_select.proofs.Places.{length-split_from, total_above}
+use Rattle.mips_select.proofs.Well.{pieces_linked, pieces_owned}
+use Rattle.mips_select.proofs.SplitSimulation.{comes_to}
 use Rattle.mips_select.proofs.pieces.split_unit.Goals as goal
 
 pub returns-in_err-numbers-clause-limit : goal.returns-in_err-numbers-clause-limit
@@ -15,10 +15,20 @@ returns-in_err-numbers-clause-limit c =
 
 pub of-requires : goal.of-requires
 of-requires c =
+    let long = c.args.long.items in
     let small : All (λ b. b < 2 ^ 8) c.args.globals.items = search rules in
-    unit_made c.requires.linked c.requires.owners c.requires.some c.requires.few small (rw c.as_slice.ensures.value at c.in_ok-numbers.ensures.few)
-    (rw c.as_slice.ensures.value at c.in_ok-numbers.ensures.numbers) c.as_slice-4.ensures.value c.as_slice-2.ensures.value c.in_ok-blocks.ensures
-    (rw c.as_slice-3.ensures.value at c.in_ok-owners.ensures)
+    let positive : 0 < 512 = omega arith in
+    let count = length-split_from 512 (first_piece_of 512 long) 0 long in
+    let few = rw c.as_slice.ensures.value at c.in_ok-numbers.ensures.few in
+    let numbers = rw c.as_slice.ensures.value at c.in_ok-numbers.ensures.numbers in
+    rw (c.in_ok-blocks.ensures, c.in_ok-owners.ensures, c.as_slice-3.ensures.value, c.as_slice-4.ensures.value, c.as_slice-2.ensures.value, numbers) (record {
+      some = omega (arith, c.requires.some, total_above 512 long, count);
+      few = omega (arith, few, count);
+      linked = pieces_linked 512 positive long c.requires.linked;
+      owners = pieces_owned 512 positive long c.args.owner.now c.requires.owners;
+      data_fits = c.requires.few;
+      data_bytes = small;
+    })
 
 pub returns-clause-runs : goal.returns-clause-runs
 returns-clause-runs c = λ s r end comes.

@@ -1,4 +1,4 @@
-use Rattle.mips_select.proofs.Apart.{comes_to}
+use Rattle.mips_select.proofs.SplitSimulation.{comes_to}
 use Rattle.mips_select.proofs.split_laws.each_split_unit_comes_to.Goals as goal
 
 pub returns : goal.returns

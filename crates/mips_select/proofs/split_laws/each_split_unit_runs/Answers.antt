@@ -1,5 +1,4 @@
-use Rattle.mips_select.proofs.SplitSimulation.{unit_runs}
-use Rattle.mips_select.proofs.Apart.{told_apart}
+use Rattle.mips_select.proofs.SplitSimulation.{unit_runs, told_apart}
 use Rattle.mips_select.proofs.split_laws.each_split_unit_runs.Goals as goal
 
 pub returns : goal.returns
