@@ -1,6 +1,6 @@
 -- Frames of chosen homes are within reach: copies are in registers of their own, and no frame is larger than its function says.
 use Rattle.std.proofs.Common.{◌≡◌, ℕ, zero, suc, ◌<◌, ◌≤◌, false, List, [], ◌∷◌, Some, refl, sym, ap, ◌∙◌, arith, true≢false, ◌-◌, ◌⊎◌}
-use Rattle.std.proofs.Common.{inl, inr, true, length, Option, None, nat_eq}
+use Rattle.std.proofs.Common.{inl, inr, true, length, nat_eq}
 use Rattle.std.specs.Prelude.{slice_get, if◌then◌else◌, slice_index}
 use Rattle.std.proofs.lemmas.Option.{same_Some, none-some, slice_get_within, slice_get-get_or}
 use Rattle.std.proofs.lemmas.Bool.{cond_both}
@@ -115,16 +115,19 @@ copies_are bs hs plain = cond_both (is_leaf bs) (copied_onto (unused hs temporar
 -- ---- frames
 
 -- n different numbers below m are at most m
-few : (m n : ℕ) (f : ℕ → ℕ) → ((j : ℕ) → j < n → f j < m) → ((i j : ℕ) → i < n → j < n → f i ≡ f j → i ≡ j) → n ≤ m
+few : (m n : ℕ) (f : (j : ℕ) → j < n → ℕ) → ((j : ℕ) (lt : j < n) → f j lt < m)
+    → ((i j : ℕ) (li : i < n) (lj : j < n) → f i li ≡ f j lj → i ≡ j) → n ≤ m
 few m zero f below apart = omega arith
 few zero (suc n) f below apart = (let no = below 0 (omega arith) in absurd (omega (arith, no)))
 few (suc m) (suc n) f below apart =
     -- the last one takes the place of m
-    let last = below n (omega arith) in
-    let rest = few m n (λ j. if nat_eq (f j) m then f n else f j)
-    (λ j lt. let low = below j (omega (arith, lt)) in let other = apart j n (omega (arith, lt)) (omega arith) in grind (arith, nat_tests, low, last, other))
-    (λ i j li lj e. let both = apart i j (omega (arith, li)) (omega (arith, lj)) in let first = apart n j (omega arith) (omega (arith, lj)) in
-    let second = apart i n (omega (arith, li)) (omega arith) in grind (arith, nat_tests, both, first, second)) in
+    let top : n < suc n = omega arith in
+    let up : (j : ℕ) → j < n → j < suc n = λ j lt. omega (arith, lt) in
+    let last = below n top in
+    let rest = few m n (λ j lt. if nat_eq (f j (up j lt)) m then f n top else f j (up j lt))
+    (λ j lt. let low = below j (up j lt) in let other = apart j n (up j lt) top in grind (arith, nat_tests, low, last, other))
+    (λ i j li lj e. let both = apart i j (up i li) (up j lj) in let first = apart n j top (up j lj) in
+    let second = apart i n (up i li) top in grind (arith, nat_tests, both, first, second)) in
     omega (arith, rest)
 
 module _ {func : RFunc} {f : Frame} (ok : IsChoice func f) where
@@ -140,30 +143,18 @@ module _ {func : RFunc} {f : Frame} (ok : IsChoice func f) where
 
   -- at most eight are saved
   saved_eight : length f.saved.items ≤ 8
-  saved_eight = few 8 (length f.saved.items) (λ j. slice_index f.saved.items j - 16) (λ j lt. omega (arith, range j lt))
+  saved_eight = few 8 (length f.saved.items) (λ j lt. slice_index f.saved.items j - 16) (λ j lt. omega (arith, range j lt))
       (λ i j li lj e. saved_apart i j li lj (omega (arith, e, range i li, range j lj)))
     where
       range : (j : ℕ) → j < length f.saved.items → (16 ≤ slice_index f.saved.items j) × (slice_index f.saved.items j < 24)
       range j lt = saved_range j (slice_index f.saved.items j) (saved_at j lt)
 
-  -- a pseudo-register for each that is saved
-  chosen : (j : ℕ) (o : Option ℕ) → slice_get f.saved.items j ≡ o → ℕ
-  chosen j None e = 0
-  chosen j (Some r) e = (ok.saved j r e).0
-
-  chosen_home : (j : ℕ) (o : Option ℕ) (e : slice_get f.saved.items j ≡ o) (r : ℕ) → o ≡ Some r → slice_get f.homes.items (chosen j o e) ≡ Some (Reg r)
-  unfolding chosen
-  chosen_home j None e r is = absurd (none-some r is)
-  chosen_home j (Some q) e r is = (ok.saved j q e).1 ∙ ap (λ r. Some (Reg r)) (same_Some q r is)
-
   -- no more are saved than there are pseudo-registers
   saved_few : length f.saved.items ≤ how_many func
-  saved_few = few (how_many func) (length f.saved.items) (λ j. chosen j (slice_get f.saved.items j) refl)
-      (λ j lt. rw (← ok.long) (slice_get_within f.homes.items _ _ (home j lt)))
-      (λ i j li lj e. saved_apart i j li lj (cc (home i li, home j lj)))
-    where
-      home : (j : ℕ) → j < length f.saved.items → slice_get f.homes.items (chosen j (slice_get f.saved.items j) refl) ≡ Some (Reg (slice_index f.saved.items j))
-      home j lt = chosen_home j (slice_get f.saved.items j) refl (slice_index f.saved.items j) (saved_at j lt)
+  saved_few = few (how_many func) (length f.saved.items) (λ j lt. (ok.saved j (slice_index f.saved.items j) (saved_at j lt)).0)
+      (λ j lt. rw (← ok.long) (slice_get_within f.homes.items _ _ (ok.saved j (slice_index f.saved.items j) (saved_at j lt)).1))
+      (λ i j li lj e. saved_apart i j li lj
+      (cc ((ok.saved i (slice_index f.saved.items i) (saved_at i li)).1, (ok.saved j (slice_index f.saved.items j) (saved_at j lj)).1)))
 
 -- with local pseudo-registers in caller-saved registers
 module _ {func : RFunc} {f : Frame} (q : IsPlacedFor func f) where
