@@ -1,5 +1,5 @@
 -- Pieces are short, go to pieces that exist, and keep their functions together.
-use Rattle.std.proofs.Common.{◌≡◌, ◌≢◌, ℕ, zero, suc, ◌+◌, ◌<◌, ◌≤◌, List, [], ◌∷◌, length, ⊎_elim}
+use Rattle.std.proofs.Common.{◌≡◌, ℕ, zero, suc, ◌+◌, ◌<◌, ◌≤◌, List, [], ◌∷◌, length, ⊎_elim}
 use Rattle.std.proofs.Common.{length-append, Some, refl, sym, ap, ◌∙◌, arith}
 use Rattle.std.specs.Prelude.{slice_get, slice_index, replicate}
 use Rattle.std.proofs.lemmas.List.{length-replicate, get_or-replicate}
@@ -131,39 +131,29 @@ module _ (most : ℕ) (some : 0 < most) (blocks : List BlockParts) where
         ⊎_elim (λ last. rw (last.1, ← w.2) (stays_within w.0 q.0.block.exit (owners.within q.0.number w.0 q.0.block q.0.there w.1)))
         (λ other. rw other.1 tt) q.1.leaves
 
-    starts_first : (w n j : ℕ) → slice_get owner n ≡ Some w → 0 ≡ place n + j → place w ≡ 0
-    starts_first w zero j is e = ap place (owners.continues 0 w is) ∙ omega (arith, e)
-    starts_first w (suc m) j is e =
-        let low = slice_get_within owner (suc m) w is in
-        let a = block_there blocks m (omega (arith, low, owners.lengths)) in
-        let b = block_there blocks (suc m) (omega (arith, low, owners.lengths)) in
-        absurd (omega (arith, first_next most 0 blocks m a.0 b.0 a.1 b.1, e))
-
     continues_from : (i w n j : ℕ) (b : BlockParts) → slice_get blocks n ≡ Some b → j ≤ more_pieces most b → slice_get owner n ≡ Some w
-        → suc i ≡ place n + j → place w ≢ suc i → slice_get owned i ≡ Some (place w)
-    continues_from i w n (suc j) b there le is e other =
+        → i ≡ place n + j → Continues owned i (place w)
+    continues_from zero w zero j b there le is e = ap place (owners.continues 0 w is) ∙ omega (arith, e)
+    continues_from zero w (suc m) j b there le is e =
+        let a = block_there blocks m (omega (arith, slice_get_within blocks (suc m) b there)) in
+        absurd (omega (arith, first_next most 0 blocks m a.0 b a.1 there, e))
+    continues_from (suc i) w n (suc j) b there le is e = λ other.
         let here : i ≡ place n + j = omega (arith, e) in
         ap (slice_get owned) here ∙ piece_owner n w b there is j (omega (arith, le))
-    continues_from i w zero zero b there le is e other = absurd (omega (arith, first_zero most blocks, e))
-    continues_from i w (suc m) zero b there le is e other = ⊎_elim
+    continues_from (suc i) w zero zero b there le is e = absurd (omega (arith, first_zero most blocks, e))
+    continues_from (suc i) w (suc m) zero b there le is e = λ other. ⊎_elim
         (λ at. (let here : place (suc m) ≡ suc i = omega (arith, e) in absurd (other (ap place at ∙ here))))
         (λ ne. (let before : slice_get owner m ≡ Some w = owners.continues (suc m) w is ne in
         let a = block_there blocks m (omega (arith, slice_get_within owner m w before, owners.lengths)) in
         let here : i ≡ place m + more_pieces most a.0 = omega (arith, first_next most 0 blocks m a.0 b a.1 there, e) in
         ap (slice_get owned) here ∙ piece_owner m w a.0 a.1 before (more_pieces most a.0) (omega arith))) (cases_eq w (suc m))
 
-    located_at : (i o : ℕ) → slice_get owned i ≡ Some o → Located most 0 blocks i
-    located_at i o is = located most 0 blocks i (omega (arith, slice_get_within owned i o is, length-owners_from most place blocks owner owners.lengths))
-
     pieces_continue : (i o : ℕ) → slice_get owned i ≡ Some o → Continues owned i o
-    pieces_continue zero o is =
-        let at = located_at zero o is in
-        let w = owner_at zero o at is in
-        sym w.2 ∙ starts_first w.0 at.number at.behind w.1 (omega (arith, at.is))
-    pieces_continue (suc i) o is = λ other.
-        let at = located_at (suc i) o is in
-        let w = owner_at (suc i) o at is in
-        continues_from i w.0 at.number at.behind at.block at.there at.within w.1 (omega (arith, at.is)) (λ e. other (sym w.2 ∙ e)) ∙ ap Some w.2
+    pieces_continue i o is =
+        let long = length-owners_from most place blocks owner owners.lengths in
+        let at = located most 0 blocks i (omega (arith, slice_get_within owned i o is, long)) in
+        let w = owner_at i o at is in
+        rw (← w.2) (continues_from i w.0 at.number at.behind at.block at.there at.within w.1 (omega (arith, at.is)))
 
     pub pieces_owned : AreOwners whole owned
     pieces_owned = record {
