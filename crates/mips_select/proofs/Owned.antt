@@ -40,27 +40,24 @@ module _ (fs : List (List BlockParts)) (are : AreFunctions (length (blocks_of fs
     owned : HasAt owner start (replicate (length code) start)
 
   in_function : (k : ℕ) (gs : List (List BlockParts)) → k + length (blocks_of gs) ≤ bound → AreFunctions bound k gs
-      → HasAt blocks k (blocks_of gs) → HasAt owner k (owners_of k gs) → (i : ℕ) → i < length (blocks_of gs) → InFunction (k + i)
-  in_function k [] fits are has owned i lt = absurd (omega (arith, lt))
-  in_function k (f ∷ gs) fits are has owned i lt = ⊎_elim
+      → HasAt blocks k (blocks_of gs) → HasAt owner k (owners_of k gs) → (i t : ℕ) → t ≡ k + i → i < length (blocks_of gs) → InFunction t
+  in_function k [] fits are has owned i t is lt = absurd (omega (arith, lt))
+  in_function k (f ∷ gs) fits are has owned i t is lt =
+      let sum = length-append f (blocks_of gs) in ⊎_elim
       (λ here. record {
         start = k;
         behind = i;
         code = f;
-        is = refl;
+        is = is;
         within = here;
         fits = omega (arith, fits, sum);
         function = are.0;
         blocks_at = has_front _ _ has;
         owned = has_front _ _ owned;
       })
-      (λ (e : (d : ℕ) × (i ≡ length f + d)). let moved : k + length f + e.0 ≡ k + i = omega (arith, e.1) in
-      rw moved at (in_function (k + length f) gs (omega (arith, fits, sum)) are.1 (has_back _ _ has refl)
-      (has_back _ _ owned (ap (λ n. k + n) (length-replicate (length f) k))) e.0 (omega (arith, lt, e.1, sum))))
+      (λ (e : (d : ℕ) × (i ≡ length f + d)). in_function (k + length f) gs (omega (arith, fits, sum)) are.1 (has_back _ _ has refl)
+      (has_back _ _ owned (ap (λ n. k + n) (length-replicate (length f) k))) e.0 t (omega (arith, is, e.1)) (omega (arith, lt, e.1, sum)))
       (apart_from (length f) i)
-    where
-      sum : length (blocks_of (f ∷ gs)) ≡ length f + length (blocks_of gs)
-      sum = length-append f (blocks_of gs)
 
   owned_from : (n : ℕ) {start : ℕ} → HasAt owner start (replicate n start) → (t : ℕ) → IsFrom start n t → slice_get owner t ≡ Some start
   owned_from n {start} owned t at =
@@ -91,7 +88,7 @@ module _ (fs : List (List BlockParts)) (are : AreFunctions (length (blocks_of fs
       owned_from (length at.code) at.owned i (omega (arith, at.is, at.within, same, other)) ∙ ap Some same
 
   place : (i : ℕ) → i < length (blocks_of fs) → InFunction i
-  place i lt = let zero_i : 0 + i ≡ i = omega arith in rw zero_i at (in_function 0 fs (omega arith) are (has_whole blocks) (has_whole owner) i lt)
+  place i lt = in_function 0 fs (omega arith) are (has_whole blocks) (has_whole owner) i i (omega arith) lt
 
   pub functions_owned : AreLinked (blocks_of fs) × AreOwners (blocks_of fs) (owners_of 0 fs)
   functions_owned = (
