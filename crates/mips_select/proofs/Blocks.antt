@@ -53,13 +53,15 @@ pub functions_room : (out i bound : ℕ) (funcs : List RFunc) {func : RFunc} →
 functions_room out i bound funcs within is same le = omega (arith, drop_item functions_size funcs i within is, same, le)
 
 pub functions_step : (l : Linking) (i : ℕ) {total : ℕ} (funcs : List RFunc) (fs : List Frame) (func : RFunc) (f : Frame)
-    (out : List BlockParts) {out' all : List BlockParts} {k : ℕ} → i < length funcs → length fs ≡ length funcs → func ≡ get_or funcs i func → f ≡ get_or fs i f → k ≡ length out
+    (out : List BlockParts) {out' all : List BlockParts} {k : ℕ} → i < length funcs → length fs ≡ length funcs → func ≡ get_or funcs i func
+    → f ≡ get_or fs i f → k ≡ length out
     → out' ≡ out ++ function_blocks l k func f
     → (length out + functions_size (drop i funcs) ≡ total) × (out ++ functions_blocks l (length out) (drop i funcs) (drop i fs) ≡ all)
     → (length out' + functions_size (drop (i + 1) funcs) ≡ total) × (out' ++ functions_blocks l (length out') (drop (i + 1) funcs)
     (drop (i + 1) fs) ≡ all)
 functions_step l i funcs fs func f out {out'} within same func_is f_is k_is e before =
-    let long : length out' ≡ length out + function_size func = cc (length-append out (function_blocks l (length out) func f), function_length l (length out) func f) in (
+    let long : length out' ≡ length out + function_size func = cc
+    (length-append out (function_blocks l (length out) func f), function_length l (length out) func f) in (
       omega (arith, long, drop_item functions_size funcs i within func_is, before.0),
       rw (long, e, k_is) (made_more (λ gs. functions_blocks l (length out) gs (drop i fs)) funcs i _ _ _ within func_is
           (drop_item (functions_blocks l (length out) (func ∷ drop (i + 1) funcs)) fs i (omega (arith, within, same)) f_is) before.1),

@@ -44,17 +44,20 @@ kept true f = f.saved.items
 kept false f = f.saved.items ++ 31 ∷ []
 
 -- one more register
-frame_more : (direction : Direction) (at : ℕ) (rs : List ℕ) (r : ℕ) → frame_words direction at (rs ++ r ∷ []) ≡ frame_words direction at rs ++ frame_word direction r (at + 4 * length rs) ∷ []
+frame_more : (direction : Direction) (at : ℕ) (rs : List ℕ) (r : ℕ)
+    → frame_words direction at (rs ++ r ∷ []) ≡ frame_words direction at rs ++ frame_word direction r (at + 4 * length rs) ∷ []
 frame_more direction at [] r = (let e : at ≡ at + 4 * 0 = omega arith in ap (λ n. frame_word direction r n ∷ []) e)
 frame_more direction at (q ∷ rs) r = (let e : at + 4 + 4 * length rs ≡ at + 4 * length (q ∷ rs) = omega arith in cc (frame_more direction (at + 4) rs r))
 
 -- the link, behind the registers that are saved
-kept_words : (direction : Direction) (leaf : Bool) (f : Frame) → frame_words direction (4 * f.slots) f.saved.items ++ frame_link direction leaf f ≡ frame_words direction (4 * f.slots) (kept leaf f)
+kept_words : (direction : Direction) (leaf : Bool) (f : Frame)
+    → frame_words direction (4 * f.slots) f.saved.items ++ frame_link direction leaf f ≡ frame_words direction (4 * f.slots) (kept leaf f)
 kept_words direction true f = append-nil (frame_words direction (4 * f.slots) f.saved.items)
 kept_words direction false f = sym (frame_more direction (4 * f.slots) f.saved.items 31)
 
 abbrev pub stored_frame : Bool → Frame → Places → Places → ℕ → Stored
-stored_frame leaf f slots aside link = record { leaf = leaf; homes = f.homes.items; count = f.slots; saved = f.saved.items; slots = slots; aside = aside; link = link }
+stored_frame leaf f slots aside link =
+    record { leaf = leaf; homes = f.homes.items; count = f.slots; saved = f.saved.items; slots = slots; aside = aside; link = link }
 
 -- the frames of waiting activations, with their links
 abbrev pub frames_of : List Activation → List ℕ → List Stored

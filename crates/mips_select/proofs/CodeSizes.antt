@@ -188,7 +188,8 @@ pub prologue_few : (leaf : Bool) (f : Frame) (n : ℕ) → length f.saved.items 
 prologue_few true f n eight four alone =
     omega (arith, length-append {A = Plain}, words_many, step_few, eight, four, parameters_few 2 (locations f) 4 0 n (λ y u. arrive_few (locations f y) u))
 prologue_few false f n eight four alone =
-    omega (arith, length-append {A = Plain}, words_many, step_few, eight, four, parameters_few 1 (locations f) 4 0 n (λ y u. arrive_one f.homes.items y u (alone refl)))
+    let one = parameters_few 1 (locations f) 4 0 n (λ y u. arrive_one f.homes.items y u (alone refl)) in
+    omega (arith, length-append {A = Plain}, words_many, step_few, eight, four, one)
 
 -- an epilogue, and two instructions for what is returned
 epilogue_few : (leaf : Bool) (f : Frame) → length f.saved.items ≤ 8 → length (epilogue leaf f) + 2 ≤ exit_most leaf

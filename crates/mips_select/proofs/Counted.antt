@@ -128,7 +128,8 @@ function_few l n k (b ∷ bs) f is =
     let p = planning_in n k all f in
     let lead = lead_few l p is.eight is.four is.alone (slice_get (namings all (unnamed all)) 0) in
     let fits = (most l p is.eight is.four is.alone (is_leaf all)).1 in
-    let rest = rest_few l p is.eight is.four is.alone (later_head p (namings all (unnamed all))) (k + lead_in heads + count heads b.exit) 0 bs (λ i c e. is.few (suc i) c e) in
+    let rest = rest_few l p is.eight is.four is.alone (later_head p (namings all (unnamed all))) (k + lead_in heads + count heads b.exit) 0 bs
+    (λ i c e. is.few (suc i) c e) in
     let first = one_few l p is.eight is.four is.alone (k + lead_in heads) 0 b bs (is.few 0 b refl) rest in
     omega (arith, lead, fits, first, length-append {A = BlockParts}, words_append)
 

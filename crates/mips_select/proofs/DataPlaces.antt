@@ -25,7 +25,8 @@ use Rattle.mips_select.specs.Emittable.{AreInside}
 use Rattle.mips_select.proofs.Lists.{all_at, get_behind, get_before}
 use Rattle.mips_select.specs.Data.{element_bytes, elements_bytes, gap_behind, zeros, global_bytes, padded_bytes, bare_bytes, data_bytes, starts_from}
 
-pub zeros_step : (n i : ℕ) (bytes : List ℕ) {bytes' all : List ℕ} → i < n → bytes' ≡ bytes ++ 0 ∷ [] → bytes ++ zeros (n - i) ≡ all → bytes' ++ zeros (n - (i + 1)) ≡ all
+pub zeros_step : (n i : ℕ) (bytes : List ℕ) {bytes' all : List ℕ} → i < n → bytes' ≡ bytes ++ 0 ∷ [] → bytes ++ zeros (n - i) ≡ all
+    → bytes' ++ zeros (n - (i + 1)) ≡ all
 zeros_step n i bytes lt e before =
     let one : suc (n - (i + 1)) ≡ n - i = omega (arith, lt) in
     cc (append_assoc bytes (0 ∷ []) (zeros (n - (i + 1))))
@@ -178,7 +179,8 @@ have_values gs all a x there = (all_at IsGlobal gs a x all there).first
 pub data_length : (gs : List RGlobal) → HaveValues gs → length (padded_bytes gs) ≡ 4 * sum_by word_count gs
 data_length [] ok = refl
 data_length (x ∷ gs) ok =
-    omega (arith, global_length x (ok 0 x refl), data_length gs (λ a. ok (suc a)), length-append (global_bytes x) (padded_bytes gs), sum_by-cons word_count x gs)
+    let sum = length-append (global_bytes x) (padded_bytes gs) in
+    omega (arith, global_length x (ok 0 x refl), data_length gs (λ a. ok (suc a)), sum, sum_by-cons word_count x gs)
 
 pub data_fits : (gs : List RGlobal) → HaveValues gs → sum_by word_count gs ≤ MAX_GLOBAL_WORDS → length (padded_bytes gs) ≤ UNIT_BYTES
 data_fits gs ok le = omega (arith, data_length gs ok, le)

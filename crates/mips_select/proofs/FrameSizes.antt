@@ -172,7 +172,8 @@ module _ {func : RFunc} {f : Frame} (q : IsPlacedFor func f) where
   pub placed_alone : is_leaf func.blocks.items ≡ false → HaveNoCopies f.homes.items
   placed_alone calls = rw ((q.placed).homes, calls) (no_copies before plain)
 
-  in_slot : (x : ℕ) (h : Home) (k : ℕ) → slice_get f.homes.items x ≡ Some h → is_slot h ≡ true → slice_get (q.choice).homes.items x ≡ Some (Slot k) → k < f.slots
+  in_slot : (x : ℕ) (h : Home) (k : ℕ) → slice_get f.homes.items x ≡ Some h → is_slot h ≡ true → slice_get (q.choice).homes.items x ≡ Some (Slot k)
+      → k < f.slots
   in_slot x h k there slot e = omega (arith, (q.is).in_slots x k e, rw (has_slot f.homes.items x h there slot) at (q.placed).slots)
 
   placed_home : (x : ℕ) (h : Home) → slice_get f.homes.items x ≡ Some h
@@ -193,7 +194,8 @@ module _ {func : RFunc} {f : Frame} (q : IsPlacedFor func f) where
     saved = λ j r there. let w = still_was f.homes.items (q.choice).saved.items j r (rw (q.placed).saved at there) in saved_range q.is w.0 r w.1;
     fits =
         let slots_few : f.slots ≤ (q.choice).slots = grind (arith, (q.placed).slots) in
-        omega (arith, saved_eight q.is, saved_few q.is, (q.is).slots, le, still_few f.homes.items (q.choice).saved.items, ap length (q.placed).saved, slots_few);
+        let few = still_few f.homes.items (q.choice).saved.items in
+        omega (arith, saved_eight q.is, saved_few q.is, (q.is).slots, le, few, ap length (q.placed).saved, slots_few);
   }
 
 -- ---- the largest one
@@ -219,7 +221,8 @@ homes_many (func ∷ funcs) (f ∷ fs) same each =
 homes_many _ _ same each = absurd (omega (arith, same))
 
 pub largest_same : (h : Homed) → ArePlaced h → largest_by_homes h.frames.items ≡ largest_frame (h.rtl.now).functions
-largest_same h ok = homes_many (h.rtl.now).functions h.frames.items ok.long (λ i func f there f_there. (let q = ok.by i func f there f_there in places_long_as func q.choice f q.is q.placed))
+largest_same h ok = homes_many (h.rtl.now).functions h.frames.items ok.long
+    (λ i func f there f_there. (let q = ok.by i func f there f_there in places_long_as func q.choice f q.is q.placed))
 
 pub fit_from_room : (h : Homed) (depth : ℕ) → ArePlaced h → HaveRoom h.frames.items depth → FramesFit h.rtl.now depth
 fit_from_room h depth ok room =

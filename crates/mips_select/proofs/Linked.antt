@@ -103,7 +103,8 @@ module _ (l : Linking) (functions : List RFunc) (bound : ℕ) (entry_below : (g 
     exit_goes : (k : ℕ) (facts : Facts) (last : Last) (x : RExit) → IsExit functions blocks x → k + count p.heads x ≤ bound
         → GoesWithin bound start size (exit_of l p.placing facts last (next_of p k x) x)
     exit_goes k facts last (Goto b) ok le = place_below b ok
-    exit_goes k facts last (Branch c t e) ok le = branch_goes (tested last.comparison c) (known_in facts c) (last_operand (locations p.frame) facts last.fresh c) (p.place t) (p.place e)
+    exit_goes k facts last (Branch c t e) ok le = branch_goes (tested last.comparison c) (known_in facts c)
+        (last_operand (locations p.frame) facts last.fresh c) (p.place t) (p.place e)
         (place_from t (ok.1).0) (place_from e (ok.1).1)
     exit_goes k facts last (Call g xs d next) ok le =
         (entry_below g (slice_get_within functions g (ok.0).callee (ok.0).there), grind (arith, le, place_below next ((ok.1).1).1))

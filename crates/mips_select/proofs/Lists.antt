@@ -27,5 +27,6 @@ made_more f xs i out own rest within is step before =
     append_assoc out own rest ∙ ap (λ l. out ++ l) (sym (drop_item f xs i within is ∙ step)) ∙ before
 
 -- behind the last element nothing is left
-pub all_made : {A B : Type 0} (f : List A → List B) (xs : List A) (i : ℕ) {out all : List B} → length xs ≤ i → f [] ≡ [] → out ++ f (drop i xs) ≡ all → out ≡ all
+pub all_made : {A B : Type 0} (f : List A → List B) (xs : List A) (i : ℕ) {out all : List B} → length xs ≤ i → f [] ≡ [] → out ++ f (drop i xs) ≡ all
+    → out ≡ all
 all_made f xs i {out} past none before = sym (append-nil out) ∙ ap (λ l. out ++ l) (sym (at_drop_all f xs i past ∙ none)) ∙ before

@@ -262,8 +262,8 @@ module _ {h : Homed} {depth : ℕ} {blocks : List BlockParts} (ok : IsSelected h
       let one : suc (length ws) * ok.most ≡ ok.most + length ws * ok.most = omega arith in
       let low = rw (as_deep link result_to ws below waits) at (stack_room ok.most (word_at s) (s.regs 29) (frames_of ws below) st.stack) in
       let e = enters ok.small is.leaf is.frame st link is_link is.alone passing (omega (arith, one, deep, low)) in
-      let lives : Lives frame func.blocks.items result_to ws =
-      record { link = link; below = below; leaf = is.leaf; homes = record { place = is.place; head = is.head; placed = is.placed; frame = is.frame }; waits = waits } in
+      let homes : Homes is.leaf frame func.blocks.items = record { place = is.place; head = is.head; placed = is.placed; frame = is.frame } in
+      let lives : Lives frame func.blocks.items result_to ws = record { link = link; below = below; leaf = is.leaf; homes = homes; waits = waits } in
       parameters (λ run. Reach 1 p run) out tt e.stands (frame_homes ok.most frame is.frame) vs 4 0
       (λ r' s'. state_at_block 0 (new_activation func.blocks.items frame s' r result_to) s' (around r' ws arrays out))
       (omega arith) (omega (arith, count, is.parameters)) (rw count is.clear)
@@ -318,7 +318,8 @@ module _ {h : Homed} {depth : ℕ} {blocks : List BlockParts} (ok : IsSelected h
           (λ r' slots' s' e st' _. f r' slots' s' e st'))
 
   -- behind a block only callee-saved registers are known, and none of them has a word to come
-  settled : {deferred r : Places} {g : Arrays} {fs : List Stored} {s : State} → AreDeferred deferred r → Stand (hide deferred r) g fs s → Stand (callee_saved r) g fs s
+  settled : {deferred r : Places} {g : Arrays} {fs : List Stored} {s : State} → AreDeferred deferred r → Stand (hide deferred r) g fs s
+      → Stand (callee_saved r) g fs s
   settled lz st = fewer_stand st (λ q v is. grind (arith, lz.caller_saved q))
 
   -- an activation that has come to its exit
@@ -356,7 +357,8 @@ module _ {h : Homed} {depth : ℕ} {blocks : List BlockParts} (ok : IsSelected h
     Leaving x = CodeAt placing m.head m.facts m.last k x
 
     -- an exit that reads a pseudo-register
-    reading : (x : ℕ) (code : List Plain) (go : ℕ → Run) → ((v : ℕ) → Reads x v → From code (go v)) → From code (with_value (read_home homes r a.slots x) out go)
+    reading : (x : ℕ) (code : List Plain) (go : ℕ → Run) → ((v : ℕ) → Reads x v → From code (go v))
+        → From code (with_value (read_home homes r a.slots x) out go)
     reading x code go f = value_or_failed (From code) (read_home homes r a.slots x) out go tt f
 
     settles : Stand (callee_saved r) g (stored ∷ fs) s
@@ -537,6 +539,7 @@ module _ {h : Homed} {depth : ℕ} {blocks : List BlockParts} (ok : IsSelected h
   advances (Running r [] g out) p m = absurd m
   advances (Running r (a ∷ ws) g out) p m = rw m.point (step m a.code.insts m.code)
 
+  -- one more step
   further : (n : ℕ) (p : Point) (run : Run) → Reach n p run → Reach (suc n) p (homed_step h depth run)
   further n p (Failed out) x = tt
   further n p run x = reach_after (suc n) 1 (homed_step h depth run) (omega (arith, x.enough)) x.leads (advances run x.to x.match)

@@ -48,7 +48,8 @@ module _ (most : ℕ) (place links : ℕ → ℕ) (word : ℕ) where
   return_renumbered long k n (b ∷ bs) same =
       let here : n ≡ n + 0 = omega arith in
       let next : k + count_of most b ≡ k + suc (more_pieces most b) = omega arith in
-      let behind = return_renumbered long (k + count_of most b) (suc n) bs (λ j. (let next : suc n + j ≡ n + suc j = omega arith in ap long next) ∙ same (suc j)) in
+      let behind = return_renumbered long (k + count_of most b) (suc n) bs
+      (λ j. (let next : suc n + j ≡ n + suc j = omega arith in ap long next) ∙ same (suc j)) in
       cc (
         pieces_return (renumbered_exit place b.exit) (more_pieces most b) k b.insts (split_from most place (k + count_of most b) bs),
         same 0,

@@ -175,4 +175,5 @@ each_unit h depth ok choices fit r right =
     let selected = program_selected h depth ok choices fit in
     let blocks_come_to = rw same at (keep_homed_runs h depth (program_blocks h) selected r (rw same right)) in
     rw (← data_starts_same globals (have_values globals ok.globals))
-    (comes_to BLOCK_INSTS (program_blocks h) (program_well h ok choices.long).0 (start_state (padded_bytes globals)) r (rtl_run h.rtl.now depth r) blocks_come_to)
+    (comes_to BLOCK_INSTS (program_blocks h) (program_well h ok choices.long).0 (start_state (padded_bytes globals)) r (rtl_run h.rtl.now depth r)
+    blocks_come_to)

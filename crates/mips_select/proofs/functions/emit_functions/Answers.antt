@@ -22,7 +22,8 @@ emit_function-requires-clause-named c = c.as_slice-table.ensures.value
 pub emit_function-requires-clause-frame : goal.emit_function-requires-clause-frame
 emit_function-requires-clause-frame c =
     let same = c.requires.lengths in
-    (c.requires.frames).by c.loop-i.i c.index-frames-i.result (slice_get_read _ _ c.loop-i.i _ refl (omega (arith, c.loop-i-test.true, same)) c.index-frames-i.is)
+    (c.requires.frames).by c.loop-i.i c.index-frames-i.result
+    (slice_get_read _ _ c.loop-i.i _ refl (omega (arith, c.loop-i-test.true, same)) c.index-frames-i.is)
 
 pub emit_function-requires-clause-function : goal.emit_function-requires-clause-function
 emit_function-requires-clause-function c = (c.requires.functions).by c.loop-i.i c.index-functions-i.result

@@ -14,10 +14,12 @@ block_numbers-requires-clause-number c =
     omega (arith, ap functions_size c.functions.ensures.value, c.in_ok-long.ensures.few)
 
 pub returns-in_err-long-clause-limit : goal.returns-in_err-long-clause-limit
-returns-in_err-long-clause-limit c = told_beyond _ _ c.from_residual-in_err-long.ensures.1 c.in_ok-homed.ensures.lent c.in_ok-homed.ensures.places c.in_err-long.ensures.limit
+returns-in_err-long-clause-limit c = told_beyond _ _ c.from_residual-in_err-long.ensures.1 c.in_ok-homed.ensures.lent c.in_ok-homed.ensures.places
+    c.in_err-long.ensures.limit
 
 pub returns-in_err-unit-clause-limit : goal.returns-in_err-unit-clause-limit
-returns-in_err-unit-clause-limit c = told_beyond _ _ c.from_residual-in_err-unit.ensures.1 c.in_ok-homed.ensures.lent c.in_ok-homed.ensures.places c.in_err-unit.ensures.limit
+returns-in_err-unit-clause-limit c = told_beyond _ _ c.from_residual-in_err-unit.ensures.1 c.in_ok-homed.ensures.lent c.in_ok-homed.ensures.places
+    c.in_err-unit.ensures.limit
 
 pub returns-in_err-numbers-clause-limit : goal.returns-in_err-numbers-clause-limit
 returns-in_err-numbers-clause-limit c = told_beyond _ _ c.from_residual-in_err-numbers.ensures.1 c.in_ok-homed.ensures.lent c.in_ok-homed.ensures.places
